@@ -1,0 +1,4 @@
+pub mod Rules
+pub mod Standard
+pub mod Ascending
+pub mod Lattices

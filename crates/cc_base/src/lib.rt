@@ -1,0 +1,19 @@
+//! The words that every crate of `ccheck` shares: places and rules, refusals and limits, tokens
+//! and texts, the tree of files that is read and the sink that is written.
+#![tactic(auto)]
+
+mod diagnostics;
+mod lattices;
+mod lexemes;
+mod limit_table;
+mod refusals;
+mod text_bytes;
+mod threshold_list;
+
+pub use diagnostics::{Diag, Place, Rule};
+pub use lattices::Lattice;
+pub use lexemes::{Kind, Token, Tokens};
+pub use limit_table::{Count, IntType, Limits};
+pub use refusals::{Fault, Memory, Refusal, Stop};
+pub use text_bytes::Text;
+pub use threshold_list::Thresholds;
