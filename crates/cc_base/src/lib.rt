@@ -9,6 +9,8 @@ mod limit_table;
 mod memory_sink;
 mod memory_tree;
 mod outside;
+#[cfg(test)]
+mod outside_tests;
 mod refusals;
 mod standard_sink;
 mod system_files;
