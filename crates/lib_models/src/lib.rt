@@ -1,0 +1,9 @@
+//! The C library as the analysis knows it: its headers and its functions.
+#![tactic(auto)]
+
+mod header_texts;
+mod headers;
+mod library;
+
+pub use headers::header;
+pub use library::{LibFn, signature};

@@ -1,0 +1,183 @@
+//! The functions of the C library that the analysis knows.
+ghost use Rattle.std.specs.Prelude.{◌≡◌};
+ghost use Rattle.lib_models.specs.Library.{memory_function, string_function, character_function, stream_function, function_named};
+
+/// A library function, by its section of ISO/IEC 9899:2011.
+#[derive(Clone, Copy, PartialEq, Eq, Debug)]
+pub enum LibFn {
+    /// `malloc` (7.22.3.4).
+    Malloc,
+    /// `calloc` (7.22.3.2).
+    Calloc,
+    /// `realloc` (7.22.3.5).
+    Realloc,
+    /// `free` (7.22.3.3).
+    Free,
+    /// `memcpy` (7.24.2.1).
+    Memcpy,
+    /// `memmove` (7.24.2.2).
+    Memmove,
+    /// `memset` (7.24.6.1).
+    Memset,
+    /// `strlen` (7.24.6.3).
+    Strlen,
+    /// `strcpy` (7.24.2.3).
+    Strcpy,
+    /// `strncpy` (7.24.2.4).
+    Strncpy,
+    /// `strcat` (7.24.3.1).
+    Strcat,
+    /// `strcmp` (7.24.4.2).
+    Strcmp,
+    /// `isalpha` (7.4.1.2).
+    Isalpha,
+    /// `isdigit` (7.4.1.5).
+    Isdigit,
+    /// `isspace` (7.4.1.10).
+    Isspace,
+    /// `isupper` (7.4.1.11).
+    Isupper,
+    /// `islower` (7.4.1.7).
+    Islower,
+    /// `isalnum` (7.4.1.1).
+    Isalnum,
+    /// `toupper` (7.4.2.2).
+    Toupper,
+    /// `tolower` (7.4.2.1).
+    Tolower,
+    /// `getchar` (7.21.7.6).
+    Getchar,
+    /// `fgets` (7.21.7.2).
+    Fgets,
+    /// `putchar` (7.21.7.8).
+    Putchar,
+    /// `puts` (7.21.7.9).
+    Puts,
+    /// `printf` (7.21.6.3).
+    Printf,
+    /// `exit` (7.22.4.4).
+    Exit,
+    /// `abort` (7.22.4.1).
+    Abort,
+}
+
+fn memory_by_name(name: &str) -> Option<LibFn>
+    ensures { result ≡ memory_function name.now }
+{
+    if name == "malloc" {
+        return Some(LibFn::Malloc);
+    }
+    if name == "calloc" {
+        return Some(LibFn::Calloc);
+    }
+    if name == "realloc" {
+        return Some(LibFn::Realloc);
+    }
+    if name == "free" {
+        return Some(LibFn::Free);
+    }
+    if name == "memcpy" {
+        return Some(LibFn::Memcpy);
+    }
+    if name == "memmove" {
+        return Some(LibFn::Memmove);
+    }
+    if name == "memset" {
+        return Some(LibFn::Memset);
+    }
+    None
+}
+
+fn string_by_name(name: &str) -> Option<LibFn>
+    ensures { result ≡ string_function name.now }
+{
+    if name == "strlen" {
+        return Some(LibFn::Strlen);
+    }
+    if name == "strcpy" {
+        return Some(LibFn::Strcpy);
+    }
+    if name == "strncpy" {
+        return Some(LibFn::Strncpy);
+    }
+    if name == "strcat" {
+        return Some(LibFn::Strcat);
+    }
+    if name == "strcmp" {
+        return Some(LibFn::Strcmp);
+    }
+    None
+}
+
+fn character_by_name(name: &str) -> Option<LibFn>
+    ensures { result ≡ character_function name.now }
+{
+    if name == "isalpha" {
+        return Some(LibFn::Isalpha);
+    }
+    if name == "isdigit" {
+        return Some(LibFn::Isdigit);
+    }
+    if name == "isspace" {
+        return Some(LibFn::Isspace);
+    }
+    if name == "isupper" {
+        return Some(LibFn::Isupper);
+    }
+    if name == "islower" {
+        return Some(LibFn::Islower);
+    }
+    if name == "isalnum" {
+        return Some(LibFn::Isalnum);
+    }
+    if name == "toupper" {
+        return Some(LibFn::Toupper);
+    }
+    if name == "tolower" {
+        return Some(LibFn::Tolower);
+    }
+    None
+}
+
+fn stream_by_name(name: &str) -> Option<LibFn>
+    ensures { result ≡ stream_function name.now }
+{
+    if name == "getchar" {
+        return Some(LibFn::Getchar);
+    }
+    if name == "fgets" {
+        return Some(LibFn::Fgets);
+    }
+    if name == "putchar" {
+        return Some(LibFn::Putchar);
+    }
+    if name == "puts" {
+        return Some(LibFn::Puts);
+    }
+    if name == "printf" {
+        return Some(LibFn::Printf);
+    }
+    if name == "exit" {
+        return Some(LibFn::Exit);
+    }
+    if name == "abort" {
+        return Some(LibFn::Abort);
+    }
+    None
+}
+
+/// The library function that has a name; None exactly where there is none.
+pub fn signature(name: &str) -> Option<LibFn>
+    ensures { result ≡ function_named name.now }
+{
+    if let Some(function) = memory_by_name(name) {
+        return Some(function);
+    }
+    if let Some(function) = string_by_name(name) {
+        return Some(function);
+    }
+    if let Some(function) = character_by_name(name) {
+        return Some(function);
+    }
+    stream_by_name(name)
+}
