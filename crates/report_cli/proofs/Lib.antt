@@ -1,0 +1,4 @@
+pub mod Cutting
+pub mod Dividing
+pub mod Sentences
+pub mod Judging

@@ -1,0 +1,4 @@
+pub mod FirstWords
+pub mod FirstUnits
+pub mod FirstRuns
+pub mod FirstJudging
