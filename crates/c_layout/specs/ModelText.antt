@@ -32,21 +32,21 @@ given _ _ _ _ _ _ = None
 abbrev pub values_in : Members → Option Model
 values_in table =
     given (byte_in (codes "short") table) (byte_in (codes "int") table) (byte_in (codes "long") table)
-      (byte_in (codes "long_long") table) (byte_in (codes "pointer") table) (bool_in (codes "char_signed") table)
+    (byte_in (codes "long_long") table) (byte_in (codes "pointer") table) (bool_in (codes "char_signed") table)
 
 -- the values are a model, or the first key whose value is outside its list
 abbrev pub judged : Model → Result Model ModelFault
 judged m =
     if short_fits m.short
     then (if int_fits m.int
-      then (if long_fits m.long
-        then (if long_long_fits m.long_long
-          then (if pointer_fits m.int m.long m.long_long m.pointer
-            then Ok m
-            else Err (Value key.Pointer))
-          else Err (Value key.LongLong))
-        else Err (Value key.Long))
-      else Err (Value key.Int))
+    then (if long_fits m.long
+    then (if long_long_fits m.long_long
+    then (if pointer_fits m.int m.long m.long_long m.pointer
+    then Ok m
+    else Err (Value key.Pointer))
+    else Err (Value key.LongLong))
+    else Err (Value key.Long))
+    else Err (Value key.Int))
     else Err (Value key.Short)
 
 abbrev pub judged_if : Option Model → Result Model ModelFault

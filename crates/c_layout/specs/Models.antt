@@ -6,12 +6,16 @@ use Rattle.c_layout.specs.declared.data_model.Model.{Model}
 -- the numbers of a model are such as a data model has
 abbrev pub short_fits : ℕ → Bool
 short_fits n = n == 2
+
 abbrev pub int_fits : ℕ → Bool
 int_fits n = n == 2 || n == 4
+
 abbrev pub long_fits : ℕ → Bool
 long_fits n = n == 4 || n == 8
+
 abbrev pub long_long_fits : ℕ → Bool
 long_long_fits n = n == 8
+
 abbrev pub pointer_fits : ℕ → ℕ → ℕ → ℕ → Bool
 pointer_fits int long long_long n = (n == 4 || n == 8) && ((n == int || n == long) || n == long_long)
 

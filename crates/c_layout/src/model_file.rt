@@ -56,7 +56,11 @@ fn byte_at(table: &Table, key: &str) -> Option<u8>
 fn to_byte(number: i64) -> u8
     ensures { result ≡ byte_of number }
 {
-    if 0 <= number && number < 256 { number as u8 } else { 0 }
+    if 0 <= number && number < 256 {
+        number as u8
+    } else {
+        0
+    }
 }
 
 fn integer_at(table: &Table, key: &str) -> Option<i64>
