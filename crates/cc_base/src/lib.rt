@@ -7,6 +7,8 @@ mod lattices;
 mod lexemes;
 mod limit_table;
 mod refusals;
+mod step_counter;
+mod systems;
 mod text_bytes;
 mod threshold_list;
 
@@ -15,5 +17,7 @@ pub use lattices::Lattice;
 pub use lexemes::{Kind, Token, Tokens};
 pub use limit_table::{Count, IntType, Limits};
 pub use refusals::{Fault, Memory, Refusal, Stop};
+pub use step_counter::Steps;
+pub use systems::System;
 pub use text_bytes::Text;
 pub use threshold_list::Thresholds;
