@@ -1,5 +1,5 @@
 //! The pool of rows.
-ghost use Rattle.std.specs.Prelude.{◌≡◌, ◌+◌, ◌*◌, ◌<◌, ◌≤◌, ◌^◌, ℕ, true, false, length, slice_get, IfOk, IfSome, IfNone, count_by, not};
+ghost use Rattle.std.specs.Prelude.{◌≡◌, ◌≢◌, ◌+◌, ◌*◌, ◌<◌, ◌≤◌, ◌^◌, ℕ, true, false, length, slice_get, IfOk, IfSome, IfNone, count_by, not};
 ghost use Rattle.std.specs.Borrow.{sem};
 ghost use Rattle.std.proofs.Common.{replicate};
 ghost use Rattle.row_pool.specs.Pool.{Pool, row_of, with_row, with_mark, IsTaken, IsFree, IsWhole, free_count, fresh_pool};
@@ -70,6 +70,8 @@ impl<V: Copy> RowPool<V> {
         ensures none { IfNone result (self.new ≡ self.old × free_count self.old ≡ 0) }
         ensures free { IfSome result (λ row. IsFree self.old row.index) }
         ensures taken { IfSome result (λ row. self.new ≡ with_mark self.old row.index true) }
+        ensures in_use { IfSome result (λ row. IsTaken self.new row.index) }
+        ensures others { IfSome result (λ row. (s : ℕ) → IsTaken self.old s → IsTaken self.new s) }
         ensures unmarked { IfSome result (λ row. row.marked ≡ false) }
         ensures count { IfSome result (λ row. free_count self.new + 1 ≡ free_count self.old) }
     {
@@ -86,6 +88,7 @@ impl<V: Copy> RowPool<V> {
     pub fn give(&mut self, row: Row)
         requires { IsTaken self.old row.index }
         ensures free { self.new ≡ with_mark self.old row.index false }
+        ensures others { (s : ℕ) → s ≢ row.index → IsTaken self.old s → IsTaken self.new s }
         ensures count { free_count self.new ≡ free_count self.old + 1 }
     {
         let Row { index, marked: _ } = row;
