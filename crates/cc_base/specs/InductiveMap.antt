@@ -1,16 +1,12 @@
 -- Maps from blocks to rows that no edge takes further.
-use Rattle.std.specs.Prelude.{◌≡◌, ◌<◌, ◌+◌, ◌*◌, ℕ, zero, suc, Bool, true, cond, List, length, Option, Some, None, slice_get}
+use Rattle.std.specs.Prelude.{◌≡◌, ◌<◌, ◌+◌, ◌*◌, ℕ, zero, suc, Bool, true, cond, List, length, Option, Some, None, slice_index_or}
 use Rattle.cc_base.specs.Lattices.{LatticeOf}
 use Rattle.cc_base.specs.Rows.{reached_leq}
 use Rattle.cc_base.specs.Machine.{Machine, IsRounded}
 
 -- the row of a block, None if the block is not reached
-abbrev pub opened : {C : Type 0} → Option (Option (List C)) → Option (List C)
-opened None = None
-opened (Some r) = r
-
 abbrev pub row_at : {C : Type 0} → List (Option (List C)) → ℕ → Option (List C)
-row_at rows b = opened (slice_get rows b)
+row_at rows b = slice_index_or rows b None
 
 -- what an edge makes of the row of a block
 abbrev pub step : {C : Type 0} → Machine C → ℕ → Option (List C) → Option (List C)
