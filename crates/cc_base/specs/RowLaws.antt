@@ -1,7 +1,7 @@
 -- Rows of lattice values are ordered, joined and rounded as their cells are.
 use Rattle.std.proofs.Common.{◌≡◌, ℤ, Bool, true, false, ◌&&◌, List, [], ◌∷◌, length, Option, Some, None, refl, sym, arith}
 use Rattle.cc_base.specs.Lattices.{LatticeOf, OrderLaws, RoundLaws}
-use Rattle.cc_base.specs.Rows.{row_leq, row_join, row_round, rounded_if, absorbed, row_absorbed, reached_leq}
+use Rattle.cc_base.specs.Rows.{row_leq, row_join, row_round, rounded_if, absorbed, row_rounded_if, row_absorbed, reached_leq}
 
 pub and_left : (a b : Bool) → (a && b) ≡ true → a ≡ true
 and_left true b h = refl
@@ -19,11 +19,6 @@ and_both false b h k = h
 pub by_test : {P : Type 0} (b : Bool) → (b ≡ true → P) → (b ≡ false → P) → P
 by_test true t f = t refl
 by_test false t f = f refl
-
--- a row rounded to the list, or as it is
-abbrev pub row_rounded_if : {C : Type 0} → LatticeOf C → List ℤ → Bool → List C → List C
-row_rounded_if o list true r = row_round o list r
-row_rounded_if o list false r = r
 
 pub row_leq-length : {C : Type 0} (o : LatticeOf C) (xs ys : List C) → row_leq o xs ys ≡ true → length xs ≡ length ys
 row_leq-length o [] [] h = refl

@@ -20,6 +20,11 @@ abbrev pub row_round : {C : Type 0} → LatticeOf C → List ℤ → List C → 
 row_round o list [] = []
 row_round o list (x ∷ xs) = o.round list x ∷ row_round o list xs
 
+-- a row rounded to the list, or as it is
+abbrev pub row_rounded_if : {C : Type 0} → LatticeOf C → List ℤ → Bool → List C → List C
+row_rounded_if o list true r = row_round o list r
+row_rounded_if o list false r = r
+
 -- a cell rounded to the list, or as it is
 abbrev pub rounded_if : {C : Type 0} → LatticeOf C → List ℤ → Bool → C → C
 rounded_if o list true x = o.round list x
