@@ -1,0 +1,2 @@
+pub mod SolverState
+pub mod Progress
