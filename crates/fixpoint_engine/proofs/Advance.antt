@@ -10,15 +10,15 @@ use Rattle.fixpoint_engine.specs.SolverState.{State, mark_at, arrived, grows, ar
 use Rattle.fixpoint_engine.specs.Progress.{IsAttained, IsSound, HasEntry, IsSettled, weight, weight_at, total, potential}
 use Rattle.fixpoint_engine.proofs.Arrival.{arrived-attained, arrived-above, arrived-rises, arrived-below, arrived-rounded, arrived-same, arrived-room, step-monotone, step-attained, IsAttained-own}
 
-or_left : (a b : Bool) → (a || b) ≡ false → a ≡ false
+pub or_left : (a b : Bool) → (a || b) ≡ false → a ≡ false
 or_left true b h = h
 or_left false b h = refl
 
-or_right : (a b : Bool) → (a || b) ≡ false → b ≡ false
+pub or_right : (a b : Bool) → (a || b) ≡ false → b ≡ false
 or_right true b h = cc
 or_right false b h = h
 
-or_both : (a b : Bool) → a ≡ false → b ≡ false → (a || b) ≡ false
+pub or_both : (a b : Bool) → a ≡ false → b ≡ false → (a || b) ≡ false
 or_both true b h j = h
 or_both false b h j = j
 

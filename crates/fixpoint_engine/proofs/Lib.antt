@@ -1,2 +1,4 @@
 pub mod Arrival
 pub mod Advance
+pub mod Following
+pub mod Passes

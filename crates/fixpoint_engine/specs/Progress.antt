@@ -48,7 +48,6 @@ potential m rows = total (weight_at m rows) m.blocks
 
 -- a pass has come to the edge e and was last at the block s
 pub record IsSwept {C : Type 0} (o : LatticeOf C) (m : Machine C) (st : State C) (following : Bool) (s e : ℕ) (grew : Bool) : Type 0 where
-  pub first : e ≡ 0 → following ≡ false
   -- an edge that leaves an unmarked block is settled, or still to be followed
   pub settled : (d : ℕ) → d < m.edges → mark_at st.marks (m.source d) ≡ false → (following ≡ true → m.source d ≡ s → d < e) → IsSettled o m st.rows d
   -- if no head grew, the blocks that the pass went by are unmarked
