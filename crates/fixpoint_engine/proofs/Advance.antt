@@ -8,7 +8,7 @@ use Rattle.cc_base.specs.Machine.{Machine, MachineLaws, IsRounded}
 use Rattle.cc_base.specs.InductiveMap.{row_at, step, IsOwn, IsRoundedOrNone, IsInductive, IsLeast, heads_below}
 use Rattle.fixpoint_engine.specs.SolverState.{State, mark_at, arrived, grows, arrive, arrive_if, grows_if, advance, head_grows}
 use Rattle.fixpoint_engine.specs.Progress.{IsAttained, IsSound, HasEntry, IsSettled, weight, weight_at, total, potential}
-use Rattle.fixpoint_engine.proofs.Arrival.{arrived-attained, arrived-above, arrived-rises, arrived-below, arrived-rounded, arrived-same, arrived-room, step-monotone, step-attained, IsAttained-own}
+use Rattle.fixpoint_engine.proofs.ArrivalLaws.{arrived-attained, arrived-above, arrived-rises, arrived-below, arrived-rounded, arrived-same, arrived-room, step-monotone, step-attained, IsAttained-own}
 
 pub or_left : (a b : Bool) → (a || b) ≡ false → a ≡ false
 or_left true b h = h
@@ -56,13 +56,13 @@ total-lt f g (suc n) t lt h fall =
     let last : f n ≤ g n = h n (omega arith) in
     ⊎_elim
     (λ (e : t ≡ n).
-        let rest : total f n ≤ total g n = total-le f g n (λ b below. h b (omega arith)) in
-        let fall' : f n < g n = subst (λ i. f i < g i) e fall in
-        omega arith)
+    let rest : total f n ≤ total g n = total-le f g n (λ b below. h b (omega arith)) in
+    let fall' : f n < g n = subst (λ i. f i < g i) e fall in
+    omega arith)
     (λ (ne : t ≡ n → ⊥).
-        let ne' : t ≢ n = ne in
-        let rest : total f n < total g n = total-lt f g n t (omega arith) (λ b below. h b (omega arith)) fall in
-        omega arith)
+    let ne' : t ≢ n = ne in
+    let rest : total f n < total g n = total-lt f g n t (omega arith) (λ b below. h b (omega arith)) fall in
+    omega arith)
     (cases_eq t n)
 
 -- the rows of heads can grow no more often than this
@@ -76,7 +76,6 @@ total-heads head f most (suc n) h =
     (λ (t : head n ≡ false). let last' : f n ≤ 0 = rw t at last in rw t (omega arith))
 
 module _ {C : Type 0} (o : LatticeOf C) (k : OrderLaws o) (r : RoundLaws o) (m : Machine C) (law : MachineLaws o m) where
-
   weight-bounded : (v : Option (List C)) → weight m v ≤ m.height + 1
   weight-bounded None = omega arith
   weight-bounded (Some x) = let le : m.room x ≤ m.height = law.room_bounded x in omega arith
@@ -85,12 +84,11 @@ module _ {C : Type 0} (o : LatticeOf C) (k : OrderLaws o) (r : RoundLaws o) (m :
   potential-bounded rows =
       total-heads m.head (weight_at m rows) (m.height + 1) m.blocks
       (λ b.
-          by_test (m.head b)
-          (λ (t : m.head b ≡ true). rw t (weight-bounded (row_at rows b)))
-          (λ (t : m.head b ≡ false). rw t (omega arith)))
+      by_test (m.head b)
+      (λ (t : m.head b ≡ true). rw t (weight-bounded (row_at rows b)))
+      (λ (t : m.head b ≡ false). rw t (omega arith)))
 
   module _ (b : ℕ) (x : List C) (st : State C) (here : b < m.blocks) (s : IsSound o m st.rows) (att : m.attained x ≡ true) where
-
     in_rows : b < length st.rows
     in_rows = let e : length st.rows ≡ m.blocks = s.size in omega arith
 
@@ -141,13 +139,13 @@ module _ {C : Type 0} (o : LatticeOf C) (k : OrderLaws o) (r : RoundLaws o) (m :
     weight-here t =
         by_test (grows o (row_at st.rows b) x)
         (λ (g : grows o (row_at st.rows b) x ≡ true).
-            let lt : weight m (Some new_row) < weight m (row_at st.rows b) =
-                arrived-room o k r m law (m.head b) (row_at st.rows b) x (s.attained b) att is_rounded t g in
-            omega arith)
+        let lt : weight m (Some new_row) < weight m (row_at st.rows b) =
+        arrived-room o k r m law (m.head b) (row_at st.rows b) x (s.attained b) att is_rounded t g in
+        omega arith)
         (λ (g : grows o (row_at st.rows b) x ≡ false).
-            let e : weight m (Some new_row) ≡ weight m (row_at st.rows b) =
-                ap (weight m) (arrived-same o k r m law (m.head b) (row_at st.rows b) x g) in
-            omega arith)
+        let e : weight m (Some new_row) ≡ weight m (row_at st.rows b) =
+        ap (weight m) (arrived-same o k r m law (m.head b) (row_at st.rows b) x g) in
+        omega arith)
 
     weight-falls : (c : ℕ) → weight_at m (arrive o m b x st).rows c ≤ weight_at m st.rows c
     weight-falls =
@@ -161,9 +159,9 @@ module _ {C : Type 0} (o : LatticeOf C) (k : OrderLaws o) (r : RoundLaws o) (m :
     potential-lt : grows o (row_at st.rows b) x ≡ true → m.head b ≡ true → potential m (arrive o m b x st).rows < potential m st.rows
     potential-lt g t =
         let fall : weight m (Some new_row) < weight m (row_at st.rows b) =
-            arrived-room o k r m law (m.head b) (row_at st.rows b) x (s.attained b) att is_rounded t g in
+        arrived-room o k r m law (m.head b) (row_at st.rows b) x (s.attained b) att is_rounded t g in
         let fall' : weight m (row_at (arrive o m b x st).rows b) < weight m (row_at st.rows b) =
-            subst (λ v. weight m v < weight m (row_at st.rows b)) (sym at_block) fall in
+        subst (λ v. weight m v < weight m (row_at st.rows b)) (sym at_block) fall in
         total-lt (weight_at m (arrive o m b x st).rows) (weight_at m st.rows) m.blocks b here (λ c below. weight-falls c)
         (cond_lt (m.head b) _ _ t fall')
 
@@ -177,22 +175,22 @@ module _ {C : Type 0} (o : LatticeOf C) (k : OrderLaws o) (r : RoundLaws o) (m :
     arrive-mark c lt h =
         ⊎_elim
         (λ (e : c ≡ b).
-            let at : mark_at (arrive o m b x st).marks b ≡ (grows o (row_at st.rows b) x || mark_at st.marks b) = get_or-set_same st.marks b _ false lt in
-            let off : (grows o (row_at st.rows b) x || mark_at st.marks b) ≡ false = sym at ∙ (rw e at h) in
-            let no : grows o (row_at st.rows b) x ≡ false = or_left _ _ off in
-            let unmarked : mark_at st.marks b ≡ false = or_right _ _ off in
-            (rw e unmarked, arrive-same no c))
+        let at : mark_at (arrive o m b x st).marks b ≡ (grows o (row_at st.rows b) x || mark_at st.marks b) = get_or-set_same st.marks b _ false lt in
+        let off : (grows o (row_at st.rows b) x || mark_at st.marks b) ≡ false = sym at ∙ (rw e at h) in
+        let no : grows o (row_at st.rows b) x ≡ false = or_left _ _ off in
+        let unmarked : mark_at st.marks b ≡ false = or_right _ _ off in
+        (rw e unmarked, arrive-same no c))
         (λ (ne : c ≡ b → ⊥).
-            (sym (get_or-set_other st.marks b c _ false ne) ∙ h, arrive-other c ne))
+        (sym (get_or-set_other st.marks b c _ false ne) ∙ h, arrive-other c ne))
         (cases_eq c b)
 
     pub arrive-unmarked : (c : ℕ) → b < length st.marks → mark_at st.marks c ≡ false → (c ≡ b → grows o (row_at st.rows b) x ≡ false) → mark_at (arrive o m b x st).marks c ≡ false
     arrive-unmarked c lt h f =
         ⊎_elim
         (λ (e : c ≡ b).
-            let at : mark_at (arrive o m b x st).marks b ≡ (grows o (row_at st.rows b) x || mark_at st.marks b) = get_or-set_same st.marks b _ false lt in
-            let no : grows o (row_at st.rows b) x ≡ false = f e in
-            let h' : mark_at st.marks b ≡ false = rw e at h in
-            rw e (at ∙ or_both _ _ no h'))
+        let at : mark_at (arrive o m b x st).marks b ≡ (grows o (row_at st.rows b) x || mark_at st.marks b) = get_or-set_same st.marks b _ false lt in
+        let no : grows o (row_at st.rows b) x ≡ false = f e in
+        let h' : mark_at st.marks b ≡ false = rw e at h in
+        rw e (at ∙ or_both _ _ no h'))
         (λ (ne : c ≡ b → ⊥). get_or-set_other st.marks b c _ false ne ∙ h)
         (cases_eq c b)

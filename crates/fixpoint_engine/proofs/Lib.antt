@@ -1,4 +1,5 @@
-pub mod Arrival
+pub mod ArrivalLaws
 pub mod Advance
-pub mod Following
+pub mod FollowingLaws
 pub mod Passes
+pub mod SlotLaws

@@ -1,2 +1,3 @@
 pub mod SolverState
 pub mod Progress
+pub mod RowMap

@@ -27,7 +27,7 @@ grows o (Some old) x = not (row_leq o x old)
 abbrev pub arrive : {C : Type 0} → LatticeOf C → Machine C → ℕ → List C → State C → State C
 arrive o m b x st = record {
   rows = slice_set st.rows b (Some (arrived o m.list (m.head b) (row_at st.rows b) x));
-  marks = slice_set st.marks b (grows o (row_at st.rows b) x || mark_at st.marks b)
+  marks = slice_set st.marks b (grows o (row_at st.rows b) x || mark_at st.marks b);
 }
 
 abbrev pub arrive_if : {C : Type 0} → LatticeOf C → Machine C → ℕ → Option (List C) → State C → State C

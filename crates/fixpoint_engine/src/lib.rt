@@ -1,4 +1,4 @@
 //! The least map from blocks to rows that no edge of a system takes further.
 #![tactic(auto)]
 
-fn nothing() {}
+mod arrival;

@@ -147,3 +147,6 @@ SameBut-trans p q u r h k = record {
 
 pub SameBut-whole : {V : Type 0} (p q : Pool V) (r : ℕ) → SameBut p q r → IsWhole p → IsWhole q
 SameBut-whole p q r h whole = rw (h.cells, h.taken, h.width) whole
+
+pub SameBut-refl : {V : Type 0} (p : Pool V) (r : ℕ) → SameBut p p r
+SameBut-refl p r = record { width = refl; taken = refl; cells = refl; others = λ s ne t. refl }

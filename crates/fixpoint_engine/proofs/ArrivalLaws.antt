@@ -13,7 +13,6 @@ keeps o list true old h = h refl
 keeps o list false old h = refl
 
 module _ {C : Type 0} (o : LatticeOf C) (r : RoundLaws o) (list : List ℤ) where
-
   rounded_if-rises : (rounding : Bool) (x : List C) → row_leq o x x ≡ true → row_leq o x (row_rounded_if o list rounding x) ≡ true
   rounded_if-rises true x h = row_round-rises o r list x
   rounded_if-rises false x h = h
@@ -30,7 +29,6 @@ module _ {C : Type 0} (o : LatticeOf C) (r : RoundLaws o) (list : List ℤ) wher
   rounded_if-rounded false x h = cc
 
 module _ {C : Type 0} (o : LatticeOf C) (k : OrderLaws o) (r : RoundLaws o) (m : Machine C) (law : MachineLaws o m) where
-
   rounded_if-attained : (rounding : Bool) (x : List C) → m.attained x ≡ true → m.attained (row_rounded_if o m.list rounding x) ≡ true
   rounded_if-attained true x h = law.round_attained x h
   rounded_if-attained false x h = h
@@ -52,14 +50,14 @@ module _ {C : Type 0} (o : LatticeOf C) (k : OrderLaws o) (r : RoundLaws o) (m :
   arrived-above rounding (Some old) x h j f =
       rw (absorbed_is rounding old x h j f)
       (row_leq-trans o k x (row_join o old x) _ (row_join-right o k old x (same_width old x h j))
-          (rounded_if-rises o r m.list rounding (row_join o old x) (row_leq-refl o k (row_join o old x))))
+      (rounded_if-rises o r m.list rounding (row_join o old x) (row_leq-refl o k (row_join o old x))))
 
   pub arrived-rises : (rounding : Bool) (old : Option (List C)) (x : List C) → IsAttained m old → m.attained x ≡ true → (rounding ≡ true → IsRoundedOrNone o m old) → reached_leq o old (Some (arrived o m.list rounding old x)) ≡ true
   arrived-rises rounding None x h j f = refl
   arrived-rises rounding (Some old) x h j f =
       rw (absorbed_is rounding old x h j f)
       (row_leq-trans o k old (row_join o old x) _ (row_join-left o k old x (same_width old x h j))
-          (rounded_if-rises o r m.list rounding (row_join o old x) (row_leq-refl o k (row_join o old x))))
+      (rounded_if-rises o r m.list rounding (row_join o old x) (row_leq-refl o k (row_join o old x))))
 
   pub arrived-below : (rounding : Bool) (old : Option (List C)) (x z : List C) → IsAttained m old → m.attained x ≡ true → (rounding ≡ true → IsRoundedOrNone o m old) → reached_leq o old (Some z) ≡ true → row_leq o x z ≡ true → (rounding ≡ true → IsRounded o m.list z) → row_leq o (arrived o m.list rounding old x) z ≡ true
   arrived-below rounding None x z h j f a b g = rounded_if-below o r m.list rounding x z b g
@@ -89,10 +87,10 @@ module _ {C : Type 0} (o : LatticeOf C) (k : OrderLaws o) (r : RoundLaws o) (m :
       let above : row_leq o x (row_absorbed o m.list rounding old x) ≡ true = arrived-above rounding (Some old) x h j f in
       law.room_falls old (row_absorbed o m.list rounding old x) h att (f t) rnd up
       (by_test (row_leq o (row_absorbed o m.list rounding old x) old)
-          (λ (le : row_leq o (row_absorbed o m.list rounding old x) old ≡ true).
-              let low : row_leq o x old ≡ true = row_leq-trans o k x _ old above le in
-              let g' : not true ≡ true = rw low at g in cc)
-          (λ (no : row_leq o (row_absorbed o m.list rounding old x) old ≡ false). no))
+      (λ (le : row_leq o (row_absorbed o m.list rounding old x) old ≡ true).
+      let low : row_leq o x old ≡ true = row_leq-trans o k x _ old above le in
+      let g' : not true ≡ true = rw low at g in cc)
+      (λ (no : row_leq o (row_absorbed o m.list rounding old x) old ≡ false). no))
 
   pub step-monotone : (e : ℕ) (a b : Option (List C)) → e < m.edges → IsOwn m a → IsOwn m b → reached_leq o a b ≡ true → reached_leq o (step m e a) (step m e b) ≡ true
   step-monotone e None b lt h j le = refl

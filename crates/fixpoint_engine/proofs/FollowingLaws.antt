@@ -7,21 +7,19 @@ use Rattle.cc_base.specs.Machine.{Machine, MachineLaws}
 use Rattle.cc_base.specs.InductiveMap.{row_at, step, IsInductive}
 use Rattle.fixpoint_engine.specs.SolverState.{State, mark_at, grows, arrive, arrive_if, grows_if, advance, head_grows}
 use Rattle.fixpoint_engine.specs.Progress.{IsAttained, IsSound, HasEntry, potential}
-use Rattle.fixpoint_engine.proofs.Arrival.{step-monotone, step-attained, IsAttained-own}
+use Rattle.fixpoint_engine.proofs.ArrivalLaws.{step-monotone, step-attained, IsAttained-own}
 use Rattle.fixpoint_engine.proofs.Advance.{arrive-rises, arrive-above, arrive-sound, arrive-potential, arrive-mark, arrive-unmarked}
 
 module _ {C : Type 0} (o : LatticeOf C) (k : OrderLaws o) (r : RoundLaws o) (m : Machine C) (law : MachineLaws o m) where
-
   -- what an edge makes of a sound row is at or below the target's row of each inductive map
   step-least : (e : ℕ) (rows : List (Option (List C))) → e < m.edges → IsSound o m rows → (other : List (Option (List C))) → IsInductive o m other → reached_leq o (step m e (row_at rows (m.source e))) (row_at other (m.target e)) ≡ true
   step-least e rows lt s other ind =
       reached_leq-trans o k (step m e (row_at rows (m.source e))) (step m e (row_at other (m.source e))) (row_at other (m.target e))
       (step-monotone o k r m law e (row_at rows (m.source e)) (row_at other (m.source e)) lt
-          (IsAttained-own o k r m law (row_at rows (m.source e)) (s.attained (m.source e))) (ind.own (m.source e)) (s.least other ind (m.source e)))
+      (IsAttained-own o k r m law (row_at rows (m.source e)) (s.attained (m.source e))) (ind.own (m.source e)) (s.least other ind (m.source e)))
       (ind.edge e lt)
 
   module _ (b : ℕ) (st : State C) (here : b < m.blocks) (marked : b < length st.marks) (s : IsSound o m st.rows) where
-
     pub if-rises : (v : Option (List C)) → IsAttained m v → (c : ℕ) → reached_leq o (row_at st.rows c) (row_at (arrive_if o m b v st).rows c) ≡ true
     if-rises None h c = reached_leq-refl o k (row_at st.rows c)
     if-rises (Some x) h c = arrive-rises o k r m law b x st here s h c
@@ -47,7 +45,6 @@ module _ {C : Type 0} (o : LatticeOf C) (k : OrderLaws o) (r : RoundLaws o) (m :
     if-unmarked (Some x) h c e f = arrive-unmarked o k r m law b x st here s h c marked e f
 
   module _ (e : ℕ) (st : State C) (lt : e < m.edges) (size : length st.marks ≡ m.blocks) (s : IsSound o m st.rows) where
-
     in_blocks : m.target e < m.blocks
     in_blocks = law.target_below e lt
 
