@@ -1,3 +1,4 @@
 pub mod SolverState
 pub mod Progress
 pub mod RowMap
+pub mod Entering

@@ -65,3 +65,8 @@ pub record SlotChanged {C : Type 0} (p : Pool C) (slot : Option Row) (q : Pool C
   pub others : (s : ℕ) → IsTaken p s → (slot_index slot ≡ Some s → ⊥) → IsTaken q s × (row_of q s ≡ row_of p s)
   pub index : (i : ℕ) → slot_index slot' ≡ Some i → IsTaken q i × ((slot_index slot ≡ Some i) ⊎ IsFree p i)
   pub room : free_count q + count_by is_vacant (slot ∷ []) ≡ free_count p + count_by is_vacant (slot' ∷ [])
+
+-- the entry without its mark
+abbrev pub unmarked : Option Row → Option Row
+unmarked None = None
+unmarked (Some row) = Some (record row { marked = false })

@@ -1,13 +1,40 @@
 //! A row that arrives at a block.
-ghost use Rattle.std.specs.Prelude.{◌≡◌, ◌≢◌, ◌+◌, ◌<◌, ◌||◌, ℕ, true};
+ghost use Rattle.std.specs.Prelude.{◌≡◌, ◌≢◌, ◌+◌, ◌<◌, ◌≤◌, ◌||◌, ℕ, true, length, count_by, Some, None};
 ghost use Rattle.cc_base.specs.Rows.{row_round, row_rounded_if};
+ghost use Rattle.cc_base.specs.InductiveMap.{row_at};
 ghost use Rattle.row_pool.specs.Pool.{row_of, with_mark, IsTaken, IsFree, IsWhole, free_count, SameBut};
 ghost use Rattle.fixpoint_engine.specs.SolverState.{arrived, grows, arrive as arrive_of};
-ghost use Rattle.fixpoint_engine.specs.RowMap.{slot_row, slot_mark, slot_index, state_in, rows_in, IsHeldBeside, Changed, SlotChanged};
+ghost use Rattle.fixpoint_engine.specs.RowMap.{slot_row, slot_mark, slot_index, is_vacant, state_in, rows_in, IsHeldBeside, Changed, SlotChanged};
 
 use cc_base::{Lattice, System, Thresholds};
 use row_pool::{Row, RowPool};
 use std::mem;
+
+// The row in `spare` arrives at a block. Says whether the block's row grew, and marks it then.
+pub(crate) fn arrive<S: System>(
+    system: &S,
+    pool: &mut RowPool<S::Cell>,
+    map: &mut [Option<Row>],
+    block: u32,
+    spare: &Row,
+) -> bool
+    requires valid { S.valid system.now }
+    requires block { block < (S.machine system.now).blocks }
+    requires size { length map.old ≡ (S.machine system.now).blocks }
+    requires held { IsHeldBeside pool.old map.old spare.now.index }
+    requires room { count_by is_vacant map.old ≤ free_count pool.old }
+    ensures changed { Changed pool.old map.old spare.now.index pool.new map.new }
+    ensures state { state_in pool.new map.new ≡ arrive_of S.Cell.lattice (S.machine system.now) block (row_of pool.old spare.now.index) (state_in pool.old map.old) }
+    ensures grew { result ≡ grows S.Cell.lattice (row_at (rows_in pool.old map.old) block) (row_of pool.old spare.now.index) }
+{
+    arrive_at(
+        &mut map[block as usize],
+        pool,
+        spare,
+        system.is_head(block),
+        system.thresholds(),
+    )
+}
 
 // The same for one entry of the map.
 fn arrive_at<C: Lattice>(
@@ -91,6 +118,7 @@ pub(crate) fn take_row<C: Copy>(pool: &mut RowPool<C>) -> Row
     requires { 0 < free_count pool.old }
     ensures free { IsFree pool.old result.index }
     ensures taken { pool.new ≡ with_mark pool.old result.index true }
+    ensures whole { IsWhole pool.new }
     ensures in_use { IsTaken pool.new result.index }
     ensures others { (s : ℕ) → IsTaken pool.old s → IsTaken pool.new s }
     ensures count { free_count pool.new + 1 ≡ free_count pool.old }

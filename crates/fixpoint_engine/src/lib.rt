@@ -2,3 +2,7 @@
 #![tactic(auto)]
 
 mod arrival;
+mod following;
+mod least_map;
+
+pub use least_map::solve;

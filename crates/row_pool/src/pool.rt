@@ -72,6 +72,7 @@ impl<V: Copy> RowPool<V> {
         ensures taken { IfSome result (λ row. self.new ≡ with_mark self.old row.index true) }
         ensures in_use { IfSome result (λ row. IsTaken self.new row.index) }
         ensures others { IfSome result (λ row. (s : ℕ) → IsTaken self.old s → IsTaken self.new s) }
+        ensures whole { IsWhole self.new }
         ensures unmarked { IfSome result (λ row. row.marked ≡ false) }
         ensures count { IfSome result (λ row. free_count self.new + 1 ≡ free_count self.old) }
     {
