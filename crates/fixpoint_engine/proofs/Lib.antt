@@ -6,3 +6,4 @@ pub mod SlotLaws
 pub mod MapLaws
 pub mod SpareLaws
 pub mod SweepLaws
+pub mod StartLaws

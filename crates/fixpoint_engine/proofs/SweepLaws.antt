@@ -88,7 +88,7 @@ both_grow true false p q u h k = omega arith
 both_grow false true p q u h k = omega arith
 both_grow false false p q u h k = omega arith
 
-length-marks : {C : Type 0} (p : Pool C) (slots : List (Option Row)) → length (map slot_mark slots) ≡ length (rows_in p slots)
+pub length-marks : {C : Type 0} (p : Pool C) (slots : List (Option Row)) → length (map slot_mark slots) ≡ length (rows_in p slots)
 length-marks p slots = length-map slots slot_mark ∙ sym (length-map slots (slot_row p))
 
 module _ {C : Type 0} (o : LatticeOf C) (k : OrderLaws o) (r : RoundLaws o) (m : Machine C) (law : MachineLaws o m) where

@@ -4,5 +4,7 @@
 mod arrival;
 mod following;
 mod least_map;
+mod map_release;
 
 pub use least_map::solve;
+pub use map_release::release;

@@ -15,7 +15,6 @@ pub returns-clause-state : goal.returns-clause-state
 returns-clause-state g c =
     let lt : c.args.block < length c.args.map.now = omega arith in
     let slot = slice_index_or c.args.map.now c.args.block None in
-    let m = g.S.System.machine c.args.system.now in
     let row : slot_row c.arrive_at.new.pool c.arrive_at.new.slot ≡ Some (arrived g.S.Cell.Lattice.lattice (g.S.System.machine c.args.system.now).list ((g.S.System.machine c.args.system.now).head c.args.block) (slot_row c.args.pool.now (slice_index_or c.args.map.now c.args.block None)) (row_of c.args.pool.now c.args.spare.now.index)) =
     cc (c.arrive_at.ensures.row, c.thresholds.ensures, c.is_head.ensures) in
     map-state c.args.pool.now c.arrive_at.new.pool c.args.map.now c.args.block (slice_index_or c.args.map.now c.args.block None) c.arrive_at.new.slot c.args.spare.now.index
