@@ -7,3 +7,4 @@ pub mod MapLaws
 pub mod SpareLaws
 pub mod SweepLaws
 pub mod StartLaws
+pub mod ReleaseLaws

@@ -1,5 +1,5 @@
 -- A pool of rows: its width, which rows are in use, and the cells of all rows one after another.
-use Rattle.std.specs.Prelude.{◌≡◌, ◌+◌, ◌*◌, ℕ, Bool, true, false, not, List, ◌++◌, length, take, drop, slice_get, slice_set, count_by, refl, Some}
+use Rattle.std.specs.Prelude.{◌≡◌, ◌*◌, ℕ, Bool, true, false, not, List, ◌++◌, length, take, drop, slice_get, slice_set, count_by, refl, Some}
 use Rattle.std.specs.Coded.{Coded, code_by, coded×, coded_ℕ, coded_bool, coded_list}
 use Rattle.std.proofs.Common.{replicate}
 

@@ -1,17 +1,15 @@
 -- What the calls of a pool leave as it is.
-use Rattle.std.proofs.Common.{◌≡◌, ◌≢◌, ◌+◌, ◌-◌, ◌*◌, ◌<◌, ◌≤◌, ℕ, zero, suc, Bool, true, false, not, cond, List, [], ◌∷◌, ◌++◌, length, take, drop, get_or, set, Option, Some, None, slice_get, slice_set, count_by, refl, sym, ap, arith, ◌∙◌, inl, inr, ⊎_elim, append_assoc, length-append, length-drop, length-take}
+use Rattle.std.proofs.Common.{◌≡◌, ◌≢◌, ◌+◌, ◌*◌, ◌<◌, ◌≤◌, ℕ, Bool, true, false, not, cond, List, ◌++◌, length, take, drop, get_or, Some, slice_get, slice_set, count_by, refl, sym, ap, arith, ◌∙◌, ⊎_elim, length-append, length-drop, length-take}
 use Rattle.std.proofs.Math.Nat.{mul-le-mul_left}
-use Rattle.std.proofs.lemmas.Nat.{mul-add-lt}
 use Rattle.std.proofs.lemmas.Bool.{cases_lt}
 use Rattle.std.proofs.lemmas.Grind.{common_steps}
 use Rattle.std.proofs.lemmas.Option.{gets}
-use Rattle.std.proofs.lemmas.List.{take-append-drop, take-append-le, drop-append-le, take_at, drop_at, take_all, take-take, drop-take}
+use Rattle.std.proofs.lemmas.List.{take_at, drop_at, take_all, drop-take}
 use Rattle.std.proofs.lemmas.Slice.{drop-put_mid, take-put_mid_below}
 use Rattle.std.proofs.lemmas.Int.{clamps}
 use Rattle.std.proofs.lemmas.List.Sums.{sum_by-set}
 use Rattle.std.proofs.lemmas.Option.{slice_get_within, get_or_from_slice_get}
-use Rattle.std.proofs.Math.Seq.{drop-append_seam, take-append_seam, drop-append-add, take-append-add}
-use Rattle.row_pool.specs.Pool.{Pool, row_of, with_row, with_mark, IsTaken, IsFree, IsWhole, free_count, SameBut}
+use Rattle.row_pool.specs.Pool.{Pool, row_of, with_row, with_mark, IsTaken, IsFree, IsWhole, SameBut}
 
 -- a row that is in use ends within the cells
 pub row_end : (taken : List Bool) (r width : ℕ) (b : Bool) (cells : ℕ) → slice_get taken r ≡ Some b → cells ≡ length taken * width → r * width + width ≤ cells
