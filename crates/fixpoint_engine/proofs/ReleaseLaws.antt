@@ -11,8 +11,8 @@ done_more slots slot i lt e done b below =
     ⊎_elim
     (λ (same : b ≡ i). subst (λ n. slice_index_or (set slots i slot) n None ≡ None) (sym same) (get_or-set_same slots i slot None lt ∙ e))
     (λ (ne : b ≡ i → ⊥).
-        let ne' : b ≢ i = ne in
-        get_or-set_other slots i b slot None ne ∙ done b (omega arith))
+    let ne' : b ≢ i = ne in
+    get_or-set_other slots i b slot None ne ∙ done b (omega arith))
     (cases_eq b i)
 
 pub rest_more : (slots old : List (Option Row)) (slot : Option Row) (i : ℕ) → ((b : ℕ) → i ≤ b → slice_index_or slots b None ≡ slice_index_or old b None) → (b : ℕ) → i + 1 ≤ b → slice_index_or (set slots i slot) b None ≡ slice_index_or old b None
@@ -22,7 +22,7 @@ rest_more slots old slot i rest b above =
 pub held_more : (old : List (Option Row)) (slot : Option Row) (i before now first : ℕ) → i < length old → slot ≡ slice_index_or old i None → before ≡ first + count_by is_held (take i old) → now ≡ before + count_by is_held (slot ∷ []) → now ≡ first + count_by is_held (take (i + 1) old)
 held_more old slot i before now first lt e h k =
     let more : count_by is_held (take (i + 1) old) ≡ count_by is_held (take i old) + cond (is_held (slice_index_or old i None)) 1 0 =
-        sum_by_more (λ x. cond (is_held x) 1 0) old i None lt in
+    sum_by_more (λ x. cond (is_held x) 1 0) old i None lt in
     let k' : now ≡ before + count_by is_held (slice_index_or old i None ∷ []) = subst (λ s. now ≡ before + count_by is_held (s ∷ [])) e k in
     omega arith
 
@@ -37,7 +37,7 @@ pub all_done : (slots : List (Option Row)) (i : ℕ) → length slots ≤ i → 
 all_done slots i le done =
     all_vacant slots
     (λ b.
-        ⊎_elim
-        (λ (lt : b < i). done b lt)
-        (λ (ge : i ≤ b). get_or_past slots b None (omega arith))
-        (cases_lt b i))
+    ⊎_elim
+    (λ (lt : b < i). done b lt)
+    (λ (ge : i ≤ b). get_or_past slots b None (omega arith))
+    (cases_lt b i))

@@ -5,6 +5,8 @@ mod arrival;
 mod following;
 mod least_map;
 mod map_release;
+#[cfg(test)]
+mod tests;
 
 pub use least_map::solve;
 pub use map_release::release;

@@ -16,8 +16,8 @@ loop-i-preserved g c =
       taken = λ b s above e.
           c.give_back.ensures.others s (c.loop-i.invariant.taken b s (omega arith) e)
           (λ f.
-              let here : b ≡ c.loop-i.i = c.requires.apart b c.loop-i.i s e (ap slot_index (sym same) ∙ f) in
-              absurd (omega arith));
+          let here : b ≡ c.loop-i.i = c.requires.apart b c.loop-i.i s e (ap slot_index (sym same) ∙ f) in
+          absurd (omega arith));
       room =
           held_more c.args.map.now (slice_index_or c.loop-i.map c.loop-i.i None) c.loop-i.i (free_count c.loop-i.pool) (free_count c.give_back.new.pool) (free_count c.args.pool.now)
           lt' same c.loop-i.invariant.room c.give_back.ensures.room;
