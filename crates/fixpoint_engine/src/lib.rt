@@ -4,9 +4,11 @@
 mod arrival;
 mod following;
 mod least_map;
+mod map_memory;
 mod map_release;
 #[cfg(test)]
 mod tests;
 
 pub use least_map::solve;
+pub use map_memory::{drop_map, new_map};
 pub use map_release::release;

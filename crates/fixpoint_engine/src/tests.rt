@@ -156,7 +156,8 @@ fn go_through(passage: Passage, row: &mut [Level]) -> bool
     ensures reached { result ≡ true → pass passage row.old ≡ Some row.new }
     ensures unreached { result ≡ false → pass passage row.old ≡ None }
 {
-    let level = row[0].most;
+    let first = row[0];
+    let level = first.most;
     if level < passage.least {
         return false;
     }
