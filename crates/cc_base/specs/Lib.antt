@@ -5,3 +5,7 @@ pub mod Lattices
 pub mod MemorySink
 pub mod MemoryTree
 pub mod Outside
+pub mod Rows
+pub mod Machine
+pub mod InductiveMap
+pub mod RowLaws

@@ -14,6 +14,8 @@ mod outside_tests;
 mod refusals;
 mod standard_sink;
 mod system_files;
+mod step_counter;
+mod systems;
 mod text_bytes;
 mod threshold_list;
 
@@ -27,5 +29,7 @@ pub use outside::{LONGEST_FILE, Sink, SinkFailed, Tree, TreeFault};
 pub use refusals::{Fault, Memory, Refusal, Stop};
 pub use standard_sink::StdSink;
 pub use system_files::FileTree;
+pub use step_counter::Steps;
+pub use systems::System;
 pub use text_bytes::Text;
 pub use threshold_list::Thresholds;

@@ -1,0 +1,14 @@
+//! The least map from blocks to rows that no edge of a system takes further.
+#![tactic(auto)]
+
+mod arrival;
+mod following;
+mod least_map;
+mod map_memory;
+mod map_release;
+#[cfg(test)]
+mod tests;
+
+pub use least_map::solve;
+pub use map_memory::{drop_map, new_map};
+pub use map_release::release;

@@ -1,0 +1,3 @@
+pub mod Pool
+pub mod Lending
+pub mod PoolLaws

@@ -1,0 +1,11 @@
+//! Rows of equal width in one block of memory, which is reserved once.
+#![tactic(auto)]
+
+mod absorption;
+mod pool;
+mod row_name;
+#[cfg(test)]
+mod tests;
+
+pub use pool::RowPool;
+pub use row_name::Row;

@@ -1,0 +1,171 @@
+//! The pool of rows.
+ghost use Rattle.std.specs.Prelude.{◌≡◌, ◌≢◌, ◌+◌, ◌*◌, ◌<◌, ◌≤◌, ◌^◌, ℕ, true, false, length, slice_get, IfOk, IfSome, IfNone, count_by, not};
+ghost use Rattle.std.specs.Borrow.{sem};
+ghost use Rattle.std.proofs.Common.{replicate};
+ghost use Rattle.row_pool.specs.Pool.{Pool, row_of, with_row, with_mark, IsTaken, IsFree, IsWhole, free_count, fresh_pool};
+
+use crate::row_name::Row;
+use cc_base::Memory;
+use std::alloc::{AllocError, Global};
+use std::marker::Model;
+
+/// Rows of `width` cells each, in one block of memory that `new` reserves.
+///
+/// Contracts see the width, for each row whether it is in use, and the cells.
+#[derive(Drop)]
+pub struct RowPool<V: Copy> {
+    pub(crate) width: u32,
+    pub(crate) taken: Vec<bool>,
+    pub(crate) cells: Vec<V>,
+}
+
+impl<V: Copy> Model for RowPool<V> {
+    ghost use Rattle.std.specs.Prelude.{◌≡◌, ◌*◌, ◌<◌, ◌^◌, length};
+    ghost use Rattle.row_pool.specs.Pool.{Pool, pool_code};
+
+    ghost Value = { Pool V };
+
+    ghost coded = { pool_code V.code };
+
+    ghost view = { λ p. record { width = p.width; taken = p.taken.items; cells = p.cells.items } };
+
+    ghost invariant = { λ p. (length p.cells.items ≡ length p.taken.items * p.width) × (length p.taken.items < 2 ^ 32) };
+}
+
+impl<V: Copy> RowPool<V> {
+    ghost use Rattle.row_pool.specs.Lending.{lends_row};
+
+    /// `rows` free rows of `width` cells, each cell `fill`. `Memory` where memory is short.
+    pub fn new(alloc: Global, rows: u32, width: u32, fill: V) -> Result<RowPool<V>, Memory>
+        ensures { IfOk result (λ pool. pool ≡ fresh_pool rows width fill) }
+    {
+        let taken = filled(alloc, rows as usize, false)?;
+        let cells = filled(alloc, rows as usize * width as usize, fill)?;
+        Ok(RowPool {
+            width,
+            taken,
+            cells,
+        })
+    }
+
+    /// The number of cells of a row.
+    pub fn width(&self) -> u32
+        ensures width { result ≡ self.now.width }
+        ensures whole { IsWhole self.now }
+    {
+        self.width
+    }
+
+    /// The number of rows that are not in use.
+    pub fn free_rows(&self) -> u32
+        ensures { result ≡ free_count self.now }
+    {
+        count_free(self.taken.as_slice())
+    }
+
+    /// A row that was free, and from now on is in use. None exactly where no row is free. Its cells
+    /// are what they were.
+    #[tactic(auto, using(crate::specs::PoolLaws::count_taken))]
+    pub fn take(&mut self) -> Option<Row>
+        ensures none { IfNone result (self.new ≡ self.old × free_count self.old ≡ 0) }
+        ensures free { IfSome result (λ row. IsFree self.old row.index) }
+        ensures taken { IfSome result (λ row. self.new ≡ with_mark self.old row.index true) }
+        ensures in_use { IfSome result (λ row. IsTaken self.new row.index) }
+        ensures others { IfSome result (λ row. (s : ℕ) → IsTaken self.old s → IsTaken self.new s) }
+        ensures whole { IsWhole self.new }
+        ensures unmarked { IfSome result (λ row. row.marked ≡ false) }
+        ensures count { IfSome result (λ row. free_count self.new + 1 ≡ free_count self.old) }
+    {
+        let index = first_free(self.taken.as_slice())?;
+        self.taken[index] = true;
+        Some(Row {
+            index: index as u32,
+            marked: false,
+        })
+    }
+
+    /// Gives a row back, which from now on is free.
+    #[tactic(auto, using(crate::specs::PoolLaws::count_given))]
+    pub fn give(&mut self, row: Row)
+        requires { IsTaken self.old row.index }
+        ensures free { self.new ≡ with_mark self.old row.index false }
+        ensures others { (s : ℕ) → s ≢ row.index → IsTaken self.old s → IsTaken self.new s }
+        ensures count { free_count self.new ≡ free_count self.old + 1 }
+    {
+        let Row { index, marked: _ } = row;
+        self.taken[index as usize] = false;
+    }
+
+    /// The cells of a row.
+    #[tactic(auto, using(crate::specs::PoolLaws::row_end))]
+    pub fn row(&self, at: &Row) -> &[V]
+        requires { IsTaken self.now at.now.index }
+        ensures { result.now ≡ row_of self.now at.now.index }
+    {
+        let width = self.width as usize;
+        let start = at.index as usize * width;
+        &self.cells.as_slice()[start..start + width]
+    }
+
+    /// The cells of a row, to be written.
+    pub fn row_mut(&mut self, at: &Row) -> &mut [V]
+        requires { IsTaken self.old at.now.index }
+        ensures* writes_back { sem 𝓛 (lends_row V.row self.entry at.now.index result) }
+        ensures value { result.now ≡ row_of self.old at.now.index }
+        ensures len { length result.now ≡ self.old.width }
+    {
+        let width = self.width as usize;
+        let start = at.index as usize * width;
+        self.cells.slice_mut(start..start + width)
+    }
+
+    /// Writes the cells of the row `from` into the row `to`.
+    pub fn copy(&mut self, from: &Row, to: &Row)
+        requires from { IsTaken self.old from.now.index }
+        requires to { IsTaken self.old to.now.index }
+        ensures { self.new ≡ with_row self.old to.now.index (row_of self.old from.now.index) }
+    {
+        let width = self.width as usize;
+        let start = from.index as usize * width;
+        let target = to.index as usize * width;
+        self.cells
+            .as_mut_slice()
+            .copy_within(start..start + width, target);
+    }
+}
+
+// `count` times the same value.
+fn filled<V: Copy>(alloc: Global, count: usize, fill: V) -> Result<Vec<V>, AllocError>
+    ensures { IfOk result (λ all. all.items ≡ replicate count fill) }
+{
+    let mut all = Vec::with_capacity(alloc, count)?;
+    for _i in 0..count {
+        all.push(fill)?;
+    }
+    Ok(all)
+}
+
+// How many of the marks are not set.
+fn count_free(taken: &[bool]) -> u32
+    requires { length taken.now < 2 ^ 32 }
+    ensures { result ≡ count_by not taken.now }
+{
+    let mut count = 0;
+    for is_taken in taken {
+        count += u32::from(!*is_taken);
+    }
+    count
+}
+
+// The place of the first mark that is not set.
+fn first_free(taken: &[bool]) -> Option<usize>
+    ensures none { IfNone result (count_by not taken.now ≡ 0) }
+    ensures free { IfSome result (λ i. slice_get taken.now i ≡ Some false) }
+{
+    for (index, is_taken) in taken.iter().enumerate() {
+        if !*is_taken {
+            return Some(index);
+        }
+    }
+    None
+}
