@@ -1,5 +1,5 @@
 -- Ascending lists of integers.
-use Rattle.std.specs.Prelude.{◌≡◌, ℤ, Bool, true, false, ◌&&◌, List, [], ◌∷◌, int_lt}
+use Rattle.std.specs.Prelude.{◌≡◌, ℤ, Bool, true, ◌&&◌, List, [], ◌∷◌, int_lt}
 
 -- each number is below the next one
 abbrev pub is_ascending : List ℤ → Bool

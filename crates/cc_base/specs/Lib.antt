@@ -2,3 +2,5 @@ pub mod Rules
 pub mod Standard
 pub mod Ascending
 pub mod Lattices
+pub mod IntegerTypes
+pub mod IntegerDomains

@@ -1,5 +1,4 @@
 -- The limits of the product.
-use Rattle.std.specs.Prelude.{ℕ}
 use Rattle.cc_base.specs.declared.limit_table.Limits.{Limits}
 
 abbrev pub standard_limits : Limits

@@ -3,6 +3,8 @@
 #![tactic(auto)]
 
 mod diagnostics;
+mod integer_domains;
+mod integer_operators;
 mod lattices;
 mod lexemes;
 mod limit_table;
@@ -11,6 +13,8 @@ mod text_bytes;
 mod threshold_list;
 
 pub use diagnostics::{Diag, Place, Rule};
+pub use integer_domains::IntDomain;
+pub use integer_operators::{IntOp, Rel, Tri, UnOp};
 pub use lattices::Lattice;
 pub use lexemes::{Kind, Token, Tokens};
 pub use limit_table::{Count, IntType, Limits};
