@@ -1,0 +1,5 @@
+pub mod Spans
+pub mod IntervalOrder
+pub mod Nearest
+pub mod IntervalRound
+pub mod IntervalLattice
