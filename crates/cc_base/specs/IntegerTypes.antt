@@ -1,6 +1,6 @@
 -- The range of an integer type, and conversion into it (6.2.6.2 and 6.3.1.3).
 use Rattle.std.specs.Prelude.{ℕ, ◌-◌, ◌*◌, ◌^◌, ℤ, pos, negsuc, ◌+ℤ◌, ◌-ℤ◌, Bool, cond, ◌&&◌, ◌||◌, ◌==◌, int_le}
-use Rattle.std.specs.Int.{int_rem_euclid}
+use Rattle.std.specs.Int.{int_rem_euclid, int_div_euclid}
 use Rattle.cc_base.specs.declared.limit_table.IntType.{IntType}
 
 -- the sizes that an integer type can have, in bytes
@@ -26,3 +26,7 @@ in_type kind z = int_le (least_of kind) z && int_le z (greatest_of kind)
 -- the number of the type that is equal to z modulo 2^width
 abbrev pub wrap_into : IntType → ℤ → ℤ
 wrap_into kind z = least_of kind +ℤ int_rem_euclid (z -ℤ least_of kind) (pos (modulus kind))
+
+-- which block of as many numbers as the type has holds z, where the type itself is block 0
+abbrev pub block_of : IntType → ℤ → ℤ
+block_of kind z = int_div_euclid (z -ℤ least_of kind) (pos (modulus kind))

@@ -3,6 +3,7 @@
 #![tactic(auto)]
 
 mod diagnostics;
+mod int_type_ranges;
 mod integer_domains;
 mod integer_operators;
 mod lattices;
