@@ -1,5 +1,5 @@
 -- The operators on intervals, and conversion to a type.
-use Rattle.std.specs.Prelude.{◌≡◌, ℕ, ◌+◌, ◌-◌, ◌*◌, ◌^◌, max, ℤ, pos, negsuc, ◌+ℤ◌, ◌-ℤ◌, ◌*ℤ◌, neg_ℤ, Bool, true, false, cond, ◌&&◌, int_le, int_lt, int_div, int_rem, bit_and, bit_or, bit_xor, unsigned_abs}
+use Rattle.std.specs.Prelude.{◌≡◌, ℕ, ◌+◌, ◌-◌, ◌*◌, ◌^◌, max, ℤ, pos, negsuc, ◌+ℤ◌, ◌-ℤ◌, ◌*ℤ◌, neg_ℤ, Bool, true, false, cond, ◌&&◌, ◌<ℤ◌, ◌≤ℤ◌, ◌⊎◌, int_le, int_lt, int_div, int_rem, bit_and, bit_or, bit_xor, unsigned_abs}
 use Rattle.std.specs.Int.{int_min, int_max, int_rem_euclid, int_shr, leading_zeros, w128}
 use Rattle.std.specs.Ordering.{int_eq}
 use Rattle.cc_base.specs.declared.limit_table.IntType.{IntType}
@@ -57,6 +57,19 @@ abbrev pub products : IntType → Span → Span → Interval
 products k s t = into k (least_of_four (s.lo *ℤ t.lo) (s.lo *ℤ t.hi) (s.hi *ℤ t.lo) (s.hi *ℤ t.hi)) (greatest_of_four (s.lo *ℤ t.lo) (s.lo *ℤ t.hi) (s.hi *ℤ t.lo) (s.hi *ℤ t.hi))
 
 -- ---- /
+
+abbrev pub ApartFromZero : ℤ → Type 0
+ApartFromZero n = (n <ℤ pos 0) ⊎ (pos 0 <ℤ n)
+
+-- all numbers are below zero or all are above
+abbrev pub IsApart : Interval → Type 0
+IsApart Bottom = Unit {0}
+IsApart (Of t) = (t.hi <ℤ pos 0) ⊎ (pos 0 <ℤ t.lo)
+
+-- no end is zero
+abbrev pub HasApartEnds : Interval → Type 0
+HasApartEnds Bottom = Unit {0}
+HasApartEnds (Of t) = ApartFromZero t.lo × ApartFromZero t.hi
 
 -- the quotients by the numbers of an interval that has no zero
 abbrev pub quotients_by : Span → Interval → Interval
@@ -138,6 +151,16 @@ exclusives k s t = cond (are_single s t) (with_bits k (bit_xor (bits_in k s.lo) 
 -- the counts that are defined: from 0 to width - 1
 abbrev pub counts : IntType → Span → Interval
 counts k t = between_or_empty (int_max t.lo (pos 0)) (int_min t.hi (pos (8 * k.bytes) -ℤ pos 1))
+
+-- all numbers are from 0 to 63
+abbrev pub AreCounts : Interval → Type 0
+AreCounts Bottom = Unit {0}
+AreCounts (Of t) = (pos 0 ≤ℤ t.lo) × (t.hi ≤ℤ pos 63)
+
+-- all numbers are from 0 to the greatest of the type
+abbrev pub AreMultiplicands : IntType → Interval → Type 0
+AreMultiplicands k Bottom = Unit {0}
+AreMultiplicands k (Of s) = (pos 0 ≤ℤ s.lo) × (s.hi ≤ℤ greatest_of k)
 
 -- z times 2 to the power n
 abbrev pub scaled : ℤ → ℤ → ℤ

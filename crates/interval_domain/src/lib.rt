@@ -2,6 +2,10 @@
 #![tactic(auto)]
 
 mod intervals;
+mod span_arithmetic;
+mod span_division;
+mod span_bits;
+mod span_relations;
 mod spans;
 
 pub use intervals::Interval;
