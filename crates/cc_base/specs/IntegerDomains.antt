@@ -1,5 +1,5 @@
 -- Lattices of sets of integers, and their laws.
-use Rattle.std.specs.Prelude.{◌≡◌, ℤ, pos, negsuc, ◌-◌, ◌^◌, ◌≤ℤ◌, true, Option, Some, None, List, ◌⊎◌}
+use Rattle.std.specs.Prelude.{◌≡◌, ℤ, pos, negsuc, ◌-◌, ◌^◌, ◌≤ℤ◌, true, cond, int_le, Option, Some, None, List, ◌⊎◌}
 use Rattle.std.specs.List.{Contains}
 use Rattle.cc_base.specs.declared.limit_table.IntType.{IntType}
 use Rattle.cc_base.specs.declared.integer_operators.IntOp.{IntOp}
@@ -48,3 +48,7 @@ pub record RangeLaws {I : Type 0} (l : LatticeOf I) (n : IntegersOf I) : Type 0 
   pub unary_fits : (op : UnOp) (x : I) (k : IntType) (a b : ℤ) → is_size k.bytes ≡ true → n.bounds (n.unary op x k) ≡ Some (a, b) → (least_of k ≤ℤ a) × (b ≤ℤ greatest_of k)
   pub convert_fits : (x : I) (k : IntType) (a b : ℤ) → is_size k.bytes ≡ true → n.bounds (n.convert x k) ≡ Some (a, b) → (least_of k ≤ℤ a) × (b ≤ℤ greatest_of k)
   pub refine_below : (rel : Rel) (x y : I) → l.leq (n.refine rel x y) x ≡ true
+
+-- the numbers from a to b, of which there may be none
+abbrev pub between_or_least : {I : Type 0} → LatticeOf I → IntegersOf I → ℤ → ℤ → I
+between_or_least l n a b = cond (int_le a b) (n.between a b) l.least

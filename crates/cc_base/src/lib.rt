@@ -4,6 +4,7 @@
 
 mod diagnostics;
 mod int_type_ranges;
+mod integer_bounds;
 mod integer_domains;
 mod integer_operators;
 mod lattices;
@@ -14,6 +15,7 @@ mod text_bytes;
 mod threshold_list;
 
 pub use diagnostics::{Diag, Place, Rule};
+pub use integer_bounds::between_or_bottom;
 pub use integer_domains::IntDomain;
 pub use integer_operators::{IntOp, Rel, Tri, UnOp};
 pub use lattices::Lattice;
