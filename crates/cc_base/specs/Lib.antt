@@ -4,3 +4,4 @@ pub mod Ascending
 pub mod Lattices
 pub mod IntegerTypes
 pub mod IntegerDomains
+pub mod LatticeParts

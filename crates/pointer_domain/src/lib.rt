@@ -1,13 +1,8 @@
-// A library with one function.
+//! The pointer part of abstract values, over any domain of integers.
 #![tactic(auto)]
 
-ghost use Rattle.std.specs.Prelude.{◌≡◌};
-ghost use Rattle.pointer_domain.specs.Echo.{echo_of};
+mod base_sets;
+mod pointer_sets;
 
-// The `ensures` clause is the contract: what `echo` returns is `echo_of` of its argument, a definition
-// in `specs/Echo.antt`, which a caller's clause can cite too.
-pub fn echo(x: usize) -> usize
-    ensures { result ≡ echo_of x }
-{
-    x
-}
+pub use base_sets::Bases;
+pub use pointer_sets::Pointers;
