@@ -1,5 +1,5 @@
 -- Lattices of sets of integers, and their laws.
-use Rattle.std.specs.Prelude.{◌≡◌, ℤ, pos, negsuc, ◌-◌, ◌^◌, ◌≤ℤ◌, true, cond, int_le, Option, Some, None, List, ◌⊎◌}
+use Rattle.std.specs.Prelude.{◌≡◌, ℤ, pos, negsuc, ◌-◌, ◌^◌, ◌≤ℤ◌, true, cond, int_le, Option, Some, None, List, ◌⊎◌, refl}
 use Rattle.std.specs.List.{Contains}
 use Rattle.cc_base.specs.declared.limit_table.IntType.{IntType}
 use Rattle.cc_base.specs.declared.integer_operators.IntOp.{IntOp}
@@ -7,6 +7,7 @@ use Rattle.cc_base.specs.declared.integer_operators.UnOp.{UnOp}
 use Rattle.cc_base.specs.declared.integer_operators.Rel.{Rel}
 use Rattle.cc_base.specs.declared.integer_operators.Tri.{Tri}
 use Rattle.cc_base.specs.IntegerTypes.{is_size, least_of, greatest_of}
+use Rattle.cc_base.specs.NumberRanges.{LiesWithin}
 use Rattle.cc_base.specs.Lattices.{LatticeOf}
 
 -- what a domain of integers computes
@@ -52,3 +53,16 @@ pub record RangeLaws {I : Type 0} (l : LatticeOf I) (n : IntegersOf I) : Type 0 
 -- the numbers from a to b, of which there may be none
 abbrev pub between_or_least : {I : Type 0} → LatticeOf I → IntegersOf I → ℤ → ℤ → I
 between_or_least l n a b = cond (int_le a b) (n.between a b) l.least
+
+-- the value with these bounds
+abbrev pub of_range : {I : Type 0} → LatticeOf I → IntegersOf I → Option (ℤ × ℤ) → I
+of_range l n None = l.least
+of_range l n (Some p) = between_or_least l n p.0 p.1
+
+near_at : {I : Type 0} {l : LatticeOf I} {n : IntegersOf I} {stands : I → ℤ → Type 0} → BoundLaws l n stands → (x : I) (r : Option (ℤ × ℤ)) → n.bounds x ≡ r → IsNear r → LiesWithin (2 ^ 64) r
+near_at o x None e h = tt
+near_at o x (Some p) e h = let q : p.0 ≤ℤ p.1 = o.proper x p.0 p.1 e in (h.0, q, h.1)
+
+-- bounds from -2^64 to 2^64 are in order
+pub near_lies : {I : Type 0} {l : LatticeOf I} {n : IntegersOf I} {stands : I → ℤ → Type 0} → BoundLaws l n stands → (x : I) → IsNear (n.bounds x) → LiesWithin (2 ^ 64) (n.bounds x)
+near_lies {I} {l} {n} o x h = near_at o x (n.bounds x) refl h

@@ -5,3 +5,4 @@ pub mod Lattices
 pub mod IntegerTypes
 pub mod IntegerDomains
 pub mod LatticeParts
+pub mod NumberRanges

@@ -10,6 +10,7 @@ mod integer_operators;
 mod lattices;
 mod lexemes;
 mod limit_table;
+mod number_ranges;
 mod refusals;
 mod text_bytes;
 mod threshold_list;
@@ -21,6 +22,10 @@ pub use integer_operators::{IntOp, Rel, Tri, UnOp};
 pub use lattices::Lattice;
 pub use lexemes::{Kind, Token, Tokens};
 pub use limit_table::{Count, IntType, Limits};
+pub use number_ranges::{
+    of_range, range_between, range_clamped, range_difference, range_met, range_over, range_sum,
+    range_times, ranges_meet, ranges_same_one, upper_or,
+};
 pub use refusals::{Fault, Memory, Refusal, Stop};
 pub use text_bytes::Text;
 pub use threshold_list::Thresholds;
