@@ -1,7 +1,7 @@
 -- The lattice of sets of bases, word by word.
-use Rattle.std.specs.Prelude.{◌≡◌, ℕ, ◌+◌, ◌-◌, ◌*◌, ◌/◌, ◌%◌, ◌^◌, ◌<◌, ◌≤◌, zero, suc, ℤ, Bool, true, false, ◌==◌, nat_lt, bit_or, List, length, refl, max, ◌⊎◌}
+use Rattle.std.specs.Prelude.{◌≡◌, ℕ, ◌+◌, ◌-◌, ◌^◌, ◌<◌, ◌≤◌, zero, suc, true, nat_lt, bit_or, refl}
 use Rattle.std.specs.Int.{bit_at}
-use Rattle.std.proofs.Common.{arith, ap, ap₂, ◌∙◌, sym, subst, inl, inr}
+use Rattle.std.proofs.Common.{arith, ap, ◌∙◌, sym, subst, inl, inr}
 use Rattle.std.proofs.lemmas.Nat.{or_comm, or_lt}
 use Rattle.std.proofs.lemmas.Nat.Bits.{bit_at_or, bit_at-lt, same_from_bits, same_from_bits_below, bit_at-zero}
 use Rattle.std.proofs.lemmas.Bool.{eqb-true, eq-eqb, ltb-true, lt-ltb, cases_order, false≢true}
@@ -23,7 +23,8 @@ word_lattice = record {
   round = λ list w. w;
   within = λ list w. nat_lt w (2 ^ 128);
   rank = λ list w. 128 - bit_count 128 w;
-  height = λ t. 128 }
+  height = λ t. 128;
+}
 
 or_self : (a : ℕ) → bit_or a a ≡ a
 or_self a = same_from_bits (bit_or a a) a (λ i. bit_at_or a a i ∙ omega arith)
@@ -68,28 +69,31 @@ counts_fall : (a b : ℕ) → a < 2 ^ 128 → b < 2 ^ 128 → bit_or a b ≡ b �
 counts_fall a b h k e n =
     let r = count_within a b 128 e in
     let s = count_small b 128 in
-    elim (cases_order (bit_count 128 a) (bit_count 128 b))
-      [ inl p ↦ absurd (n (same_from_bits_below 128 a b h k (same_counts a b 128 e p)))
-      | inr t ↦ elim t [ inl l ↦ omega arith | inr m ↦ absurd (omega arith) ] ]
+    elim (cases_order (bit_count 128 a) (bit_count 128 b)) [
+      | inl p ↦ absurd (n (same_from_bits_below 128 a b h k (same_counts a b 128 e p)))
+      | inr t ↦ elim t [ inl l ↦ omega arith | inr m ↦ absurd (omega arith) ]
+    ]
 
 pub word_order : OrderLaws word_lattice
 word_order = record {
   reflexive = λ a. is_within a a (or_self a);
   transitive = λ a b c h k.
-    let e = within_is a b h in
-    let f = within_is b c k in
-    is_within a c (ap (bit_or a) (sym f) ∙ sym (or_assoc a b c) ∙ ap (λ z. bit_or z c) e ∙ f);
+      let e = within_is a b h in
+      let f = within_is b c k in
+      is_within a c (ap (bit_or a) (sym f) ∙ sym (or_assoc a b c) ∙ ap (λ z. bit_or z c) e ∙ f);
   antisymmetric = λ a b h k. sym (within_is b a k) ∙ or_comm b a ∙ within_is a b h;
   least_below = λ a. is_within 0 a (or_zero a);
   join_left = λ a b. is_within a (bit_or a b) (sym (or_assoc a a b) ∙ ap (λ z. bit_or z b) (or_self a));
   join_right = λ a b. is_within b (bit_or a b) (ap (bit_or b) (or_comm a b) ∙ sym (or_assoc b b a) ∙ ap (λ z. bit_or z a) (or_self b) ∙ or_comm b a);
-  join_least = λ a b c h k. is_within (bit_or a b) c (or_assoc a b c ∙ ap (bit_or a) (within_is b c k) ∙ within_is a c h) }
+  join_least = λ a b c h k. is_within (bit_or a b) c (or_assoc a b c ∙ ap (bit_or a) (within_is b c k) ∙ within_is a c h);
+}
 
 pub word_rounding : RoundLaws word_lattice
 word_rounding = record {
   rises = λ list a. is_within a a (or_self a);
   monotone = λ list a b h. h;
-  idempotent = λ list a. refl }
+  idempotent = λ list a. refl;
+}
 
 pub word_heights : HeightLaws word_lattice
 word_heights = record {
@@ -97,7 +101,8 @@ word_heights = record {
   join_within = λ list a b h k. lt-ltb _ _ (or_lt 128 a b (ltb-true _ _ h) (ltb-true _ _ k));
   round_within = λ list a h. h;
   falls = λ list a b s t u v h n. counts_fall a b (ltb-true _ _ s) (ltb-true _ _ t) (within_is a b h) (λ (e : a ≡ b). false≢true (sym n ∙ subst (λ z. word_within b z ≡ true) (sym e) (is_within b b (or_self b))));
-  bounded = λ list a. omega arith }
+  bounded = λ list a. omega arith;
+}
 
 -- ---- eight words
 

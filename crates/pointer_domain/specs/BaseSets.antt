@@ -1,5 +1,5 @@
 -- Sets of bases: base n is bit n % 128 of word n / 128.
-use Rattle.std.specs.Prelude.{◌≡◌, ℕ, ◌+◌, ◌-◌, ◌*◌, ◌/◌, ◌%◌, ◌^◌, ◌<◌, ◌≤◌, Bool, true, false, cond, not, ◌&&◌, ◌||◌, ◌==◌, bit_and, bit_or, count_ones}
+use Rattle.std.specs.Prelude.{ℕ, ◌+◌, ◌/◌, ◌%◌, ◌^◌, Bool, cond, not, ◌&&◌, ◌||◌, ◌==◌, bit_and, bit_or, count_ones}
 use Rattle.std.specs.Int.{bit_at, bit_not, w128}
 use Rattle.pointer_domain.specs.declared.base_sets.Bases.{Bases}
 
@@ -31,7 +31,8 @@ bases_union s t = record {
   word4 = bit_or s.word4 t.word4;
   word5 = bit_or s.word5 t.word5;
   word6 = bit_or s.word6 t.word6;
-  word7 = bit_or s.word7 t.word7 }
+  word7 = bit_or s.word7 t.word7;
+}
 
 -- each bit of a is one of b
 abbrev pub word_within : ℕ → ℕ → Bool

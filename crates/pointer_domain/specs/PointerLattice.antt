@@ -1,5 +1,5 @@
 -- The lattice of pointer parts, by components.
-use Rattle.std.specs.Prelude.{◌≡◌, ℕ, ◌+◌, ◌*◌, ◌<◌, ◌≤◌, ℤ, Bool, true, false, cond, not, ◌&&◌, ◌||◌, List, length, refl}
+use Rattle.std.specs.Prelude.{ℤ, Bool, false, ◌&&◌, ◌||◌, List, refl}
 use Rattle.cc_base.specs.Lattices.{LatticeOf, OrderLaws, RoundLaws, HeightLaws}
 use Rattle.cc_base.specs.LatticeParts.{flag_leq, flag_lattice, flag_order, flag_rounding, flag_heights, pair_lattice, pair_order, pair_rounding, pair_heights, image_order, image_rounding, image_heights}
 use Rattle.pointer_domain.specs.BaseLattice.{bases_lattice, bases_order, bases_rounding, bases_heights}
@@ -26,7 +26,8 @@ module _ {I : Type 0} where
     len = l.join x.len y.len;
     part = x.part || y.part;
     null = x.null || y.null;
-    ended = x.ended || y.ended }
+    ended = x.ended || y.ended;
+  }
 
   abbrev pub pointers_leq : LatticeOf I → Pointers I → Pointers I → Bool
   pointers_leq l x y = bases_within x.bases y.bases && (l.leq x.lo y.lo && (l.leq x.rel y.rel && (l.leq x.len y.len
@@ -56,7 +57,8 @@ module _ {I : Type 0} where
     round = pointers_round l;
     within = λ list x. (parts_lattice l).within list (parts_of x);
     rank = λ list x. (parts_lattice l).rank list (parts_of x);
-    height = (parts_lattice l).height }
+    height = (parts_lattice l).height;
+  }
 
 flags_order : OrderLaws (flags_lattice)
 flags_order = pair_order flag_order (pair_order flag_order flag_order)

@@ -167,8 +167,18 @@ impl Bases {
     pub fn count(self) -> u32
         ensures { result ≡ bases_count self }
     {
-        let low = (self.word0.count_ones(), self.word1.count_ones(), self.word2.count_ones(), self.word3.count_ones());
-        let high = (self.word4.count_ones(), self.word5.count_ones(), self.word6.count_ones(), self.word7.count_ones());
+        let low = (
+            self.word0.count_ones(),
+            self.word1.count_ones(),
+            self.word2.count_ones(),
+            self.word3.count_ones(),
+        );
+        let high = (
+            self.word4.count_ones(),
+            self.word5.count_ones(),
+            self.word6.count_ones(),
+            self.word7.count_ones(),
+        );
         low.0 + (low.1 + (low.2 + (low.3 + (high.0 + (high.1 + (high.2 + high.3))))))
     }
 }
