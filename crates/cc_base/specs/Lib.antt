@@ -9,3 +9,7 @@ pub mod Rows
 pub mod Machine
 pub mod InductiveMap
 pub mod RowLaws
+pub mod IntegerTypes
+pub mod IntegerDomains
+pub mod LatticeParts
+pub mod NumberRanges

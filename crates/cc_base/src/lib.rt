@@ -3,6 +3,10 @@
 #![tactic(auto)]
 
 mod diagnostics;
+mod int_type_ranges;
+mod integer_bounds;
+mod integer_domains;
+mod integer_operators;
 mod lattices;
 mod lexemes;
 mod limit_table;
@@ -11,6 +15,7 @@ mod memory_tree;
 mod outside;
 #[cfg(test)]
 mod outside_tests;
+mod number_ranges;
 mod refusals;
 mod standard_sink;
 mod system_files;
@@ -20,12 +25,19 @@ mod text_bytes;
 mod threshold_list;
 
 pub use diagnostics::{Diag, Place, Rule};
+pub use integer_bounds::between_or_bottom;
+pub use integer_domains::IntDomain;
+pub use integer_operators::{IntOp, Rel, Tri, UnOp};
 pub use lattices::Lattice;
 pub use lexemes::{Kind, Token, Tokens};
 pub use limit_table::{Count, IntType, Limits};
 pub use memory_sink::MemSink;
 pub use memory_tree::MemTree;
 pub use outside::{LONGEST_FILE, Sink, SinkFailed, Tree, TreeFault};
+pub use number_ranges::{
+    of_range, range_between, range_clamped, range_difference, range_met, range_over, range_sum,
+    range_times, ranges_meet, ranges_same_one, upper_or,
+};
 pub use refusals::{Fault, Memory, Refusal, Stop};
 pub use standard_sink::StdSink;
 pub use system_files::FileTree;

@@ -1,0 +1,92 @@
+-- Facts on the ranges of types, for the code.
+use Rattle.std.proofs.Common.{◌≡◌, ℕ, ◌+◌, ◌-◌, ◌*◌, ◌^◌, ◌≤◌, ◌<◌, ℤ, pos, negsuc, ◌+ℤ◌, ◌-ℤ◌, ◌≤ℤ◌, ◌<ℤ◌, Bool, true, false, cond, ◌*ℤ◌, ◌%◌, unsigned_abs, FitsSigned, to_z, of_z, refl, arith, ap, ◌∙◌, sym, subst, ◌⊎◌, inl, inr}
+use Rattle.std.specs.Int.{w128, leading_zeros}
+use Rattle.std.proofs.Math.Nat.{pow-le-pow_right}
+use Rattle.std.proofs.lemmas.Bool.{cases_lt}
+use Rattle.std.proofs.lemmas.Nat.{one_shl, pow_below, mul-le, leading_length}
+use Rattle.interval_domain.specs.Arithmetic.{scaled}
+use Rattle.std.proofs.lemmas.Int.{ints, clamps, to_z_pos}
+use lib.Signed.{le_z_yes}
+use Rattle.cc_base.specs.IntegerTypes.{is_size, modulus, least_of, greatest_of}
+use Rattle.cc_base.specs.declared.limit_table.IntType.{IntType}
+use Rattle.interval_domain.specs.IntervalNumbers.{by_size}
+
+least_low_at : (n : ℕ) (s : Bool) → is_size n ≡ true → negsuc (2 ^ 63 - 1) ≤ℤ cond s (negsuc (2 ^ (8 * n - 1) - 1)) (pos 0)
+least_low_at n true h = by_size (λ n. negsuc (2 ^ 63 - 1) ≤ℤ negsuc (2 ^ (8 * n - 1) - 1)) (le_z_yes tt) (le_z_yes tt) (le_z_yes tt) (le_z_yes tt) n h
+least_low_at n false h = le_z_yes tt
+
+least_high_at : (n : ℕ) (s : Bool) → cond s (negsuc (2 ^ (8 * n - 1) - 1)) (pos 0) ≤ℤ pos 0
+least_high_at n true = le_z_yes tt
+least_high_at n false = le_z_yes tt
+
+greatest_low_at : (n : ℕ) (s : Bool) → is_size n ≡ true → pos 127 ≤ℤ cond s (pos (2 ^ (8 * n - 1) - 1)) (pos (2 ^ (8 * n) - 1))
+greatest_low_at n true h = by_size (λ n. pos 127 ≤ℤ pos (2 ^ (8 * n - 1) - 1)) (le_z_yes tt) (le_z_yes tt) (le_z_yes tt) (le_z_yes tt) n h
+greatest_low_at n false h = by_size (λ n. pos 127 ≤ℤ pos (2 ^ (8 * n) - 1)) (le_z_yes tt) (le_z_yes tt) (le_z_yes tt) (le_z_yes tt) n h
+
+greatest_high_at : (n : ℕ) (s : Bool) → is_size n ≡ true → cond s (pos (2 ^ (8 * n - 1) - 1)) (pos (2 ^ (8 * n) - 1)) ≤ℤ pos (2 ^ 64 - 1)
+greatest_high_at n true h = by_size (λ n. pos (2 ^ (8 * n - 1) - 1) ≤ℤ pos (2 ^ 64 - 1)) (le_z_yes tt) (le_z_yes tt) (le_z_yes tt) (le_z_yes tt) n h
+greatest_high_at n false h = by_size (λ n. pos (2 ^ (8 * n) - 1) ≤ℤ pos (2 ^ 64 - 1)) (le_z_yes tt) (le_z_yes tt) (le_z_yes tt) (le_z_yes tt) n h
+
+pub record RangeFacts (k : IntType) : Type 0 where
+  pub least_low : negsuc (2 ^ 63 - 1) ≤ℤ least_of k
+  pub least_high : least_of k ≤ℤ pos 0
+  pub greatest_low : pos 127 ≤ℤ greatest_of k
+  pub greatest_high : greatest_of k ≤ℤ pos (2 ^ 64 - 1)
+
+pub range_facts : (k : IntType) → is_size k.bytes ≡ true → RangeFacts k
+range_facts k h = record {
+  least_low = least_low_at k.bytes k.signed h;
+  least_high = least_high_at k.bytes k.signed;
+  greatest_low = greatest_low_at k.bytes k.signed h;
+  greatest_high = greatest_high_at k.bytes k.signed h }
+
+pub width_small : (n : ℕ) → is_size n ≡ true → 8 * n ≤ 64
+width_small n h = by_size (λ n. 8 * n ≤ 64) (omega arith) (omega arith) (omega arith) (omega arith) n h
+
+tight_at : (n : ℕ) (s : Bool) → is_size n ≡ true → (cond s (negsuc (2 ^ (8 * n - 1) - 1)) (pos 0) ≡ pos 0) ⊎ (cond s (pos (2 ^ (8 * n - 1) - 1)) (pos (2 ^ (8 * n) - 1)) ≤ℤ pos (2 ^ 63 - 1))
+tight_at n true h = inr (by_size (λ n. pos (2 ^ (8 * n - 1) - 1) ≤ℤ pos (2 ^ 63 - 1)) (le_z_yes tt) (le_z_yes tt) (le_z_yes tt) (le_z_yes tt) n h)
+tight_at n false h = inl refl
+
+-- a type has no number below 0 or none above 2^63 - 1
+pub tight : (k : IntType) → is_size k.bytes ≡ true → (least_of k ≡ pos 0) ⊎ (greatest_of k ≤ℤ pos (2 ^ 63 - 1))
+tight k h = tight_at k.bytes k.signed h
+
+-- a number of the type times at most 2^63 fits
+pub scaled_fits : (k : IntType) (z r : ℤ) → is_size k.bytes ≡ true → pos 0 ≤ℤ z → z ≤ℤ greatest_of k → pos 0 ≤ℤ r → r ≤ℤ pos (unsigned_abs z * 2 ^ 63) → FitsSigned w128 (r -ℤ least_of k)
+scaled_fits k (pos z) r h p q t u =
+    let f = range_facts k h in
+    elim (tight k h) [ inl e ↦ omega (arith, ints) | inr e ↦ omega (arith, ints) ]
+scaled_fits k (negsuc z) r h p q t u = absurd (omega (arith, ints))
+
+power_at_most : (n : ℕ) → n ≤ 63 → 2 ^ n ≤ 2 ^ 63
+power_at_most n h = pow-le-pow_right (omega arith) h
+
+pub power_bits : (n : ℕ) → n < 127 → to_z w128 (1 * 2 ^ n % 2 ^ 128) ≡ pos (2 ^ n)
+power_bits n h = ap (to_z w128) (one_shl n 128 (omega arith)) ∙ to_z_pos w128 (2 ^ n) (pow_below n 127 h)
+
+scale_least : (z n : ℕ) → n ≤ 63 → z * 2 ^ n ≤ z * 2 ^ 63
+scale_least z n h = mul-le z (2 ^ n) z (2 ^ 63) (omega arith) (power_at_most n h)
+
+-- 2 to the power n, for a count n
+pub record Scaling (z p n : ℤ) : Type 0 where
+  pub fits : FitsSigned w128 (z *ℤ p)
+  pub value : z *ℤ p ≡ scaled z n
+  pub nonnegative : pos 0 ≤ℤ (z *ℤ p)
+  pub bound : (z *ℤ p) ≤ℤ pos (unsigned_abs z * 2 ^ 63)
+
+pub scaling : (z p n : ℤ) → pos 0 ≤ℤ z → z <ℤ pos (2 ^ 64) → pos 0 ≤ℤ n → n ≤ℤ pos 63 → p ≡ pos (2 ^ unsigned_abs n) → Scaling z p n
+scaling (pos z) p (pos n) a b c d e =
+    let f : z * 2 ^ n ≤ z * 2 ^ 63 = scale_least z n (omega (arith, ints)) in
+    subst (λ p. Scaling (pos z) p (pos n)) (sym e) (record {
+      fits = omega (arith, ints);
+      value = refl;
+      nonnegative = omega (arith, ints);
+      bound = omega (arith, ints) })
+scaling (negsuc z) p n a b c d e = absurd (omega (arith, ints))
+scaling (pos z) p (negsuc n) a b c d e = absurd (omega (arith, ints))
+
+leading_at : (a m l : ℕ) → l + m ≡ 128 → 2 ^ m ≤ 2 * a + 1 → a ≤ 2 ^ 64 → 128 - l < 127
+leading_at a m l e p q = elim (cases_lt m 127) [ inl h ↦ omega arith | inr h ↦ (let r : 2 ^ 127 ≤ 2 ^ m = pow-le-pow_right (omega arith) h in absurd (omega arith)) ]
+
+pub leading_small : (a : ℕ) → a ≤ 2 ^ 64 → 128 - leading_zeros w128 a < 127
+leading_small a h = let r = leading_length 128 a (omega arith) in leading_at a r.0 (leading_zeros w128 a) r.1 r.3 h

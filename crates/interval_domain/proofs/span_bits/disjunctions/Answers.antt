@@ -1,0 +1,8 @@
+use Rattle.std.proofs.Common.{◌≡◌, arith, ap, ap₂, sym, ◌∙◌, rules}
+use Rattle.std.specs.Int.{w128}
+use Rattle.std.proofs.lemmas.Int.{ints, clamps, to_z-of_z}
+use Rattle.std.proofs.lemmas.Nat.{or_lt, xor_lt}
+use Rattle.interval_domain.proofs.span_bits.disjunctions.Goals as goal
+
+pub with_bits-requires-clause-small : goal.with_bits-requires-clause-small
+with_bits-requires-clause-small c = or_lt 64 _ _ c.bits_in.ensures.bound c.bits_in-then-are_single.ensures.bound

@@ -1,0 +1,12 @@
+use Rattle.std.proofs.Common.{◌≡◌, arith, ap, ap₂, sym, subst, ◌∙◌, rules, FitsSigned, to_z, of_z}
+use Rattle.std.specs.Int.{w128}
+use Rattle.std.proofs.lemmas.Int.{ints, clamps, to_z-of_z}
+use Rattle.interval_domain.proofs.Ranges.{range_facts, width_small, scaled_fits, Scaling, scaling, power_bits, leading_small}
+use Rattle.interval_domain.specs.Arithmetic.{ApartFromZero, scaled}
+use Rattle.interval_domain.proofs.span_division.scaled_span.Goals as goal
+
+pub into-requires-clause-lo_fits : goal.into-requires-clause-lo_fits
+into-requires-clause-lo_fits c = scaled_fits c.args.kind (to_z w128 (of_z w128 c.args.s.lo)) _ c.requires.size (omega (arith, ints)) (omega (arith, ints)) (omega (arith, ints, c.scaled.ensures)) (omega (arith, ints, c.scaled.ensures))
+
+pub into-requires-clause-hi_fits : goal.into-requires-clause-hi_fits
+into-requires-clause-hi_fits c = scaled_fits c.args.kind (to_z w128 (of_z w128 c.args.s.hi)) _ c.requires.size (omega (arith, ints)) (omega (arith, ints)) (omega (arith, ints, c.scaled-2.ensures)) (omega (arith, ints, c.scaled-2.ensures))
