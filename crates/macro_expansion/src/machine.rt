@@ -90,7 +90,7 @@ impl Machine {
 
     fn close(&mut self, alloc: Global, macros: &Macros, x: Lexeme) -> Result<(), Failure> {
         match self.levels.depth() {
-            Some(0) => self.end_call(alloc, macros, x.mark()),
+            Some(0) => self.end_call(alloc, macros),
             Some(depth) => {
                 self.levels.set_depth(depth - 1);
                 self.keep(x)
@@ -100,7 +100,8 @@ impl Machine {
     }
 
     /// Replaces the call that is being read by its list.
-    fn end_call(&mut self, alloc: Global, macros: &Macros, mark: Mark) -> Result<(), Failure> {
+    fn end_call(&mut self, alloc: Global, macros: &Macros) -> Result<(), Failure> {
+        let place = self.place;
         let argument = mem::replace(&mut self.out, Vec::new(alloc));
         self.levels.finish_argument(argument)?;
         let Some(call) = self.levels.end_call() else {
@@ -109,7 +110,7 @@ impl Machine {
         self.out = call.outer;
         match macros.get(call.name) {
             None => Ok(()),
-            Some(rule) => { self.replace(alloc, call.name, rule, call.finished.as_slice(), mark) }
+            Some(rule) => { self.replace(alloc, call.name, rule, call.finished.as_slice(), place) }
         }
     }
 
@@ -120,17 +121,20 @@ impl Machine {
         name: u32,
         rule: &Macro,
         arguments: &[Vec<Lexeme>],
-        mark: Mark,
+        place: Place,
     ) -> Result<(), Failure> {
         let body = rule.body.as_slice();
         let used = self
             .used
             .saturating_add(replacement_length(body, arguments));
         if used > LIMIT {
-            return Err(self.refused(Trouble::TooMany(used as u64), mark));
+            return Err(Failure::Refused(Refused {
+                trouble: Trouble::TooMany(used as u64),
+                place,
+            }));
         }
         let made = replacement(alloc, body, arguments)?;
-        self.place = self.place_of(mark);
+        self.place = place;
         self.used = used;
         self.pending.push(Item::Leave)?;
         self.pending.push_list(alloc, made.as_slice())?;
@@ -153,7 +157,7 @@ impl Machine {
         match &rule.parameters {
             None => {
                 let none = Vec::new(alloc);
-                self.replace(alloc, name, rule, none.as_slice(), mark)
+                self.replace(alloc, name, rule, none.as_slice(), self.place_of(mark))
             }
             Some(parameters) => self.function(alloc, name, parameters.len(), mark),
         }
