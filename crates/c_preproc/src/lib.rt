@@ -1,0 +1,15 @@
+//! Preprocessing: the directives of 6.10 of ISO/IEC 9899:2011, included files, and the tokens of
+//! a unit after translation phase 4.
+#![tactic(auto)]
+
+mod conditional_groups;
+mod directive_names;
+mod file_search;
+mod macro_definitions;
+mod open_files;
+mod preprocessing;
+mod preprocessor_state;
+#[cfg(test)]
+mod tests;
+
+pub use preprocessing::{expand, expand_bytes};

@@ -1,0 +1,6 @@
+pub mod ByteClasses
+pub mod Punctuators
+pub mod Reading
+pub mod Pieces
+pub mod Splicing
+pub mod Cutting

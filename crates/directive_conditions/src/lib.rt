@@ -1,0 +1,13 @@
+//! The conditions of `#if` and `#elif` (6.10.1 of ISO/IEC 9899:2011), computed in 64 bits.
+#![tactic(auto)]
+
+mod condition_symbols;
+mod condition_value;
+mod defined_names;
+mod evaluation;
+mod number_forms;
+mod operations;
+
+pub use condition_value::Number;
+pub use defined_names::replace_defined;
+pub use evaluation::{ConditionFault, holds};

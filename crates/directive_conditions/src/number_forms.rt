@@ -1,0 +1,151 @@
+//! Integer constants and character constants of a condition (6.4.4.1, 6.4.4.4).
+ghost use Rattle.std.specs.Prelude.{◌≡◌, ◌≤◌, length};
+
+use crate::condition_value::Number;
+
+/// The value of a digit in bases up to 16.
+fn digit_value(b: u8) -> Option<u8> {
+    match b {
+        b'0'..=b'9' => Some(b - b'0'),
+        b'a'..=b'f' => Some(b - b'a' + 10),
+        b'A'..=b'F' => Some(b - b'A' + 10),
+        _ => None,
+    }
+}
+
+/// Whether a byte is a digit of a base.
+fn is_digit_of(base: u8, b: u8) -> bool {
+    match digit_value(b) {
+        None => false,
+        Some(value) => value < base,
+    }
+}
+
+/// How many digits of a base stand at the front.
+fn digit_count(base: u8, text: &[u8]) -> usize
+    ensures { result ≤ length text.now }
+{
+    for (at, b) in text.iter().enumerate() {
+        if !is_digit_of(base, *b) {
+            return at;
+        }
+    }
+    text.len()
+}
+
+/// The number that digits of a base spell; None where it passes 2^64 - 1.
+fn magnitude(base: u8, digits: &[u8]) -> Option<u64> {
+    let mut total = 0u64;
+    for b in digits {
+        let value = digit_value(*b)?;
+        total = total
+            .checked_mul(u64::from(base))?
+            .checked_add(u64::from(value))?;
+    }
+    Some(total)
+}
+
+/// Whether a suffix has a `u`; None where it is no suffix.
+fn suffix_is_unsigned(suffix: &[u8]) -> Option<bool> {
+    match suffix {
+        [] | [b'l' | b'L'] | [b'l', b'l'] | [b'L', b'L'] => Some(false),
+        [b'u' | b'U'] | [b'u' | b'U', b'l' | b'L'] | [b'l' | b'L', b'u' | b'U'] => Some(true),
+        [b'u' | b'U', b'l', b'l'] | [b'u' | b'U', b'L', b'L'] => Some(true),
+        [b'l', b'l', b'u' | b'U'] | [b'L', b'L', b'u' | b'U'] => Some(true),
+        _ => None,
+    }
+}
+
+/// A number by its magnitude, its base and its suffix.
+fn typed(base: u8, value: u64, is_unsigned: bool) -> Option<Number> {
+    if is_unsigned {
+        return Some(Number::Unsigned(value));
+    }
+    match i64::try_from(value) {
+        Ok(signed) => Some(Number::Signed(signed)),
+        Err(_) => {
+            if base == 10 {
+                None
+            } else {
+                Some(Number::Unsigned(value))
+            }
+        }
+    }
+}
+
+/// A constant whose digits begin at the front.
+fn based_number(base: u8, text: &[u8]) -> Option<Number> {
+    let count = digit_count(base, text);
+    if count == 0 {
+        return None;
+    }
+    let (digits, suffix) = text.split_at(count);
+    let is_unsigned = suffix_is_unsigned(suffix)?;
+    typed(base, magnitude(base, digits)?, is_unsigned)
+}
+
+/// The value of an integer constant; None where its form is not in, or its value does not fit.
+pub fn integer_constant(text: &[u8]) -> Option<Number> {
+    match text {
+        [b'0', b'x' | b'X', digits @ ..] => based_number(16, digits),
+        [b'0', ..] => based_number(8, text),
+        _ => based_number(10, text),
+    }
+}
+
+/// The value of a simple escape.
+fn simple_escape(b: u8) -> Option<u8> {
+    match b {
+        b'\'' | b'"' | b'?' | b'\\' => Some(b),
+        b'a' => Some(7),
+        b'b' => Some(8),
+        b'f' => Some(12),
+        b'n' => Some(10),
+        b'r' => Some(13),
+        b't' => Some(9),
+        b'v' => Some(11),
+        _ => None,
+    }
+}
+
+/// The code of an escape, without its backslash.
+fn escape_code(text: &[u8]) -> Option<u8> {
+    match text {
+        [b'x', digits @ ..] => {
+            if digits.is_empty() {
+                return None;
+            }
+            u8::try_from(magnitude(16, digits)?).ok()
+        }
+        [b'0'..=b'7', ..] => {
+            if digit_count(8, text) < text.len() || text.len() > 3 {
+                return None;
+            }
+            u8::try_from(magnitude(8, text)?).ok()
+        }
+        [b] => simple_escape(*b),
+        _ => None,
+    }
+}
+
+/// The code of the one character between the quotes.
+fn character_code(inside: &[u8]) -> Option<u8> {
+    match inside {
+        [b'\\', escape @ ..] => escape_code(escape),
+        [b] => Some(*b),
+        _ => None,
+    }
+}
+
+/// The value of a character constant with its quotes; None where it has no one character or an
+/// escape that is not in.
+pub fn character_constant(text: &[u8], char_signed: bool) -> Option<Number> {
+    let [b'\'', inside @ .., b'\''] = text else {
+        return None;
+    };
+    let code = i64::from(character_code(inside)?);
+    if char_signed && code > 127 {
+        return Some(Number::Signed(code - 256));
+    }
+    Some(Number::Signed(code))
+}
