@@ -12,14 +12,14 @@ mod lexemes;
 mod limit_table;
 mod memory_sink;
 mod memory_tree;
+mod number_ranges;
 mod outside;
 #[cfg(test)]
 mod outside_tests;
-mod number_ranges;
 mod refusals;
 mod standard_sink;
-mod system_files;
 mod step_counter;
+mod system_files;
 mod systems;
 mod text_bytes;
 mod threshold_list;
@@ -33,15 +33,15 @@ pub use lexemes::{Kind, Token, Tokens};
 pub use limit_table::{Count, IntType, Limits};
 pub use memory_sink::MemSink;
 pub use memory_tree::MemTree;
-pub use outside::{LONGEST_FILE, Sink, SinkFailed, Tree, TreeFault};
 pub use number_ranges::{
     of_range, range_between, range_clamped, range_difference, range_met, range_over, range_sum,
     range_times, ranges_meet, ranges_same_one, upper_or,
 };
+pub use outside::{LONGEST_FILE, Sink, SinkFailed, Tree, TreeFault};
 pub use refusals::{Fault, Memory, Refusal, Stop};
 pub use standard_sink::StdSink;
-pub use system_files::FileTree;
 pub use step_counter::Steps;
+pub use system_files::FileTree;
 pub use systems::System;
 pub use text_bytes::Text;
 pub use threshold_list::Thresholds;

@@ -1,8 +1,7 @@
 //! Real files and a real writer, which no contract speaks of.
 use crate::{FileTree, MemSink, MemTree, Sink, StdSink, Tree, TreeFault};
-use std::fs;
-use std::io;
 use std::test::Fail;
+use std::{fs, io};
 
 /// A writer that takes a number of bytes and then fails.
 #[derive(Drop)]
