@@ -1,2 +1,6 @@
 pub mod Models
 pub mod ModelText
+pub mod Types
+pub mod StructViews
+pub mod Layout
+pub mod Leaves

@@ -1,0 +1,42 @@
+//! Sizes and alignments of types.
+ghost use Rattle.std.specs.Prelude.{◌≡◌, ◌≤◌, true};
+ghost use Rattle.c_layout.specs.Types.{view};
+ghost use Rattle.c_layout.specs.Models.{is_model};
+ghost use Rattle.c_layout.specs.StructViews.{structs_view};
+ghost use Rattle.c_layout.specs.Layout.{size_of_type, align_of_type, is_complete, most_bytes};
+
+use crate::data_model::Model;
+use crate::struct_table::Structs;
+use crate::type_terms::CType;
+
+/// The size of a complete type in bytes, at most 1,073,741,824 (6.5.3.4 of ISO/IEC 9899:2011). The
+/// structs that the type names are complete.
+pub fn size_of(t: &CType, structs: &Structs, model: &Model) -> u64
+    requires model { is_model model.now ≡ true }
+    requires complete { is_complete (structs_view structs.now) model.now.pointer (view t.now) ≡ true }
+    ensures size { result ≡ size_of_type (structs_view structs.now) model.now.pointer (view t.now) }
+    ensures most { result ≤ most_bytes }
+{
+    match t {
+        CType::Int(kind) => kind.bytes as u64,
+        CType::Pointer(_) => model.pointer as u64,
+        CType::Array(element, count) => *count * size_of(element, structs, model),
+        CType::Struct(index) => structs.items[*index as usize].size,
+        CType::Void => 0,
+    }
+}
+
+/// The alignment of a complete type in bytes (6.2.8). Scalars are aligned to their size.
+pub fn align_of(t: &CType, structs: &Structs, model: &Model) -> u64
+    requires model { is_model model.now ≡ true }
+    requires complete { is_complete (structs_view structs.now) model.now.pointer (view t.now) ≡ true }
+    ensures { result ≡ align_of_type (structs_view structs.now) model.now.pointer (view t.now) }
+{
+    match t {
+        CType::Int(kind) => kind.bytes as u64,
+        CType::Pointer(_) => model.pointer as u64,
+        CType::Array(element, _) => align_of(element, structs, model),
+        CType::Struct(index) => structs.items[*index as usize].align,
+        CType::Void => 1,
+    }
+}
