@@ -1,8 +1,8 @@
 -- The names of the library functions.
 use Rattle.std.specs.Prelude.{ℕ, List, Option, Some, None, codes, nat_eq, if◌then◌else◌}
 use Rattle.std.specs.Cmp.Lexicographic.{pointwise}
-use Rattle.lib_models.specs.declared.library.LibFn.{LibFn}
-use Rattle.lib_models.specs.declared.library.LibFn.TheVariants.{Malloc, Calloc, Realloc, Free, Memcpy, Memmove, Memset, Strlen, Strcpy, Strncpy, Strcat, Strcmp, Isalpha, Isdigit, Isspace, Isupper, Islower, Isalnum, Toupper, Tolower, Getchar, Fgets, Putchar, Puts, Printf, Exit, Abort}
+use Rattle.c_layout.specs.declared.library_functions.LibFn.{LibFn}
+use Rattle.c_layout.specs.declared.library_functions.LibFn.TheVariants.{Malloc, Calloc, Realloc, Free, Memcpy, Memmove, Memset, Strlen, Strcpy, Strncpy, Strcat, Strcmp, Isalpha, Isdigit, Isspace, Isupper, Islower, Isalnum, Toupper, Tolower, Getchar, Fgets, Putchar, Puts, Printf, Exit, Abort}
 
 -- memory and its bytes
 abbrev pub memory_function : List ℕ → Option LibFn

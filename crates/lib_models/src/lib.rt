@@ -6,4 +6,5 @@ mod headers;
 mod library;
 
 pub use headers::header;
-pub use library::{LibFn, signature};
+pub use c_layout::LibFn;
+pub use library::signature;
