@@ -124,8 +124,8 @@ passage-from t p h =
       fits = leb-true (p.cap + p.plus) 255 (and_right ((ltb p.source (length t.heads) && ltb p.target (length t.heads)) && (not (leb p.target p.source) || slice_index_or t.heads p.target false)) _ h);
     }
 
-pub IsFit-from : (t : Table) → is_fit t ≡ true → IsFit t
-IsFit-from t h =
+pub fit_from : (t : Table) → is_fit t ≡ true → IsFit t
+fit_from t h =
     let a = and_left _ (is_ordered t.passages) h in
     let b = and_left _ (list_all (is_passage t) t.passages) a in
     let c = and_left _ (ltb (length t.passages) 1000) b in
