@@ -1,14 +1,14 @@
 -- A row that arrives at a block keeps what holds of a solver's rows.
-use Rattle.std.proofs.Common.{◌≡◌, ◌≢◌, ◌+◌, ◌*◌, ◌<◌, ◌≤◌, ℕ, zero, suc, Bool, true, false, not, cond, ◌&&◌, ◌||◌, ◌⊎◌, List, length, get_or, set, Option, Some, None, refl, sym, ap, subst, arith, ◌∙◌, inl, inr, ⊎_elim, length-set, get_or-set_same, get_or-set_other, zero-add}
-use Rattle.std.proofs.lemmas.Bool.{cases_eq, cases_lt}
+use Rattle.std.proofs.Common.{◌≡◌, ◌≢◌, ◌+◌, ◌*◌, ◌<◌, ◌≤◌, ℕ, zero, suc, Bool, true, false, cond, ◌&&◌, ◌||◌, List, length, set, Option, Some, None, refl, sym, ap, subst, arith, ◌∙◌, ⊎_elim, length-set, get_or-set_same, get_or-set_other}
+use Rattle.std.proofs.lemmas.Bool.{cases_eq}
 use Rattle.cc_base.specs.Lattices.{LatticeOf, OrderLaws, RoundLaws}
-use Rattle.cc_base.specs.Rows.{row_leq, reached_leq}
-use Rattle.cc_base.specs.RowLaws.{by_test, reached_leq-refl, reached_leq-trans}
-use Rattle.cc_base.specs.Machine.{Machine, MachineLaws, IsRounded}
-use Rattle.cc_base.specs.InductiveMap.{row_at, step, IsOwn, IsRoundedOrNone, IsInductive, IsLeast, heads_below}
-use Rattle.fixpoint_engine.specs.SolverState.{State, mark_at, arrived, grows, arrive, arrive_if, grows_if, advance, head_grows}
-use Rattle.fixpoint_engine.specs.Progress.{IsAttained, IsSound, HasEntry, IsSettled, weight, weight_at, total, potential}
-use Rattle.fixpoint_engine.proofs.ArrivalLaws.{arrived-attained, arrived-above, arrived-rises, arrived-below, arrived-rounded, arrived-same, arrived-room, step-monotone, step-attained, IsAttained-own}
+use Rattle.cc_base.specs.Rows.{reached_leq}
+use Rattle.cc_base.specs.RowLaws.{by_test, reached_leq-refl}
+use Rattle.cc_base.specs.Machine.{Machine, MachineLaws}
+use Rattle.cc_base.specs.InductiveMap.{row_at, IsRoundedOrNone, IsInductive, heads_below}
+use Rattle.fixpoint_engine.specs.SolverState.{State, mark_at, arrived, grows, arrive}
+use Rattle.fixpoint_engine.specs.Progress.{IsAttained, IsSound, weight, weight_at, total, potential}
+use Rattle.fixpoint_engine.proofs.ArrivalLaws.{arrived-attained, arrived-above, arrived-rises, arrived-below, arrived-rounded, arrived-same, arrived-room}
 
 pub or_left : (a b : Bool) → (a || b) ≡ false → a ≡ false
 or_left true b h = h

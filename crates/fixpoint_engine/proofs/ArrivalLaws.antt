@@ -1,10 +1,10 @@
 -- A row that arrives: the new row is the least one that will do.
-use Rattle.std.proofs.Common.{◌≡◌, ◌+◌, ◌<◌, ◌≤◌, ℕ, ℤ, Bool, true, false, not, List, length, Option, Some, None, refl, sym, ap, arith, ◌∙◌}
+use Rattle.std.proofs.Common.{◌≡◌, ◌<◌, ◌≤◌, ℕ, ℤ, Bool, true, false, not, List, length, Option, Some, None, refl, sym, ap, arith, ◌∙◌}
 use Rattle.cc_base.specs.Lattices.{LatticeOf, OrderLaws, RoundLaws}
 use Rattle.cc_base.specs.Rows.{row_leq, row_join, row_round, row_rounded_if, row_absorbed, reached_leq}
-use Rattle.cc_base.specs.RowLaws.{by_test, row_leq-refl, row_leq-trans, row_leq-antisym, row_join-left, row_join-right, row_join-least, reached_leq-refl, reached_leq-trans, row_round-rises, row_round-monotone, row_round-idempotent, row_absorbed-is, row_absorbed-same}
+use Rattle.cc_base.specs.RowLaws.{by_test, row_leq-refl, row_leq-trans, row_join-left, row_join-right, row_join-least, row_round-rises, row_round-monotone, row_round-idempotent, row_absorbed-is, row_absorbed-same}
 use Rattle.cc_base.specs.Machine.{Machine, MachineLaws, IsRounded}
-use Rattle.cc_base.specs.InductiveMap.{row_at, step, IsOwn, IsRoundedOrNone}
+use Rattle.cc_base.specs.InductiveMap.{step, IsOwn, IsRoundedOrNone}
 use Rattle.fixpoint_engine.specs.SolverState.{arrived, grows}
 use Rattle.fixpoint_engine.specs.Progress.{IsAttained, weight}
 

@@ -1,12 +1,12 @@
 -- An edge that is followed keeps what holds of a solver's rows, and is then settled.
-use Rattle.std.proofs.Common.{◌≡◌, ◌≢◌, ◌+◌, ◌<◌, ◌≤◌, ℕ, Bool, true, false, not, cond, ◌&&◌, ◌||◌, List, length, Option, Some, None, refl, sym, ap, subst, arith, ◌∙◌}
+use Rattle.std.proofs.Common.{◌≡◌, ◌+◌, ◌<◌, ◌≤◌, ℕ, true, false, cond, ◌&&◌, List, length, Option, Some, None, refl, arith}
 use Rattle.cc_base.specs.Lattices.{LatticeOf, OrderLaws, RoundLaws}
 use Rattle.cc_base.specs.Rows.{reached_leq}
 use Rattle.cc_base.specs.RowLaws.{reached_leq-refl, reached_leq-trans}
 use Rattle.cc_base.specs.Machine.{Machine, MachineLaws}
 use Rattle.cc_base.specs.InductiveMap.{row_at, step, IsInductive}
-use Rattle.fixpoint_engine.specs.SolverState.{State, mark_at, grows, arrive, arrive_if, grows_if, advance, head_grows}
-use Rattle.fixpoint_engine.specs.Progress.{IsAttained, IsSound, HasEntry, potential}
+use Rattle.fixpoint_engine.specs.SolverState.{State, mark_at, arrive_if, grows_if, advance, head_grows}
+use Rattle.fixpoint_engine.specs.Progress.{IsAttained, IsSound, potential}
 use Rattle.fixpoint_engine.proofs.ArrivalLaws.{step-monotone, step-attained, IsAttained-own}
 use Rattle.fixpoint_engine.proofs.Advance.{arrive-rises, arrive-above, arrive-sound, arrive-potential, arrive-mark, arrive-unmarked}
 

@@ -1,5 +1,5 @@
 -- A map of which one entry changes.
-use Rattle.std.proofs.Common.{◌≡◌, ◌+◌, ◌<◌, ◌||◌, ◌⊎◌, ℕ, zero, suc, Bool, true, false, cond, List, [], ◌∷◌, map, length, get_or, set, Option, Some, None, slice_get, slice_index_or, count_by, refl, sym, ap, subst, arith, ◌∙◌, inl, inr, ⊎_elim, length-set, get_or-set_same, get_or-set_other}
+use Rattle.std.proofs.Common.{◌≡◌, ◌+◌, ◌<◌, ◌||◌, ◌⊎◌, ℕ, zero, suc, Bool, cond, List, [], ◌∷◌, map, length, get_or, set, Option, Some, None, slice_get, slice_index_or, count_by, refl, sym, ap, subst, arith, ◌∙◌, inl, inr, ⊎_elim, length-set, get_or-set_same, get_or-set_other}
 use Rattle.std.proofs.lemmas.Bool.{cases_eq}
 use Rattle.std.proofs.lemmas.List.{map-set}
 use Rattle.std.proofs.lemmas.List.Sums.{sum_by-set}
@@ -7,10 +7,10 @@ use Rattle.std.proofs.lemmas.Option.{get_or_from_slice_get}
 use Rattle.cc_base.specs.Lattices.{LatticeOf}
 use Rattle.cc_base.specs.Machine.{Machine}
 use Rattle.cc_base.specs.InductiveMap.{row_at}
-use Rattle.row_pool.specs.Pool.{Pool, row_of, IsTaken, IsFree, IsWhole, free_count}
+use Rattle.row_pool.specs.Pool.{Pool, row_of, IsTaken, IsFree, free_count}
 use Rattle.row_pool.specs.declared.row_name.Row.{Row}
 use Rattle.fixpoint_engine.specs.SolverState.{State, mark_at, arrived, grows, arrive}
-use Rattle.fixpoint_engine.specs.RowMap.{slot_row, slot_mark, slot_index, is_vacant, rows_in, state_in, index_at, IsHeld, IsHeldBeside, Changed, SlotChanged}
+use Rattle.fixpoint_engine.specs.RowMap.{slot_row, slot_mark, slot_index, is_vacant, rows_in, state_in, index_at, IsHeldBeside, Changed, SlotChanged}
 
 pub row_at-rows_in : {C : Type 0} (p : Pool C) (slots : List (Option Row)) (b : ℕ) → row_at (rows_in p slots) b ≡ slot_row p (slice_index_or slots b None)
 row_at-rows_in p [] b = refl

@@ -1,5 +1,5 @@
 -- A pass over the edges: once no head grew, each edge is settled.
-use Rattle.std.proofs.Common.{◌≡◌, ◌≢◌, ◌+◌, ◌-◌, ◌<◌, ◌≤◌, ℕ, zero, suc, Bool, true, false, not, cond, ◌&&◌, ◌||◌, ◌⊎◌, ◌==◌, List, length, set, Option, Some, None, refl, sym, ap, subst, arith, ◌∙◌, inl, inr, ⊎_elim, get_or-set_same, get_or-set_other, length-set}
+use Rattle.std.proofs.Common.{◌≡◌, ◌≢◌, ◌+◌, ◌-◌, ◌<◌, ◌≤◌, ℕ, Bool, true, false, not, cond, ◌&&◌, ◌||◌, ◌⊎◌, length, set, Some, refl, sym, subst, arith, ◌∙◌, inl, inr, ⊎_elim, get_or-set_same, get_or-set_other, length-set}
 use Rattle.std.proofs.Common.{eqb}
 use Rattle.std.proofs.lemmas.Bool.{cases_eq, cases_lt}
 use Rattle.std.proofs.lemmas.Bool.Decides.{eqb_tells}
@@ -8,10 +8,10 @@ use Rattle.cc_base.specs.Rows.{reached_leq}
 use Rattle.cc_base.specs.RowLaws.{by_test, reached_leq-refl, reached_leq-trans}
 use Rattle.cc_base.specs.Machine.{Machine, MachineLaws}
 use Rattle.cc_base.specs.InductiveMap.{row_at, step, IsInductive}
-use Rattle.fixpoint_engine.specs.SolverState.{State, mark_at, grows_if, advance, head_grows, begins, entered, follows_now, turned, turn_grows}
-use Rattle.fixpoint_engine.specs.Progress.{IsAttained, IsSound, HasEntry, IsSettled, IsMarked, IsSwept, potential}
+use Rattle.fixpoint_engine.specs.SolverState.{State, mark_at, advance, head_grows, begins, entered, follows_now, turned, turn_grows}
+use Rattle.fixpoint_engine.specs.Progress.{IsSound, HasEntry, IsSettled, IsMarked, IsSwept, potential}
 use Rattle.fixpoint_engine.proofs.ArrivalLaws.{IsAttained-own}
-use Rattle.fixpoint_engine.proofs.Advance.{or_left, or_right, or_both}
+use Rattle.fixpoint_engine.proofs.Advance.{or_left, or_right}
 use Rattle.fixpoint_engine.proofs.FollowingLaws.{advance-rises, advance-above, advance-sound, advance-potential, advance-mark, advance-unmarked}
 
 and_false : (a b : Bool) → (a && b) ≡ false → b ≡ true → a ≡ false

@@ -1,10 +1,10 @@
 -- A map whose rows are given back one after another.
-use Rattle.std.proofs.Common.{◌≡◌, ◌≢◌, ◌+◌, ◌<◌, ◌≤◌, ℕ, suc, List, [], ◌∷◌, length, replicate, set, take, Option, Some, None, slice_index_or, count_by, cond, refl, sym, ap, subst, arith, ◌∙◌, ⊎_elim, get_or-set_same, get_or-set_other}
+use Rattle.std.proofs.Common.{◌≡◌, ◌≢◌, ◌+◌, ◌<◌, ◌≤◌, ℕ, suc, List, [], ◌∷◌, length, replicate, set, take, Option, None, slice_index_or, count_by, cond, refl, sym, ap, subst, arith, ◌∙◌, ⊎_elim, get_or-set_same, get_or-set_other}
 use Rattle.std.proofs.lemmas.Bool.{cases_eq, cases_lt}
 use Rattle.std.proofs.lemmas.List.{get_or_past}
 use Rattle.std.proofs.lemmas.List.Sums.{sum_by_more}
 use Rattle.row_pool.specs.declared.row_name.Row.{Row}
-use Rattle.fixpoint_engine.specs.RowMap.{slot_index, is_held, index_at}
+use Rattle.fixpoint_engine.specs.RowMap.{is_held}
 
 pub done_more : (slots : List (Option Row)) (slot : Option Row) (i : ℕ) → i < length slots → slot ≡ None → ((b : ℕ) → b < i → slice_index_or slots b None ≡ None) → (b : ℕ) → b < i + 1 → slice_index_or (set slots i slot) b None ≡ None
 done_more slots slot i lt e done b below =

@@ -1,9 +1,9 @@
 -- What changes when a row of a pool is written, or is new in a map.
-use Rattle.std.proofs.Common.{◌≡◌, ◌+◌, ◌*◌, ℕ, Bool, true, false, not, List, length, Option, Some, None, slice_get, slice_set, count_by, refl, sym, ap, subst, arith, ◌∙◌, inl, inr, length-set}
+use Rattle.std.proofs.Common.{◌≡◌, ◌+◌, ◌*◌, ℕ, Bool, true, not, List, length, Some, None, slice_get, count_by, sym, ap, subst, arith, ◌∙◌, inl, inr, length-set}
 use Rattle.row_pool.specs.Pool.{Pool, row_of, with_row, with_mark, IsTaken, IsFree, IsWhole, free_count, SameBut}
 use Rattle.row_pool.specs.PoolLaws.{SameBut-with_row, SameBut-whole, row_of-same, IsTaken-other, IsTaken-same, free_apart, count_taken, length-row_of}
 use Rattle.row_pool.specs.declared.row_name.Row.{Row}
-use Rattle.fixpoint_engine.specs.RowMap.{slot_row, slot_index, SlotChanged}
+use Rattle.fixpoint_engine.specs.RowMap.{SlotChanged}
 
 pub write-same_but : {V : Type 0} (p q : Pool V) (r : ℕ) (ws : List V) → q ≡ with_row p r ws → IsWhole p → IsTaken p r → length ws ≡ p.width → SameBut p q r
 write-same_but p q r ws e whole taken len = subst (λ u. SameBut p u r) (sym e) (SameBut-with_row p r ws whole taken len)

@@ -1,14 +1,13 @@
 -- A row beside a map changes, and changes that come one after another.
-use Rattle.std.proofs.Common.{◌≡◌, ◌+◌, ◌<◌, ◌||◌, ◌&&◌, ℕ, Bool, true, false, not, List, map, length, Option, Some, None, slice_get, slice_index_or, count_by, refl, sym, ap, subst, arith, ◌∙◌}
-use Rattle.std.proofs.lemmas.Option.{get_or_from_slice_get}
+use Rattle.std.proofs.Common.{◌≡◌, ◌&&◌, ℕ, not, List, length, Option, Some, None, slice_index_or, count_by, refl, sym, ap, arith, ◌∙◌}
 use Rattle.cc_base.specs.Lattices.{LatticeOf}
 use Rattle.cc_base.specs.Machine.{Machine}
 use Rattle.cc_base.specs.InductiveMap.{row_at, step}
 use Rattle.row_pool.specs.Pool.{Pool, row_of, with_row, IsTaken, IsWhole, free_count, SameBut}
 use Rattle.row_pool.specs.PoolLaws.{SameBut-whole, SameBut-with_row, SameBut-trans, length-row_of, row_of-same}
 use Rattle.row_pool.specs.declared.row_name.Row.{Row}
-use Rattle.fixpoint_engine.specs.SolverState.{State, arrive_if, grows_if, advance, head_grows}
-use Rattle.fixpoint_engine.specs.RowMap.{slot_row, slot_mark, slot_index, is_vacant, rows_in, state_in, index_at, IsHeld, IsHeldBeside, Changed}
+use Rattle.fixpoint_engine.specs.SolverState.{arrive_if, grows_if, advance, head_grows}
+use Rattle.fixpoint_engine.specs.RowMap.{slot_row, rows_in, state_in, IsHeldBeside, Changed}
 use Rattle.fixpoint_engine.proofs.SlotLaws.{IsTaken-same_but, write-same_but, write-row}
 use Rattle.fixpoint_engine.proofs.MapLaws.{row_at-rows_in, map-agree, slot_row-kept, same_state}
 

@@ -1,16 +1,16 @@
 -- A map of no rows, at whose entry the start row arrives.
-use Rattle.std.proofs.Common.{◌≡◌, ◌+◌, ◌*◌, ◌<◌, ◌≤◌, ℕ, zero, suc, Bool, true, false, List, [], ◌∷◌, map, length, replicate, Option, Some, None, slice_index_or, count_by, cond, refl, sym, ap, subst, arith, ◌∙◌}
+use Rattle.std.proofs.Common.{◌≡◌, ◌+◌, ◌*◌, ◌<◌, ◌≤◌, ℕ, zero, suc, true, List, [], ◌∷◌, map, length, replicate, Option, Some, None, slice_index_or, count_by, cond, refl, sym, ap, subst, arith, ◌∙◌}
 use Rattle.std.proofs.lemmas.List.{length-map, length-replicate}
 use Rattle.std.proofs.lemmas.List.Sums.{sum_by-cons}
 use Rattle.cc_base.specs.Lattices.{LatticeOf, OrderLaws, RoundLaws}
 use Rattle.cc_base.specs.Rows.{reached_leq}
 use Rattle.cc_base.specs.Machine.{Machine, MachineLaws}
-use Rattle.cc_base.specs.InductiveMap.{row_at, step, IsRoundedOrNone, IsInductive}
+use Rattle.cc_base.specs.InductiveMap.{row_at, step, IsRoundedOrNone}
 use Rattle.std.proofs.Math.Nat.{mul-le-mul_left}
 use Rattle.row_pool.specs.Pool.{Pool, row_of, IsTaken, IsWhole, SameBut}
 use Rattle.row_pool.specs.declared.row_name.Row.{Row}
-use Rattle.fixpoint_engine.specs.SolverState.{State, arrive}
-use Rattle.fixpoint_engine.specs.Progress.{IsAttained, IsSound, HasEntry, IsSettled, IsMarked}
+use Rattle.fixpoint_engine.specs.SolverState.{arrive}
+use Rattle.fixpoint_engine.specs.Progress.{IsAttained, IsSound, HasEntry, IsMarked}
 use Rattle.fixpoint_engine.specs.RowMap.{slot_row, slot_mark, slot_index, is_vacant, is_held, rows_in, state_in, index_at, IsHeld, IsHeldBeside}
 use Rattle.fixpoint_engine.proofs.Advance.{arrive-sound, arrive-above, arrive-mark}
 use Rattle.fixpoint_engine.proofs.MapLaws.{row_at-rows_in}

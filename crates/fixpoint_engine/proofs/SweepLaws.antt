@@ -1,15 +1,15 @@
 -- A pass of the solver over the edges.
-use Rattle.std.proofs.Common.{◌≡◌, ◌+◌, ◌-◌, ◌<◌, ◌≤◌, ◌||◌, ℕ, Bool, true, false, cond, if◌then◌else◌, List, map, length, set, Option, Some, None, slice_index_or, count_by, refl, sym, ap, subst, arith, ◌∙◌, inl, inr, length-set}
+use Rattle.std.proofs.Common.{◌≡◌, ◌+◌, ◌-◌, ◌<◌, ◌≤◌, ◌||◌, ℕ, Bool, true, false, cond, if◌then◌else◌, List, map, length, set, Option, Some, None, slice_index_or, refl, sym, ap, subst, arith, ◌∙◌, inl}
 use Rattle.std.proofs.lemmas.List.{map-set, set-get_or, length-map}
 use Rattle.cc_base.specs.Lattices.{LatticeOf, OrderLaws, RoundLaws}
 use Rattle.cc_base.specs.Machine.{Machine, MachineLaws}
 use Rattle.cc_base.specs.InductiveMap.{row_at, IsOwn, IsInductive}
 use Rattle.cc_base.specs.RowLaws.{by_test}
-use Rattle.row_pool.specs.Pool.{Pool, IsTaken, IsWhole, free_count}
+use Rattle.row_pool.specs.Pool.{Pool, IsTaken, IsWhole}
 use Rattle.row_pool.specs.declared.row_name.Row.{Row}
-use Rattle.fixpoint_engine.specs.SolverState.{State, mark_at, begins, entered, follows_now, turned, turn_grows, advance, head_grows}
+use Rattle.fixpoint_engine.specs.SolverState.{State, begins, entered, follows_now, turned, turn_grows, advance, head_grows}
 use Rattle.fixpoint_engine.specs.Progress.{IsSound, HasEntry, IsMarked, IsSwept, potential}
-use Rattle.fixpoint_engine.specs.RowMap.{slot_row, slot_mark, slot_index, is_vacant, unmarked, rows_in, state_in, index_at, IsHeldBeside, Changed, SlotChanged}
+use Rattle.fixpoint_engine.specs.RowMap.{slot_row, slot_mark, slot_index, unmarked, rows_in, state_in, IsHeldBeside, Changed, SlotChanged}
 use Rattle.fixpoint_engine.specs.Entering.{entered_map, follows_map}
 use Rattle.fixpoint_engine.proofs.ArrivalLaws.{IsAttained-own}
 use Rattle.fixpoint_engine.proofs.MapLaws.{map-changed, map-rows, row_at-rows_in, mark_at-marks, same_state}

@@ -1,9 +1,9 @@
 -- The numbers with their rungs are a lattice whose rounded values grow at most twice.
-use Rattle.std.proofs.Common.{◌≡◌, ◌<◌, ◌≤◌, ℕ, ℤ, Bool, true, false, cond, List, max, eqb, leb, refl, arith}
+use Rattle.std.proofs.Common.{◌≡◌, ◌<◌, ◌≤◌, ℕ, false, max, leb, refl, arith}
 use Rattle.std.proofs.lemmas.Bool.{leb-true, le-leb}
-use Rattle.std.proofs.lemmas.Bool.Decides.{nat_tests, leb_tells}
+use Rattle.std.proofs.lemmas.Bool.Decides.{nat_tests}
 use Rattle.std.proofs.Math.Nat.{le-max_left, le-max_right, max-le}
-use Rattle.cc_base.specs.Lattices.{LatticeOf, OrderLaws, RoundLaws, HeightLaws}
+use Rattle.cc_base.specs.Lattices.{OrderLaws, RoundLaws, HeightLaws}
 use Rattle.fixpoint_engine.specs.Levels.{level_lattice, rung_above, rungs_above}
 
 not_le : (a b : ℕ) → leb a b ≡ false → b < a

@@ -1,5 +1,5 @@
 -- A small lattice: numbers that are rounded up to 0, 10, or 255.
-use Rattle.std.specs.Prelude.{ℕ, ℤ, Bool, true, false, cond, nat_le, max, List, [], ◌∷◌}
+use Rattle.std.specs.Prelude.{ℕ, cond, nat_le, max}
 use Rattle.cc_base.specs.Lattices.{LatticeOf}
 
 abbrev pub rung_above : ℕ → ℕ

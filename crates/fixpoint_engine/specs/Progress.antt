@@ -1,8 +1,8 @@
 -- What holds of a solver's rows on the way.
-use Rattle.std.specs.Prelude.{◌≡◌, ◌+◌, ◌-◌, ◌<◌, ℕ, zero, suc, Bool, true, false, cond, List, length, Option, Some, None}
+use Rattle.std.specs.Prelude.{◌≡◌, ◌+◌, ◌<◌, ℕ, zero, suc, Bool, true, false, cond, List, length, Option, Some, None}
 use Rattle.cc_base.specs.Lattices.{LatticeOf}
 use Rattle.cc_base.specs.Rows.{reached_leq}
-use Rattle.cc_base.specs.Machine.{Machine, IsRounded}
+use Rattle.cc_base.specs.Machine.{Machine}
 use Rattle.cc_base.specs.InductiveMap.{row_at, step, IsRoundedOrNone, IsLeast}
 use Rattle.fixpoint_engine.specs.SolverState.{State, mark_at}
 

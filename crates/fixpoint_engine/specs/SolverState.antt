@@ -1,5 +1,5 @@
 -- What a solver has so far, and what its steps make of it.
-use Rattle.std.specs.Prelude.{◌≡◌, ◌-◌, ◌==◌, ℕ, ℤ, Bool, true, false, not, ◌&&◌, ◌||◌, List, Option, Some, None, if◌then◌else◌, slice_set, slice_index_or}
+use Rattle.std.specs.Prelude.{◌-◌, ◌==◌, ℕ, ℤ, Bool, true, false, not, ◌&&◌, ◌||◌, List, Option, Some, None, if◌then◌else◌, slice_set, slice_index_or}
 use Rattle.cc_base.specs.Lattices.{LatticeOf}
 use Rattle.cc_base.specs.Rows.{row_leq, row_rounded_if, row_absorbed}
 use Rattle.cc_base.specs.Machine.{Machine}

@@ -1,14 +1,14 @@
 -- The systems of tables meet the laws.
-use Rattle.std.proofs.Common.{◌≡◌, ◌&&◌, ◌+◌, ◌<◌, ◌≤◌, ℕ, zero, suc, Bool, true, false, not, ◌||◌, min, List, [], ◌∷◌, length, leb, ltb, slice_index_or, Option, Some, None, refl, sym, ap, subst, arith, ◌∙◌, ⊎_elim, max}
+use Rattle.std.proofs.Common.{◌≡◌, ◌&&◌, ◌+◌, ◌<◌, ◌≤◌, ℕ, zero, suc, Bool, true, false, not, ◌||◌, min, List, [], ◌∷◌, length, leb, ltb, slice_index_or, Some, None, refl, subst, arith, ⊎_elim, max}
 use Rattle.std.proofs.lemmas.Bool.{leb-true, le-leb, ltb-true}
-use Rattle.std.proofs.lemmas.Bool.Decides.{nat_tests, leb_tells}
+use Rattle.std.proofs.lemmas.Bool.Decides.{leb_tells}
 use Rattle.std.proofs.lemmas.Int.{clamps}
 use Rattle.std.proofs.Math.Nat.{max-le}
 use Rattle.std.specs.List.{list_all}
 use Rattle.cc_base.specs.Rows.{row_leq, row_join, row_round, reached_leq}
 use Rattle.cc_base.specs.RowLaws.{by_test, and_left, and_right, and_both}
-use Rattle.cc_base.specs.Machine.{Machine, MachineLaws, IsRounded}
-use Rattle.fixpoint_engine.specs.Levels.{level_lattice, rung_above, rungs_above}
+use Rattle.cc_base.specs.Machine.{MachineLaws, IsRounded}
+use Rattle.fixpoint_engine.specs.Levels.{level_lattice, rung_above}
 use Rattle.fixpoint_engine.specs.LevelLaws.{rung-within, rung-falls, rungs-bounded}
 use Rattle.fixpoint_engine.specs.Tables.{Passage, Table, passage_at, pass, is_level, row_rungs, table_machine, IsPassage, IsFit, is_passage, is_ordered, is_fit}
 
@@ -124,8 +124,8 @@ passage-from t p h =
       fits = leb-true (p.cap + p.plus) 255 (and_right ((ltb p.source (length t.heads) && ltb p.target (length t.heads)) && (not (leb p.target p.source) || slice_index_or t.heads p.target false)) _ h);
     }
 
-pub IsFit-from : (t : Table) → is_fit t ≡ true → IsFit t
-IsFit-from t h =
+pub fit_from : (t : Table) → is_fit t ≡ true → IsFit t
+fit_from t h =
     let a = and_left _ (is_ordered t.passages) h in
     let b = and_left _ (list_all (is_passage t) t.passages) a in
     let c = and_left _ (ltb (length t.passages) 1000) b in

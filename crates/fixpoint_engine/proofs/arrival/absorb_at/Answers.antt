@@ -1,5 +1,4 @@
-use Rattle.std.proofs.Common.{◌≡◌, length, ◌∙◌}
-use Rattle.cc_base.specs.Rows.{row_absorbed}
+use Rattle.std.proofs.Common.{◌∙◌}
 use Rattle.cc_base.specs.RowLaws.{length-row_absorbed}
 use Rattle.row_pool.specs.Pool.{row_of}
 use Rattle.row_pool.specs.PoolLaws.{length-row_of}

@@ -1,4 +1,4 @@
-use Rattle.std.proofs.Common.{◌≡◌, ◌<◌, ◌||◌, Some, length, slice_index_or, None, refl, arith}
+use Rattle.std.proofs.Common.{◌≡◌, ◌<◌, Some, length, slice_index_or, None, refl, arith}
 use Rattle.row_pool.specs.Pool.{row_of}
 use Rattle.fixpoint_engine.specs.SolverState.{arrived}
 use Rattle.fixpoint_engine.specs.RowMap.{slot_row}

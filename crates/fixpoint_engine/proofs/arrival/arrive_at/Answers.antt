@@ -1,4 +1,4 @@
-use Rattle.std.proofs.Common.{Some, subst, sym}
+use Rattle.std.proofs.Common.{subst, sym}
 use Rattle.fixpoint_engine.specs.RowMap.{SlotChanged}
 use Rattle.fixpoint_engine.proofs.SlotLaws.{slot-new}
 use Rattle.fixpoint_engine.proofs.arrival.arrive_at.Goals as goal

@@ -1,4 +1,4 @@
-use Rattle.std.proofs.Common.{◌≡◌, true, subst, sym, ap, ◌∙◌}
+use Rattle.std.proofs.Common.{true, ap, ◌∙◌}
 use Rattle.cc_base.specs.Rows.{row_rounded_if}
 use Rattle.row_pool.specs.declared.row_name.Row.{Row}
 use Rattle.row_pool.specs.Pool.{with_mark}

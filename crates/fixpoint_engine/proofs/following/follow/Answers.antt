@@ -1,4 +1,4 @@
-use Rattle.std.proofs.Common.{◌≡◌, ◌&&◌, ◌∙◌, ap, sym, subst, arith, length, true, false, Some, None, slice_index_or}
+use Rattle.std.proofs.Common.{◌&&◌, ◌∙◌, ap, sym, subst, Some, None}
 use Rattle.cc_base.specs.InductiveMap.{IsOwn, row_at}
 use Rattle.row_pool.specs.Pool.{row_of}
 use Rattle.fixpoint_engine.specs.SolverState.{arrive, grows}

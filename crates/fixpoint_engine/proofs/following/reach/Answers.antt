@@ -1,5 +1,4 @@
-use Rattle.std.proofs.Common.{◌≡◌, ◌∙◌, ap, sym, subst, arith, length, true, false, Some, None}
-use Rattle.row_pool.specs.Pool.{row_of}
+use Rattle.std.proofs.Common.{◌≡◌, ◌∙◌, ap, sym, subst, arith, true, Some, None}
 use Rattle.fixpoint_engine.proofs.SpareLaws.{copied-row, rewritten-same_but, rewritten-row}
 use Rattle.fixpoint_engine.proofs.following.reach.Goals as goal
 

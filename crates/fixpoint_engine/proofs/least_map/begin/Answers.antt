@@ -1,9 +1,9 @@
 use Rattle.std.proofs.Common.{◌≡◌, ◌∙◌, length, sym, subst, arith}
 use Rattle.row_pool.specs.Pool.{with_row, SameBut}
 use Rattle.row_pool.specs.PoolLaws.{SameBut-with_row, row_of-same}
-use Rattle.fixpoint_engine.specs.SolverState.{State, arrive}
+use Rattle.fixpoint_engine.specs.SolverState.{State}
 use Rattle.fixpoint_engine.specs.Progress.{IsSound, HasEntry, IsMarked}
-use Rattle.fixpoint_engine.specs.RowMap.{state_in, IsHeldBeside, Changed}
+use Rattle.fixpoint_engine.specs.RowMap.{IsHeldBeside, Changed}
 use Rattle.fixpoint_engine.proofs.SpareLaws.{spare-changed, Changed-trans}
 use Rattle.fixpoint_engine.proofs.StartLaws.{vacant_held, start-state, begin-sound, begin-entry, begin-marked}
 use Rattle.fixpoint_engine.proofs.least_map.begin.Goals as goal

@@ -1,9 +1,9 @@
-use Rattle.std.proofs.Common.{◌≡◌, ◌+◌, ◌*◌, ◌≤◌, ℕ, if◌then◌else◌, count_by, length, sym, ap, subst, arith, ◌∙◌}
+use Rattle.std.proofs.Common.{◌≡◌, ◌+◌, ◌≤◌, if◌then◌else◌, count_by, length, ap, subst, arith, ◌∙◌}
 use Rattle.std.proofs.lemmas.List.{length-replicate}
-use Rattle.row_pool.specs.Pool.{Pool, row_of, IsTaken, free_count}
+use Rattle.row_pool.specs.Pool.{Pool, row_of}
 use Rattle.row_pool.specs.PoolLaws.{free_apart}
 use Rattle.fixpoint_engine.specs.Progress.{potential}
-use Rattle.fixpoint_engine.specs.RowMap.{rows_in, index_at, is_vacant, is_held}
+use Rattle.fixpoint_engine.specs.RowMap.{rows_in, is_vacant, is_held}
 use Rattle.fixpoint_engine.proofs.Advance.{potential-bounded}
 use Rattle.fixpoint_engine.proofs.SpareLaws.{Changed-trans}
 use Rattle.fixpoint_engine.proofs.StartLaws.{vacant_index, vacant_count, held_count, give-held, ticks_more, ticks_end}

@@ -1,5 +1,5 @@
-use Rattle.std.proofs.Common.{◌≡◌, ◌+◌, ◌<◌, ◌≤◌, Bool, true, false, if◌then◌else◌, count_by, sym, subst, arith}
-use Rattle.cc_base.specs.InductiveMap.{IsOwn, IsInductive, row_at}
+use Rattle.std.proofs.Common.{◌≡◌, ◌<◌, ◌≤◌, false, if◌then◌else◌, count_by, sym, subst, arith}
+use Rattle.cc_base.specs.InductiveMap.{IsOwn, row_at}
 use Rattle.row_pool.specs.Pool.{free_count}
 use Rattle.fixpoint_engine.specs.SolverState.{advance, head_grows}
 use Rattle.fixpoint_engine.specs.Entering.{entered_map}

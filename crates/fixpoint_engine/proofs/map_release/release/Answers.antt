@@ -1,7 +1,7 @@
-use Rattle.std.proofs.Common.{◌≡◌, ◌+◌, ◌<◌, ◌≤◌, ℕ, length, replicate, Option, Some, None, slice_index_or, sym, ap, arith, ◌∙◌}
+use Rattle.std.proofs.Common.{◌≡◌, ◌<◌, ◌≤◌, length, replicate, Option, None, slice_index_or, sym, ap, arith, ◌∙◌}
 use Rattle.row_pool.specs.declared.row_name.Row.{Row}
 use Rattle.row_pool.specs.Pool.{free_count}
-use Rattle.fixpoint_engine.specs.RowMap.{slot_index, index_at}
+use Rattle.fixpoint_engine.specs.RowMap.{slot_index}
 use Rattle.fixpoint_engine.proofs.ReleaseLaws.{done_more, rest_more, held_more, all_done}
 use Rattle.fixpoint_engine.proofs.map_release.release.Goals as goal
 
