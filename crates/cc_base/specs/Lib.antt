@@ -6,3 +6,4 @@ pub mod IntegerTypes
 pub mod IntegerDomains
 pub mod LatticeParts
 pub mod NumberRanges
+pub mod Truths

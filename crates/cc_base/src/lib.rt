@@ -14,6 +14,7 @@ mod number_ranges;
 mod refusals;
 mod text_bytes;
 mod threshold_list;
+mod truths;
 
 pub use diagnostics::{Diag, Place, Rule};
 pub use integer_bounds::between_or_bottom;
