@@ -13,3 +13,4 @@ pub mod IntegerTypes
 pub mod IntegerDomains
 pub mod LatticeParts
 pub mod NumberRanges
+pub mod Truths

@@ -23,6 +23,7 @@ mod system_files;
 mod systems;
 mod text_bytes;
 mod threshold_list;
+mod truths;
 
 pub use diagnostics::{Diag, Place, Rule};
 pub use integer_bounds::between_or_bottom;

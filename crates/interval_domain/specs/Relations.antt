@@ -5,7 +5,8 @@ use Rattle.std.specs.Ordering.{int_eq}
 use Rattle.cc_base.specs.declared.integer_operators.Rel.{Rel}
 use Rattle.cc_base.specs.declared.integer_operators.Rel.TheVariants.{Lt, Le, Gt, Ge, Eq, Ne}
 use Rattle.cc_base.specs.declared.integer_operators.Tri.{Tri}
-use Rattle.cc_base.specs.declared.integer_operators.Tri.TheVariants.{No, Yes, Both, Never}
+use Rattle.cc_base.specs.declared.integer_operators.Tri.TheVariants.{Never}
+use Rattle.cc_base.specs.Truths.{tri_of}
 use Rattle.interval_domain.specs.declared.spans.Span.{Span}
 use Rattle.interval_domain.specs.declared.intervals.Interval.{Interval}
 use Rattle.interval_domain.specs.declared.intervals.Interval.TheVariants.{Bottom, Of}
@@ -36,12 +37,6 @@ opposite Gt = Le
 opposite Ge = Lt
 opposite Eq = Ne
 opposite Ne = Eq
-
-abbrev pub tri_of : Bool → Bool → Tri
-tri_of true true = Both
-tri_of true false = Yes
-tri_of false true = No
-tri_of false false = Never
 
 abbrev pub interval_compare : Rel → Interval → Interval → Tri
 interval_compare rel Bottom y = Never

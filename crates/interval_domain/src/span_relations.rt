@@ -2,12 +2,12 @@
 ghost use Rattle.std.specs.Prelude.{◌≡◌, ◌≤ℤ◌, ◌+ℤ◌, ◌-ℤ◌, ◌-◌, ◌^◌, pos, negsuc, cond, Some};
 ghost use Rattle.std.specs.Ordering.{int_eq};
 ghost use Rattle.cc_base.specs.IntegerDomains.{IsNear};
-ghost use Rattle.interval_domain.specs.Relations.{can_hold, can_equal, can_differ, opposite, tri_of, refined, without_end};
+ghost use Rattle.interval_domain.specs.Relations.{can_hold, can_equal, can_differ, opposite, refined, without_end};
 
 use crate::intervals::{Interval, between_or_empty};
 use crate::span_arithmetic::{one_less, one_more};
 use crate::spans::Span;
-use cc_base::{Rel, Tri};
+use cc_base::Rel;
 
 /// Whether some number of `s` has the relation to some number of `t`.
 pub fn can_hold(rel: Rel, s: Span, t: Span) -> bool
@@ -34,18 +34,6 @@ pub fn opposite(rel: Rel) -> Rel
         Rel::Ge => Rel::Lt,
         Rel::Eq => Rel::Ne,
         Rel::Ne => Rel::Eq,
-    }
-}
-
-/// The truth values, from whether true and false can be.
-pub fn tri_of(can_be_true: bool, can_be_false: bool) -> Tri
-    ensures { result ≡ tri_of can_be_true can_be_false }
-{
-    match (can_be_true, can_be_false) {
-        (true, true) => Tri::Both,
-        (true, false) => Tri::Yes,
-        (false, true) => Tri::No,
-        (false, false) => Tri::Never,
     }
 }
 

@@ -3,11 +3,12 @@ use Rattle.std.specs.Prelude.{ℕ, ◌^◌, ℤ, pos, ◌-ℤ◌, Bool, true, fa
 use Rattle.cc_base.specs.Lattices.{LatticeOf}
 use Rattle.cc_base.specs.IntegerTypes.{least_of, greatest_of}
 use Rattle.cc_base.specs.IntegerDomains.{IntegersOf, IsNear, between_or_least, of_range}
+use Rattle.cc_base.specs.Truths.{tri_of}
 use Rattle.cc_base.specs.NumberRanges.{Range, range_sum, range_difference, range_times, range_over, range_met, range_clamped, ranges_meet, ranges_same_one, upper_or}
 use Rattle.cc_base.specs.declared.limit_table.IntType.{IntType}
 use Rattle.cc_base.specs.declared.integer_operators.Rel.{Rel}
 use Rattle.cc_base.specs.declared.integer_operators.Tri.{Tri}
-use Rattle.cc_base.specs.declared.integer_operators.Tri.TheVariants.{No, Yes, Both, Never}
+use Rattle.cc_base.specs.declared.integer_operators.Tri.TheVariants.{Never}
 use Rattle.pointer_domain.specs.BaseSets.{bases_has, bases_with, bases_without, bases_empty, bases_count, bases_within, bases_meet}
 use Rattle.pointer_domain.specs.declared.base_sets.Bases.{Bases}
 use Rattle.pointer_domain.specs.declared.pointer_sets.Pointers.{Pointers}
@@ -20,12 +21,6 @@ the_end = pos (2 ^ 64)
 -- the greatest offset, size or factor: 2^30
 abbrev pub longest : ℕ
 longest = 2 ^ 30
-
-abbrev pub tri_of : Bool → Bool → Tri
-tri_of true true = Both
-tri_of true false = Yes
-tri_of false true = No
-tri_of false false = Never
 
 module _ {I : Type 0} where
   -- the bounds of the three intervals lie from -2^64 to 2^64

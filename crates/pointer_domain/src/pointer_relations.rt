@@ -1,7 +1,7 @@
 //! Equality, order and difference of pointers (6.5.6, 6.5.8 and 6.5.9 of ISO/IEC 9899:2011).
 ghost use Rattle.std.specs.Prelude.{◌≡◌, ◌<◌, ◌≤◌, true};
 ghost use Rattle.cc_base.specs.IntegerTypes.{is_size};
-ghost use Rattle.pointer_domain.specs.PointerTables.{IsNearPointer, is_any, is_only_null, can_equal, same_one_base, must_equal, can_differ, pointers_equal, pointers_compare, pointers_difference, tri_of, longest};
+ghost use Rattle.pointer_domain.specs.PointerTables.{IsNearPointer, is_any, is_only_null, can_equal, same_one_base, must_equal, can_differ, pointers_equal, pointers_compare, pointers_difference, longest};
 
 use crate::base_sets::Bases;
 use crate::pointer_sets::Pointers;
@@ -9,17 +9,6 @@ use cc_base::{
     IntDomain, IntType, Rel, Tri, of_range, range_difference, range_met, range_over, ranges_meet,
     ranges_same_one,
 };
-
-fn tri_of(can_be_true: bool, can_be_false: bool) -> Tri
-    ensures { result ≡ tri_of can_be_true can_be_false }
-{
-    match (can_be_true, can_be_false) {
-        (true, true) => Tri::Both,
-        (true, false) => Tri::Yes,
-        (false, true) => Tri::No,
-        (false, false) => Tri::Never,
-    }
-}
 
 impl<I: IntDomain> Pointers<I> {
     /// Whether there is a base or null.
@@ -80,7 +69,7 @@ impl<I: IntDomain> Pointers<I> {
         ensures { result ≡ pointers_equal I.numbers self other single }
     {
         if self.is_any() && other.is_any() {
-            tri_of(self.can_equal(other), self.can_differ(other, single))
+            Tri::of(self.can_equal(other), self.can_differ(other, single))
         } else {
             Tri::Never
         }

@@ -1,13 +1,6 @@
-// A library with one function.
+//! The first zero byte of a character array, over any domain of integers.
 #![tactic(auto)]
 
-ghost use Rattle.std.specs.Prelude.{◌≡◌};
-ghost use Rattle.string_domain.specs.Echo.{echo_of};
+mod first_zeros;
 
-// The `ensures` clause is the contract: what `echo` returns is `echo_of` of its argument, a definition
-// in `specs/Echo.antt`, which a caller's clause can cite too.
-pub fn echo(x: usize) -> usize
-    ensures { result ≡ echo_of x }
-{
-    x
-}
+pub use first_zeros::{END, FirstZero};

@@ -1,13 +1,14 @@
-// A library with one function.
+//! Abstract values, allocation states and the cells of rows, over any domain of integers.
 #![tactic(auto)]
 
-ghost use Rattle.std.specs.Prelude.{◌≡◌};
-ghost use Rattle.value_domain.specs.Echo.{echo_of};
+mod alloc_states;
+mod label_sets;
+mod row_cells;
+mod value_operators;
+mod values;
 
-// The `ensures` clause is the contract: what `echo` returns is `echo_of` of its argument, a definition
-// in `specs/Echo.antt`, which a caller's clause can cite too.
-pub fn echo(x: usize) -> usize
-    ensures { result ≡ echo_of x }
-{
-    x
-}
+pub use alloc_states::AllocState;
+pub use label_sets::Labels;
+pub use row_cells::Cell;
+pub use value_operators::{negated_leave, range_fits, ranges_leave};
+pub use values::Value;
