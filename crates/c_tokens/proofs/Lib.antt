@@ -1,2 +1,9 @@
 pub mod Splices
 pub mod Sizes
+pub mod Sound
+pub mod Puncts
+pub mod Below
+pub mod Begin
+pub mod Along
+pub mod Only
+pub mod Rows

@@ -4,3 +4,4 @@ pub mod Reading
 pub mod Pieces
 pub mod Splicing
 pub mod Cutting
+pub mod Answers

@@ -1,12 +1,12 @@
 -- What a piece of a file is: white space, a comment or a token, by the class of its first byte.
-use Rattle.std.specs.Prelude.{ℕ, Bool, true, false, not, ◌||◌, ◌&&◌, ◌==◌, if◌then◌else◌, List, [], ◌∷◌}
+use Rattle.std.specs.Prelude.{ℕ, Bool, true, false, not, ◌&&◌, ◌==◌, if◌then◌else◌, List, [], ◌∷◌}
 use Rattle.std.specs.List.{list_all}
 use Rattle.cc_base.specs.declared.lexemes.Kind.TheVariants.{Name, Number, Char, Str, Punct, HeaderName}
 use Rattle.c_tokens.specs.declared.byte_class.Class.{Class}
-use Rattle.c_tokens.specs.declared.byte_class.Class.TheVariants.{Letter, Digit, Dot, Quote, Apostrophe, Slash, Less, LineEnd, Blank, Other}
+use Rattle.c_tokens.specs.declared.byte_class.Class.TheVariants.{Letter, Digit, Dot, Quote, Apostrophe, Slash, Less, LineEnd, Blank}
 use Rattle.c_tokens.specs.declared.pieces.Shape.{Shape}
 use Rattle.c_tokens.specs.declared.pieces.Shape.TheVariants as shape
-use Rattle.c_tokens.specs.ByteClasses.{is_word, is_digit, is_text, is_source, goes_on, begins, begins_digit, is_no_line_end, class_of}
+use Rattle.c_tokens.specs.ByteClasses.{is_word, is_text, is_source, goes_on, begins, begins_digit, is_no_line_end, class_of}
 use Rattle.c_tokens.specs.Punctuators.{is_punctuator}
 use Rattle.cc_base.specs.declared.lexemes.Kind.{Kind}
 

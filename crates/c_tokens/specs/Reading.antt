@@ -1,5 +1,5 @@
 -- What is read at the front of a list of bytes.
-use Rattle.std.specs.Prelude.{ℕ, suc, ◌+◌, Bool, true, false, not, ◌||◌, ◌&&◌, ◌==◌, if◌then◌else◌, List, [], ◌∷◌, Option, Some, None, option_map}
+use Rattle.std.specs.Prelude.{ℕ, suc, ◌+◌, Bool, true, false, ◌&&◌, ◌==◌, if◌then◌else◌, List, [], ◌∷◌, Option, Some, None}
 use Rattle.cc_base.specs.declared.lexemes.Kind.TheVariants.{Name, Number, Char, Str, Punct, HeaderName}
 use Rattle.c_tokens.specs.declared.byte_class.Class.{Class}
 use Rattle.c_tokens.specs.declared.byte_class.Class.TheVariants.{Letter, Digit, Dot, Quote, Apostrophe, Slash, Less, LineEnd, Blank, Other}

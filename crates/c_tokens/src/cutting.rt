@@ -1,6 +1,10 @@
 //! Cuts a file into its longest pieces, once, forward.
 ghost use Rattle.std.specs.Prelude.{◌≡◌, ◌≤◌, ◌^◌, ◌++◌, length, IfOk, IfErr, OnErr, [], ◌∷◌};
-ghost use Rattle.c_tokens.specs.Cutting.{cause, too_many, token_list};
+ghost use Rattle.std.specs.Prelude.{ℕ, List};
+ghost use Rattle.cc_base.specs.declared.lexemes.Token.{Token};
+ghost use Rattle.cc_base.specs.declared.refusals.Fault.{Fault};
+ghost use Rattle.c_tokens.specs.Answers.{IfRefused};
+ghost use Rattle.c_tokens.specs.Cutting.{cause, too_many, token_list, fault_of, Lexes, Refuses};
 
 use crate::pieces::{Shape, State};
 use crate::reading::{begins, legal_length, piece_at};
@@ -8,7 +12,9 @@ use crate::splicing::{Cursor, splice};
 use cc_base::{Fault, Place, Refusal, Stop, Text, Token, Tokens};
 use std::alloc::{AllocError, Global};
 
-fn refused(place: Place, refusal: Refusal) -> Stop {
+fn refused(place: Place, refusal: Refusal) -> Stop
+    ensures { result ≡ Stop.Refused (fault_of place refusal) }
+{
     Stop::Refused(Fault { place, refusal })
 }
 
@@ -71,6 +77,8 @@ fn add(
 /// 131,072: `TooManyTokens`. The first of these places decides. `Memory`: want of memory.
 pub fn lex(alloc: Global, file: u32, bytes: &[u8]) -> Result<Tokens, Stop>
     requires { length bytes.now ≤ 2 ^ 20 }
+    ensures ok { IfOk result (Lexes file bytes.now) }
+    ensures refused { IfRefused result (Refuses file bytes.now) }
 {
     let spliced = splice(alloc, bytes)?;
     let mut rest = spliced.as_slice();
@@ -79,8 +87,9 @@ pub fn lex(alloc: Global, file: u32, bytes: &[u8]) -> Result<Tokens, Stop>
     let mut tokens = Tokens::new(alloc);
     while rest.len() > 0 {
         let place = cursor.place(file);
-        let Some(piece) = piece_at(state.context, rest) else {
-            return Err(refused(place, cause(rest)));
+        let piece = match piece_at(state.context, rest) {
+            None => return Err(refused(place, cause(rest))),
+            Some(piece) => piece,
         };
         if piece.shape.is_past(tokens.as_slice().len()) {
             return Err(refused(place, too_many()));
@@ -98,3 +107,10 @@ pub fn lex(alloc: Global, file: u32, bytes: &[u8]) -> Result<Tokens, Stop>
     }
     Ok(tokens)
 }
+
+/// A file has one answer: at most one list of tokens, at most one first refusal, and not both.
+pub fn one_answer()
+    ensures tokens { (file : ℕ) (bytes : List ℕ) (ts us : List Token) → Lexes file bytes ts → Lexes file bytes us → ts ≡ us }
+    ensures fault { (file : ℕ) (bytes : List ℕ) (f g : Fault) → Refuses file bytes f → Refuses file bytes g → f ≡ g }
+    ensures apart { (file : ℕ) (bytes : List ℕ) (ts : List Token) (f : Fault) → Lexes file bytes ts → Refuses file bytes f → ⊥ }
+{}

@@ -12,4 +12,4 @@ mod splicing;
 #[cfg(test)]
 mod tests;
 
-pub use cutting::lex;
+pub use cutting::{lex, one_answer};

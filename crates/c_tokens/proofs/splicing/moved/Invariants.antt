@@ -1,5 +1,4 @@
-use Rattle.std.proofs.Common.{◌≡◌, ◌≤◌, ◌+◌, ◌^◌, drop, length}
-use Rattle.c_tokens.specs.Splicing.{spliced_from}
+use Rattle.std.proofs.Common.{length}
 use Rattle.c_tokens.proofs.Splices.{Moves}
 use Rattle.c_tokens.proofs.splicing.moved.Given as goal
 

@@ -1,4 +1,4 @@
-use Rattle.std.proofs.Common.{◌≡◌, refl, sym, ◌∙◌}
+use Rattle.std.proofs.Common.{sym, ◌∙◌}
 use Rattle.c_tokens.proofs.Splices.{plain_bytes}
 use Rattle.c_tokens.proofs.splicing.splice.Goals as goal
 
