@@ -31,8 +31,8 @@ align_of_type structs pointer Void = 1
 
 -- a complete type of at most the most bytes, in each of its parts
 abbrev pub is_complete : List StructView → ℕ → Ty → Bool
-is_complete structs pointer (Int k) = nat_le k.bytes 8
+is_complete structs pointer (Int k) = nat_lt 0 k.bytes && nat_le k.bytes 8
 is_complete structs pointer (Pointer t) = true
 is_complete structs pointer (Array t n) = is_complete structs pointer t && nat_le (n * size_of_type structs pointer t) most_bytes
-is_complete structs pointer (Struct i) = nat_lt i (length structs) && ((struct_at structs i).complete && nat_le (struct_at structs i).size most_bytes)
+is_complete structs pointer (Struct i) = nat_lt i (length structs) && (((struct_at structs i).complete && nat_lt 0 (struct_at structs i).align) && nat_le (struct_at structs i).size most_bytes)
 is_complete structs pointer Void = false

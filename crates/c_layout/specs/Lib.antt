@@ -4,3 +4,4 @@ pub mod Types
 pub mod StructViews
 pub mod Layout
 pub mod Leaves
+pub mod StructLayouts

@@ -9,6 +9,7 @@ mod library_functions;
 mod model_file;
 mod shapes;
 mod sizes;
+mod struct_layouts;
 mod struct_table;
 mod syntax_tree;
 mod type_terms;
@@ -26,6 +27,7 @@ pub use library_functions::LibFn;
 pub use model_file::{Key, ModelFault, from_toml};
 pub use shapes::{BaseInfo, BaseKind, Leaves, Shape, ZeroPart, ZeroParts};
 pub use sizes::{align_of, size_of};
+pub use struct_layouts::{StructLayout, count_leaves};
 pub use struct_table::{Field, StructType, Structs};
 pub use syntax_tree::{
     AbstractLayer, ArraySuffix, AssignOp, BinaryOp, Brackets, Constant, Declarator,

@@ -1,5 +1,5 @@
 //! Sizes and alignments of types.
-ghost use Rattle.std.specs.Prelude.{◌≡◌, ◌≤◌, true};
+ghost use Rattle.std.specs.Prelude.{◌≡◌, ◌≤◌, ◌<◌, true};
 ghost use Rattle.c_layout.specs.Types.{view};
 ghost use Rattle.c_layout.specs.Models.{is_model};
 ghost use Rattle.c_layout.specs.StructViews.{structs_view};
@@ -30,7 +30,8 @@ pub fn size_of(t: &CType, structs: &Structs, model: &Model) -> u64
 pub fn align_of(t: &CType, structs: &Structs, model: &Model) -> u64
     requires model { is_model model.now ≡ true }
     requires complete { is_complete (structs_view structs.now) model.now.pointer (view t.now) ≡ true }
-    ensures { result ≡ align_of_type (structs_view structs.now) model.now.pointer (view t.now) }
+    ensures align { result ≡ align_of_type (structs_view structs.now) model.now.pointer (view t.now) }
+    ensures some { 0 < result }
 {
     match t {
         CType::Int(kind) => kind.bytes as u64,
