@@ -56,13 +56,20 @@ pub(crate) fn class_for(kind: IntType) -> Class
     }
 }
 
+/// Whether an array of so many elements is not folded.
+fn is_short_array(count: u64) -> bool
+    ensures { result ≡ is_short count }
+{
+    count <= 64
+}
+
 /// What stands behind the short arrays on the outside.
 pub(crate) fn after_short(t: &CType) -> &CType
     ensures { view result.now ≡ behind_short (view t.now) }
 {
     match t {
         CType::Array(element, count) => {
-            if *count <= 64 {
+            if is_short_array(*count) {
                 after_short(element)
             } else {
                 t
@@ -76,7 +83,13 @@ pub(crate) fn after_long(t: &CType) -> &CType
     ensures { view result.now ≡ behind_long (view t.now) }
 {
     match t {
-        CType::Array(element, count) => { if *count <= 64 { t } else { after_long(element) } }
+        CType::Array(element, count) => {
+            if is_short_array(*count) {
+                t
+            } else {
+                after_long(element)
+            }
+        }
         CType::Int(_) | CType::Pointer(_) | CType::Struct(_) | CType::Void => t,
     }
 }
@@ -109,7 +122,7 @@ pub(crate) fn count_short(t: &CType) -> Result<u64, AllocError>
 {
     match t {
         CType::Array(element, count) => {
-            if *count <= 64 {
+            if is_short_array(*count) {
                 let inner = count_short(element)?;
                 Ok(times(*count, inner)?)
             } else {
@@ -125,7 +138,7 @@ pub(crate) fn count_long(t: &CType) -> Result<u64, AllocError>
 {
     match t {
         CType::Array(element, count) => {
-            if *count <= 64 {
+            if is_short_array(*count) {
                 Ok(1)
             } else {
                 let inner = count_long(element)?;

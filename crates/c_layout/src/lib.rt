@@ -3,6 +3,8 @@
 
 mod checked_tree;
 mod data_model;
+#[cfg(test)]
+mod layout_tests;
 mod leaf_lists;
 mod leaf_making;
 mod library_functions;

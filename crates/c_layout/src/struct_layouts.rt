@@ -95,7 +95,13 @@ impl StructLayout {
     }
 
     /// Adds a member of complete type behind the others, at the next multiple of its alignment.
-    pub fn add(&mut self, name: Text, ctype: CType, structs: &Structs, model: &Model) -> Result<(), AllocError>
+    pub fn add(
+        &mut self,
+        name: Text,
+        ctype: CType,
+        structs: &Structs,
+        model: &Model,
+    ) -> Result<(), AllocError>
         requires model { is_model model.now ≡ true }
         requires complete { is_complete (structs_view structs.now) model.now.pointer (view ctype) ≡ true }
         ensures { IfOk result (λ _. partial_view self.new ≡ added (structs_view structs.now) model.now.pointer (partial_view self.old) name (view ctype)) }

@@ -38,7 +38,8 @@ range_facts k h = record {
   least_low = least_low_at k.bytes k.signed h;
   least_high = least_high_at k.bytes k.signed;
   greatest_low = greatest_low_at k.bytes k.signed h;
-  greatest_high = greatest_high_at k.bytes k.signed h }
+  greatest_high = greatest_high_at k.bytes k.signed h;
+}
 
 pub width_small : (n : ℕ) → is_size n ≡ true → 8 * n ≤ 64
 width_small n h = by_size (λ n. 8 * n ≤ 64) (omega arith) (omega arith) (omega arith) (omega arith) n h
@@ -81,7 +82,8 @@ scaling (pos z) p (pos n) a b c d e =
       fits = omega (arith, ints);
       value = refl;
       nonnegative = omega (arith, ints);
-      bound = omega (arith, ints) })
+      bound = omega (arith, ints);
+    })
 scaling (negsuc z) p n a b c d e = absurd (omega (arith, ints))
 scaling (pos z) p (negsuc n) a b c d e = absurd (omega (arith, ints))
 

@@ -38,7 +38,8 @@ interval_numbers = record {
   unary = interval_unary;
   convert = interval_convert;
   compare = interval_compare;
-  refine = interval_refine }
+  refine = interval_refine;
+}
 
 -- ---- bounds
 
@@ -105,7 +106,8 @@ interval_bounding = record {
   round_least = λ list. refl;
   larger = leq_stands;
   inside = inside_bounds;
-  one_stands = one_stands }
+  one_stands = one_stands;
+}
 
 -- ---- ranges
 
@@ -241,4 +243,5 @@ interval_ranges = record {
   arith_fits = λ op x y k a b h e. bounds_in k (interval_arith op x y k) a b (arith_both_in op x y k h) e;
   unary_fits = λ op x k a b h e. bounds_in k (interval_unary op x k) a b (unary_in op x k h) e;
   convert_fits = λ x k a b h e. bounds_in k (interval_convert x k) a b (convert_in x k h) e;
-  refine_below = refine_below }
+  refine_below = refine_below;
+}

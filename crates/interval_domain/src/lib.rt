@@ -3,8 +3,8 @@
 
 mod intervals;
 mod span_arithmetic;
-mod span_division;
 mod span_bits;
+mod span_division;
 mod span_relations;
 mod spans;
 

@@ -1,10 +1,12 @@
 //! The C library as the analysis knows it: its headers and its functions.
 #![tactic(auto)]
 
+#[cfg(test)]
+mod header_tests;
 mod header_texts;
 mod headers;
 mod library;
 
-pub use headers::header;
 pub use c_layout::LibFn;
+pub use headers::header;
 pub use library::signature;

@@ -24,7 +24,7 @@ none_some a o p q = cc
 
 -- the verdict on a held first unit
 held_verdict : (tree : Seen) (words : List Bytes) (files : Files) (name bytes : Bytes) (found : Option Place) (v : Verdict) → tree.files ≡ Some files → unit_of words ≡ Some name → file_at files name ≡ Some bytes → length bytes ≤ LONGEST_FILE
-  → IsFirstUnit bytes found → IsVerdict tree words v → v ≡ judged name bytes found
+    → IsFirstUnit bytes found → IsVerdict tree words v → v ≡ judged name bytes found
 held_verdict tree words files name bytes found words_refused tells_files unit file short first is = absurd (none_some name (unit_of words) is unit)
 held_verdict tree words files name bytes found (absent n) tells_files unit file short first is =
     let same : n ≡ name = same_some n name (unit_of words) is.0 unit in

@@ -11,11 +11,11 @@ pub refused_told : (seen : Seen) (words : List Bytes) (status : ℕ) (text : Byt
 refused_told seen words status text unit by_status by_text = record { verdict = words_refused; called_for = sym unit; by_status = by_status; by_text = by_text }
 
 pub absent_told : (seen : Seen) (words : List Bytes) (name : Bytes) (status : ℕ) (text : Bytes) → Some name ≡ unit_of words → Lacks seen.files name (Rose seen.faults seen.faults_now)
-  → status ≡ status_of (absent name) → text ≡ text_of (absent name) → Tells seen words status text
+    → status ≡ status_of (absent name) → text ≡ text_of (absent name) → Tells seen words status text
 absent_told seen words name status text unit lacks by_status by_text = record { verdict = absent name; called_for = (sym unit, lacks); by_status = by_status; by_text = by_text }
 
 pub too_long_told : (seen : Seen) (words : List Bytes) (name : Bytes) (status : ℕ) (text : Bytes) → Some name ≡ unit_of words → HoldsTooLong LONGEST_FILE seen.files name (RoseBeyond LONGEST_FILE seen.taken seen.taken_now)
-  → status ≡ status_of (too_long name) → text ≡ text_of (too_long name) → Tells seen words status text
+    → status ≡ status_of (too_long name) → text ≡ text_of (too_long name) → Tells seen words status text
 too_long_told seen words name status text unit long by_status by_text = record { verdict = too_long name; called_for = (sym unit, long); by_status = by_status; by_text = by_text }
 
 called : (seen : Seen) (words : List Bytes) (name bytes : Bytes) (found : Option (Option Place)) → unit_of words ≡ Some name → Holds seen.files name bytes → length bytes ≤ LONGEST_FILE → Judged bytes found → IsVerdict seen words (verdict_of name bytes found)

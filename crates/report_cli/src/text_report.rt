@@ -39,7 +39,12 @@ fn diagnostic_lines(alloc: Global, files: &[String], diags: &[Diag]) -> Result<V
 
 /// The report on a unit: a line `FILE:LINE:COL: TAG: TEXT` for each diagnostic, in the order given,
 /// and a last line `N diagnostics in UNIT`. Each diagnostic's file is an index into `files`.
-pub fn report_text(alloc: Global, files: &[String], unit: &str, diags: &[Diag]) -> Result<Vec<u8>, Memory>
+pub fn report_text(
+    alloc: Global,
+    files: &[String],
+    unit: &str,
+    diags: &[Diag],
+) -> Result<Vec<u8>, Memory>
     requires { All (λ d. d.place.file < length files.now) diags.now }
     ensures { IfOk result (λ b. b.items ≡ report_of (map string_bytes files.now) unit.now diags.now) }
 {

@@ -7,7 +7,7 @@ use Rattle.interval_domain.specs.Arithmetic.{ApartFromZero, scaled}
 use Rattle.interval_domain.proofs.span_division.without_zero.Goals as goal
 
 pub returns-clause-ends : goal.returns-clause-ends
-returns-clause-ends c = 
+returns-clause-ends c =
     let f : FitsSigned w128 c.above_zero.result = search rules in
     let g : FitsSigned w128 c.below_zero.result = search rules in
     are_apart _ _ _ c.between_or_empty.ensures (subst ApartFromZero (sym (to_z-of_z w128 _ f)) c.above_zero.ensures.apart) (subst ApartFromZero (sym (to_z-of_z w128 _ g)) c.below_zero.ensures.apart)
