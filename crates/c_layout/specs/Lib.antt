@@ -5,3 +5,4 @@ pub mod StructViews
 pub mod Layout
 pub mod Leaves
 pub mod StructLayouts
+pub mod SyntaxTrees

@@ -1,6 +1,7 @@
 //! The tree of a translation unit, one node for each production of the grammar (6.5 to 6.9 of
 //! ISO/IEC 9899:2011, for the forms that are in).
 mod declarations;
+mod expression_places;
 mod expressions;
 mod statements;
 
