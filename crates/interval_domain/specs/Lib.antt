@@ -6,3 +6,5 @@ pub mod IntervalLattice
 pub mod Arithmetic
 pub mod Relations
 pub mod IntervalNumbers
+pub mod Blocks
+pub mod Products
