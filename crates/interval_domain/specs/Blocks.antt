@@ -1,13 +1,13 @@
 -- Four numbers lie in one block exactly where the least and the greatest of them do, and then wrapping keeps their order.
-use Rattle.std.specs.Prelude.{◌≡◌, ℕ, ◌+◌, ◌-◌, ◌*◌, ◌/◌, ◌%◌, ◌<◌, ◌≤◌, ◌^◌, suc, ℤ, pos, negsuc, ◌+ℤ◌, ◌-ℤ◌, ◌≤ℤ◌, ◌<ℤ◌, Bool, true, false, cond, ◌&&◌, int_lt, refl}
+use Rattle.std.specs.Prelude.{◌≡◌, ℕ, ◌*◌, ◌/◌, ◌<◌, ◌≤◌, ℤ, pos, negsuc, ◌-ℤ◌, ◌≤ℤ◌, Bool, true, false, cond, ◌&&◌, int_lt, refl}
 use Rattle.std.specs.Int.{int_min, int_max, int_div_euclid, int_rem_euclid}
 use Rattle.std.specs.Ordering.{int_eq}
-use Rattle.std.proofs.Common.{arith, ap, ap₂, ◌∙◌, sym, subst}
+use Rattle.std.proofs.Common.{arith, ap, ap₂, ◌∙◌, sym}
 use Rattle.std.proofs.lemmas.Int.{ints, clamps}
 use Rattle.std.proofs.lemmas.Bool.{cond_both, and_from, and_parts}
 use Rattle.std.proofs.lemmas.Bool.Decides.{Decides-int_eq}
 use Rattle.std.proofs.lemmas.Nat.{div-add-mod', le-div, pow_pos}
-use Rattle.cc_base.specs.IntegerTypes.{modulus, least_of, greatest_of, wrap_into, block_of}
+use Rattle.cc_base.specs.IntegerTypes.{modulus, least_of, wrap_into, block_of}
 use Rattle.cc_base.specs.declared.limit_table.IntType.{IntType}
 use Rattle.interval_domain.specs.declared.intervals.Interval.{Interval}
 use Rattle.interval_domain.specs.Spans.{between_or_empty}

@@ -1,11 +1,11 @@
 -- Products whose bounds need more than 128 bits.
-use Rattle.std.specs.Prelude.{◌≡◌, ℕ, ◌+◌, ◌-◌, ◌*◌, ◌/◌, ◌%◌, ◌<◌, ◌≤◌, ◌^◌, suc, ℤ, pos, negsuc, neg_ℤ, unsigned_abs, ◌+ℤ◌, ◌-ℤ◌, ◌*ℤ◌, ◌≤ℤ◌, ◌<ℤ◌, Bool, true, false, cond, ◌&&◌, refl, min}
+use Rattle.std.specs.Prelude.{◌≡◌, ℕ, ◌+◌, ◌-◌, ◌*◌, ◌/◌, ◌%◌, ◌<◌, ◌^◌, suc, ℤ, pos, negsuc, neg_ℤ, unsigned_abs, ◌+ℤ◌, ◌-ℤ◌, ◌*ℤ◌, ◌≤ℤ◌, ◌<ℤ◌, false, cond}
 use Rattle.std.specs.Int.{int_min, int_max, int_div_euclid, int_rem_euclid, saturate_signed, w128}
 use Rattle.std.proofs.Common.{arith, ap, ap₂, ◌∙◌, sym, subst}
 use Rattle.std.proofs.lemmas.Int.{ints, clamps, by_lt_z}
-use Rattle.std.proofs.lemmas.Nat.{div-add-mod', div-mul-add, mod-mul-add, mod_below}
+use Rattle.std.proofs.lemmas.Nat.{div-add-mod', div-mul-add, mod-mul-add}
 use lib.IntN.{pos-*ℤ-pos, pos-*ℤ-negsuc, negsuc-*ℤ-pos, negsuc-*ℤ-negsuc}
-use Rattle.cc_base.specs.IntegerTypes.{modulus, least_of, greatest_of, wrap_into, block_of, is_size}
+use Rattle.cc_base.specs.IntegerTypes.{modulus, least_of, greatest_of, wrap_into, block_of}
 use Rattle.cc_base.specs.declared.limit_table.IntType.{IntType}
 use Rattle.interval_domain.specs.declared.intervals.Interval.{Interval}
 use Rattle.interval_domain.specs.declared.turned_numbers.Turned.{Turned}
@@ -46,7 +46,6 @@ turned_next n m q h e f =
     let b : pos 0 ≡ pos (suc n % m) = ap pos (sym r.1) in
     let c : suc n ≡ n + 1 = omega arith in
     subst (λ x. next_start q ≡ turned m (pos x)) c (λ i. record { turns = a i; rest = b i })
-
 
 -- ---- products by magnitudes
 
@@ -112,8 +111,8 @@ clamped_clip : (k : IntType) (a b : ℤ) → least_of k ≤ℤ greatest_of k →
 clamped_clip k a b h = by_lt_z (greatest_of k) a
     (λ (p : greatest_of k <ℤ a). between_none _ _ (omega (arith, ints, clamps)) ∙ sym (between_none _ _ (omega (arith, ints, clamps))))
     (λ (p : a ≤ℤ greatest_of k). by_lt_z b (least_of k)
-      (λ (q : b <ℤ least_of k). between_none _ _ (omega (arith, ints, clamps)) ∙ sym (between_none _ _ (omega (arith, ints, clamps))))
-      (λ (q : least_of k ≤ℤ b). ap₂ between_or_empty (omega (arith, ints, clamps)) (omega (arith, ints, clamps))))
+    (λ (q : b <ℤ least_of k). between_none _ _ (omega (arith, ints, clamps)) ∙ sym (between_none _ _ (omega (arith, ints, clamps))))
+    (λ (q : least_of k ≤ℤ b). ap₂ between_or_empty (omega (arith, ints, clamps)) (omega (arith, ints, clamps))))
 
 pub clamped_alike : (k : IntType) (a b c d : ℤ) → least_of k ≤ℤ greatest_of k → past_ends k a ≡ past_ends k c → past_ends k b ≡ past_ends k d → clamped k a b ≡ clamped k c d
 clamped_alike k a b c d h e f = clamped_clip k a b h ∙ (ap₂ (clamped k) e f ∙ sym (clamped_clip k c d h))
@@ -135,5 +134,5 @@ products_alike k x y z w a b c d low flat wide high e f g h =
     let r : clip l u c ≡ clip l u z = ap (clip l u) g ∙ s z in
     let t : clip l u d ≡ clip l u w = ap (clip l u) h ∙ s w in
     clamped_alike k _ _ _ _ (omega (arith, ints))
-      (clip_least_four l u a b c d ∙ ((λ i. least_of_four (p i) (q i) (r i) (t i)) ∙ sym (clip_least_four l u x y z w)))
-      (clip_greatest_four l u a b c d ∙ ((λ i. greatest_of_four (p i) (q i) (r i) (t i)) ∙ sym (clip_greatest_four l u x y z w)))
+    (clip_least_four l u a b c d ∙ ((λ i. least_of_four (p i) (q i) (r i) (t i)) ∙ sym (clip_least_four l u x y z w)))
+    (clip_greatest_four l u a b c d ∙ ((λ i. greatest_of_four (p i) (q i) (r i) (t i)) ∙ sym (clip_greatest_four l u x y z w)))

@@ -1,14 +1,15 @@
 //! Intervals of integers: the integers of the analysis.
 #![tactic(auto)]
 
+mod interval_numbers;
 mod intervals;
 mod span_arithmetic;
-mod span_division;
 mod span_bits;
+mod span_division;
 mod span_products;
 mod span_relations;
-mod turned_numbers;
 mod spans;
+mod turned_numbers;
 
 pub use intervals::Interval;
 pub use spans::Span;

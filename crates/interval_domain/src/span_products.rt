@@ -26,7 +26,11 @@ fn clamped_hull(kind: IntType, a: i128, b: i128, c: i128, d: i128) -> Interval
     requires { is_size kind.bytes ≡ true }
     ensures { result ≡ clamped kind (least_of_four a b c d) (greatest_of_four a b c d) }
 {
-    clamped(kind, least_of_four(a, b, c, d), greatest_of_four(a, b, c, d))
+    clamped(
+        kind,
+        least_of_four(a, b, c, d),
+        greatest_of_four(a, b, c, d),
+    )
 }
 
 fn signed_products(kind: IntType, s: Span, t: Span) -> Interval
@@ -56,7 +60,10 @@ fn next_block(turns: i128) -> Turned
     requires { turns <ℤ pos (2 ^ 120) }
     ensures { result ≡ next_start turns }
 {
-    Turned { turns: turns + 1, rest: 0 }
+    Turned {
+        turns: turns + 1,
+        rest: 0,
+    }
 }
 
 /// Which block of as many numbers as the type has holds `n`.

@@ -1,12 +1,12 @@
-use Rattle.std.proofs.Common.{◌≡◌, arith, ap, ap₂, sym, subst, ◌∙◌, rules, FitsSigned, to_z, of_z, ◌≤ℤ◌, ◌*ℤ◌, ◌*◌, ◌^◌, pos, unsigned_abs}
+use Rattle.std.proofs.Common.{◌≡◌, arith, ap₂, sym, subst, ◌∙◌, rules, FitsSigned, to_z, of_z, ◌≤ℤ◌, ◌*ℤ◌, ◌*◌, ◌^◌, pos, unsigned_abs}
 use Rattle.std.specs.Int.{w128}
-use Rattle.std.proofs.lemmas.Int.{ints, clamps, to_z-of_z}
-use Rattle.interval_domain.proofs.Ranges.{range_facts, width_small, scaled_fits, Scaling, scaling, power_bits, leading_small}
-use Rattle.interval_domain.specs.Arithmetic.{ApartFromZero, scaled}
+use Rattle.std.proofs.lemmas.Int.{ints, to_z-of_z}
+use Rattle.interval_domain.proofs.Ranges.{Scaling, scaling}
+use Rattle.interval_domain.specs.Arithmetic.{scaled}
 use Rattle.interval_domain.proofs.span_division.scaled.Goals as goal
 
 pub overflow_mul-result : goal.overflow_mul-result
-overflow_mul-result c = 
+overflow_mul-result c =
     let z = to_z w128 (of_z w128 c.args.z) in
     let n = to_z w128 (of_z w128 c.args.n) in
     let p = to_z w128 (of_z w128 c.power_of_two.result) in
@@ -15,7 +15,7 @@ overflow_mul-result c =
     s.fits
 
 pub returns-clause-value : goal.returns-clause-value
-returns-clause-value c = 
+returns-clause-value c =
     let z = to_z w128 (of_z w128 c.args.z) in
     let n = to_z w128 (of_z w128 c.args.n) in
     let p = to_z w128 (of_z w128 c.power_of_two.result) in
@@ -24,7 +24,7 @@ returns-clause-value c =
     to_z-of_z w128 _ s.fits ∙ s.value ∙ ap₂ scaled (to_z-of_z w128 _ c.ranges.z) (to_z-of_z w128 _ c.ranges.n)
 
 pub returns-clause-nonnegative : goal.returns-clause-nonnegative
-returns-clause-nonnegative c = 
+returns-clause-nonnegative c =
     let z = to_z w128 (of_z w128 c.args.z) in
     let n = to_z w128 (of_z w128 c.args.n) in
     let p = to_z w128 (of_z w128 c.power_of_two.result) in
@@ -33,7 +33,7 @@ returns-clause-nonnegative c =
     let e = to_z-of_z w128 _ s.fits in let h = s.nonnegative in omega (arith, ints)
 
 pub returns-clause-bound : goal.returns-clause-bound
-returns-clause-bound c = 
+returns-clause-bound c =
     let z = to_z w128 (of_z w128 c.args.z) in
     let n = to_z w128 (of_z w128 c.args.n) in
     let p = to_z w128 (of_z w128 c.power_of_two.result) in

@@ -1,12 +1,12 @@
-use Rattle.std.proofs.Common.{◌≡◌, arith, ap, ap₂, sym, subst, ◌∙◌, rules, FitsSigned, to_z, of_z, ◌*ℤ◌, pos}
+use Rattle.std.proofs.Common.{◌≡◌, ap₂, ◌∙◌, rules, FitsSigned, to_z, of_z, ◌*ℤ◌}
 use Rattle.std.specs.Int.{w128, saturate_signed}
-use Rattle.std.proofs.lemmas.Int.{ints, clamps, to_z-of_z}
+use Rattle.std.proofs.lemmas.Int.{to_z-of_z}
 use Rattle.interval_domain.proofs.Ranges.{range_facts}
-use Rattle.interval_domain.specs.Products.{turned, turned_next, turned_hull_wraps, products_alike, product_on, product_back}
+use Rattle.interval_domain.specs.Products.{products_alike}
 use Rattle.interval_domain.proofs.span_products.signed_products.Goals as goal
 
 pub returns : goal.returns
-returns c = 
+returns c =
     let r = range_facts c.args.kind c.requires in
     let slo : FitsSigned w128 c.args.s.lo = search rules in
     let shi : FitsSigned w128 c.args.s.hi = search rules in
