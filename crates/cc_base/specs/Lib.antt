@@ -7,3 +7,4 @@ pub mod IntegerDomains
 pub mod LatticeParts
 pub mod NumberRanges
 pub mod Truths
+pub mod MachineArithmetic

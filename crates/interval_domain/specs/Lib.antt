@@ -8,3 +8,7 @@ pub mod Relations
 pub mod IntervalNumbers
 pub mod Blocks
 pub mod Products
+pub mod Wrapping
+pub mod Best
+pub mod BestRelations
+pub mod Exactness
