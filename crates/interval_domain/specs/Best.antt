@@ -68,9 +68,10 @@ some_same : (a b : ℤ) → Some a ≡ Some b → a ≡ b
 some_same a b e = cc
 
 stop_gives : (k : IntType) (x z : ℤ) → in_or_stop k x ≡ Some z → (x ≡ z) × (in_type k x ≡ true)
-stop_gives k x z e = elim (cases_Bool (in_type k x))
-    [ inl t ↦ (let f : Some x ≡ Some z = subst (λ b. cond b (Some x) None ≡ Some z) t e in (some_same x z f, t))
-    | inr t ↦ (let f : None ≡ Some z = subst (λ b. cond b (Some x) None ≡ Some z) t e in cc) ]
+stop_gives k x z e = elim (cases_Bool (in_type k x)) [
+  | inl t ↦ (let f : Some x ≡ Some z = subst (λ b. cond b (Some x) None ≡ Some z) t e in (some_same x z f, t))
+  | inr t ↦ (let f : None ≡ Some z = subst (λ b. cond b (Some x) None ≡ Some z) t e in cc)
+]
 
 gives_stop : (k : IntType) (x : ℤ) → in_type k x ≡ true → in_or_stop k x ≡ Some x
 gives_stop k x t = subst (λ b. cond b (Some x) None ≡ Some x) (sym t) refl
@@ -78,41 +79,44 @@ gives_stop k x t = subst (λ b. cond b (Some x) None ≡ Some x) (sym t) refl
 pub clamped_best : (k : IntType) (lo hi : ℤ) → IsLeastWith (GivesFrom (in_or_stop k) lo hi) (clamped k lo hi)
 clamped_best k lo hi = record {
   holds = λ z g.
-    let s = stop_gives k g.from z g.gives in
-    let t = in_type_lies k g.from s.1 in
-    let a = g.lower in
-    let b = g.upper in
-    let e = s.0 in
-    stands_between _ _ z (omega (arith, ints, clamps)) (omega (arith, ints, clamps));
+      let s = stop_gives k g.from z g.gives in
+      let t = in_type_lies k g.from s.1 in
+      let a = g.lower in
+      let b = g.upper in
+      let e = s.0 in
+      stands_between _ _ z (omega (arith, ints, clamps)) (omega (arith, ints, clamps));
   least = λ y f. below_if _ _ y (λ (o : int_max lo (least_of k) ≤ℤ int_min hi (greatest_of k)).
-    let at_lo : GivesFrom (in_or_stop k) lo hi (int_max lo (least_of k)) = record {
-      from = int_max lo (least_of k);
-      lower = omega (arith, ints, clamps);
-      upper = omega (arith, ints, clamps);
-      gives = gives_stop k _ (lies_in_type k _ (omega (arith, ints, clamps)) (omega (arith, ints, clamps))) } in
-    let at_hi : GivesFrom (in_or_stop k) lo hi (int_min hi (greatest_of k)) = record {
-      from = int_min hi (greatest_of k);
-      lower = omega (arith, ints, clamps);
-      upper = omega (arith, ints, clamps);
-      gives = gives_stop k _ (lies_in_type k _ (omega (arith, ints, clamps)) (omega (arith, ints, clamps))) } in
-    (f _ at_lo, f _ at_hi)) }
-
+      let at_lo : GivesFrom (in_or_stop k) lo hi (int_max lo (least_of k)) = record {
+        from = int_max lo (least_of k);
+        lower = omega (arith, ints, clamps);
+        upper = omega (arith, ints, clamps);
+        gives = gives_stop k _ (lies_in_type k _ (omega (arith, ints, clamps)) (omega (arith, ints, clamps)));
+      } in
+      let at_hi : GivesFrom (in_or_stop k) lo hi (int_min hi (greatest_of k)) = record {
+        from = int_min hi (greatest_of k);
+        lower = omega (arith, ints, clamps);
+        upper = omega (arith, ints, clamps);
+        gives = gives_stop k _ (lies_in_type k _ (omega (arith, ints, clamps)) (omega (arith, ints, clamps)));
+      } in
+      (f _ at_lo, f _ at_hi));
+}
 
 -- ---- in one block
 
 one_block_best : (k : IntType) (lo hi : ℤ) → lo ≤ℤ hi → block_of k lo ≡ block_of k hi → IsLeastWith (GivesFrom (λ z. Some (wrap_into k z)) lo hi) (between_or_empty (wrap_into k lo) (wrap_into k hi))
 one_block_best k lo hi h e = record {
   holds = λ z g.
-    let a = g.lower in
-    let b = g.upper in
-    let p = block_rises k lo g.from a in
-    let q = block_rises k g.from hi b in
-    let r : block_of k g.from ≡ block_of k lo = omega (arith, ints) in
-    let u = wrap_shifts k g.from lo r in
-    let v = wrap_shifts k g.from hi (r ∙ e) in
-    let w : wrap_into k g.from ≡ z = some_same _ _ g.gives in
-    stands_between _ _ z (omega (arith, ints)) (omega (arith, ints));
-  least = λ y f. below_with _ _ y (f _ (record { from = lo; lower = ≤ℤ_refl lo; upper = h; gives = refl })) (f _ (record { from = hi; lower = h; upper = ≤ℤ_refl hi; gives = refl })) }
+      let a = g.lower in
+      let b = g.upper in
+      let p = block_rises k lo g.from a in
+      let q = block_rises k g.from hi b in
+      let r : block_of k g.from ≡ block_of k lo = omega (arith, ints) in
+      let u = wrap_shifts k g.from lo r in
+      let v = wrap_shifts k g.from hi (r ∙ e) in
+      let w : wrap_into k g.from ≡ z = some_same _ _ g.gives in
+      stands_between _ _ z (omega (arith, ints)) (omega (arith, ints));
+  least = λ y f. below_with _ _ y (f _ (record { from = lo; lower = ≤ℤ_refl lo; upper = h; gives = refl })) (f _ (record { from = hi; lower = h; upper = ≤ℤ_refl hi; gives = refl }));
+}
 
 -- ---- over the end of a block
 
@@ -128,16 +132,17 @@ whole_best k lo hi h o n =
     let d = distance (wrap_into k lo) (greatest_of k) w.1 in
     let s = distance lo hi o in
     let past : (lo +ℤ pos d.0) <ℤ hi = by_lt_z (lo +ℤ pos d.0) hi (λ x. x)
-      (λ (t : hi ≤ℤ (lo +ℤ pos d.0)).
-        let u : (wrap_into k lo +ℤ pos s.0) ≤ℤ greatest_of k = (let e = d.1 in let f = s.1 in omega (arith, ints)) in
-        absurd (n (sym (subst (λ x. block_of k x ≡ block_of k lo) (sym s.1) (block_stays k lo s.0 h u))))) in
+    (λ (t : hi ≤ℤ (lo +ℤ pos d.0)).
+    let u : (wrap_into k lo +ℤ pos s.0) ≤ℤ greatest_of k = (let e = d.1 in let f = s.1 in omega (arith, ints)) in
+    absurd (n (sym (subst (λ x. block_of k x ≡ block_of k lo) (sym s.1) (block_stays k lo s.0 h u))))) in
     let last : wrap_into k (lo +ℤ pos d.0) ≡ greatest_of k = wrap_stays k lo d.0 h (let e = d.1 in omega (arith, ints)) ∙ sym d.1 in
     let next : wrap_into k ((lo +ℤ pos d.0) +ℤ pos 1) ≡ least_of k = wrap_next k (lo +ℤ pos d.0) h last in
     record {
       holds = λ z g. let x = wrap_in k g.from h in let e : wrap_into k g.from ≡ z = some_same _ _ g.gives in stands_between _ _ z (omega (arith, ints)) (omega (arith, ints));
       least = λ y f. below_with _ _ y
-        (f _ (record { from = (lo +ℤ pos d.0) +ℤ pos 1; lower = omega (arith, ints); upper = omega (arith, ints); gives = ap Some next }))
-        (f _ (record { from = lo +ℤ pos d.0; lower = omega (arith, ints); upper = omega (arith, ints); gives = ap Some last })) }
+          (f _ (record { from = (lo +ℤ pos d.0) +ℤ pos 1; lower = omega (arith, ints); upper = omega (arith, ints); gives = ap Some next }))
+          (f _ (record { from = lo +ℤ pos d.0; lower = omega (arith, ints); upper = omega (arith, ints); gives = ap Some last }));
+    }
 
 wrapped_at : (k : IntType) (lo hi : ℤ) → is_size k.bytes ≡ true → lo ≤ℤ hi → (b : Bool) → int_eq (block_of k lo) (block_of k hi) ≡ b → IsLeastWith (GivesFrom (λ z. Some (wrap_into k z)) lo hi) (cond b (between_or_empty (wrap_into k lo) (wrap_into k hi)) (whole k))
 wrapped_at k lo hi h o true e = one_block_best k lo hi o ((Decides-int_eq _ _).0 e)
@@ -171,31 +176,32 @@ pub record GivesOf (give : ℤ → Option ℤ) (s : Span) (z : ℤ) : Type 0 whe
 same_least : (P Q : ℤ → Type 0) (x : Interval) → ((z : ℤ) → P z → Q z) → ((z : ℤ) → Q z → P z) → IsLeastWith P x → IsLeastWith Q x
 same_least P Q x f g h = record {
   holds = λ z q. h.holds z (g z q);
-  least = λ y e. h.least y (λ z p. e z (f z p)) }
+  least = λ y e. h.least y (λ z p. e z (f z p));
+}
 
 pub sums_best : (k : IntType) (s t : Span) → is_size k.bytes ≡ true → IsLeastWith (GivesOfTwo (binary_result Add k) s t) (sums k s t)
 sums_best k s t h = same_least _ _ _
     (λ z g.
-      let a = s.ordered in
-      let b = t.ordered in
-      let p = g.lower in
-      let q = g.upper in
-      let x = int_min s.hi (g.from -ℤ t.lo) in
-      let e : (x +ℤ (g.from -ℤ x)) ≡ g.from = omega (arith, ints, clamps) in
-      record { left = x; right = g.from -ℤ x; of_left = (omega (arith, ints, clamps), omega (arith, ints, clamps)); of_right = (omega (arith, ints, clamps), omega (arith, ints, clamps)); gives = subst (λ v. result_of k v ≡ Some z) (sym e) g.gives })
+    let a = s.ordered in
+    let b = t.ordered in
+    let p = g.lower in
+    let q = g.upper in
+    let x = int_min s.hi (g.from -ℤ t.lo) in
+    let e : (x +ℤ (g.from -ℤ x)) ≡ g.from = omega (arith, ints, clamps) in
+    record { left = x; right = g.from -ℤ x; of_left = (omega (arith, ints, clamps), omega (arith, ints, clamps)); of_right = (omega (arith, ints, clamps), omega (arith, ints, clamps)); gives = subst (λ v. result_of k v ≡ Some z) (sym e) g.gives })
     (λ z g. let l = g.of_left in let r = g.of_right in record { from = g.left +ℤ g.right; lower = omega (arith, ints); upper = omega (arith, ints); gives = g.gives })
     (into_best k (s.lo +ℤ t.lo) (s.hi +ℤ t.hi) h (let a = s.ordered in let b = t.ordered in omega (arith, ints)))
 
 pub differences_best : (k : IntType) (s t : Span) → is_size k.bytes ≡ true → IsLeastWith (GivesOfTwo (binary_result Sub k) s t) (differences k s t)
 differences_best k s t h = same_least _ _ _
     (λ z g.
-      let a = s.ordered in
-      let b = t.ordered in
-      let p = g.lower in
-      let q = g.upper in
-      let x = int_min s.hi (g.from +ℤ t.hi) in
-      let e : (x -ℤ (x -ℤ g.from)) ≡ g.from = omega (arith, ints, clamps) in
-      record { left = x; right = x -ℤ g.from; of_left = (omega (arith, ints, clamps), omega (arith, ints, clamps)); of_right = (omega (arith, ints, clamps), omega (arith, ints, clamps)); gives = subst (λ v. result_of k v ≡ Some z) (sym e) g.gives })
+    let a = s.ordered in
+    let b = t.ordered in
+    let p = g.lower in
+    let q = g.upper in
+    let x = int_min s.hi (g.from +ℤ t.hi) in
+    let e : (x -ℤ (x -ℤ g.from)) ≡ g.from = omega (arith, ints, clamps) in
+    record { left = x; right = x -ℤ g.from; of_left = (omega (arith, ints, clamps), omega (arith, ints, clamps)); of_right = (omega (arith, ints, clamps), omega (arith, ints, clamps)); gives = subst (λ v. result_of k v ≡ Some z) (sym e) g.gives })
     (λ z g. let l = g.of_left in let r = g.of_right in record { from = g.left -ℤ g.right; lower = omega (arith, ints); upper = omega (arith, ints); gives = g.gives })
     (into_best k (s.lo -ℤ t.hi) (s.hi -ℤ t.lo) h (let a = s.ordered in let b = t.ordered in omega (arith, ints)))
 

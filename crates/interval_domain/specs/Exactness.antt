@@ -114,7 +114,8 @@ exact_compare rel (Of s) (Of t) =
       holds_from = λ h. pair_from rel s t (sym (can_hold_of a b) ∙ h);
       holds_to = λ p. can_hold_of a b ∙ pair_to rel s t p;
       fails_from = λ h. pair_from (relation.opposite rel) s t (sym (can_fail_of a b) ∙ h);
-      fails_to = λ p. can_fail_of a b ∙ pair_to (relation.opposite rel) s t p }
+      fails_to = λ p. can_fail_of a b ∙ pair_to (relation.opposite rel) s t p;
+    }
 
 pub best_refinement : (rel : Rel) (x y : Interval) → IsBestRefinement rel x y (relation.interval_refine rel x y)
 best_refinement rel Bottom y = refl

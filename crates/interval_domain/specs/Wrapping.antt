@@ -53,9 +53,10 @@ start_of_next (negsuc (suc b)) m h k =
     let e = div-add-mod' (suc b) m in
     let s = mod_below b m h in
     let g = div-add-mod' b m in
-    elim (cases_lt (b % m + 1) m)
-      [ inl l ↦ absurd (let t : (b / m) * m + (b % m + 1) ≡ suc b = omega arith in let u : suc b % m ≡ b % m + 1 = subst (λ x. x % m ≡ b % m + 1) t (mod-mul-add (b / m) m (b % m + 1) l) in omega arith)
-      | inr l ↦ (let v : m - 1 - b % m ≡ 0 = omega arith in let w : (negsuc (suc b) +ℤ pos 1) ≡ negsuc b = omega (arith, ints) in subst (λ x. int_rem_euclid x (pos m) ≡ pos 0) (sym w) (ap pos v)) ]
+    elim (cases_lt (b % m + 1) m) [
+      | inl l ↦ absurd (let t : (b / m) * m + (b % m + 1) ≡ suc b = omega arith in let u : suc b % m ≡ b % m + 1 = subst (λ x. x % m ≡ b % m + 1) t (mod-mul-add (b / m) m (b % m + 1) l) in omega arith)
+      | inr l ↦ (let v : m - 1 - b % m ≡ 0 = omega arith in let w : (negsuc (suc b) +ℤ pos 1) ≡ negsuc b = omega (arith, ints) in subst (λ x. int_rem_euclid x (pos m) ≡ pos 0) (sym w) (ap pos v))
+    ]
 
 -- ---- in a type
 

@@ -2,8 +2,10 @@
 ghost use Rattle.std.specs.Prelude.{◌≡◌, ◌≤ℤ◌, ◌+ℤ◌, ◌-ℤ◌, true, Some};
 ghost use Rattle.cc_base.specs.IntegerTypes.{is_size, least_of, greatest_of};
 ghost use Rattle.cc_base.specs.IntegerDomains.{IsNear};
-ghost use Rattle.interval_domain.specs.Spans.{Stands};
-ghost use Rattle.interval_domain.specs.Arithmetic.{arith_spans, unary_span, wrapped};
+ghost use Rattle.interval_domain.specs.Spans.{Stands, interval_bounds};
+ghost use Rattle.interval_domain.specs.Relations.{interval_compare, interval_refine};
+ghost use Rattle.interval_domain.specs.Exactness.{IsBestArith, IsBestUnary, IsBestConversion, IsExactCompare, IsBestRefinement};
+ghost use Rattle.interval_domain.specs.Arithmetic.{arith_spans, unary_span, wrapped, interval_arith, interval_unary, interval_convert};
 ghost use Rattle.interval_domain.specs.IntervalNumbers.{interval_numbers, interval_bounding, interval_ranges};
 
 use crate::intervals::{Interval, between_or_empty};
@@ -83,6 +85,63 @@ fn conversions(kind: IntType, s: Span) -> Interval
     wrapped(kind, s.lo, s.hi)
 }
 
+fn interval_arith(op: IntOp, x: Interval, y: Interval, kind: IntType) -> Interval
+    requires left { IsNear (interval_bounds x) }
+    requires right { IsNear (interval_bounds y) }
+    requires size { is_size kind.bytes ≡ true }
+    ensures { result ≡ interval_arith op x y kind }
+{
+    match (x, y) {
+        (Interval::Of(s), Interval::Of(t)) => arith_spans(op, kind, s, t),
+        _ => Interval::Bottom,
+    }
+}
+
+fn interval_unary(op: UnOp, x: Interval, kind: IntType) -> Interval
+    requires near { IsNear (interval_bounds x) }
+    requires size { is_size kind.bytes ≡ true }
+    ensures { result ≡ interval_unary op x kind }
+{
+    match x {
+        Interval::Bottom => Interval::Bottom,
+        Interval::Of(s) => unary_span(op, kind, s),
+    }
+}
+
+fn interval_convert(x: Interval, to: IntType) -> Interval
+    requires near { IsNear (interval_bounds x) }
+    requires size { is_size to.bytes ≡ true }
+    ensures { result ≡ interval_convert x to }
+{
+    match x {
+        Interval::Bottom => Interval::Bottom,
+        Interval::Of(s) => conversions(to, s),
+    }
+}
+
+fn interval_compare(rel: Rel, x: Interval, y: Interval) -> Tri
+    ensures { result ≡ interval_compare rel x y }
+{
+    match (x, y) {
+        (Interval::Of(s), Interval::Of(t)) => Tri::of(
+            can_hold(rel, s, t),
+            can_hold(opposite(rel), s, t),
+        ),
+        _ => Tri::Never,
+    }
+}
+
+fn interval_refine(rel: Rel, x: Interval, y: Interval) -> Interval
+    requires left { IsNear (interval_bounds x) }
+    requires right { IsNear (interval_bounds y) }
+    ensures { result ≡ interval_refine rel x y }
+{
+    match (x, y) {
+        (Interval::Of(s), Interval::Of(t)) => refined(rel, s, t),
+        _ => Interval::Bottom,
+    }
+}
+
 impl IntDomain for Interval {
     ghost numbers = { interval_numbers };
 
@@ -107,41 +166,47 @@ impl IntDomain for Interval {
         }
     }
 
-    fn arith(self, op: IntOp, other: Self, kind: IntType) -> Self {
-        match (self, other) {
-            (Interval::Of(s), Interval::Of(t)) => arith_spans(op, kind, s, t),
-            _ => Interval::Bottom,
-        }
+    fn arith(self, op: IntOp, other: Self, kind: IntType) -> Self
+        requires left { IsNear (interval_bounds self) }
+        requires right { IsNear (interval_bounds other) }
+        requires size { is_size kind.bytes ≡ true }
+        ensures value { result ≡ interval_arith op self other kind }
+        ensures best { IsBestArith op self other kind result }
+    {
+        interval_arith(op, self, other, kind)
     }
 
-    fn unary(self, op: UnOp, kind: IntType) -> Self {
-        match self {
-            Interval::Bottom => Interval::Bottom,
-            Interval::Of(s) => unary_span(op, kind, s),
-        }
+    fn unary(self, op: UnOp, kind: IntType) -> Self
+        requires near { IsNear (interval_bounds self) }
+        requires size { is_size kind.bytes ≡ true }
+        ensures value { result ≡ interval_unary op self kind }
+        ensures best { IsBestUnary op self kind result }
+    {
+        interval_unary(op, self, kind)
     }
 
-    fn convert(self, to: IntType) -> Self {
-        match self {
-            Interval::Bottom => Interval::Bottom,
-            Interval::Of(s) => conversions(to, s),
-        }
+    fn convert(self, to: IntType) -> Self
+        requires near { IsNear (interval_bounds self) }
+        requires size { is_size to.bytes ≡ true }
+        ensures value { result ≡ interval_convert self to }
+        ensures best { IsBestConversion self to result }
+    {
+        interval_convert(self, to)
     }
 
-    fn compare(self, rel: Rel, other: Self) -> Tri {
-        match (self, other) {
-            (Interval::Of(s), Interval::Of(t)) => Tri::of(
-                can_hold(rel, s, t),
-                can_hold(opposite(rel), s, t),
-            ),
-            _ => Tri::Never,
-        }
+    fn compare(self, rel: Rel, other: Self) -> Tri
+        ensures value { result ≡ interval_compare rel self other }
+        ensures exact { IsExactCompare rel self other result }
+    {
+        interval_compare(rel, self, other)
     }
 
-    fn refine(self, rel: Rel, other: Self) -> Self {
-        match (self, other) {
-            (Interval::Of(s), Interval::Of(t)) => refined(rel, s, t),
-            _ => Interval::Bottom,
-        }
+    fn refine(self, rel: Rel, other: Self) -> Self
+        requires left { IsNear (interval_bounds self) }
+        requires right { IsNear (interval_bounds other) }
+        ensures value { result ≡ interval_refine rel self other }
+        ensures best { IsBestRefinement rel self other result }
+    {
+        interval_refine(rel, self, other)
     }
 }
