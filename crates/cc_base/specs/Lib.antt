@@ -14,3 +14,4 @@ pub mod IntegerDomains
 pub mod LatticeParts
 pub mod NumberRanges
 pub mod Truths
+pub mod MachineArithmetic

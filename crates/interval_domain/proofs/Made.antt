@@ -1,11 +1,8 @@
 -- What is known of an interval that was made from two numbers.
-use Rattle.std.proofs.Common.{◌≡◌, ℕ, ◌+◌, ◌-◌, ◌*◌, ◌^◌, ◌≤◌, ◌<◌, ℤ, pos, negsuc, neg_ℤ, ◌+ℤ◌, ◌-ℤ◌, ◌*ℤ◌, ◌≤ℤ◌, ◌<ℤ◌, Bool, true, false, cond, FitsSigned, refl, arith, sym, ap, ap₂, ◌∙◌, subst, Option, Some, None, inl, inr}
-use Rattle.std.specs.Int.{w128}
-use Rattle.std.proofs.lemmas.Int.{ints, clamps}
+use Rattle.std.proofs.Common.{◌≡◌, ◌-◌, ◌^◌, ℤ, pos, negsuc, ◌≤ℤ◌, ◌<ℤ◌, refl, sym, subst, inl, inr}
 use Rattle.cc_base.specs.IntegerDomains.{IsNear}
 use Rattle.cc_base.specs.declared.limit_table.IntType.{IntType}
 use Rattle.cc_base.specs.IntegerTypes.{greatest_of}
-use Rattle.interval_domain.specs.declared.spans.Span.{Span}
 use Rattle.interval_domain.specs.declared.intervals.Interval.{Interval}
 use Rattle.interval_domain.specs.declared.intervals.Interval.TheVariants.{Bottom, Of}
 use Rattle.interval_domain.specs.Spans.{between_or_empty, by_between, interval_bounds}

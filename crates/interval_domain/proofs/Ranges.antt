@@ -1,13 +1,13 @@
 -- Facts on the ranges of types, for the code.
-use Rattle.std.proofs.Common.{◌≡◌, ℕ, ◌+◌, ◌-◌, ◌*◌, ◌^◌, ◌≤◌, ◌<◌, ℤ, pos, negsuc, ◌+ℤ◌, ◌-ℤ◌, ◌≤ℤ◌, ◌<ℤ◌, Bool, true, false, cond, ◌*ℤ◌, ◌%◌, unsigned_abs, FitsSigned, to_z, of_z, refl, arith, ap, ◌∙◌, sym, subst, ◌⊎◌, inl, inr}
+use Rattle.std.proofs.Common.{◌≡◌, ℕ, ◌+◌, ◌-◌, ◌*◌, ◌^◌, ◌≤◌, ◌<◌, ℤ, pos, negsuc, ◌-ℤ◌, ◌≤ℤ◌, ◌<ℤ◌, Bool, true, false, cond, ◌*ℤ◌, ◌%◌, unsigned_abs, FitsSigned, to_z, refl, arith, ap, ◌∙◌, sym, subst, ◌⊎◌, inl, inr}
 use Rattle.std.specs.Int.{w128, leading_zeros}
 use Rattle.std.proofs.Math.Nat.{pow-le-pow_right}
 use Rattle.std.proofs.lemmas.Bool.{cases_lt}
 use Rattle.std.proofs.lemmas.Nat.{one_shl, pow_below, mul-le, leading_length}
 use Rattle.interval_domain.specs.Arithmetic.{scaled}
-use Rattle.std.proofs.lemmas.Int.{ints, clamps, to_z_pos}
+use Rattle.std.proofs.lemmas.Int.{ints, to_z_pos}
 use lib.Signed.{le_z_yes}
-use Rattle.cc_base.specs.IntegerTypes.{is_size, modulus, least_of, greatest_of}
+use Rattle.cc_base.specs.IntegerTypes.{is_size, least_of, greatest_of}
 use Rattle.cc_base.specs.declared.limit_table.IntType.{IntType}
 use Rattle.interval_domain.specs.IntervalNumbers.{by_size}
 

@@ -1,16 +1,15 @@
 -- Intervals as a domain of integers.
-use Rattle.std.specs.Prelude.{◌≡◌, ℕ, ◌+◌, ◌-◌, ◌*◌, ◌^◌, ◌<◌, suc, ℤ, pos, negsuc, ◌+ℤ◌, ◌-ℤ◌, ◌≤ℤ◌, ◌<ℤ◌, Bool, true, false, cond, ◌==◌, ◌||◌, ◌&&◌, int_le, int_lt, bit_and, bit_or, bit_xor, Option, Some, None, List, refl, ◌⊎◌, ◌%◌}
+use Rattle.std.specs.Prelude.{◌≡◌, ℕ, ◌-◌, ◌*◌, ◌^◌, ◌<◌, ℤ, pos, negsuc, ◌+ℤ◌, ◌-ℤ◌, ◌≤ℤ◌, ◌<ℤ◌, Bool, true, false, cond, ◌&&◌, int_le, int_lt, bit_and, bit_or, bit_xor, Option, Some, None, List, refl, ◌⊎◌}
 use Rattle.std.specs.Int.{int_rem_euclid, int_min, int_max}
 use Rattle.std.specs.Ordering.{int_eq}
 use Rattle.std.specs.List.{Contains}
-use Rattle.std.proofs.Common.{arith, ap, ap₂, ◌∙◌, sym, subst, inl, inr}
+use Rattle.std.proofs.Common.{arith, ap, ◌∙◌, sym, subst, inl, inr}
 use Rattle.std.proofs.lemmas.Int.{ints, clamps}
 use Rattle.std.proofs.lemmas.Bool.{cond_both}
 use Rattle.std.proofs.lemmas.Nat.{pow_pos}
 use lib.Signed.{≤ℤ_refl}
-use Rattle.cc_base.specs.Lattices.{LatticeOf}
 use Rattle.cc_base.specs.IntegerTypes.{is_size, modulus, least_of, greatest_of, wrap_into, block_of}
-use Rattle.cc_base.specs.IntegerDomains.{IntegersOf, IsNear, BoundLaws, RangeLaws}
+use Rattle.cc_base.specs.IntegerDomains.{IntegersOf, BoundLaws, RangeLaws}
 use Rattle.cc_base.specs.declared.limit_table.IntType.{IntType}
 use Rattle.cc_base.specs.declared.integer_operators.IntOp.{IntOp}
 use Rattle.cc_base.specs.declared.integer_operators.IntOp.TheVariants.{Add, Sub, Mul, Div, Rem, And, Or, Xor, Shl, Shr}
@@ -21,12 +20,12 @@ use Rattle.cc_base.specs.declared.integer_operators.Rel.TheVariants.{Lt, Le, Gt,
 use Rattle.interval_domain.specs.declared.spans.Span.{Span}
 use Rattle.interval_domain.specs.declared.intervals.Interval.{Interval}
 use Rattle.interval_domain.specs.declared.intervals.Interval.TheVariants.{Bottom, Of}
-use Rattle.interval_domain.specs.Spans.{between_or_empty, between_some, between_none, by_between, interval_bounds, Stands}
+use Rattle.interval_domain.specs.Spans.{between_or_empty, between_some, by_between, interval_bounds, Stands}
 use Rattle.interval_domain.specs.IntervalOrder.{interval_leq, leq_stands, leq_reflexive}
 use Rattle.interval_domain.specs.IntervalRound.{interval_round, round_down, round_up, down_from, up_from, contains_from}
 use Rattle.interval_domain.specs.Nearest.{Has}
 use Rattle.interval_domain.specs.IntervalLattice.{interval_lattice}
-use Rattle.interval_domain.specs.Arithmetic.{interval_arith, interval_unary, interval_convert, arith_spans, unary_span, clamped, whole, wrapped, into, met, with_bits, bits_in, are_single, is_single, greatest_size, least_size, and_bound, or_bound, remainder, remainders_by, without_zero, towards_zero, scaled_by, counts}
+use Rattle.interval_domain.specs.Arithmetic.{interval_arith, interval_unary, interval_convert, arith_spans, clamped, whole, wrapped, into, met, with_bits, bits_in, are_single, is_single, greatest_size, least_size, and_bound, or_bound, remainder, remainders_by, without_zero, towards_zero, scaled_by}
 use Rattle.interval_domain.specs.Relations.{interval_compare, interval_refine, refined, without_end}
 
 abbrev pub interval_numbers : IntegersOf Interval

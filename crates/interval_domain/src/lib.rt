@@ -1,12 +1,17 @@
 //! Intervals of integers: the integers of the analysis.
 #![tactic(auto)]
 
+mod interval_numbers;
 mod intervals;
 mod span_arithmetic;
 mod span_bits;
 mod span_division;
+mod span_products;
 mod span_relations;
 mod spans;
+#[cfg(test)]
+mod tests;
+mod turned_numbers;
 
 pub use intervals::Interval;
 pub use spans::Span;

@@ -54,13 +54,13 @@ pub fn into(kind: IntType, lo: i128, hi: i128) -> Interval
     }
 }
 
-fn least_of_four(a: i128, b: i128, c: i128, d: i128) -> i128
+pub fn least_of_four(a: i128, b: i128, c: i128, d: i128) -> i128
     ensures { result ≡ least_of_four a b c d }
 {
     a.min(b).min(c.min(d))
 }
 
-fn greatest_of_four(a: i128, b: i128, c: i128, d: i128) -> i128
+pub fn greatest_of_four(a: i128, b: i128, c: i128, d: i128) -> i128
     ensures { result ≡ greatest_of_four a b c d }
 {
     a.max(b).max(c.max(d))

@@ -1,6 +1,6 @@
-use Rattle.std.proofs.Common.{◌≡◌, arith, ap₂, ◌∙◌, FitsSigned, to_z, of_z, ◌+ℤ◌, ◌-ℤ◌}
+use Rattle.std.proofs.Common.{arith, ap₂, ◌∙◌}
 use Rattle.std.proofs.lemmas.Int.{ints}
-use Rattle.interval_domain.specs.Arithmetic.{sums, into}
+use Rattle.interval_domain.specs.Arithmetic.{into}
 use Rattle.interval_domain.proofs.Ranges.{range_facts}
 use Rattle.interval_domain.proofs.span_arithmetic.sums.Goals as goal
 

@@ -1,7 +1,4 @@
-use Rattle.std.proofs.Common.{◌≡◌, arith, ap, ap₂, sym, ◌∙◌, rules}
-use Rattle.std.specs.Int.{w128}
-use Rattle.std.proofs.lemmas.Int.{ints, clamps, to_z-of_z}
-use Rattle.std.proofs.lemmas.Nat.{or_lt, xor_lt}
+use Rattle.std.proofs.lemmas.Nat.{xor_lt}
 use Rattle.interval_domain.proofs.span_bits.exclusives.Goals as goal
 
 pub with_bits-requires-clause-small : goal.with_bits-requires-clause-small

@@ -1,7 +1,6 @@
-use Rattle.std.proofs.Common.{◌≡◌, arith, ap, ap₂, sym, ◌∙◌, rules}
-use Rattle.std.specs.Int.{w128}
-use Rattle.std.proofs.lemmas.Int.{ints, clamps, to_z-of_z}
-use Rattle.interval_domain.proofs.Made.{is_below, is_above, are_apart, is_near, are_counts, has_ends}
+use Rattle.std.proofs.Common.{arith}
+use Rattle.std.proofs.lemmas.Int.{ints, clamps}
+use Rattle.interval_domain.proofs.Made.{is_above}
 use Rattle.interval_domain.proofs.span_division.divisors_above.Goals as goal
 
 pub returns-clause-apart : goal.returns-clause-apart

@@ -1,8 +1,6 @@
-use Rattle.std.proofs.Common.{◌≡◌, arith, ap, ap₂, sym, ◌∙◌, rules}
-use Rattle.std.specs.Int.{w128}
-use Rattle.std.proofs.lemmas.Int.{ints, clamps, to_z-of_z}
-use Rattle.interval_domain.proofs.Made.{is_below, is_above, are_apart, is_near, are_counts, are_multiplicands, has_ends}
-use Rattle.interval_domain.proofs.Ranges.{range_facts, width_small, scaled_fits, scaling, power_bits, leading_small}
+use Rattle.std.proofs.Common.{arith}
+use Rattle.std.proofs.lemmas.Int.{ints, clamps}
+use Rattle.interval_domain.proofs.Made.{are_multiplicands}
 use Rattle.interval_domain.proofs.span_division.multiplicands.Goals as goal
 
 pub returns-clause-range : goal.returns-clause-range

@@ -1,8 +1,8 @@
-use Rattle.std.proofs.Common.{◌≡◌, arith, ap, ap₂, sym, subst, ◌∙◌, rules, FitsSigned, to_z, of_z, ◌≤ℤ◌, ◌*ℤ◌, ◌*◌, ◌^◌, pos, unsigned_abs}
+use Rattle.std.proofs.Common.{◌≡◌, arith, ap₂, sym, subst, ◌∙◌, rules, FitsSigned, to_z, of_z, ◌≤ℤ◌, ◌*ℤ◌, ◌*◌, ◌^◌, pos, unsigned_abs}
 use Rattle.std.specs.Int.{w128}
-use Rattle.std.proofs.lemmas.Int.{ints, clamps, to_z-of_z}
-use Rattle.interval_domain.proofs.Ranges.{range_facts, width_small, scaled_fits, Scaling, scaling, power_bits, leading_small}
-use Rattle.interval_domain.specs.Arithmetic.{ApartFromZero, scaled}
+use Rattle.std.proofs.lemmas.Int.{ints, to_z-of_z}
+use Rattle.interval_domain.proofs.Ranges.{Scaling, scaling}
+use Rattle.interval_domain.specs.Arithmetic.{scaled}
 use Rattle.interval_domain.proofs.span_division.scaled.Goals as goal
 
 pub overflow_mul-result : goal.overflow_mul-result

@@ -1,8 +1,7 @@
-use Rattle.std.proofs.Common.{◌≡◌, arith, ap, ap₂, sym, subst, ◌∙◌, rules, FitsSigned, to_z, of_z}
+use Rattle.std.proofs.Common.{arith, to_z, of_z}
 use Rattle.std.specs.Int.{w128}
-use Rattle.std.proofs.lemmas.Int.{ints, clamps, to_z-of_z}
-use Rattle.interval_domain.proofs.Ranges.{range_facts, width_small, scaled_fits, Scaling, scaling, power_bits, leading_small}
-use Rattle.interval_domain.specs.Arithmetic.{ApartFromZero, scaled}
+use Rattle.std.proofs.lemmas.Int.{ints}
+use Rattle.interval_domain.proofs.Ranges.{scaled_fits}
 use Rattle.interval_domain.proofs.span_division.scaled_span.Goals as goal
 
 pub into-requires-clause-lo_fits : goal.into-requires-clause-lo_fits

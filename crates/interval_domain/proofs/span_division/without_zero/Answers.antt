@@ -1,9 +1,8 @@
-use Rattle.std.proofs.Common.{◌≡◌, arith, ap, ap₂, sym, subst, ◌∙◌, rules, FitsSigned, to_z, of_z}
+use Rattle.std.proofs.Common.{arith, sym, subst, rules, FitsSigned}
 use Rattle.std.specs.Int.{w128}
-use Rattle.std.proofs.lemmas.Int.{ints, clamps, to_z-of_z}
-use Rattle.interval_domain.proofs.Made.{is_below, is_above, are_apart, is_near, are_counts, are_multiplicands, has_ends}
-use Rattle.interval_domain.proofs.Ranges.{range_facts, width_small, scaled_fits, Scaling, scaling, power_bits, leading_small}
-use Rattle.interval_domain.specs.Arithmetic.{ApartFromZero, scaled}
+use Rattle.std.proofs.lemmas.Int.{ints, to_z-of_z}
+use Rattle.interval_domain.proofs.Made.{are_apart, is_near}
+use Rattle.interval_domain.specs.Arithmetic.{ApartFromZero}
 use Rattle.interval_domain.proofs.span_division.without_zero.Goals as goal
 
 pub returns-clause-ends : goal.returns-clause-ends
