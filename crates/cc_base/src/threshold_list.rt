@@ -1,5 +1,6 @@
 //! The numbers to which the bounds of abstract values are rounded.
-ghost use Rattle.std.specs.Prelude.{◌≡◌, []};
+ghost use Rattle.std.specs.Prelude.{◌≡◌, ◌≤◌, [], true, length};
+ghost use Rattle.cc_base.specs.Ascending.{is_ascending};
 
 use std::alloc::Global;
 use std::marker::Model;
@@ -29,6 +30,15 @@ impl Thresholds {
         Thresholds {
             numbers: Vec::new(alloc),
         }
+    }
+
+    /// A list of these numbers, which ascend and are at most 320.
+    pub fn from_ascending(numbers: Vec<i128>) -> Thresholds
+        requires ascending { is_ascending numbers.items ≡ true }
+        requires few { length numbers.items ≤ 320 }
+        ensures { result ≡ numbers.items }
+    {
+        Thresholds { numbers }
     }
 
     /// The numbers, ascending.
