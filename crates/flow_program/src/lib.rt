@@ -5,7 +5,9 @@
 mod basic_blocks;
 mod flow_edges;
 mod machine_instructions;
+mod number_lists;
 mod programs;
+mod threshold_numbers;
 
 pub use basic_blocks::BasicBlock;
 pub use flow_edges::{CaseTest, Edge, EdgeKind, Side, Test};

@@ -1,0 +1,2 @@
+pub mod ThresholdNumbers
+pub mod FlowNumbers
