@@ -9,7 +9,7 @@ use Rattle.std.proofs.lemmas.Cmp.{int_cmp_total, int_eq_equiv}
 use Rattle.std.proofs.lemmas.List.Filters.{dedup_is}
 use Rattle.std.proofs.lemmas.List.Kept.{IsStrictlySortedBy-dedup, Contains-dedup, Contains-from_dedup}
 use Rattle.std.proofs.lemmas.List.Sorted.{Contains-permutation, IsPermutation-sym}
-use Rattle.std.proofs.lemmas.Bool.Decides.{Decides-int_eq, when_true}
+use Rattle.std.proofs.lemmas.Bool.Decides.{Decides-int_eq}
 use Rattle.cc_base.specs.Ascending.{is_ascending}
 
 both : (a b : Bool) → a ≡ true → b ≡ true → (a && b) ≡ true
@@ -33,7 +33,7 @@ ties : (x y : ℤ) → int_eq x y ≡ eq_by_cmp int_cmp x y
 ties x y = refl
 
 same_number : (x y : ℤ) → int_eq x y ≡ true → x ≡ y
-same_number x y e = when_true (x ≡ y) (¬ (x ≡ y)) e (Decides-int_eq x y)
+same_number x y e = (Decides-int_eq x y).0 e
 
 -- what is left ascends
 pub ordered_ascends : (sorted now : List ℤ) → IsSorted int_cmp sorted → IsFiltered (DiffersFromLast int_eq) [] sorted now → is_ascending now ≡ true
