@@ -1,0 +1,7 @@
+//! Worked rows of the domains above the integers, at intervals.
+#![tactic(auto)]
+
+#[cfg(test)]
+mod pointer_rows;
+#[cfg(test)]
+mod value_rows;
