@@ -1,0 +1,5 @@
+pub mod Names
+pub mod Searching
+pub mod Causes
+pub mod Reading
+pub mod Groups

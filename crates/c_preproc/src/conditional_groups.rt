@@ -37,8 +37,12 @@ pub enum Uneven {
 }
 
 impl GroupState {
+    ghost use Rattle.c_preproc.specs.Groups.{first_state, state_behind, state_otherwise};
+
     /// The state of the first group of a section with this condition.
-    pub fn first(holds: bool) -> GroupState {
+    pub fn first(holds: bool) -> GroupState
+        ensures { result ≡ first_state holds }
+    {
         if holds {
             GroupState::Taken
         } else {
@@ -47,7 +51,9 @@ impl GroupState {
     }
 
     /// The state of a group behind a group in this state, where its condition is not asked for.
-    pub fn behind(self) -> GroupState {
+    pub fn behind(self) -> GroupState
+        ensures { result ≡ state_behind self }
+    {
         match self {
             GroupState::Taken => GroupState::Done,
             other => other,
@@ -55,7 +61,9 @@ impl GroupState {
     }
 
     /// The state of an `#else` group behind a group in this state.
-    pub fn otherwise(self) -> GroupState {
+    pub fn otherwise(self) -> GroupState
+        ensures { result ≡ state_otherwise self }
+    {
         match self {
             GroupState::Waiting => GroupState::Taken,
             other => other.behind(),

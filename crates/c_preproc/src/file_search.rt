@@ -1,72 +1,57 @@
-//! Where an included file is searched (6.10.2).
-ghost use Rattle.std.specs.Prelude.{◌≡◌, ◌≤◌, true, length, IfOk, IfSome, OnOk};
+//! Finds an included file (6.10.2).
+ghost use Rattle.std.specs.Prelude.{◌≡◌, ◌≤◌, ◌++◌, ◌∷◌, [], ℕ, Option, None, Some, true, length, map, string_bytes, option_map, slice_get, codes, IfOk, IfErr, IfSome};
+ghost use Rattle.lib_models.specs.Headers.{header_text};
 ghost use Rattle.c_layout.specs.Models.{is_model};
+ghost use Rattle.c_preproc.specs.Searching.{searched_names, built_in};
+ghost use Rattle.std.specs.Prelude.{List};
+ghost use Rattle.c_layout.specs.declared.data_model.Model.{Model};
+ghost use Rattle.c_preproc.specs.Causes.{Seen, seen_of, IsCaused, IsTooLong, Went};
+ghost use Rattle.c_preproc.specs.Reading.{found_if, ReadAnswers, SearchAnswers};
 
+use crate::file_names::FileNames;
+use crate::found_file::FoundFile;
 use c_layout::Model;
-use cc_base::{Fault, Memory, Place, Refusal, Stop, Text, Tree, TreeFault};
+use cc_base::{Fault, Place, Refusal, Stop, Tree, TreeFault};
 use lib_models::header;
 use std::alloc::Global;
 
-/// A file that was found.
-#[derive(Drop)]
-pub struct FoundFile {
-    /// Its name, as it is printed.
-    pub name: String,
-    pub bytes: Vec<u8>,
-}
-
-/// The name up to the last `/`, with it; empty where there is none.
-fn directory_of(name: &str) -> &str {
-    match name.rfind('/') {
-        None => "",
-        Some(at) => match name.split_at_checked(at + 1) {
-            None => "",
-            Some((directory, _)) => directory,
-        },
+/// The refusal of a file that is too long; its name joins the list.
+pub fn too_long(alloc: Global, files: &mut FileNames, name: &str) -> Stop
+    ensures { (seen : Seen) (dirs : List (List ℕ)) (model : Model) → IsTooLong seen name.now → IsCaused seen dirs model files.new result }
+{
+    match files.number(alloc, name) {
+        Err(_) => Stop::Memory,
+        Ok(file) => Stop::Refused(Fault {
+            place: Place {
+                file,
+                line: 1,
+                col: 1,
+            },
+            refusal: Refusal::FileTooLong {
+                count: 1_048_577,
+                limit: 1_048_576,
+            },
+        }),
     }
-}
-
-/// The index of a name in a list, which it joins at the end if it is not there.
-pub fn index_of_file(alloc: Global, files: &mut Vec<String>, name: &str) -> Result<u32, Memory> {
-    for (at, known) in files.iter().enumerate() {
-        if known.as_str() == name {
-            return u32::try_from(at).map_err(|_| Memory);
-        }
-    }
-    let at = u32::try_from(files.len()).map_err(|_| Memory)?;
-    files.push(String::from_str(alloc, name)?)?;
-    Ok(at)
-}
-
-/// The refusal of a file that is too long.
-pub fn too_long(file: u32) -> Stop {
-    Stop::Refused(Fault {
-        place: Place {
-            file,
-            line: 1,
-            col: 1,
-        },
-        refusal: Refusal::FileTooLong {
-            count: 1_048_577,
-            limit: 1_048_576,
-        },
-    })
 }
 
 /// Reads a file if it is held.
 fn read_if_held<T: Tree>(
     alloc: Global,
     tree: &mut T,
-    name: String,
-    files: &mut Vec<String>,
+    name: &str,
+    files: &mut FileNames,
 ) -> Result<Option<FoundFile>, Stop>
-    ensures { IfOk result (λ o. IfSome o (λ f. length f.bytes.items ≤ 1048576)) }
+    ensures went { Went (T.files tree.old) (T.files tree.new) (T.faults tree.old) (T.faults tree.new) (T.taken tree.old) (T.taken tree.new) }
+    ensures fits { IfOk result (λ o. IfSome o (λ f. length f.bytes.items ≤ 1048576)) }
+    ensures answer { (dirs : List (List ℕ)) (model : Model) → ReadAnswers (seen_of (T.files tree.old) (T.faults tree.old) (T.faults tree.new) (T.taken tree.old) (T.taken tree.new)) dirs name.now model files.new result }
 {
+    let text = String::from_str(alloc, name)?;
     let mut bytes = Vec::new(alloc);
-    match tree.read(alloc, name.as_str(), &mut bytes) {
-        Ok(()) => Ok(Some(FoundFile { name, bytes })),
+    match tree.read(alloc, name, &mut bytes) {
+        Ok(()) => Ok(Some(FoundFile { name: text, bytes })),
         Err(TreeFault::Missing) => Ok(None),
-        Err(TreeFault::TooLong) => Err(too_long(index_of_file(alloc, files, name.as_str())?)),
+        Err(TreeFault::TooLong) => Err(too_long(alloc, files, name)),
         Err(TreeFault::Failed) => Err(Stop::ReadFault),
         Err(TreeFault::Memory) => Err(Stop::Memory),
     }
@@ -75,7 +60,9 @@ fn read_if_held<T: Tree>(
 /// A built-in header.
 fn built_in(alloc: Global, name: &str, model: &Model) -> Result<Option<FoundFile>, Stop>
     requires { is_model model.now ≡ true }
-    ensures { IfOk result (λ o. IfSome o (λ f. length f.bytes.items ≤ 1048576)) }
+    ensures fits { IfOk result (λ o. IfSome o (λ f. length f.bytes.items ≤ 1048576)) }
+    ensures value { IfOk result (λ o. found_if o ≡ built_in name.now model.now) }
+    ensures error { IfErr result (λ s. s ≡ Stop.Memory) }
 {
     let Some(text) = header(name, model) else {
         return Ok(None);
@@ -88,31 +75,27 @@ fn built_in(alloc: Global, name: &str, model: &Model) -> Result<Option<FoundFile
     Ok(Some(FoundFile { name, bytes }))
 }
 
-/// Finds an included file: in the directory of the including file if the name stands in quotes,
-/// then in each of the directories, then among the built-in headers. None where none has it.
+/// Finds an included file: the first of some names that is held, or else the built-in header.
 pub fn search<T: Tree>(
     alloc: Global,
     tree: &mut T,
+    searched: &[String],
     name: &str,
-    includer: Option<&str>,
-    dirs: &[String],
     model: &Model,
-    files: &mut Vec<String>,
+    files: &mut FileNames,
 ) -> Result<Option<FoundFile>, Stop>
     requires { is_model model.now ≡ true }
-    ensures { IfOk result (λ o. IfSome o (λ f. length f.bytes.items ≤ 1048576)) }
+    ensures went { Went (T.files tree.old) (T.files tree.new) (T.faults tree.old) (T.faults tree.new) (T.taken tree.old) (T.taken tree.new) }
+    ensures fits { IfOk result (λ o. IfSome o (λ f. length f.bytes.items ≤ 1048576)) }
+    ensures answer { (dirs : List (List ℕ)) → SearchAnswers (seen_of (T.files tree.old) (T.faults tree.old) (T.faults tree.new) (T.taken tree.old) (T.taken tree.new)) dirs (map string_bytes searched.now) name.now model.now files.new result }
 {
-    if let Some(includer) = includer {
-        let directory = directory_of(includer);
-        let path = format!(in alloc; "{directory}{name}")?;
-        if let Some(found) = read_if_held(alloc, tree, path, files)? {
-            return Ok(Some(found));
-        }
-    }
-    for dir in dirs {
-        let path = format!(in alloc; "{dir}/{name}")?;
-        if let Some(found) = read_if_held(alloc, tree, path, files)? {
-            return Ok(Some(found));
+    for candidate in searched {
+        match read_if_held(alloc, tree, candidate.as_str(), files) {
+            Err(stop) => return Err(stop),
+            Ok(held) => match held {
+                Some(found) => return Ok(Some(found)),
+                None => {}
+            },
         }
     }
     built_in(alloc, name, model)

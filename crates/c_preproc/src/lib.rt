@@ -4,7 +4,10 @@
 
 mod conditional_groups;
 mod directive_names;
+mod file_names;
+mod file_paths;
 mod file_search;
+mod found_file;
 mod macro_definitions;
 mod open_files;
 mod preprocessing;

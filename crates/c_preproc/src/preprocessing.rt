@@ -1,9 +1,16 @@
 //! Reads a unit: text lines and directives, file by file.
-ghost use Rattle.std.specs.Prelude.{◌≡◌, ◌≤◌, ◌^◌, true, length, [], IfOk, IfSome};
+ghost use Rattle.std.specs.Prelude.{◌≡◌, ◌≤◌, ◌^◌, true, length, map, string_bytes, [], IfOk, IfErr};
 ghost use Rattle.c_layout.specs.Models.{is_model};
+ghost use Rattle.c_preproc.specs.Names.{is_distinct};
+ghost use Rattle.std.specs.Prelude.{ℕ, List, option_map};
+ghost use Rattle.c_layout.specs.declared.data_model.Model.{Model};
+ghost use Rattle.c_preproc.specs.Causes.{Seen, IsMissing, seen_of, IsCaused, IsCausedFrom, IsOwn, Went};
 
 use crate::directive_names::{Directive, directive_named};
-use crate::file_search::{FoundFile, index_of_file, search, too_long};
+use crate::file_names::FileNames;
+use crate::file_paths::candidates;
+use crate::file_search::{search, too_long};
+use crate::found_file::FoundFile;
 use crate::open_files::{OpenFile, begins_directive};
 use crate::preprocessor_state::{State, end_if, refused, turn_else};
 use c_layout::{Model, Unit7};
@@ -21,8 +28,12 @@ const MOST_INCLUSIONS: u32 = 1024;
 /// Opens a file whose bytes are known.
 fn opened(alloc: Global, state: &mut State, file: u32, bytes: &[u8]) -> Result<OpenFile, Stop>
     requires { length bytes.now ≤ 2 ^ 20 }
+    ensures { IfErr result IsOwn }
 {
-    let tokens = lex(alloc, file, bytes)?;
+    let tokens = match lex(alloc, file, bytes) {
+        Ok(tokens) => tokens,
+        Err(stop) => return Err(stop),
+    };
     let open = OpenFile::new(alloc, &mut state.spellings, file, tokens.as_slice())?;
     Ok(open)
 }
@@ -44,7 +55,7 @@ fn include<T: Tree>(
     tree: &mut T,
     dirs: &[String],
     model: &Model,
-    files: &mut Vec<String>,
+    files: &mut FileNames,
     state: &mut State,
     top: u32,
     depth: usize,
@@ -52,6 +63,8 @@ fn include<T: Tree>(
     line: &[Lexeme],
 ) -> Result<Option<OpenFile>, Stop>
     requires { is_model model.now ≡ true }
+    ensures went { Went (T.files tree.old) (T.files tree.new) (T.faults tree.old) (T.faults tree.new) (T.taken tree.old) (T.taken tree.new) }
+    ensures cause { IfErr result (IsCaused (seen_of (T.files tree.old) (T.faults tree.old) (T.faults tree.new) (T.taken tree.old) (T.taken tree.new)) (map string_bytes dirs.now) model.now files.new) }
 {
     let [Lexeme::Other(Kind::HeaderName, text, _)] = line else {
         return Err(refused(place, Refusal::BadDirective));
@@ -64,68 +77,50 @@ fn include<T: Tree>(
         return Err(refused(place, Refusal::BadDirective));
     };
     let name = String::from_str(alloc, name)?;
-    let includer = includer_of(alloc, files.as_slice(), top, quoted)?;
-    match find(alloc, tree, name.as_str(), &includer, dirs, model, files)? {
-        None => {
-            let missing = Text::from_bytes(alloc, name.as_bytes())?;
-            Err(refused(place, Refusal::HeaderMissing(missing)))
-        }
-        Some(found) => enter(alloc, files, state, found),
+    let includer = includer_of(files, top, quoted);
+    let searched = candidates(alloc, includer, dirs, name.as_str())?;
+    match search(
+        alloc,
+        tree,
+        searched.as_slice(),
+        name.as_str(),
+        model,
+        files,
+    ) {
+        Err(stop) => Err(stop),
+        Ok(held) => match held {
+            None => Err(missing(alloc, name.as_str(), place)),
+            Some(found) => enter(alloc, files, state, found),
+        },
+    }
+}
+
+/// The refusal of a header that no file and no built-in header is.
+fn missing(alloc: Global, name: &str, place: Place) -> Stop
+    ensures { (seen : Seen) (dirs : List (List ℕ)) (model : Model) (names : List (List ℕ)) → IsMissing seen dirs model name.now → IsCaused seen dirs model names result }
+{
+    match Text::from_bytes(alloc, name.as_bytes()) {
+        Ok(text) => refused(place, Refusal::HeaderMissing(text)),
+        Err(_) => Stop::Memory,
     }
 }
 
 /// The name of the including file, where its directory is searched.
-fn includer_of(
-    alloc: Global,
-    files: &[String],
-    top: u32,
-    quoted: bool,
-) -> Result<Option<String>, Stop> {
-    if !quoted {
-        return Ok(None);
-    }
-    match files.get(top as usize) {
-        None => Ok(None),
-        Some(name) => Ok(Some(String::from_str(alloc, name.as_str())?)),
-    }
-}
-
-fn find<T: Tree>(
-    alloc: Global,
-    tree: &mut T,
-    name: &str,
-    includer: &Option<String>,
-    dirs: &[String],
-    model: &Model,
-    files: &mut Vec<String>,
-) -> Result<Option<FoundFile>, Stop>
-    requires { is_model model.now ≡ true }
-    ensures { IfOk result (λ o. IfSome o (λ f. length f.bytes.items ≤ 1048576)) }
-{
-    match includer {
-        None => search(alloc, tree, name, None, dirs, model, files),
-        Some(includer) => search(
-            alloc,
-            tree,
-            name,
-            Some(includer.as_str()),
-            dirs,
-            model,
-            files,
-        ),
-    }
+fn includer_of(files: &FileNames, top: u32, quoted: bool) -> Option<&str> {
+    if quoted { files.name(top) } else { None }
 }
 
 /// Opens a file that was found, unless it has `#pragma once`.
 fn enter(
     alloc: Global,
-    files: &mut Vec<String>,
+    files: &mut FileNames,
     state: &mut State,
     found: FoundFile,
 ) -> Result<Option<OpenFile>, Stop>
     requires { length found.bytes.items ≤ 1048576 }
+    ensures { IfErr result IsOwn }
 {
-    let file = index_of_file(alloc, files, found.name.as_str())?;
+    let file = files.number(alloc, found.name.as_str())?;
     if state.is_once(file) {
         return Ok(None);
     }
@@ -142,7 +137,9 @@ fn conditional(
     directive: Directive,
     place: Place,
     line: &[Lexeme],
-) -> Result<bool, Stop> {
+) -> Result<bool, Stop>
+    ensures { IfErr result IsOwn }
+{
     match directive {
         Directive::If => state.begin_if(alloc, model.char_signed, top, place, line)?,
         Directive::Ifdef => state.begin_ifdef(top, true, place, line)?,
@@ -171,7 +168,7 @@ fn directive<T: Tree>(
     tree: &mut T,
     dirs: &[String],
     model: &Model,
-    files: &mut Vec<String>,
+    files: &mut FileNames,
     state: &mut State,
     top: &mut OpenFile,
     depth: usize,
@@ -179,6 +176,8 @@ fn directive<T: Tree>(
     behind: &[Lexeme],
 ) -> Result<Option<OpenFile>, Stop>
     requires { is_model model.now ≡ true }
+    ensures went { Went (T.files tree.old) (T.files tree.new) (T.faults tree.old) (T.faults tree.new) (T.taken tree.old) (T.taken tree.new) }
+    ensures cause { IfErr result (IsCaused (seen_of (T.files tree.old) (T.faults tree.old) (T.faults tree.new) (T.taken tree.old) (T.taken tree.new)) (map string_bytes dirs.now) model.now files.new) }
 {
     let (directive, line) = directive_of(state, behind);
     if conditional(alloc, model, state, top, directive, place, line)?
@@ -214,7 +213,9 @@ fn directive_place(state: &State, next: Option<Lexeme>) -> Option<Place> {
 }
 
 /// Reads the text lines up to the next directive.
-fn text_lines(alloc: Global, state: &mut State, top: &mut OpenFile) -> Result<(), Stop> {
+fn text_lines(alloc: Global, state: &mut State, top: &mut OpenFile) -> Result<(), Stop>
+    ensures { IfErr result IsOwn }
+{
     let mut list = Vec::new(alloc);
     list.extend_from_slice(top.text(&state.spellings))?;
     top.skip(list.len());
@@ -226,7 +227,9 @@ fn text_lines(alloc: Global, state: &mut State, top: &mut OpenFile) -> Result<()
 }
 
 /// Reads a directive's line.
-fn directive_line(alloc: Global, top: &mut OpenFile) -> Result<Vec<Lexeme>, Stop> {
+fn directive_line(alloc: Global, top: &mut OpenFile) -> Result<Vec<Lexeme>, Stop>
+    ensures { IfErr result IsOwn }
+{
     let mut line = Vec::new(alloc);
     line.extend_from_slice(top.line())?;
     top.skip(line.len());
@@ -250,12 +253,14 @@ fn read_step<T: Tree>(
     tree: &mut T,
     dirs: &[String],
     model: &Model,
-    files: &mut Vec<String>,
+    files: &mut FileNames,
     state: &mut State,
     top: &mut OpenFile,
     depth: usize,
 ) -> Result<Step, Stop>
     requires { is_model model.now ≡ true }
+    ensures went { Went (T.files tree.old) (T.files tree.new) (T.faults tree.old) (T.faults tree.new) (T.taken tree.old) (T.taken tree.new) }
+    ensures cause { IfErr result (IsCaused (seen_of (T.files tree.old) (T.faults tree.old) (T.faults tree.new) (T.taken tree.old) (T.taken tree.new)) (map string_bytes dirs.now) model.now files.new) }
 {
     let next = top.next();
     if next.is_none() {
@@ -286,30 +291,81 @@ fn read_all<T: Tree>(
     tree: &mut T,
     dirs: &[String],
     model: &Model,
-    files: &mut Vec<String>,
+    files: &mut FileNames,
     state: &mut State,
     main: OpenFile,
 ) -> Result<(), Stop>
     requires { is_model model.now ≡ true }
+    ensures went { Went (T.files tree.old) (T.files tree.new) (T.faults tree.old) (T.faults tree.new) (T.taken tree.old) (T.taken tree.new) }
+    ensures cause { IfErr result (IsCaused (seen_of (T.files tree.old) (T.faults tree.old) (T.faults tree.new) (T.taken tree.old) (T.taken tree.new)) (map string_bytes dirs.now) model.now files.new) }
 {
     let mut stack = Vec::new(alloc);
     stack.push(main)?;
     // Each step takes a token of a file or ends one, of which there are at most so many.
-    for _ in 0..1_048_577u64 * 1_025 {
+    'steps: for _ in 0..1_048_577u64 * 1_025 {
         let Some(mut top) = stack.pop() else {
             return Ok(());
         };
         let depth = stack.len() + 1;
-        match read_step(alloc, tree, dirs, model, files, state, &mut top, depth)? {
-            Step::Ended => {}
-            Step::GoesOn => stack.push(top)?,
-            Step::Includes(open) => {
+        match read_step(alloc, tree, dirs, model, files, state, &mut top, depth) {
+            Err(stop) => return Err(stop),
+            Ok(Step::Ended) => {}
+            Ok(Step::GoesOn) => stack.push(top)?,
+            Ok(Step::Includes(open)) => {
                 stack.push(top)?;
                 stack.push(open)?;
             }
         }
     }
     Err(Stop::Memory)
+}
+
+/// Reads a unit whose main file is at hand.
+fn unit_of<T: Tree>(
+    alloc: Global,
+    tree: &mut T,
+    main: &str,
+    bytes: &[u8],
+    dirs: &[String],
+    model: &Model,
+    files: &mut FileNames,
+) -> Result<Unit7, Stop>
+    requires model { is_model model.now ≡ true }
+    requires size { length bytes.now ≤ 2 ^ 20 }
+    ensures went { Went (T.files tree.old) (T.files tree.new) (T.faults tree.old) (T.faults tree.new) (T.taken tree.old) (T.taken tree.new) }
+    ensures cause { IfErr result (IsCaused (seen_of (T.files tree.old) (T.faults tree.old) (T.faults tree.new) (T.taken tree.old) (T.taken tree.new)) (map string_bytes dirs.now) model.now files.new) }
+{
+    let file = files.number(alloc, main)?;
+    let mut state = State::new(alloc)?;
+    let open = opened(alloc, &mut state, file, bytes)?;
+    read_all(alloc, tree, dirs, model, files, &mut state, open)?;
+    Ok(Unit7 {
+        tokens: state.out,
+        model: *model,
+    })
+}
+
+/// Reads a unit from its main file on.
+fn unit_from<T: Tree>(
+    alloc: Global,
+    tree: &mut T,
+    main: &str,
+    dirs: &[String],
+    model: &Model,
+    files: &mut FileNames,
+) -> Result<Unit7, Stop>
+    requires { is_model model.now ≡ true }
+    ensures went { Went (T.files tree.old) (T.files tree.new) (T.faults tree.old) (T.faults tree.new) (T.taken tree.old) (T.taken tree.new) }
+    ensures cause { IfErr result (IsCausedFrom main.now (seen_of (T.files tree.old) (T.faults tree.old) (T.faults tree.new) (T.taken tree.old) (T.taken tree.new)) (map string_bytes dirs.now) model.now files.new) }
+{
+    let mut bytes = Vec::new(alloc);
+    match tree.read(alloc, main, &mut bytes) {
+        Ok(()) => unit_of(alloc, tree, main, bytes.as_slice(), dirs, model, files),
+        Err(TreeFault::Missing) => Err(Stop::NotHeld),
+        Err(TreeFault::TooLong) => Err(too_long(alloc, files, main)),
+        Err(TreeFault::Failed) => Err(Stop::ReadFault),
+        Err(TreeFault::Memory) => Err(Stop::Memory),
+    }
 }
 
 /// The tokens of a unit after translation phase 4, whose main file is handed in under the name
@@ -331,15 +387,14 @@ pub fn expand_bytes<T: Tree>(
     requires model { is_model model.now ≡ true }
     requires size { length bytes.now ≤ 2 ^ 20 }
     requires empty { files.old.items ≡ [] }
+    ensures went { Went (T.files tree.old) (T.files tree.new) (T.faults tree.old) (T.faults tree.new) (T.taken tree.old) (T.taken tree.new) }
+    ensures cause { IfErr result (IsCaused (seen_of (T.files tree.old) (T.faults tree.old) (T.faults tree.new) (T.taken tree.old) (T.taken tree.new)) (map string_bytes dirs.now) model.now (map string_bytes files.new.items)) }
+    ensures distinct { is_distinct (map string_bytes files.new.items) ≡ true }
 {
-    let file = index_of_file(alloc, files, main)?;
-    let mut state = State::new(alloc)?;
-    let open = opened(alloc, &mut state, file, bytes)?;
-    read_all(alloc, tree, dirs, model, files, &mut state, open)?;
-    Ok(Unit7 {
-        tokens: state.out,
-        model: *model,
-    })
+    let mut names = FileNames::new(alloc);
+    let answer = unit_of(alloc, tree, main, bytes, dirs, model, &mut names);
+    *files = names.into_names();
+    answer
 }
 
 /// The tokens of a unit after translation phase 4, from its main file on. `#include "n"` tries the
@@ -361,13 +416,12 @@ pub fn expand<T: Tree>(
 ) -> Result<Unit7, Stop>
     requires model { is_model model.now ≡ true }
     requires empty { files.old.items ≡ [] }
+    ensures went { Went (T.files tree.old) (T.files tree.new) (T.faults tree.old) (T.faults tree.new) (T.taken tree.old) (T.taken tree.new) }
+    ensures cause { IfErr result (IsCausedFrom main.now (seen_of (T.files tree.old) (T.faults tree.old) (T.faults tree.new) (T.taken tree.old) (T.taken tree.new)) (map string_bytes dirs.now) model.now (map string_bytes files.new.items)) }
+    ensures distinct { is_distinct (map string_bytes files.new.items) ≡ true }
 {
-    let mut bytes = Vec::new(alloc);
-    match tree.read(alloc, main, &mut bytes) {
-        Ok(()) => expand_bytes(alloc, tree, main, bytes.as_slice(), dirs, model, files),
-        Err(TreeFault::Missing) => Err(Stop::NotHeld),
-        Err(TreeFault::TooLong) => Err(too_long(index_of_file(alloc, files, main)?)),
-        Err(TreeFault::Failed) => Err(Stop::ReadFault),
-        Err(TreeFault::Memory) => Err(Stop::Memory),
-    }
+    let mut names = FileNames::new(alloc);
+    let answer = unit_from(alloc, tree, main, dirs, model, &mut names);
+    *files = names.into_names();
+    answer
 }

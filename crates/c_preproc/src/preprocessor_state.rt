@@ -1,5 +1,7 @@
 //! What is known while a unit is preprocessed, and what its directives do to it.
-ghost use Rattle.std.specs.Prelude.{◌≡◌};
+ghost use Rattle.std.specs.Prelude.{◌≡◌, IfErr};
+ghost use Rattle.c_tokens.specs.Cutting.{fault_of};
+ghost use Rattle.c_preproc.specs.Causes.{IsOwn, IsOwnRefusal};
 
 use crate::conditional_groups::{GroupState, Uneven};
 use crate::macro_definitions::{DefinitionFault, definition, may_be_defined, same_definition};
@@ -30,12 +32,17 @@ pub struct State {
 }
 
 /// A refusal at a place.
-pub fn refused(place: Place, refusal: Refusal) -> Stop {
+pub fn refused(place: Place, refusal: Refusal) -> Stop
+    ensures { result ≡ Stop.Refused (fault_of place refusal) }
+{
     Stop::Refused(Fault { place, refusal })
 }
 
 /// The refusal of a call of a macro; a call that is not closed is refused as `unclosed`.
-fn trouble(fault: Refused, unclosed: Fault) -> Stop {
+fn trouble(fault: Refused, unclosed: Fault) -> Stop
+    requires { IsOwnRefusal unclosed.refusal }
+    ensures { IsOwn result }
+{
     match fault.trouble {
         Trouble::Spill => refused(fault.place, Refusal::MacroSpill),
         Trouble::Arguments => refused(fault.place, Refusal::MacroArguments),
@@ -52,7 +59,9 @@ fn trouble(fault: Refused, unclosed: Fault) -> Stop {
 
 /// What refuses a call that is not closed in its list: the directive behind the list, if there is
 /// one, or else the call itself.
-fn unclosed_by(directive: Option<Place>, call: Place) -> Fault {
+fn unclosed_by(directive: Option<Place>, call: Place) -> Fault
+    ensures { IsOwnRefusal result.refusal }
+{
     match directive {
         Some(place) => Fault {
             place,
@@ -65,7 +74,9 @@ fn unclosed_by(directive: Option<Place>, call: Place) -> Fault {
     }
 }
 
-fn uneven(place: Place, fault: Uneven) -> Stop {
+fn uneven(place: Place, fault: Uneven) -> Stop
+    ensures { IsOwn result }
+{
     match fault {
         Uneven::Misplaced => refused(place, Refusal::UnevenConditional),
         Uneven::Trailing => refused(place, Refusal::BadDirective),
@@ -74,7 +85,9 @@ fn uneven(place: Place, fault: Uneven) -> Stop {
 
 impl State {
     /// At the start of a unit, where `__STDC__` alone is defined, as 1.
-    pub fn new(alloc: Global) -> Result<State, Stop> {
+    pub fn new(alloc: Global) -> Result<State, Stop>
+        ensures { IfErr result IsOwn }
+    {
         let mut spellings = Spellings::new(alloc);
         let mut macros = Macros::new(alloc);
         let name = spellings.number(alloc, b"__STDC__")?;
@@ -113,7 +126,9 @@ impl State {
         alloc: Global,
         list: &[Lexeme],
         directive: Option<Place>,
-    ) -> Result<(), Stop> {
+    ) -> Result<(), Stop>
+        ensures { IfErr result IsOwn }
+    {
         match expand_list(alloc, &self.macros, self.used, list) {
             Ok(expansion) => self.append(alloc, expansion),
             Err(Failure::Refused(fault)) => {
@@ -124,7 +139,9 @@ impl State {
     }
 
     /// Adds the tokens of an expanded list to the unit's.
-    fn append(&mut self, alloc: Global, expansion: Expansion) -> Result<(), Stop> {
+    fn append(&mut self, alloc: Global, expansion: Expansion) -> Result<(), Stop>
+        ensures { IfErr result IsOwn }
+    {
         self.used = expansion.used;
         for x in &expansion.words {
             if self.out.as_slice().len() >= TOKEN_LIMIT {
@@ -149,7 +166,9 @@ impl State {
         char_signed: bool,
         place: Place,
         line: &[Lexeme],
-    ) -> Result<bool, Stop> {
+    ) -> Result<bool, Stop>
+        ensures { IfErr result IsOwn }
+    {
         let named = replace_defined(alloc, &mut self.spellings, &self.macros, line);
         let named = match named {
             Ok(list) => list,
@@ -181,7 +200,9 @@ impl State {
         top: &mut OpenFile,
         place: Place,
         line: &[Lexeme],
-    ) -> Result<(), Stop> {
+    ) -> Result<(), Stop>
+        ensures { IfErr result IsOwn }
+    {
         let state = if top.sections.is_skipping() {
             GroupState::Outside
         } else {
@@ -198,7 +219,9 @@ impl State {
         wanted: bool,
         place: Place,
         line: &[Lexeme],
-    ) -> Result<(), Stop> {
+    ) -> Result<(), Stop>
+        ensures { IfErr result IsOwn }
+    {
         let state = if top.sections.is_skipping() {
             GroupState::Outside
         } else {
@@ -219,7 +242,9 @@ impl State {
         top: &mut OpenFile,
         place: Place,
         line: &[Lexeme],
-    ) -> Result<(), Stop> {
+    ) -> Result<(), Stop>
+        ensures { IfErr result IsOwn }
+    {
         let Some(before) = top.sections.before_elif() else {
             return Err(refused(place, Refusal::UnevenConditional));
         };
@@ -233,7 +258,9 @@ impl State {
     }
 
     /// `#define`
-    pub fn define(&mut self, alloc: Global, place: Place, line: &[Lexeme]) -> Result<(), Stop> {
+    pub fn define(&mut self, alloc: Global, place: Place, line: &[Lexeme]) -> Result<(), Stop>
+        ensures { IfErr result IsOwn }
+    {
         let [Lexeme::Name(name, _), rest @ ..] = line else {
             return Err(refused(place, Refusal::BadDirective));
         };
@@ -260,7 +287,9 @@ impl State {
     }
 
     /// `#undef`
-    pub fn undefine(&mut self, place: Place, line: &[Lexeme]) -> Result<(), Stop> {
+    pub fn undefine(&mut self, place: Place, line: &[Lexeme]) -> Result<(), Stop>
+        ensures { IfErr result IsOwn }
+    {
         let [Lexeme::Name(name, _)] = line else {
             return Err(refused(place, Refusal::BadDirective));
         };
@@ -272,7 +301,9 @@ impl State {
     }
 
     /// `#pragma`: `once` is obeyed, all others are skipped.
-    pub fn pragma(&mut self, file: u32, line: &[Lexeme]) -> Result<(), Stop> {
+    pub fn pragma(&mut self, file: u32, line: &[Lexeme]) -> Result<(), Stop>
+        ensures { IfErr result IsOwn }
+    {
         let [Lexeme::Name(name, _)] = line else {
             return Ok(());
         };
@@ -288,7 +319,9 @@ impl State {
     }
 }
 
-fn condition_fault(place: Place, fault: ConditionFault) -> Stop {
+fn condition_fault(place: Place, fault: ConditionFault) -> Stop
+    ensures { IsOwn result }
+{
     match fault {
         ConditionFault::NumberForm(at) => refused(at, Refusal::NumberForm),
         ConditionFault::Malformed => refused(place, Refusal::BadDirective),
@@ -297,7 +330,9 @@ fn condition_fault(place: Place, fault: ConditionFault) -> Stop {
 }
 
 /// `#else`
-pub fn turn_else(top: &mut OpenFile, place: Place, line: &[Lexeme]) -> Result<(), Stop> {
+pub fn turn_else(top: &mut OpenFile, place: Place, line: &[Lexeme]) -> Result<(), Stop>
+    ensures { IfErr result IsOwn }
+{
     match top.sections.turn_else(!line.is_empty()) {
         None => Ok(()),
         Some(fault) => Err(uneven(place, fault)),
@@ -305,7 +340,9 @@ pub fn turn_else(top: &mut OpenFile, place: Place, line: &[Lexeme]) -> Result<()
 }
 
 /// `#endif`
-pub fn end_if(top: &mut OpenFile, place: Place, line: &[Lexeme]) -> Result<(), Stop> {
+pub fn end_if(top: &mut OpenFile, place: Place, line: &[Lexeme]) -> Result<(), Stop>
+    ensures { IfErr result IsOwn }
+{
     match top.sections.leave(!line.is_empty()) {
         None => Ok(()),
         Some(fault) => Err(uneven(place, fault)),

@@ -1,0 +1,14 @@
+use Rattle.std.proofs.Common.{[], refl, arith, string_bytes}
+use Rattle.c_preproc.proofs.Searches.{found_here, missed_here, caused_earlier}
+use Rattle.c_preproc.proofs.file_search.search.Goals as goal
+
+pub returns-in-Err-clause-answer : goal.returns-in-Err-clause-answer
+returns-in-Err-clause-answer g c = λ dirs. caused_earlier _ _ (g.T.Tree.files c.read_if_held.new.tree) _ _ _ _ _ _ dirs c.args.model.now _ c.in-Err.stop c.loop-candidate.invariant.went (c.in-Err.ensures.answer dirs c.args.model.now)
+
+pub returns-in-Some-clause-answer : goal.returns-in-Some-clause-answer
+returns-in-Some-clause-answer g c = λ dirs. found_here string_bytes _ _ (g.T.Tree.files c.read_if_held.new.tree) _ _ _ _ _ _ dirs c.read_if_held.new.files _ c.loop-candidate.candidate-index c.candidate-item.result _ c.args.name.now c.args.model.now c.in-Ok.held c.in-Some.found
+    c.loop-candidate.invariant (omega arith) c.candidate-item.is c.as_str.ensures.value c.in-Ok.ensures.went (c.in-Ok.ensures.answer dirs c.args.model.now) c.in-Some.is
+
+pub loop-candidate-preserved : goal.loop-candidate-preserved
+loop-candidate-preserved g c = missed_here string_bytes _ _ (g.T.Tree.files c.read_if_held.new.tree) _ _ _ _ _ _ [] c.read_if_held.new.files _ c.loop-candidate.candidate-index c.candidate-item.result _ c.args.model.now c.in-Ok.held
+    c.loop-candidate.invariant (omega arith) c.candidate-item.is c.as_str.ensures.value c.in-Ok.ensures.went (c.in-Ok.ensures.answer [] c.args.model.now) c.in-None.is

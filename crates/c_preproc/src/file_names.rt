@@ -1,0 +1,103 @@
+//! The names of the files that were met.
+ghost use Rattle.std.specs.Prelude.{◌≡◌, ◌≤◌, ◌<◌, ◌++◌, ◌∷◌, [], ℕ, List, true, map, length, string_bytes, slice_get, Some, option_map, IfOk, OnErr, MatchOption, false};
+ghost use Rattle.c_preproc.specs.Names.{is_among, is_distinct};
+
+use cc_base::Memory;
+use std::alloc::Global;
+use std::marker::Model;
+
+/// Names without repeats, in order of first inclusion.
+#[derive(Drop)]
+pub struct FileNames {
+    names: Vec<String>,
+}
+
+impl Model for FileNames {
+    ghost use Rattle.std.specs.Prelude.{◌≡◌, ℕ, List, true, map, string_bytes};
+    ghost use Rattle.c_preproc.specs.Names.{is_distinct};
+
+    ghost Value = { List (List ℕ) };
+
+    ghost view = { λ f. map string_bytes f.names.items };
+
+    ghost invariant = { λ f. is_distinct (map string_bytes f.names.items) ≡ true };
+}
+
+/// Whether a name is in a list, and where.
+fn position_of(names: &[String], name: &str) -> Option<usize>
+    ensures found { MatchOption result (is_among name.now (map string_bytes names.now) ≡ false) (λ k. slice_get (map string_bytes names.now) k ≡ Some name.now) }
+{
+    for (at, known) in names.iter().enumerate() {
+        if known.as_str() == name {
+            return Some(at);
+        }
+    }
+    None
+}
+
+/// A position as an index.
+fn index_of(at: usize) -> Result<u32, Memory>
+    ensures { IfOk result (λ k. k ≡ at) }
+{
+    match u32::try_from(at) {
+        Ok(index) => Ok(index),
+        Err(_) => Err(Memory),
+    }
+}
+
+impl FileNames {
+    /// No name.
+    pub fn new(alloc: Global) -> FileNames
+        ensures { result ≡ [] }
+    {
+        FileNames {
+            names: Vec::new(alloc),
+        }
+    }
+
+    /// How many names there are.
+    pub fn len(&self) -> usize
+        ensures { result ≡ length self.now }
+    {
+        self.names.len()
+    }
+
+    /// The name of a file.
+    pub fn name(&self, file: u32) -> Option<&str>
+        ensures { option_map (λ s. s.now) result ≡ slice_get self.now file }
+    {
+        match self.names.get(file as usize) {
+            None => None,
+            Some(name) => Some(name.as_str()),
+        }
+    }
+
+    /// The index of a name, which joins the list at the end if it is not there.
+    pub fn number(&mut self, alloc: Global, name: &str) -> Result<u32, Memory>
+        ensures { IfOk result (λ k. slice_get self.new k ≡ Some name.now) }
+    {
+        match position_of(self.names.as_slice(), name) {
+            Some(at) => index_of(at),
+            None => self.add(alloc, name),
+        }
+    }
+
+    /// Adds a name that is not there.
+    fn add(&mut self, alloc: Global, name: &str) -> Result<u32, Memory>
+        requires { is_among name.now self.old ≡ false }
+        ensures { IfOk result (λ k. slice_get self.new k ≡ Some name.now) }
+    {
+        let at = index_of(self.names.len())?;
+        let name = String::from_str(alloc, name)?;
+        self.names.push(name)?;
+        Ok(at)
+    }
+
+    /// The names.
+    pub fn into_names(self) -> Vec<String>
+        ensures names { map string_bytes result.items ≡ self }
+        ensures distinct { is_distinct (map string_bytes result.items) ≡ true }
+    {
+        self.names
+    }
+}
