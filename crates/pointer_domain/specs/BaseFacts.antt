@@ -1,0 +1,71 @@
+-- Sets of bases as sets: what each operation has.
+use Rattle.std.specs.Prelude.{◌≡◌, ℕ, ◌/◌, ◌%◌, ◌^◌, ◌<◌, Bool, true, false, cond, ◌&&◌, ◌||◌, ◌==◌, bit_or, max, refl, ◌⊎◌}
+use Rattle.std.specs.Int.{bit_at}
+use Rattle.std.proofs.Common.{arith, ap, ◌∙◌, sym, subst, inl, inr}
+use Rattle.std.proofs.lemmas.Bool.{cond_both, cases_Bool, and_parts, eqb-true, eq-eqb}
+use Rattle.std.proofs.lemmas.Nat.Bits.{bit_at_or, bit_at-lt}
+use Rattle.pointer_domain.specs.declared.base_sets.Bases.{Bases}
+use Rattle.pointer_domain.specs.BaseSets.{word_of, bases_has, bases_union, bases_within, word_within}
+
+-- a word of a union is the union of the words
+pub word_of_union : (s t : Bases) (i : ℕ) → word_of (bases_union s t) i ≡ bit_or (word_of s i) (word_of t i)
+word_of_union s t i = elim (cases_Bool (i == 0)) [
+  | inl e ↦ grind arith
+  | inr a ↦ elim (cases_Bool (i == 1)) [
+    | inl e ↦ grind arith
+    | inr b ↦ elim (cases_Bool (i == 2)) [
+      | inl e ↦ grind arith
+      | inr c ↦ elim (cases_Bool (i == 3)) [
+        | inl e ↦ grind arith
+        | inr d ↦ elim (cases_Bool (i == 4)) [
+          | inl e ↦ grind arith
+          | inr f ↦ elim (cases_Bool (i == 5)) [
+            | inl e ↦ grind arith
+            | inr g ↦ elim (cases_Bool (i == 6)) [ inl e ↦ grind arith | inr h ↦ grind arith ]
+          ]
+        ]
+      ]
+    ]
+  ]
+]
+
+bit_is : (a b : ℕ) → a < 2 → b < 2 → (max a b == 1) ≡ ((a == 1) || (b == 1))
+bit_is a b h k = grind arith
+
+-- a union has the bases of both
+pub union_has : (s t : Bases) (n : ℕ) → bases_has (bases_union s t) n ≡ (bases_has s n || bases_has t n)
+union_has s t n =
+    let i = n / 128 in
+    let k = n % 128 in
+    let e : bit_at (word_of (bases_union s t) i) k ≡ max (bit_at (word_of s i) k) (bit_at (word_of t i) k) = ap (λ w. bit_at w k) (word_of_union s t i) ∙ bit_at_or (word_of s i) (word_of t i) k in
+    ap (λ b. b == 1) e ∙ bit_is _ _ (bit_at-lt (word_of s i) k) (bit_at-lt (word_of t i) k)
+
+within_is : (a b : ℕ) → word_within a b ≡ true → bit_or a b ≡ b
+within_is a b h = eqb-true (bit_or a b) b h
+
+-- a set within another adds nothing to it
+pub union_within : (s t : Bases) → bases_within s t ≡ true → bases_union s t ≡ t
+union_within s t h =
+    let a = and_parts (word_within s.word0 t.word0) (word_within s.word1 t.word1 && (word_within s.word2 t.word2 && (word_within s.word3 t.word3 && (word_within s.word4 t.word4 && (word_within s.word5 t.word5 && (word_within s.word6 t.word6 && word_within s.word7 t.word7)))))) h in
+    let b = and_parts (word_within s.word1 t.word1) (word_within s.word2 t.word2 && (word_within s.word3 t.word3 && (word_within s.word4 t.word4 && (word_within s.word5 t.word5 && (word_within s.word6 t.word6 && word_within s.word7 t.word7))))) a.1 in
+    let c = and_parts (word_within s.word2 t.word2) (word_within s.word3 t.word3 && (word_within s.word4 t.word4 && (word_within s.word5 t.word5 && (word_within s.word6 t.word6 && word_within s.word7 t.word7)))) b.1 in
+    let d = and_parts (word_within s.word3 t.word3) (word_within s.word4 t.word4 && (word_within s.word5 t.word5 && (word_within s.word6 t.word6 && word_within s.word7 t.word7))) c.1 in
+    let e = and_parts (word_within s.word4 t.word4) (word_within s.word5 t.word5 && (word_within s.word6 t.word6 && word_within s.word7 t.word7)) d.1 in
+    let f = and_parts (word_within s.word5 t.word5) (word_within s.word6 t.word6 && word_within s.word7 t.word7) e.1 in
+    let g = and_parts (word_within s.word6 t.word6) (word_within s.word7 t.word7) f.1 in
+    let p0 = within_is s.word0 t.word0 a.0 in
+    let p1 = within_is s.word1 t.word1 b.0 in
+    let p2 = within_is s.word2 t.word2 c.0 in
+    let p3 = within_is s.word3 t.word3 d.0 in
+    let p4 = within_is s.word4 t.word4 e.0 in
+    let p5 = within_is s.word5 t.word5 f.0 in
+    let p6 = within_is s.word6 t.word6 g.0 in
+    let p7 = within_is s.word7 t.word7 g.1 in
+    λ i. record { word0 = p0 i; word1 = p1 i; word2 = p2 i; word3 = p3 i; word4 = p4 i; word5 = p5 i; word6 = p6 i; word7 = p7 i }
+
+or_true : (a b : Bool) → a ≡ true → (a || b) ≡ true
+or_true a b h = grind arith
+
+-- what is in a set is in each set that it is within
+pub within_has : (s t : Bases) (n : ℕ) → bases_within s t ≡ true → bases_has s n ≡ true → bases_has t n ≡ true
+within_has s t n h k = subst (λ u. bases_has u n ≡ true) (union_within s t h) (union_has s t n ∙ or_true (bases_has s n) (bases_has t n) k)
