@@ -5,7 +5,7 @@ use Rattle.std.proofs.Common.{arith, ap, ◌∙◌, sym, subst, inl, inr}
 use Rattle.std.proofs.lemmas.Bool.{cond_both, cases_Bool, and_parts, eqb-true, eq-eqb}
 use Rattle.std.proofs.lemmas.Nat.Bits.{bit_at_or, bit_at-lt}
 use Rattle.pointer_domain.specs.declared.base_sets.Bases.{Bases}
-use Rattle.pointer_domain.specs.BaseSets.{word_of, bases_has, bases_union, bases_within, word_within}
+use Rattle.pointer_domain.specs.BaseSets.{word_of, with_word, bases_has, bases_union, bases_within, word_within}
 
 -- a word of a union is the union of the words
 pub word_of_union : (s t : Bases) (i : ℕ) → word_of (bases_union s t) i ≡ bit_or (word_of s i) (word_of t i)
@@ -69,3 +69,14 @@ or_true a b h = grind arith
 -- what is in a set is in each set that it is within
 pub within_has : (s t : Bases) (n : ℕ) → bases_within s t ≡ true → bases_has s n ≡ true → bases_has t n ≡ true
 within_has s t n h k = subst (λ u. bases_has u n ≡ true) (union_within s t h) (union_has s t n ∙ or_true (bases_has s n) (bases_has t n) k)
+
+-- a word that was set is the word
+pub word_of_same : (s : Bases) (i w : ℕ) → word_of (with_word s i w) i ≡ w
+word_of_same s i w = elim (cases_Bool (i == 0))
+    [ inl e ↦ grind arith
+    | inr a ↦ elim (cases_Bool (i == 1)) [ inl e ↦ grind arith
+    | inr b ↦ elim (cases_Bool (i == 2)) [ inl e ↦ grind arith
+    | inr c ↦ elim (cases_Bool (i == 3)) [ inl e ↦ grind arith
+    | inr d ↦ elim (cases_Bool (i == 4)) [ inl e ↦ grind arith
+    | inr f ↦ elim (cases_Bool (i == 5)) [ inl e ↦ grind arith
+    | inr g ↦ elim (cases_Bool (i == 6)) [ inl e ↦ grind arith | inr h ↦ grind arith ] ] ] ] ] ] ]
