@@ -80,3 +80,17 @@ word_of_same s i w = elim (cases_Bool (i == 0))
     | inr d ↦ elim (cases_Bool (i == 4)) [ inl e ↦ grind arith
     | inr f ↦ elim (cases_Bool (i == 5)) [ inl e ↦ grind arith
     | inr g ↦ elim (cases_Bool (i == 6)) [ inl e ↦ grind arith | inr h ↦ grind arith ] ] ] ] ] ] ]
+
+differ : (i j k : ℕ) → (i == j) ≡ false → (i == k) ≡ true → (j == k) ≡ false
+differ i j k h e = grind arith
+
+-- the other words stay
+pub word_of_other : (s : Bases) (i j w : ℕ) → i < 8 → j < 8 → (i == j) ≡ false → word_of (with_word s i w) j ≡ word_of s j
+word_of_other s i j w p q n = elim (cases_Bool (i == 0))
+    [ inl e ↦ (let d = differ i j 0 n e in grind arith)
+    | inr a ↦ elim (cases_Bool (i == 1)) [ inl e ↦ (let d = differ i j 1 n e in grind arith)
+    | inr b ↦ elim (cases_Bool (i == 2)) [ inl e ↦ (let d = differ i j 2 n e in grind arith)
+    | inr c ↦ elim (cases_Bool (i == 3)) [ inl e ↦ (let d = differ i j 3 n e in grind arith)
+    | inr d ↦ elim (cases_Bool (i == 4)) [ inl e ↦ (let d = differ i j 4 n e in grind arith)
+    | inr f ↦ elim (cases_Bool (i == 5)) [ inl e ↦ (let d = differ i j 5 n e in grind arith)
+    | inr g ↦ elim (cases_Bool (i == 6)) [ inl e ↦ (let d = differ i j 6 n e in grind arith) | inr h ↦ (let u : i ≡ 7 = grind arith in let v : (j == 7) ≡ false = grind arith in grind arith) ] ] ] ] ] ] ]
