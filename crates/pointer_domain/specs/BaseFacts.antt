@@ -1,11 +1,11 @@
 -- Sets of bases as sets: what each operation has.
-use Rattle.std.specs.Prelude.{◌≡◌, ℕ, ◌/◌, ◌%◌, ◌^◌, ◌<◌, Bool, true, false, cond, ◌&&◌, ◌||◌, ◌==◌, bit_or, max, refl, ◌⊎◌}
+use Rattle.std.specs.Prelude.{◌≡◌, ℕ, ◌/◌, ◌%◌, ◌^◌, ◌<◌, Bool, true, false, cond, ◌&&◌, ◌||◌, ◌==◌, bit_or, max, refl, ◌⊎◌, ◌≢◌}
 use Rattle.std.specs.Int.{bit_at}
 use Rattle.std.proofs.Common.{arith, ap, ◌∙◌, sym, subst, inl, inr}
 use Rattle.std.proofs.lemmas.Bool.{cond_both, cases_Bool, and_parts, eqb-true, eq-eqb}
-use Rattle.std.proofs.lemmas.Nat.Bits.{bit_at_or, bit_at-lt}
+use Rattle.std.proofs.lemmas.Nat.Bits.{bit_at_or, bit_at-lt, bit_at-pow_same, bit_at-pow_other}
 use Rattle.pointer_domain.specs.declared.base_sets.Bases.{Bases}
-use Rattle.pointer_domain.specs.BaseSets.{word_of, with_word, bases_has, bases_union, bases_within, word_within}
+use Rattle.pointer_domain.specs.BaseSets.{word_of, with_word, bases_has, bases_union, bases_within, bases_with, word_within}
 
 -- a word of a union is the union of the words
 pub word_of_union : (s t : Bases) (i : ℕ) → word_of (bases_union s t) i ≡ bit_or (word_of s i) (word_of t i)
@@ -72,25 +72,77 @@ within_has s t n h k = subst (λ u. bases_has u n ≡ true) (union_within s t h)
 
 -- a word that was set is the word
 pub word_of_same : (s : Bases) (i w : ℕ) → word_of (with_word s i w) i ≡ w
-word_of_same s i w = elim (cases_Bool (i == 0))
-    [ inl e ↦ grind arith
-    | inr a ↦ elim (cases_Bool (i == 1)) [ inl e ↦ grind arith
-    | inr b ↦ elim (cases_Bool (i == 2)) [ inl e ↦ grind arith
-    | inr c ↦ elim (cases_Bool (i == 3)) [ inl e ↦ grind arith
-    | inr d ↦ elim (cases_Bool (i == 4)) [ inl e ↦ grind arith
-    | inr f ↦ elim (cases_Bool (i == 5)) [ inl e ↦ grind arith
-    | inr g ↦ elim (cases_Bool (i == 6)) [ inl e ↦ grind arith | inr h ↦ grind arith ] ] ] ] ] ] ]
+word_of_same s i w = elim (cases_Bool (i == 0)) [
+  | inl e ↦ grind arith
+  | inr a ↦ elim (cases_Bool (i == 1)) [
+    | inl e ↦ grind arith
+    | inr b ↦ elim (cases_Bool (i == 2)) [
+      | inl e ↦ grind arith
+      | inr c ↦ elim (cases_Bool (i == 3)) [
+        | inl e ↦ grind arith
+        | inr d ↦ elim (cases_Bool (i == 4)) [
+          | inl e ↦ grind arith
+          | inr f ↦ elim (cases_Bool (i == 5)) [
+            | inl e ↦ grind arith
+            | inr g ↦ elim (cases_Bool (i == 6)) [ inl e ↦ grind arith | inr h ↦ grind arith ]
+          ]
+        ]
+      ]
+    ]
+  ]
+]
 
 differ : (i j k : ℕ) → (i == j) ≡ false → (i == k) ≡ true → (j == k) ≡ false
 differ i j k h e = grind arith
 
 -- the other words stay
 pub word_of_other : (s : Bases) (i j w : ℕ) → i < 8 → j < 8 → (i == j) ≡ false → word_of (with_word s i w) j ≡ word_of s j
-word_of_other s i j w p q n = elim (cases_Bool (i == 0))
-    [ inl e ↦ (let d = differ i j 0 n e in grind arith)
-    | inr a ↦ elim (cases_Bool (i == 1)) [ inl e ↦ (let d = differ i j 1 n e in grind arith)
-    | inr b ↦ elim (cases_Bool (i == 2)) [ inl e ↦ (let d = differ i j 2 n e in grind arith)
-    | inr c ↦ elim (cases_Bool (i == 3)) [ inl e ↦ (let d = differ i j 3 n e in grind arith)
-    | inr d ↦ elim (cases_Bool (i == 4)) [ inl e ↦ (let d = differ i j 4 n e in grind arith)
-    | inr f ↦ elim (cases_Bool (i == 5)) [ inl e ↦ (let d = differ i j 5 n e in grind arith)
-    | inr g ↦ elim (cases_Bool (i == 6)) [ inl e ↦ (let d = differ i j 6 n e in grind arith) | inr h ↦ (let u : i ≡ 7 = grind arith in let v : (j == 7) ≡ false = grind arith in grind arith) ] ] ] ] ] ] ]
+word_of_other s i j w p q n = elim (cases_Bool (i == 0)) [
+  | inl e ↦ (let d = differ i j 0 n e in grind arith)
+  | inr a ↦ elim (cases_Bool (i == 1)) [
+    | inl e ↦ (let d = differ i j 1 n e in grind arith)
+    | inr b ↦ elim (cases_Bool (i == 2)) [
+      | inl e ↦ (let d = differ i j 2 n e in grind arith)
+      | inr c ↦ elim (cases_Bool (i == 3)) [
+        | inl e ↦ (let d = differ i j 3 n e in grind arith)
+        | inr d ↦ elim (cases_Bool (i == 4)) [
+          | inl e ↦ (let d = differ i j 4 n e in grind arith)
+          | inr f ↦ elim (cases_Bool (i == 5)) [
+            | inl e ↦ (let d = differ i j 5 n e in grind arith)
+            | inr g ↦ elim (cases_Bool (i == 6)) [ inl e ↦ (let d = differ i j 6 n e in grind arith) | inr h ↦ (let u : i ≡ 7 = grind arith in let v : (j == 7) ≡ false = grind arith in grind arith) ]
+          ]
+        ]
+      ]
+    ]
+  ]
+]
+
+bit_set : (w k i : ℕ) → bit_at (bit_or w (2 ^ k)) i ≡ max (bit_at w i) (bit_at (2 ^ k) i)
+bit_set w k i = bit_at_or w (2 ^ k) i
+
+same_base : (b n : ℕ) → b / 128 ≡ n / 128 → b % 128 ≡ n % 128 → b ≡ n
+same_base b n h k = omega arith
+
+one_is : (x y : ℕ) → x < 2 → y ≡ 1 → (max x y == 1) ≡ true
+one_is x y h e = grind arith
+
+zero_is : (x y : ℕ) → y ≡ 0 → (max x y == 1) ≡ (x == 1)
+zero_is x y e = grind arith
+
+-- the base that was added is there
+pub with_has_same : (s : Bases) (n : ℕ) → bases_has (bases_with s n) n ≡ true
+with_has_same s n =
+    let w = word_of s (n / 128) in
+    let e : bit_at (word_of (bases_with s n) (n / 128)) (n % 128) ≡ max (bit_at w (n % 128)) (bit_at (2 ^ (n % 128)) (n % 128)) = ap (λ v. bit_at v (n % 128)) (word_of_same s (n / 128) (bit_or w (2 ^ (n % 128)))) ∙ bit_set w (n % 128) (n % 128) in
+    ap (λ v. v == 1) e ∙ one_is _ _ (bit_at-lt w (n % 128)) (bit_at-pow_same (n % 128))
+
+-- the other bases are as before
+pub with_has_other : (s : Bases) (b n : ℕ) → b < 1016 → n < 1016 → (b ≡ n → ⊥) → bases_has (bases_with s b) n ≡ bases_has s n
+with_has_other s b n p q f = elim (cases_Bool (b / 128 == n / 128)) [
+  | inr g ↦ ap (λ v. bit_at v (n % 128) == 1) (word_of_other s (b / 128) (n / 128) (bit_or (word_of s (b / 128)) (2 ^ (b % 128))) (omega arith) (omega arith) g)
+  | inl e ↦ (let h : b / 128 ≡ n / 128 = eqb-true (b / 128) (n / 128) e in
+      let w = word_of s (b / 128) in
+      let d : n % 128 ≢ b % 128 = λ (k : n % 128 ≡ b % 128). f (same_base b n h (sym k)) in
+      let r : bases_has (bases_with s b) n ≡ (bit_at (bit_or w (2 ^ (b % 128))) (n % 128) == 1) = subst (λ j. (bit_at (word_of (bases_with s b) j) (n % 128) == 1) ≡ (bit_at (bit_or w (2 ^ (b % 128))) (n % 128) == 1)) h (ap (λ v. bit_at v (n % 128) == 1) (word_of_same s (b / 128) (bit_or w (2 ^ (b % 128))))) in
+      r ∙ (ap (λ v. v == 1) (bit_set w (b % 128) (n % 128)) ∙ (zero_is _ _ (bit_at-pow_other (b % 128) (n % 128) d) ∙ ap (λ j. bit_at (word_of s j) (n % 128) == 1) h)))
+]
