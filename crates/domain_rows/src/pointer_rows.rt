@@ -68,7 +68,8 @@ fn pointer_relations(rt: HostRuntime) {
     let single = Bases::empty().with(7).with(9);
     assert!(rt; p.equal(p, single) == Tri::Yes && p.equal(p, Bases::empty()) == Tri::Both);
     assert!(rt; p.equal(q, single) == Tri::Both && p.equal(r, single) == Tri::No);
-    assert!(rt; p.equal(p.end(7), single) == Tri::Never);
+    let none: Pointers<Interval> = into_base(1016, (1, 0), 0);
+    assert!(rt; p.equal(none, single) == Tri::Never);
     assert!(rt; p.compare(Rel::Lt, q) == Tri::Both && p.compare(Rel::Le, p) == Tri::Yes);
     assert!(rt; p.leq(p.join(r)) && !p.join(r).leq(p));
 }
