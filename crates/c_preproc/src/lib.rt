@@ -14,5 +14,6 @@ mod preprocessing;
 mod preprocessor_state;
 #[cfg(test)]
 mod tests;
+mod unit_tokens;
 
 pub use preprocessing::{expand, expand_bytes};

@@ -334,13 +334,14 @@ fn unit_of<T: Tree>(
     requires size { length bytes.now ≤ 2 ^ 20 }
     ensures went { Went (T.files tree.old) (T.files tree.new) (T.faults tree.old) (T.faults tree.new) (T.taken tree.old) (T.taken tree.new) }
     ensures cause { IfErr result (IsCaused (seen_of (T.files tree.old) (T.faults tree.old) (T.faults tree.new) (T.taken tree.old) (T.taken tree.new)) (map string_bytes dirs.now) model.now files.new) }
+    ensures few { IfOk result (λ u. length u.tokens ≤ 131072) }
 {
     let file = files.number(alloc, main)?;
     let mut state = State::new(alloc)?;
     let open = opened(alloc, &mut state, file, bytes)?;
     read_all(alloc, tree, dirs, model, files, &mut state, open)?;
     Ok(Unit7 {
-        tokens: state.out,
+        tokens: state.out.into_tokens(),
         model: *model,
     })
 }
@@ -357,6 +358,7 @@ fn unit_from<T: Tree>(
     requires { is_model model.now ≡ true }
     ensures went { Went (T.files tree.old) (T.files tree.new) (T.faults tree.old) (T.faults tree.new) (T.taken tree.old) (T.taken tree.new) }
     ensures cause { IfErr result (IsCausedFrom main.now (seen_of (T.files tree.old) (T.faults tree.old) (T.faults tree.new) (T.taken tree.old) (T.taken tree.new)) (map string_bytes dirs.now) model.now files.new) }
+    ensures few { IfOk result (λ u. length u.tokens ≤ 131072) }
 {
     let mut bytes = Vec::new(alloc);
     match tree.read(alloc, main, &mut bytes) {
@@ -390,6 +392,7 @@ pub fn expand_bytes<T: Tree>(
     ensures went { Went (T.files tree.old) (T.files tree.new) (T.faults tree.old) (T.faults tree.new) (T.taken tree.old) (T.taken tree.new) }
     ensures cause { IfErr result (IsCaused (seen_of (T.files tree.old) (T.faults tree.old) (T.faults tree.new) (T.taken tree.old) (T.taken tree.new)) (map string_bytes dirs.now) model.now (map string_bytes files.new.items)) }
     ensures distinct { is_distinct (map string_bytes files.new.items) ≡ true }
+    ensures few { IfOk result (λ u. length u.tokens ≤ 131072) }
 {
     let mut names = FileNames::new(alloc);
     let answer = unit_of(alloc, tree, main, bytes, dirs, model, &mut names);
@@ -419,6 +422,7 @@ pub fn expand<T: Tree>(
     ensures went { Went (T.files tree.old) (T.files tree.new) (T.faults tree.old) (T.faults tree.new) (T.taken tree.old) (T.taken tree.new) }
     ensures cause { IfErr result (IsCausedFrom main.now (seen_of (T.files tree.old) (T.faults tree.old) (T.faults tree.new) (T.taken tree.old) (T.taken tree.new)) (map string_bytes dirs.now) model.now (map string_bytes files.new.items)) }
     ensures distinct { is_distinct (map string_bytes files.new.items) ≡ true }
+    ensures few { IfOk result (λ u. length u.tokens ≤ 131072) }
 {
     let mut names = FileNames::new(alloc);
     let answer = unit_from(alloc, tree, main, dirs, model, &mut names);

@@ -6,15 +6,13 @@ ghost use Rattle.c_preproc.specs.Causes.{IsOwn, IsOwnRefusal};
 use crate::conditional_groups::{GroupState, Uneven};
 use crate::macro_definitions::{DefinitionFault, definition, may_be_defined, same_definition};
 use crate::open_files::OpenFile;
-use cc_base::{Fault, Kind, Place, Refusal, Stop, Tokens};
+use crate::unit_tokens::UnitTokens;
+use cc_base::{Fault, Kind, Place, Refusal, Stop};
 use directive_conditions::{ConditionFault, holds, replace_defined};
 use macro_expansion::{
     Expansion, Failure, Lexeme, Macro, Macros, Mark, Part, Refused, Spellings, Trouble, expand_list,
 };
 use std::alloc::Global;
-
-/// The most tokens of a unit after expansion.
-const TOKEN_LIMIT: usize = 131_072;
 
 /// What is known while a unit is preprocessed.
 #[derive(Drop)]
@@ -28,7 +26,7 @@ pub struct State {
     /// The files with `#pragma once`, by their indices.
     pub once: Vec<u32>,
     /// The tokens so far.
-    pub out: Tokens,
+    pub out: UnitTokens,
 }
 
 /// A refusal at a place.
@@ -116,7 +114,7 @@ impl State {
             used: 0,
             inclusions: 0,
             once: Vec::new(alloc),
-            out: Tokens::new(alloc),
+            out: UnitTokens::new(alloc),
         })
     }
 
@@ -144,7 +142,7 @@ impl State {
     {
         self.used = expansion.used;
         for x in &expansion.words {
-            if self.out.as_slice().len() >= TOKEN_LIMIT {
+            if self.out.is_full() {
                 return Err(refused(
                     x.mark().place,
                     Refusal::TooManyTokens {
