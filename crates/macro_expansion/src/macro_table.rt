@@ -24,7 +24,7 @@ pub struct Macro {
     pub body: Vec<Part>,
 }
 
-/// Macros by the numbers of their names, in the order of their definitions.
+/// Macros by the numbers of their names, in no order.
 #[derive(Drop)]
 pub struct Macros {
     table: IndexMap<u32, Macro>,
@@ -51,6 +51,6 @@ impl Macros {
 
     /// Takes a definition away, if there is one.
     pub fn undefine(&mut self, name: u32) {
-        let _ = self.table.shift_remove(&name);
+        let _ = self.table.swap_remove(&name);
     }
 }
