@@ -1,0 +1,3 @@
+pub mod ConditionValues
+pub mod NumberForms
+pub mod Symbols

@@ -1,5 +1,8 @@
 //! The tokens of a condition.
 
+ghost use Rattle.std.specs.Prelude.{◌≡◌};
+ghost use Rattle.directive_conditions.specs.Symbols.{short_punctuator, punctuator};
+
 use crate::condition_value::Number;
 use crate::number_forms::{character_constant, integer_constant};
 use crate::operations::{Binary, Unary};
@@ -24,7 +27,9 @@ pub enum Symbol {
     Foreign,
 }
 
-fn short_punctuator(b: u8) -> Symbol {
+fn short_punctuator(b: u8) -> Symbol
+    ensures { result ≡ short_punctuator b }
+{
     match b {
         b'+' => Symbol::Plus,
         b'-' => Symbol::Minus,
@@ -44,7 +49,9 @@ fn short_punctuator(b: u8) -> Symbol {
     }
 }
 
-fn punctuator(text: &[u8]) -> Symbol {
+fn punctuator(text: &[u8]) -> Symbol
+    ensures { result ≡ punctuator text.now }
+{
     match text {
         [b] => short_punctuator(*b),
         [b'<', b'<'] => Symbol::Infix(Binary::ShiftLeft),

@@ -1,10 +1,13 @@
 //! Integer constants and character constants of a condition (6.4.4.1, 6.4.4.4).
+ghost use Rattle.directive_conditions.specs.NumberForms.{digit_value, is_digit_of, digit_count, suffix_is_unsigned, typed, simple_escape, magnitude, based_number, integer_constant, escape_code, character_code};
 ghost use Rattle.std.specs.Prelude.{◌≡◌, ◌≤◌, length};
 
 use crate::condition_value::Number;
 
 /// The value of a digit in bases up to 16.
-fn digit_value(b: u8) -> Option<u8> {
+fn digit_value(b: u8) -> Option<u8>
+    ensures { result ≡ digit_value b }
+{
     match b {
         b'0'..=b'9' => Some(b - b'0'),
         b'a'..=b'f' => Some(b - b'a' + 10),
@@ -14,7 +17,9 @@ fn digit_value(b: u8) -> Option<u8> {
 }
 
 /// Whether a byte is a digit of a base.
-fn is_digit_of(base: u8, b: u8) -> bool {
+fn is_digit_of(base: u8, b: u8) -> bool
+    ensures { result ≡ is_digit_of base b }
+{
     match digit_value(b) {
         None => false,
         Some(value) => value < base,
@@ -23,10 +28,11 @@ fn is_digit_of(base: u8, b: u8) -> bool {
 
 /// How many digits of a base stand at the front.
 fn digit_count(base: u8, text: &[u8]) -> usize
-    ensures { result ≤ length text.now }
+    ensures count { result ≡ digit_count base text.now }
+    ensures most { result ≤ length text.now }
 {
-    for (at, b) in text.iter().enumerate() {
-        if !is_digit_of(base, *b) {
+    for at in 0..text.len() {
+        if !is_digit_of(base, text[at]) {
             return at;
         }
     }
@@ -34,10 +40,12 @@ fn digit_count(base: u8, text: &[u8]) -> usize
 }
 
 /// The number that digits of a base spell; None where it passes 2^64 - 1.
-fn magnitude(base: u8, digits: &[u8]) -> Option<u64> {
+fn magnitude(base: u8, digits: &[u8]) -> Option<u64>
+    ensures { result ≡ magnitude base digits.now }
+{
     let mut total = 0u64;
-    for b in digits {
-        let value = digit_value(*b)?;
+    for at in 0..digits.len() {
+        let value = digit_value(digits[at])?;
         total = total
             .checked_mul(u64::from(base))?
             .checked_add(u64::from(value))?;
@@ -46,7 +54,9 @@ fn magnitude(base: u8, digits: &[u8]) -> Option<u64> {
 }
 
 /// Whether a suffix has a `u`; None where it is no suffix.
-fn suffix_is_unsigned(suffix: &[u8]) -> Option<bool> {
+fn suffix_is_unsigned(suffix: &[u8]) -> Option<bool>
+    ensures { result ≡ suffix_is_unsigned suffix.now }
+{
     match suffix {
         [] | [b'l' | b'L'] | [b'l', b'l'] | [b'L', b'L'] => Some(false),
         [b'u' | b'U'] | [b'u' | b'U', b'l' | b'L'] | [b'l' | b'L', b'u' | b'U'] => Some(true),
@@ -57,7 +67,9 @@ fn suffix_is_unsigned(suffix: &[u8]) -> Option<bool> {
 }
 
 /// A number by its magnitude, its base and its suffix.
-fn typed(base: u8, value: u64, is_unsigned: bool) -> Option<Number> {
+fn typed(base: u8, value: u64, is_unsigned: bool) -> Option<Number>
+    ensures { result ≡ typed base value is_unsigned }
+{
     if is_unsigned {
         return Some(Number::Unsigned(value));
     }
@@ -74,7 +86,9 @@ fn typed(base: u8, value: u64, is_unsigned: bool) -> Option<Number> {
 }
 
 /// A constant whose digits begin at the front.
-fn based_number(base: u8, text: &[u8]) -> Option<Number> {
+fn based_number(base: u8, text: &[u8]) -> Option<Number>
+    ensures { result ≡ based_number base text.now }
+{
     let count = digit_count(base, text);
     if count == 0 {
         return None;
@@ -85,7 +99,9 @@ fn based_number(base: u8, text: &[u8]) -> Option<Number> {
 }
 
 /// The value of an integer constant; None where its form is not in, or its value does not fit.
-pub fn integer_constant(text: &[u8]) -> Option<Number> {
+pub fn integer_constant(text: &[u8]) -> Option<Number>
+    ensures { result ≡ integer_constant text.now }
+{
     match text {
         [b'0', b'x' | b'X', digits @ ..] => based_number(16, digits),
         [b'0', ..] => based_number(8, text),
@@ -94,7 +110,9 @@ pub fn integer_constant(text: &[u8]) -> Option<Number> {
 }
 
 /// The value of a simple escape.
-fn simple_escape(b: u8) -> Option<u8> {
+fn simple_escape(b: u8) -> Option<u8>
+    ensures { result ≡ simple_escape b }
+{
     match b {
         b'\'' | b'"' | b'?' | b'\\' => Some(b),
         b'a' => Some(7),
@@ -109,7 +127,9 @@ fn simple_escape(b: u8) -> Option<u8> {
 }
 
 /// The code of an escape, without its backslash.
-fn escape_code(text: &[u8]) -> Option<u8> {
+fn escape_code(text: &[u8]) -> Option<u8>
+    ensures { result ≡ escape_code text.now }
+{
     match text {
         [b'x', digits @ ..] => {
             if digits.is_empty() {
@@ -129,7 +149,9 @@ fn escape_code(text: &[u8]) -> Option<u8> {
 }
 
 /// The code of the one character between the quotes.
-fn character_code(inside: &[u8]) -> Option<u8> {
+fn character_code(inside: &[u8]) -> Option<u8>
+    ensures { result ≡ character_code inside.now }
+{
     match inside {
         [b'\\', escape @ ..] => escape_code(escape),
         [b] => Some(*b),

@@ -1,5 +1,9 @@
 //! The operators of a condition (6.5.3 to 6.5.15), with the usual arithmetic conversions.
 
+ghost use Rattle.std.specs.Prelude.{◌≡◌};
+ghost use Rattle.directive_conditions.specs.ConditionValues.{signed_or_fault, unsigned_or_fault, with_faults, logical, choice};
+ghost use Rattle.directive_conditions.specs.Symbols.{precedence};
+
 use crate::condition_value::{Number, Value};
 
 /// The operators with one operand.
@@ -36,7 +40,9 @@ pub enum Binary {
 
 impl Binary {
     /// How tightly the operator binds: 10 for `*` down to 1 for `||`.
-    pub fn precedence(self) -> u8 {
+    pub fn precedence(self) -> u8
+        ensures { result ≡ precedence self }
+    {
         match self {
             Binary::Multiply | Binary::Divide | Binary::Remainder => 10,
             Binary::Add | Binary::Subtract => 9,
@@ -53,7 +59,9 @@ impl Binary {
 }
 
 /// A number, or a fault of the number's type.
-fn signed_or_fault(number: Option<i64>) -> Value {
+fn signed_or_fault(number: Option<i64>) -> Value
+    ensures { result ≡ signed_or_fault number }
+{
     match number {
         Some(n) => Value::of(Number::Signed(n)),
         None => Value {
@@ -63,7 +71,9 @@ fn signed_or_fault(number: Option<i64>) -> Value {
     }
 }
 
-fn unsigned_or_fault(number: Option<u64>) -> Value {
+fn unsigned_or_fault(number: Option<u64>) -> Value
+    ensures { result ≡ unsigned_or_fault number }
+{
     match number {
         Some(n) => Value::of(Number::Unsigned(n)),
         None => Value {
@@ -160,7 +170,9 @@ fn arithmetic(op: Binary, left: Number, right: Number) -> Value {
 }
 
 /// A value that is faulty also where an operand is.
-fn with_faults(value: Value, left: bool, right: bool) -> Value {
+fn with_faults(value: Value, left: bool, right: bool) -> Value
+    ensures { result ≡ with_faults value left right }
+{
     Value {
         number: value.number,
         faulty: value.faulty || left || right,
@@ -169,7 +181,9 @@ fn with_faults(value: Value, left: bool, right: bool) -> Value {
 
 /// `left && right` where `stops` is 0, `left || right` where it is 1: the right operand counts
 /// only where the left one does not decide.
-fn logical(left: Value, right: Value, decides: bool) -> Value {
+fn logical(left: Value, right: Value, decides: bool) -> Value
+    ensures { result ≡ logical left right decides }
+{
     if left.faulty {
         return with_faults(Value::of(Number::truth(false)), true, false);
     }
@@ -215,7 +229,9 @@ pub fn apply_unary(op: Unary, value: Value) -> Value {
 }
 
 /// `condition ? left : right`: the arm that is chosen counts, in the type that both have.
-pub fn choice(condition: Value, left: Value, right: Value) -> Value {
+pub fn choice(condition: Value, left: Value, right: Value) -> Value
+    ensures { result ≡ choice condition left right }
+{
     let chosen = if condition.number.is_zero() {
         right
     } else {
