@@ -1,3 +1,4 @@
 pub mod ConditionValues
 pub mod NumberForms
 pub mod Symbols
+pub mod Arithmetic

@@ -2,6 +2,7 @@
 
 ghost use Rattle.std.specs.Prelude.{◌≡◌};
 ghost use Rattle.directive_conditions.specs.ConditionValues.{signed_or_fault, unsigned_or_fault, with_faults, logical, choice};
+ghost use Rattle.directive_conditions.specs.Arithmetic.{signed_arithmetic, unsigned_arithmetic};
 ghost use Rattle.directive_conditions.specs.Symbols.{precedence};
 
 use crate::condition_value::{Number, Value};
@@ -123,7 +124,9 @@ fn shift_or_fault(op: Binary, left: Number, right: Number) -> Value {
     }
 }
 
-fn signed_arithmetic(op: Binary, a: i64, b: i64) -> Value {
+fn signed_arithmetic(op: Binary, a: i64, b: i64) -> Value
+    ensures { result ≡ signed_arithmetic op a b }
+{
     match op {
         Binary::Multiply => signed_or_fault(a.checked_mul(b)),
         Binary::Divide => signed_or_fault(a.checked_div(b)),
@@ -142,7 +145,9 @@ fn signed_arithmetic(op: Binary, a: i64, b: i64) -> Value {
     }
 }
 
-fn unsigned_arithmetic(op: Binary, a: u64, b: u64) -> Value {
+fn unsigned_arithmetic(op: Binary, a: u64, b: u64) -> Value
+    ensures { result ≡ unsigned_arithmetic op a b }
+{
     match op {
         Binary::Multiply => Value::of(Number::Unsigned(a.wrapping_mul(b))),
         Binary::Divide => unsigned_or_fault(a.checked_div(b)),

@@ -1,0 +1,49 @@
+-- The arithmetic of conditions (6.5.3 to 6.5.14) in 64 bits: what the operators give, and where they have no result.
+use Rattle.std.specs.Prelude.{ℕ, ◌+◌, ◌-◌, ◌*◌, ◌^◌, ◌%◌, ◌/◌, ◌==◌, ℤ, pos, negsuc, ◌+ℤ◌, ◌-ℤ◌, ◌*ℤ◌, Bool, not, ◌&&◌, cond, int_le, int_lt, nat_le, nat_lt, int_div, int_rem, Option, Some, None}
+use Rattle.std.specs.Ordering.{int_eq}
+use Rattle.std.specs.Int.{w64, int_bit_and, int_bit_or, int_bit_xor}
+use Rattle.std.specs.Int.Bits.{bit_and, bit_or, bit_xor}
+use Rattle.directive_conditions.specs.declared.condition_value.Number.TheVariants.{Signed, Unsigned}
+use Rattle.directive_conditions.specs.declared.condition_value.Value.{Value}
+use Rattle.directive_conditions.specs.declared.operations.Binary.{Binary}
+use Rattle.directive_conditions.specs.declared.operations.Binary.TheVariants.{Multiply, Divide, Remainder, Add, Subtract, Less, Greater, LessEqual, GreaterEqual, Equal, And, Xor, Or}
+use Rattle.directive_conditions.specs.ConditionValues.{defined, signed_or_fault, unsigned_or_fault, truth}
+
+-- a number that intmax_t has
+abbrev pub in_signed : ℤ → Option ℤ
+in_signed n = cond (int_le (negsuc (2 ^ 63 - 1)) n && int_lt n (pos (2 ^ 63))) (Some n) None
+
+abbrev pub unless_zero : ℤ → ℤ → Option ℤ
+unless_zero b result = cond (int_eq b (pos 0)) None (in_signed result)
+
+abbrev pub signed_arithmetic : Binary → ℤ → ℤ → Value
+signed_arithmetic Multiply a b = signed_or_fault (in_signed (a *ℤ b))
+signed_arithmetic Divide a b = signed_or_fault (unless_zero b (int_div a b))
+signed_arithmetic Remainder a b = signed_or_fault (cond (int_eq b (pos 0)) None (cond (int_lt (int_div a b) (pos (2 ^ 63))) (Some (int_rem a b)) None))
+signed_arithmetic Add a b = signed_or_fault (in_signed (a +ℤ b))
+signed_arithmetic Subtract a b = signed_or_fault (in_signed (a -ℤ b))
+signed_arithmetic And a b = defined (Signed (int_bit_and w64 a b))
+signed_arithmetic Xor a b = defined (Signed (int_bit_xor w64 a b))
+signed_arithmetic Or a b = defined (Signed (int_bit_or w64 a b))
+signed_arithmetic Less a b = defined (truth (int_lt a b))
+signed_arithmetic Greater a b = defined (truth (int_lt b a))
+signed_arithmetic LessEqual a b = defined (truth (int_le a b))
+signed_arithmetic GreaterEqual a b = defined (truth (int_le b a))
+signed_arithmetic Equal a b = defined (truth (int_eq a b))
+signed_arithmetic _ a b = defined (truth (not (int_eq a b)))
+
+abbrev pub unsigned_arithmetic : Binary → ℕ → ℕ → Value
+unsigned_arithmetic Multiply a b = defined (Unsigned (a * b % 2 ^ 64))
+unsigned_arithmetic Divide a b = unsigned_or_fault (cond (b == 0) None (Some (a / b)))
+unsigned_arithmetic Remainder a b = unsigned_or_fault (cond (b == 0) None (Some (a % b)))
+unsigned_arithmetic Add a b = defined (Unsigned ((a + b) % 2 ^ 64))
+unsigned_arithmetic Subtract a b = defined (Unsigned ((a + (2 ^ 64 - b)) % 2 ^ 64))
+unsigned_arithmetic And a b = defined (Unsigned (bit_and a b))
+unsigned_arithmetic Xor a b = defined (Unsigned (bit_xor a b))
+unsigned_arithmetic Or a b = defined (Unsigned (bit_or a b))
+unsigned_arithmetic Less a b = defined (truth (nat_lt a b))
+unsigned_arithmetic Greater a b = defined (truth (nat_lt b a))
+unsigned_arithmetic LessEqual a b = defined (truth (nat_le a b))
+unsigned_arithmetic GreaterEqual a b = defined (truth (nat_le b a))
+unsigned_arithmetic Equal a b = defined (truth (a == b))
+unsigned_arithmetic _ a b = defined (truth (not (a == b)))
