@@ -1,13 +1,16 @@
 -- The arithmetic of conditions (6.5.3 to 6.5.14) in 64 bits: what the operators give, and where they have no result.
-use Rattle.std.specs.Prelude.{ℕ, ◌+◌, ◌-◌, ◌*◌, ◌^◌, ◌%◌, ◌/◌, ◌==◌, ℤ, pos, negsuc, ◌+ℤ◌, ◌-ℤ◌, ◌*ℤ◌, Bool, not, ◌&&◌, cond, int_le, int_lt, nat_le, nat_lt, int_div, int_rem, Option, Some, None}
+use Rattle.std.specs.Prelude.{ℕ, ◌+◌, ◌-◌, ◌*◌, ◌^◌, ◌%◌, ◌/◌, ◌==◌, ℤ, pos, negsuc, ◌+ℤ◌, ◌-ℤ◌, ◌*ℤ◌, Bool, not, ◌&&◌, cond, int_le, int_lt, nat_le, nat_lt, int_div, int_rem, neg_ℤ, unsigned_abs, false, Option, Some, None}
 use Rattle.std.specs.Ordering.{int_eq}
-use Rattle.std.specs.Int.{w64, int_bit_and, int_bit_or, int_bit_xor}
+use Rattle.std.specs.Int.{w64, int_bit_and, int_bit_or, int_bit_xor, int_bit_not, bit_not}
 use Rattle.std.specs.Int.Bits.{bit_and, bit_or, bit_xor}
+use Rattle.directive_conditions.specs.declared.condition_value.Number.{Number}
 use Rattle.directive_conditions.specs.declared.condition_value.Number.TheVariants.{Signed, Unsigned}
 use Rattle.directive_conditions.specs.declared.condition_value.Value.{Value}
+use Rattle.directive_conditions.specs.declared.operations.Unary.{Unary}
+use Rattle.directive_conditions.specs.declared.operations.Unary.TheVariants.{Plus, Minus, Complement, Not}
 use Rattle.directive_conditions.specs.declared.operations.Binary.{Binary}
 use Rattle.directive_conditions.specs.declared.operations.Binary.TheVariants.{Multiply, Divide, Remainder, Add, Subtract, Less, Greater, LessEqual, GreaterEqual, Equal, And, Xor, Or}
-use Rattle.directive_conditions.specs.ConditionValues.{defined, signed_or_fault, unsigned_or_fault, truth}
+use Rattle.directive_conditions.specs.ConditionValues.{defined, signed_or_fault, unsigned_or_fault, truth, is_zero, as_unsigned, with_faults}
 
 -- a number that intmax_t has
 abbrev pub in_signed : ℤ → Option ℤ
@@ -47,3 +50,25 @@ unsigned_arithmetic LessEqual a b = defined (truth (nat_le a b))
 unsigned_arithmetic GreaterEqual a b = defined (truth (nat_le b a))
 unsigned_arithmetic Equal a b = defined (truth (a == b))
 unsigned_arithmetic _ a b = defined (truth (not (a == b)))
+
+-- the usual arithmetic conversions, and then the operator
+abbrev pub arithmetic : Binary → Number → Number → Value
+arithmetic op (Signed a) (Signed b) = signed_arithmetic op a b
+arithmetic op left right = unsigned_arithmetic op (as_unsigned left) (as_unsigned right)
+
+abbrev pub unary : Unary → Number → Value
+unary Plus n = defined n
+unary Not n = defined (truth (is_zero n))
+unary Minus (Signed n) = signed_or_fault (in_signed (neg_ℤ n))
+unary Minus (Unsigned n) = defined (Unsigned ((2 ^ 64 - n) % 2 ^ 64))
+unary Complement (Signed n) = defined (Signed (int_bit_not w64 n))
+unary Complement (Unsigned n) = defined (Unsigned (bit_not w64 n))
+
+-- the value of a unary operator
+abbrev pub apply_unary : Unary → Value → Value
+apply_unary op v = with_faults (unary op v.number) v.faulty false
+
+-- the count of a shift of 64 bits
+abbrev pub shift_count : Number → Option ℕ
+shift_count (Signed n) = cond (int_le (pos 0) n && int_lt n (pos 64)) (Some (unsigned_abs n)) None
+shift_count (Unsigned n) = cond (nat_lt n 64) (Some n) None

@@ -2,7 +2,7 @@
 
 ghost use Rattle.std.specs.Prelude.{◌≡◌};
 ghost use Rattle.directive_conditions.specs.ConditionValues.{signed_or_fault, unsigned_or_fault, with_faults, logical, choice};
-ghost use Rattle.directive_conditions.specs.Arithmetic.{signed_arithmetic, unsigned_arithmetic};
+ghost use Rattle.directive_conditions.specs.Arithmetic.{signed_arithmetic, unsigned_arithmetic, arithmetic, apply_unary, shift_count};
 ghost use Rattle.directive_conditions.specs.Symbols.{precedence};
 
 use crate::condition_value::{Number, Value};
@@ -85,7 +85,9 @@ fn unsigned_or_fault(number: Option<u64>) -> Value
 }
 
 /// Whether a number is a count of a shift of 64 bits.
-fn shift_count(number: Number) -> Option<u32> {
+fn shift_count(number: Number) -> Option<u32>
+    ensures { result ≡ shift_count number }
+{
     let count = match number {
         Number::Signed(n) => u32::try_from(n).ok()?,
         Number::Unsigned(n) => u32::try_from(n).ok()?,
@@ -167,7 +169,9 @@ fn unsigned_arithmetic(op: Binary, a: u64, b: u64) -> Value
 }
 
 /// The usual arithmetic conversions, and then the operator.
-fn arithmetic(op: Binary, left: Number, right: Number) -> Value {
+fn arithmetic(op: Binary, left: Number, right: Number) -> Value
+    ensures { result ≡ arithmetic op left right }
+{
     match (left, right) {
         (Number::Signed(a), Number::Signed(b)) => signed_arithmetic(op, a, b),
         _ => unsigned_arithmetic(op, left.unsigned(), right.unsigned()),
@@ -221,7 +225,9 @@ pub fn apply_binary(op: Binary, left: Value, right: Value) -> Value {
 }
 
 /// The value of a unary operator.
-pub fn apply_unary(op: Unary, value: Value) -> Value {
+pub fn apply_unary(op: Unary, value: Value) -> Value
+    ensures { result ≡ apply_unary op value }
+{
     let made = match (op, value.number) {
         (Unary::Plus, number) => Value::of(number),
         (Unary::Not, number) => Value::of(Number::truth(number.is_zero())),
