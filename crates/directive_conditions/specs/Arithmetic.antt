@@ -1,7 +1,7 @@
 -- The arithmetic of conditions (6.5.3 to 6.5.14) in 64 bits: what the operators give, and where they have no result.
-use Rattle.std.specs.Prelude.{ℕ, ◌+◌, ◌-◌, ◌*◌, ◌^◌, ◌%◌, ◌/◌, ◌==◌, ℤ, pos, negsuc, ◌+ℤ◌, ◌-ℤ◌, ◌*ℤ◌, Bool, not, ◌&&◌, cond, int_le, int_lt, nat_le, nat_lt, int_div, int_rem, neg_ℤ, unsigned_abs, false, Option, Some, None}
+use Rattle.std.specs.Prelude.{ℕ, ◌+◌, ◌-◌, ◌*◌, ◌^◌, ◌%◌, ◌/◌, ◌==◌, ℤ, pos, negsuc, ◌+ℤ◌, ◌-ℤ◌, ◌*ℤ◌, Bool, not, ◌&&◌, cond, int_le, int_lt, nat_le, nat_lt, int_div, int_rem, neg_ℤ, unsigned_abs, true, false, Option, Some, None}
 use Rattle.std.specs.Ordering.{int_eq}
-use Rattle.std.specs.Int.{w64, int_bit_and, int_bit_or, int_bit_xor, int_bit_not, bit_not}
+use Rattle.std.specs.Int.{w64, int_bit_and, int_bit_or, int_bit_xor, int_bit_not, bit_not, int_shr}
 use Rattle.std.specs.Int.Bits.{bit_and, bit_or, bit_xor}
 use Rattle.directive_conditions.specs.declared.condition_value.Number.{Number}
 use Rattle.directive_conditions.specs.declared.condition_value.Number.TheVariants.{Signed, Unsigned}
@@ -9,8 +9,8 @@ use Rattle.directive_conditions.specs.declared.condition_value.Value.{Value}
 use Rattle.directive_conditions.specs.declared.operations.Unary.{Unary}
 use Rattle.directive_conditions.specs.declared.operations.Unary.TheVariants.{Plus, Minus, Complement, Not}
 use Rattle.directive_conditions.specs.declared.operations.Binary.{Binary}
-use Rattle.directive_conditions.specs.declared.operations.Binary.TheVariants.{Multiply, Divide, Remainder, Add, Subtract, Less, Greater, LessEqual, GreaterEqual, Equal, And, Xor, Or}
-use Rattle.directive_conditions.specs.ConditionValues.{defined, signed_or_fault, unsigned_or_fault, truth, is_zero, as_unsigned, with_faults}
+use Rattle.directive_conditions.specs.declared.operations.Binary.TheVariants.{Multiply, Divide, Remainder, Add, Subtract, Less, Greater, LessEqual, GreaterEqual, Equal, And, Xor, Or, ShiftLeft, ShiftRight, LogicalAnd, LogicalOr}
+use Rattle.directive_conditions.specs.ConditionValues.{defined, signed_or_fault, unsigned_or_fault, truth, is_zero, as_unsigned, with_faults, fault, logical}
 
 -- a number that intmax_t has
 abbrev pub in_signed : ℤ → Option ℤ
@@ -72,3 +72,35 @@ apply_unary op v = with_faults (unary op v.number) v.faulty false
 abbrev pub shift_count : Number → Option ℕ
 shift_count (Signed n) = cond (int_le (pos 0) n && int_lt n (pos 64)) (Some (unsigned_abs n)) None
 shift_count (Unsigned n) = cond (nat_lt n 64) (Some n) None
+
+-- `a << count` for a number that is not negative, where the result fits
+abbrev pub shifted_left : ℤ → ℕ → Option ℤ
+shifted_left a count = cond (nat_lt count 64 && int_le (pos 0) a) (in_signed (a *ℤ pos (2 ^ count))) None
+
+abbrev pub shift_in_range : Binary → Number → ℕ → Value
+shift_in_range ShiftLeft (Signed a) count = signed_or_fault (shifted_left a count)
+shift_in_range _ (Signed a) count = defined (Signed (int_shr a count))
+shift_in_range ShiftLeft (Unsigned a) count = defined (Unsigned (a * 2 ^ count % 2 ^ 64))
+shift_in_range _ (Unsigned a) count = defined (Unsigned (a / 2 ^ count))
+
+abbrev pub shift : Binary → Number → ℕ → Value
+shift op left count = cond (nat_lt count 64) (shift_in_range op left count) (fault (Signed (pos 0)))
+
+abbrev pub fault_of : Number → Value
+fault_of (Signed n) = fault (Signed (pos 0))
+fault_of (Unsigned n) = fault (Unsigned 0)
+
+abbrev pub counted_shift : Binary → Number → Option ℕ → Value
+counted_shift op left (Some count) = shift op left count
+counted_shift op left None = fault_of left
+
+abbrev pub shift_or_fault : Binary → Number → Number → Value
+shift_or_fault op left right = counted_shift op left (shift_count right)
+
+-- the value of a binary operator
+abbrev pub apply_binary : Binary → Value → Value → Value
+apply_binary LogicalAnd left right = logical left right false
+apply_binary LogicalOr left right = logical left right true
+apply_binary ShiftLeft left right = with_faults (shift_or_fault ShiftLeft left.number right.number) left.faulty right.faulty
+apply_binary ShiftRight left right = with_faults (shift_or_fault ShiftRight left.number right.number) left.faulty right.faulty
+apply_binary op left right = with_faults (arithmetic op left.number right.number) left.faulty right.faulty

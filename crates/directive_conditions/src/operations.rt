@@ -2,7 +2,7 @@
 
 ghost use Rattle.std.specs.Prelude.{◌≡◌};
 ghost use Rattle.directive_conditions.specs.ConditionValues.{signed_or_fault, unsigned_or_fault, with_faults, logical, choice};
-ghost use Rattle.directive_conditions.specs.Arithmetic.{signed_arithmetic, unsigned_arithmetic, arithmetic, apply_unary, shift_count};
+ghost use Rattle.directive_conditions.specs.Arithmetic.{signed_arithmetic, unsigned_arithmetic, arithmetic, apply_unary, shift_count, shifted_left, shift, shift_or_fault, apply_binary};
 ghost use Rattle.directive_conditions.specs.Symbols.{precedence};
 
 use crate::condition_value::{Number, Value};
@@ -96,7 +96,9 @@ fn shift_count(number: Number) -> Option<u32>
 }
 
 /// `a << count` for a number that is not negative, where the result fits.
-fn shifted_left(a: i64, count: u32) -> Option<i64> {
+fn shifted_left(a: i64, count: u32) -> Option<i64>
+    ensures { result ≡ shifted_left a count }
+{
     if count >= 64 {
         return None;
     }
@@ -104,7 +106,9 @@ fn shifted_left(a: i64, count: u32) -> Option<i64> {
     i64::try_from(low << count).ok()
 }
 
-fn shift(op: Binary, left: Number, count: u32) -> Value {
+fn shift(op: Binary, left: Number, count: u32) -> Value
+    ensures { result ≡ shift op left count }
+{
     if count >= 64 {
         return signed_or_fault(None);
     }
@@ -116,7 +120,9 @@ fn shift(op: Binary, left: Number, count: u32) -> Value {
     }
 }
 
-fn shift_or_fault(op: Binary, left: Number, right: Number) -> Value {
+fn shift_or_fault(op: Binary, left: Number, right: Number) -> Value
+    ensures { result ≡ shift_or_fault op left right }
+{
     match shift_count(right) {
         Some(count) => shift(op, left, count),
         None => match left {
@@ -207,7 +213,9 @@ fn logical(left: Value, right: Value, decides: bool) -> Value
 }
 
 /// The value of a binary operator.
-pub fn apply_binary(op: Binary, left: Value, right: Value) -> Value {
+pub fn apply_binary(op: Binary, left: Value, right: Value) -> Value
+    ensures { result ≡ apply_binary op left right }
+{
     match op {
         Binary::LogicalAnd => logical(left, right, false),
         Binary::LogicalOr => logical(left, right, true),
