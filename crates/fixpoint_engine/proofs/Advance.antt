@@ -4,7 +4,7 @@ use Rattle.std.proofs.lemmas.Bool.{cases_eq}
 use Rattle.cc_base.specs.Lattices.{LatticeOf, OrderLaws, RoundLaws}
 use Rattle.cc_base.specs.Rows.{reached_leq}
 use Rattle.cc_base.specs.RowLaws.{by_test, reached_leq-refl}
-use Rattle.cc_base.specs.Machine.{Machine, MachineLaws}
+use Rattle.cc_base.specs.Machine.{Machine, MachineLaws, IsMonotone}
 use Rattle.cc_base.specs.InductiveMap.{row_at, IsRoundedOrNone, IsInductive, heads_below}
 use Rattle.fixpoint_engine.specs.SolverState.{State, mark_at, arrived, grows, arrive}
 use Rattle.fixpoint_engine.specs.Progress.{IsAttained, IsSound, weight, weight_at, total, potential}
@@ -118,7 +118,7 @@ module _ {C : Type 0} (o : LatticeOf C) (k : OrderLaws o) (r : RoundLaws o) (m :
         (arrived-same o k r m law (m.head b) (row_at st.rows b) x g)
         (λ c. refl)
 
-    pub arrive-sound : ((other : List (Option (List C))) → IsInductive o m other → reached_leq o (Some x) (row_at other b) ≡ true) → IsSound o m (arrive o m b x st).rows
+    pub arrive-sound : (IsMonotone o m → (other : List (Option (List C))) → IsInductive o m other → reached_leq o (Some x) (row_at other b) ≡ true) → IsSound o m (arrive o m b x st).rows
     arrive-sound below = record {
       size = length-set st.rows b (Some new_row) ∙ s.size;
       attained =
@@ -127,9 +127,9 @@ module _ {C : Type 0} (o : LatticeOf C) (k : OrderLaws o) (r : RoundLaws o) (m :
       rounded =
           on_set (λ c v. m.head c ≡ true → IsRoundedOrNone o m v) st.rows b (Some new_row) in_rows
           (λ t. arrived-rounded o k r m law (m.head b) (row_at st.rows b) x (s.attained b) att is_rounded t) s.rounded;
-      least = λ other ind.
+      least = λ mono other ind.
           on_set (λ c v. reached_leq o v (row_at other c) ≡ true) st.rows b (Some new_row) in_rows
-          (least_here (row_at other b) (below other ind) (s.least other ind b) (λ t. ind.rounded b t)) (s.least other ind);
+          (least_here (row_at other b) (below mono other ind) (s.least mono other ind b) (λ t. ind.rounded b t)) (s.least mono other ind);
     } where
       least_here : (v : Option (List C)) → reached_leq o (Some x) v ≡ true → reached_leq o (row_at st.rows b) v ≡ true → (m.head b ≡ true → IsRoundedOrNone o m v) → reached_leq o (Some new_row) v ≡ true
       least_here None h j f = cc

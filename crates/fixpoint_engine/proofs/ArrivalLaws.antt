@@ -3,7 +3,7 @@ use Rattle.std.proofs.Common.{◌≡◌, ◌<◌, ◌≤◌, ℕ, ℤ, Bool, tru
 use Rattle.cc_base.specs.Lattices.{LatticeOf, OrderLaws, RoundLaws}
 use Rattle.cc_base.specs.Rows.{row_leq, row_join, row_round, row_rounded_if, row_absorbed, reached_leq}
 use Rattle.cc_base.specs.RowLaws.{by_test, row_leq-refl, row_leq-trans, row_join-left, row_join-right, row_join-least, row_round-rises, row_round-monotone, row_round-idempotent, row_absorbed-is, row_absorbed-same}
-use Rattle.cc_base.specs.Machine.{Machine, MachineLaws, IsRounded}
+use Rattle.cc_base.specs.Machine.{Machine, MachineLaws, IsRounded, IsMonotone}
 use Rattle.cc_base.specs.InductiveMap.{step, IsOwn, IsRoundedOrNone}
 use Rattle.fixpoint_engine.specs.SolverState.{arrived, grows}
 use Rattle.fixpoint_engine.specs.Progress.{IsAttained, weight}
@@ -92,10 +92,10 @@ module _ {C : Type 0} (o : LatticeOf C) (k : OrderLaws o) (r : RoundLaws o) (m :
       let g' : not true ≡ true = rw low at g in cc)
       (λ (no : row_leq o (row_absorbed o m.list rounding old x) old ≡ false). no))
 
-  pub step-monotone : (e : ℕ) (a b : Option (List C)) → e < m.edges → IsOwn m a → IsOwn m b → reached_leq o a b ≡ true → reached_leq o (step m e a) (step m e b) ≡ true
-  step-monotone e None b lt h j le = refl
-  step-monotone e (Some x) None lt h j le = cc
-  step-monotone e (Some x) (Some y) lt h j le = law.monotone e x y lt h j le
+  pub step-monotone : IsMonotone o m → (e : ℕ) (a b : Option (List C)) → e < m.edges → IsOwn m a → IsOwn m b → reached_leq o a b ≡ true → reached_leq o (step m e a) (step m e b) ≡ true
+  step-monotone mono e None b lt h j le = refl
+  step-monotone mono e (Some x) None lt h j le = cc
+  step-monotone mono e (Some x) (Some y) lt h j le = mono e x y lt h j le
 
   pub step-attained : (e : ℕ) (a : Option (List C)) → e < m.edges → IsAttained m a → IsAttained m (step m e a)
   step-attained e None lt h = tt

@@ -3,7 +3,7 @@ use Rattle.std.proofs.Common.{◌≡◌, ◌+◌, ◌<◌, ◌≤◌, ℕ, true,
 use Rattle.cc_base.specs.Lattices.{LatticeOf, OrderLaws, RoundLaws}
 use Rattle.cc_base.specs.Rows.{reached_leq}
 use Rattle.cc_base.specs.RowLaws.{reached_leq-refl, reached_leq-trans}
-use Rattle.cc_base.specs.Machine.{Machine, MachineLaws}
+use Rattle.cc_base.specs.Machine.{Machine, MachineLaws, IsMonotone}
 use Rattle.cc_base.specs.InductiveMap.{row_at, step, IsInductive}
 use Rattle.fixpoint_engine.specs.SolverState.{State, mark_at, arrive_if, grows_if, advance, head_grows}
 use Rattle.fixpoint_engine.specs.Progress.{IsAttained, IsSound, potential}
@@ -12,11 +12,11 @@ use Rattle.fixpoint_engine.proofs.Advance.{arrive-rises, arrive-above, arrive-so
 
 module _ {C : Type 0} (o : LatticeOf C) (k : OrderLaws o) (r : RoundLaws o) (m : Machine C) (law : MachineLaws o m) where
   -- what an edge makes of a sound row is at or below the target's row of each inductive map
-  step-least : (e : ℕ) (rows : List (Option (List C))) → e < m.edges → IsSound o m rows → (other : List (Option (List C))) → IsInductive o m other → reached_leq o (step m e (row_at rows (m.source e))) (row_at other (m.target e)) ≡ true
-  step-least e rows lt s other ind =
+  step-least : (e : ℕ) (rows : List (Option (List C))) → e < m.edges → IsSound o m rows → IsMonotone o m → (other : List (Option (List C))) → IsInductive o m other → reached_leq o (step m e (row_at rows (m.source e))) (row_at other (m.target e)) ≡ true
+  step-least e rows lt s mono other ind =
       reached_leq-trans o k (step m e (row_at rows (m.source e))) (step m e (row_at other (m.source e))) (row_at other (m.target e))
-      (step-monotone o k r m law e (row_at rows (m.source e)) (row_at other (m.source e)) lt
-      (IsAttained-own o k r m law (row_at rows (m.source e)) (s.attained (m.source e))) (ind.own (m.source e)) (s.least other ind (m.source e)))
+      (step-monotone o k r m law mono e (row_at rows (m.source e)) (row_at other (m.source e)) lt
+      (IsAttained-own o k r m law (row_at rows (m.source e)) (s.attained (m.source e))) (ind.own (m.source e)) (s.least mono other ind (m.source e)))
       (ind.edge e lt)
 
   module _ (b : ℕ) (st : State C) (here : b < m.blocks) (marked : b < length st.marks) (s : IsSound o m st.rows) where
@@ -28,7 +28,7 @@ module _ {C : Type 0} (o : LatticeOf C) (k : OrderLaws o) (r : RoundLaws o) (m :
     if-above None h = refl
     if-above (Some x) h = arrive-above o k r m law b x st here s h
 
-    pub if-sound : (v : Option (List C)) → IsAttained m v → ((other : List (Option (List C))) → IsInductive o m other → reached_leq o v (row_at other b) ≡ true) → IsSound o m (arrive_if o m b v st).rows
+    pub if-sound : (v : Option (List C)) → IsAttained m v → (IsMonotone o m → (other : List (Option (List C))) → IsInductive o m other → reached_leq o v (row_at other b) ≡ true) → IsSound o m (arrive_if o m b v st).rows
     if-sound None h below = s
     if-sound (Some x) h below = arrive-sound o k r m law b x st here s h below
 

@@ -101,11 +101,11 @@ module _ {C : Type 0} (o : LatticeOf C) (k : OrderLaws o) (r : RoundLaws o) (m :
     size = rows_size;
     attained = λ b. subst (IsAttained m) (sym (no_row b)) tt;
     rounded = λ b t. subst (IsRoundedOrNone o m) (sym (no_row b)) tt;
-    least = λ other ind b. subst (λ v. reached_leq o v (row_at other b) ≡ true) (sym (no_row b)) refl;
+    least = λ mono other ind b. subst (λ v. reached_leq o v (row_at other b) ≡ true) (sym (no_row b)) refl;
   }
 
   pub begin-sound : IsSound o m (arrive o m 0 m.start (state_in p slots)).rows
-  begin-sound = arrive-sound o k r m law 0 m.start (state_in p slots) law.some_block vacant_sound law.start_attained (λ other ind. ind.entry)
+  begin-sound = arrive-sound o k r m law 0 m.start (state_in p slots) law.some_block vacant_sound law.start_attained (λ mono other ind. ind.entry)
 
   pub begin-entry : HasEntry o m (arrive o m 0 m.start (state_in p slots)).rows
   begin-entry = arrive-above o k r m law 0 m.start (state_in p slots) law.some_block vacant_sound law.start_attained

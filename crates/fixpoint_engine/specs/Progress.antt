@@ -2,7 +2,7 @@
 use Rattle.std.specs.Prelude.{◌≡◌, ◌+◌, ◌<◌, ℕ, zero, suc, Bool, true, false, cond, List, length, Option, Some, None}
 use Rattle.cc_base.specs.Lattices.{LatticeOf}
 use Rattle.cc_base.specs.Rows.{reached_leq}
-use Rattle.cc_base.specs.Machine.{Machine}
+use Rattle.cc_base.specs.Machine.{Machine, IsMonotone}
 use Rattle.cc_base.specs.InductiveMap.{row_at, step, IsRoundedOrNone, IsLeast}
 use Rattle.fixpoint_engine.specs.SolverState.{State, mark_at}
 
@@ -11,13 +11,13 @@ abbrev pub IsAttained : {C : Type 0} → Machine C → Option (List C) → Type 
 IsAttained m None = Unit {0}
 IsAttained m (Some r) = m.attained r ≡ true
 
--- the rows are such as the system leads to, those of heads are rounded, and all are at or below
--- those of every inductive map
+-- the rows are such as the system leads to, those of heads are rounded, and where edges are monotone
+-- all are at or below those of every inductive map
 pub record IsSound {C : Type 0} (o : LatticeOf C) (m : Machine C) (rows : List (Option (List C))) : Type 0 where
   pub size : length rows ≡ m.blocks
   pub attained : (b : ℕ) → IsAttained m (row_at rows b)
   pub rounded : (b : ℕ) → m.head b ≡ true → IsRoundedOrNone o m (row_at rows b)
-  pub least : IsLeast o m rows
+  pub least : IsMonotone o m → IsLeast o m rows
 
 abbrev pub HasEntry : {C : Type 0} → LatticeOf C → Machine C → List (Option (List C)) → Type 0
 HasEntry o m rows = reached_leq o (Some m.start) (row_at rows 0) ≡ true

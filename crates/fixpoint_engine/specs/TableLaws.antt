@@ -7,7 +7,7 @@ use Rattle.std.proofs.Math.Nat.{max-le}
 use Rattle.std.specs.List.{list_all}
 use Rattle.cc_base.specs.Rows.{row_leq, row_join, row_round, reached_leq}
 use Rattle.cc_base.specs.RowLaws.{by_test, and_left, and_right, and_both}
-use Rattle.cc_base.specs.Machine.{MachineLaws, IsRounded}
+use Rattle.cc_base.specs.Machine.{MachineLaws, IsMonotone, IsRounded}
 use Rattle.fixpoint_engine.specs.Levels.{level_lattice, rung_above}
 use Rattle.fixpoint_engine.specs.LevelLaws.{rung-within, rung-falls, rungs-bounded}
 use Rattle.fixpoint_engine.specs.Tables.{Passage, Table, passage_at, pass, is_level, row_rungs, table_machine, IsPassage, IsFit, is_passage, is_ordered, is_fit}
@@ -89,10 +89,12 @@ module _ (t : Table) where
     through_attained = λ e r s lt h same. let p = fit.each e lt in pass-level (passage_at t e) r s p.fits same;
     join_attained = join-level;
     round_attained = round-level;
-    monotone = λ e r s lt h j le. pass-monotone (passage_at t e) r s h j le;
     room_bounded = room-bounded;
     room_falls = room-falls;
   }
+
+  pub table-monotone : IsMonotone level_lattice (table_machine t)
+  table-monotone e r s lt h j le = pass-monotone (passage_at t e) r s h j le
 
 list_all-each : {X : Type 0} (f : X → Bool) (xs : List X) (d : X) → list_all f xs ≡ true → (e : ℕ) → e < length xs → f (slice_index_or xs e d) ≡ true
 list_all-each f [] d h e lt = absurd (omega arith)

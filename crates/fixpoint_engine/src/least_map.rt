@@ -2,6 +2,7 @@
 ghost use Rattle.std.specs.Prelude.{◌≡◌, ◌+◌, ◌<◌, ◌≤◌, ℕ, true, false, length, count_by, Some, None, if◌then◌else◌};
 ghost use Rattle.std.proofs.Common.{replicate};
 ghost use Rattle.cc_base.specs.InductiveMap.{IsInductive, IsLeast, most_steps};
+ghost use Rattle.cc_base.specs.Machine.{IsMonotone};
 ghost use Rattle.row_pool.specs.Pool.{row_of, IsTaken, IsWhole, free_count};
 ghost use Rattle.fixpoint_engine.specs.Progress.{IsSound, HasEntry, IsMarked, potential};
 ghost use Rattle.fixpoint_engine.specs.RowMap.{is_vacant, is_held, state_in, rows_in, index_at, IsHeld, IsHeldBeside, Changed};
@@ -12,8 +13,9 @@ use cc_base::{Steps, System};
 use row_pool::{Row, RowPool};
 use std::sync::ledger::Ledger;
 
-/// Fills `map`, which has a None for each block, with the rows of the least inductive map of the
-/// system: the rows of the blocks that are reached, and None for each other block.
+/// Fills `map`, which has a None for each block, with the rows of an inductive map of the system, the
+/// least one where its edges are monotone: the rows of the blocks that are reached, and None for each
+/// other block.
 ///
 /// The pool has the system's width, and at least two rows more are free than there are blocks; all
 /// that the map does not hold are free again afterwards. Other rows in use are as before. Each step
@@ -29,7 +31,7 @@ pub fn solve<S: System, L: Ledger>(
     requires vacant { map.old ≡ replicate (S.machine system.now).blocks None }
     requires room { (S.machine system.now).blocks + 2 ≤ free_count pool.old }
     ensures inductive { IsInductive S.Cell.lattice (S.machine system.now) (rows_in pool.new map.new) }
-    ensures least { IsLeast S.Cell.lattice (S.machine system.now) (rows_in pool.new map.new) }
+    ensures least { IsMonotone S.Cell.lattice (S.machine system.now) → IsLeast S.Cell.lattice (S.machine system.now) (rows_in pool.new map.new) }
     ensures steps { steps.new ≤ steps.old + most_steps (S.machine system.now) }
     ensures held { IsHeld pool.new map.new }
     ensures room { free_count pool.new + count_by is_held map.new ≡ free_count pool.old }
