@@ -1,0 +1,17 @@
+//! Writing a cell.
+ghost use Rattle.std.specs.Prelude.{◌≡◌, length};
+
+use crate::row_positions::{join_value, put_value};
+use cc_base::IntDomain;
+use value_domain::{Cell, Value};
+
+/// Puts a value in place of the old one where the write is strong; else joins it with that.
+pub fn write_value<I: IntDomain>(row: &mut [Cell<I>], at: usize, value: Value<I>, strong: bool)
+    ensures { length row.new ≡ length row.old }
+{
+    if strong {
+        put_value(row, at, value);
+    } else {
+        join_value(row, at, value);
+    }
+}

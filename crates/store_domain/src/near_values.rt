@@ -1,0 +1,52 @@
+//! Values whose bounds lie from -2^64 to 2^64, as those of each row of a flow do.
+ghost use Rattle.std.specs.Prelude.{◌≡◌};
+ghost use Rattle.cc_base.specs.IntegerDomains.{IsNear};
+ghost use Rattle.pointer_domain.specs.PointerTables.{IsNearPointer};
+
+use cc_base::{IntDomain, Lattice};
+use pointer_domain::Pointers;
+use value_domain::Value;
+
+/// The numbers, where they lie from -2^64 to 2^64; else none. No row of a flow has other numbers.
+pub fn near_number<I: IntDomain>(x: I) -> I
+    ensures { IsNear (I.numbers.bounds result) }
+{
+    match x.bounds() {
+        None => I::bottom(),
+        Some((lo, hi)) => {
+            if lo < -0x1_0000_0000_0000_0000 || hi > 0x1_0000_0000_0000_0000 {
+                I::bottom()
+            } else {
+                x
+            }
+        }
+    }
+}
+
+/// The pointers with near bounds.
+pub fn near_pointer<I: IntDomain>(p: Pointers<I>) -> Pointers<I>
+    ensures { IsNearPointer I.numbers result }
+{
+    Pointers {
+        bases: p.bases,
+        lo: near_number(p.lo),
+        rel: near_number(p.rel),
+        len: near_number(p.len),
+        part: p.part,
+        null: p.null,
+        ended: p.ended,
+    }
+}
+
+/// The value with near bounds.
+pub fn near_value<I: IntDomain>(v: Value<I>) -> Value<I>
+    ensures number { IsNear (I.numbers.bounds result.num) }
+    ensures pointer { IsNearPointer I.numbers result.pointer }
+{
+    Value {
+        num: near_number(v.num),
+        pointer: near_pointer(v.pointer),
+        indeterminate: v.indeterminate,
+        labels: v.labels,
+    }
+}
