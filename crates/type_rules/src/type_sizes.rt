@@ -1,5 +1,5 @@
 //! The sizes of complete types (6.2.5 of ISO/IEC 9899:2011), and structs member by member.
-ghost use Rattle.std.specs.Prelude.{◌≡◌, ◌≤◌, true};
+ghost use Rattle.std.specs.Prelude.{◌≡◌, ◌≤◌, true, IfSome, OnSome};
 ghost use Rattle.c_layout.specs.Types.{view};
 ghost use Rattle.c_layout.specs.StructViews.{structs_view};
 ghost use Rattle.c_layout.specs.Layout.{most_bytes, is_complete, size_of_type};
@@ -25,6 +25,8 @@ fn array_size(count: u64, size: u64) -> Option<u64>
 /// unknown length has the count 0. A pointer has `pointer` bytes.
 pub fn size_if_complete(t: &CType, structs: &Structs, pointer: u8) -> Option<u64>
     ensures exact { result ≡ sized (structs_view structs.now) pointer (view t.now) }
+    ensures size { IfSome result (λ n. n ≡ size_of_type (structs_view structs.now) pointer (view t.now)) }
+    ensures complete { OnSome result (is_complete (structs_view structs.now) pointer (view t.now) ≡ true) }
 {
     match t {
         CType::Int(kind) => {
