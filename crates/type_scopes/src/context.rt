@@ -125,8 +125,8 @@ pub struct Context {
     /// How many operands of `sizeof` are open: what stands in them is not evaluated.
     pub unevaluated: u32,
     pub body: Body,
-    /// The struct that a stream points to, once it has a number.
-    pub stream: Option<u32>,
+    /// The struct that a stream points to.
+    pub stream: u32,
 }
 
 impl Context {
@@ -151,7 +151,7 @@ impl Context {
                 locals: Vec::new(alloc),
                 enumerations: Vec::new(alloc),
             },
-            stream: None,
+            stream: 0,
         }
     }
 

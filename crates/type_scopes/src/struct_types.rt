@@ -1,7 +1,7 @@
 //! The structs of a unit while it is typed (6.7.2.1 of ISO/IEC 9899:2011).
 use c_layout::{CType, Field, StructType, Structs};
 use cc_base::Memory;
-use indexmap::IndexMap;
+use indexmap::{IndexMap, IndexSet};
 use std::alloc::Global;
 
 /// A member by its struct and the number of its name.
@@ -19,6 +19,7 @@ struct MemberEntry {
 }
 
 /// A member that was found.
+#[derive(Drop)]
 pub struct FoundMember<'a> {
     pub field: &'a Field,
     pub enumeration: Option<u32>,
@@ -29,6 +30,8 @@ pub struct FoundMember<'a> {
 pub struct StructTypes {
     pub structs: Structs,
     members: IndexMap<MemberKey, MemberEntry>,
+    /// The structs whose bodies were met.
+    bodies: IndexSet<u32>,
 }
 
 /// A struct without members that is not complete.
@@ -51,6 +54,7 @@ impl StructTypes {
                 items: Vec::new(alloc),
             },
             members: IndexMap::new(alloc),
+            bodies: IndexSet::new(alloc),
         }
     }
 
@@ -67,6 +71,13 @@ impl StructTypes {
             Some(found) => found.complete,
             None => false,
         }
+    }
+
+    /// Notes that a body of a struct begins; whether one did before.
+    pub fn begin_body(&mut self, number: u32) -> Result<bool, Memory> {
+        let before = self.bodies.contains(&number);
+        self.bodies.insert(number)?;
+        Ok(before)
     }
 
     /// Whether a struct has a member of this name so far.
