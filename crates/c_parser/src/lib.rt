@@ -1,0 +1,18 @@
+//! The parser: takes the tokens of a unit after preprocessing to its tree (6.5 to 6.9 of
+//! ISO/IEC 9899:2011), piece by piece.
+#![tactic(auto)]
+
+#[cfg(test)]
+mod acceptance_tests;
+#[cfg(test)]
+mod blank_tokens;
+mod external_declarations;
+mod jump_statements;
+#[cfg(test)]
+mod outline_tests;
+mod parsing;
+mod pieces;
+mod statement_parts;
+mod statements;
+
+pub use parsing::parse;

@@ -1,0 +1,337 @@
+//! How units are grouped. In an outline a leaf is the number of its token.
+use crate::blank_tokens::parsed;
+use c_layout::{
+    BinaryOp, Declarator, Expr, External, InitDeclarator, Initializer, Statement, Tree7,
+};
+use std::alloc::Global;
+use std::fmt::Write;
+use std::test::Fail;
+
+/// More than any depth in these tests.
+const FUEL: u32 = 20;
+
+/// An expression's sign and its parts.
+#[derive(Clone, Copy)]
+struct Node<'a> {
+    sign: &'static str,
+    first: Option<&'a Expr>,
+    second: Option<&'a Expr>,
+    third: Option<&'a Expr>,
+}
+
+fn leaf<'a>(sign: &'static str) -> Node<'a> {
+    Node {
+        sign,
+        first: None,
+        second: None,
+        third: None,
+    }
+}
+
+fn unary<'a>(sign: &'static str, part: &'a Expr) -> Node<'a> {
+    Node {
+        sign,
+        first: Some(part),
+        second: None,
+        third: None,
+    }
+}
+
+fn binary<'a>(sign: &'static str, left: &'a Expr, right: &'a Expr) -> Node<'a> {
+    Node {
+        sign,
+        first: Some(left),
+        second: Some(right),
+        third: None,
+    }
+}
+
+fn sign_of(op: BinaryOp) -> &'static str {
+    match op {
+        BinaryOp::Multiply => "*",
+        BinaryOp::Divide => "/",
+        BinaryOp::Add => "+",
+        BinaryOp::Subtract => "-",
+        BinaryOp::ShiftLeft => "<<",
+        BinaryOp::Less => "<",
+        BinaryOp::Equal => "==",
+        BinaryOp::And => "&",
+        BinaryOp::Xor => "^",
+        BinaryOp::Or => "|",
+        _ => "another",
+    }
+}
+
+fn node(e: &Expr) -> Node<'_> {
+    match e {
+        Expr::Paren(_, part) => unary("()", part),
+        Expr::Member(_, part, _) => unary(".", part),
+        Expr::Arrow(_, part, _) => unary("->", part),
+        Expr::Postfix(_, _, part) => unary("post", part),
+        Expr::Prefix(_, _, part) => unary("pre", part),
+        Expr::Unary(_, _, part) => unary("un", part),
+        Expr::SizeofExpr(_, part) => unary("sizeof", part),
+        Expr::SizeofType(_, _, _) => leaf("sizeof type"),
+        Expr::Cast(_, _, _, part) => unary("cast", part),
+        Expr::Subscript(_, left, right) => binary("[]", left, right),
+        Expr::Binary(_, op, left, right) => binary(sign_of(*op), left, right),
+        Expr::Logical(_, _, left, right) => binary("logical", left, right),
+        Expr::Assign(_, _, left, right) => binary("=", left, right),
+        Expr::Comma(_, left, right) => binary(",", left, right),
+        Expr::Conditional(_, test, left, right) => Node {
+            sign: "?",
+            first: Some(test),
+            second: Some(left),
+            third: Some(right),
+        },
+        Expr::Call(_, _, _) => leaf("call"),
+        _ => leaf(""),
+    }
+}
+
+#[cycle(expression_outline)]
+fn add_part(out: &mut String, part: Option<&Expr>, fuel: u32) -> Result<(), Fail> {
+    match part {
+        Some(e) if fuel > 0 => {
+            out.push_str(" ")?;
+            add_expression(out, e, fuel - 1)
+        }
+        _ => Ok(()),
+    }
+}
+
+/// Writes the outline of an expression.
+#[cycle(expression_outline)]
+fn add_expression(out: &mut String, e: &Expr, fuel: u32) -> Result<(), Fail> {
+    let Node {
+        sign,
+        first,
+        second,
+        third,
+    } = node(e);
+    if sign.is_empty() {
+        let col = e.place().col;
+        write!(out, "{col}")?;
+        return Ok(());
+    }
+    write!(out, "({sign}")?;
+    add_part(out, first, fuel)?;
+    add_part(out, second, fuel)?;
+    add_part(out, third, fuel)?;
+    out.push_str(")")?;
+    Ok(())
+}
+
+/// The only declarator of the first external declaration.
+fn first_declarator(tree: &Tree7) -> Option<&InitDeclarator> {
+    match tree.externals.first() {
+        Some(External::Declaration(_, _, declarators)) => declarators.first(),
+        _ => None,
+    }
+}
+
+/// The outline of the first initializer of a unit.
+fn initializer(alloc: Global, text: &str) -> Result<String, Fail> {
+    let mut out = String::new(alloc);
+    if let Ok(tree) = parsed(alloc, text)? {
+        if let Some(InitDeclarator::Initialized(_, _, Initializer::Value(e))) = first_declarator(
+            &tree,
+        ) {
+            add_expression(&mut out, e, FUEL)?;
+        }
+    }
+    Ok(out)
+}
+
+#[test]
+fn operators(rt: HostRuntime) -> Result<(), Fail> {
+    let alloc = rt.alloc();
+    for (text, wanted) in [
+        ("int x = a + b * c ;", "(+ 4 (* 6 8))"),
+        ("int x = a * b + c ;", "(+ (* 4 6) 8)"),
+        ("int x = a - b - c ;", "(- (- 4 6) 8)"),
+        ("int x = a < b == c ;", "(== (< 4 6) 8)"),
+        (
+            "int x = a | b ^ c & d << e ;",
+            "(| 4 (^ 6 (& 8 (<< 10 12))))",
+        ),
+        ("int x = a = b = c ;", "(= 4 (= 6 8))"),
+        (
+            "int x = a ? b , c : d ? e : f ;",
+            "(? 4 (, 6 8) (? 10 12 14))",
+        ),
+        (
+            "int x = a || b && c || d ;",
+            "(logical (logical 4 (logical 6 8)) 10)",
+        ),
+        ("int x = - a [ 1 ] ;", "(un ([] 5 7))"),
+        ("int x = * a ++ ;", "(un (post 5))"),
+        ("int x = ++ a . b ;", "(pre (. 5))"),
+        ("int x = ( int ) a + b ;", "(+ (cast 7) 9)"),
+        ("int x = sizeof a + b ;", "(+ (sizeof 5) 7)"),
+        ("int x = sizeof ( int ) * a ;", "(* (sizeof type) 9)"),
+        ("int x = ( a , b ) ;", "(() (, 5 7))"),
+        ("int x = ! f ( a , b ) -> c ;", "(un (-> (call)))"),
+    ] {
+        let found = initializer(alloc, text)?;
+        assert!(rt; found.as_str() == wanted, "{text}: {found}");
+    }
+    Ok(())
+}
+
+/// Stars and brackets of each layer, the outermost first, and the name's token.
+fn add_declarator(out: &mut String, declared: &Declarator) -> Result<(), Fail> {
+    for layer in &declared.layers {
+        let stars = layer.stars.len();
+        let arrays = layer.arrays.len();
+        write!(out, "*{stars} []{arrays} / ")?;
+    }
+    if let Some(name) = &declared.name {
+        let col = name.place.col;
+        write!(out, "{col}")?;
+    }
+    Ok(())
+}
+
+fn declarator(alloc: Global, text: &str) -> Result<String, Fail> {
+    let mut out = String::new(alloc);
+    if let Ok(tree) = parsed(alloc, text)? {
+        if let Some(InitDeclarator::Object(declared)) = first_declarator(&tree) {
+            add_declarator(&mut out, declared)?;
+        }
+    }
+    Ok(out)
+}
+
+#[test]
+fn declarators(rt: HostRuntime) -> Result<(), Fail> {
+    let alloc = rt.alloc();
+    for (text, wanted) in [
+        ("int x ;", "*0 []0 / 2"),
+        ("int * x [ 3 ] ;", "*1 []1 / 3"),
+        ("int ( * x ) [ 3 ] [ 4 ] ;", "*0 []2 / *1 []0 / 4"),
+        ("int * ( ( x ) ) ;", "*1 []0 / *0 []0 / *0 []0 / 5"),
+    ] {
+        let found = declarator(alloc, text)?;
+        assert!(rt; found.as_str() == wanted, "{text}: {found}");
+    }
+    Ok(())
+}
+
+/// A statement's sign and its parts.
+#[derive(Clone, Copy)]
+struct Step<'a> {
+    sign: &'static str,
+    first: Option<&'a Statement>,
+    second: Option<&'a Statement>,
+}
+
+fn simple<'a>(sign: &'static str) -> Step<'a> {
+    Step {
+        sign,
+        first: None,
+        second: None,
+    }
+}
+
+fn around<'a>(sign: &'static str, part: &'a Statement) -> Step<'a> {
+    Step {
+        sign,
+        first: Some(part),
+        second: None,
+    }
+}
+
+fn step(s: &Statement) -> Step<'_> {
+    match s {
+        Statement::Label(_, part) => around("label", part),
+        Statement::Case(_, _, part) => around("case", part),
+        Statement::Default(_, part) => around("default", part),
+        Statement::If(_, _, part) => around("if", part),
+        Statement::Switch(_, _, part) => around("switch", part),
+        Statement::While(_, _, part) => around("while", part),
+        Statement::Do(_, part, _) => around("do", part),
+        Statement::For(_, _, _, _, part) => around("for", part),
+        Statement::IfElse(_, _, first, second) => Step {
+            sign: "if",
+            first: Some(first),
+            second: Some(second),
+        },
+        Statement::Value(_, None) => simple(";"),
+        Statement::Value(_, Some(_)) => simple("e"),
+        Statement::Block(_, _) => simple("{}"),
+        Statement::Local(_) => simple("local"),
+        _ => simple("jump"),
+    }
+}
+
+#[cycle(statement_outline)]
+fn add_inner(out: &mut String, part: Option<&Statement>, fuel: u32) -> Result<(), Fail> {
+    match part {
+        Some(s) if fuel > 0 => {
+            out.push_str(" ")?;
+            add_statement(out, s, fuel - 1)
+        }
+        _ => Ok(()),
+    }
+}
+
+/// Writes the outline of a statement.
+#[cycle(statement_outline)]
+fn add_statement(out: &mut String, s: &Statement, fuel: u32) -> Result<(), Fail> {
+    let Step {
+        sign,
+        first,
+        second,
+    } = step(s);
+    write!(out, "({sign}")?;
+    add_inner(out, first, fuel)?;
+    add_inner(out, second, fuel)?;
+    out.push_str(")")?;
+    Ok(())
+}
+
+/// The outline of the first statement of the function that a unit is.
+fn statement(alloc: Global, text: &str) -> Result<String, Fail> {
+    let mut out = String::new(alloc);
+    if let Ok(tree) = parsed(alloc, text)? {
+        if let Some(External::Function(_, _, _, items)) = tree.externals.first() {
+            if let Some(first) = items.first() {
+                add_statement(&mut out, first, FUEL)?;
+            }
+        }
+    }
+    Ok(out)
+}
+
+#[test]
+fn statements(rt: HostRuntime) -> Result<(), Fail> {
+    let alloc = rt.alloc();
+    for (text, wanted) in [
+        (
+            "int f ( ) { if ( a ) if ( b ) ; else c ; }",
+            "(if (if (;) (e)))",
+        ),
+        (
+            "int f ( ) { if ( a ) { if ( b ) ; } else ; }",
+            "(if ({}) (;))",
+        ),
+        (
+            "int f ( ) { if ( a ) ; else if ( b ) ; else return ; }",
+            "(if (;) (if (;) (jump)))",
+        ),
+        (
+            "int f ( ) { l : while ( a ) do ; while ( b ) ; }",
+            "(label (while (do (;))))",
+        ),
+        (
+            "int f ( ) { switch ( a ) case 1 : default : for ( ; ; ) ; }",
+            "(switch (case (default (for (;)))))",
+        ),
+        ("int f ( ) { int x ; }", "(local)"),
+    ] {
+        let found = statement(alloc, text)?;
+        assert!(rt; found.as_str() == wanted, "{text}: {found}");
+    }
+    Ok(())
+}

@@ -1,0 +1,84 @@
+//! Parses a unit.
+ghost use Rattle.std.specs.Prelude.{◌≡◌, [], length, IfOk, IfErr};
+ghost use Rattle.c_parser.specs.Pieces.{StopsAt, StopsAtPiece, left_behind};
+
+use crate::external_declarations::external;
+use crate::pieces::piece_length;
+use c_layout::{External, Tree7, Unit7};
+use cc_base::{Fault, Place, Refusal, Stop, Text};
+use expression_grammar::{GREATEST_HEIGHT, Reader, Trouble};
+use std::alloc::Global;
+use token_classes::{Terminal, classify};
+
+/// The external declaration that a piece is.
+fn piece_tree(
+    alloc: Global,
+    typedefs: &mut Vec<Text>,
+    piece: &[Terminal],
+) -> Result<External, Trouble> {
+    let mut reader = Reader::new(piece);
+    let found = external(alloc, typedefs, &mut reader, GREATEST_HEIGHT)?;
+    if reader.left() == 0 {
+        Ok(found.tree)
+    } else {
+        Err(Trouble::Syntax)
+    }
+}
+
+/// What trouble with a piece means for the unit.
+fn stop_of(trouble: Trouble, place: Place) -> Stop
+    ensures { StopsAt place result }
+{
+    match trouble {
+        Trouble::Syntax => Stop::Refused(Fault {
+            place,
+            refusal: Refusal::Syntax,
+        }),
+        Trouble::Memory => Stop::Memory,
+    }
+}
+
+/// The external declaration that the piece at a place is.
+fn external_at(
+    alloc: Global,
+    typedefs: &mut Vec<Text>,
+    piece: &[Terminal],
+    place: Place,
+) -> Result<External, Stop>
+    ensures { IfErr result (StopsAt place) }
+{
+    match piece_tree(alloc, typedefs, piece) {
+        Ok(found) => Ok(found),
+        Err(trouble) => Err(stop_of(trouble, place)),
+    }
+}
+
+/// The external declarations that the pieces of these terminals are.
+fn externals(alloc: Global, terminals: &[Terminal]) -> Result<Vec<External>, Stop>
+    ensures pieces { IfOk result (λ found. left_behind (length found.items) terminals.now ≡ []) }
+    ensures place { IfErr result (StopsAtPiece terminals.now) }
+{
+    let mut found = Vec::new(alloc);
+    let mut typedefs = Vec::new(alloc);
+    let mut rest = terminals;
+    while let [first, ..] = rest {
+        let (piece, behind) = rest.split_at(piece_length(rest));
+        found.push(external_at(alloc, &mut typedefs, piece, first.place)?)?;
+        rest = behind;
+    }
+    Ok(found)
+}
+
+/// The tree of a unit.
+///
+/// # Errors
+///
+/// `NumberForm` at the first number, character constant or string literal of the unit whose form is
+/// not in; else `Unsupported` at its first word or punctuator that is left out of the language; else
+/// `Syntax` at the first token of the first piece that is no external declaration of a height of at
+/// most 256; or want of memory.
+pub fn parse(alloc: Global, unit: &Unit7) -> Result<Tree7, Stop> {
+    let terminals = classify(alloc, unit)?;
+    let externals = externals(alloc, terminals.as_slice())?;
+    Ok(Tree7 { externals })
+}
