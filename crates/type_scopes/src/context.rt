@@ -1,0 +1,223 @@
+//! What typing knows at a place of a unit.
+use crate::data_models::DataModel;
+use crate::declared_types::{DeclaredType, ObjectDeclaration, Signature};
+use crate::definitions::Definitions;
+use crate::meanings::{Meaning, Tag};
+use crate::name_numbers::NameNumbers;
+use crate::scope_table::ScopeTable;
+use crate::struct_types::StructTypes;
+use c_layout::{CType, LocalObject, StaticObject, StringLiteral};
+use call_cycles::{Call, CallGraph};
+use cc_base::{Memory, Place, Text};
+use std::alloc::Global;
+use type_rules::size_if_complete;
+
+/// The names in scope, and what they mean.
+#[derive(Drop)]
+pub struct Scopes {
+    names: NameNumbers,
+    ordinary: ScopeTable,
+    meanings: Vec<Meaning>,
+    tags: ScopeTable,
+    tag_meanings: Vec<Tag>,
+}
+
+impl Scopes {
+    /// The outermost scope, without names.
+    pub fn new(alloc: Global) -> Scopes {
+        Scopes {
+            names: NameNumbers::new(alloc),
+            ordinary: ScopeTable::new(alloc),
+            meanings: Vec::new(alloc),
+            tags: ScopeTable::new(alloc),
+            tag_meanings: Vec::new(alloc),
+        }
+    }
+
+    /// The number of a name.
+    pub fn number(&mut self, alloc: Global, name: &Text) -> Result<u32, Memory> {
+        self.names.number(alloc, name.as_bytes())
+    }
+
+    /// The number of a name that was met.
+    pub fn known(&self, name: &Text) -> Option<u32> {
+        self.names.known(name.as_bytes())
+    }
+
+    /// Opens a scope of identifiers and of tags.
+    pub fn open(&mut self) -> Result<(), Memory> {
+        self.ordinary.open()?;
+        self.tags.open()
+    }
+
+    /// Closes the innermost scope.
+    pub fn close(&mut self) {
+        self.ordinary.close();
+        self.tags.close();
+    }
+
+    /// What an identifier means.
+    pub fn find(&self, name: u32) -> Option<Meaning> {
+        let found = self.ordinary.find(name)?;
+        self.meanings.get(found as usize).copied()
+    }
+
+    /// What an identifier means by a declaration in the innermost scope.
+    pub fn find_here(&self, name: u32) -> Option<Meaning> {
+        let found = self.ordinary.find_here(name)?;
+        self.meanings.get(found as usize).copied()
+    }
+
+    /// Declares an identifier in the innermost scope.
+    pub fn declare(&mut self, name: u32, meaning: Meaning) -> Result<(), Memory> {
+        let number = u32::try_from(self.meanings.len()).map_err(|_| Memory)?;
+        self.meanings.push(meaning)?;
+        self.ordinary.declare(name, number)
+    }
+
+    /// What a tag means.
+    pub fn find_tag(&self, name: u32) -> Option<Tag> {
+        let found = self.tags.find(name)?;
+        self.tag_meanings.get(found as usize).copied()
+    }
+
+    /// What a tag means by a declaration in the innermost scope.
+    pub fn find_tag_here(&self, name: u32) -> Option<Tag> {
+        let found = self.tags.find_here(name)?;
+        self.tag_meanings.get(found as usize).copied()
+    }
+
+    /// Declares a tag in the innermost scope.
+    pub fn declare_tag(&mut self, name: u32, tag: Tag) -> Result<(), Memory> {
+        let number = u32::try_from(self.tag_meanings.len()).map_err(|_| Memory)?;
+        self.tag_meanings.push(tag)?;
+        self.tags.declare(name, number)
+    }
+}
+
+/// The function whose body is typed: its number, its objects, and the enumerated types that their
+/// declarations name.
+#[derive(Drop)]
+pub struct Body {
+    pub number: u32,
+    pub locals: Vec<LocalObject>,
+    pub enumerations: Vec<Option<u32>>,
+}
+
+/// What typing knows at a place of a unit.
+#[derive(Drop)]
+pub struct Context {
+    pub alloc: Global,
+    pub model: DataModel,
+    pub scopes: Scopes,
+    pub types: StructTypes,
+    /// The values of the enumerators of each enumerated type.
+    pub enumerations: Vec<Vec<i128>>,
+    pub typedefs: Vec<DeclaredType>,
+    pub objects: Vec<ObjectDeclaration>,
+    pub functions: Vec<Signature>,
+    pub definitions: Definitions,
+    /// The objects of static storage of the run.
+    pub statics: Vec<StaticObject>,
+    /// The string literals of the run.
+    pub literals: Vec<StringLiteral>,
+    pub calls: CallGraph,
+    /// How many operands of `sizeof` are open: what stands in them is not evaluated.
+    pub unevaluated: u32,
+    pub body: Body,
+    /// The struct that a stream points to.
+    pub stream: u32,
+}
+
+impl Context {
+    /// What is known before a unit's first declaration.
+    pub fn new(alloc: Global, model: DataModel) -> Context {
+        Context {
+            alloc,
+            model,
+            scopes: Scopes::new(alloc),
+            types: StructTypes::new(alloc),
+            enumerations: Vec::new(alloc),
+            typedefs: Vec::new(alloc),
+            objects: Vec::new(alloc),
+            functions: Vec::new(alloc),
+            definitions: Definitions::new(alloc),
+            statics: Vec::new(alloc),
+            literals: Vec::new(alloc),
+            calls: CallGraph::new(alloc),
+            unevaluated: 0,
+            body: Body {
+                number: 0,
+                locals: Vec::new(alloc),
+                enumerations: Vec::new(alloc),
+            },
+            stream: 0,
+        }
+    }
+
+    /// The size of a complete type; None for any other.
+    pub fn size_of(&self, t: &CType) -> Option<u64> {
+        size_if_complete(t, &self.types.structs, self.model.numbers.pointer)
+    }
+
+    /// The number of a name.
+    pub fn name(&mut self, name: &Text) -> Result<u32, Memory> {
+        self.scopes.number(self.alloc, name)
+    }
+
+    /// Whether what is typed is evaluated.
+    pub fn is_evaluated(&self) -> bool {
+        self.unevaluated == 0
+    }
+
+    /// Adds a string literal to those of the run; its number. One that is not evaluated is none,
+    /// and has the greatest number.
+    pub fn add_literal(&mut self, place: Place, bytes: &Text) -> Result<u32, Memory> {
+        if !self.is_evaluated() {
+            return Ok(u32::MAX);
+        }
+        let number = u32::try_from(self.literals.len()).map_err(|_| Memory)?;
+        let bytes = bytes.copy(self.alloc)?;
+        self.literals.push(StringLiteral { place, bytes })?;
+        Ok(number)
+    }
+
+    /// Notes a call in the body at hand, where it is evaluated.
+    pub fn note_call(&mut self, callee: u32, place: Place) -> Result<(), Memory> {
+        if !self.is_evaluated() {
+            return Ok(());
+        }
+        let caller = self.body.number;
+        self.calls.add(Call {
+            caller,
+            callee,
+            place,
+        })
+    }
+
+    /// Adds an object of automatic storage to the body at hand; its number.
+    pub fn add_local(
+        &mut self,
+        name: Text,
+        place: Place,
+        declared: DeclaredType,
+    ) -> Result<u32, Memory> {
+        let number = u32::try_from(self.body.locals.len()).map_err(|_| Memory)?;
+        let DeclaredType { ctype, enumeration } = declared;
+        self.body.locals.push(LocalObject { name, place, ctype })?;
+        self.body.enumerations.push(enumeration)?;
+        Ok(number)
+    }
+
+    /// Adds an object of static storage, all zero so far; its number.
+    pub fn add_static(&mut self, name: Text, place: Place, ctype: CType) -> Result<u32, Memory> {
+        let number = u32::try_from(self.statics.len()).map_err(|_| Memory)?;
+        self.statics.push(StaticObject {
+            name,
+            place,
+            ctype,
+            stores: Vec::new(self.alloc),
+        })?;
+        Ok(number)
+    }
+}
