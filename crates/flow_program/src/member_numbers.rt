@@ -10,14 +10,14 @@ use std::alloc::AllocError;
 
 /// The size of a type in bytes; one that no u64 holds comes to want of memory, since no complete
 /// type has one.
-fn bytes(t: &CType, structs: &Structs, pointer: u8) -> Result<u64, AllocError>
+pub fn type_bytes(t: &CType, structs: &Structs, pointer: u8) -> Result<u64, AllocError>
     ensures { IfOk result (λ n. n ≡ size_of_type (structs_view structs.now) pointer (view t.now)) }
 {
     match t {
         CType::Int(kind) => Ok(kind.bytes as u64),
         CType::Pointer(_) => Ok(pointer as u64),
         CType::Array(element, count) => {
-            let inner = bytes(element, structs, pointer)?;
+            let inner = type_bytes(element, structs, pointer)?;
             count.checked_mul(inner).ok_or(AllocError)
         }
         CType::Struct(index) => match structs.items.get(*index as usize) {
@@ -36,7 +36,7 @@ fn push_field(
 ) -> Result<(), AllocError>
     ensures { IfOk result (λ _. out.new.items ≡ out.old.items ++ field_numbers (structs_view structs.now) pointer (field_view field.now)) }
 {
-    let size = bytes(&field.ctype, structs, pointer)?;
+    let size = type_bytes(&field.ctype, structs, pointer)?;
     let end = field.offset.checked_add(size).ok_or(AllocError)?;
     out.push(field.offset as i128)?;
     out.push(end as i128)?;
