@@ -1,2 +1,4 @@
 pub mod ThresholdNumbers
 pub mod FlowNumbers
+pub mod Nearest
+pub mod StructNumbers

@@ -5,11 +5,16 @@
 mod basic_blocks;
 mod flow_edges;
 mod machine_instructions;
+mod member_numbers;
+mod nearest_numbers;
 mod number_lists;
 mod programs;
+mod threshold_choice;
 mod threshold_numbers;
 
 pub use basic_blocks::BasicBlock;
 pub use flow_edges::{CaseTest, Edge, EdgeKind, Side, Test};
 pub use machine_instructions::{Amount, Instruction, Operation, Scalar};
+pub use member_numbers::type_bytes;
 pub use programs::{Flow, InitialObject, InitialValue, ParameterInput};
+pub use threshold_choice::thresholds;

@@ -44,7 +44,7 @@ fn push_size_ends(out: &mut Vec<i128>, bytes: u8) -> Result<(), AllocError>
 }
 
 /// The ends of each integer type, and END.
-fn limits(alloc: Global, model: &Model) -> Result<Vec<i128>, AllocError>
+pub(crate) fn limits(alloc: Global, model: &Model) -> Result<Vec<i128>, AllocError>
     requires { is_model model.now ≡ true }
     ensures { IfOk result (λ v. v.items ≡ limits_of model.now) }
 {
@@ -90,7 +90,7 @@ fn push_instructions(out: &mut Vec<i128>, instructions: &[Instruction]) -> Resul
     Ok(())
 }
 
-fn push_blocks(out: &mut Vec<i128>, blocks: &[BasicBlock]) -> Result<(), AllocError>
+pub(crate) fn push_blocks(out: &mut Vec<i128>, blocks: &[BasicBlock]) -> Result<(), AllocError>
     ensures { IfOk result (λ _. out.new.items ≡ out.old.items ++ blocks_numbers blocks.now) }
 {
     for at in 0..blocks.len() {
@@ -112,7 +112,7 @@ fn push_edge(out: &mut Vec<i128>, kind: &EdgeKind) -> Result<(), AllocError>
     }
 }
 
-fn push_edges(out: &mut Vec<i128>, edges: &[Edge]) -> Result<(), AllocError>
+pub(crate) fn push_edges(out: &mut Vec<i128>, edges: &[Edge]) -> Result<(), AllocError>
     ensures { IfOk result (λ _. out.new.items ≡ out.old.items ++ edges_numbers edges.now) }
 {
     for at in 0..edges.len() {
@@ -130,7 +130,7 @@ fn push_base(out: &mut Vec<i128>, kind: BaseKind, size: u64) -> Result<(), Alloc
     }
 }
 
-fn push_bases(out: &mut Vec<i128>, bases: &[BaseInfo]) -> Result<(), AllocError>
+pub(crate) fn push_bases(out: &mut Vec<i128>, bases: &[BaseInfo]) -> Result<(), AllocError>
     ensures { IfOk result (λ _. out.new.items ≡ out.old.items ++ bases_numbers bases.now) }
 {
     for at in 0..bases.len() {
