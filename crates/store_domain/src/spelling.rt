@@ -4,7 +4,7 @@ ghost use Rattle.std.specs.Prelude.{◌≡◌, length};
 use crate::access_windows::Window;
 use crate::cell_writes::write_value;
 use crate::first_zero_writes::no_zero;
-use crate::leaf_selection::is_selected;
+use crate::leaf_selection::{has_place_in, is_selected};
 use crate::row_positions::{leaf_position, put_zero, zero_position};
 use c_layout::{BaseInfo, Class, Leaf};
 use cc_base::{IntDomain, Lattice};
@@ -84,7 +84,8 @@ fn spell_leaves<I: IntDomain>(
     }
 }
 
-/// Writes the characters to a leaf: its one character, or all of them where it stands for more places.
+/// Writes the characters to a leaf: its one character, or those at its places where it stands for more
+/// than one.
 fn spell_leaf<I: IntDomain>(
     row: &mut [Cell<I>],
     position: usize,
@@ -100,16 +101,29 @@ fn spell_leaf<I: IntDomain>(
         let value = Value::of_number(number_of(byte, leaf.signed), Labels::none());
         write_value(row, position, value, true);
     } else {
-        let value = Value::of_number(hull(leaf.signed, count, text), Labels::none());
+        let value = Value::of_number(hull(leaf, offset, count, text), Labels::none());
         write_value(row, position, value, false);
     }
 }
 
-/// The least value that has each character written.
-fn hull<I: IntDomain>(signed: bool, count: u64, text: &[u8]) -> I {
+/// Whether a place of the leaf begins at an offset.
+fn begins_at(leaf: Leaf, offset: u64) -> bool {
+    has_place_in(
+        leaf,
+        Window {
+            lo: offset,
+            hi: offset,
+        },
+    )
+}
+
+/// The least value that has each character written to a place of the leaf.
+fn hull<I: IntDomain>(leaf: Leaf, offset: u64, count: u64, text: &[u8]) -> I {
     let mut found = I::bottom();
     for at in 0..count {
-        found = found.join(number_of(character(text, at), signed));
+        if begins_at(leaf, offset.saturating_add(at)) {
+            found = found.join(number_of(character(text, at), leaf.signed));
+        }
     }
     found
 }
