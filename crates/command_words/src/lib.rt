@@ -1,0 +1,10 @@
+//! The words of a command line.
+#![tactic(auto)]
+
+mod clap_command;
+mod commands;
+mod numbers;
+mod reading;
+
+pub use commands::{Command, Format, Request};
+pub use reading::read_words;
