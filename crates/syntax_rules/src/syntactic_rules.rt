@@ -1,0 +1,24 @@
+//! What the syntactic rules find in a unit.
+use crate::diagnostic_lists::ordered;
+use crate::statement_places::add_statements;
+use c_layout::Checked;
+use cc_base::{Diag, Memory};
+use std::alloc::{AllocError, Global};
+
+/// What the bodies of the functions have, in reading order.
+fn all_places(alloc: Global, unit: &Checked) -> Result<Vec<Diag>, AllocError> {
+    let mut found = Vec::new(alloc);
+    for function in &unit.functions {
+        add_statements(&mut found, function.body.as_slice())?;
+    }
+    Ok(found)
+}
+
+/// The places at which boolasgn, sizeofptr and swtchdflt hold, by place and then by rule, each once.
+///
+/// # Errors
+///
+/// Want of memory.
+pub fn syntactic(alloc: Global, unit: &Checked) -> Result<Vec<Diag>, Memory> {
+    Ok(ordered(all_places(alloc, unit)?))
+}
