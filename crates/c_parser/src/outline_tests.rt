@@ -62,7 +62,7 @@ fn sign_of(op: BinaryOp) -> &'static str {
     }
 }
 
-fn node(e: &Expr) -> Node<'_> {
+fn node_of(e: &Expr) -> Node<'_> {
     match e {
         Expr::Paren(_, part) => unary("()", part),
         Expr::Member(_, part, _) => unary(".", part),
@@ -108,7 +108,7 @@ fn add_expression(out: &mut String, e: &Expr, fuel: u32) -> Result<(), Fail> {
         first,
         second,
         third,
-    } = node(e);
+    } = node_of(e);
     if sign.is_empty() {
         let col = e.place().col;
         write!(out, "{col}")?;
@@ -242,7 +242,14 @@ fn around<'a>(sign: &'static str, part: &'a Statement) -> Step<'a> {
     }
 }
 
-fn step(s: &Statement) -> Step<'_> {
+fn value_sign(value: &Option<Expr>) -> &'static str {
+    match value {
+        Some(_) => "e",
+        None => ";",
+    }
+}
+
+fn step_of(s: &Statement) -> Step<'_> {
     match s {
         Statement::Label(_, part) => around("label", part),
         Statement::Case(_, _, part) => around("case", part),
@@ -257,8 +264,7 @@ fn step(s: &Statement) -> Step<'_> {
             first: Some(first),
             second: Some(second),
         },
-        Statement::Value(_, None) => simple(";"),
-        Statement::Value(_, Some(_)) => simple("e"),
+        Statement::Value(_, value) => simple(value_sign(value)),
         Statement::Block(_, _) => simple("{}"),
         Statement::Local(_) => simple("local"),
         _ => simple("jump"),
@@ -283,7 +289,7 @@ fn add_statement(out: &mut String, s: &Statement, fuel: u32) -> Result<(), Fail>
         sign,
         first,
         second,
-    } = step(s);
+    } = step_of(s);
     write!(out, "({sign}")?;
     add_inner(out, first, fuel)?;
     add_inner(out, second, fuel)?;
