@@ -1,0 +1,4 @@
+pub mod Slots
+pub mod StatementPlaces
+pub mod Switches
+pub mod TermPlaces

@@ -1,4 +1,8 @@
 //! The places of the rules in statements.
+ghost use Rattle.std.specs.Prelude.{◌≡◌, ◌++◌, IfOk};
+ghost use Rattle.syntax_rules.specs.Slots.{switched};
+ghost use Rattle.syntax_rules.specs.StatementPlaces.{condition_places, test_places, optional_places, stores_places, clauses_places, statement_places, statements_places};
+
 use crate::switches::lacks_default;
 use crate::term_places::{Slot, add_lvalue, add_term};
 use c_layout::{CheckedStatement, CheckedTerm, InitStore};
@@ -6,12 +10,16 @@ use cc_base::{Diag, Place, Rule};
 use std::alloc::AllocError;
 
 /// Adds what a condition has: it stands in a slot that needs no parentheses.
-fn add_condition(found: &mut Vec<Diag>, test: &CheckedTerm) -> Result<(), AllocError> {
+fn add_condition(found: &mut Vec<Diag>, test: &CheckedTerm) -> Result<(), AllocError>
+    ensures { IfOk result (λ _. found.new.items ≡ found.old.items ++ condition_places test.now) }
+{
     add_term(found, test, Slot::Needs(0))
 }
 
 /// Adds what the condition of a `for` has.
-fn add_test(found: &mut Vec<Diag>, test: &Option<CheckedTerm>) -> Result<(), AllocError> {
+fn add_test(found: &mut Vec<Diag>, test: &Option<CheckedTerm>) -> Result<(), AllocError>
+    ensures { IfOk result (λ _. found.new.items ≡ found.old.items ++ test_places test.now) }
+{
     match test {
         Some(term) => add_condition(found, term),
         None => Ok(()),
@@ -19,7 +27,9 @@ fn add_test(found: &mut Vec<Diag>, test: &Option<CheckedTerm>) -> Result<(), All
 }
 
 /// Adds what an expression that stands in no slot has, where there is one.
-fn add_optional(found: &mut Vec<Diag>, term: &Option<CheckedTerm>) -> Result<(), AllocError> {
+fn add_optional(found: &mut Vec<Diag>, term: &Option<CheckedTerm>) -> Result<(), AllocError>
+    ensures { IfOk result (λ _. found.new.items ≡ found.old.items ++ optional_places term.now) }
+{
     match term {
         Some(term) => add_term(found, term, Slot::Outside),
         None => Ok(()),
@@ -27,7 +37,9 @@ fn add_optional(found: &mut Vec<Diag>, term: &Option<CheckedTerm>) -> Result<(),
 }
 
 /// Adds what the stores of an initializer have.
-fn add_stores(found: &mut Vec<Diag>, stores: &[InitStore]) -> Result<(), AllocError> {
+fn add_stores(found: &mut Vec<Diag>, stores: &[InitStore]) -> Result<(), AllocError>
+    ensures { IfOk result (λ _. found.new.items ≡ found.old.items ++ stores_places stores.now) }
+{
     for store in stores {
         match store {
             InitStore::Value(_, term) => add_term(found, term, Slot::Outside)?,
@@ -39,7 +51,9 @@ fn add_stores(found: &mut Vec<Diag>, stores: &[InitStore]) -> Result<(), AllocEr
 }
 
 /// Adds a `switch` without the default label that it should have.
-fn add_switch(found: &mut Vec<Diag>, place: Place, lacks: bool) -> Result<(), AllocError> {
+fn add_switch(found: &mut Vec<Diag>, place: Place, lacks: bool) -> Result<(), AllocError>
+    ensures { IfOk result (λ _. found.new.items ≡ found.old.items ++ switched place lacks) }
+{
     if lacks {
         let rule = Rule::Swtchdflt;
         return Ok(found.push(Diag { place, rule })?);
@@ -52,7 +66,9 @@ fn add_clauses(
     found: &mut Vec<Diag>,
     test: &Option<CheckedTerm>,
     step: &Option<CheckedTerm>,
-) -> Result<(), AllocError> {
+) -> Result<(), AllocError>
+    ensures { IfOk result (λ _. found.new.items ≡ found.old.items ++ clauses_places test.now step.now) }
+{
     add_test(found, test)?;
     add_optional(found, step)
 }
@@ -62,7 +78,9 @@ fn add_clauses(
 pub fn add_statements(
     found: &mut Vec<Diag>,
     statements: &[CheckedStatement],
-) -> Result<(), AllocError> {
+) -> Result<(), AllocError>
+    ensures { IfOk result (λ _. found.new.items ≡ found.old.items ++ statements_places statements.now) }
+{
     for statement in statements {
         add_statement(found, statement)?;
     }
@@ -71,7 +89,9 @@ pub fn add_statements(
 
 /// Adds what a statement has.
 #[cycle(statements)]
-fn add_statement(found: &mut Vec<Diag>, s: &CheckedStatement) -> Result<(), AllocError> {
+fn add_statement(found: &mut Vec<Diag>, s: &CheckedStatement) -> Result<(), AllocError>
+    ensures { IfOk result (λ _. found.new.items ≡ found.old.items ++ statement_places s.now) }
+{
     match s {
         CheckedStatement::Nothing
         | CheckedStatement::Forget(_, _)
@@ -85,7 +105,11 @@ fn add_statement(found: &mut Vec<Diag>, s: &CheckedStatement) -> Result<(), Allo
         CheckedStatement::StartList(_, _, stores) => add_stores(found, stores.as_slice()),
         CheckedStatement::Return(_, term) => add_optional(found, term),
         CheckedStatement::Block(_, items) => add_statements(found, items.as_slice()),
-        CheckedStatement::If(test, body) | CheckedStatement::While(test, body) => {
+        CheckedStatement::If(test, body) => {
+            add_condition(found, test)?;
+            add_statement(found, body)
+        }
+        CheckedStatement::While(test, body) => {
             add_condition(found, test)?;
             add_statement(found, body)
         }

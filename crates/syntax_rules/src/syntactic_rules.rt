@@ -1,4 +1,7 @@
 //! What the syntactic rules find in a unit.
+ghost use Rattle.std.specs.Prelude.{◌≡◌, IfOk};
+ghost use Rattle.syntax_rules.specs.StatementPlaces.{unit_places};
+
 use crate::diagnostic_lists::ordered;
 use crate::statement_places::add_statements;
 use c_layout::Checked;
@@ -6,7 +9,9 @@ use cc_base::{Diag, Memory};
 use std::alloc::{AllocError, Global};
 
 /// What the bodies of the functions have, in reading order.
-fn all_places(alloc: Global, unit: &Checked) -> Result<Vec<Diag>, AllocError> {
+fn all_places(alloc: Global, unit: &Checked) -> Result<Vec<Diag>, AllocError>
+    ensures { IfOk result (λ found. found.items ≡ unit_places unit.now) }
+{
     let mut found = Vec::new(alloc);
     for function in &unit.functions {
         add_statements(&mut found, function.body.as_slice())?;

@@ -1,4 +1,8 @@
 //! The places of the rules in expressions.
+ghost use Rattle.std.specs.Prelude.{◌≡◌, ◌++◌, IfOk, Option, Some, None};
+ghost use Rattle.syntax_rules.specs.Slots.{inner_slot, converted_slot, assigned, sized};
+ghost use Rattle.syntax_rules.specs.TermPlaces.{term_places, lvalue_places, terms_places, operand_places};
+
 use c_layout::{CheckedTerm, ConversionKind, Lvalue, LvalueForm, TermForm};
 use cc_base::{Diag, Place, Rule};
 use std::alloc::AllocError;
@@ -11,7 +15,9 @@ pub enum Slot {
 }
 
 /// The slot of a part of a term that stands in a slot, if the term stands in one.
-fn inner_slot(slot: Slot, pairs: u32) -> Slot {
+fn inner_slot(slot: Slot, pairs: u32) -> Slot
+    ensures { result ≡ inner_slot slot pairs }
+{
     match slot {
         Slot::Outside => Slot::Outside,
         Slot::Needs(_) => Slot::Needs(pairs),
@@ -19,7 +25,9 @@ fn inner_slot(slot: Slot, pairs: u32) -> Slot {
 }
 
 /// The slot of the operand of a conversion: an implicit one leaves no trace in the text.
-fn converted_slot(kind: ConversionKind, slot: Slot) -> Slot {
+fn converted_slot(kind: ConversionKind, slot: Slot) -> Slot
+    ensures { result ≡ converted_slot kind slot }
+{
     match kind {
         ConversionKind::Implicit => slot,
         ConversionKind::Cast => Slot::Outside,
@@ -32,7 +40,9 @@ fn add_assignment(
     place: Place,
     parens: u32,
     slot: Slot,
-) -> Result<(), AllocError> {
+) -> Result<(), AllocError>
+    ensures { IfOk result (λ _. found.new.items ≡ found.old.items ++ assigned place parens slot) }
+{
     match slot {
         Slot::Needs(pairs) if parens <= pairs => {
             let rule = Rule::Boolasgn;
@@ -43,7 +53,9 @@ fn add_assignment(
 }
 
 /// Adds a `sizeof` of a name or a member of pointer type.
-fn add_sizeof(found: &mut Vec<Diag>, place: Place, is_pointer: bool) -> Result<(), AllocError> {
+fn add_sizeof(found: &mut Vec<Diag>, place: Place, is_pointer: bool) -> Result<(), AllocError>
+    ensures { IfOk result (λ _. found.new.items ≡ found.old.items ++ sized place is_pointer) }
+{
     if is_pointer {
         let rule = Rule::Sizeofptr;
         return Ok(found.push(Diag { place, rule })?);
@@ -53,7 +65,9 @@ fn add_sizeof(found: &mut Vec<Diag>, place: Place, is_pointer: bool) -> Result<(
 
 /// Adds what the terms of a list have, which stand in no slot.
 #[cycle(terms)]
-fn add_terms(found: &mut Vec<Diag>, terms: &[CheckedTerm]) -> Result<(), AllocError> {
+fn add_terms(found: &mut Vec<Diag>, terms: &[CheckedTerm]) -> Result<(), AllocError>
+    ensures { IfOk result (λ _. found.new.items ≡ found.old.items ++ terms_places terms.now) }
+{
     for term in terms {
         add_term(found, term, Slot::Outside)?;
     }
@@ -62,10 +76,9 @@ fn add_terms(found: &mut Vec<Diag>, terms: &[CheckedTerm]) -> Result<(), AllocEr
 
 /// Adds what the operand of a `sizeof` has, where it is an expression.
 #[cycle(terms)]
-fn add_operand(
-    found: &mut Vec<Diag>,
-    operand: &Option<Box<CheckedTerm>>,
-) -> Result<(), AllocError> {
+fn add_operand(found: &mut Vec<Diag>, operand: &Option<Box<CheckedTerm>>) -> Result<(), AllocError>
+    ensures { IfOk result (λ _. found.new.items ≡ found.old.items ++ operand_places operand.now) }
+{
     match operand {
         Some(term) => add_term(found, term, Slot::Outside),
         None => Ok(()),
@@ -74,7 +87,9 @@ fn add_operand(
 
 /// Adds what an lvalue has.
 #[cycle(terms)]
-pub fn add_lvalue(found: &mut Vec<Diag>, at: &Lvalue) -> Result<(), AllocError> {
+pub fn add_lvalue(found: &mut Vec<Diag>, at: &Lvalue) -> Result<(), AllocError>
+    ensures { IfOk result (λ _. found.new.items ≡ found.old.items ++ lvalue_places at.now) }
+{
     match &at.form {
         LvalueForm::Object(_) | LvalueForm::Literal(_) => Ok(()),
         LvalueForm::Target(pointer) => add_term(found, pointer, Slot::Outside),
@@ -92,7 +107,9 @@ pub fn add_lvalue(found: &mut Vec<Diag>, at: &Lvalue) -> Result<(), AllocError> 
 
 /// Adds what a term in this slot has.
 #[cycle(terms)]
-pub fn add_term(found: &mut Vec<Diag>, term: &CheckedTerm, slot: Slot) -> Result<(), AllocError> {
+pub fn add_term(found: &mut Vec<Diag>, term: &CheckedTerm, slot: Slot) -> Result<(), AllocError>
+    ensures { IfOk result (λ _. found.new.items ≡ found.old.items ++ term_places term.now slot) }
+{
     match &term.form {
         TermForm::Number(_) => Ok(()),
         TermForm::Sizeof(_, operand, is_pointer) => {
@@ -111,10 +128,19 @@ pub fn add_term(found: &mut Vec<Diag>, term: &CheckedTerm, slot: Slot) -> Result
         | TermForm::Minus(operand)
         | TermForm::Complement(operand)
         | TermForm::Not(operand) => add_term(found, operand, Slot::Outside),
-        TermForm::Integer(_, left, right)
-        | TermForm::Shift(_, _, left, right)
-        | TermForm::Difference(_, left, right)
-        | TermForm::Compare(_, left, right) => {
+        TermForm::Integer(_, left, right) => {
+            add_term(found, left, Slot::Outside)?;
+            add_term(found, right, Slot::Outside)
+        }
+        TermForm::Shift(_, _, left, right) => {
+            add_term(found, left, Slot::Outside)?;
+            add_term(found, right, Slot::Outside)
+        }
+        TermForm::Difference(_, left, right) => {
+            add_term(found, left, Slot::Outside)?;
+            add_term(found, right, Slot::Outside)
+        }
+        TermForm::Compare(_, left, right) => {
             add_term(found, left, Slot::Outside)?;
             add_term(found, right, Slot::Outside)
         }
@@ -136,7 +162,11 @@ pub fn add_term(found: &mut Vec<Diag>, term: &CheckedTerm, slot: Slot) -> Result
             add_lvalue(found, target)?;
             add_term(found, value, Slot::Outside)
         }
-        TermForm::Compound(_, _, target, value) | TermForm::CompoundShift(_, _, target, value) => {
+        TermForm::Compound(_, _, target, value) => {
+            add_lvalue(found, target)?;
+            add_term(found, value, Slot::Outside)
+        }
+        TermForm::CompoundShift(_, _, target, value) => {
             add_lvalue(found, target)?;
             add_term(found, value, Slot::Outside)
         }
