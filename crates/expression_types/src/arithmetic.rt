@@ -93,9 +93,7 @@ fn common_operation(
         right: kind,
     };
     let operands = (left.term, right.term);
-    Ok(integer_node(
-        cx, place, op, kinds, made, operands, constancy,
-    )?)
+    Ok(integer_node(cx, place, op, kinds, made, operands, constancy)?)
 }
 
 /// An operator on two integers whose result has their common type.
@@ -141,9 +139,7 @@ pub fn shift_operation(
         right: promoted(&cx.model.numbers, kinds.right),
     };
     let operands = (left.term, right.term);
-    Ok(integer_node(
-        cx, place, op, kinds, kind, operands, constancy,
-    )?)
+    Ok(integer_node(cx, place, op, kinds, kind, operands, constancy)?)
 }
 
 /// `+` or `-`.

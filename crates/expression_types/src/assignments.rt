@@ -2,7 +2,9 @@
 use crate::arithmetic::{KindPair, integer_kinds};
 use crate::choices::is_struct;
 use crate::implicit_conversions::{assigned, integer_as};
-use crate::operands::{Form, Operand, is_scalar, lvalue_operand, own_lvalue, term_of, value_operand};
+use crate::operands::{
+    Form, Operand, is_scalar, lvalue_operand, own_lvalue, term_of, value_operand,
+};
 use crate::pointer_arithmetic::{is_integer, target_size};
 use c_layout::{AssignOp, BinaryOp, CType, CheckedTerm, Lvalue, LvalueForm, TermForm};
 use cc_base::{IntType, Place, Stop};
@@ -103,12 +105,7 @@ fn pointer_compound(
 }
 
 /// How a compound assignment of two types is computed; None where it has no rule.
-fn compound_kind(
-    cx: &Context,
-    op: BinaryOp,
-    left: &CType,
-    right: &CType,
-) -> Option<CompoundKind> {
+fn compound_kind(cx: &Context, op: BinaryOp, left: &CType, right: &CType) -> Option<CompoundKind> {
     match integer_kinds(left, right) {
         Some(kinds) => Some(integer_compound(cx, op, kinds)),
         None => pointer_compound(cx, op, left, right),

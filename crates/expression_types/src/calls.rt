@@ -155,10 +155,7 @@ fn promoted_kind(cx: &Context, t: &CType) -> Option<IntType> {
 }
 
 /// An argument after the default promotions (6.5.2.2p6).
-fn promoted_argument(
-    cx: &Context,
-    argument: Box<CheckedTerm>,
-) -> Result<Box<CheckedTerm>, Memory> {
+fn promoted_argument(cx: &Context, argument: Box<CheckedTerm>) -> Result<Box<CheckedTerm>, Memory> {
     match promoted_kind(cx, &argument.ctype) {
         Some(kind) => integer_as(cx, argument, kind),
         None => Ok(argument),

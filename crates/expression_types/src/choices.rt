@@ -3,8 +3,8 @@ use crate::arithmetic::integer_kinds;
 use crate::comparisons::{as_type_of, pairing};
 use crate::implicit_conversions::{integer_as, unused};
 use crate::operands::{
-    Constancy, Form, Operand, Value, is_scalar, lvalue_operand, lvalue_value, number_operand, term_of, value_operand,
-    value_of,
+    Constancy, Form, Operand, Value, is_scalar, lvalue_operand, lvalue_value, number_operand,
+    term_of, value_of, value_operand,
 };
 use c_layout::{CType, CheckedTerm, LogicalOp, Lvalue, LvalueForm, TermForm};
 use cc_base::{IntType, Memory, Place, Stop};

@@ -4,7 +4,7 @@ use crate::arithmetic::{
     additive, integer_comparison, integer_kinds, integer_operation, shift_operation,
 };
 use crate::implicit_conversions::implicit;
-use crate::operands::{Operand, Value, is_null, value_operand, value_of};
+use crate::operands::{Operand, Value, is_null, value_of, value_operand};
 use crate::pointer_arithmetic::common_target;
 use c_layout::{BinaryOp, CType, CheckedTerm, TermForm};
 use cc_base::{Memory, Place, Stop};

@@ -18,8 +18,8 @@ mod sizes_and_casts;
 mod type_names;
 mod unary_operators;
 
+pub use assignments::struct_source;
 pub use expressions::{length, typed};
 pub use implicit_conversions::{assigned, integer_as, unused};
 pub use operands::{Form, Operand, is_scalar, term_of};
-pub use assignments::struct_source;
 pub use type_names::{Tagged, enumeration_tag, struct_tag, typedef_named};

@@ -52,11 +52,7 @@ fn target_type(cx: &Context, t: &CType) -> Result<Option<CType>, Memory> {
 }
 
 /// What a pointer to a complete type points to.
-pub fn indirection(
-    cx: &Context,
-    place: Place,
-    pointer: Box<CheckedTerm>,
-) -> Result<Operand, Stop> {
+pub fn indirection(cx: &Context, place: Place, pointer: Box<CheckedTerm>) -> Result<Operand, Stop> {
     match target_type(cx, &pointer.ctype)? {
         Some(ctype) => Ok(lvalue_operand(
             cx.alloc,

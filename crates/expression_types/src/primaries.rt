@@ -31,13 +31,7 @@ fn static_object(cx: &Context, place: Place, declared: u32) -> Result<Operand, S
     let known = object.number.unwrap_or(u32::MAX);
     let ctype = object.declared.ctype.copy(cx.alloc)?;
     let form = LvalueForm::Object(ObjectRef::Static(known));
-    Ok(lvalue_operand(
-        cx.alloc,
-        place,
-        ctype,
-        form,
-        object.declared.enumeration,
-    )?)
+    Ok(lvalue_operand(cx.alloc, place, ctype, form, object.declared.enumeration)?)
 }
 
 /// An object of the function at hand.
@@ -58,12 +52,7 @@ fn enumerator(cx: &Context, place: Place, value: i128) -> Result<Operand, Memory
 }
 
 /// A number of a type.
-fn fixed_number(
-    cx: &Context,
-    place: Place,
-    ctype: CType,
-    value: i128,
-) -> Result<Operand, Memory> {
+fn fixed_number(cx: &Context, place: Place, ctype: CType, value: i128) -> Result<Operand, Memory> {
     let constancy = Constancy {
         constant: Some(value),
         fixed: true,

@@ -1,6 +1,8 @@
 //! `sizeof` and casts (6.5.3.4, 6.5.4 of ISO/IEC 9899:2011).
 use crate::implicit_conversions::{converted_term, unused};
-use crate::operands::{Constancy, Form, Operand, Value, is_null, number_operand, term_node, value_operand, value_of};
+use crate::operands::{
+    Constancy, Form, Operand, Value, is_null, number_operand, term_node, value_of, value_operand,
+};
 use c_layout::{CType, CheckedTerm, ConversionKind, Lvalue, LvalueForm, TermForm};
 use cc_base::{Memory, Place, Stop};
 use type_rules::{Conversion, cast_conversion, converted, size_kind};
@@ -34,9 +36,7 @@ fn is_named(lvalue: &Lvalue) -> bool {
 /// Whether an operand is a name or a member of pointer type.
 fn is_named_pointer(operand: &Operand) -> bool {
     match &operand.form {
-        Form::Lvalue(lvalue) => {
-            is_named(lvalue) && matches!(&lvalue.ctype, CType::Pointer(_))
-        }
+        Form::Lvalue(lvalue) => { is_named(lvalue) && matches!(&lvalue.ctype, CType::Pointer(_)) }
         Form::Value(_) => false,
     }
 }

@@ -149,11 +149,7 @@ fn all_steps(
 }
 
 /// The lengths of arrays, each of which is a positive constant, or the refusal at a place.
-fn constant_lengths(
-    cx: &Context,
-    place: Place,
-    lengths: &[Option<u64>],
-) -> Result<Vec<u64>, Stop> {
+fn constant_lengths(cx: &Context, place: Place, lengths: &[Option<u64>]) -> Result<Vec<u64>, Stop> {
     let mut made = Vec::new(cx.alloc);
     for length in lengths {
         match *length {

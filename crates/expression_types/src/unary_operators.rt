@@ -1,7 +1,10 @@
 //! Unary operators, `++` and `--` (6.5.2.4, 6.5.3.1 to 6.5.3.3 of ISO/IEC 9899:2011).
 use crate::implicit_conversions::integer_as;
 use crate::members::indirection;
-use crate::operands::{Constancy, Operand, Value, is_scalar, number_operand, own_lvalue, term_of, value_operand, value_of};
+use crate::operands::{
+    Constancy, Operand, Value, is_scalar, number_operand, own_lvalue, term_of, value_of,
+    value_operand,
+};
 use c_layout::{CType, CheckedTerm, Lvalue, StepOp, StepTime, TermForm, UnaryOp};
 use cc_base::{IntType, Place, Stop};
 use type_rules::{complemented, converted, int_kind, negated, promoted};
