@@ -1,0 +1,2 @@
+pub mod SizeRefusals
+pub mod Extents
