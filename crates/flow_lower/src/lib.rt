@@ -1,0 +1,10 @@
+//! Lowering of a checked unit to its control-flow program.
+#![tactic(auto)]
+
+mod initial_objects;
+mod moved_operations;
+mod opened_program;
+mod program_bases;
+mod unit_lowering;
+
+pub use unit_lowering::lower;

@@ -1,0 +1,110 @@
+//! Lowering: from a checked unit to its control-flow program.
+ghost use Rattle.std.specs.Prelude.{◌≡◌, ◌≤◌, IfErr, IfOk, Some, slice_get};
+ghost use Rattle.c_layout.specs.declared.checked_tree.checked_units.Function.{Function};
+ghost use Rattle.flow_counts.specs.SizeRefusals.{limit_of, IsTooLarge};
+
+use crate::initial_objects::{copied_structs, initial_objects};
+use crate::opened_program::{OpenedProgram, opened};
+use c_layout::{CType, Checked, Function};
+use cc_base::{Count, IntType, Limits, Stop};
+use flow_counts::{
+    PreparedUnit, UnitCounts, all_within, capped_product, capped_sum, counts_at, prepared,
+    shared_bases, unit_counts, within,
+};
+use flow_program::{Flow, ParameterInput};
+use std::alloc::{AllocError, Global};
+
+/// The values of a pool of rows: for each block one row, and two more.
+fn pool(blocks: u64, width: u64) -> u64 {
+    capped_product(capped_sum(blocks, 2), width)
+}
+
+/// The type of an entry's parameter, which is an integer.
+fn input_type(t: &CType) -> Result<IntType, AllocError> {
+    match t {
+        CType::Int(kind) => Ok(*kind),
+        CType::Pointer(_) | CType::Array(_, _) | CType::Struct(_) | CType::Void => Err(AllocError),
+    }
+}
+
+/// The entry's parameters, whose bases are the first ones.
+fn inputs(alloc: Global, entry: &Function) -> Result<Vec<ParameterInput>, AllocError> {
+    let mut list = Vec::new(alloc);
+    for base in 0..entry.parameters {
+        let local = entry.locals.get(base as usize).ok_or(AllocError)?;
+        let kind = input_type(&local.ctype)?;
+        list.push(ParameterInput { base, kind })?;
+    }
+    Ok(list)
+}
+
+fn entry_of(unit: &Checked) -> Result<&Function, AllocError>
+    ensures { IfOk result (λ f. (e : Function) → slice_get unit.now.functions.items unit.now.entry ≡ Some e → f.now ≡ e) }
+{
+    unit.functions.get(unit.entry as usize).ok_or(AllocError)
+}
+
+/// How many values a row has.
+fn row_width(made: &OpenedProgram, temps: u64) -> Result<u32, AllocError> {
+    let temps = u32::try_from(temps).ok().ok_or(AllocError)?;
+    made.bases.width.checked_add(temps).ok_or(AllocError)
+}
+
+fn flow(
+    alloc: Global,
+    unit: &Checked,
+    entry: &Function,
+    made: OpenedProgram,
+    counts: UnitCounts,
+) -> Result<Flow, AllocError>
+    ensures model { IfOk result (λ f. f.model ≡ unit.now.model) }
+    ensures entry { IfOk result (λ f. f.entry ≡ entry.now.place) }
+    ensures temps { IfOk result (λ f. f.temps ≡ counts.temps) }
+{
+    let width = row_width(&made, counts.temps)?;
+    let initial = initial_objects(alloc, unit, &made.bases)?;
+    let OpenedProgram {
+        blocks,
+        edges,
+        bases,
+    } = made;
+    Ok(Flow {
+        blocks,
+        edges,
+        bases: bases.bases,
+        temps: u32::try_from(counts.temps).ok().ok_or(AllocError)?,
+        initial,
+        parameters: inputs(alloc, entry)?,
+        entry: entry.place,
+        structs: copied_structs(alloc, &unit.structs)?,
+        width,
+        model: unit.model,
+    })
+}
+
+/// The counts that are known before the program is made.
+fn counted(alloc: Global, unit: &Checked, found: &PreparedUnit) -> Result<UnitCounts, AllocError> {
+    let shared = shared_bases(alloc, unit, found.templates.as_slice())?;
+    let counts = counts_at(found.counts.as_slice(), unit.entry)?;
+    Ok(unit_counts(counts, shared))
+}
+
+/// The control-flow program of a checked unit: the entry with every call of a function of the unit put
+/// in at its place. It is refused where a count passes its limit; the counts are made first, from the
+/// functions that are called up to the entry, so that nothing is made of a unit that is too large.
+pub fn lower(alloc: Global, unit: &Checked, limits: &Limits) -> Result<Flow, Stop>
+    ensures model { IfOk result (λ f. f.model ≡ unit.now.model) }
+    ensures entry { IfOk result (λ f. (e : Function) → slice_get unit.now.functions.items unit.now.entry ≡ Some e → f.entry ≡ e.place) }
+    ensures temps { IfOk result (λ f. f.temps ≤ limits.now.temps) }
+    ensures cause { IfErr result (λ s. (e : Function) → slice_get unit.now.functions.items unit.now.entry ≡ Some e → IsTooLarge limits.now e.place s) }
+{
+    let entry = entry_of(unit)?;
+    let found = prepared(alloc, unit)?;
+    let counts = counted(alloc, unit, &found)?;
+    all_within(entry.place, counts, limits)?;
+    let made = opened(alloc, unit, found.templates.as_slice(), entry.place)?;
+    let width = row_width(&made, counts.temps)?;
+    let values = pool(counts.blocks, width as u64);
+    within(entry.place, Count::Pool, values, limits)?;
+    Ok(flow(alloc, unit, entry, made, counts)?)
+}
