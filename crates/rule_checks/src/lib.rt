@@ -1,0 +1,10 @@
+//! The rules that a control-flow program may break, read off a map of its rows.
+#![tactic(auto)]
+
+mod admitted_rules;
+mod block_diagnoses;
+mod map_diagnoses;
+
+pub use admitted_rules::admits;
+pub use block_diagnoses::{diagnose_block, sorted_diagnoses};
+pub use map_diagnoses::diagnose;
