@@ -1,9 +1,14 @@
-//! Lists of diagnostics in order.
-use cc_base::Diag;
+//! Lists in order.
+ghost use Rattle.std.specs.Prelude.{◌≡◌, true, Any, Contains};
+ghost use Rattle.std.specs.List.Sorted.{IsStrictlySortedBy};
 
-/// The diagnostics of a list by place and then by rule, each once.
-pub fn ordered(diags: Vec<Diag>) -> Vec<Diag> {
-    let mut list = diags;
+/// The elements of a list in ascending order, each once.
+pub fn ordered<T: Ord + Copy>(elements: Vec<T>) -> Vec<T>
+    ensures ascending { IsStrictlySortedBy T.cmp result.items }
+    ensures kept { (x : T) → Contains elements.items x → Any (λ y. T.eq x y ≡ true) result.items }
+    ensures made { (x : T) → Contains result.items x → Contains elements.items x }
+{
+    let mut list = elements;
     list.sort_unstable();
     list.dedup();
     list

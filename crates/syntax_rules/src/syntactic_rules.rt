@@ -1,5 +1,7 @@
 //! What the syntactic rules find in a unit.
-ghost use Rattle.std.specs.Prelude.{◌≡◌, IfOk};
+ghost use Rattle.std.specs.Prelude.{◌≡◌, true, IfOk, Any, Contains};
+ghost use Rattle.std.specs.List.Sorted.{IsStrictlySortedBy};
+ghost use Rattle.cc_base.specs.declared.diagnostics.Diag.{Diag};
 ghost use Rattle.syntax_rules.specs.StatementPlaces.{unit_places};
 
 use crate::diagnostic_lists::ordered;
@@ -24,6 +26,10 @@ fn all_places(alloc: Global, unit: &Checked) -> Result<Vec<Diag>, AllocError>
 /// # Errors
 ///
 /// Want of memory.
-pub fn syntactic(alloc: Global, unit: &Checked) -> Result<Vec<Diag>, Memory> {
+pub fn syntactic(alloc: Global, unit: &Checked) -> Result<Vec<Diag>, Memory>
+    ensures ascending { IfOk result (λ found. IsStrictlySortedBy ⟦<Diag as Ord>⟧.cmp found.items) }
+    ensures kept { IfOk result (λ found. (d : Diag) → Contains (unit_places unit.now) d → Any (λ e. ⟦<Diag as PartialEq>⟧.eq d e ≡ true) found.items) }
+    ensures made { IfOk result (λ found. (d : Diag) → Contains found.items d → Contains (unit_places unit.now) d) }
+{
     Ok(ordered(all_places(alloc, unit)?))
 }
