@@ -5,7 +5,7 @@ use crate::called_values::{library_call, own_call};
 use crate::pending_works::{Work, emit};
 use crate::template_builder::Builder;
 use crate::term_kinds::{OperatorMeaning, integer_type, meaning, relation, scalar, struct_number};
-use c_layout::{BinaryOp, CheckedTerm, Lvalue, LvalueForm, TermForm};
+use c_layout::{BinaryOp, CType, CheckedTerm, Lvalue, LvalueForm, TermForm};
 use cc_base::UnOp;
 use flow_program::{Amount, Operation};
 use std::alloc::AllocError;
@@ -169,6 +169,15 @@ fn unary_works<'a>(
     }
 }
 
+/// The pointer that an integer moves; in a sum either of the two may stand first.
+fn moved_pointer(left: &CheckedTerm, depth: u32, size: u64, backward: bool) -> Operation {
+    let second = depth.saturating_add(1);
+    match &left.ctype {
+        CType::Int(_) => Operation::Shift(depth, second, Amount::Temp(depth), size, backward),
+        _ => Operation::Shift(depth, depth, Amount::Temp(second), size, backward),
+    }
+}
+
 fn binary_works<'a>(
     builder: &mut Builder<'a>,
     term: &'a CheckedTerm,
@@ -181,7 +190,7 @@ fn binary_works<'a>(
             two(builder, term, left, right, depth, operation)
         }
         TermForm::Shift(backward, size, left, right) => {
-            let operation = Operation::Shift(depth, depth, Amount::Temp(second), *size, *backward);
+            let operation = moved_pointer(left, depth, *size, *backward);
             two(builder, term, left, right, depth, operation)
         }
         TermForm::Difference(size, left, right) => {
