@@ -1,5 +1,5 @@
-//! Rows on reads and writes that fail.
-use crate::call::{Setting, call, is};
+//! Reads and writes that fail.
+use crate::call::{Setting, Told, call, is};
 use cc_base::MemTree;
 use std::alloc::Global;
 use std::test::Fail;
@@ -31,5 +31,27 @@ fn a_failed_write_puts_a_prefix(rt: HostRuntime) -> Result<(), Fail> {
         assert_eq!(rt; told.status, 6);
         assert!(rt; told.text.as_slice() == whole.as_bytes().split_at(most).0);
     }
+    Ok(())
+}
+
+/// A unit with four headers, one of which is found in the second place that is searched.
+fn including(alloc: Global, fail: u64) -> Result<Told, Fail> {
+    let mut list = Vec::new(alloc);
+    list.push(fail)?;
+    let mut tree = MemTree::new(alloc, list);
+    let unit = b"#include <stdio.h>\n#include \"util.h\"\nint main(void){return N;}\n";
+    tree.add("main.c", unit)?;
+    tree.add("inc/util.h", b"#define N 0\n")?;
+    call(alloc, "check main.c inc", Setting { tree, most: None })
+}
+
+#[test]
+fn each_failed_read_of_a_header_counts(rt: HostRuntime) -> Result<(), Fail> {
+    for fail in 1..5 {
+        let told = including(rt.alloc(), fail)?;
+        assert!(rt; is(&told, 5, ""));
+    }
+    let told = including(rt.alloc(), 5)?;
+    assert!(rt; is(&told, 0, "0 diagnostics in main.c\n"));
     Ok(())
 }

@@ -2,8 +2,30 @@
 #![tactic(auto)]
 
 #[cfg(test)]
+mod array_rows;
+#[cfg(test)]
 mod call;
+#[cfg(test)]
+mod command_rows;
 #[cfg(test)]
 mod devices;
 #[cfg(test)]
-mod first_rows;
+mod division_rows;
+#[cfg(test)]
+mod heap_rows;
+#[cfg(test)]
+mod load_rows;
+#[cfg(test)]
+mod preprocessing_rows;
+#[cfg(test)]
+mod program_rows;
+#[cfg(test)]
+mod refusal_rows;
+#[cfg(test)]
+mod size_rows;
+#[cfg(test)]
+mod string_rows;
+#[cfg(test)]
+mod taint_rows;
+#[cfg(test)]
+mod text_rule_rows;

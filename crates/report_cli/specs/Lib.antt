@@ -1,7 +1,2 @@
-pub mod FirstWords
-pub mod FirstUnits
-pub mod FirstRuns
-pub mod FirstJudging
-pub mod Reports
-pub mod Verdicts
 pub mod Outcomes
+pub mod Choices

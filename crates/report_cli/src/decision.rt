@@ -1,20 +1,20 @@
 //! What the words and the files call for.
-ghost use Rattle.std.specs.Prelude.{◌≡◌, ◌≤◌, ◌<◌, ◌^◌, All, ◌++◌, ◌∷◌, [], IfOk, OnErr, IsErrOf, length, map, codes, string_bytes, option_map, Some, None};
+ghost use Rattle.std.specs.Prelude.{◌≡◌, ◌≤◌, ◌<◌, All, IfOk, IsErrOf, true};
 ghost use Rattle.cc_base.specs.Outside.{Rose};
-ghost use Rattle.report_cli.specs.Reports.{report_of};
-ghost use Rattle.report_cli.specs.Verdicts.{seen, TellsUnit, report_status, Tells, words_refused, absent, too_long, outside, judged, status_of, text_of, unit_of, is_unit_name, diags_of};
+ghost use Rattle.c_layout.specs.Models.{is_model};
+ghost use Rattle.cc_base.specs.declared.refusals.Stop.TheVariants as stops;
 
-use crate::first_path::judge;
-use crate::text_report::report_text;
-use cc_base::{Diag, Memory, Place, Rule, Tree, TreeFault};
+use crate::fixed_texts::{help, no_file, version, words_refused};
+use crate::load_summary::summary;
+use crate::loaded_units::load_unit;
+use crate::model_choice::{ModelChoice, choose_model};
+use crate::unit_answers::{Judged, judge_unit};
+use c_layout::{Model, Unit7};
+use c_preproc::{expand, expand_bytes};
+use cc_base::{Diag, Fault, Memory, Stop, Tree};
+use command_words::{Command, Format, Request, read_words};
+use report_texts::{Answer, refusal_answer, report_json, report_text};
 use std::alloc::{AllocError, Global};
-
-/// A status and the text that goes with it.
-#[derive(Drop)]
-pub(crate) struct Answer {
-    pub(crate) status: u8,
-    pub(crate) text: Vec<u8>,
-}
 
 /// What ends the work without a text.
 #[derive(Clone, Copy, PartialEq, Eq)]
@@ -45,127 +45,218 @@ impl From<Memory> for Halt {
     }
 }
 
-fn refuse_words(alloc: Global) -> Result<Answer, AllocError>
-    ensures { IfOk result (λ a. (a.status ≡ status_of words_refused) × (a.text.items ≡ text_of words_refused)) }
-{
-    let text = Vec::from_slice(alloc, b"ccheck: words refused\n")?;
-    Ok(Answer { status: 3, text })
+/// The name of a file of the unit; the unit's own where the list has none.
+fn file_name<'a>(files: &'a [String], unit: &'a str, file: u32) -> &'a str {
+    match files.get(file as usize) {
+        Some(name) => name.as_str(),
+        None => unit,
+    }
 }
 
-fn no_file(alloc: Global, name: &str) -> Result<Answer, AllocError>
-    ensures { IfOk result (λ a. (a.status ≡ status_of (absent name.now)) × (a.text.items ≡ text_of (absent name.now))) }
+/// The answer to a refusal.
+fn refused(alloc: Global, files: &[String], unit: &str, fault: &Fault) -> Result<Answer, Halt>
+    ensures fault { IsErrOf result Halt.ReadFault → ⊥ }
 {
-    let line = format!(in alloc; "ccheck: no file {name}\n")?;
-    let text = Vec::from_slice(alloc, line.as_bytes())?;
-    Ok(Answer { status: 4, text })
+    let name = file_name(files, unit, fault.place.file);
+    Ok(refusal_answer(alloc, name, fault)?)
 }
 
-fn file_too_long(alloc: Global, name: &str) -> Result<Answer, AllocError>
-    ensures { IfOk result (λ a. (a.status ≡ status_of (too_long name.now)) × (a.text.items ≡ text_of (too_long name.now))) }
+/// The answer where the work behind the expansion stopped, which reads no file.
+fn stopped(alloc: Global, files: &[String], unit: &str, stop: Stop) -> Result<Answer, Halt>
+    ensures fault { IsErrOf result Halt.ReadFault → ⊥ }
 {
-    let line = format!(in alloc; "{name}:1:1: limit: FileTooLong 1048577/1048576\n")?;
-    let text = Vec::from_slice(alloc, line.as_bytes())?;
-    Ok(Answer { status: 8, text })
+    match stop {
+        Stop::Refused(fault) => refused(alloc, files, unit, &fault),
+        Stop::NotHeld | Stop::ReadFault | Stop::Memory => Err(Halt::Memory),
+    }
 }
 
-fn outside_path(alloc: Global, name: &str) -> Result<Answer, AllocError>
-    ensures { IfOk result (λ a. (a.status ≡ 2) × (a.text.items ≡ name.now ++ codes ":1:1: refused: OutsidePath\n")) }
+/// The answer where the expansion stopped.
+fn not_expanded(alloc: Global, files: &[String], unit: &str, stop: Stop) -> Result<Answer, Halt>
+    ensures fault { IsErrOf result Halt.ReadFault → stop ≡ stops.ReadFault }
 {
-    let line = format!(in alloc; "{name}:1:1: refused: OutsidePath\n")?;
-    let text = Vec::from_slice(alloc, line.as_bytes())?;
-    Ok(Answer { status: 2, text })
+    match stop {
+        Stop::Refused(fault) => refused(alloc, files, unit, &fault),
+        Stop::NotHeld => Ok(no_file(alloc, unit)?),
+        Stop::ReadFault => Err(Halt::ReadFault),
+        Stop::Memory => Err(Halt::Memory),
+    }
 }
 
-/// The report of a unit with these diagnostics, all in its own file.
-fn reported(alloc: Global, name: &str, diags: &[Diag]) -> Result<Answer, Memory>
-    requires { All (λ d. d.place.file < 1) diags.now }
-    ensures { IfOk result (λ a. (a.status ≡ report_status diags.now) × (a.text.items ≡ report_of (name.now ∷ []) name.now diags.now)) }
+/// The diagnostics whose files are in the list.
+fn placed(alloc: Global, diags: &[Diag], count: usize) -> Result<Vec<Diag>, AllocError>
+    ensures { IfOk result (λ v. All (λ d. d.place.file < count) v.items) }
 {
-    let files = [String::from_str(alloc, name)?];
-    let text = report_text(alloc, &files, name, diags)?;
-    let status = status_for(diags);
-    Ok(Answer { status, text })
+    let mut kept = Vec::new(alloc);
+    for at in 0..diags.len() {
+        if (diags[at].place.file as usize) < count {
+            kept.push(diags[at])?;
+        }
+    }
+    Ok(kept)
 }
 
-fn status_for(diags: &[Diag]) -> u8
-    ensures { result ≡ report_status diags.now }
-{
+fn status_for(diags: &[Diag]) -> u8 {
     if diags.len() == 0 { 0 } else { 1 }
 }
 
-/// The report of a first unit, whose run violates a rule at a place or ends without.
-fn report_run(alloc: Global, name: &str, found: Option<Place>) -> Result<Answer, Memory>
-    ensures { IfOk result (λ a. (a.status ≡ report_status (diags_of found)) × (a.text.items ≡ report_of (name.now ∷ []) name.now (diags_of found))) }
+/// The report on an accepted unit.
+fn reported(
+    alloc: Global,
+    files: &[String],
+    command: &Command,
+    diags: &[Diag],
+) -> Result<Answer, Halt>
+    ensures fault { IsErrOf result Halt.ReadFault → ⊥ }
 {
-    match found {
-        None => reported(alloc, name, &[]),
-        Some(place) => {
-            let diag = Diag {
-                place: Place {
-                    file: 0,
-                    line: place.line,
-                    col: place.col,
-                },
-                rule: Rule::Diverr,
-            };
-            reported(alloc, name, &[diag])
-        }
+    let kept = placed(alloc, diags, files.len())?;
+    let unit = command.unit.as_str();
+    let text = match command.format {
+        Format::Text => report_text(alloc, files, unit, kept.as_slice())?,
+        Format::Json => report_json(alloc, files, unit, kept.as_slice())?,
+    };
+    Ok(Answer {
+        status: status_for(kept.as_slice()),
+        text,
+    })
+}
+
+/// The answer to `check` on a unit that was expanded.
+fn checked(
+    alloc: Global,
+    files: &[String],
+    command: &Command,
+    unit: &Unit7,
+    model: &Model,
+) -> Result<Answer, Halt>
+    requires { is_model model.now ≡ true }
+    ensures fault { IsErrOf result Halt.ReadFault → ⊥ }
+{
+    match judge_unit(alloc, unit, model, command.entry.as_str()) {
+        Ok(judged) => reported(alloc, files, command, judged.diags.as_slice()),
+        Err(stop) => stopped(alloc, files, command.unit.as_str(), stop),
     }
 }
 
-/// What a unit that was read comes to.
-fn answer_unit(alloc: Global, name: &str, bytes: &[u8]) -> Result<Answer, Memory>
-    requires { length bytes.now ≤ 2 ^ 20 }
-    ensures { IfOk result (λ a. TellsUnit name.now bytes.now a.status a.text.items) }
-{
-    match judge(alloc, bytes)? {
-        None => Ok(outside_path(alloc, name)?),
-        Some(found) => report_run(alloc, name, found),
-    }
-}
-
-fn may_be_unit(name: &[u8]) -> bool
-    ensures { result ≡ is_unit_name name.now }
-{
-    match name {
-        [] => false,
-        [first, ..] => *first != b'-',
-    }
-}
-
-/// The unit that the words name.
-fn unit_name(words: &[String]) -> Option<&str>
-    ensures { option_map (λ s. s.now) result ≡ unit_of (map string_bytes words.now) }
-{
-    match words {
-        [verb, unit] => {
-            if verb.as_str() == "check" && may_be_unit(unit.as_bytes()) {
-                Some(unit.as_str())
-            } else {
-                None
-            }
-        }
-        _ => None,
-    }
-}
-
-/// What the words and the tree call for. On a read fault the tree's faults rose.
-pub(crate) fn decide<T: Tree>(alloc: Global, words: &[String], tree: &mut T) -> Result<Answer, Halt>
-    ensures told { IfOk result (λ a. Tells (seen (T.files tree.old) (T.faults tree.old) (T.faults tree.new) (T.taken tree.old) (T.taken tree.new)) (map string_bytes words.now) a.status a.text.items) }
+/// The answer to `check` under a model.
+fn check_under<T: Tree>(
+    alloc: Global,
+    command: &Command,
+    model: &Model,
+    tree: &mut T,
+) -> Result<Answer, Halt>
+    requires { is_model model.now ≡ true }
     ensures fault { IsErrOf result Halt.ReadFault → Rose (T.faults tree.old) (T.faults tree.new) }
     ensures files { T.files tree.new ≡ T.files tree.old }
     ensures faults { T.faults tree.old ≤ T.faults tree.new }
     ensures taken { T.taken tree.old ≤ T.taken tree.new }
 {
-    let Some(name) = unit_name(words) else {
-        return Ok(refuse_words(alloc)?);
-    };
-    let mut bytes = Vec::new(alloc);
-    match tree.read(alloc, name, &mut bytes) {
-        Ok(()) => Ok(answer_unit(alloc, name, bytes.as_slice())?),
-        Err(TreeFault::Missing) => Ok(no_file(alloc, name)?),
-        Err(TreeFault::TooLong) => Ok(file_too_long(alloc, name)?),
-        Err(TreeFault::Failed) => Err(Halt::ReadFault),
-        Err(TreeFault::Memory) => Err(Halt::Memory),
+    let mut files = Vec::new(alloc);
+    let unit = command.unit.as_str();
+    match expand(
+        alloc,
+        tree,
+        unit,
+        command.dirs.as_slice(),
+        model,
+        &mut files,
+    ) {
+        Ok(expanded) => checked(alloc, files.as_slice(), command, &expanded, model),
+        Err(stop) => not_expanded(alloc, files.as_slice(), unit, stop),
+    }
+}
+
+/// The answer to `check`.
+fn answer_check<T: Tree>(alloc: Global, command: &Command, tree: &mut T) -> Result<Answer, Halt>
+    ensures fault { IsErrOf result Halt.ReadFault → Rose (T.faults tree.old) (T.faults tree.new) }
+    ensures files { T.files tree.new ≡ T.files tree.old }
+    ensures faults { T.faults tree.old ≤ T.faults tree.new }
+    ensures taken { T.taken tree.old ≤ T.taken tree.new }
+{
+    match choose_model(alloc, command.model.as_str(), tree)? {
+        ModelChoice::Chosen(model) => check_under(alloc, command, &model, tree),
+        ModelChoice::Refused(answer) => Ok(answer),
+    }
+}
+
+/// The summary on an accepted unit.
+fn summarised(alloc: Global, files: &[String], unit: &str, judged: &Judged) -> Result<Answer, Halt>
+    ensures fault { IsErrOf result Halt.ReadFault → ⊥ }
+{
+    let kept = placed(alloc, judged.diags.as_slice(), files.len())?;
+    let text = summary(alloc, unit, judged.bases, judged.cells, kept.as_slice())?;
+    Ok(Answer {
+        status: status_for(kept.as_slice()),
+        text,
+    })
+}
+
+fn loaded(
+    alloc: Global,
+    files: &[String],
+    name: &str,
+    unit: &Unit7,
+    model: &Model,
+) -> Result<Answer, Halt>
+    requires { is_model model.now ≡ true }
+    ensures fault { IsErrOf result Halt.ReadFault → ⊥ }
+{
+    match judge_unit(alloc, unit, model, "main") {
+        Ok(judged) => summarised(alloc, files, name, &judged),
+        Err(stop) => stopped(alloc, files, name, stop),
+    }
+}
+
+/// The answer to `load` under a model.
+fn load_under<T: Tree>(
+    alloc: Global,
+    command: &Command,
+    model: &Model,
+    tree: &mut T,
+) -> Result<Answer, Halt>
+    requires { is_model model.now ≡ true }
+    ensures fault { IsErrOf result Halt.ReadFault → Rose (T.faults tree.old) (T.faults tree.new) }
+    ensures files { T.files tree.new ≡ T.files tree.old }
+    ensures faults { T.faults tree.old ≤ T.faults tree.new }
+    ensures taken { T.taken tree.old ≤ T.taken tree.new }
+{
+    let bytes = load_unit(alloc, command.seed, command.count)?;
+    if bytes.len() > 1_048_576 {
+        return Err(Halt::Memory);
+    }
+    let mut files = Vec::new(alloc);
+    let unit = command.unit.as_str();
+    match expand_bytes(alloc, tree, unit, bytes.as_slice(), &[], model, &mut files) {
+        Ok(expanded) => loaded(alloc, files.as_slice(), unit, &expanded, model),
+        Err(stop) => not_expanded(alloc, files.as_slice(), unit, stop),
+    }
+}
+
+/// The answer to `load`.
+fn answer_load<T: Tree>(alloc: Global, command: &Command, tree: &mut T) -> Result<Answer, Halt>
+    ensures fault { IsErrOf result Halt.ReadFault → Rose (T.faults tree.old) (T.faults tree.new) }
+    ensures files { T.files tree.new ≡ T.files tree.old }
+    ensures faults { T.faults tree.old ≤ T.faults tree.new }
+    ensures taken { T.taken tree.old ≤ T.taken tree.new }
+{
+    match choose_model(alloc, command.model.as_str(), tree)? {
+        ModelChoice::Chosen(model) => load_under(alloc, command, &model, tree),
+        ModelChoice::Refused(answer) => Ok(answer),
+    }
+}
+
+/// What the words and the tree call for. On a read fault the tree's faults rose.
+pub(crate) fn decide<T: Tree>(alloc: Global, words: &[String], tree: &mut T) -> Result<Answer, Halt>
+    ensures fault { IsErrOf result Halt.ReadFault → Rose (T.faults tree.old) (T.faults tree.new) }
+    ensures files { T.files tree.new ≡ T.files tree.old }
+    ensures faults { T.faults tree.old ≤ T.faults tree.new }
+    ensures taken { T.taken tree.old ≤ T.taken tree.new }
+{
+    match read_words(alloc, words)? {
+        Request::Help => Ok(help(alloc)?),
+        Request::Version => Ok(version(alloc)?),
+        Request::Refused => Ok(words_refused(alloc)?),
+        Request::Check(command) => answer_check(alloc, &command, tree),
+        Request::Load(command) => answer_load(alloc, &command, tree),
     }
 }

@@ -2,9 +2,13 @@
 #![tactic(auto)]
 
 mod decision;
-mod first_path;
+mod fixed_texts;
+mod load_summary;
+mod loaded_units;
+mod model_choice;
 mod program;
-mod text_report;
+mod unit_answers;
 
+pub use loaded_units::load_unit;
 pub use program::run;
-pub use text_report::report_text;
+pub use report_texts::{report_json, report_text};

@@ -1,7 +1,6 @@
 //! The program: from words to a status.
-ghost use Rattle.std.specs.Prelude.{◌≡◌, ◌≤◌, map, string_bytes};
-ghost use Rattle.report_cli.specs.Verdicts.{seen};
-ghost use Rattle.report_cli.specs.Outcomes.{took, Answers, Completes};
+ghost use Rattle.std.specs.Prelude.{◌≡◌, ◌≤◌};
+ghost use Rattle.report_cli.specs.Outcomes.{took, Answers};
 
 use crate::decision::{Halt, decide};
 use cc_base::{Sink, Tree};
@@ -14,15 +13,14 @@ use std::alloc::Global;
 /// |---|---|
 /// | 0, 1 | the unit is accepted; 1 where there is a diagnostic |
 /// | 2 | the unit is refused |
-/// | 3 | the words are refused |
-/// | 4 | the file is not held |
+/// | 3 | the words or the model file are refused |
+/// | 4 | the unit's file or the model file is not held |
 /// | 5 | a read failed; nothing is put |
 /// | 6 | the write failed; a prefix of the text went out |
 /// | 7 | want of memory; nothing is put |
-/// | 8 | the file is too long |
+/// | 8 | a limit is passed |
 pub fn run<T: Tree, S: Sink>(alloc: Global, words: &[String], tree: &mut T, out: &mut S) -> u8
-    ensures answer { Answers (seen (T.files tree.old) (T.faults tree.old) (T.faults tree.new) (T.taken tree.old) (T.taken tree.new)) (took (S.written out.old) (S.written out.new) (S.faults out.old) (S.faults out.new) (S.calls out.old) (S.calls out.new)) (map string_bytes words.now) result }
-    ensures complete { Completes (seen (T.files tree.old) (T.faults tree.old) (T.faults tree.new) (T.taken tree.old) (T.taken tree.new)) (took (S.written out.old) (S.written out.new) (S.faults out.old) (S.faults out.new) (S.calls out.old) (S.calls out.new)) (map string_bytes words.now) result }
+    ensures answer { Answers (T.faults tree.old) (T.faults tree.new) (took (S.written out.old) (S.written out.new) (S.faults out.old) (S.faults out.new) (S.calls out.old) (S.calls out.new)) result }
     ensures files { T.files tree.new ≡ T.files tree.old }
     ensures read_faults { T.faults tree.old ≤ T.faults tree.new }
     ensures write_faults { S.faults out.old ≤ S.faults out.new }
