@@ -36,10 +36,7 @@ fn product(a: i128, b: i128) -> i128 {
 }
 
 /// The products of two ranges of numbers that are not negative.
-fn products(
-    x: Option<(i128, i128)>,
-    y: Option<(i128, i128)>,
-) -> Option<(i128, i128)> {
+fn products(x: Option<(i128, i128)>, y: Option<(i128, i128)>) -> Option<(i128, i128)> {
     match (x, y) {
         (Some(p), Some(q)) => Some((product(p.0, q.0), product(p.1, q.1))),
         _ => None,

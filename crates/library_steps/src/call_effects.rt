@@ -13,12 +13,7 @@ use store_domain::{Fresh, free, near_number, renew};
 use value_domain::{Cell, Value};
 
 /// Keeps the result of a call in its temporary, where it has one.
-fn put_result<I: IntDomain>(
-    flow: &Flow,
-    row: &mut [Cell<I>],
-    to_temp: Option<u32>,
-    value: Value<I>,
-)
+fn put_result<I: IntDomain>(flow: &Flow, row: &mut [Cell<I>], to_temp: Option<u32>, value: Value<I>)
     ensures { length row.new ≡ length row.old }
 {
     if let Some(temp) = to_temp {

@@ -40,11 +40,7 @@ pub fn no_bytes<I: IntDomain>() -> CopiedBytes<I> {
 }
 
 /// The bytes of a cell besides others.
-fn with_cell<I: IntDomain>(
-    found: CopiedBytes<I>,
-    value: Value<I>,
-    class: Class,
-) -> CopiedBytes<I> {
+fn with_cell<I: IntDomain>(found: CopiedBytes<I>, value: Value<I>, class: Class) -> CopiedBytes<I> {
     let is_pointer = class == Class::Pointer;
     CopiedBytes {
         indeterminate: found.indeterminate || value.indeterminate,
@@ -160,7 +156,11 @@ pub fn copied_value<I: IntDomain>(
             indeterminate: bytes.indeterminate,
             labels: bytes.labels,
         },
-        _ => whole_range(kind_of(model, class, signed), bytes.labels, bytes.indeterminate),
+        _ => whole_range(
+            kind_of(model, class, signed),
+            bytes.labels,
+            bytes.indeterminate,
+        ),
     }
 }
 
@@ -208,7 +208,13 @@ fn copy_class_cells<I: IntDomain>(
     let stray = has_stray(base.shape.cells.as_slice(), Class::Char, write.window);
     for class in 0..6 {
         if class != 0 || stray {
-            copy_class(model, row, class_position(base, class), CLASSES[class], &write);
+            copy_class(
+                model,
+                row,
+                class_position(base, class),
+                CLASSES[class],
+                &write,
+            );
         }
     }
 }
@@ -225,12 +231,7 @@ fn copy_class<I: IntDomain>(
     join_value(row, position, copied_value(model, class, true, write.bytes));
 }
 
-fn copy_base<I: IntDomain>(
-    model: &Model,
-    base: &BaseInfo,
-    row: &mut [Cell<I>],
-    write: CopyWrite<I>,
-)
+fn copy_base<I: IntDomain>(model: &Model, base: &BaseInfo, row: &mut [Cell<I>], write: CopyWrite<I>)
     ensures { length row.new ≡ length row.old }
 {
     copy_leaves(model, base, row, write);

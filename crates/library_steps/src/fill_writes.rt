@@ -8,8 +8,8 @@ use flow_program::Flow;
 use pointer_domain::Bases;
 use store_domain::{
     CLASSES, Window, any_zero, byte_written, bytes_of, class_position, has_base, has_stray,
-    is_one_instance, is_overlapped, join_value, labelled_null, leaf_position, offsets_of,
-    put_zero, state_at, state_position, write_value, zero_at, zero_position, zero_target,
+    is_one_instance, is_overlapped, join_value, labelled_null, leaf_position, offsets_of, put_zero,
+    state_at, state_position, write_value, zero_at, zero_position, zero_target,
 };
 use string_domain::FirstZero;
 use value_domain::{Cell, Labels, Value};
@@ -52,7 +52,9 @@ fn is_covered(model: &Model, leaf: Leaf, write: FillWrite, alone: bool) -> bool 
     match write.sure {
         None => false,
         Some(sure) => {
-            let last = leaf.offset.saturating_add(bytes_of(model, leaf.class).saturating_sub(1));
+            let last = leaf
+                .offset
+                .saturating_add(bytes_of(model, leaf.class).saturating_sub(1));
             alone && leaf.count == 1 && sure.lo <= leaf.offset && last <= sure.hi
         }
     }
@@ -89,7 +91,14 @@ fn fill_leaves<I: IntDomain>(
     let leaves = base.shape.cells.as_slice();
     for at in 0..leaves.len() {
         if is_overlapped(model, leaves[at], write.window) {
-            fill_leaf(model, row, leaf_position(base, at), leaves[at], write, alone);
+            fill_leaf(
+                model,
+                row,
+                leaf_position(base, at),
+                leaves[at],
+                write,
+                alone,
+            );
         }
     }
 }
@@ -181,12 +190,7 @@ fn zero_inside<I: IntDomain>(
     }
 }
 
-fn fill_zeros<I: IntDomain>(
-    base: &BaseInfo,
-    row: &mut [Cell<I>],
-    write: FillWrite,
-    alone: bool,
-)
+fn fill_zeros<I: IntDomain>(base: &BaseInfo, row: &mut [Cell<I>], write: FillWrite, alone: bool)
     ensures { length row.new ≡ length row.old }
 {
     let parts = base.shape.zeros.as_slice();

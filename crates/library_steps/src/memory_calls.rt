@@ -56,7 +56,6 @@ pub fn check_literals<I: IntDomain>(
     }
 }
 
-
 /// The plan of `memcpy` and `memmove`.
 pub fn plan_copy<I: IntDomain>(call: Call, row: &[Cell<I>]) -> Plan<I> {
     let bases = call.flow.bases.as_slice();

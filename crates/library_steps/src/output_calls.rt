@@ -14,10 +14,7 @@ use value_domain::{Cell, Labels, Value};
 /// `getchar`: a character or -1, with the labels of input.
 pub fn plan_getchar<I: IntDomain>(model: &Model) -> Plan<I> {
     let labels = Labels::input(kind_of(model, Class::Int, true));
-    harmless(Effect::Result(Value::of_number(
-        between_or_bottom(-1, 255),
-        labels,
-    )))
+    harmless(Effect::Result(Value::of_number(between_or_bottom(-1, 255), labels)))
 }
 
 /// `putchar`: the character as unsigned char, with its labels.
@@ -44,7 +41,10 @@ fn scan_trail<I: IntDomain>(call: Call, row: &[Cell<I>], at: usize, trail: Trail
     let bases = call.flow.bases.as_slice();
     let given = check_argument(bases, row, argument_value(call, row, at).pointer);
     let scanned = scan(bases, row, given.rest);
-    trail.check(string_violations(scanned.unknown), !scanned.bases.is_empty())
+    trail.check(
+        string_violations(scanned.unknown),
+        !scanned.bases.is_empty(),
+    )
 }
 
 /// `puts`.
@@ -87,10 +87,7 @@ pub fn plan_strlen<I: IntDomain>(call: Call, row: &[Cell<I>]) -> Plan<I> {
     let bases = call.flow.bases.as_slice();
     let given = check_argument(bases, row, argument_value(call, row, 0).pointer);
     let trail = Trail::start(given.violations);
-    let trail = trail.check(
-        Violations::none(),
-        !given.rest.bases.is_empty(),
-    );
+    let trail = trail.check(Violations::none(), !given.rest.bases.is_empty());
     let scanned = scan(bases, row, given.rest);
     let most = kind_of(&call.flow.model, Class::Pointer, false).greatest();
     let length: I = of_range(range_met(scanned.length.bounds(), 0, most));
@@ -110,10 +107,7 @@ pub fn plan_strcmp<I: IntDomain>(call: Call, row: &[Cell<I>]) -> Plan<I> {
     let left = check_argument(bases, row, argument_value(call, row, 0).pointer);
     let right = check_argument(bases, row, argument_value(call, row, 1).pointer);
     let trail = Trail::start(left.violations);
-    let trail = trail.check(
-        Violations::none(),
-        !left.rest.bases.is_empty(),
-    );
+    let trail = trail.check(Violations::none(), !left.rest.bases.is_empty());
     let trail = trail.check(right.violations, !right.rest.bases.is_empty());
     let first = scan(bases, row, left.rest);
     let second = scan(bases, row, right.rest);

@@ -28,10 +28,7 @@ fn one_less<I: IntDomain>(need: Option<(i128, i128)>) -> I
 {
     match need {
         None => near_number(I::bottom()),
-        Some((lo, hi)) => near_number(of_range(Some((
-            lo.saturating_sub(1),
-            hi.saturating_sub(1),
-        )))),
+        Some((lo, hi)) => near_number(of_range(Some((lo.saturating_sub(1), hi.saturating_sub(1))))),
     }
 }
 
@@ -69,7 +66,10 @@ pub fn plan_strcpy<I: IntDomain>(call: Call, row: &[Cell<I>]) -> Plan<I> {
     let trail = trail.check(to.violations, !to.rest.bases.is_empty());
     let trail = trail.check(from.violations, !from.rest.bases.is_empty());
     let scanned = scan(bases, row, from.rest);
-    let trail = trail.check(string_violations(scanned.unknown), !scanned.bases.is_empty());
+    let trail = trail.check(
+        string_violations(scanned.unknown),
+        !scanned.bases.is_empty(),
+    );
     let need = one_more(scanned.length);
     let (trail, cut) = check_room(trail, to.rest, need);
     let target = check_literals(call, trail, to.rest, cut);

@@ -8,9 +8,9 @@ use cc_base::{IntDomain, Lattice, of_range};
 use flow_program::Flow;
 use pointer_domain::Bases;
 use store_domain::{
-    CLASSES, Window, added_ranges, any_zero, byte_written, class_position, has_base, has_stray, is_one_instance,
-    is_other, is_overlapped, join_value, leaf_position, near_number, offsets_of, put_zero,
-    zero_at, zero_position, zero_target,
+    CLASSES, Window, added_ranges, any_zero, byte_written, class_position, has_base, has_stray,
+    is_one_instance, is_other, is_overlapped, join_value, leaf_position, near_number, offsets_of,
+    put_zero, zero_at, zero_position, zero_target,
 };
 use string_domain::{END, FirstZero};
 use value_domain::{Cell, Labels, Value};
@@ -147,12 +147,7 @@ fn zero_met<I: IntDomain>(
     }
 }
 
-fn write_zeros<I: IntDomain>(
-    base: &BaseInfo,
-    row: &mut [Cell<I>],
-    write: TextWrite<I>,
-    alone: bool,
-)
+fn write_zeros<I: IntDomain>(base: &BaseInfo, row: &mut [Cell<I>], write: TextWrite<I>, alone: bool)
     ensures { length row.new ≡ length row.old }
 {
     let parts = base.shape.zeros.as_slice();

@@ -103,7 +103,10 @@ fn alike_meets(leaf: Leaf, span: Span) -> bool {
         stride: leaf.stride,
         count: leaf.count.saturating_add(before),
     };
-    has_place_in(wide, shifted(span.first, before.saturating_mul(span.stride)))
+    has_place_in(
+        wide,
+        shifted(span.first, before.saturating_mul(span.stride)),
+    )
 }
 
 fn each_meets(leaf: Leaf, span: Span) -> bool {

@@ -116,7 +116,12 @@ fn read_class_bytes<I: IntDomain>(
 pub fn span_meets_padding(model: &Model, base: &BaseInfo, span: Span) -> bool {
     let span = span.joined();
     for number in 0..span.count {
-        if meets_padding(model, base.shape.cells.as_slice(), span.window(number), base.size) {
+        if meets_padding(
+            model,
+            base.shape.cells.as_slice(),
+            span.window(number),
+            base.size,
+        ) {
             return true;
         }
     }
@@ -198,7 +203,11 @@ fn write_class_cell<I: IntDomain>(
     let reached = base.shape.heap && span_has_stray(leaves, access.class, access.span);
     if reached {
         let written = as_read(model, value, access.class, access.signed, true);
-        join_value(row, class_position(base, class_number(access.class)), written);
+        join_value(
+            row,
+            class_position(base, class_number(access.class)),
+            written,
+        );
     }
     reached
 }
@@ -218,7 +227,11 @@ fn write_others<I: IntDomain>(
         let leaf = leaves[at];
         if is_touched(model, leaf, access.span) {
             let written = byte_written(model, leaf.class, leaf.signed, value.labels);
-            join_value(row, leaf_position(base, at), with_flag(written, value.indeterminate));
+            join_value(
+                row,
+                leaf_position(base, at),
+                with_flag(written, value.indeterminate),
+            );
             done = true;
         }
     }

@@ -51,12 +51,7 @@ fn members<'a>(table: Table<'a>, index: u32) -> &'a [Field] {
 
 /// The member that holds the leaf with a number, and the leaf's number there; `folded` says how leaves
 /// are counted.
-fn member_with(
-    table: Table,
-    fields: &[Field],
-    number: u64,
-    folded: bool,
-) -> Option<(usize, u64)> {
+fn member_with(table: Table, fields: &[Field], number: u64, folded: bool) -> Option<(usize, u64)> {
     let mut left = number;
     for at in 0..fields.len() {
         let count = if folded {
@@ -180,9 +175,7 @@ fn folded_leaf(table: Table, depth: u32, t: &CType, number: u64, at: u64) -> Opt
         CType::Array(inner, count) => {
             long_leaf(table, depth, inner, *count, element.number, element.at)
         }
-        CType::Struct(index) => {
-            folded_member(table, depth, *index, element.number, element.at)
-        }
+        CType::Struct(index) => { folded_member(table, depth, *index, element.number, element.at) }
         CType::Int(_) | CType::Pointer(_) | CType::Void => {
             scalar_leaf(table, element.t, element.at, None)
         }
@@ -206,13 +199,7 @@ fn long_leaf(
 }
 
 #[cycle(folded)]
-fn folded_member(
-    table: Table,
-    depth: u32,
-    index: u32,
-    number: u64,
-    at: u64,
-) -> Option<Leaf> {
+fn folded_member(table: Table, depth: u32, index: u32, number: u64, at: u64) -> Option<Leaf> {
     if depth == 0 {
         return None;
     }

@@ -43,7 +43,9 @@ fn bytes_below(model: &Model, leaf: Leaf, offset: u64) -> u64 {
     let apart = offset - leaf.offset;
     let turns = apart / leaf.stride;
     if turns < leaf.count {
-        turns.saturating_mul(size).saturating_add((apart % leaf.stride).min(size))
+        turns
+            .saturating_mul(size)
+            .saturating_add((apart % leaf.stride).min(size))
     } else {
         leaf.count.saturating_mul(size)
     }
@@ -104,7 +106,9 @@ fn padding_meets(model: &Model, padded: Padded, lo: u64, hi: u64) -> bool {
 fn meets_leaf(model: &Model, padded: Padded, leaf: Leaf) -> bool {
     let last = bytes_of(model, leaf.class).saturating_sub(1);
     for place in 0..leaf.count {
-        let at = leaf.offset.saturating_add(place.saturating_mul(leaf.stride));
+        let at = leaf
+            .offset
+            .saturating_add(place.saturating_mul(leaf.stride));
         if padding_meets(model, padded, at, at.saturating_add(last)) {
             return true;
         }

@@ -62,7 +62,13 @@ fn copy_leaves<I: IntDomain>(route: Route, row: &mut [Cell<I>], first: u64, end:
     if !copy_leaves(route, row, first + 1, end) {
         return false;
     }
-    write_leaf(route.target, row, access(leaf, route.to), value, route.alone)
+    write_leaf(
+        route.target,
+        row,
+        access(leaf, route.to),
+        value,
+        route.alone,
+    )
 }
 
 fn copy_all<I: IntDomain>(route: Route, row: &mut [Cell<I>], count: u64) -> bool
