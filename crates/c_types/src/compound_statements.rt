@@ -119,6 +119,7 @@ pub fn case_standing(
     let Some(n) = constant else {
         return Ok(CaseStanding::Variable);
     };
+    cx.keep_constant(term)?;
     match flow.add_case(place, n)? {
         Some(added) => Ok(CaseStanding::Added(added)),
         None => Ok(CaseStanding::Stray),

@@ -194,7 +194,7 @@ fn initialized_object(
     if cx.size_of(&ctype).is_none() {
         return Err(type_fault(name.place));
     }
-    let stores = static_stores(cx, equals, &made)?;
+    let stores = static_stores(cx, equals, made)?;
     set_static(cx, index, number, ctype)?;
     if let Some(object) = cx.statics.get_mut(number as usize) {
         object.stores = stores;

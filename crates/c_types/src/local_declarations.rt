@@ -131,7 +131,7 @@ fn initialized_static(
     if cx.size_of(&ctype).is_none() {
         return Err(type_fault(name.place));
     }
-    let stores = static_stores(cx, equals, &made)?;
+    let stores = static_stores(cx, equals, made)?;
     set_static(cx, index, number, ctype)?;
     if let Some(object) = cx.statics.get_mut(number as usize) {
         object.stores = stores;

@@ -179,10 +179,12 @@ pub fn check(alloc: Global, tree: &Tree7, model: &Model, entry: &str) -> Result<
         types,
         statics,
         literals,
+        constants,
         ..
     } = cx;
     Ok(Checked {
         functions,
+        constants,
         objects: statics,
         structs: types.structs,
         literals,

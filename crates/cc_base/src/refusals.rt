@@ -64,8 +64,6 @@ pub enum Refusal {
     Recursion,
     /// A count of the control-flow program passes its limit; at the name of the entry.
     TooLarge { what: Count, count: u64, limit: u64 },
-    /// The unit is outside the first path, which reads only a small part of C; at 1:1.
-    OutsidePath,
 }
 
 /// A refusal and its place.

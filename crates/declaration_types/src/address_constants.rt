@@ -4,7 +4,7 @@ use c_layout::{
     CType, CheckedTerm, InitStore, Lvalue, LvalueForm, ObjectRef, StaticBase, StaticStore,
     StaticValue, TermForm,
 };
-use cc_base::{IntType, Place, Stop};
+use cc_base::{IntType, Memory, Place, Stop};
 use type_rules::converted;
 use type_scopes::{Context, constant_needed, type_fault};
 
@@ -204,8 +204,38 @@ fn scalar_store(cx: &Context, equals: Place, term: &CheckedTerm) -> Result<Vec<S
     Ok(made)
 }
 
-/// The stores of a static initializer, which has to be constant; else the refusal at its `=`.
+/// Keeps the expressions of a list: no run evaluates them.
+fn keep_list(cx: &mut Context, list: Vec<InitStore>) -> Result<(), Memory> {
+    for store in list {
+        if let InitStore::Value(_, term) = store {
+            cx.constants.push(term)?;
+        }
+    }
+    Ok(())
+}
+
+/// Keeps the expressions of a static initializer: no run evaluates them.
+fn keep_expressions(cx: &mut Context, made: Initialized) -> Result<(), Memory> {
+    match made {
+        Initialized::Scalar(term) => cx.keep_constant(term),
+        Initialized::Struct(_) => Ok(()),
+        Initialized::List(list) => keep_list(cx, list),
+    }
+}
+
+/// The stores of a static initializer, which has to be constant; else the refusal at its `=`. Its
+/// expressions are kept for the syntactic rules.
 pub fn static_stores(
+    cx: &mut Context,
+    equals: Place,
+    made: Initialized,
+) -> Result<Vec<StaticStore>, Stop> {
+    let stores = constant_stores(cx, equals, &made)?;
+    keep_expressions(cx, made)?;
+    Ok(stores)
+}
+
+fn constant_stores(
     cx: &Context,
     equals: Place,
     made: &Initialized,

@@ -20,10 +20,12 @@ fn declare_tag(cx: &mut Context, tag: &Name, number: u32) -> Result<(), Stop> {
 fn given(cx: &mut Context, e: &Expr) -> Result<Option<i128>, Stop> {
     let operand = typed(cx, e)?;
     let term = term_of(cx.alloc, operand)?;
-    match &term.ctype {
-        CType::Int(_) => Ok(term.constant),
-        _ => Ok(None),
-    }
+    let value = match &term.ctype {
+        CType::Int(_) => term.constant,
+        _ => None,
+    };
+    cx.keep_constant(term)?;
+    Ok(value)
 }
 
 /// The value of an enumeration constant where that of the one before it is `last`.

@@ -30,7 +30,9 @@ fn length_of(term: &CheckedTerm) -> Option<u64> {
 pub fn length(cx: &mut Context, e: &Expr) -> Result<Option<u64>, Stop> {
     let operand = typed(cx, e)?;
     let term = term_of(cx.alloc, operand)?;
-    Ok(length_of(&term))
+    let length = length_of(&term);
+    cx.keep_constant(term)?;
+    Ok(length)
 }
 
 /// The lengths of a type name's arrays.

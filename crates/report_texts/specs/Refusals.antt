@@ -35,7 +35,6 @@ word_of refusal.FormatFault = codes "FormatFault"
 word_of refusal.NoEntry = codes "NoEntry"
 word_of refusal.Recursion = codes "Recursion"
 word_of (refusal.TooLarge what count limit) = codes "TooLarge"
-word_of refusal.OutsidePath = codes "OutsidePath"
 
 abbrev pub count_word : Count → Bytes
 count_word Temps = codes "temps"

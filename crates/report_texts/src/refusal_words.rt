@@ -38,7 +38,6 @@ pub fn word_of(refusal: &Refusal) -> &'static str
             count: _,
             limit: _,
         } => "TooLarge",
-        Refusal::OutsidePath => "OutsidePath",
     }
 }
 

@@ -11,7 +11,7 @@ use Rattle.c_layout.specs.declared.checked_tree.checked_units.Checked.{Checked}
 use Rattle.syntax_rules.specs.declared.term_places.Slot.TheVariants as slot
 use Rattle.syntax_rules.specs.Slots.{switched}
 use Rattle.syntax_rules.specs.Switches.{lacks_default}
-use Rattle.syntax_rules.specs.TermPlaces.{term_places, lvalue_places}
+use Rattle.syntax_rules.specs.TermPlaces.{term_places, lvalue_places, terms_places}
 
 -- a condition stands in a slot that needs no parentheses
 abbrev pub condition_places : CheckedTerm → List Diag
@@ -74,6 +74,6 @@ statements_places items = flat_map same (map statement_places items)
 abbrev pub function_places : Function → List Diag
 function_places f = statements_places f.body.items
 
--- what a unit has, in reading order
+-- what a unit has: the bodies of its functions, and the expressions that no run evaluates
 abbrev pub unit_places : Checked → List Diag
-unit_places unit = flat_map function_places unit.functions.items
+unit_places unit = flat_map function_places unit.functions.items ++ terms_places unit.constants.items

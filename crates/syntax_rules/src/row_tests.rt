@@ -89,6 +89,7 @@ fn unit_of(alloc: Global, body: Vec<CheckedStatement>) -> Result<Checked, Fail> 
     })?;
     Ok(Checked {
         functions,
+        constants: Vec::new(alloc),
         objects: Vec::new(alloc),
         structs: Structs {
             items: Vec::new(alloc),

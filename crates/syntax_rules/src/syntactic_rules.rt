@@ -6,11 +6,12 @@ ghost use Rattle.syntax_rules.specs.StatementPlaces.{unit_places};
 
 use crate::diagnostic_lists::ordered;
 use crate::statement_places::add_statements;
+use crate::term_places::add_terms;
 use c_layout::Checked;
 use cc_base::{Diag, Memory};
 use std::alloc::{AllocError, Global};
 
-/// What the bodies of the functions have, in reading order.
+/// What the bodies of the functions have, and what the expressions have that no run evaluates.
 fn all_places(alloc: Global, unit: &Checked) -> Result<Vec<Diag>, AllocError>
     ensures { IfOk result (λ found. found.items ≡ unit_places unit.now) }
 {
@@ -18,6 +19,7 @@ fn all_places(alloc: Global, unit: &Checked) -> Result<Vec<Diag>, AllocError>
     for function in &unit.functions {
         add_statements(&mut found, function.body.as_slice())?;
     }
+    add_terms(&mut found, unit.constants.as_slice())?;
     Ok(found)
 }
 

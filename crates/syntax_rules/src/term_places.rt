@@ -65,7 +65,7 @@ fn add_sizeof(found: &mut Vec<Diag>, place: Place, is_pointer: bool) -> Result<(
 
 /// Adds what the terms of a list have, which stand in no slot.
 #[cycle(terms)]
-fn add_terms(found: &mut Vec<Diag>, terms: &[CheckedTerm]) -> Result<(), AllocError>
+pub fn add_terms(found: &mut Vec<Diag>, terms: &[CheckedTerm]) -> Result<(), AllocError>
     ensures { IfOk result (λ _. found.new.items ≡ found.old.items ++ terms_places terms.now) }
 {
     for term in terms {

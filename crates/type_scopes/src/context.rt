@@ -6,7 +6,7 @@ use crate::meanings::{Meaning, Tag};
 use crate::name_numbers::NameNumbers;
 use crate::scope_table::ScopeTable;
 use crate::struct_types::StructTypes;
-use c_layout::{CType, LocalObject, StaticObject, StringLiteral};
+use c_layout::{CType, CheckedTerm, LocalObject, StaticObject, StringLiteral};
 use call_cycles::{Call, CallGraph};
 use cc_base::{Memory, Place, Text};
 use std::alloc::Global;
@@ -121,6 +121,8 @@ pub struct Context {
     pub statics: Vec<StaticObject>,
     /// The string literals of the run.
     pub literals: Vec<StringLiteral>,
+    /// The expressions of which only the values are needed.
+    pub constants: Vec<CheckedTerm>,
     pub calls: CallGraph,
     /// How many operands of `sizeof` are open: what stands in them is not evaluated.
     pub unevaluated: u32,
@@ -144,6 +146,7 @@ impl Context {
             definitions: Definitions::new(alloc),
             statics: Vec::new(alloc),
             literals: Vec::new(alloc),
+            constants: Vec::new(alloc),
             calls: CallGraph::new(alloc),
             unevaluated: 0,
             body: Body {
@@ -180,6 +183,12 @@ impl Context {
         let bytes = bytes.copy(self.alloc)?;
         self.literals.push(StringLiteral { place, bytes })?;
         Ok(number)
+    }
+
+    /// Keeps an expression of which only the value is needed: the syntactic rules look at it.
+    pub fn keep_constant(&mut self, term: Box<CheckedTerm>) -> Result<(), Memory> {
+        self.constants.push(Box::into_inner(term))?;
+        Ok(())
     }
 
     /// Notes a call in the body at hand, where it is evaluated.

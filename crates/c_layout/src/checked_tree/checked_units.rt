@@ -1,5 +1,6 @@
 //! Checked units.
 use crate::checked_tree::checked_statements::CheckedStatement;
+use crate::checked_tree::checked_terms::CheckedTerm;
 use crate::data_model::Model;
 use crate::struct_table::Structs;
 use crate::type_terms::CType;
@@ -76,6 +77,9 @@ pub struct StringLiteral {
 #[derive(Drop)]
 pub struct Checked {
     pub functions: Vec<Function>,
+    /// The expressions that no run evaluates, since only their values are needed: lengths of arrays,
+    /// case labels, values of enumerators, and initializers of objects of static storage.
+    pub constants: Vec<CheckedTerm>,
     pub objects: Vec<StaticObject>,
     pub structs: Structs,
     pub literals: Vec<StringLiteral>,
