@@ -6,3 +6,6 @@ pub mod Layout
 pub mod Leaves
 pub mod StructLayouts
 pub mod SyntaxTrees
+pub mod CheckedTrees
+pub mod CheckedUnits
+pub mod DeclarationTrees
