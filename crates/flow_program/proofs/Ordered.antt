@@ -1,6 +1,6 @@
 -- Sorting numbers and dropping repeats leaves an ascending list of the same numbers.
-use Rattle.std.proofs.Common.{◌≡◌, ◌≤◌, ℕ, ℤ, Bool, true, false, ◌&&◌, List, [], ◌∷◌, length, refl, sym, ap, cond, int_lt, subst, ◌∙◌, IsPermutation, Contains}
-use Rattle.std.specs.Ordering.{int_cmp, int_eq, eq_by_cmp, is_lt}
+use Rattle.std.proofs.Common.{◌≡◌, ℤ, Bool, true, false, ◌&&◌, List, [], ◌∷◌, refl, sym, ap, cond, int_lt, subst, ◌∙◌, IsPermutation, Contains}
+use Rattle.std.specs.Ordering.{int_cmp, int_eq, eq_by_cmp}
 use Rattle.std.specs.List.{dedup}
 use Rattle.std.specs.List.Sorted.{IsSorted, IsStrictlySortedBy}
 use Rattle.std.specs.List.Retain.{IsFiltered, DiffersFromLast}

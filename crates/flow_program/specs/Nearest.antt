@@ -1,5 +1,5 @@
 -- The numbers of least absolute value of an ascending list, and which numbers are thresholds.
-use Rattle.std.specs.Prelude.{◌≡◌, ℕ, ℤ, pos, ◌-◌, ◌-ℤ◌, int_lt, Bool, true, false, cond, ◌||◌, zero, suc, List, [], ◌∷◌, ◌++◌, length, take, drop, slice_index_or, Contains}
+use Rattle.std.specs.Prelude.{◌≡◌, ℕ, ℤ, pos, ◌-◌, ◌-ℤ◌, int_lt, Bool, true, cond, ◌||◌, zero, suc, List, [], ◌∷◌, ◌++◌, length, take, drop, slice_index_or, Contains}
 use Rattle.std.specs.Ordering.{int_eq}
 use Rattle.std.specs.List.{list_any}
 use Rattle.cc_base.specs.Ascending.{is_ascending}

@@ -1,5 +1,5 @@
 -- The offsets and the ends of the members of structs.
-use Rattle.std.specs.Prelude.{ℕ, ℤ, pos, negsuc, ◌+◌, Bool, cond, List, [], ◌∷◌, ◌++◌}
+use Rattle.std.specs.Prelude.{ℕ, ℤ, pos, negsuc, ◌+◌, cond, List, [], ◌∷◌, ◌++◌}
 use Rattle.c_layout.specs.Layout.{size_of_type}
 use Rattle.c_layout.specs.StructViews.{FieldView, StructView, structs_view}
 use Rattle.flow_program.specs.declared.programs.Flow.{Flow}

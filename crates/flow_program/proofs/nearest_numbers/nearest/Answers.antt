@@ -1,4 +1,4 @@
-use Rattle.std.proofs.Common.{rules, ◌≡◌, ◌+◌, length, ap, sym, ◌∙◌, arith}
+use Rattle.std.proofs.Common.{rules}
 use Rattle.flow_program.specs.Nearest.{nearest_of}
 use Rattle.flow_program.proofs.Nearest.{left_step}
 use Rattle.flow_program.proofs.nearest_numbers.nearest.Goals as goal

@@ -1,4 +1,4 @@
-use Rattle.std.proofs.Common.{◌≡◌, ◌∙◌, ap}
+use Rattle.std.proofs.Common.{◌∙◌, ap}
 use Rattle.flow_program.specs.Nearest.{not_among, nearest_of}
 use Rattle.flow_program.proofs.Nearest.{chosen_are}
 use Rattle.flow_program.proofs.threshold_choice.chosen.Goals as goal

@@ -1,4 +1,4 @@
-use Rattle.std.proofs.Common.{◌≡◌, ◌∙◌}
+use Rattle.std.proofs.Common.{◌∙◌}
 use Rattle.flow_program.proofs.Nearest.{same_thresholds}
 use Rattle.flow_program.proofs.threshold_choice.thresholds.Goals as goal
 
