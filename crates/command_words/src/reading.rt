@@ -1,4 +1,10 @@
 //! Reading the words of a command line.
+ghost use Rattle.std.specs.Prelude.{◌≡◌, IfOk, map, string_bytes, codes};
+ghost use Rattle.clap.specs.Matches.{found_of};
+ghost use Rattle.clap.specs.Walk.{rows_of};
+ghost use Rattle.command_words.specs.Requests.{is_only, format_named, text_in, texts_in, command_in, command_view, values_in, asked_in, asked_by, is_memory_kind, asked, asked_of_command};
+ghost use Rattle.clap.specs.Values.{kind_of};
+
 use crate::clap_command::command;
 use crate::commands::{Command, Format, Request};
 use crate::numbers::number_within;
@@ -8,7 +14,9 @@ use clap::{ArgMatches, Error};
 use std::alloc::{AllocError, Global};
 
 /// Whether the one word is one of two.
-fn is_only(words: &[String], long: &str, short: &str) -> bool {
+fn is_only(words: &[String], long: &str, short: &str) -> bool
+    ensures { result ≡ is_only (map string_bytes words.now) long.now short.now }
+{
     match words {
         [word] => word.as_str() == long || word.as_str() == short,
         _ => false,
@@ -16,14 +24,18 @@ fn is_only(words: &[String], long: &str, short: &str) -> bool {
 }
 
 /// The text of a word or an option; it has a default or must stand.
-fn text_of<'a>(matches: &ArgMatches<'a>, name: &str) -> &'a str {
+fn text_of<'a>(matches: &ArgMatches<'a>, name: &str) -> &'a str
+    ensures { result.now ≡ text_in (rows_of (found_of matches.now)) name.now }
+{
     match matches.get_str(name) {
         Some(text) => text,
         None => "",
     }
 }
 
-fn format_of(text: &str) -> Option<Format> {
+fn format_of(text: &str) -> Option<Format>
+    ensures { result ≡ format_named text.now }
+{
     if text == "text" {
         Some(Format::Text)
     } else if text == "json" {
@@ -33,19 +45,31 @@ fn format_of(text: &str) -> Option<Format> {
     }
 }
 
-/// The directories.
-fn dirs_of(alloc: Global, matches: &ArgMatches) -> Result<Vec<String>, AllocError> {
-    let mut dirs = Vec::new(alloc);
-    if let Some(names) = matches.get_strs("dirs") {
-        for at in 0..names.len() {
-            dirs.push(String::from_str(alloc, names[at])?)?;
-        }
+/// Copies of texts.
+fn copied(alloc: Global, names: &[&str]) -> Result<Vec<String>, AllocError>
+    ensures { IfOk result (λ v. map string_bytes v.items ≡ map (λ s. s.now) names.now) }
+{
+    let mut made = Vec::new(alloc);
+    for name in names {
+        made.push(String::from_str(alloc, name)?)?;
     }
-    Ok(dirs)
+    Ok(made)
+}
+
+/// The directories.
+fn dirs_of(alloc: Global, matches: &ArgMatches) -> Result<Vec<String>, AllocError>
+    ensures { IfOk result (λ v. map string_bytes v.items ≡ texts_in (rows_of (found_of matches.now)) (codes "dirs")) }
+{
+    match matches.get_strs("dirs") {
+        Some(names) => copied(alloc, names),
+        None => Ok(Vec::new(alloc)),
+    }
 }
 
 /// The values that are no plain texts; None where one is out of form.
-fn checked_values(matches: &ArgMatches) -> Option<(Format, u32, u32)> {
+fn checked_values(matches: &ArgMatches) -> Option<(Format, u32, u32)>
+    ensures { result ≡ values_in (rows_of (found_of matches.now)) }
+{
     let format = format_of(text_of(matches, "format"))?;
     let seed = number_within(text_of(matches, "seed"), 0, 2_147_483_647)?;
     let count = number_within(text_of(matches, "count"), 1, 300)?;
@@ -58,7 +82,9 @@ fn command_of(
     format: Format,
     seed: u32,
     count: u32,
-) -> Result<Command, AllocError> {
+) -> Result<Command, AllocError>
+    ensures { IfOk result (λ c. command_view c ≡ command_in (rows_of (found_of matches.now)) format seed count) }
+{
     let unit = String::from_str(alloc, text_of(matches, "unit"))?;
     let model = String::from_str(alloc, text_of(matches, "model"))?;
     let entry = String::from_str(alloc, text_of(matches, "entry"))?;
@@ -74,7 +100,9 @@ fn command_of(
     })
 }
 
-fn request_of(alloc: Global, matches: &ArgMatches) -> Result<Request, AllocError> {
+fn request_of(alloc: Global, matches: &ArgMatches) -> Result<Request, AllocError>
+    ensures { IfOk result (λ r. asked_by r ≡ asked_in (rows_of (found_of matches.now))) }
+{
     let Some((format, seed, count)) = checked_values(matches) else {
         return Ok(Request::Refused);
     };
@@ -89,18 +117,16 @@ fn request_of(alloc: Global, matches: &ArgMatches) -> Result<Request, AllocError
 }
 
 /// Whether the error is want of memory.
-fn is_memory(error: &Error) -> bool {
+fn is_memory(error: &Error) -> bool
+    ensures { result ≡ is_memory_kind (kind_of error.now) }
+{
     error.kind() == ErrorKind::OutOfMemory
 }
 
-/// What the words behind the program's name ask for. `Memory` where memory is short.
-pub fn read_words(alloc: Global, words: &[String]) -> Result<Request, Memory> {
-    if is_only(words, "--help", "-h") {
-        return Ok(Request::Help);
-    }
-    if is_only(words, "--version", "-V") {
-        return Ok(Request::Version);
-    }
+/// What words ask for beside `--help` and `--version` alone.
+fn read_command(alloc: Global, words: &[String]) -> Result<Request, Memory>
+    ensures { IfOk result (λ r. asked_by r ≡ asked_of_command (map string_bytes words.now)) }
+{
     let line = command(alloc)?;
     match line.try_get_matches_from(words) {
         Ok(matches) => Ok(request_of(alloc, &matches)?),
@@ -112,4 +138,17 @@ pub fn read_words(alloc: Global, words: &[String]) -> Result<Request, Memory> {
             }
         }
     }
+}
+
+/// What the words behind the program's name ask for. `Memory` where memory is short.
+pub fn read_words(alloc: Global, words: &[String]) -> Result<Request, Memory>
+    ensures { IfOk result (λ r. asked_by r ≡ asked (map string_bytes words.now)) }
+{
+    if is_only(words, "--help", "-h") {
+        return Ok(Request::Help);
+    }
+    if is_only(words, "--version", "-V") {
+        return Ok(Request::Version);
+    }
+    read_command(alloc, words)
 }

@@ -1,5 +1,5 @@
 -- The line that a refusal prints.
-use Rattle.std.specs.Prelude.{ℕ, Bool, true, false, cond, List, [], ◌++◌, codes}
+use Rattle.std.specs.Prelude.{ℕ, Bool, true, false, cond, [], ◌++◌, codes}
 use Rattle.std.specs.Fmt.{decimal}
 use Rattle.cc_base.specs.declared.diagnostics.Place.{Place}
 use Rattle.cc_base.specs.declared.limit_table.Count.{Count}
