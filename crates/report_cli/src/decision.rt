@@ -4,16 +4,16 @@ ghost use Rattle.cc_base.specs.Outside.{Rose};
 ghost use Rattle.c_layout.specs.Models.{is_model};
 ghost use Rattle.cc_base.specs.declared.refusals.Stop.TheVariants as stops;
 
-use crate::fixed_texts::{help, no_file, version, words_refused};
-use crate::load_summary::summary;
-use crate::loaded_units::load_unit;
 use crate::model_choice::{ModelChoice, choose_model};
 use crate::unit_answers::{Judged, judge_unit};
 use c_layout::{Model, Unit7};
 use c_preproc::{expand, expand_bytes};
 use cc_base::{Diag, Fault, Memory, Stop, Tree};
 use command_words::{Command, Format, Request, read_words};
-use report_texts::{Answer, refusal_answer, report_json, report_text};
+use report_texts::{
+    Answer, help, load_unit, no_file, refusal_answer, report_json, report_text, summary, version,
+    words_refused,
+};
 use std::alloc::{AllocError, Global};
 
 /// What ends the work without a text.

@@ -2,13 +2,12 @@
 #![tactic(auto)]
 
 mod decision;
-mod fixed_texts;
-mod load_summary;
-mod loaded_units;
+
+
+
 mod model_choice;
 mod program;
 mod unit_answers;
 
-pub use loaded_units::load_unit;
 pub use program::run;
-pub use report_texts::{report_json, report_text};
+pub use report_texts::{load_unit, report_json, report_text};

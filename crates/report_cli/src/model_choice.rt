@@ -5,10 +5,9 @@ ghost use Rattle.c_layout.specs.Models.{is_model};
 ghost use Rattle.report_cli.specs.Choices.{IsSoundChoice};
 
 use crate::decision::Halt;
-use crate::fixed_texts::{file_too_long, no_file, no_model};
 use c_layout::{Key, Model, ModelFault, by_name, from_toml};
 use cc_base::{Tree, TreeFault};
-use report_texts::Answer;
+use report_texts::{Answer, file_too_long, no_file, no_model};
 use std::alloc::Global;
 
 /// A model, or the answer where there is none.

@@ -1,3 +1,6 @@
 pub mod Reports
 pub mod Refusals
 pub mod JsonReports
+pub mod FixedTexts
+pub mod Summaries
+pub mod LoadUnits

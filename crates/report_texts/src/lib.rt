@@ -2,13 +2,19 @@
 #![tactic(auto)]
 
 mod answers;
+mod fixed_texts;
 mod json_report;
+mod load_summary;
+mod loaded_units;
 mod refusal_lines;
 mod refusal_words;
 mod text_report;
 
 pub use answers::Answer;
+pub use fixed_texts::{file_too_long, help, no_file, no_model, version, words_refused};
 pub use json_report::report_json;
+pub use load_summary::summary;
+pub use loaded_units::load_unit;
 pub use refusal_lines::refusal_answer;
 pub use refusal_words::{count_word, word_of};
 pub use text_report::report_text;

@@ -17,7 +17,7 @@ fn diagnostic_line(alloc: Global, file: &str, diag: &Diag) -> Result<String, All
 }
 
 /// The line that counts the diagnostics.
-fn count_line(alloc: Global, count: usize, unit: &str) -> Result<String, AllocError>
+pub fn count_line(alloc: Global, count: usize, unit: &str) -> Result<String, AllocError>
     ensures { IfOk result (λ s. string_bytes s ≡ last_line count unit.now) }
 {
     format!(in alloc; "{count} diagnostics in {unit}\n")
