@@ -1,9 +1,9 @@
 -- The expansion of a list of tokens (6.10.3), as a rewriting of nested lists.
-use Rattle.std.specs.Prelude.{ℕ, zero, suc, ◌+◌, Bool, true, false, ◌||◌, ◌&&◌, ◌==◌, nat_le, cond, List, [], ◌∷◌, ◌++◌, length, Option, Some, None}
+use Rattle.std.specs.Prelude.{◌≡◌, ℕ, zero, suc, ◌+◌, Bool, true, false, ◌||◌, ◌&&◌, ◌==◌, nat_le, cond, List, [], ◌∷◌, ◌++◌, length, Option, Some, None}
 use Rattle.cc_base.specs.declared.diagnostics.Place.{Place}
 use Rattle.macro_expansion.specs.declared.lexeme.Mark.{Mark}
 use Rattle.macro_expansion.specs.declared.lexeme.Lexeme.{Lexeme}
-use Rattle.macro_expansion.specs.declared.lexeme.Lexeme.TheVariants.{Name, Painted, Open, Close, Comma, Other}
+use Rattle.macro_expansion.specs.declared.lexeme.Lexeme.TheVariants.{Name, Painted, Open, Close, Comma}
 use Rattle.macro_expansion.specs.declared.macro_table.Part.{Part}
 use Rattle.macro_expansion.specs.declared.macro_table.Part.TheVariants.{Parameter, Word}
 use Rattle.macro_expansion.specs.declared.trouble.Trouble.{Trouble}
@@ -55,7 +55,7 @@ arguments d (x ∷ ts) = with_first x (arguments d ts)
 
 abbrev pub look : List (ℕ × Rule) → ℕ → Option Rule
 look [] n = None
-look (e ∷ es) n = cond (e.0 == n) (Some e.1) (look es n)
+look (e ∷ es) n = cond (n == e.0) (Some e.1) (look es n)
 
 abbrev pub member : ℕ → List ℕ → Bool
 member n [] = false
@@ -68,18 +68,22 @@ is_nil (x ∷ xs) = false
 -- a call with these arguments has as many as the macro has parameters
 abbrev pub fits : ℕ → List Lexeme → List (List Lexeme) → Bool
 fits zero first others = is_nil first && is_nil others
-fits (suc k) first others = k == length others
+fits (suc k) first others = length others == k
 
 abbrev pub nth_list : List (List Lexeme) → ℕ → List Lexeme
 nth_list [] k = []
 nth_list (xs ∷ xss) zero = xs
 nth_list (xs ∷ xss) (suc k) = nth_list xss k
 
+-- what a part of a replacement list stands for
+abbrev pub part_of : List (List Lexeme) → Part → List Lexeme
+part_of lists (Parameter k s) = nth_list lists k
+part_of lists (Word x) = x ∷ []
+
 -- a replacement list with its parameters replaced
 abbrev pub put : List (List Lexeme) → List Part → List Lexeme
 put lists [] = []
-put lists (Parameter k s ∷ ps) = nth_list lists k ++ put lists ps
-put lists (Word x ∷ ps) = x ∷ put lists ps
+put lists (p ∷ ps) = part_of lists p ++ put lists ps
 
 -- what becomes of the token at the head of a list
 pub data Action : Type 0 where
@@ -139,7 +143,7 @@ follow s at place deeper argument go xs c (replace n r args rest) =
     bind (deeper n rest made c2) (λ ys c3. bind (go rest c3) (λ zs c4. done (ys ++ zs) c4))))
 
 -- along a list, by a count that is at least its length
-abbrev pub along : Setting → (Option Place → ℕ → Bool → List Lexeme → ℕ → Outcome (List Lexeme)) → List ℕ → ℕ → Option Place → Bool → List Lexeme → ℕ → Outcome (List Lexeme)
+unfoldable pub along : Setting → (Option Place → ℕ → Bool → List Lexeme → ℕ → Outcome (List Lexeme)) → List ℕ → ℕ → Option Place → Bool → List Lexeme → ℕ → Outcome (List Lexeme)
 along s deeper hidden turns at spills [] c = done [] c
 along s deeper hidden zero at spills (x ∷ xs) c = done [] c
 along s deeper hidden (suc turns) at spills (x ∷ xs) c =
@@ -148,10 +152,27 @@ along s deeper hidden (suc turns) at spills (x ∷ xs) c =
     (along s deeper hidden turns (Some place) false) (along s deeper hidden turns at spills) xs c (act s.table spills hidden (unclosed at) x xs)
 
 -- into lists that are made, by a count that is at least the number of names that are not hidden
-abbrev pub within : Setting → ℕ → List ℕ → Option Place → Bool → List Lexeme → ℕ → Outcome (List Lexeme)
+unfoldable pub within : Setting → ℕ → List ℕ → Option Place → Bool → List Lexeme → ℕ → Outcome (List Lexeme)
 within s zero hidden at spills ts c = done [] c
 within s (suc d) hidden at spills ts c = along s (λ outer n more made c1. within s d (n ∷ hidden) outer more made c1) hidden (length ts) at spills ts c
 
--- the expansion of a list of text under no hidden name, where replacements before it have made `c` tokens
+-- a list with its macros replaced: under these hidden names, inside a macro at this place, with `(` behind it or not, where
+-- replacements before it have made `c` tokens
+unfoldable pub repl : Setting → List ℕ → Option Place → Bool → List Lexeme → ℕ → Outcome (List Lexeme)
+repl s hidden at spills ts c = within s (suc (length s.table)) hidden at spills ts c
+
+-- the expansion of a list of text under no hidden name
 abbrev pub expansion : Setting → List Lexeme → ℕ → Outcome (List Lexeme)
-expansion s ts c = within s (suc (length s.table)) [] None false ts c
+expansion s ts c = repl s [] None false ts c
+
+-- What a replaced list is: nothing at its end, and else what becomes of its first token. So the counts above bound the recursion and
+-- say nothing more.
+abbrev pub EndsEmpty : Type 0
+EndsEmpty = (s : Setting) (hidden : List ℕ) (at : Option Place) (spills : Bool) (c : ℕ) → repl s hidden at spills [] c ≡ done [] c
+
+abbrev pub GoesByItsFirst : Type 0
+GoesByItsFirst =
+    (s : Setting) (hidden : List ℕ) (at : Option Place) (spills : Bool) (x : Lexeme) (xs : List Lexeme) (c : ℕ)
+    → repl s hidden at spills (x ∷ xs) c
+    ≡ follow s at (place_by at (mark_of x).place) (λ n rest made c1. repl s (n ∷ hidden) (Some (place_by at (mark_of x).place)) (next_in spills rest) made c1)
+    (repl s hidden (Some (place_by at (mark_of x).place)) false) (repl s hidden at spills) xs c (act s.table spills hidden (unclosed at) x xs)

@@ -1,5 +1,5 @@
 -- Tokens and where they stand.
-use Rattle.std.specs.Prelude.{ℕ, Option, Some, None}
+use Rattle.std.specs.Prelude.{Option, Some, None}
 use Rattle.cc_base.specs.declared.diagnostics.Place.{Place}
 use Rattle.cc_base.specs.declared.lexemes.Kind.{Kind}
 use Rattle.cc_base.specs.declared.lexemes.Kind.TheVariants as kind

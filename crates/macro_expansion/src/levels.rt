@@ -1,8 +1,11 @@
 //! The calls and the replaced lists that are under way.
-ghost use Rattle.std.specs.Prelude.{◌≡◌};
+ghost use Rattle.std.specs.Prelude.{◌≡◌, ◌∷◌, [], ◌++◌, OnOk, IfNone, option_to_list};
+ghost use Rattle.macro_expansion.specs.Expanding.{member};
+ghost use Rattle.macro_expansion.specs.Frames.{frame_of, frames_of};
+ghost use Rattle.macro_expansion.specs.Machine.{at_of, deepened, left_frames, left_names};
 
 use crate::lexeme::Lexeme;
-use crate::trouble::Failure;
+use cc_base::{Memory, Place};
 use std::alloc::Global;
 use std::collections::VecDeque;
 
@@ -37,74 +40,93 @@ pub struct Levels {
 }
 
 impl Levels {
-    pub fn new(alloc: Global) -> Levels {
+    pub fn new(alloc: Global) -> Levels
+        ensures stack { result.stack.items ≡ [] }
+        ensures within { result.within.items ≡ [] }
+    {
         Levels {
             stack: VecDeque::new(alloc),
             within: VecDeque::new(alloc),
         }
     }
 
-    pub fn is_empty(&self) -> bool {
-        self.stack.is_empty()
+    /// The place of the outermost macro name, if anything is under way.
+    pub fn outermost(&self, place: Place) -> Option<Place>
+        ensures { result ≡ at_of (frames_of self.now.stack.items) place }
+    {
+        match self.stack.front() {
+            None => None,
+            Some(_) => Some(place),
+        }
     }
 
     /// Whether a name may not be replaced here.
-    pub fn hides(&self, name: u32) -> bool {
-        self.within.iter().any(|x| *x == name)
+    pub fn hides(&self, name: u32) -> bool
+        ensures { result ≡ member name self.now.within.items }
+    {
+        self.within.contains(&name)
     }
 
-    /// The parentheses that are open in the argument that is being read, if one is.
-    pub fn depth(&self) -> Option<usize> {
-        match self.stack.front() {
-            Some(Level::Calling(call)) => Some(call.depth),
-            _ => None,
-        }
-    }
-
-    /// Sets the number of open parentheses of the argument that is being read.
-    pub fn set_depth(&mut self, depth: usize) {
-        if let Some(Level::Calling(call)) = self.stack.front_mut() {
-            call.depth = depth;
-        }
-    }
-
-    /// Begins to read the arguments of a call.
-    pub fn start(&mut self, alloc: Global, name: u32, outer: Vec<Lexeme>) -> Result<(), Failure> {
-        let call = Call {
-            name,
-            depth: 0,
-            outer,
-            finished: Vec::new(alloc),
-        };
-        self.stack.push_front(Level::Calling(call))?;
-        Ok(())
-    }
-
-    /// Adds an argument to the call that is being read.
-    pub fn finish_argument(&mut self, argument: Vec<Lexeme>) -> Result<(), Failure> {
-        if let Some(Level::Calling(call)) = self.stack.front_mut() {
-            call.finished.push(argument)?;
-        }
-        Ok(())
-    }
-
-    /// Ends the call that is being read.
-    pub fn end_call(&mut self) -> Option<Call> {
+    /// Opens a parenthesis of the argument that is being read, if one is.
+    pub fn deepen(&mut self) -> Result<(), Memory>
+        ensures frames { OnOk result (frames_of self.new.stack.items ≡ deepened (frames_of self.old.stack.items)) }
+        ensures within { self.new.within.items ≡ self.old.within.items }
+    {
         match self.stack.pop_front() {
-            Some(Level::Calling(call)) => Some(call),
-            _ => None,
+            None => Ok(()),
+            Some(Level::Within(name)) => {
+                self.stack.push_front(Level::Within(name))?;
+                Ok(())
+            }
+            Some(Level::Calling(call)) => {
+                let Some(depth) = call.depth.checked_add(1) else {
+                    return Err(Memory);
+                };
+                let deeper = Call {
+                    name: call.name,
+                    depth,
+                    outer: call.outer,
+                    finished: call.finished,
+                };
+                self.stack.push_front(Level::Calling(deeper))?;
+                Ok(())
+            }
         }
+    }
+
+    /// Takes the innermost level.
+    pub fn take(&mut self) -> Option<Level>
+        ensures stack { self.old.stack.items ≡ option_to_list result ++ self.new.stack.items }
+        ensures none { IfNone result (self.old.stack.items ≡ []) }
+        ensures within { self.new.within.items ≡ self.old.within.items }
+    {
+        self.stack.pop_front()
+    }
+
+    /// Puts a level inside the others.
+    pub fn put(&mut self, level: Level) -> Result<(), Memory>
+        ensures stack { OnOk result (self.new.stack.items ≡ level ∷ self.old.stack.items) }
+        ensures within { self.new.within.items ≡ self.old.within.items }
+    {
+        self.stack.push_front(level)?;
+        Ok(())
     }
 
     /// Begins to read the list that replaced a macro.
-    pub fn enter(&mut self, name: u32) -> Result<(), Failure> {
+    pub fn enter(&mut self, name: u32) -> Result<(), Memory>
+        ensures stack { OnOk result (self.new.stack.items ≡ Level.Within name ∷ self.old.stack.items) }
+        ensures within { OnOk result (self.new.within.items ≡ name ∷ self.old.within.items) }
+    {
         self.within.push_front(name)?;
         self.stack.push_front(Level::Within(name))?;
         Ok(())
     }
 
     /// Ends the list that replaced a macro.
-    pub fn leave(&mut self) {
+    pub fn leave(&mut self)
+        ensures frames { frames_of self.new.stack.items ≡ left_frames (frames_of self.old.stack.items) }
+        ensures within { self.new.within.items ≡ left_names self.old.within.items }
+    {
         let _ = self.stack.pop_front();
         let _ = self.within.pop_front();
     }

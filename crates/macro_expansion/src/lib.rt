@@ -13,7 +13,7 @@ mod spelling_numbers;
 mod trouble;
 
 pub use lexeme::{Lexeme, Mark};
-pub use machine::{Expansion, expand_list};
+pub use machine::{Expansion, expand_list, goes_by_its_first_token};
 pub use macro_table::{Macro, Macros, Part};
 pub use spelling_numbers::Spellings;
 pub use trouble::{Failure, Refused, Trouble};

@@ -1,6 +1,7 @@
 //! The macros that are defined.
-ghost use Rattle.std.specs.Prelude.{◌≡◌, ◌++◌, ◌∷◌, [], ℕ, List, Option, None, Some, nat_eq, option_map, OnOk, OnErr, IfSome};
-ghost use Rattle.indexmap.specs.IndexMap.{get};
+ghost use Rattle.std.specs.Prelude.{◌≡◌, [], MatchOption, OnOk, OnErr, option_copied};
+ghost use Rattle.macro_expansion.specs.Expanding.{look};
+ghost use Rattle.macro_expansion.specs.Rules.{rule_of, rules_of, macro_of, Sets, IsSame};
 
 use crate::lexeme::Lexeme;
 use indexmap::IndexMap;
@@ -32,25 +33,35 @@ pub struct Macros {
 
 impl Macros {
     /// No macro.
-    pub fn new(alloc: Global) -> Macros {
+    pub fn new(alloc: Global) -> Macros
+        ensures { rules_of result ≡ [] }
+    {
         Macros {
             table: IndexMap::new(alloc),
         }
     }
 
     /// The definition of a name.
-    pub fn get(&self, name: u32) -> Option<&Macro> {
+    pub fn get(&self, name: u32) -> Option<&Macro>
+        ensures value { option_copied result ≡ macro_of self.now name }
+        ensures rule { MatchOption result (look (rules_of self.now) name ≡ None) (λ m. look (rules_of self.now) name ≡ Some (rule_of m.now)) }
+    {
         self.table.get(&name)
     }
 
     /// Defines a name that is not defined.
-    pub fn define(&mut self, name: u32, rule: Macro) -> Result<(), AllocError> {
+    pub fn define(&mut self, name: u32, rule: Macro) -> Result<(), AllocError>
+        ensures ok { OnOk result (Sets self.old name (Some rule) self.new) }
+        ensures err { OnErr result (IsSame self.old self.new) }
+    {
         self.table.insert(name, rule)?;
         Ok(())
     }
 
     /// Takes a definition away, if there is one.
-    pub fn undefine(&mut self, name: u32) {
+    pub fn undefine(&mut self, name: u32)
+        ensures { Sets self.old name None self.new }
+    {
         let _ = self.table.swap_remove(&name);
     }
 }

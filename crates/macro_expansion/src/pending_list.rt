@@ -1,9 +1,10 @@
 //! What is still to be read: tokens, and the ends of replaced lists.
-ghost use Rattle.std.specs.Prelude.{◌≡◌};
+ghost use Rattle.std.specs.Prelude.{◌≡◌, ◌∷◌, [], ◌++◌, ◌+◌, ◌<◌, OnOk, IfNone, option_to_list, drop, length, slice_get};
+ghost use Rattle.macro_expansion.specs.Pending.{next_open, next_close, pushed, counts_with, note_of, opens, closes, Seen};
 
 use crate::argument_counts::Counts;
 use crate::lexeme::Lexeme;
-use crate::trouble::Failure;
+use cc_base::Memory;
 use std::alloc::Global;
 use std::collections::VecDeque;
 
@@ -23,54 +24,99 @@ pub struct Pending {
     items: VecDeque<Item>,
 }
 
+fn is_open(x: Lexeme) -> bool
+    ensures { result ≡ opens x }
+{
+    match x {
+        Lexeme::Open(_) => true,
+        _ => false,
+    }
+}
+
+fn is_close(x: Lexeme) -> bool
+    ensures { result ≡ closes x }
+{
+    match x {
+        Lexeme::Close(_) => true,
+        _ => false,
+    }
+}
+
 impl Pending {
-    pub fn new(alloc: Global) -> Pending {
+    pub fn new(alloc: Global) -> Pending
+        ensures { result.items.items ≡ [] }
+    {
         Pending {
             items: VecDeque::new(alloc),
         }
     }
 
+    /// Puts a token in front of what `counts` was made of.
+    fn push_token(&mut self, counts: &mut Counts, x: Lexeme) -> Result<(), Memory>
+        ensures items { OnOk result (self.new.items.items ≡ Item.Unread x (note_of x counts.old.closed.items) ∷ self.old.items.items) }
+        ensures counts { OnOk result (counts.new.closed.items ≡ counts_with x counts.old.closed.items) }
+    {
+        let note = counts.note(x);
+        self.items.push_front(Item::Unread(x, note))?;
+        counts.step(x)
+    }
+
     /// Puts a list in front.
-    pub fn push_list(&mut self, alloc: Global, list: &[Lexeme]) -> Result<(), Failure> {
-        let mut counts = Counts::new(alloc)?;
-        for x in list.iter().rev() {
-            self.items.push_front(Item::Unread(*x, counts.note(*x)))?;
-            counts.step(*x)?;
+    pub fn push_list(&mut self, alloc: Global, list: &[Lexeme]) -> Result<(), Memory>
+        ensures { OnOk result (self.new.items.items ≡ pushed list.now self.old.items.items) }
+    {
+        let mut counts = Counts::new(alloc);
+        let n = list.len();
+        for i in 0..n {
+            self.push_token(&mut counts, list[n - 1 - i])?;
         }
         Ok(())
     }
 
     /// Puts an item in front.
-    pub fn push(&mut self, item: Item) -> Result<(), Failure> {
+    pub fn push(&mut self, item: Item) -> Result<(), Memory>
+        ensures { OnOk result (self.new.items.items ≡ item ∷ self.old.items.items) }
+    {
         self.items.push_front(item)?;
         Ok(())
     }
 
     /// Takes the next item.
-    pub fn pop(&mut self) -> Option<Item> {
+    pub fn pop(&mut self) -> Option<Item>
+        ensures items { self.old.items.items ≡ option_to_list result ++ self.new.items.items }
+        ensures none { IfNone result (self.old.items.items ≡ []) }
+    {
         self.items.pop_front()
     }
 
-    /// The next item.
-    pub fn front(&self) -> Option<Item> {
-        self.items.front().copied()
-    }
-
     /// Whether the next item is `)`.
-    pub fn next_is_close(&self) -> bool {
+    pub fn next_is_close(&self) -> bool
+        ensures { result ≡ next_close self.now.items.items }
+    {
         match self.items.front() {
-            Some(Item::Unread(Lexeme::Close(_), _)) => true,
+            Some(Item::Unread(x, _)) => is_close(*x),
             _ => false,
         }
     }
 
+    /// Whether the item with this number is `(`; None where it is no token.
+    fn opens_at(&self, i: usize) -> Option<bool>
+        requires { i < length self.now.items.items }
+        ensures { Seen (drop i self.now.items.items) (drop (i + 1) self.now.items.items) result }
+    {
+        match self.items[i] {
+            Item::Unread(x, _) => Some(is_open(x)),
+            Item::Leave => None,
+        }
+    }
+
     /// Whether `(` is the next token, through the ends of replaced lists.
-    pub fn next_is_open(&self) -> bool {
-        for item in &self.items {
-            match item {
-                Item::Unread(Lexeme::Open(_), _) => return true,
-                Item::Unread(_, _) => return false,
-                Item::Leave => {}
+    pub fn next_is_open(&self) -> bool
+        ensures { result ≡ next_open self.now.items.items }
+    {
+        for i in 0..self.items.len() {
+            if let Some(answer) = self.opens_at(i) {
+                return answer;
             }
         }
         false

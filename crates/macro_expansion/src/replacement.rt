@@ -1,37 +1,52 @@
 //! The list that replaces a call, with its arguments put in (6.10.3.1).
-ghost use Rattle.std.specs.Prelude.{◌≡◌};
+ghost use Rattle.std.specs.Prelude.{◌≡◌, ◌++◌, ◌∷◌, [], ℕ, length, map, vec_items, OnOk, IfOk};
+ghost use Rattle.macro_expansion.specs.Expanding.{nth_list, part_of, put};
 
 use crate::lexeme::Lexeme;
 use crate::macro_table::Part;
-use crate::trouble::Failure;
+use cc_base::Memory;
 use std::alloc::Global;
 
+/// The argument with a number; empty where there is none.
+fn argument(arguments: &[Vec<Lexeme>], k: usize) -> &[Lexeme]
+    ensures { result.now ≡ nth_list (map vec_items arguments.now) k }
+{
+    match arguments.get(k) {
+        None => &[],
+        Some(list) => list.as_slice(),
+    }
+}
+
 /// How many tokens a part stands for.
-fn part_length(part: Part, arguments: &[Vec<Lexeme>]) -> usize {
+fn part_length(part: Part, arguments: &[Vec<Lexeme>]) -> usize
+    ensures { result ≡ length (part_of (map vec_items arguments.now) part) }
+{
     match part {
-        Part::Parameter(k, _) => match arguments.get(k as usize) {
-            None => 0,
-            Some(argument) => argument.len(),
-        },
+        Part::Parameter(k, _) => argument(arguments, k as usize).len(),
         Part::Word(_) => 1,
     }
 }
 
-/// How many tokens the list has; `usize::MAX` where it has more.
-pub fn replacement_length(body: &[Part], arguments: &[Vec<Lexeme>]) -> usize {
+/// How many tokens the list has.
+pub fn replacement_length(body: &[Part], arguments: &[Vec<Lexeme>]) -> Result<usize, Memory>
+    ensures { IfOk result (λ n. n ≡ length (put (map vec_items arguments.now) body.now)) }
+{
     let mut total = 0usize;
     for part in body {
-        total = total.saturating_add(part_length(*part, arguments));
+        let Some(more) = total.checked_add(part_length(*part, arguments)) else {
+            return Err(Memory);
+        };
+        total = more;
     }
-    total
+    Ok(total)
 }
 
-fn put_part(part: Part, arguments: &[Vec<Lexeme>], into: &mut Vec<Lexeme>) -> Result<(), Failure> {
+fn put_part(part: Part, arguments: &[Vec<Lexeme>], into: &mut Vec<Lexeme>) -> Result<(), Memory>
+    ensures { OnOk result (into.new.items ≡ into.old.items ++ part_of (map vec_items arguments.now) part) }
+{
     match part {
         Part::Parameter(k, _) => {
-            if let Some(argument) = arguments.get(k as usize) {
-                into.extend_from_slice(argument.as_slice())?;
-            }
+            into.extend_from_slice(argument(arguments, k as usize))?;
             Ok(())
         }
         Part::Word(x) => {
@@ -46,7 +61,9 @@ pub fn replacement(
     alloc: Global,
     body: &[Part],
     arguments: &[Vec<Lexeme>],
-) -> Result<Vec<Lexeme>, Failure> {
+) -> Result<Vec<Lexeme>, Memory>
+    ensures { IfOk result (λ made. made.items ≡ put (map vec_items arguments.now) body.now) }
+{
     let mut made = Vec::new(alloc);
     for part in body {
         put_part(*part, arguments, &mut made)?;

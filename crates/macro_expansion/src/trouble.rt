@@ -1,5 +1,5 @@
 //! Why an expansion is refused.
-use cc_base::Place;
+use cc_base::{Memory, Place};
 use std::alloc::{AllocError, AllocFailed};
 
 /// What is wrong with a call of a macro.
@@ -49,6 +49,17 @@ impl<T: Drop> From<AllocFailed<T>> for Failure {
     ghost from_gives = { λ _ e. e ≡ failure.Memory };
 
     fn from(_error: AllocFailed<T>) -> Failure {
+        Failure::Memory
+    }
+}
+
+impl From<Memory> for Failure {
+    ghost use Rattle.std.specs.Prelude.{◌≡◌};
+    ghost use Rattle.macro_expansion.specs.declared.trouble.Failure.TheVariants as failure;
+
+    ghost from_gives = { λ _ e. e ≡ failure.Memory };
+
+    fn from(_error: Memory) -> Failure {
         Failure::Memory
     }
 }

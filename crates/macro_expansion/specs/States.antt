@@ -1,0 +1,40 @@
+-- The machine of the code as the pure one, and what an answer says of an expansion.
+use Rattle.std.specs.Prelude.{◌≡◌, Bool, true, false, List, Result, Ok, Err}
+use Rattle.macro_expansion.specs.declared.lexeme.Lexeme.{Lexeme}
+use Rattle.macro_expansion.specs.declared.machine.Machine.{Machine}
+use Rattle.macro_expansion.specs.declared.machine.Expansion.{Expansion}
+use Rattle.macro_expansion.specs.declared.macro_table.Macros.{Macros}
+use Rattle.macro_expansion.specs.declared.trouble.Failure.{Failure}
+use Rattle.macro_expansion.specs.declared.trouble.Failure.TheVariants.{Refused, Memory}
+use Rattle.macro_expansion.specs.declared.machine.TheConstants.{LIMIT}
+use Rattle.macro_expansion.specs.Expanding.{Setting, Outcome}
+use Rattle.macro_expansion.specs.Expanding.Outcome.{done, refused}
+use Rattle.macro_expansion.specs.Machine.{State, Next}
+use Rattle.macro_expansion.specs.Machine.Next.{more, ended}
+use Rattle.macro_expansion.specs.Frames.{frames_of}
+use Rattle.macro_expansion.specs.Rules.{rules_of}
+
+abbrev pub state_of : Machine → State
+state_of m = record { frames = frames_of m.levels.stack.items; names = m.levels.within.items; pending = m.pending.items.items; place = m.place; out = m.out.items; used = m.used }
+
+abbrev pub setting_of : Macros → Setting
+setting_of macros = record { table = rules_of macros; limit = LIMIT }
+
+-- a move of the machine is this one, unless memory ran out
+abbrev pub Moves : {A : Type 0} → Next → Machine → Result A Failure → Type 0
+Moves next new (Ok a) = next ≡ more (state_of new)
+Moves next new (Err (Refused r)) = next ≡ ended (refused r.trouble r.place)
+Moves next new (Err Memory) = Unit {0}
+
+-- a turn of the machine is this one, unless memory ran out
+abbrev pub Turns : Next → Machine → Result Bool Failure → Type 0
+Turns next new (Ok true) = next ≡ more (state_of new)
+Turns next new (Ok false) = next ≡ ended (done new.out.items new.used)
+Turns next new (Err (Refused r)) = next ≡ ended (refused r.trouble r.place)
+Turns next new (Err Memory) = Unit {0}
+
+-- an answer is what the definition gives, unless memory ran out
+abbrev pub Expands : Outcome (List Lexeme) → Result Expansion Failure → Type 0
+Expands outcome (Ok e) = outcome ≡ done e.words.items e.used
+Expands outcome (Err (Refused r)) = outcome ≡ refused r.trouble r.place
+Expands outcome (Err Memory) = Unit {0}
