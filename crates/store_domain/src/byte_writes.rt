@@ -1,17 +1,21 @@
 //! What cells become where some of their bytes are overwritten one by one.
-ghost use Rattle.cc_base.specs.IntegerDomains.{IsNear};
+ghost use Rattle.std.specs.Prelude.{◌≡◌};
+ghost use Rattle.store_domain.specs.ByteWrites.{null_pointer, labelled_null, byte_written};
 
 use crate::cell_reads::whole_range;
+use crate::class_numbers::is_pointer;
 use crate::scalar_types::kind_of;
 use c_layout::{Class, Model};
 use cc_base::{IntDomain, Lattice};
-use pointer_domain::Pointers;
+use pointer_domain::{Bases, Pointers};
 use value_domain::{Labels, Value};
 
 /// The pointers that are null alone.
-pub fn null_pointer<I: IntDomain>() -> Pointers<I> {
+pub fn null_pointer<I: IntDomain>() -> Pointers<I>
+    ensures { result ≡ null_pointer I.lattice }
+{
     Pointers {
-        bases: Pointers::<I>::bottom().bases,
+        bases: Bases::empty(),
         lo: I::bottom(),
         rel: I::bottom(),
         len: I::bottom(),
@@ -22,7 +26,9 @@ pub fn null_pointer<I: IntDomain>() -> Pointers<I> {
 }
 
 /// Null with labels: what numbers in the bytes of a pointer can be.
-pub fn labelled_null<I: IntDomain>(labels: Labels) -> Value<I> {
+pub fn labelled_null<I: IntDomain>(labels: Labels) -> Value<I>
+    ensures { result ≡ labelled_null I.lattice labels }
+{
     Value {
         num: I::bottom(),
         pointer: null_pointer(),
@@ -38,9 +44,12 @@ pub fn byte_written<I: IntDomain>(
     class: Class,
     signed: bool,
     labels: Labels,
-) -> Value<I> {
-    match class {
-        Class::Pointer => labelled_null(labels),
-        _ => whole_range(kind_of(model, class, signed), labels, false),
+) -> Value<I>
+    ensures { result ≡ byte_written I.lattice I.numbers model.now class signed labels }
+{
+    if is_pointer(class) {
+        labelled_null(labels)
+    } else {
+        whole_range(kind_of(model, class, signed), labels, false)
     }
 }

@@ -8,6 +8,7 @@ mod base_shapes;
 mod byte_writes;
 mod cell_reads;
 mod cell_writes;
+mod class_numbers;
 mod first_zero_writes;
 mod freeing;
 mod leaf_selection;
@@ -27,17 +28,20 @@ pub use base_shapes::shape;
 pub use byte_writes::{byte_written, labelled_null, null_pointer};
 pub use cell_reads::{Access, as_read, byte_read, joined, whole_range};
 pub use cell_writes::write_value;
+pub use class_numbers::class_number;
 pub use first_zero_writes::{
     ZeroTarget, any_zero, covering_part, forget_zeros, is_determinate_before, no_zero, offsets_of,
     put_character, set_zeros, zero_first, zero_target,
 };
 pub use freeing::{free, free_perhaps};
-pub use leaf_selection::{has_place_in, has_stray, is_overlapped, is_selected, meets_padding};
+pub use leaf_selection::{
+    has_place_in, has_stray, is_other, is_overlapped, is_selected, meets_padding,
+};
 pub use live_bases::{
     MOST_BASES, any_freed, has_base, is_one_instance, is_single, live_of, may_be_freed,
     may_be_live, only_base, single_bases, writable_of,
 };
-pub use loads::{class_number, is_other, load, load_base};
+pub use loads::{load, load_base};
 pub use near_values::{near_number, near_pointer, near_value};
 pub use object_lives::{clear, enter, forget, leave, set_values, zero_value};
 pub use row_positions::{

@@ -1,4 +1,7 @@
 //! Which bases may be live, freed or one instance alone.
+ghost use Rattle.std.specs.Prelude.{◌≡◌};
+ghost use Rattle.store_domain.specs.LiveBases.{is_single_kind, is_literal_kind, only_base, has_base, with_base_if, single_bases, is_writable_in, writable_of, is_one_instance, may_be_live, may_be_freed, is_live_in, live_of, is_freed_or, any_freed};
+
 use crate::row_positions::{state_at, state_position};
 use c_layout::{BaseInfo, BaseKind};
 use cc_base::IntDomain;
@@ -10,22 +13,48 @@ pub const MOST_BASES: usize = 1_016;
 
 /// Whether the base may have a live instance: that of an object or a literal always, that of a heap
 /// base by its state.
-pub fn may_be_live<I: IntDomain>(base: &BaseInfo, row: &[Cell<I>]) -> bool {
+pub fn may_be_live<I: IntDomain>(base: &BaseInfo, row: &[Cell<I>]) -> bool
+    ensures { result ≡ may_be_live I.lattice I.numbers base.now row.now }
+{
     !base.shape.heap || state_at(row, state_position(base)).live
 }
 
 /// Whether the base may have a freed instance.
-pub fn may_be_freed<I: IntDomain>(base: &BaseInfo, row: &[Cell<I>]) -> bool {
+pub fn may_be_freed<I: IntDomain>(base: &BaseInfo, row: &[Cell<I>]) -> bool
+    ensures { result ≡ may_be_freed I.lattice I.numbers base.now row.now }
+{
     base.shape.heap && state_at(row, state_position(base)).freed
 }
 
+fn is_single_kind(kind: BaseKind) -> bool
+    ensures { result ≡ is_single_kind kind }
+{
+    match kind {
+        BaseKind::Static | BaseKind::Automatic | BaseKind::Literal | BaseKind::Newest => true,
+        BaseKind::Older => false,
+    }
+}
+
+fn is_literal_kind(kind: BaseKind) -> bool
+    ensures { result ≡ is_literal_kind kind }
+{
+    match kind {
+        BaseKind::Static | BaseKind::Automatic | BaseKind::Newest | BaseKind::Older => false,
+        BaseKind::Literal => true,
+    }
+}
+
 /// Whether the base stands for at most one instance at a time.
-pub fn is_single(base: &BaseInfo) -> bool {
-    base.kind != BaseKind::Older
+pub fn is_single(base: &BaseInfo) -> bool
+    ensures { result ≡ is_single_kind base.now.kind }
+{
+    is_single_kind(base.kind)
 }
 
 /// The set of the base with this number, which is empty where no set holds the number.
-pub fn only_base(number: usize) -> Bases {
+pub fn only_base(number: usize) -> Bases
+    ensures { result ≡ only_base number }
+{
     if number < MOST_BASES {
         Bases::empty().with(number as u16)
     } else {
@@ -34,53 +63,97 @@ pub fn only_base(number: usize) -> Bases {
 }
 
 /// Whether the set has the base with this number.
-pub fn has_base(set: Bases, number: usize) -> bool {
+pub fn has_base(set: Bases, number: usize) -> bool
+    ensures { result ≡ has_base set number }
+{
     number < MOST_BASES && set.has(number as u16)
 }
 
+/// The set with the base of this number, if it is wanted.
+fn with_base_if(wanted: bool, number: usize, found: Bases) -> Bases
+    ensures { result ≡ with_base_if wanted number found }
+{
+    if wanted {
+        found.union(only_base(number))
+    } else {
+        found
+    }
+}
+
 /// The bases that stand for at most one instance.
-pub fn single_bases(bases: &[BaseInfo]) -> Bases {
+pub fn single_bases(bases: &[BaseInfo]) -> Bases
+    ensures { result ≡ single_bases bases.now }
+{
     let mut found = Bases::empty();
     for n in 0..bases.len() {
-        if is_single(&bases[n]) {
-            found = found.union(only_base(n));
-        }
+        found = with_base_if(is_single(&bases[n]), n, found);
     }
     found
+}
+
+/// Whether the set has the base with this number, and it may be live.
+pub fn is_live_in<I: IntDomain>(base: &BaseInfo, number: usize, row: &[Cell<I>], set: Bases) -> bool
+    ensures { result ≡ is_live_in I.lattice I.numbers row.now set base.now number }
+{
+    has_base(set, number) && may_be_live(base, row)
 }
 
 /// The bases of the set that may be live.
-pub fn live_of<I: IntDomain>(bases: &[BaseInfo], row: &[Cell<I>], set: Bases) -> Bases {
+pub fn live_of<I: IntDomain>(bases: &[BaseInfo], row: &[Cell<I>], set: Bases) -> Bases
+    ensures { result ≡ live_of I.lattice I.numbers bases.now row.now set }
+{
     let mut found = Bases::empty();
     for n in 0..bases.len() {
-        if has_base(set, n) && may_be_live(&bases[n], row) {
-            found = found.union(only_base(n));
-        }
+        found = with_base_if(is_live_in(&bases[n], n, row, set), n, found);
     }
     found
+}
+
+/// Whether the set has the base with this number, and it is no literal.
+fn is_writable_in(base: &BaseInfo, number: usize, set: Bases) -> bool
+    ensures { result ≡ is_writable_in set base.now number }
+{
+    has_base(set, number) && !is_literal_kind(base.kind)
 }
 
 /// The bases of the set that are no literals.
-pub fn writable_of(bases: &[BaseInfo], set: Bases) -> Bases {
+pub fn writable_of(bases: &[BaseInfo], set: Bases) -> Bases
+    ensures { result ≡ writable_of bases.now set }
+{
     let mut found = Bases::empty();
     for n in 0..bases.len() {
-        if has_base(set, n) && bases[n].kind != BaseKind::Literal {
-            found = found.union(only_base(n));
-        }
+        found = with_base_if(is_writable_in(&bases[n], n, set), n, found);
     }
     found
 }
 
+/// Whether something was found, or the set has the base with this number and it may be freed.
+fn is_freed_or<I: IntDomain>(
+    found: bool,
+    base: &BaseInfo,
+    number: usize,
+    row: &[Cell<I>],
+    set: Bases,
+) -> bool
+    ensures { result ≡ is_freed_or I.lattice I.numbers row.now set base.now number found }
+{
+    found || (has_base(set, number) && may_be_freed(base, row))
+}
+
 /// Whether some base of the set may be freed.
-pub fn any_freed<I: IntDomain>(bases: &[BaseInfo], row: &[Cell<I>], set: Bases) -> bool {
+pub fn any_freed<I: IntDomain>(bases: &[BaseInfo], row: &[Cell<I>], set: Bases) -> bool
+    ensures { result ≡ any_freed I.lattice I.numbers bases.now row.now set }
+{
     let mut found = false;
     for n in 0..bases.len() {
-        found = found || (has_base(set, n) && may_be_freed(&bases[n], row));
+        found = is_freed_or(found, &bases[n], n, row, set);
     }
     found
 }
 
 /// Whether the set has one base, which stands for at most one instance.
-pub fn is_one_instance(bases: &[BaseInfo], set: Bases) -> bool {
+pub fn is_one_instance(bases: &[BaseInfo], set: Bases) -> bool
+    ensures { result ≡ is_one_instance bases.now set }
+{
     set.count() == 1 && set.within(single_bases(bases))
 }

@@ -1,23 +1,26 @@
 //! Loads.
+ghost use Rattle.std.specs.Prelude.{◌≡◌, ◌<◌};
+ghost use Rattle.cc_base.specs.IntegerDomains.{IsNear};
 ghost use Rattle.pointer_domain.specs.PointerTables.{IsNearPointer};
+ghost use Rattle.store_domain.specs.Loads.{reaches_class, joined_if, joined_leaf, load_leaves, load_class_cell, joined_other_leaf, load_other_leaves, read_class_cell, load_other_class_cells, load_padding, load_other_bytes, is_text, determinate_if, load_own, load_others, load_base, read_base_if, load_bases, labels_of, loaded, load};
 
 use crate::access_windows::{Window, window_of};
 use crate::cell_reads::{Access, as_read, byte_read, joined, whole_range};
+use crate::class_numbers::{class_at, class_number, is_pointer, same_class};
 use crate::first_zero_writes::{covering_part, is_determinate_before};
-use crate::leaf_selection::{has_stray, is_overlapped, is_selected, meets_padding};
-use crate::live_bases::{has_base, may_be_live};
-use crate::row_positions::{
-    CLASSES, class_position, leaf_position, value_at, zero_at, zero_position,
-};
+use crate::leaf_selection::{has_stray, is_other, is_selected, meets_padding};
+use crate::live_bases::is_live_in;
+use crate::row_positions::{class_position, leaf_position, value_at, zero_at, zero_position};
 use crate::scalar_types::{bytes_of, kind_of};
 use c_layout::{BaseInfo, Class, Leaf, Model};
 use cc_base::IntDomain;
-use pointer_domain::Pointers;
+use pointer_domain::{Bases, Pointers};
 use value_domain::{Cell, Labels, Value};
 
 /// The value that a load of a class and a signedness gets through the pointers: the join of the cells
 /// that it may reach, over the bases that may be live. None where it reaches nothing. The flag
 /// `indeterminate` says that it may read an indeterminate byte.
+#[tactic(auto, unfolding(crate::specs::Loads::load))]
 pub fn load<I: IntDomain>(
     model: &Model,
     bases: &[BaseInfo],
@@ -27,142 +30,265 @@ pub fn load<I: IntDomain>(
     signed: bool,
 ) -> Option<Value<I>>
     requires { IsNearPointer I.numbers at }
+    ensures { result ≡ load I.lattice I.numbers model.now bases.now row.now at class signed }
 {
-    let window = window_of(at, bytes_of(model, class))?;
-    let access = Access {
-        class,
-        signed,
-        window,
-    };
-    let mut found = None;
-    for n in 0..bases.len() {
-        if has_base(at.bases, n) && may_be_live(&bases[n], row) {
-            found = joined(found, load_base(model, &bases[n], row, access));
+    match window_of(at, bytes_of(model, class)) {
+        None => None,
+        Some(window) => {
+            let access = Access {
+                class,
+                signed,
+                window,
+            };
+            loaded(class, load_bases(model, bases, row, at.bases, access))
         }
     }
-    Some(loaded(class, found?))
 }
 
 /// A loaded pointer has no labels.
-fn loaded<I: IntDomain>(class: Class, value: Value<I>) -> Value<I> {
-    let labels = match class {
-        Class::Pointer => Labels::none(),
-        _ => value.labels,
-    };
-    Value {
-        num: value.num,
-        pointer: value.pointer,
-        indeterminate: value.indeterminate,
-        labels,
+fn loaded<I: IntDomain>(class: Class, found: Option<Value<I>>) -> Option<Value<I>>
+    ensures { result ≡ loaded class found }
+{
+    match found {
+        None => None,
+        Some(value) => Some(Value {
+            num: value.num,
+            pointer: value.pointer,
+            indeterminate: value.indeterminate,
+            labels: loaded_labels(class, value.labels),
+        }),
+    }
+}
+
+/// The labels of a value of a class; pointers have none.
+pub fn loaded_labels(class: Class, labels: Labels) -> Labels
+    ensures { result ≡ labels_of class labels }
+{
+    if is_pointer(class) {
+        Labels::none()
+    } else {
+        labels
+    }
+}
+
+#[tactic(auto, unfolding(crate::specs::Loads::load_bases))]
+fn load_bases<I: IntDomain>(
+    model: &Model,
+    bases: &[BaseInfo],
+    row: &[Cell<I>],
+    set: Bases,
+    access: Access,
+) -> Option<Value<I>>
+    ensures { result ≡ load_bases I.lattice I.numbers model.now bases.now row.now set access }
+{
+    let mut found = None;
+    for n in 0..bases.len() {
+        let wanted = is_live_in(&bases[n], n, row, set);
+        found = read_base(model, &bases[n], row, wanted, access, found);
+    }
+    found
+}
+
+/// What was found, joined with what the load gets from a base if it is wanted.
+fn read_base<I: IntDomain>(
+    model: &Model,
+    base: &BaseInfo,
+    row: &[Cell<I>],
+    wanted: bool,
+    access: Access,
+    found: Option<Value<I>>,
+) -> Option<Value<I>>
+    ensures { result ≡ read_base_if I.lattice I.numbers model.now row.now wanted access base.now found }
+{
+    if wanted {
+        joined(found, load_base(model, base, row, access))
+    } else {
+        found
     }
 }
 
 /// What the load gets from one base.
+#[tactic(auto, unfolding(crate::specs::Loads::load_base))]
 pub fn load_base<I: IntDomain>(
     model: &Model,
     base: &BaseInfo,
     row: &[Cell<I>],
     access: Access,
-) -> Option<Value<I>> {
-    let own = joined(
-        load_leaves(model, base, row, access),
-        load_class_cell(model, base, row, access),
-    );
-    match access.class {
-        Class::Char => {
-            let others = joined(
-                load_other_leaves(model, base, row, access),
-                load_other_bytes(model, base, row, access),
-            );
-            determinate_if_text(base, row, access.window, joined(own, others))
-        }
-        _ => own,
+) -> Option<Value<I>>
+    ensures { result ≡ load_base I.lattice I.numbers model.now base.now row.now access }
+{
+    let own = load_own(model, base, row, access);
+    if same_class(access.class, Class::Char) {
+        let others = load_others(model, base, row, access);
+        determinate_if(is_text(base, row, access.window), joined(own, others))
+    } else {
+        own
     }
 }
 
+/// What the load gets from the cells of its own class.
+#[tactic(auto, unfolding(crate::specs::Loads::load_own))]
+fn load_own<I: IntDomain>(
+    model: &Model,
+    base: &BaseInfo,
+    row: &[Cell<I>],
+    access: Access,
+) -> Option<Value<I>>
+    ensures { result ≡ load_own I.lattice I.numbers model.now base.now row.now access }
+{
+    joined(
+        load_leaves(model, base, row, access),
+        load_class_cell(model, base, row, access),
+    )
+}
+
+/// What a character load gets from bytes of other cells, or of none.
+#[tactic(auto, unfolding(crate::specs::Loads::load_others))]
+fn load_others<I: IntDomain>(
+    model: &Model,
+    base: &BaseInfo,
+    row: &[Cell<I>],
+    access: Access,
+) -> Option<Value<I>>
+    ensures { result ≡ load_others I.lattice I.numbers model.now base.now row.now access }
+{
+    joined(
+        load_other_leaves(model, base, row, access),
+        load_other_bytes(model, base, row, access),
+    )
+}
+
+/// What was found, joined with one more value if it is wanted.
+fn joined_if<I: IntDomain>(
+    wanted: bool,
+    found: Option<Value<I>>,
+    value: Value<I>,
+) -> Option<Value<I>>
+    ensures { result ≡ joined_if I.lattice wanted found value }
+{
+    if wanted {
+        joined(found, Some(value))
+    } else {
+        found
+    }
+}
+
+/// The value at the position of a leaf, as the access reads it.
+fn read_leaf<I: IntDomain>(
+    model: &Model,
+    leaf: Leaf,
+    value: Value<I>,
+    access: Access,
+    found: Option<Value<I>>,
+) -> Option<Value<I>>
+    requires { IsNear (I.numbers.bounds value.num) }
+    ensures { result ≡ joined_leaf I.lattice I.numbers model.now access leaf value found }
+{
+    let read = as_read(model, value, access.class, leaf.signed, access.signed);
+    joined_if(is_selected(leaf, access.class, access.window), found, read)
+}
+
 /// The join of the leaves of the access's class that it reaches.
+#[tactic(auto, unfolding(crate::specs::Loads::load_leaves))]
 fn load_leaves<I: IntDomain>(
     model: &Model,
     base: &BaseInfo,
     row: &[Cell<I>],
     access: Access,
-) -> Option<Value<I>> {
+) -> Option<Value<I>>
+    ensures { result ≡ load_leaves I.lattice I.numbers model.now base.now row.now access }
+{
     let leaves = base.shape.cells.as_slice();
     let mut found = None;
     for at in 0..leaves.len() {
         let value = value_at(row, leaf_position(base, at));
-        if is_selected(leaves[at], access.class, access.window) {
-            let read = as_read(model, value, access.class, leaves[at].signed, access.signed);
-            found = joined(found, Some(read));
-        }
+        found = read_leaf(model, leaves[at], value, access, found);
     }
     found
 }
 
-/// The number of a class among the class cells.
-pub fn class_number(class: Class) -> usize {
-    match class {
-        Class::Char => 0,
-        Class::Short => 1,
-        Class::Int => 2,
-        Class::Long => 3,
-        Class::LongLong => 4,
-        Class::Pointer => 5,
-    }
+/// Whether the access may begin at an offset of a heap base that is no offset of a leaf of its class.
+pub fn reaches_class(base: &BaseInfo, access: Access) -> bool
+    ensures { result ≡ reaches_class base.now access }
+{
+    base.shape.heap && has_stray(base.shape.cells.as_slice(), access.class, access.window)
 }
 
 /// The class cell of a heap base, where the access may begin at an offset of no leaf of its class.
 /// Class cells are signed.
+#[tactic(auto, unfolding(crate::specs::Loads::load_class_cell))]
 fn load_class_cell<I: IntDomain>(
     model: &Model,
     base: &BaseInfo,
     row: &[Cell<I>],
     access: Access,
-) -> Option<Value<I>> {
-    if !base.shape.heap || !has_stray(base.shape.cells.as_slice(), access.class, access.window) {
-        return None;
+) -> Option<Value<I>>
+    ensures { result ≡ load_class_cell I.lattice I.numbers model.now base.now row.now access }
+{
+    if reaches_class(base, access) {
+        let value = value_at(row, class_position(base, class_number(access.class)));
+        Some(as_read(model, value, access.class, true, access.signed))
+    } else {
+        None
     }
-    let value = value_at(row, class_position(base, class_number(access.class)));
-    Some(as_read(model, value, access.class, true, access.signed))
 }
 
 /// What a character load gets from the leaves of other classes that it reaches.
+#[tactic(auto, unfolding(crate::specs::Loads::load_other_leaves))]
 fn load_other_leaves<I: IntDomain>(
     model: &Model,
     base: &BaseInfo,
     row: &[Cell<I>],
     access: Access,
-) -> Option<Value<I>> {
+) -> Option<Value<I>>
+    ensures { result ≡ load_other_leaves I.lattice I.numbers model.now base.now row.now access }
+{
     let leaves = base.shape.cells.as_slice();
     let mut found = None;
     for at in 0..leaves.len() {
-        if is_other(model, leaves[at], access.window) {
-            let value = value_at(row, leaf_position(base, at));
-            found = joined(
-                found,
-                Some(byte_read(model, value, leaves[at].class, access.signed)),
-            );
-        }
+        let value = value_at(row, leaf_position(base, at));
+        found = read_other_leaf(model, leaves[at], value, access, found);
     }
     found
 }
 
-/// Whether the leaf is none of characters, and a byte of it lies in the window.
-pub fn is_other(model: &Model, leaf: Leaf, window: Window) -> bool {
-    leaf.class != Class::Char && is_overlapped(model, leaf, window)
+fn read_other_leaf<I: IntDomain>(
+    model: &Model,
+    leaf: Leaf,
+    value: Value<I>,
+    access: Access,
+    found: Option<Value<I>>,
+) -> Option<Value<I>>
+    ensures { result ≡ joined_other_leaf I.lattice I.numbers model.now access leaf value found }
+{
+    let read = byte_read(model, value, leaf.class, access.signed);
+    joined_if(is_other(model, leaf, access.window), found, read)
 }
 
 /// What a character load gets from the class cells of other classes, or from bytes of no leaf.
+#[tactic(auto, unfolding(crate::specs::Loads::load_other_bytes))]
 fn load_other_bytes<I: IntDomain>(
     model: &Model,
     base: &BaseInfo,
     row: &[Cell<I>],
     access: Access,
-) -> Option<Value<I>> {
+) -> Option<Value<I>>
+    ensures { result ≡ load_other_bytes I.lattice I.numbers model.now base.now row.now access }
+{
     if base.shape.heap {
-        return load_other_class_cells(model, base, row, access);
+        load_other_class_cells(model, base, row, access)
+    } else {
+        load_padding(model, base, access)
     }
-    if meets_padding(model, base.shape.cells.as_slice(), access.window, base.size) {
+}
+
+/// What a character load gets from bytes of no leaf.
+#[tactic(auto, unfolding(crate::specs::Loads::load_padding))]
+fn load_padding<I: IntDomain>(model: &Model, base: &BaseInfo, access: Access) -> Option<Value<I>>
+    ensures { result ≡ load_padding I.lattice I.numbers model.now base.now access }
+{
+    let leaves = base.shape.cells.as_slice();
+    if meets_padding(model, leaves, access.window, base.size) {
         let kind = kind_of(model, Class::Char, access.signed);
         Some(whole_range(kind, Labels::all(), true))
     } else {
@@ -170,45 +296,63 @@ fn load_other_bytes<I: IntDomain>(
     }
 }
 
+/// The class cells of all classes but that of characters, which is the first.
+#[tactic(auto, using(crate::proofs::Turning::turns_next), unfolding(crate::specs::Loads::load_other_class_cells))]
 fn load_other_class_cells<I: IntDomain>(
     model: &Model,
     base: &BaseInfo,
     row: &[Cell<I>],
     access: Access,
-) -> Option<Value<I>> {
+) -> Option<Value<I>>
+    ensures { result ≡ load_other_class_cells I.lattice I.numbers model.now base.now row.now access }
+{
     let mut found = None;
-    for class in 1..6 {
-        let value = value_at(row, class_position(base, class));
-        found = joined(
-            found,
-            Some(byte_read(model, value, CLASSES[class], access.signed)),
-        );
+    for at in 0..5 {
+        found = read_class_cell(model, base, row, access, at, found);
     }
     found
 }
 
-/// The value of a character load, determinate where it lies before the first zero of its array.
-fn determinate_if_text<I: IntDomain>(
+fn read_class_cell<I: IntDomain>(
+    model: &Model,
     base: &BaseInfo,
     row: &[Cell<I>],
-    window: Window,
+    access: Access,
+    at: usize,
     found: Option<Value<I>>,
-) -> Option<Value<I>> {
-    let value = found?;
-    Some(Value {
-        num: value.num,
-        pointer: value.pointer,
-        indeterminate: value.indeterminate && !is_text(base, row, window),
-        labels: value.labels,
-    })
+) -> Option<Value<I>>
+    requires { at < 5 }
+    ensures { result ≡ read_class_cell I.lattice I.numbers model.now base.now row.now access at found }
+{
+    let value = value_at(row, class_position(base, at + 1));
+    let read = byte_read(model, value, class_at(at + 1), access.signed);
+    joined(found, Some(read))
+}
+
+/// The value, determinate if it lies in a text.
+fn determinate_if<I: IntDomain>(text: bool, found: Option<Value<I>>) -> Option<Value<I>>
+    ensures { result ≡ determinate_if text found }
+{
+    match found {
+        None => None,
+        Some(value) => Some(Value {
+            num: value.num,
+            pointer: value.pointer,
+            indeterminate: value.indeterminate && !text,
+            labels: value.labels,
+        }),
+    }
 }
 
 /// Whether the window lies in one array of characters, up to its first zero.
-fn is_text<I: IntDomain>(base: &BaseInfo, row: &[Cell<I>], window: Window) -> bool {
+#[tactic(auto, unfolding(crate::specs::Loads::is_text))]
+fn is_text<I: IntDomain>(base: &BaseInfo, row: &[Cell<I>], window: Window) -> bool
+    ensures { result ≡ is_text I.lattice I.numbers base.now row.now window }
+{
     match covering_part(base, window) {
         None => false,
-        Some((part, local)) => {
-            is_determinate_before(zero_at(row, zero_position(base, part)), local)
+        Some(found) => {
+            is_determinate_before(zero_at(row, zero_position(base, found.0)), found.1)
         }
     }
 }

@@ -2,6 +2,7 @@
 ghost use Rattle.std.specs.Prelude.{◌≡◌};
 ghost use Rattle.cc_base.specs.IntegerDomains.{IsNear};
 ghost use Rattle.pointer_domain.specs.PointerTables.{IsNearPointer};
+ghost use Rattle.store_domain.specs.NearValues.{near_number, near_pointer, near_value};
 
 use cc_base::{IntDomain, Lattice};
 use pointer_domain::Pointers;
@@ -9,7 +10,8 @@ use value_domain::Value;
 
 /// The numbers, where they lie from -2^64 to 2^64; else none. No row of a flow has other numbers.
 pub fn near_number<I: IntDomain>(x: I) -> I
-    ensures { IsNear (I.numbers.bounds result) }
+    ensures near { IsNear (I.numbers.bounds result) }
+    ensures value { result ≡ near_number I.lattice I.numbers x }
 {
     match x.bounds() {
         None => I::bottom(),
@@ -25,7 +27,8 @@ pub fn near_number<I: IntDomain>(x: I) -> I
 
 /// The pointers with near bounds.
 pub fn near_pointer<I: IntDomain>(p: Pointers<I>) -> Pointers<I>
-    ensures { IsNearPointer I.numbers result }
+    ensures near { IsNearPointer I.numbers result }
+    ensures value { result ≡ near_pointer I.lattice I.numbers p }
 {
     Pointers {
         bases: p.bases,
@@ -42,6 +45,7 @@ pub fn near_pointer<I: IntDomain>(p: Pointers<I>) -> Pointers<I>
 pub fn near_value<I: IntDomain>(v: Value<I>) -> Value<I>
     ensures number { IsNear (I.numbers.bounds result.num) }
     ensures pointer { IsNearPointer I.numbers result.pointer }
+    ensures value { result ≡ near_value I.lattice I.numbers v }
 {
     Value {
         num: near_number(v.num),

@@ -1,7 +1,9 @@
 //! The life of objects: entered, left, made indeterminate and cleared.
-ghost use Rattle.std.specs.Prelude.{◌≡◌, length};
+ghost use Rattle.std.specs.Prelude.{◌≡◌, length, map};
+ghost use Rattle.store_domain.specs.ObjectLives.{set_values, blank_object, forget, zero_value, clear_leaves, clear_object, clear, ended_pointer, ended_cell, leave_object, leave};
 
 use crate::byte_writes::null_pointer;
+use crate::class_numbers::is_pointer;
 use crate::first_zero_writes::{no_zero, set_zeros, zero_first};
 use crate::live_bases::MOST_BASES;
 use crate::row_positions::{leaf_position, put_value, value_count};
@@ -12,8 +14,10 @@ use string_domain::FirstZero;
 use value_domain::{Cell, Labels, Value};
 
 /// Each cell of the base, class cells too, has this value.
+#[tactic(auto, using(crate::proofs::Turning::turns_next), unfolding(crate::specs::ObjectLives::set_values))]
 pub fn set_values<I: IntDomain>(base: &BaseInfo, row: &mut [Cell<I>], value: Value<I>)
-    ensures { length row.new ≡ length row.old }
+    ensures length { length row.new ≡ length row.old }
+    ensures row { row.new ≡ set_values base.now value row.old }
 {
     for at in 0..value_count(base) {
         put_value(row, leaf_position(base, at), value);
@@ -21,8 +25,10 @@ pub fn set_values<I: IntDomain>(base: &BaseInfo, row: &mut [Cell<I>], value: Val
 }
 
 /// An object's bytes are indeterminate.
+#[tactic(auto, unfolding(crate::specs::ObjectLives::blank_object))]
 fn blank_object<I: IntDomain>(base: &BaseInfo, row: &mut [Cell<I>])
-    ensures { length row.new ≡ length row.old }
+    ensures length { length row.new ≡ length row.old }
+    ensures row { row.new ≡ blank_object I.lattice I.numbers base.now row.old }
 {
     set_values(base, row, Value::blank());
     set_zeros(base, row, no_zero());
@@ -30,14 +36,17 @@ fn blank_object<I: IntDomain>(base: &BaseInfo, row: &mut [Cell<I>])
 
 /// A fresh instance of a block's object, with indeterminate bytes.
 pub fn enter<I: IntDomain>(bases: &[BaseInfo], row: &mut [Cell<I>], base: u32)
-    ensures { length row.new ≡ length row.old }
+    ensures length { length row.new ≡ length row.old }
+    ensures row { row.new ≡ forget I.lattice I.numbers bases.now base row.old }
 {
     forget(bases, row, base);
 }
 
 /// All bytes of an object become indeterminate.
+#[tactic(auto, unfolding(crate::specs::ObjectLives::forget))]
 pub fn forget<I: IntDomain>(bases: &[BaseInfo], row: &mut [Cell<I>], base: u32)
-    ensures { length row.new ≡ length row.old }
+    ensures length { length row.new ≡ length row.old }
+    ensures row { row.new ≡ forget I.lattice I.numbers bases.now base row.old }
 {
     if let Some(info) = bases.get(base as usize) {
         blank_object(info, row);
@@ -45,25 +54,40 @@ pub fn forget<I: IntDomain>(bases: &[BaseInfo], row: &mut [Cell<I>], base: u32)
 }
 
 /// What a cell of a class is where all its bytes are 0: 0 or null, without labels.
-pub fn zero_value<I: IntDomain>(class: Class) -> Value<I> {
-    match class {
-        Class::Pointer => Value::of_pointer(null_pointer()),
-        _ => Value::of_number(I::one(0), Labels::none()),
+pub fn zero_value<I: IntDomain>(class: Class) -> Value<I>
+    ensures { result ≡ zero_value I.lattice I.numbers class }
+{
+    if is_pointer(class) {
+        Value::of_pointer(null_pointer())
+    } else {
+        Value::of_number(I::one(0), Labels::none())
     }
 }
 
 /// All bytes of an object become 0.
+#[tactic(auto, unfolding(crate::specs::ObjectLives::clear))]
 pub fn clear<I: IntDomain>(bases: &[BaseInfo], row: &mut [Cell<I>], base: u32)
-    ensures { length row.new ≡ length row.old }
+    ensures length { length row.new ≡ length row.old }
+    ensures row { row.new ≡ clear I.lattice I.numbers bases.now base row.old }
 {
     if let Some(info) = bases.get(base as usize) {
-        clear_leaves(info, row);
-        set_zeros(info, row, zero_first());
+        clear_object(info, row);
     }
 }
 
+#[tactic(auto, unfolding(crate::specs::ObjectLives::clear_object))]
+fn clear_object<I: IntDomain>(base: &BaseInfo, row: &mut [Cell<I>])
+    ensures length { length row.new ≡ length row.old }
+    ensures row { row.new ≡ clear_object I.lattice I.numbers base.now row.old }
+{
+    clear_leaves(base, row);
+    set_zeros(base, row, zero_first());
+}
+
+#[tactic(auto, unfolding(crate::specs::ObjectLives::clear_leaves))]
 fn clear_leaves<I: IntDomain>(base: &BaseInfo, row: &mut [Cell<I>])
-    ensures { length row.new ≡ length row.old }
+    ensures length { length row.new ≡ length row.old }
+    ensures row { row.new ≡ clear_leaves I.lattice I.numbers base.now row.old }
 {
     let leaves = base.shape.cells.as_slice();
     for at in 0..leaves.len() {
@@ -72,7 +96,9 @@ fn clear_leaves<I: IntDomain>(base: &BaseInfo, row: &mut [Cell<I>])
 }
 
 /// The cell where the pointers into a base have ended.
-fn ended_cell<I: IntDomain>(cell: Cell<I>, base: u16) -> Cell<I> {
+fn ended_cell<I: IntDomain>(cell: Cell<I>, base: u32) -> Cell<I>
+    ensures { result ≡ ended_cell I.lattice base cell }
+{
     match cell {
         Cell::Value(v) => Cell::Value(Value {
             num: v.num,
@@ -80,20 +106,26 @@ fn ended_cell<I: IntDomain>(cell: Cell<I>, base: u16) -> Cell<I> {
             indeterminate: v.indeterminate,
             labels: v.labels,
         }),
-        _ => cell,
+        Cell::Nothing => Cell::Nothing,
+        Cell::First(f) => Cell::First(f),
+        Cell::State(s) => Cell::State(s),
+        Cell::Mixed => Cell::Mixed,
     }
 }
 
-fn ended_pointer<I: IntDomain>(p: Pointers<I>, base: u16) -> Pointers<I> {
+fn ended_pointer<I: IntDomain>(p: Pointers<I>, base: u32) -> Pointers<I>
+    ensures { result ≡ ended_pointer I.lattice base p }
+{
     if (base as usize) < MOST_BASES {
-        p.end(base)
+        p.end(base as u16)
     } else {
         p
     }
 }
 
-fn end_pointers<I: IntDomain>(row: &mut [Cell<I>], base: u16)
-    ensures { length row.new ≡ length row.old }
+fn end_pointers<I: IntDomain>(row: &mut [Cell<I>], base: u32)
+    ensures length { length row.new ≡ length row.old }
+    ensures row { row.new ≡ map (ended_cell I.lattice base) row.old }
 {
     for at in 0..row.len() {
         row[at] = ended_cell(row[at], base);
@@ -101,14 +133,22 @@ fn end_pointers<I: IntDomain>(row: &mut [Cell<I>], base: u16)
 }
 
 /// The object of a block is ended: pointers to it are to an ended object, and nothing is in its cells.
+#[tactic(auto, unfolding(crate::specs::ObjectLives::leave))]
 pub fn leave<I: IntDomain>(bases: &[BaseInfo], row: &mut [Cell<I>], base: u32)
-    ensures { length row.new ≡ length row.old }
+    ensures length { length row.new ≡ length row.old }
+    ensures row { row.new ≡ leave I.lattice bases.now base row.old }
 {
     if let Some(info) = bases.get(base as usize) {
-        if let Ok(number) = u16::try_from(base) {
-            end_pointers(row, number);
-        }
-        set_values(info, row, Value::bottom());
-        set_zeros(info, row, FirstZero::bottom());
+        leave_object(base, info, row);
     }
+}
+
+#[tactic(auto, unfolding(crate::specs::ObjectLives::leave_object))]
+fn leave_object<I: IntDomain>(number: u32, base: &BaseInfo, row: &mut [Cell<I>])
+    ensures length { length row.new ≡ length row.old }
+    ensures row { row.new ≡ leave_object I.lattice number base.now row.old }
+{
+    end_pointers(row, number);
+    set_values(base, row, Value::bottom());
+    set_zeros(base, row, FirstZero::bottom());
 }

@@ -1,4 +1,4 @@
-use Rattle.std.proofs.Common.{◌≡◌, ◌+◌, ◌*◌}
+use Rattle.std.proofs.Common.{◌+◌, ◌*◌}
 use Rattle.store_domain.proofs.struct_zeros.+zeros.Given as goal
 
 abbrev pub decreases-push_zeros : goal.decreases-push_zeros
