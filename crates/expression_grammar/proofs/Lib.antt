@@ -1,0 +1,7 @@
+pub mod Arguments
+pub mod Climbing
+pub mod Layers
+pub mod Listing
+pub mod Productions
+mod Rows
+pub mod Suffixes

@@ -1,7 +1,7 @@
 -- The operators of expressions: their signs, and the levels at which they bind. A level stands for a
 -- nonterminal of 6.5: 0 expression, 1 assignment, 2 conditional, 3 logical OR, and so on to 12
 -- multiplicative, 13 cast, 14 unary, 15 postfix, 16 primary.
-use Rattle.std.specs.Prelude.{ℕ, Option, Some, None}
+use Rattle.std.specs.Prelude.{ℕ, Bool, true, false, Option, Some, None}
 use Rattle.c_layout.specs.declared.syntax_tree.expressions.StepOp.{StepOp}
 use Rattle.c_layout.specs.declared.syntax_tree.expressions.StepOp.TheVariants as step
 use Rattle.c_layout.specs.declared.syntax_tree.expressions.UnaryOp.{UnaryOp}
@@ -131,3 +131,46 @@ sign_level _ = 0
 abbrev pub symbol_level : Symbol → ℕ
 symbol_level (symbol.Punctuator sign) = sign_level sign
 symbol_level _ = 0
+
+-- ---- the operators that symbols are
+
+abbrev pub step_of : Symbol → Option StepOp
+step_of (symbol.Punctuator p.Increment) = Some step.Increment
+step_of (symbol.Punctuator p.Decrement) = Some step.Decrement
+step_of _ = None
+
+abbrev pub unary_of : Symbol → Option UnaryOp
+unary_of (symbol.Punctuator p.Ampersand) = Some unary.Address
+unary_of (symbol.Punctuator p.Star) = Some unary.Indirection
+unary_of (symbol.Punctuator p.Plus) = Some unary.Plus
+unary_of (symbol.Punctuator p.Minus) = Some unary.Minus
+unary_of (symbol.Punctuator p.Tilde) = Some unary.Complement
+unary_of (symbol.Punctuator p.Exclamation) = Some unary.Not
+unary_of _ = None
+
+abbrev pub assign_of_sign : Punctuator → Option AssignOp
+assign_of_sign p.Assign = Some assign.Simple
+assign_of_sign p.StarAssign = Some (assign.Compound binary.Multiply)
+assign_of_sign p.SlashAssign = Some (assign.Compound binary.Divide)
+assign_of_sign p.PercentAssign = Some (assign.Compound binary.Remainder)
+assign_of_sign p.PlusAssign = Some (assign.Compound binary.Add)
+assign_of_sign p.MinusAssign = Some (assign.Compound binary.Subtract)
+assign_of_sign p.ShiftLeftAssign = Some (assign.Compound binary.ShiftLeft)
+assign_of_sign p.ShiftRightAssign = Some (assign.Compound binary.ShiftRight)
+assign_of_sign p.AndAssign = Some (assign.Compound binary.And)
+assign_of_sign p.XorAssign = Some (assign.Compound binary.Xor)
+assign_of_sign p.OrAssign = Some (assign.Compound binary.Or)
+assign_of_sign _ = None
+
+abbrev pub assign_of : Symbol → Option AssignOp
+assign_of (symbol.Punctuator sign) = assign_of_sign sign
+assign_of _ = None
+
+-- whether an operator behind an operand begins
+abbrev pub goes_on : Symbol → Bool
+goes_on (symbol.Punctuator p.LeftBracket) = true
+goes_on (symbol.Punctuator p.Dot) = true
+goes_on (symbol.Punctuator p.Arrow) = true
+goes_on (symbol.Punctuator p.Increment) = true
+goes_on (symbol.Punctuator p.Decrement) = true
+goes_on _ = false

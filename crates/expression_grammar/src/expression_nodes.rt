@@ -1,15 +1,30 @@
 //! Nodes of trees, made of their parts. Each refuses where its height would pass the budget.
+ghost use Rattle.std.specs.Prelude.{◌≡◌, ◌+◌, ◌≤◌, [], ◌∷◌, ◌++◌, max, map, IfOk};
+ghost use Rattle.c_layout.specs.SyntaxTrees as tree;
+ghost use Rattle.c_layout.specs.SyntaxTrees.{tree_of, trees, type_name_view};
+ghost use Rattle.expression_grammar.specs.Findings.{infix_tree};
+
 use crate::heights::{Parsed, Trouble, made};
 use crate::operators::Infix;
 use crate::type_name_parts::TypeNameParts;
 use c_layout::{AssignOp, Expr, Name, StepOp, UnaryOp};
 use cc_base::Place;
-use std::alloc::Global;
+use std::alloc::{AllocError, Global};
+
+/// Adds an expression at the end of a list.
+pub fn add_expression(list: &mut Vec<Expr>, node: Box<Expr>) -> Result<(), AllocError>
+    ensures { IfOk result (λ _. map tree_of list.new.items ≡ map tree_of list.old.items ++ tree_of node.value ∷ []) }
+{
+    Ok(list.push(Box::into_inner(node))?)
+}
 
 /// An expression without parts.
-pub fn leaf_node(alloc: Global, tree: Expr) -> Result<Parsed<Box<Expr>>, Trouble> {
+pub fn leaf_node(alloc: Global, leaf: Expr) -> Result<Parsed<Box<Expr>>, Trouble>
+    ensures tree { IfOk result (λ n. tree_of n.tree.value ≡ tree_of leaf) }
+    ensures height { IfOk result (λ n. n.height ≡ 0) }
+{
     Ok(Parsed {
-        tree: Box::new(alloc, tree)?,
+        tree: Box::new(alloc, leaf)?,
         height: 0,
     })
 }
@@ -22,7 +37,10 @@ pub fn infix_node(
     left: Parsed<Box<Expr>>,
     right: Parsed<Box<Expr>>,
     budget: u32,
-) -> Result<Parsed<Box<Expr>>, Trouble> {
+) -> Result<Parsed<Box<Expr>>, Trouble>
+    ensures tree { IfOk result (λ n. tree_of n.tree.value ≡ infix_tree op place (tree_of left.tree.value) (tree_of right.tree.value)) }
+    ensures height { IfOk result (λ n. (n.height ≡ max left.height right.height + 1) × (n.height ≤ budget)) }
+{
     let height = made(budget, left.height.max(right.height))?;
     let tree = match op {
         Infix::Binary(op) => Expr::Binary(place, op, left.tree, right.tree),
@@ -40,7 +58,10 @@ pub fn conditional_node(
     first: Parsed<Box<Expr>>,
     second: Parsed<Box<Expr>>,
     budget: u32,
-) -> Result<Parsed<Box<Expr>>, Trouble> {
+) -> Result<Parsed<Box<Expr>>, Trouble>
+    ensures tree { IfOk result (λ n. tree_of n.tree.value ≡ tree.Conditional place (tree_of condition.tree.value) (tree_of first.tree.value) (tree_of second.tree.value)) }
+    ensures height { IfOk result (λ n. (n.height ≡ max (max condition.height first.height) second.height + 1) × (n.height ≤ budget)) }
+{
     let parts = condition.height.max(first.height).max(second.height);
     let height = made(budget, parts)?;
     let tree = Expr::Conditional(place, condition.tree, first.tree, second.tree);
@@ -56,7 +77,10 @@ pub fn assign_node(
     left: Parsed<Box<Expr>>,
     right: Parsed<Box<Expr>>,
     budget: u32,
-) -> Result<Parsed<Box<Expr>>, Trouble> {
+) -> Result<Parsed<Box<Expr>>, Trouble>
+    ensures tree { IfOk result (λ n. tree_of n.tree.value ≡ tree.Assign place op (tree_of left.tree.value) (tree_of right.tree.value)) }
+    ensures height { IfOk result (λ n. (n.height ≡ max left.height right.height + 1) × (n.height ≤ budget)) }
+{
     let height = made(budget, left.height.max(right.height))?;
     let tree = Box::new(alloc, Expr::Assign(place, op, left.tree, right.tree))?;
     Ok(Parsed { tree, height })
@@ -69,7 +93,10 @@ pub fn comma_node(
     first: Parsed<Box<Expr>>,
     second: Parsed<Box<Expr>>,
     budget: u32,
-) -> Result<Parsed<Box<Expr>>, Trouble> {
+) -> Result<Parsed<Box<Expr>>, Trouble>
+    ensures tree { IfOk result (λ n. tree_of n.tree.value ≡ tree.Comma place (tree_of first.tree.value) (tree_of second.tree.value)) }
+    ensures height { IfOk result (λ n. (n.height ≡ max first.height second.height + 1) × (n.height ≤ budget)) }
+{
     let height = made(budget, first.height.max(second.height))?;
     let tree = Box::new(alloc, Expr::Comma(place, first.tree, second.tree))?;
     Ok(Parsed { tree, height })
@@ -81,7 +108,10 @@ pub fn paren_node(
     place: Place,
     operand: Parsed<Box<Expr>>,
     budget: u32,
-) -> Result<Parsed<Box<Expr>>, Trouble> {
+) -> Result<Parsed<Box<Expr>>, Trouble>
+    ensures tree { IfOk result (λ n. tree_of n.tree.value ≡ tree.Paren place (tree_of operand.tree.value)) }
+    ensures height { IfOk result (λ n. (n.height ≡ operand.height + 1) × (n.height ≤ budget)) }
+{
     let height = made(budget, operand.height)?;
     let tree = Box::new(alloc, Expr::Paren(place, operand.tree))?;
     Ok(Parsed { tree, height })
@@ -94,7 +124,10 @@ pub fn prefix_node(
     op: StepOp,
     operand: Parsed<Box<Expr>>,
     budget: u32,
-) -> Result<Parsed<Box<Expr>>, Trouble> {
+) -> Result<Parsed<Box<Expr>>, Trouble>
+    ensures tree { IfOk result (λ n. tree_of n.tree.value ≡ tree.Prefix place op (tree_of operand.tree.value)) }
+    ensures height { IfOk result (λ n. (n.height ≡ operand.height + 1) × (n.height ≤ budget)) }
+{
     let height = made(budget, operand.height)?;
     let tree = Box::new(alloc, Expr::Prefix(place, op, operand.tree))?;
     Ok(Parsed { tree, height })
@@ -107,7 +140,10 @@ pub fn unary_node(
     op: UnaryOp,
     operand: Parsed<Box<Expr>>,
     budget: u32,
-) -> Result<Parsed<Box<Expr>>, Trouble> {
+) -> Result<Parsed<Box<Expr>>, Trouble>
+    ensures tree { IfOk result (λ n. tree_of n.tree.value ≡ tree.Unary place op (tree_of operand.tree.value)) }
+    ensures height { IfOk result (λ n. (n.height ≡ operand.height + 1) × (n.height ≤ budget)) }
+{
     let height = made(budget, operand.height)?;
     let tree = Box::new(alloc, Expr::Unary(place, op, operand.tree))?;
     Ok(Parsed { tree, height })
@@ -119,7 +155,10 @@ pub fn sizeof_node(
     place: Place,
     operand: Parsed<Box<Expr>>,
     budget: u32,
-) -> Result<Parsed<Box<Expr>>, Trouble> {
+) -> Result<Parsed<Box<Expr>>, Trouble>
+    ensures tree { IfOk result (λ n. tree_of n.tree.value ≡ tree.SizeofExpr place (tree_of operand.tree.value)) }
+    ensures height { IfOk result (λ n. (n.height ≡ operand.height + 1) × (n.height ≤ budget)) }
+{
     let height = made(budget, operand.height)?;
     let tree = Box::new(alloc, Expr::SizeofExpr(place, operand.tree))?;
     Ok(Parsed { tree, height })
@@ -132,7 +171,10 @@ pub fn cast_node(
     named: Parsed<Box<TypeNameParts>>,
     operand: Parsed<Box<Expr>>,
     budget: u32,
-) -> Result<Parsed<Box<Expr>>, Trouble> {
+) -> Result<Parsed<Box<Expr>>, Trouble>
+    ensures tree { IfOk result (λ n. tree_of n.tree.value ≡ tree.Cast place (type_name_view named.tree.value.name) (trees (map tree_of named.tree.value.lengths.items)) (tree_of operand.tree.value)) }
+    ensures height { IfOk result (λ n. (n.height ≡ max named.height operand.height + 1) × (n.height ≤ budget)) }
+{
     let height = made(budget, named.height.max(operand.height))?;
     let TypeNameParts { name, lengths } = Box::into_inner(named.tree);
     let tree = Box::new(alloc, Expr::Cast(place, name, lengths, operand.tree))?;
@@ -145,7 +187,10 @@ pub fn sizeof_type_node(
     place: Place,
     named: Parsed<Box<TypeNameParts>>,
     budget: u32,
-) -> Result<Parsed<Box<Expr>>, Trouble> {
+) -> Result<Parsed<Box<Expr>>, Trouble>
+    ensures tree { IfOk result (λ n. tree_of n.tree.value ≡ tree.SizeofType place (type_name_view named.tree.value.name) (trees (map tree_of named.tree.value.lengths.items))) }
+    ensures height { IfOk result (λ n. (n.height ≡ named.height + 1) × (n.height ≤ budget)) }
+{
     let height = made(budget, named.height)?;
     let TypeNameParts { name, lengths } = Box::into_inner(named.tree);
     let tree = Box::new(alloc, Expr::SizeofType(place, name, lengths))?;
@@ -158,7 +203,10 @@ pub fn call_node(
     name: Name,
     arguments: Parsed<Vec<Expr>>,
     budget: u32,
-) -> Result<Parsed<Box<Expr>>, Trouble> {
+) -> Result<Parsed<Box<Expr>>, Trouble>
+    ensures tree { IfOk result (λ n. tree_of n.tree.value ≡ tree.Call name.place name.text (trees (map tree_of arguments.tree.items))) }
+    ensures height { IfOk result (λ n. (n.height ≡ arguments.height + 1) × (n.height ≤ budget)) }
+{
     let height = made(budget, arguments.height)?;
     let Name { place, text } = name;
     let tree = Box::new(alloc, Expr::Call(place, text, arguments.tree))?;

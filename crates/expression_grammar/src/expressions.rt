@@ -1,5 +1,7 @@
 //! Expressions from the comma operator down to the binary operators (6.5.5 to 6.5.17).
-ghost use Rattle.std.specs.Prelude.{◌<◌};
+ghost use Rattle.std.specs.Prelude.{◌≡◌, ◌<◌, ◌≤◌, IfOk};
+ghost use Rattle.c_layout.specs.SyntaxTrees.{tree_of};
+ghost use Rattle.expression_grammar.specs.Findings.{Found, FoundLevel, is_unary};
 
 use crate::expression_nodes::{assign_node, comma_node, conditional_node, infix_node};
 use crate::heights::{Parsed, Trouble, inner};
@@ -11,6 +13,7 @@ use token_classes::Punctuator;
 
 /// An expression of a level from logical-OR-expression to cast-expression. Operators group from the
 /// left, and one that binds tighter takes its operands first.
+#[tactic(auto, using(crate::proofs::Climbing::first, crate::proofs::Climbing::more, crate::proofs::Climbing::last))]
 #[cycle(expressions)]
 fn binary(
     scope: Scope<'_>,
@@ -18,7 +21,9 @@ fn binary(
     level: u32,
     budget: u32,
 ) -> Result<Parsed<Box<Expr>>, Trouble>
-    requires { 0 < level }
+    requires from { 0 < level }
+    requires to { level ≤ 13 }
+    ensures { IfOk result (λ n. FoundLevel scope.entry.typedefs.now level budget (tree_of n.tree.value) n.height reader.old reader.new) }
 {
     let mut left = cast(scope, reader, budget)?;
     for _turn in 0..budget {
@@ -36,12 +41,15 @@ fn binary(
 }
 
 /// A conditional-expression, which is a constant-expression too.
+#[tactic(auto, using(crate::proofs::Productions::as_conditional, crate::proofs::Productions::conditional))]
 #[cycle(expressions)]
 pub fn conditional(
     scope: Scope<'_>,
     reader: &mut Reader<'_>,
     budget: u32,
-) -> Result<Parsed<Box<Expr>>, Trouble> {
+) -> Result<Parsed<Box<Expr>>, Trouble>
+    ensures { IfOk result (λ n. Found scope.entry.typedefs.now 2 budget (tree_of n.tree.value) n.height reader.old reader.new) }
+{
     let condition = binary(scope, reader, LOGICAL_OR, budget)?;
     if !reader.is_at(Punctuator::Question) {
         return Ok(condition);
@@ -54,7 +62,9 @@ pub fn conditional(
 }
 
 /// Whether an expression is a unary-expression.
-fn is_unary(e: &Expr) -> bool {
+fn is_unary(e: &Expr) -> bool
+    ensures { result ≡ is_unary (tree_of e.now) }
+{
     match e {
         Expr::Cast(_, _, _, _)
         | Expr::Binary(_, _, _, _)
@@ -67,12 +77,15 @@ fn is_unary(e: &Expr) -> bool {
 }
 
 /// An assignment-expression.
+#[tactic(auto, using(crate::proofs::Productions::as_assignment, crate::proofs::Productions::assigned))]
 #[cycle(expressions)]
 pub fn assignment(
     scope: Scope<'_>,
     reader: &mut Reader<'_>,
     budget: u32,
-) -> Result<Parsed<Box<Expr>>, Trouble> {
+) -> Result<Parsed<Box<Expr>>, Trouble>
+    ensures { IfOk result (λ n. Found scope.entry.typedefs.now 1 budget (tree_of n.tree.value) n.height reader.old reader.new) }
+{
     let left = conditional(scope, reader, budget)?;
     let Some(op) = assign_at(reader.peek()) else {
         return Ok(left);
@@ -93,12 +106,15 @@ pub fn assignment(
 /// # Errors
 ///
 /// `Syntax` where no expression of such a height stands next, or want of memory.
+#[tactic(auto, using(crate::proofs::Productions::as_expression, crate::proofs::Productions::comma))]
 #[cycle(expressions)]
 pub fn expression(
     scope: Scope<'_>,
     reader: &mut Reader<'_>,
     budget: u32,
-) -> Result<Parsed<Box<Expr>>, Trouble> {
+) -> Result<Parsed<Box<Expr>>, Trouble>
+    ensures { IfOk result (λ n. Found scope.entry.typedefs.now 0 budget (tree_of n.tree.value) n.height reader.old reader.new) }
+{
     let mut found = assignment(scope, reader, budget)?;
     for _turn in 0..budget {
         if !reader.is_at(Punctuator::Comma) {

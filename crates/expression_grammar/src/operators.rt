@@ -4,7 +4,7 @@
 //! conditional-expression, 3 logical-OR-expression and so on to 12 multiplicative-expression, 13
 //! cast-expression, 14 unary-expression, 15 postfix-expression, 16 primary-expression.
 ghost use Rattle.std.specs.Prelude.{◌≡◌, ◌≤◌, ◌<◌, IfSome, MatchOption};
-ghost use Rattle.expression_grammar.specs.Levels.{binary_sign, binary_level, logical_sign, logical_level, unary_sign, step_sign, compound_sign, assign_sign, op_sign, op_level, sign_level, symbol_level};
+ghost use Rattle.expression_grammar.specs.Levels.{binary_sign, binary_level, logical_sign, logical_level, unary_sign, step_sign, compound_sign, assign_sign, op_sign, op_level, sign_level, symbol_level, step_of, unary_of, assign_of_sign, assign_of};
 
 use c_layout::{AssignOp, BinaryOp, LogicalOp, StepOp, UnaryOp};
 use token_classes::{Punctuator, Symbol};
@@ -162,11 +162,10 @@ pub fn assign_sign(op: AssignOp) -> Option<Punctuator>
     }
 }
 
-/// The assignment operator that a symbol is.
-pub fn assign_at(symbol: Symbol) -> Option<AssignOp> {
-    let Symbol::Punctuator(sign) = symbol else {
-        return None;
-    };
+/// The assignment operator that a punctuator is.
+fn assign_of_sign(sign: Punctuator) -> Option<AssignOp>
+    ensures { result ≡ assign_of_sign sign }
+{
     let op = match sign {
         Punctuator::Assign => return Some(AssignOp::Simple),
         Punctuator::StarAssign => BinaryOp::Multiply,
@@ -184,8 +183,20 @@ pub fn assign_at(symbol: Symbol) -> Option<AssignOp> {
     Some(AssignOp::Compound(op))
 }
 
+/// The assignment operator that a symbol is.
+pub fn assign_at(symbol: Symbol) -> Option<AssignOp>
+    ensures { result ≡ assign_of symbol }
+{
+    match symbol {
+        Symbol::Punctuator(sign) => assign_of_sign(sign),
+        _ => None,
+    }
+}
+
 /// `++` or `--`.
-pub fn step_at(symbol: Symbol) -> Option<StepOp> {
+pub fn step_at(symbol: Symbol) -> Option<StepOp>
+    ensures { result ≡ step_of symbol }
+{
     match symbol {
         Symbol::Punctuator(Punctuator::Increment) => Some(StepOp::Increment),
         Symbol::Punctuator(Punctuator::Decrement) => Some(StepOp::Decrement),
@@ -204,7 +215,9 @@ pub fn step_sign(op: StepOp) -> Punctuator
 }
 
 /// The unary operator that a symbol is (6.5.3).
-pub fn unary_at(symbol: Symbol) -> Option<UnaryOp> {
+pub fn unary_at(symbol: Symbol) -> Option<UnaryOp>
+    ensures { result ≡ unary_of symbol }
+{
     match symbol {
         Symbol::Punctuator(Punctuator::Ampersand) => Some(UnaryOp::Address),
         Symbol::Punctuator(Punctuator::Star) => Some(UnaryOp::Indirection),

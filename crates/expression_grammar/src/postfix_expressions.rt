@@ -1,35 +1,43 @@
 //! Primary and postfix expressions (6.5.1, 6.5.2).
-use crate::expression_nodes::{call_node, leaf_node, paren_node};
+ghost use Rattle.std.specs.Prelude.{◌≡◌, ◌≤◌, map, IfOk};
+ghost use Rattle.c_layout.specs.SyntaxTrees.{tree_of};
+ghost use Rattle.expression_grammar.specs.Findings.{Found, FoundSome, FoundArguments, FoundSuffix};
+ghost use Rattle.expression_grammar.specs.Levels.{goes_on};
+
+use crate::expression_nodes::{add_expression, call_node, leaf_node, paren_node};
 use crate::expressions::{assignment, expression};
 use crate::heights::{Parsed, Trouble, inner};
 use crate::operators::{step_at, step_sign};
 use crate::postfix_operators::{Suffix, suffix_node};
 use crate::terminal_reader::{Reader, Scope};
-use c_layout::{Expr, Name, StepOp};
+use c_layout::{Expr, Name};
 use token_classes::{Punctuator, Symbol};
 
 /// One argument or more behind the `(` of a call, with the `)`.
+#[tactic(auto, using(crate::proofs::Arguments::none_read, crate::proofs::Arguments::one_more, crate::proofs::Arguments::last_one))]
 #[cycle(expressions)]
 fn some_arguments(
     scope: Scope<'_>,
     reader: &mut Reader<'_>,
     budget: u32,
-) -> Result<Parsed<Vec<Expr>>, Trouble> {
+) -> Result<Parsed<Vec<Expr>>, Trouble>
+    ensures { IfOk result (λ n. FoundArguments scope.entry.typedefs.now budget (map tree_of n.tree.items) n.height reader.old reader.new) }
+{
     let mut found = Vec::new(scope.alloc);
     let mut height = 0u32;
     for _turn in 0..reader.left() {
         let argument = assignment(scope, reader, budget)?;
         height = height.max(argument.height);
-        found.push(Box::into_inner(argument.tree))?;
+        add_expression(&mut found, argument.tree)?;
         if !reader.accept(Punctuator::Comma) {
-            break;
+            reader.expect(Punctuator::RightParenthesis)?;
+            return Ok(Parsed {
+                tree: found,
+                height,
+            });
         }
     }
-    reader.expect(Punctuator::RightParenthesis)?;
-    Ok(Parsed {
-        tree: found,
-        height,
-    })
+    Err(Trouble::Syntax)
 }
 
 /// The arguments of a call, behind its `(`, with the `)`.
@@ -38,7 +46,9 @@ fn arguments(
     scope: Scope<'_>,
     reader: &mut Reader<'_>,
     budget: u32,
-) -> Result<Parsed<Vec<Expr>>, Trouble> {
+) -> Result<Parsed<Vec<Expr>>, Trouble>
+    ensures { IfOk result (λ n. FoundArguments scope.entry.typedefs.now budget (map tree_of n.tree.items) n.height reader.old reader.new) }
+{
     if reader.accept(Punctuator::RightParenthesis) {
         return Ok(Parsed {
             tree: Vec::new(scope.alloc),
@@ -54,7 +64,9 @@ fn name_or_call(
     scope: Scope<'_>,
     reader: &mut Reader<'_>,
     budget: u32,
-) -> Result<Parsed<Box<Expr>>, Trouble> {
+) -> Result<Parsed<Box<Expr>>, Trouble>
+    ensures { IfOk result (λ n. Found scope.entry.typedefs.now 15 budget (tree_of n.tree.value) n.height reader.old reader.new) }
+{
     let name = reader.identifier(scope)?;
     if !reader.accept(Punctuator::LeftParenthesis) {
         return leaf_node(scope.alloc, Expr::Name(name.place, name.text));
@@ -69,7 +81,9 @@ fn parenthesized(
     scope: Scope<'_>,
     reader: &mut Reader<'_>,
     budget: u32,
-) -> Result<Parsed<Box<Expr>>, Trouble> {
+) -> Result<Parsed<Box<Expr>>, Trouble>
+    ensures { IfOk result (λ n. Found scope.entry.typedefs.now 15 budget (tree_of n.tree.value) n.height reader.old reader.new) }
+{
     let place = reader.expect(Punctuator::LeftParenthesis)?;
     let nested = expression(scope, reader, inner(budget)?)?;
     reader.expect(Punctuator::RightParenthesis)?;
@@ -77,13 +91,25 @@ fn parenthesized(
 }
 
 /// A string literal.
-fn literal(scope: Scope<'_>, reader: &mut Reader<'_>) -> Result<Parsed<Box<Expr>>, Trouble> {
+fn literal(
+    scope: Scope<'_>,
+    reader: &mut Reader<'_>,
+    budget: u32,
+) -> Result<Parsed<Box<Expr>>, Trouble>
+    ensures { IfOk result (λ n. Found scope.entry.typedefs.now 15 budget (tree_of n.tree.value) n.height reader.old reader.new) }
+{
     let Name { place, text } = reader.literal(scope.alloc)?;
     leaf_node(scope.alloc, Expr::Literal(place, text))
 }
 
 /// An integer or a character constant.
-fn constant(scope: Scope<'_>, reader: &mut Reader<'_>) -> Result<Parsed<Box<Expr>>, Trouble> {
+fn constant(
+    scope: Scope<'_>,
+    reader: &mut Reader<'_>,
+    budget: u32,
+) -> Result<Parsed<Box<Expr>>, Trouble>
+    ensures { IfOk result (λ n. Found scope.entry.typedefs.now 15 budget (tree_of n.tree.value) n.height reader.old reader.new) }
+{
     let (place, value) = reader.constant()?;
     leaf_node(scope.alloc, Expr::Constant(place, value))
 }
@@ -94,10 +120,12 @@ fn primary(
     scope: Scope<'_>,
     reader: &mut Reader<'_>,
     budget: u32,
-) -> Result<Parsed<Box<Expr>>, Trouble> {
+) -> Result<Parsed<Box<Expr>>, Trouble>
+    ensures { IfOk result (λ n. Found scope.entry.typedefs.now 15 budget (tree_of n.tree.value) n.height reader.old reader.new) }
+{
     match reader.peek() {
-        Symbol::Constant(_) => constant(scope, reader),
-        Symbol::Literal => literal(scope, reader),
+        Symbol::Constant(_) => constant(scope, reader, budget),
+        Symbol::Literal => literal(scope, reader, budget),
         Symbol::Identifier => name_or_call(scope, reader, budget),
         _ => parenthesized(scope, reader, budget),
     }
@@ -109,7 +137,9 @@ fn subscript(
     scope: Scope<'_>,
     reader: &mut Reader<'_>,
     budget: u32,
-) -> Result<Parsed<Suffix>, Trouble> {
+) -> Result<Parsed<Suffix>, Trouble>
+    ensures { IfOk result (λ n. FoundSuffix scope.entry.typedefs.now n.tree n.height reader.old reader.new) }
+{
     let place = reader.expect(Punctuator::LeftBracket)?;
     let index = expression(scope, reader, inner(budget)?)?;
     reader.expect(Punctuator::RightBracket)?;
@@ -119,33 +149,34 @@ fn subscript(
     })
 }
 
-/// `.` or `->` and a member's name.
-fn member(
-    scope: Scope<'_>,
-    reader: &mut Reader<'_>,
-    sign: Punctuator,
-) -> Result<Parsed<Suffix>, Trouble> {
-    let place = reader.expect(sign)?;
+/// `.` and a member's name.
+fn member(scope: Scope<'_>, reader: &mut Reader<'_>) -> Result<Parsed<Suffix>, Trouble>
+    ensures { IfOk result (λ n. FoundSuffix scope.entry.typedefs.now n.tree n.height reader.old reader.new) }
+{
+    let place = reader.expect(Punctuator::Dot)?;
     let name = reader.identifier(scope)?;
-    let tree = if sign == Punctuator::Dot {
-        Suffix::Member(place, name)
-    } else {
-        Suffix::Arrow(place, name)
-    };
-    Ok(Parsed { tree, height: 0 })
+    Ok(Parsed {
+        tree: Suffix::Member(place, name),
+        height: 0,
+    })
 }
 
-/// `++` or `--`.
-fn stepped(reader: &mut Reader<'_>, op: StepOp) -> Result<Parsed<Suffix>, Trouble> {
-    let place = reader.expect(step_sign(op))?;
+/// `->` and a member's name.
+fn arrow(scope: Scope<'_>, reader: &mut Reader<'_>) -> Result<Parsed<Suffix>, Trouble>
+    ensures { IfOk result (λ n. FoundSuffix scope.entry.typedefs.now n.tree n.height reader.old reader.new) }
+{
+    let place = reader.expect(Punctuator::Arrow)?;
+    let name = reader.identifier(scope)?;
     Ok(Parsed {
-        tree: Suffix::Step(place, op),
+        tree: Suffix::Arrow(place, name),
         height: 0,
     })
 }
 
 /// Whether a symbol goes on with a postfix-expression.
-fn goes_on(symbol: Symbol) -> bool {
+fn goes_on(symbol: Symbol) -> bool
+    ensures { result ≡ goes_on symbol }
+{
     match symbol {
         Symbol::Punctuator(sign) => matches!(
             sign,
@@ -161,28 +192,33 @@ fn goes_on(symbol: Symbol) -> bool {
 
 /// The operator that stands next, behind an operand.
 #[cycle(expressions)]
-fn suffix(
-    scope: Scope<'_>,
-    reader: &mut Reader<'_>,
-    budget: u32,
-) -> Result<Parsed<Suffix>, Trouble> {
+fn suffix(scope: Scope<'_>, reader: &mut Reader<'_>, budget: u32) -> Result<Parsed<Suffix>, Trouble>
+    ensures { IfOk result (λ n. FoundSuffix scope.entry.typedefs.now n.tree n.height reader.old reader.new) }
+{
     if let Some(op) = step_at(reader.peek()) {
-        return stepped(reader, op);
+        let place = reader.expect(step_sign(op))?;
+        return Ok(Parsed {
+            tree: Suffix::Step(place, op),
+            height: 0,
+        });
     }
     match reader.peek() {
-        Symbol::Punctuator(Punctuator::Dot) => member(scope, reader, Punctuator::Dot),
-        Symbol::Punctuator(Punctuator::Arrow) => member(scope, reader, Punctuator::Arrow),
+        Symbol::Punctuator(Punctuator::Dot) => member(scope, reader),
+        Symbol::Punctuator(Punctuator::Arrow) => arrow(scope, reader),
         _ => subscript(scope, reader, budget),
     }
 }
 
 /// A postfix-expression.
+#[tactic(auto, using(crate::proofs::Suffixes::one_more))]
 #[cycle(expressions)]
 pub fn postfix(
     scope: Scope<'_>,
     reader: &mut Reader<'_>,
     budget: u32,
-) -> Result<Parsed<Box<Expr>>, Trouble> {
+) -> Result<Parsed<Box<Expr>>, Trouble>
+    ensures { IfOk result (λ n. Found scope.entry.typedefs.now 15 budget (tree_of n.tree.value) n.height reader.old reader.new) }
+{
     let mut found = primary(scope, reader, budget)?;
     for _turn in 0..budget {
         if !goes_on(reader.peek()) {

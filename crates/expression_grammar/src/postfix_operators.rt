@@ -1,4 +1,8 @@
 //! What stands behind the operand of a postfix expression (6.5.2).
+ghost use Rattle.std.specs.Prelude.{◌≡◌, ◌+◌, ◌≤◌, max, IfOk};
+ghost use Rattle.c_layout.specs.SyntaxTrees.{tree_of};
+ghost use Rattle.expression_grammar.specs.Findings.{suffixed};
+
 use crate::heights::{Parsed, Trouble, made};
 use c_layout::{Expr, Name, StepOp};
 use cc_base::Place;
@@ -23,7 +27,10 @@ pub fn suffix_node(
     operand: Parsed<Box<Expr>>,
     suffix: Parsed<Suffix>,
     budget: u32,
-) -> Result<Parsed<Box<Expr>>, Trouble> {
+) -> Result<Parsed<Box<Expr>>, Trouble>
+    ensures tree { IfOk result (λ n. tree_of n.tree.value ≡ suffixed suffix.tree (tree_of operand.tree.value)) }
+    ensures height { IfOk result (λ n. (n.height ≡ max operand.height suffix.height + 1) × (n.height ≤ budget)) }
+{
     let height = made(budget, operand.height.max(suffix.height))?;
     let tree = match suffix.tree {
         Suffix::Subscript(at, index) => Expr::Subscript(at, operand.tree, index),

@@ -1,24 +1,29 @@
 //! Which lists of specifiers name one type (6.7.2).
+ghost use Rattle.std.specs.Prelude.{◌≡◌};
+ghost use Rattle.expression_grammar.specs.TypeNames.{up, no_words, with_type, with_storage, with_other, is_word_type, has_no_word_type, is_one_type, type_word_of, is_storage, is_qualifier};
+
 use c_layout::TypeWord;
 use token_classes::Keyword;
 
-/// How often each kind of word stands in a list of specifiers.
+/// How often each kind of word stands in a list of specifiers. A count stops at 255.
 #[derive(Clone, Copy, PartialEq, Eq, Debug)]
 pub struct SpecifierCounts {
-    words: u32,
-    storages: u8,
-    voids: u8,
-    chars: u8,
-    shorts: u8,
-    ints: u8,
-    longs: u8,
-    signs: u8,
+    pub storages: u8,
+    pub voids: u8,
+    pub chars: u8,
+    pub shorts: u8,
+    pub ints: u8,
+    pub longs: u8,
+    /// `signed` and `unsigned`.
+    pub signs: u8,
     /// Structures, enumerations and typedef names.
-    others: u8,
+    pub others: u8,
 }
 
 /// The word of an integer type or `void` that a keyword is.
-pub fn type_word(word: Keyword) -> Option<TypeWord> {
+pub fn type_word(word: Keyword) -> Option<TypeWord>
+    ensures { result ≡ type_word_of word }
+{
     match word {
         Keyword::Void => Some(TypeWord::Void),
         Keyword::Char => Some(TypeWord::Char),
@@ -31,11 +36,36 @@ pub fn type_word(word: Keyword) -> Option<TypeWord> {
     }
 }
 
+/// Whether a keyword is a storage class (6.7.1).
+pub fn is_storage(word: Keyword) -> bool
+    ensures { result ≡ is_storage word }
+{
+    matches!(
+        word,
+        Keyword::Typedef | Keyword::Extern | Keyword::Static | Keyword::Auto | Keyword::Register
+    )
+}
+
+/// Whether a keyword is a qualifier or `inline`.
+pub fn is_qualifier(word: Keyword) -> bool
+    ensures { result ≡ is_qualifier word }
+{
+    matches!(word, Keyword::Const | Keyword::Restrict | Keyword::Inline)
+}
+
+/// One more, up to 255.
+fn up(count: u8) -> u8
+    ensures { result ≡ up count }
+{
+    count.saturating_add(1)
+}
+
 impl SpecifierCounts {
     /// No word.
-    pub fn new() -> SpecifierCounts {
+    pub fn new() -> SpecifierCounts
+        ensures { result ≡ no_words }
+    {
         SpecifierCounts {
-            words: 0,
             storages: 0,
             voids: 0,
             chars: 0,
@@ -47,47 +77,38 @@ impl SpecifierCounts {
         }
     }
 
-    fn add_word(&mut self) {
-        self.words = self.words.saturating_add(1);
-    }
-
-    /// Adds a qualifier or `inline`.
-    pub fn add_qualifier(&mut self) {
-        self.add_word();
-    }
-
     /// Adds a storage class.
-    pub fn add_storage(&mut self) {
-        self.add_word();
-        self.storages = self.storages.saturating_add(1);
+    pub fn add_storage(&mut self)
+        ensures { self.new ≡ with_storage self.old }
+    {
+        self.storages = up(self.storages);
     }
 
     /// Adds a structure, an enumeration or a typedef name.
-    pub fn add_other(&mut self) {
-        self.add_word();
-        self.others = self.others.saturating_add(1);
+    pub fn add_other(&mut self)
+        ensures { self.new ≡ with_other self.old }
+    {
+        self.others = up(self.others);
     }
 
     /// Adds a word of an integer type or `void`.
-    pub fn add_type(&mut self, word: TypeWord) {
-        self.add_word();
+    pub fn add_type(&mut self, word: TypeWord)
+        ensures { self.new ≡ with_type self.old word }
+    {
         match word {
-            TypeWord::Void => self.voids = self.voids.saturating_add(1),
-            TypeWord::Char => self.chars = self.chars.saturating_add(1),
-            TypeWord::Short => self.shorts = self.shorts.saturating_add(1),
-            TypeWord::Int => self.ints = self.ints.saturating_add(1),
-            TypeWord::Long => self.longs = self.longs.saturating_add(1),
-            TypeWord::Signed | TypeWord::Unsigned => self.signs = self.signs.saturating_add(1),
+            TypeWord::Void => self.voids = up(self.voids),
+            TypeWord::Char => self.chars = up(self.chars),
+            TypeWord::Short => self.shorts = up(self.shorts),
+            TypeWord::Int => self.ints = up(self.ints),
+            TypeWord::Long => self.longs = up(self.longs),
+            TypeWord::Signed | TypeWord::Unsigned => self.signs = up(self.signs),
         }
     }
 
-    /// Whether there is exactly one word.
-    pub fn is_one_word(&self) -> bool {
-        self.words == 1
-    }
-
     /// Whether the words of integer types and `void` name one of the types of 6.7.2.
-    fn is_word_type(&self) -> bool {
+    fn is_word_type(&self) -> bool
+        ensures { result ≡ is_word_type self.now }
+    {
         if self.ints > 1 || self.signs > 1 {
             return false;
         }
@@ -101,7 +122,9 @@ impl SpecifierCounts {
     }
 
     /// Whether no word of an integer type or `void` is there.
-    fn has_no_word_type(&self) -> bool {
+    fn has_no_word_type(&self) -> bool
+        ensures { result ≡ has_no_word_type self.now }
+    {
         self.voids == 0
             && self.chars == 0
             && self.shorts == 0
@@ -111,7 +134,9 @@ impl SpecifierCounts {
     }
 
     /// Whether the list has exactly one type, and at most one storage class.
-    pub fn is_one_type(&self) -> bool {
+    pub fn is_one_type(&self) -> bool
+        ensures { result ≡ is_one_type self.now }
+    {
         if self.storages > 1 {
             return false;
         }

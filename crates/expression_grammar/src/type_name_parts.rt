@@ -1,5 +1,6 @@
 //! The parts of a type name and of an abstract declarator.
-use c_layout::{AbstractLayer, Expr, TypeName};
+use c_layout::{AbstractLayer, Brackets, Expr, TypeName};
+use cc_base::Place;
 
 /// A type name and the lengths of its arrays.
 #[derive(Drop)]
@@ -12,5 +13,19 @@ pub struct TypeNameParts {
 #[derive(Drop)]
 pub struct AbstractParts {
     pub layers: Vec<AbstractLayer>,
+    pub lengths: Vec<Expr>,
+}
+
+/// One pair of brackets, with its length where one is given.
+#[derive(Drop)]
+pub struct ArrayLength {
+    pub place: Place,
+    pub length: Option<Box<Expr>>,
+}
+
+/// Pairs of brackets, and the lengths in them.
+#[derive(Drop)]
+pub struct ArrayParts {
+    pub arrays: Vec<Brackets>,
     pub lengths: Vec<Expr>,
 }

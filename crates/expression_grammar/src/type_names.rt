@@ -1,50 +1,31 @@
 //! Type names and abstract declarators (6.7.7).
+ghost use Rattle.std.specs.Prelude.{◌≡◌, true, map, IfOk};
+ghost use Rattle.c_layout.specs.SyntaxTrees.{tree_of, layer_view, type_name_view};
+ghost use Rattle.expression_grammar.specs.Findings.{FoundPair, FoundArrays, FoundLayers, FoundNested, FoundTypeName};
+ghost use Rattle.expression_grammar.specs.Spans.{Chain};
+ghost use Rattle.expression_grammar.specs.TypeNames.{IsTypeNameWord, words_height, is_one_type, counts_of};
+
+use crate::abstract_layers::{add_brackets, declared_name, layered, plain_name};
 use crate::expressions::conditional;
-use crate::heights::{Parsed, Trouble, inner, made};
-use crate::specifier_words::{SpecifierCounts, type_word};
+use crate::heights::{Parsed, Trouble, inner};
+use crate::pointer_stars::stars;
+use crate::specifier_words::{SpecifierCounts, is_qualifier, is_storage, type_word};
 use crate::terminal_reader::{Reader, Scope};
-use crate::type_name_parts::{AbstractParts, TypeNameParts};
-use c_layout::{AbstractLayer, Brackets, Expr, TypeName, TypeNameWord};
-use std::alloc::Global;
+use crate::type_name_parts::{AbstractParts, ArrayLength, ArrayParts, TypeNameParts};
+use crate::type_name_words::{count_word, words_height};
+use c_layout::TypeNameWord;
 use token_classes::{Keyword, Punctuator, Symbol};
 
-/// How many of `const` and `restrict` stand next.
-pub fn qualifiers(reader: &mut Reader<'_>) -> u32 {
-    let mut count = 0u32;
-    for _turn in 0..reader.left() {
-        if !(reader.is_at_word(Keyword::Const) || reader.is_at_word(Keyword::Restrict)) {
-            return count;
-        }
-        reader.take();
-        count = count.saturating_add(1);
-    }
-    count
-}
-
-/// The stars that stand next, each with the number of qualifiers behind it.
-pub fn stars(alloc: Global, reader: &mut Reader<'_>) -> Result<Vec<u32>, Trouble> {
-    let mut found = Vec::new(alloc);
-    for _turn in 0..reader.left() {
-        if !reader.accept(Punctuator::Star) {
-            return Ok(found);
-        }
-        found.push(qualifiers(reader))?;
-    }
-    Ok(found)
-}
-
 /// `struct` or `enum` with a tag and no body.
-fn tagged(
-    scope: Scope<'_>,
-    reader: &mut Reader<'_>,
-    word: Keyword,
-) -> Result<TypeNameWord, Trouble> {
-    let place = reader.take();
+fn tagged(scope: Scope<'_>, reader: &mut Reader<'_>, word: Keyword) -> Result<TypeNameWord, Trouble>
+    ensures { IfOk result (λ w. IsTypeNameWord scope.entry.typedefs.now w reader.old reader.new) }
+{
+    let place = reader.expect_word(word)?;
     let tag = reader.identifier(scope)?;
-    if word == Keyword::Struct {
-        Ok(TypeNameWord::Struct(place, tag))
-    } else {
-        Ok(TypeNameWord::Enum(place, tag))
+    match word {
+        Keyword::Struct => Ok(TypeNameWord::Struct(place, tag)),
+        Keyword::Enum => Ok(TypeNameWord::Enum(place, tag)),
+        _ => Err(Trouble::Syntax),
     }
 }
 
@@ -52,67 +33,50 @@ fn tagged(
 fn keyword_word(
     scope: Scope<'_>,
     reader: &mut Reader<'_>,
-    counts: &mut SpecifierCounts,
     word: Keyword,
-) -> Result<TypeNameWord, Trouble> {
+) -> Result<TypeNameWord, Trouble>
+    ensures { IfOk result (λ w. IsTypeNameWord scope.entry.typedefs.now w reader.old reader.new) }
+{
     if let Some(named) = type_word(word) {
-        counts.add_type(named);
-        return Ok(TypeNameWord::Type(reader.take(), named));
+        return Ok(TypeNameWord::Type(reader.expect_word(word)?, named));
     }
-    match word {
-        Keyword::Const | Keyword::Restrict | Keyword::Inline => {
-            counts.add_qualifier();
-            Ok(TypeNameWord::Qualifier(reader.take()))
-        }
-        Keyword::Struct | Keyword::Enum => {
-            counts.add_other();
-            tagged(scope, reader, word)
-        }
-        _ => {
-            counts.add_storage();
-            Ok(TypeNameWord::Storage(reader.take()))
-        }
+    if is_qualifier(word) {
+        return Ok(TypeNameWord::Qualifier(reader.expect_word(word)?));
     }
+    if is_storage(word) {
+        return Ok(TypeNameWord::Storage(reader.expect_word(word)?));
+    }
+    tagged(scope, reader, word)
 }
 
 /// One word of a type name.
-fn type_name_word(
-    scope: Scope<'_>,
-    reader: &mut Reader<'_>,
-    counts: &mut SpecifierCounts,
-) -> Result<TypeNameWord, Trouble> {
+fn type_name_word(scope: Scope<'_>, reader: &mut Reader<'_>) -> Result<TypeNameWord, Trouble>
+    ensures { IfOk result (λ w. IsTypeNameWord scope.entry.typedefs.now w reader.old reader.new) }
+{
     match reader.peek() {
-        Symbol::Keyword(word) => keyword_word(scope, reader, counts, word),
-        _ => {
-            counts.add_other();
-            Ok(TypeNameWord::Typedef(reader.take_name(scope.alloc)?))
-        }
+        Symbol::Keyword(word) => keyword_word(scope, reader, word),
+        _ => Ok(TypeNameWord::Typedef(reader.typedef_name(scope)?)),
     }
-}
-
-/// Whether a word of a type name has a height of its own.
-fn is_high(word: &TypeNameWord) -> bool {
-    matches!(word, TypeNameWord::Struct(_, _) | TypeNameWord::Enum(_, _))
-}
-
-/// The height of the words of a type name: one word adds nothing.
-fn words_height(words: &[TypeNameWord]) -> u32 {
-    let parts = if words.iter().any(is_high) { 1 } else { 0 };
-    if words.len() == 1 { parts } else { parts + 1 }
 }
 
 /// The words of a type name.
 fn type_name_words(
     scope: Scope<'_>,
     reader: &mut Reader<'_>,
-) -> Result<Parsed<Vec<TypeNameWord>>, Trouble> {
+) -> Result<Parsed<Vec<TypeNameWord>>, Trouble>
+    ensures words { IfOk result (λ n. Chain (IsTypeNameWord scope.entry.typedefs.now) n.tree.items reader.old reader.new) }
+    ensures one_type { IfOk result (λ n. is_one_type (counts_of n.tree.items) ≡ true) }
+    ensures height { IfOk result (λ n. n.height ≡ words_height n.tree.items) }
+{
     let mut words = Vec::new(scope.alloc);
     let mut counts = SpecifierCounts::new();
     for _turn in 0..reader.left() {
         if !reader.begins_specifiers(scope) {
             break;
         }
-        words.push(type_name_word(scope, reader, &mut counts)?)?;
+        let word = type_name_word(scope, reader)?;
+        count_word(&mut counts, &word);
+        words.push(word)?;
     }
     if !counts.is_one_type() {
         return Err(Trouble::Syntax);
@@ -124,32 +88,60 @@ fn type_name_words(
     })
 }
 
-/// The brackets that stand next: their greatest part's height. Lengths go to the end of `lengths`.
+/// One pair of brackets.
+#[cycle(expressions)]
+fn bracket_pair(
+    scope: Scope<'_>,
+    reader: &mut Reader<'_>,
+    budget: u32,
+) -> Result<Parsed<ArrayLength>, Trouble>
+    ensures { IfOk result (λ n. FoundPair scope.entry.typedefs.now n.tree n.height reader.old reader.new) }
+{
+    let place = reader.expect(Punctuator::LeftBracket)?;
+    if reader.accept(Punctuator::RightBracket) {
+        return Ok(Parsed {
+            tree: ArrayLength {
+                place,
+                length: None,
+            },
+            height: 0,
+        });
+    }
+    let found = conditional(scope, reader, inner(budget)?)?;
+    reader.expect(Punctuator::RightBracket)?;
+    Ok(Parsed {
+        tree: ArrayLength {
+            place,
+            length: Some(found.tree),
+        },
+        height: found.height,
+    })
+}
+
+/// The brackets that stand next.
 #[cycle(expressions)]
 fn brackets(
     scope: Scope<'_>,
     reader: &mut Reader<'_>,
-    lengths: &mut Vec<Expr>,
     budget: u32,
-) -> Result<Parsed<Vec<Brackets>>, Trouble> {
-    let mut arrays = Vec::new(scope.alloc);
+) -> Result<Parsed<ArrayParts>, Trouble>
+    ensures { IfOk result (λ n. FoundArrays scope.entry.typedefs.now n.tree.arrays.items (map tree_of n.tree.lengths.items) n.height reader.old reader.new) }
+{
+    let mut parts = ArrayParts {
+        arrays: Vec::new(scope.alloc),
+        lengths: Vec::new(scope.alloc),
+    };
     let mut height = 0u32;
     for _turn in 0..reader.left() {
         if !reader.is_at(Punctuator::LeftBracket) {
             break;
         }
-        let place = reader.take();
-        let has_length = !reader.is_at(Punctuator::RightBracket);
-        if has_length {
-            let length = conditional(scope, reader, inner(budget)?)?;
-            height = height.max(length.height);
-            lengths.push(Box::into_inner(length.tree))?;
-        }
-        reader.expect(Punctuator::RightBracket)?;
-        arrays.push(Brackets { place, has_length })?;
+        let pair = bracket_pair(scope, reader, budget)?;
+        height = height.max(pair.height);
+        add_brackets(&mut parts, pair.tree)?;
     }
     Ok(Parsed {
-        tree: arrays,
+        tree: parts,
         height,
     })
 }
@@ -160,7 +152,9 @@ fn nested_abstract(
     scope: Scope<'_>,
     reader: &mut Reader<'_>,
     budget: u32,
-) -> Result<Parsed<AbstractParts>, Trouble> {
+) -> Result<Parsed<AbstractParts>, Trouble>
+    ensures { IfOk result (λ n. FoundNested scope.entry.typedefs.now (map layer_view n.tree.layers.items) (map tree_of n.tree.lengths.items) n.height reader.old reader.new) }
+{
     if !reader.accept(Punctuator::LeftParenthesis) {
         return Ok(Parsed {
             tree: AbstractParts {
@@ -181,36 +175,14 @@ fn abstract_declarator(
     scope: Scope<'_>,
     reader: &mut Reader<'_>,
     budget: u32,
-) -> Result<Parsed<AbstractParts>, Trouble> {
+) -> Result<Parsed<AbstractParts>, Trouble>
+    ensures { IfOk result (λ n. FoundLayers scope.entry.typedefs.now (map layer_view n.tree.layers.items) (map tree_of n.tree.lengths.items) n.height reader.old reader.new) }
+{
     let stars = stars(scope.alloc, reader)?;
     let nested = nested_abstract(scope, reader, budget)?;
-    let mut parts = nested.tree;
-    let arrays = brackets(scope, reader, &mut parts.lengths, budget)?;
-    let is_outermost = parts.layers.is_empty() && arrays.tree.is_empty();
-    if is_outermost && stars.is_empty() {
-        return Err(Trouble::Syntax);
-    }
-    let height = if is_outermost && is_one_star(stars.as_slice()) {
-        0
-    } else {
-        made(budget, nested.height.max(arrays.height))?
-    };
-    parts.layers.push(AbstractLayer {
-        stars,
-        arrays: arrays.tree,
-    })?;
-    Ok(Parsed {
-        tree: parts,
-        height,
-    })
-}
-
-/// Whether one star stands there, without qualifiers.
-pub fn is_one_star(stars: &[u32]) -> bool {
-    match stars {
-        [qualifiers] => *qualifiers == 0,
-        _ => false,
-    }
+    let arrays = brackets(scope, reader, budget)?;
+    let whole = layered(stars, nested, arrays, budget)?;
+    Ok(whole)
 }
 
 /// Whether an abstract declarator stands next.
@@ -220,59 +192,21 @@ fn begins_abstract(reader: &Reader<'_>) -> bool {
         || reader.is_at(Punctuator::LeftBracket)
 }
 
-/// A type name without a declarator.
-fn plain_name(
-    scope: Scope<'_>,
-    words: Parsed<Vec<TypeNameWord>>,
-) -> Result<Parsed<Box<TypeNameParts>>, Trouble> {
-    let name = TypeName {
-        words: words.tree,
-        layers: Vec::new(scope.alloc),
-    };
-    let parts = TypeNameParts {
-        name,
-        lengths: Vec::new(scope.alloc),
-    };
-    Ok(Parsed {
-        tree: Box::new(scope.alloc, parts)?,
-        height: words.height,
-    })
-}
-
-/// A type name with a declarator.
-fn declared_name(
-    scope: Scope<'_>,
-    words: Parsed<Vec<TypeNameWord>>,
-    declarator: Parsed<AbstractParts>,
-    budget: u32,
-) -> Result<Parsed<Box<TypeNameParts>>, Trouble> {
-    let height = made(budget, words.height.max(declarator.height))?;
-    let AbstractParts {
-        mut layers,
-        lengths,
-    } = declarator.tree;
-    layers.reverse();
-    let name = TypeName {
-        words: words.tree,
-        layers,
-    };
-    Ok(Parsed {
-        tree: Box::new(scope.alloc, TypeNameParts { name, lengths })?,
-        height,
-    })
-}
-
 /// A type name.
 #[cycle(expressions)]
 pub fn type_name(
     scope: Scope<'_>,
     reader: &mut Reader<'_>,
     budget: u32,
-) -> Result<Parsed<Box<TypeNameParts>>, Trouble> {
+) -> Result<Parsed<Box<TypeNameParts>>, Trouble>
+    ensures { IfOk result (λ n. FoundTypeName scope.entry.typedefs.now (type_name_view n.tree.value.name) (map tree_of n.tree.value.lengths.items) n.height reader.old reader.new) }
+{
     let words = type_name_words(scope, reader)?;
     if !begins_abstract(reader) {
-        return plain_name(scope, words);
+        let plain = plain_name(scope.alloc, words)?;
+        return Ok(plain);
     }
     let declarator = abstract_declarator(scope, reader, inner(budget)?)?;
-    declared_name(scope, words, declarator, budget)
+    let declared = declared_name(scope.alloc, words, declarator, budget)?;
+    Ok(declared)
 }

@@ -1,4 +1,8 @@
 //! Casts and unary expressions (6.5.3, 6.5.4).
+ghost use Rattle.std.specs.Prelude.{◌≡◌, ◌≤◌, IfOk};
+ghost use Rattle.c_layout.specs.SyntaxTrees.{tree_of};
+ghost use Rattle.expression_grammar.specs.Findings.{Found};
+
 use crate::expression_nodes::{cast_node, prefix_node, sizeof_node, sizeof_type_node, unary_node};
 use crate::heights::{Parsed, Trouble, inner};
 use crate::operators::{step_at, step_sign, unary_at, unary_sign};
@@ -14,7 +18,9 @@ fn sizeof_type(
     scope: Scope<'_>,
     reader: &mut Reader<'_>,
     budget: u32,
-) -> Result<Parsed<Box<Expr>>, Trouble> {
+) -> Result<Parsed<Box<Expr>>, Trouble>
+    ensures { IfOk result (λ n. Found scope.entry.typedefs.now 14 budget (tree_of n.tree.value) n.height reader.old reader.new) }
+{
     let place = reader.expect_word(Keyword::Sizeof)?;
     reader.expect(Punctuator::LeftParenthesis)?;
     let named = type_name(scope, reader, inner(budget)?)?;
@@ -28,7 +34,9 @@ fn sizeof_expression(
     scope: Scope<'_>,
     reader: &mut Reader<'_>,
     budget: u32,
-) -> Result<Parsed<Box<Expr>>, Trouble> {
+) -> Result<Parsed<Box<Expr>>, Trouble>
+    ensures { IfOk result (λ n. Found scope.entry.typedefs.now 14 budget (tree_of n.tree.value) n.height reader.old reader.new) }
+{
     let place = reader.expect_word(Keyword::Sizeof)?;
     let operand = unary(scope, reader, inner(budget)?)?;
     sizeof_node(scope.alloc, place, operand, budget)
@@ -41,7 +49,9 @@ fn step_expression(
     reader: &mut Reader<'_>,
     op: StepOp,
     budget: u32,
-) -> Result<Parsed<Box<Expr>>, Trouble> {
+) -> Result<Parsed<Box<Expr>>, Trouble>
+    ensures { IfOk result (λ n. Found scope.entry.typedefs.now 14 budget (tree_of n.tree.value) n.height reader.old reader.new) }
+{
     let place = reader.expect(step_sign(op))?;
     let operand = unary(scope, reader, inner(budget)?)?;
     prefix_node(scope.alloc, place, op, operand, budget)
@@ -54,19 +64,24 @@ fn operator_expression(
     reader: &mut Reader<'_>,
     op: UnaryOp,
     budget: u32,
-) -> Result<Parsed<Box<Expr>>, Trouble> {
+) -> Result<Parsed<Box<Expr>>, Trouble>
+    ensures { IfOk result (λ n. Found scope.entry.typedefs.now 14 budget (tree_of n.tree.value) n.height reader.old reader.new) }
+{
     let place = reader.expect(unary_sign(op))?;
     let operand = cast(scope, reader, inner(budget)?)?;
     unary_node(scope.alloc, place, op, operand, budget)
 }
 
 /// A unary-expression.
+#[tactic(auto, using(crate::proofs::Productions::as_unary))]
 #[cycle(expressions)]
 pub fn unary(
     scope: Scope<'_>,
     reader: &mut Reader<'_>,
     budget: u32,
-) -> Result<Parsed<Box<Expr>>, Trouble> {
+) -> Result<Parsed<Box<Expr>>, Trouble>
+    ensures { IfOk result (λ n. Found scope.entry.typedefs.now 14 budget (tree_of n.tree.value) n.height reader.old reader.new) }
+{
     if let Some(op) = step_at(reader.peek()) {
         return step_expression(scope, reader, op, budget);
     }
@@ -89,7 +104,9 @@ fn cast_expression(
     scope: Scope<'_>,
     reader: &mut Reader<'_>,
     budget: u32,
-) -> Result<Parsed<Box<Expr>>, Trouble> {
+) -> Result<Parsed<Box<Expr>>, Trouble>
+    ensures { IfOk result (λ n. Found scope.entry.typedefs.now 13 budget (tree_of n.tree.value) n.height reader.old reader.new) }
+{
     let place = reader.expect(Punctuator::LeftParenthesis)?;
     let named = type_name(scope, reader, inner(budget)?)?;
     reader.expect(Punctuator::RightParenthesis)?;
@@ -98,12 +115,15 @@ fn cast_expression(
 }
 
 /// A cast-expression.
+#[tactic(auto, using(crate::proofs::Productions::as_cast))]
 #[cycle(expressions)]
 pub fn cast(
     scope: Scope<'_>,
     reader: &mut Reader<'_>,
     budget: u32,
-) -> Result<Parsed<Box<Expr>>, Trouble> {
+) -> Result<Parsed<Box<Expr>>, Trouble>
+    ensures { IfOk result (λ n. Found scope.entry.typedefs.now 13 budget (tree_of n.tree.value) n.height reader.old reader.new) }
+{
     if reader.opens_type_name(scope) {
         cast_expression(scope, reader, budget)
     } else {

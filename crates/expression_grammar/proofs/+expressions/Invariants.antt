@@ -1,4 +1,6 @@
-use Rattle.std.proofs.Common.{◌+◌, ◌*◌}
+use Rattle.std.proofs.Common.{◌+◌, ◌*◌, map}
+use Rattle.c_layout.specs.SyntaxTrees.{tree_of}
+use Rattle.expression_grammar.specs.Findings.{Found, FoundSome, FoundArrays, Climbs}
 use Rattle.expression_grammar.proofs.+expressions.Given as goal
 
 abbrev pub decreases-expressions::expression : goal.decreases-expressions::expression
@@ -53,7 +55,10 @@ abbrev pub decreases-type_names::nested_abstract : goal.decreases-type_names::ne
 decreases-type_names::nested_abstract l = 32 * l.budget + 0
 
 abbrev pub decreases-type_names::brackets : goal.decreases-type_names::brackets
-decreases-type_names::brackets l = 32 * l.budget + 0
+decreases-type_names::brackets l = 32 * l.budget + 1
+
+abbrev pub decreases-type_names::bracket_pair : goal.decreases-type_names::bracket_pair
+decreases-type_names::bracket_pair l = 32 * l.budget + 0
 
 abbrev pub decreases-expressions::binary : goal.decreases-expressions::binary
 decreases-expressions::binary l = 32 * l.budget + 8
@@ -69,3 +74,18 @@ decreases-unary_expressions::sizeof_type l = 32 * l.budget + 0
 
 abbrev pub decreases-unary_expressions::sizeof_expression : goal.decreases-unary_expressions::sizeof_expression
 decreases-unary_expressions::sizeof_expression l = 32 * l.budget + 0
+
+abbrev pub invariant-expressions::binary-loop-turn : goal.invariant-expressions::binary-loop-turn
+invariant-expressions::binary-loop-turn l = Climbs l.scope.typedefs.now l.level l.budget (tree_of l.left.tree.value) l.left.height l.fn.reader l.reader
+
+abbrev pub invariant-expressions::expression-loop-turn : goal.invariant-expressions::expression-loop-turn
+invariant-expressions::expression-loop-turn l = Found l.scope.typedefs.now 0 l.budget (tree_of l.found.tree.value) l.found.height l.fn.reader l.reader
+
+abbrev pub invariant-postfix_expressions::postfix-loop-turn : goal.invariant-postfix_expressions::postfix-loop-turn
+invariant-postfix_expressions::postfix-loop-turn l = Found l.scope.typedefs.now 15 l.budget (tree_of l.found.tree.value) l.found.height l.fn.reader l.reader
+
+abbrev pub invariant-postfix_expressions::some_arguments-loop-turn : goal.invariant-postfix_expressions::some_arguments-loop-turn
+invariant-postfix_expressions::some_arguments-loop-turn l = FoundSome l.scope.typedefs.now l.budget (map tree_of l.found.items) l.height l.fn.reader l.reader
+
+abbrev pub invariant-type_names::brackets-loop-turn : goal.invariant-type_names::brackets-loop-turn
+invariant-type_names::brackets-loop-turn l = FoundArrays l.scope.typedefs.now l.parts.arrays.items (map tree_of l.parts.lengths.items) l.height l.fn.reader l.reader
