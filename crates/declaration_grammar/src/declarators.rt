@@ -85,7 +85,7 @@ fn core(
         return enclosed(scope, reader, budget);
     }
     let name = if reader.is_at_identifier(scope) {
-        Some(reader.take_name(scope.alloc)?)
+        Some(reader.identifier(scope)?)
     } else {
         None
     };

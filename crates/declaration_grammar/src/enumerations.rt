@@ -6,7 +6,7 @@ use token_classes::{Keyword, Punctuator};
 /// The tag that stands next, if one does.
 pub fn optional_tag(scope: Scope<'_>, reader: &mut Reader<'_>) -> Result<Option<Name>, Trouble> {
     if reader.is_at_identifier(scope) {
-        Ok(Some(reader.take_name(scope.alloc)?))
+        Ok(Some(reader.identifier(scope)?))
     } else {
         Ok(None)
     }

@@ -10,7 +10,7 @@ use token_classes::{Keyword, Punctuator, Symbol};
 fn count_word(counts: &mut SpecifierCounts, word: &SpecWord) {
     match word {
         SpecWord::Storage(_, _) => counts.add_storage(),
-        SpecWord::Qualifier(_) => counts.add_qualifier(),
+        SpecWord::Qualifier(_) => {}
         SpecWord::Type(_, named) => counts.add_type(*named),
         _ => counts.add_other(),
     }
@@ -94,7 +94,7 @@ fn plain_word(reader: &mut Reader<'_>, word: Keyword) -> Parsed<SpecWord> {
 
 /// A typedef name.
 fn typedef_name(scope: Scope<'_>, reader: &mut Reader<'_>) -> Result<Parsed<SpecWord>, Trouble> {
-    let tree = SpecWord::Typedef(reader.take_name(scope.alloc)?);
+    let tree = SpecWord::Typedef(reader.typedef_name(scope)?);
     Ok(Parsed { tree, height: 0 })
 }
 
@@ -150,7 +150,7 @@ fn listed(
     if !counts.is_one_type() {
         return Err(Trouble::Syntax);
     }
-    let height = if counts.is_one_word() {
+    let height = if words.len() == 1 {
         parts
     } else {
         made(budget, parts)?

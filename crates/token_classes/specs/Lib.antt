@@ -1,2 +1,6 @@
+pub mod CharacterCodes
+pub mod Classes
+pub mod ConstantTypes
+pub mod IntegerForms
 pub mod Keywords
 pub mod Punctuators

@@ -1,13 +1,17 @@
 //! Characters and escapes of character constants and string literals (6.4.4.4, 6.4.5).
-ghost use Rattle.std.specs.Prelude.{◌≤◌, length, IfSome};
+ghost use Rattle.std.specs.Prelude.{◌≡◌, ◌≤◌, length, MatchOption, IfOk, map};
+ghost use Rattle.std.specs.Option.{option_map};
+ghost use Rattle.token_classes.specs.CharacterCodes.{simple_escape, numeric_escape, escape, first_character, inside, code_constant, character_constant, literal_bytes, character_at};
 
-use crate::integer_forms::{Radix, digit_count, magnitude};
+use crate::integer_forms::{digit_count, magnitude};
 use c_layout::{Constant, Model};
 use cc_base::{IntType, Text};
 use std::alloc::{AllocError, Global};
 
 /// The code of a simple escape.
-fn simple_escape(b: u8) -> Option<u8> {
+fn simple_escape(b: u8) -> Option<u8>
+    ensures { result ≡ simple_escape b }
+{
     match b {
         b'\'' | b'"' | b'?' | b'\\' => Some(b),
         b'a' => Some(7),
@@ -29,34 +33,40 @@ pub struct Character<'a> {
 }
 
 /// A numeric escape of at most `most` digits.
-fn numeric_escape(radix: Radix, most: usize, text: &[u8]) -> Option<Character<'_>> {
-    let count = digit_count(radix, text).min(most);
+fn numeric_escape(base: u8, most: usize, text: &[u8]) -> Option<Character<'_>>
+    ensures { option_map character_at result ≡ numeric_escape base most text.now }
+{
+    let count = digit_count(base, text).min(most);
     if count == 0 {
         return None;
     }
     let (digits, rest) = text.split_at(count);
-    let value = magnitude(radix, digits)?;
-    Some(Character {
-        code: u8::try_from(value).ok()?,
-        rest,
-    })
+    let value = magnitude(base, digits)?;
+    match u8::try_from(value) {
+        Ok(code) => Some(Character { code, rest }),
+        Err(_) => None,
+    }
 }
 
 /// An escape, behind its backslash.
-fn escape(text: &[u8]) -> Option<Character<'_>> {
+fn escape(text: &[u8]) -> Option<Character<'_>>
+    ensures { option_map character_at result ≡ escape text.now }
+{
     match text {
-        [b'x', rest @ ..] => numeric_escape(Radix::Hexadecimal, rest.len(), rest),
-        [b'0'..=b'7', ..] => numeric_escape(Radix::Octal, 3, text),
-        [first, rest @ ..] => Some(Character {
-            code: simple_escape(*first)?,
-            rest,
-        }),
+        [b'x', rest @ ..] => numeric_escape(16, rest.len(), rest),
+        [b'0'..=b'7', ..] => numeric_escape(8, 3, text),
+        [first, rest @ ..] => {
+            let code = simple_escape(*first)?;
+            Some(Character { code, rest })
+        }
         [] => None,
     }
 }
 
 /// The character at the front; None at the end, and where an escape is not in.
-fn first_character(text: &[u8]) -> Option<Character<'_>> {
+fn first_character(text: &[u8]) -> Option<Character<'_>>
+    ensures { option_map character_at result ≡ first_character text.now }
+{
     match text {
         [b'\\', rest @ ..] => escape(rest),
         [first, rest @ ..] => Some(Character { code: *first, rest }),
@@ -65,23 +75,22 @@ fn first_character(text: &[u8]) -> Option<Character<'_>> {
 }
 
 /// A text without its first and its last byte.
-fn inside(text: &[u8]) -> &[u8] {
+fn inside(text: &[u8]) -> &[u8]
+    ensures { result.now ≡ inside text.now }
+{
     match text {
         [_, inner @ .., _] => inner,
         _ => &[],
     }
 }
 
-/// The character constant that is spelled so, with its quotes; None where it is not one character,
-/// or an escape that is not in. Its type is int (6.4.4.4p10).
-pub fn character_constant(model: &Model, text: &[u8]) -> Option<Constant> {
-    let found = first_character(inside(text))?;
-    if !found.rest.is_empty() {
-        return None;
-    }
-    let negative = model.char_signed && found.code > 127;
-    let code = u64::from(found.code);
-    Some(Constant {
+/// A character constant by its code. Its type is int (6.4.4.4p10).
+fn code_constant(model: &Model, code: u8) -> Constant
+    ensures { result ≡ code_constant model.now code }
+{
+    let negative = model.char_signed && code > 127;
+    let code = u64::from(code);
+    Constant {
         value: if negative { 256 - code } else { code },
         negative,
         kind: IntType {
@@ -89,7 +98,20 @@ pub fn character_constant(model: &Model, text: &[u8]) -> Option<Constant> {
             signed: true,
             rank: 3,
         },
-    })
+    }
+}
+
+/// The character constant that is spelled so, with its quotes; None where it is not one character,
+/// or an escape that is not in.
+pub fn character_constant(model: &Model, text: &[u8]) -> Option<Constant>
+    ensures { result ≡ character_constant model.now text.now }
+{
+    let found = first_character(inside(text))?;
+    if found.rest.is_empty() {
+        Some(code_constant(model, found.code))
+    } else {
+        None
+    }
 }
 
 /// The bytes that a string literal with its quotes stands for; None where an escape is not in.
@@ -97,7 +119,9 @@ pub fn character_constant(model: &Model, text: &[u8]) -> Option<Constant> {
 /// # Errors
 ///
 /// Want of memory.
-pub fn literal_bytes(alloc: Global, text: &[u8]) -> Result<Option<Text>, AllocError> {
+pub fn literal_bytes(alloc: Global, text: &[u8]) -> Result<Option<Text>, AllocError>
+    ensures { IfOk result (λ found. found ≡ literal_bytes text.now) }
+{
     let mut bytes = Text::new(alloc);
     let mut rest = inside(text);
     for _turn in 0..text.len() {

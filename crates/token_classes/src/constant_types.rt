@@ -1,13 +1,15 @@
 //! The type of an integer constant: the first of the list of 6.4.4.1 that has its value.
-use crate::integer_forms::{Radix, Spelled, read_integer};
+ghost use Rattle.std.specs.Prelude.{◌≡◌};
+ghost use Rattle.token_classes.specs.ConstantTypes.{bytes_of, greatest, fitting, is_listed, of_rank, type_of, integer_constant};
+
+use crate::integer_forms::{Spelled, read_integer};
 use c_layout::{Constant, Model};
 use cc_base::IntType;
 
-/// The conversion ranks of int, long and long long.
-const RANKS: [u8; 3] = [3, 4, 5];
-
-/// The size of the type of a rank.
-fn bytes_of(model: &Model, rank: u8) -> u8 {
+/// The size of the type of a rank: 3 for int, 4 for long, 5 for long long.
+fn bytes_of(model: &Model, rank: u8) -> u8
+    ensures { result ≡ bytes_of model.now rank }
+{
     match rank {
         3 => model.int,
         4 => model.long,
@@ -16,7 +18,9 @@ fn bytes_of(model: &Model, rank: u8) -> u8 {
 }
 
 /// The greatest number of an integer type.
-fn greatest(bytes: u8, signed: bool) -> u64 {
+fn greatest(bytes: u8, signed: bool) -> u64
+    ensures { result ≡ greatest bytes signed }
+{
     match (bytes, signed) {
         (1, true) => 0x7f,
         (1, false) => 0xff,
@@ -30,7 +34,9 @@ fn greatest(bytes: u8, signed: bool) -> u64 {
 }
 
 /// The signed or unsigned type of a rank, where it has the value.
-fn fitting(model: &Model, rank: u8, signed: bool, value: u64) -> Option<IntType> {
+fn fitting(model: &Model, rank: u8, signed: bool, value: u64) -> Option<IntType>
+    ensures { result ≡ fitting model.now rank signed value }
+{
     let bytes = bytes_of(model, rank);
     if value <= greatest(bytes, signed) {
         return Some(IntType {
@@ -43,7 +49,9 @@ fn fitting(model: &Model, rank: u8, signed: bool, value: u64) -> Option<IntType>
 }
 
 /// Whether the types of a rank stand in the list of a suffix.
-fn is_listed(longs: u8, rank: u8) -> bool {
+fn is_listed(longs: u8, rank: u8) -> bool
+    ensures { result ≡ is_listed longs rank }
+{
     match longs {
         0 => true,
         1 => rank >= 4,
@@ -51,35 +59,47 @@ fn is_listed(longs: u8, rank: u8) -> bool {
     }
 }
 
-/// The type of an integer constant; None where no type of its list has its value.
-fn type_of(model: &Model, constant: Spelled) -> Option<IntType> {
-    let may_be_signed = !constant.suffix.is_unsigned;
-    let may_be_unsigned = constant.suffix.is_unsigned || constant.radix != Radix::Decimal;
-    for rank in RANKS {
-        if !is_listed(constant.suffix.longs, rank) {
-            continue;
+/// The type of a rank that the list has and that has the value. The signed one goes first.
+fn of_rank(model: &Model, constant: Spelled, rank: u8) -> Option<IntType>
+    ensures { result ≡ of_rank model.now constant rank }
+{
+    if !is_listed(constant.suffix.longs, rank) {
+        return None;
+    }
+    if !constant.suffix.is_unsigned {
+        if let Some(kind) = fitting(model, rank, true, constant.value) {
+            return Some(kind);
         }
-        if may_be_signed {
-            if let Some(kind) = fitting(model, rank, true, constant.value) {
-                return Some(kind);
-            }
-        }
-        if may_be_unsigned {
-            if let Some(kind) = fitting(model, rank, false, constant.value) {
-                return Some(kind);
-            }
-        }
+    }
+    if constant.suffix.is_unsigned || constant.base != 10 {
+        return fitting(model, rank, false, constant.value);
     }
     None
 }
 
+/// The type of an integer constant; None where no type of its list has its value.
+fn type_of(model: &Model, constant: Spelled) -> Option<IntType>
+    ensures { result ≡ type_of model.now constant }
+{
+    if let Some(kind) = of_rank(model, constant, 3) {
+        return Some(kind);
+    }
+    if let Some(kind) = of_rank(model, constant, 4) {
+        return Some(kind);
+    }
+    of_rank(model, constant, 5)
+}
+
 /// The integer constant that is spelled so, with its type; None where its form is not in or no type
 /// has its value.
-pub fn integer_constant(model: &Model, text: &[u8]) -> Option<Constant> {
+pub fn integer_constant(model: &Model, text: &[u8]) -> Option<Constant>
+    ensures { result ≡ integer_constant model.now text.now }
+{
     let constant = read_integer(text)?;
+    let kind = type_of(model, constant)?;
     Some(Constant {
         value: constant.value,
         negative: false,
-        kind: type_of(model, constant)?,
+        kind,
     })
 }

@@ -1,0 +1,112 @@
+-- Parameters, the declarators of functions (6.7.6.3), and declarations (6.7).
+use Rattle.std.specs.Prelude.{◌≡◌, ◌+◌, ℕ, Bool, true, false, max, List, [], ◌∷◌, Option, Some, None, is_some}
+use Rattle.std.specs.List.{list_all}
+use Rattle.cc_base.specs.declared.diagnostics.Place.{Place}
+use Rattle.c_layout.specs.DeclarationTrees.{NameView, DeclaratorView, ParameterView, ParametersView, NoParameters, OnlyVoid, ParameterList, FunctionDeclaratorView, InitDeclaratorView, Object, Initialized, Prototype, LocalView, SpecTree, StorageWord, TypeOf, StructBody, EnumBody, spec_trees}
+use Rattle.c_layout.specs.declared.syntax_tree.declarations.Storage.TheVariants as storage
+use Rattle.c_layout.specs.declared.syntax_tree.declarations.TypeWord.TheVariants as type_word
+use Rattle.token_classes.specs.declared.terminals.Terminal.{Terminal}
+use Rattle.token_classes.specs.declared.terminals.Keyword.TheVariants as k
+use Rattle.token_classes.specs.declared.terminals.Punctuator.TheVariants as p
+use Rattle.expression_grammar.specs.Fronts.{first_place, IsSign, IsWord, IsName}
+use Rattle.expression_grammar.specs.TypeNames.{Stars}
+use Rattle.declaration_grammar.specs.Declarators.{IsDeclarator, declarator_height}
+use Rattle.declaration_grammar.specs.Initializers.{DeriveInitializer, initializer_height}
+use Rattle.declaration_grammar.specs.Lists.{Listed, highest}
+use Rattle.declaration_grammar.specs.Specifiers.{IsSpec, IsNamed, spec_height}
+
+-- a declarator or an abstract one, or nothing
+abbrev pub Optional : List (List ℕ) → Option DeclaratorView → List Terminal → List Terminal → Type 0
+Optional known None ts rest = rest ≡ ts
+Optional known (Some d) ts rest = IsDeclarator known d ts rest
+
+pub record IsParameter (known : List (List ℕ)) (parameter : ParameterView) (ts rest : List Terminal) : Type 0 where
+  pub behind : List Terminal
+  pub place : parameter.at ≡ first_place ts
+  pub spec : IsSpec known (spec_trees parameter.words) ts behind
+  pub declarator : Optional known parameter.declarator behind rest
+
+-- specifiers alone add nothing to the height
+abbrev pub parameter_by : ℕ → Option DeclaratorView → ℕ
+parameter_by words None = words
+parameter_by words (Some d) = max words (declarator_height d) + 1
+
+abbrev pub parameter_height : ParameterView → ℕ
+parameter_height parameter = parameter_by (spec_height (spec_trees parameter.words)) parameter.declarator
+
+abbrev pub is_only_void : List SpecTree → Option DeclaratorView → Bool
+is_only_void (TypeOf at type_word.Void ∷ []) None = true
+is_only_void _ _ = false
+
+-- the one word `void`, which is no parameter
+abbrev pub is_lone_void : List ParameterView → Bool
+is_lone_void (parameter ∷ []) = is_only_void parameter.words parameter.declarator
+is_lone_void _ = false
+
+-- what stands between the parentheses
+abbrev pub Parameters : List (List ℕ) → ParametersView → List Terminal → List Terminal → Type 0
+Parameters known NoParameters ts rest = rest ≡ ts
+Parameters known OnlyVoid ts rest = IsWord k.Void ts rest
+Parameters known (ParameterList items) ts rest = (is_lone_void items ≡ false) × Listed (IsParameter known) items ts rest
+
+-- one parameter alone adds nothing to the height
+abbrev pub list_height : List ParameterView → ℕ
+list_height (parameter ∷ []) = parameter_height parameter
+list_height items = highest parameter_height items + 1
+
+abbrev pub parameters_height : ParametersView → ℕ
+parameters_height NoParameters = 0
+parameters_height OnlyVoid = 0
+parameters_height (ParameterList items) = list_height items
+
+-- the declarator of a function
+pub record IsFunction (known : List (List ℕ)) (f : FunctionDeclaratorView) (ts rest : List Terminal) : Type 0 where
+  pub behind_stars : List Terminal
+  pub behind_name : List Terminal
+  pub inside : List Terminal
+  pub last : List Terminal
+  pub stars : Stars f.stars ts behind_stars
+  pub name : IsName known f.name.at f.name.text behind_stars behind_name
+  pub opens : IsSign p.LeftParenthesis behind_name inside
+  pub parameters : Parameters known f.parameters inside last
+  pub closes : IsSign p.RightParenthesis last rest
+
+abbrev pub function_height : FunctionDeclaratorView → ℕ
+function_height f = parameters_height f.parameters + 1
+
+-- a declarator of an object with its initializer, if it has one
+abbrev pub Initializes : List (List ℕ) → InitDeclaratorView → List Terminal → List Terminal → Type 0
+Initializes known (Object d) ts rest = IsNamed known d ts rest
+Initializes known (Initialized d equals i) ts rest = (a b : List Terminal) × IsNamed known d ts a × (equals ≡ first_place a) × IsSign p.Assign a b × DeriveInitializer i known b rest
+Initializes known (Prototype f) ts rest = ⊥
+
+-- in a block a declarator with an initializer is no production of its own
+abbrev pub local_init_height : InitDeclaratorView → ℕ
+local_init_height (Object d) = declarator_height d
+local_init_height (Initialized d equals i) = max (declarator_height d) (initializer_height i)
+local_init_height (Prototype f) = function_height f
+
+-- a word that may stand in a block: no `typedef`, no `extern`, and no body
+abbrev pub is_local_word : SpecTree → Bool
+is_local_word (StorageWord at storage.Typedef) = false
+is_local_word (StorageWord at storage.Extern) = false
+is_local_word (StructBody at tag members) = false
+is_local_word (EnumBody at tag enumerators) = false
+is_local_word _ = true
+
+abbrev pub LocalDeclarators : List (List ℕ) → List InitDeclaratorView → List Terminal → List Terminal → Type 0
+LocalDeclarators known [] ts rest = rest ≡ ts
+LocalDeclarators known (d ∷ ds) ts rest = Listed (Initializes known) (d ∷ ds) ts rest
+
+-- a declaration in a block or in a `for`
+pub record IsLocal (known : List (List ℕ)) (l : LocalView) (ts rest : List Terminal) : Type 0 where
+  pub behind : List Terminal
+  pub last : List Terminal
+  pub place : l.at ≡ first_place ts
+  pub spec : IsSpec known (spec_trees l.words) ts behind
+  pub local : list_all is_local_word l.words ≡ true
+  pub declarators : LocalDeclarators known l.declarators behind last
+  pub ends : IsSign p.Semicolon last rest
+
+abbrev pub local_height : LocalView → ℕ
+local_height l = max (spec_height (spec_trees l.words)) (highest local_init_height l.declarators) + 1
