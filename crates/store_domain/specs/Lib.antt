@@ -1,6 +1,7 @@
 pub mod ScalarTypes
 pub mod ClassNumbers
 pub mod Walks
+pub mod TurnLaws
 pub mod NearValues
 pub mod RowPositions
 pub mod AccessWindows
@@ -16,3 +17,4 @@ pub mod Spelling
 pub mod Freeing
 pub mod Allocations
 pub mod RowLengths
+pub mod StructZeros

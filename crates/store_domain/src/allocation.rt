@@ -181,7 +181,7 @@ fn join_state<I: IntDomain>(new: &BaseInfo, old: &BaseInfo, row: &mut [Cell<I>])
     put_state(row, state_position(old), state);
 }
 
-#[tactic(auto, using(crate::proofs::Turning::turns_next), unfolding(crate::specs::Allocations::join_values))]
+#[tactic(auto, using(crate::specs::TurnLaws::turns_next), unfolding(crate::specs::Allocations::join_values))]
 fn join_values<I: IntDomain>(new: &BaseInfo, old: &BaseInfo, row: &mut [Cell<I>])
     ensures length { length row.new ≡ length row.old }
     ensures row { row.new ≡ join_values I.lattice I.numbers new.now old.now row.old }
@@ -200,7 +200,7 @@ fn join_cell<I: IntDomain>(new: &BaseInfo, old: &BaseInfo, at: usize, row: &mut 
     join_value(row, leaf_position(old, at), value);
 }
 
-#[tactic(auto, using(crate::proofs::Turning::turns_next), unfolding(crate::specs::Allocations::join_zeros))]
+#[tactic(auto, using(crate::specs::TurnLaws::turns_next), unfolding(crate::specs::Allocations::join_zeros))]
 fn join_zeros<I: IntDomain>(new: &BaseInfo, old: &BaseInfo, row: &mut [Cell<I>])
     ensures length { length row.new ≡ length row.old }
     ensures row { row.new ≡ join_zeros I.lattice I.numbers new.now old.now row.old }
@@ -358,7 +358,7 @@ fn fresh_leaves<I: IntDomain>(
     }
 }
 
-#[tactic(auto, using(crate::proofs::Turning::turns_next), unfolding(crate::specs::Allocations::fresh_classes))]
+#[tactic(auto, using(crate::specs::TurnLaws::turns_next), unfolding(crate::specs::Allocations::fresh_classes))]
 fn fresh_classes<I: IntDomain>(
     bases: &[BaseInfo],
     row: &mut [Cell<I>],

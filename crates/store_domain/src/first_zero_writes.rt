@@ -252,7 +252,7 @@ pub fn forget_zeros<I: IntDomain>(base: &BaseInfo, row: &mut [Cell<I>], window: 
 }
 
 /// Each first zero of the base is this one.
-#[tactic(auto, using(crate::proofs::Turning::turns_next), unfolding(crate::specs::FirstZeroWrites::set_zeros))]
+#[tactic(auto, using(crate::specs::TurnLaws::turns_next), unfolding(crate::specs::FirstZeroWrites::set_zeros))]
 pub fn set_zeros<I: IntDomain>(base: &BaseInfo, row: &mut [Cell<I>], zero: FirstZero<I>)
     ensures length { length row.new ≡ length row.old }
     ensures row { row.new ≡ set_zeros base.now zero row.old }

@@ -28,7 +28,7 @@ pub use base_shapes::shape;
 pub use byte_writes::{byte_written, labelled_null, null_pointer};
 pub use cell_reads::{Access, as_read, byte_read, joined, whole_range};
 pub use cell_writes::write_value;
-pub use class_numbers::class_number;
+pub use class_numbers::{class_at, class_number, is_pointer, same_class};
 pub use first_zero_writes::{
     ZeroTarget, any_zero, covering_part, forget_zeros, is_determinate_before, no_zero, offsets_of,
     put_character, set_zeros, zero_first, zero_target,

@@ -297,7 +297,7 @@ fn load_padding<I: IntDomain>(model: &Model, base: &BaseInfo, access: Access) ->
 }
 
 /// The class cells of all classes but that of characters, which is the first.
-#[tactic(auto, using(crate::proofs::Turning::turns_next), unfolding(crate::specs::Loads::load_other_class_cells))]
+#[tactic(auto, using(crate::specs::TurnLaws::turns_next), unfolding(crate::specs::Loads::load_other_class_cells))]
 fn load_other_class_cells<I: IntDomain>(
     model: &Model,
     base: &BaseInfo,

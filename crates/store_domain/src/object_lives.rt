@@ -14,7 +14,7 @@ use string_domain::FirstZero;
 use value_domain::{Cell, Labels, Value};
 
 /// Each cell of the base, class cells too, has this value.
-#[tactic(auto, using(crate::proofs::Turning::turns_next), unfolding(crate::specs::ObjectLives::set_values))]
+#[tactic(auto, using(crate::specs::TurnLaws::turns_next), unfolding(crate::specs::ObjectLives::set_values))]
 pub fn set_values<I: IntDomain>(base: &BaseInfo, row: &mut [Cell<I>], value: Value<I>)
     ensures length { length row.new ≡ length row.old }
     ensures row { row.new ≡ set_values base.now value row.old }

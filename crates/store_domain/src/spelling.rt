@@ -199,7 +199,7 @@ fn begins_at(leaf: Leaf, offset: u64) -> bool
 }
 
 /// The least value that has each character written to a place of the leaf.
-#[tactic(auto, using(crate::proofs::Turning::turns_next), unfolding(crate::specs::Spelling::hull))]
+#[tactic(auto, using(crate::specs::TurnLaws::turns_next), unfolding(crate::specs::Spelling::hull))]
 fn hull<I: IntDomain>(leaf: Leaf, offset: u64, count: u64, text: &[u8]) -> I
     ensures { result ≡ hull I.lattice I.numbers leaf offset count text.now }
 {

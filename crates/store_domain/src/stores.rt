@@ -431,7 +431,7 @@ fn store_other_leaf<I: IntDomain>(
 }
 
 /// Stores a character to bytes of the class cells of all classes but that of characters.
-#[tactic(auto, using(crate::proofs::Turning::turns_next), unfolding(crate::specs::Stores::store_other_classes))]
+#[tactic(auto, using(crate::specs::TurnLaws::turns_next), unfolding(crate::specs::Stores::store_other_classes))]
 fn store_other_classes<I: IntDomain>(
     model: &Model,
     base: &BaseInfo,
