@@ -1,0 +1,4 @@
+pub mod Complete
+pub mod Sound
+pub mod Evaluating
+pub mod Expressions

@@ -1,5 +1,5 @@
 -- Integer constants and character constants of a condition (6.4.4.1, 6.4.4.4).
-use Rattle.std.specs.Prelude.{◌≡◌, refl, codes, ℕ, ◌+◌, ◌-◌, ◌*◌, ◌^◌, ℤ, pos, ◌-ℤ◌, Bool, true, false, ◌||◌, ◌&&◌, ◌==◌, cond, nat_le, nat_lt, Option, Some, None, List, [], ◌∷◌, length, take, drop, option_and_then}
+use Rattle.std.specs.Prelude.{◌≡◌, refl, codes, ℕ, ◌+◌, ◌-◌, ◌*◌, ◌^◌, pos, Bool, true, false, ◌||◌, ◌&&◌, ◌==◌, cond, nat_le, nat_lt, Option, Some, None, List, [], ◌∷◌, length, take, drop, option_and_then}
 use Rattle.directive_conditions.specs.declared.condition_value.Number.{Number}
 use Rattle.directive_conditions.specs.declared.condition_value.Number.TheVariants.{Signed, Unsigned}
 
