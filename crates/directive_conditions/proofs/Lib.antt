@@ -2,3 +2,4 @@ pub mod Complete
 pub mod Sound
 pub mod Evaluating
 pub mod Expressions
+pub mod Lines

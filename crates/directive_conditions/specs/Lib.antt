@@ -5,3 +5,4 @@ pub mod Arithmetic
 pub mod Expressions
 pub mod Reading
 pub mod Readings
+pub mod Lines

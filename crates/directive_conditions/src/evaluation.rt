@@ -1,7 +1,8 @@
 //! Evaluates a condition with a stack of what is open, and no recursion.
 
-ghost use Rattle.std.specs.Prelude.{◌≡◌, List, [], Some, None, IfOk};
+ghost use Rattle.std.specs.Prelude.{◌≡◌, List, [], Some, None, Ok, IfOk};
 ghost use Rattle.directive_conditions.specs.Expressions.{IsExpression};
+ghost use Rattle.directive_conditions.specs.Lines.{symbol_of, symbols_of, decided, HoldsBy, Collects, Adds};
 ghost use Rattle.directive_conditions.specs.Reading.{prefixed, reduced, closed, prefix_read, begun, infix_read, gone_on, step, ended, run};
 ghost use Rattle.directive_conditions.specs.Readings.{Reads, Answers, Evaluates};
 
@@ -282,21 +283,61 @@ pub fn one_value()
     ensures { (ts : List Symbol) (v w : Value) → IsExpression ts v → IsExpression ts w → v ≡ w }
 {}
 
+/// Adds what a token is in a condition.
+fn push_symbol(
+    spellings: &Spellings,
+    char_signed: bool,
+    x: Lexeme,
+    symbols: &mut Vec<Symbol>,
+) -> Result<(), ConditionFault>
+    ensures { Adds (symbol_of spellings.now char_signed x) symbols.old.items symbols.new.items result }
+{
+    match symbol_of(spellings, char_signed, x) {
+        Ok(next) => {
+            symbols.push(next)?;
+            Ok(())
+        }
+        Err(place) => Err(ConditionFault::NumberForm(place)),
+    }
+}
+
 /// The symbols of a condition.
 fn symbols_of(
     alloc: Global,
     spellings: &Spellings,
     char_signed: bool,
     line: &[Lexeme],
-) -> Result<Vec<Symbol>, ConditionFault> {
+) -> Result<Vec<Symbol>, ConditionFault>
+    ensures { Collects (symbols_of spellings.now char_signed line.now) result }
+{
     let mut symbols = Vec::new(alloc);
     for x in line {
-        match symbol_of(spellings, char_signed, *x) {
-            Ok(next) => symbols.push(next)?,
-            Err(place) => return Err(ConditionFault::NumberForm(place)),
+        match push_symbol(spellings, char_signed, *x, &mut symbols) {
+            Ok(()) => {}
+            Err(fault) => return Err(fault),
         }
     }
     Ok(symbols)
+}
+
+/// Whether a value is not 0, if its computation is defined.
+fn decided(value: Value) -> Result<bool, ConditionFault>
+    ensures { result ≡ decided value }
+{
+    if value.faulty {
+        return Err(ConditionFault::Malformed);
+    }
+    Ok(!value.number.is_zero())
+}
+
+/// Whether an expression is not 0.
+fn truth_of(alloc: Global, symbols: &[Symbol]) -> Result<bool, ConditionFault>
+    ensures { HoldsBy (Ok symbols.now) result }
+{
+    match value_of(alloc, symbols) {
+        Ok(value) => decided(value),
+        Err(fault) => Err(fault),
+    }
 }
 
 /// Whether a condition, whose macros are expanded, is not 0.
@@ -311,11 +352,11 @@ pub fn holds(
     spellings: &Spellings,
     char_signed: bool,
     line: &[Lexeme],
-) -> Result<bool, ConditionFault> {
-    let symbols = symbols_of(alloc, spellings, char_signed, line)?;
-    let value = value_of(alloc, symbols.as_slice())?;
-    if value.faulty {
-        return Err(ConditionFault::Malformed);
+) -> Result<bool, ConditionFault>
+    ensures { HoldsBy (symbols_of spellings.now char_signed line.now) result }
+{
+    match symbols_of(alloc, spellings, char_signed, line) {
+        Ok(symbols) => truth_of(alloc, symbols.as_slice()),
+        Err(fault) => Err(fault),
     }
-    Ok(!value.number.is_zero())
 }
