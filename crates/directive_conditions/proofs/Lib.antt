@@ -1,0 +1,5 @@
+pub mod Complete
+pub mod Sound
+pub mod Evaluating
+pub mod Expressions
+pub mod Lines

@@ -1,5 +1,5 @@
 -- The arithmetic of conditions (6.5.3 to 6.5.14) in 64 bits: what the operators give, and where they have no result.
-use Rattle.std.specs.Prelude.{ℕ, ◌+◌, ◌-◌, ◌*◌, ◌^◌, ◌%◌, ◌/◌, ◌==◌, ℤ, pos, negsuc, ◌+ℤ◌, ◌-ℤ◌, ◌*ℤ◌, Bool, not, ◌&&◌, cond, int_le, int_lt, nat_le, nat_lt, int_div, int_rem, neg_ℤ, unsigned_abs, true, false, Option, Some, None}
+use Rattle.std.specs.Prelude.{ℕ, ◌+◌, ◌-◌, ◌*◌, ◌^◌, ◌%◌, ◌/◌, ◌==◌, ℤ, pos, negsuc, ◌+ℤ◌, ◌-ℤ◌, ◌*ℤ◌, not, ◌&&◌, cond, int_le, int_lt, nat_le, nat_lt, int_div, int_rem, neg_ℤ, unsigned_abs, true, false, Option, Some, None}
 use Rattle.std.specs.Ordering.{int_eq}
 use Rattle.std.specs.Int.{w64, int_bit_and, int_bit_or, int_bit_xor, int_bit_not, bit_not, int_shr}
 use Rattle.std.specs.Int.Bits.{bit_and, bit_or, bit_xor}

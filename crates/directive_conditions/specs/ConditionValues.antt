@@ -1,5 +1,5 @@
 -- The values of a condition: numbers of intmax_t and uintmax_t, of 64 bits, and faults (6.10.1p4).
-use Rattle.std.specs.Prelude.{ℕ, ◌^◌, ℤ, pos, Bool, true, false, ◌||◌, ◌&&◌, ◌==◌, cond, int_le, int_lt, neg_ℤ, nat_le, not, Option, Some, None, length}
+use Rattle.std.specs.Prelude.{ℕ, ℤ, pos, Bool, true, false, ◌||◌, ◌==◌, cond, not, Option, Some, None}
 use Rattle.std.specs.Ordering.{int_eq}
 use Rattle.std.specs.Int.{w64, cast_unsigned}
 use Rattle.directive_conditions.specs.declared.condition_value.Number.{Number}

@@ -1,5 +1,5 @@
 -- Integer constants and character constants of a condition (6.4.4.1, 6.4.4.4).
-use Rattle.std.specs.Prelude.{◌≡◌, refl, codes, ℕ, ◌+◌, ◌-◌, ◌*◌, ◌^◌, ℤ, pos, ◌-ℤ◌, Bool, true, false, ◌||◌, ◌&&◌, ◌==◌, cond, nat_le, nat_lt, Option, Some, None, List, [], ◌∷◌, length, take, drop, option_and_then}
+use Rattle.std.specs.Prelude.{◌≡◌, refl, codes, ℕ, ◌+◌, ◌-◌, ◌*◌, ◌^◌, ℤ, pos, ◌-ℤ◌, Bool, true, false, ◌||◌, ◌&&◌, ◌==◌, cond, nat_le, nat_lt, Option, Some, None, List, [], ◌∷◌, length, take, drop, option_and_then, option_map, slice_index}
 use Rattle.directive_conditions.specs.declared.condition_value.Number.{Number}
 use Rattle.directive_conditions.specs.declared.condition_value.Number.TheVariants.{Signed, Unsigned}
 
@@ -101,6 +101,27 @@ escape_code (b ∷ s) =
 abbrev pub character_code : List ℕ → Option ℕ
 character_code [] = None
 character_code (b ∷ s) = cond (b == 92) (escape_code s) (cond (is_empty s) (Some b) None)
+
+-- what stands before a quote at the end
+abbrev pub before_quote : List ℕ → Option (List ℕ)
+before_quote s = cond (nat_lt 0 (length s) && (slice_index s (length s - 1) == 39)) (Some (take (length s - 1) s)) None
+
+-- what stands between two quotes
+abbrev pub between_quotes : List ℕ → Option (List ℕ)
+between_quotes [] = None
+between_quotes (b ∷ s) = cond (b == 39) (before_quote s) None
+
+-- a code as a signed char
+abbrev pub signed_char : ℕ → ℤ
+signed_char code = cond (nat_lt 127 code) (pos code -ℤ pos 256) (pos code)
+
+-- a code as a char
+abbrev pub char_value : Bool → ℕ → Number
+char_value char_signed code = Signed (cond char_signed (signed_char code) (pos code))
+
+-- the value of a character constant with its quotes
+abbrev pub character_constant : List ℕ → Bool → Option Number
+character_constant text char_signed = option_map (char_value char_signed) (option_and_then character_code (between_quotes text))
 
 -- 255 is `0xFF`, 8 is no octal digit, and 2^63 is signed in no base
 ten : integer_constant (codes "10") ≡ Some (Signed (pos 10))

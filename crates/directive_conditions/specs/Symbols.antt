@@ -1,5 +1,5 @@
 -- The operators of a condition (6.5) and how they are written.
-use Rattle.std.specs.Prelude.{ℕ, Bool, true, false, ◌&&◌, ◌==◌, cond, List, [], ◌∷◌}
+use Rattle.std.specs.Prelude.{ℕ, ◌&&◌, ◌==◌, cond, List, [], ◌∷◌}
 use Rattle.directive_conditions.specs.declared.operations.Unary.TheVariants.{Complement, Not}
 use Rattle.directive_conditions.specs.declared.operations.Binary.{Binary}
 use Rattle.directive_conditions.specs.declared.operations.Binary.TheVariants.{Multiply, Divide, Remainder, Add, Subtract, ShiftLeft, ShiftRight, Less, Greater, LessEqual, GreaterEqual, Equal, NotEqual, And, Xor, Or, LogicalAnd, LogicalOr}

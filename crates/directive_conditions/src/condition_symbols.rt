@@ -1,6 +1,7 @@
 //! The tokens of a condition.
 
 ghost use Rattle.std.specs.Prelude.{◌≡◌};
+ghost use Rattle.directive_conditions.specs.Lines.{constant, symbol_of};
 ghost use Rattle.directive_conditions.specs.Symbols.{short_punctuator, punctuator};
 
 use crate::condition_value::Number;
@@ -67,7 +68,9 @@ fn punctuator(text: &[u8]) -> Symbol
 }
 
 /// A constant, or the place of a token that is none.
-fn constant(number: Option<Number>, place: Place) -> Result<Symbol, Place> {
+fn constant(number: Option<Number>, place: Place) -> Result<Symbol, Place>
+    ensures { result ≡ constant number place }
+{
     match number {
         Some(number) => Ok(Symbol::Constant(number)),
         None => Err(place),
@@ -76,7 +79,9 @@ fn constant(number: Option<Number>, place: Place) -> Result<Symbol, Place> {
 
 /// What a token is in a condition: a name that is left is 0. An error is the place of a number or
 /// a character constant whose form is not in.
-pub fn symbol_of(spellings: &Spellings, char_signed: bool, x: Lexeme) -> Result<Symbol, Place> {
+pub fn symbol_of(spellings: &Spellings, char_signed: bool, x: Lexeme) -> Result<Symbol, Place>
+    ensures { result ≡ symbol_of spellings.now char_signed x }
+{
     match x {
         Lexeme::Name(_, _) | Lexeme::Painted(_, _) => Ok(Symbol::Constant(Number::Signed(0))),
         Lexeme::Open(_) => Ok(Symbol::Open),

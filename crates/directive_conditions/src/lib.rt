@@ -10,4 +10,4 @@ mod operations;
 
 pub use condition_value::Number;
 pub use defined_names::replace_defined;
-pub use evaluation::{ConditionFault, holds};
+pub use evaluation::{ConditionFault, holds, one_value};

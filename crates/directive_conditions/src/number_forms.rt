@@ -1,6 +1,6 @@
 //! Integer constants and character constants of a condition (6.4.4.1, 6.4.4.4).
-ghost use Rattle.directive_conditions.specs.NumberForms.{digit_value, is_digit_of, digit_count, suffix_is_unsigned, typed, simple_escape, magnitude, based_number, integer_constant, escape_code, character_code};
-ghost use Rattle.std.specs.Prelude.{◌≡◌, ◌≤◌, length};
+ghost use Rattle.directive_conditions.specs.NumberForms.{digit_value, is_digit_of, digit_count, suffix_is_unsigned, typed, simple_escape, magnitude, based_number, integer_constant, escape_code, character_code, before_quote, between_quotes, signed_char, char_value, character_constant};
+ghost use Rattle.std.specs.Prelude.{◌≡◌, ◌≤◌, length, option_copied};
 
 use crate::condition_value::Number;
 
@@ -159,15 +159,55 @@ fn character_code(inside: &[u8]) -> Option<u8>
     }
 }
 
+/// What stands before a quote at the end.
+fn before_quote(text: &[u8]) -> Option<&[u8]>
+    ensures { option_copied result ≡ before_quote text.now }
+{
+    let n = text.len();
+    if n > 0 && text[n - 1] == b'\'' {
+        return Some(&text[..n - 1]);
+    }
+    None
+}
+
+/// What stands between two quotes.
+fn between_quotes(text: &[u8]) -> Option<&[u8]>
+    ensures { option_copied result ≡ between_quotes text.now }
+{
+    match text {
+        [b'\'', rest @ ..] => before_quote(rest),
+        _ => None,
+    }
+}
+
+/// A code as a signed char.
+fn signed_char(code: u8) -> i64
+    ensures { result ≡ signed_char code }
+{
+    if code > 127 {
+        i64::from(code) - 256
+    } else {
+        i64::from(code)
+    }
+}
+
+/// A code as a char.
+fn char_value(char_signed: bool, code: u8) -> Number
+    ensures { result ≡ char_value char_signed code }
+{
+    if char_signed {
+        Number::Signed(signed_char(code))
+    } else {
+        Number::Signed(i64::from(code))
+    }
+}
+
 /// The value of a character constant with its quotes; None where it has no one character or an
 /// escape that is not in.
-pub fn character_constant(text: &[u8], char_signed: bool) -> Option<Number> {
-    let [b'\'', inside @ .., b'\''] = text else {
-        return None;
-    };
-    let code = i64::from(character_code(inside)?);
-    if char_signed && code > 127 {
-        return Some(Number::Signed(code - 256));
-    }
-    Some(Number::Signed(code))
+pub fn character_constant(text: &[u8], char_signed: bool) -> Option<Number>
+    ensures { result ≡ character_constant text.now char_signed }
+{
+    let inside = between_quotes(text)?;
+    let code = character_code(inside)?;
+    Some(char_value(char_signed, code))
 }

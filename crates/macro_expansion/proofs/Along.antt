@@ -1,6 +1,7 @@
 -- What the loops of the code keep.
-use Rattle.std.proofs.Common.{◌≡◌, ℕ, zero, suc, ◌+◌, ◌-◌, ◌<◌, ◌≤◌, true, false, cond, List, [], ◌∷◌, ◌++◌, length, drop, map, get_or, Option, Some, None, option_map, nat_eq, Vec, Global, Bor, MatchOption, option_copied, vec_items, refl, sym, ◌∙◌, ap, arith}
+use Rattle.std.proofs.Common.{◌≡◌, ℕ, zero, suc, ◌+◌, ◌-◌, ◌<◌, ◌≤◌, true, false, cond, List, [], ◌∷◌, ◌++◌, length, drop, map, get_or, slice_get, Option, Some, None, option_map, nat_eq, Vec, Global, Bor, MatchOption, option_copied, unwrap_or, vec_items, refl, sym, ◌∙◌, ap, arith}
 use Rattle.std.proofs.Math.Seq.{drop-cons}
+use Rattle.std.proofs.lemmas.Option.{slice_get-map}
 use Rattle.std.specs.Map.{lookup}
 use Rattle.macro_expansion.specs.declared.lexeme.Lexeme.{Lexeme}
 use Rattle.macro_expansion.specs.declared.macro_table.Macro.{Macro}
@@ -54,3 +55,12 @@ pub nth_list-some : (xs : List (Vec Lexeme Global)) (k : ℕ) (v : Vec Lexeme Gl
 nth_list-some [] k v h e = absurd (omega arith)
 nth_list-some (x ∷ xs) zero v h e = ap vec_items e
 nth_list-some (x ∷ xs) (suc k) v h e = nth_list-some xs k v (omega arith) e
+
+-- the spelling with a number
+abbrev pub text_in : Option (Bor (Vec ℕ Global)) → List ℕ
+text_in None = []
+text_in (Some v) = v.now.items
+
+pub text_got : (r : Option (Bor (Vec ℕ Global))) (keys : List (Vec ℕ Global)) (n : ℕ) → option_copied r ≡ slice_get keys n → text_in r ≡ unwrap_or (slice_get (map vec_items keys) n) []
+text_got None keys n e = ap (λ o. unwrap_or (option_map vec_items o) []) e ∙ ap (λ o. unwrap_or o []) (sym (slice_get-map vec_items keys n))
+text_got (Some v) keys n e = ap (λ o. unwrap_or (option_map vec_items o) []) e ∙ ap (λ o. unwrap_or o []) (sym (slice_get-map vec_items keys n))

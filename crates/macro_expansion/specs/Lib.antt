@@ -5,3 +5,4 @@ pub mod Machine
 pub mod Frames
 pub mod Rules
 pub mod States
+pub mod Numbering

@@ -1,0 +1,10 @@
+use Rattle.std.proofs.Common.{sym, subst, Ok}
+use Rattle.directive_conditions.specs.Lines.{HoldsBy}
+use Rattle.directive_conditions.proofs.Lines.{value_decides, no_value}
+use Rattle.directive_conditions.proofs.evaluation.truth_of.Goals as goal
+
+pub returns-in-Ok : goal.returns-in-Ok
+returns-in-Ok c = subst (HoldsBy (Ok c.args.symbols.now)) (sym c.decided.ensures) (value_decides c.args.symbols.now c.in-Ok.value c.in-Ok.ensures)
+
+pub returns-in-Err : goal.returns-in-Err
+returns-in-Err c = no_value c.args.symbols.now c.in-Err.fault c.in-Err.ensures

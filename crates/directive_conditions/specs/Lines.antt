@@ -1,0 +1,83 @@
+-- The tokens of a condition's line, and what the line means.
+use Rattle.std.specs.Prelude.{◌≡◌, Bool, false, cond, not, ℕ, pos, List, [], ◌∷◌, ◌++◌, Option, Some, None, Result, Ok, Err}
+use Rattle.cc_base.specs.declared.diagnostics.Place.{Place}
+use Rattle.cc_base.specs.declared.lexemes.Kind.{Kind}
+use Rattle.cc_base.specs.declared.lexemes.Kind.TheVariants as kind
+use Rattle.macro_expansion.specs.declared.lexeme.Lexeme.{Lexeme}
+use Rattle.macro_expansion.specs.declared.lexeme.Lexeme.TheVariants.{Name, Painted, Open, Close, Comma, Other}
+use Rattle.macro_expansion.specs.declared.spelling_numbers.Spellings.{Spellings}
+use Rattle.macro_expansion.specs.Numbering.{text_of}
+use Rattle.directive_conditions.specs.declared.condition_symbols.Symbol.{Symbol}
+use Rattle.directive_conditions.specs.declared.condition_symbols.Symbol.TheVariants as symbol
+use Rattle.directive_conditions.specs.declared.condition_value.Number.{Number}
+use Rattle.directive_conditions.specs.declared.condition_value.Number.TheVariants.{Signed}
+use Rattle.directive_conditions.specs.declared.condition_value.Value.{Value}
+use Rattle.directive_conditions.specs.declared.evaluation.ConditionFault.{ConditionFault}
+use Rattle.directive_conditions.specs.declared.evaluation.ConditionFault.TheVariants.{NumberForm, Malformed, Memory}
+use Rattle.directive_conditions.specs.ConditionValues.{is_zero}
+use Rattle.directive_conditions.specs.NumberForms.{integer_constant, character_constant}
+use Rattle.directive_conditions.specs.Symbols.{punctuator}
+use Rattle.directive_conditions.specs.Expressions.{IsExpression}
+use Rattle.std.proofs.Common.{Vec, Global}
+
+-- a constant, or the place of a token that is none
+abbrev pub constant : Option Number → Place → Result Symbol Place
+constant (Some n) place = Ok (symbol.Constant n)
+constant None place = Err place
+
+abbrev pub other_symbol : Kind → List ℕ → Bool → Place → Result Symbol Place
+other_symbol kind.Number text char_signed place = constant (integer_constant text) place
+other_symbol kind.Char text char_signed place = constant (character_constant text char_signed) place
+other_symbol kind.Punct text char_signed place = Ok (punctuator text)
+other_symbol k text char_signed place = Ok symbol.Foreign
+
+-- what a token is in a condition: a name that is left is 0
+abbrev pub symbol_of : Spellings → Bool → Lexeme → Result Symbol Place
+symbol_of spellings char_signed (Name n m) = Ok (symbol.Constant (Signed (pos 0)))
+symbol_of spellings char_signed (Painted n m) = Ok (symbol.Constant (Signed (pos 0)))
+symbol_of spellings char_signed (Open m) = Ok symbol.Open
+symbol_of spellings char_signed (Close m) = Ok symbol.Close
+symbol_of spellings char_signed (Comma m) = Ok symbol.Foreign
+symbol_of spellings char_signed (Other k n m) = other_symbol k (text_of spellings n) char_signed m.place
+
+abbrev pub before : Result Symbol Place → Result (List Symbol) Place → Result (List Symbol) Place
+before (Err place) rest = Err place
+before (Ok x) (Err place) = Err place
+before (Ok x) (Ok xs) = Ok (x ∷ xs)
+
+-- the tokens of a line, or the place of the first that has a form that is not in
+abbrev pub symbols_of : Spellings → Bool → List Lexeme → Result (List Symbol) Place
+symbols_of spellings char_signed [] = Ok []
+symbols_of spellings char_signed (x ∷ xs) = before (symbol_of spellings char_signed x) (symbols_of spellings char_signed xs)
+
+-- a condition holds where its value is not 0; it has no value where it is no expression, or where what is evaluated of it is undefined
+abbrev pub HoldsBy : Result (List Symbol) Place → Result Bool ConditionFault → Type 0
+HoldsBy (Ok ts) (Ok b) = (v : Value) × IsExpression ts v × (v.faulty ≡ false) × (b ≡ not (is_zero v.number))
+HoldsBy (Ok ts) (Err Malformed) = (v : Value) → IsExpression ts v → v.faulty ≡ false → ⊥
+HoldsBy (Ok ts) (Err (NumberForm place)) = ⊥
+HoldsBy (Err first) (Err (NumberForm place)) = place ≡ first
+HoldsBy (Err first) (Err Malformed) = ⊥
+HoldsBy (Err first) (Ok b) = ⊥
+HoldsBy symbols (Err Memory) = Unit {0}
+
+-- the truth of a value
+abbrev pub decided : Value → Result Bool ConditionFault
+decided v = cond v.faulty (Err Malformed) (Ok (not (is_zero v.number)))
+
+-- the tokens are collected, or the place is told, unless memory ran out
+abbrev pub Collects : Result (List Symbol) Place → Result (Vec Symbol Global) ConditionFault → Type 0
+Collects symbols (Ok ts) = symbols ≡ Ok ts.items
+Collects symbols (Err (NumberForm place)) = symbols ≡ Err place
+Collects symbols (Err Malformed) = ⊥
+Collects symbols (Err Memory) = Unit {0}
+
+abbrev pub IsAdded : Result Symbol Place → List Symbol → List Symbol → Type 0
+IsAdded (Ok x) old new = new ≡ old ++ x ∷ []
+IsAdded (Err place) old new = ⊥
+
+-- one token is added, or its place is told, unless memory ran out
+abbrev pub Adds : {A : Type 0} → Result Symbol Place → List Symbol → List Symbol → Result A ConditionFault → Type 0
+Adds next old new (Ok _) = IsAdded next old new
+Adds next old new (Err (NumberForm place)) = next ≡ Err place
+Adds next old new (Err Malformed) = ⊥
+Adds next old new (Err Memory) = Unit {0}
