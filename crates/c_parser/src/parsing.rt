@@ -1,6 +1,8 @@
 //! Parses a unit.
-ghost use Rattle.std.specs.Prelude.{◌≡◌, [], length, IfOk, IfErr};
+ghost use Rattle.std.specs.Prelude.{◌≡◌, [], length, IfOk, IfErr, IsOk};
 ghost use Rattle.c_parser.specs.Pieces.{StopsAt, StopsAtPiece, left_behind};
+ghost use Rattle.c_parser.specs.Refusals.{Refuses};
+ghost use Rattle.token_classes.specs.Classes.{classified};
 
 use crate::external_declarations::external;
 use crate::pieces::piece_length;
@@ -77,7 +79,11 @@ fn externals(alloc: Global, terminals: &[Terminal]) -> Result<Vec<External>, Sto
 /// not in; else `Unsupported` at its first word or punctuator that is left out of the language; else
 /// `Syntax` at the first token of the first piece that is no external declaration of a height of at
 /// most 256; or want of memory.
-pub fn parse(alloc: Global, unit: &Unit7) -> Result<Tree7, Stop> {
+#[tactic(auto, using(crate::proofs::Refusing::by_tokens, crate::proofs::Refusing::by_piece))]
+pub fn parse(alloc: Global, unit: &Unit7) -> Result<Tree7, Stop>
+    ensures classes { IfOk result (λ tree. IsOk (classified unit.now.model unit.now.tokens)) }
+    ensures refused { IfErr result (Refuses (classified unit.now.model unit.now.tokens)) }
+{
     let terminals = classify(alloc, unit)?;
     let externals = externals(alloc, terminals.as_slice())?;
     Ok(Tree7 { externals })

@@ -1,12 +1,19 @@
 -- What the readers of declarations answer.
-use Rattle.std.specs.Prelude.{◌≡◌, ◌+◌, ◌≤◌, ℕ, Bool, true, false, List, [], ◌∷◌, reverse, Option, is_some}
-use Rattle.c_layout.specs.DeclarationTrees.{NameView, SuffixView, DeclaratorLayerView, DeclaratorView}
+use Rattle.std.specs.Prelude.{◌≡◌, ◌+◌, ◌≤◌, ℕ, Bool, true, false, List, [], ◌∷◌, reverse, Option, Some, is_some, ◌⊎◌}
+use Rattle.c_layout.specs.DeclarationTrees.{NameView, SuffixView, DeclaratorLayerView, DeclaratorView, EnumeratorView, SpecTree, SpecTrees, MemberTree, StorageWord, Qualifier, TypeOf, spec_trees, member_trees, InitializerTree, initializer_trees}
 use Rattle.token_classes.specs.declared.terminals.Terminal.{Terminal}
-use Rattle.expression_grammar.specs.Spans.{Chain}
-use Rattle.expression_grammar.specs.TypeNames.{Stars}
+use Rattle.token_classes.specs.declared.terminals.Punctuator.TheVariants as p
+use Rattle.token_classes.specs.declared.terminals.Keyword.{Keyword}
+use Rattle.expression_grammar.specs.declared.specifier_words.SpecifierCounts.{SpecifierCounts}
+use Rattle.expression_grammar.specs.Fronts.{first_place, IsSign, IsWord}
+use Rattle.expression_grammar.specs.Spans as spans
+use Rattle.expression_grammar.specs.Spans.{Chain, Span}
+use Rattle.expression_grammar.specs.TypeNames.{Stars, is_qualifier, type_word_of}
 use Rattle.declaration_grammar.specs.Declarators.{IsSuffix, Inside, Shape, IsDeclarator, is_something, length_height, flat, climbed, inside_height, shape_height, declarator_height}
-use Rattle.declaration_grammar.specs.Lists.{Listed, highest}
-use Rattle.declaration_grammar.specs.Specifiers.{IsNamed}
+use Rattle.declaration_grammar.specs.Initializers.{DeriveInitializer, DeriveItems, initializer_height, items_height, has_item}
+use Rattle.declaration_grammar.specs.Lists.{Trailed, Listed, highest}
+use Rattle.declaration_grammar.specs.Specifiers.{IsNamed, IsEnumerator, Enumerators, enumerator_height, IsSpec, DeriveWord, DeriveWords, DeriveMember, DeriveMembers, has_member, counts_of, word_height, words_height, member_height, members_height, spec_height}
+use Rattle.declaration_grammar.specs.StorageClasses.{storage_class}
 
 pub record FoundSuffix (known : List (List ℕ)) (suffix : SuffixView) (high : ℕ) (ts rest : List Terminal) : Type 0 where
   pub derives : IsSuffix known suffix ts rest
@@ -61,7 +68,99 @@ pub record FoundNamedBehind (known : List (List ℕ)) (budget : ℕ) (stars : Li
   pub height : high ≡ declarator_height d
   pub within : high ≤ budget
 
-pub record FoundList (known : List (List ℕ)) (budget : ℕ) (ds : List DeclaratorView) (high : ℕ) (ts rest : List Terminal) : Type 0 where
-  pub derive : Listed (IsNamed known) ds ts rest
-  pub height : high ≡ highest declarator_height ds
+-- items with a comma behind each
+pub record FoundItems {X : Type 0} (Item : X → List Terminal → List Terminal → Type 0) (height : X → ℕ) (budget : ℕ) (xs : List X) (high : ℕ) (ts rest : List Terminal) : Type 0 where
+  pub derive : Trailed Item xs ts rest
+  pub high_is : high ≡ highest height xs
+  pub within : high ≤ budget
+
+-- one item or more with a comma between any two
+pub record FoundListed {X : Type 0} (Item : X → List Terminal → List Terminal → Type 0) (height : X → ℕ) (budget : ℕ) (xs : List X) (high : ℕ) (ts rest : List Terminal) : Type 0 where
+  pub derive : Listed Item xs ts rest
+  pub high_is : high ≡ highest height xs
+  pub within : high ≤ budget
+
+pub record FoundEnumerator (known : List (List ℕ)) (budget : ℕ) (e : EnumeratorView) (high : ℕ) (ts rest : List Terminal) : Type 0 where
+  pub derives : IsEnumerator known e ts rest
+  pub height : high ≡ enumerator_height e
+  pub within : high ≤ budget
+
+-- enumerators behind `{`, with the `}`
+pub record FoundEnumerators (known : List (List ℕ)) (budget : ℕ) (es : List EnumeratorView) (high : ℕ) (ts rest : List Terminal) : Type 0 where
+  pub last : List Terminal
+  pub derive : Enumerators known es ts last
+  pub closes : IsSign p.RightBrace last rest
+  pub high_is : high ≡ highest enumerator_height es
+  pub within : high ≤ budget
+
+pub record FoundWord (known : List (List ℕ)) (budget : ℕ) (w : SpecTree) (high : ℕ) (ts rest : List Terminal) : Type 0 where
+  pub derives : DeriveWord w known ts rest
+  pub height : high ≡ word_height w
+  pub within : high ≤ budget
+
+-- ---- initializers
+
+pub record FoundInitializer (known : List (List ℕ)) (budget : ℕ) (i : InitializerTree) (high : ℕ) (ts rest : List Terminal) : Type 0 where
+  pub derives : DeriveInitializer i known ts rest
+  pub height : high ≡ initializer_height i
+  pub within : high ≤ budget
+
+-- initializers with a comma behind each
+pub record FoundSome (known : List (List ℕ)) (budget : ℕ) (items : List InitializerTree) (high : ℕ) (ts rest : List Terminal) : Type 0 where
+  pub parts : List Span
+  pub each : DeriveItems (initializer_trees items) known parts
+  pub trailed : spans.Trailed parts ts rest
+  pub height : high ≡ items_height (initializer_trees items)
+  pub within : high ≤ budget
+
+-- initializers behind `{`, with the `}`
+pub record FoundBraced (known : List (List ℕ)) (budget : ℕ) (items : List InitializerTree) (high : ℕ) (ts rest : List Terminal) : Type 0 where
+  pub parts : List Span
+  pub last : List Terminal
+  pub some : has_item (initializer_trees items) ≡ true
+  pub each : DeriveItems (initializer_trees items) known parts
+  pub shape : spans.Separated parts ts last ⊎ spans.Trailed parts ts last
+  pub closes : IsSign p.RightBrace last rest
+  pub height : high ≡ items_height (initializer_trees items)
+  pub within : high ≤ budget
+
+-- ---- specifiers
+
+-- a word that is a keyword alone
+abbrev pub PlainWord : SpecTree → List Terminal → List Terminal → Type 0
+PlainWord (StorageWord at class) ts rest = (at ≡ first_place ts) × (w : Keyword) × (storage_class w ≡ Some class) × IsWord w ts rest
+PlainWord (Qualifier at) ts rest = (at ≡ first_place ts) × (w : Keyword) × (is_qualifier w ≡ true) × IsWord w ts rest
+PlainWord (TypeOf at named) ts rest = (at ≡ first_place ts) × (w : Keyword) × (type_word_of w ≡ Some named) × IsWord w ts rest
+PlainWord _ ts rest = ⊥
+
+-- words, one after another, and their counts
+pub record FoundWords (known : List (List ℕ)) (budget : ℕ) (ws : List SpecTree) (counts : SpecifierCounts) (high : ℕ) (ts rest : List Terminal) : Type 0 where
+  pub derive : DeriveWords (spec_trees ws) known ts rest
+  pub counts_is : counts ≡ counts_of (spec_trees ws)
+  pub high_is : high ≡ words_height (spec_trees ws)
+  pub within : high ≤ budget
+
+pub record FoundSpec (known : List (List ℕ)) (budget : ℕ) (ws : SpecTrees) (high : ℕ) (ts rest : List Terminal) : Type 0 where
+  pub derives : IsSpec known ws ts rest
+  pub height : high ≡ spec_height ws
+  pub within : high ≤ budget
+
+pub record FoundMember (known : List (List ℕ)) (budget : ℕ) (m : MemberTree) (high : ℕ) (ts rest : List Terminal) : Type 0 where
+  pub derives : DeriveMember m known ts rest
+  pub height : high ≡ member_height m
+  pub within : high ≤ budget
+
+-- members, one after another
+pub record FoundChain (known : List (List ℕ)) (budget : ℕ) (ms : List MemberTree) (high : ℕ) (ts rest : List Terminal) : Type 0 where
+  pub derive : DeriveMembers (member_trees ms) known ts rest
+  pub high_is : high ≡ members_height (member_trees ms)
+  pub within : high ≤ budget
+
+-- members behind `{`, with the `}`
+pub record FoundMembers (known : List (List ℕ)) (budget : ℕ) (ms : List MemberTree) (high : ℕ) (ts rest : List Terminal) : Type 0 where
+  pub last : List Terminal
+  pub some : has_member (member_trees ms) ≡ true
+  pub derive : DeriveMembers (member_trees ms) known ts last
+  pub closes : IsSign p.RightBrace last rest
+  pub high_is : high ≡ members_height (member_trees ms)
   pub within : high ≤ budget

@@ -1,25 +1,53 @@
 //! Declarators (6.7.6) and abstract declarators (6.7.7).
-use crate::declarator_layers::{DeclaratorParts, Suffixes, declarator_of, layered};
+ghost use Rattle.std.specs.Prelude.{◌≡◌, map, IfOk};
+ghost use Rattle.std.specs.Option.{option_map};
+ghost use Rattle.c_layout.specs.SyntaxTrees.{tree_of};
+ghost use Rattle.c_layout.specs.DeclarationTrees.{name_view, suffix_view, declarator_layer_view, declarator_view};
+ghost use Rattle.declaration_grammar.specs.Findings.{FoundSuffix, FoundSuffixes, FoundInside, FoundLayers, FoundBehind, FoundDeclarator, FoundNamed, FoundNamedBehind, FoundListed};
+ghost use Rattle.declaration_grammar.specs.Declarators.{declarator_height};
+ghost use Rattle.declaration_grammar.specs.Specifiers.{IsNamed};
+
+use crate::declarator_layers::{
+    DeclaratorParts, Suffixes, climb, declarator_of, enclosed_height, layered,
+};
 use c_layout::{ArraySuffix, Declarator, Expr};
-use expression_grammar::{Parsed, Reader, Scope, Trouble, conditional, inner, made, stars};
+use cc_base::Place;
+use expression_grammar::{Parsed, Reader, Scope, Trouble, conditional, inner, stars};
 use token_classes::Punctuator;
 
-/// The length between brackets, behind the `[`, with the `]`.
-fn length(
+/// A pair of brackets with its length.
+fn with_length(place: Place, length: Box<Expr>) -> ArraySuffix
+    ensures { suffix_view result ≡ record { at = place; length = Some (tree_of length.value) } }
+{
+    ArraySuffix {
+        place,
+        length: Some(Box::into_inner(length)),
+    }
+}
+
+/// One pair of brackets, with its length where one is given.
+fn suffix(
     scope: Scope<'_>,
     reader: &mut Reader<'_>,
     budget: u32,
-) -> Result<Parsed<Option<Expr>>, Trouble> {
+) -> Result<Parsed<ArraySuffix>, Trouble>
+    ensures { IfOk result (λ n. FoundSuffix scope.entry.typedefs.now (suffix_view n.tree) n.height reader.old reader.new) }
+{
+    let place = reader.expect(Punctuator::LeftBracket)?;
     if reader.accept(Punctuator::RightBracket) {
         return Ok(Parsed {
-            tree: None,
+            tree: ArraySuffix {
+                place,
+                length: None,
+            },
             height: 0,
         });
     }
     let found = conditional(scope, reader, inner(budget)?)?;
     reader.expect(Punctuator::RightBracket)?;
+    let tree = with_length(place, found.tree);
     Ok(Parsed {
-        tree: Some(Box::into_inner(found.tree)),
+        tree,
         height: found.height,
     })
 }
@@ -30,7 +58,9 @@ fn suffixes(
     reader: &mut Reader<'_>,
     inside: u32,
     budget: u32,
-) -> Result<Suffixes, Trouble> {
+) -> Result<Suffixes, Trouble>
+    ensures { IfOk result (λ s. FoundSuffixes scope.entry.typedefs.now inside (map suffix_view s.arrays.items) s.flat s.climbed reader.old reader.new) }
+{
     let mut arrays = Vec::new(scope.alloc);
     let mut flat = inside;
     let mut climbed = inside;
@@ -38,14 +68,10 @@ fn suffixes(
         if !reader.is_at(Punctuator::LeftBracket) {
             break;
         }
-        let place = reader.take();
-        let length = length(scope, reader, budget)?;
-        flat = flat.max(length.height);
-        climbed = climbed.max(length.height).saturating_add(1);
-        arrays.push(ArraySuffix {
-            place,
-            length: length.tree,
-        })?;
+        let next = suffix(scope, reader, budget)?;
+        flat = flat.max(next.height);
+        climbed = climb(climbed, next.height)?;
+        arrays.push(next.tree)?;
     }
     Ok(Suffixes {
         arrays,
@@ -54,23 +80,36 @@ fn suffixes(
     })
 }
 
-/// A declarator in parentheses, behind the `(`, with the `)`. Around a name the parentheses are a
-/// production; around an abstract declarator they belong to the production that they stand in.
+/// A declarator in parentheses. Around a name the parentheses are a production; around an abstract
+/// declarator they belong to the production that they stand in.
 #[cycle(declarators)]
 fn enclosed(
     scope: Scope<'_>,
     reader: &mut Reader<'_>,
     budget: u32,
-) -> Result<Parsed<DeclaratorParts>, Trouble> {
+) -> Result<Parsed<DeclaratorParts>, Trouble>
+    ensures { IfOk result (λ n. FoundInside scope.entry.typedefs.now (map declarator_layer_view n.tree.layers.items) (option_map name_view n.tree.name) n.height reader.old reader.new) }
+{
+    reader.expect(Punctuator::LeftParenthesis)?;
     let inside = any_declarator(scope, reader, inner(budget)?)?;
     reader.expect(Punctuator::RightParenthesis)?;
-    if inside.tree.name.is_none() {
-        return Ok(inside);
-    }
+    let height = enclosed_height(inside.tree.name.is_some(), inside.height, budget)?;
     Ok(Parsed {
-        height: made(budget, inside.height)?,
         tree: inside.tree,
+        height,
     })
+}
+
+/// A name.
+fn named_core(scope: Scope<'_>, reader: &mut Reader<'_>) -> Result<Parsed<DeclaratorParts>, Trouble>
+    ensures { IfOk result (λ n. FoundInside scope.entry.typedefs.now (map declarator_layer_view n.tree.layers.items) (option_map name_view n.tree.name) n.height reader.old reader.new) }
+{
+    let name = reader.identifier(scope)?;
+    let tree = DeclaratorParts {
+        layers: Vec::new(scope.alloc),
+        name: Some(name),
+    };
+    Ok(Parsed { tree, height: 0 })
 }
 
 /// What stands between the stars and the brackets of a declarator: a name, a declarator in
@@ -80,18 +119,18 @@ fn core(
     scope: Scope<'_>,
     reader: &mut Reader<'_>,
     budget: u32,
-) -> Result<Parsed<DeclaratorParts>, Trouble> {
-    if reader.accept(Punctuator::LeftParenthesis) {
+) -> Result<Parsed<DeclaratorParts>, Trouble>
+    ensures { IfOk result (λ n. FoundInside scope.entry.typedefs.now (map declarator_layer_view n.tree.layers.items) (option_map name_view n.tree.name) n.height reader.old reader.new) }
+{
+    if reader.is_at(Punctuator::LeftParenthesis) {
         return enclosed(scope, reader, budget);
     }
-    let name = if reader.is_at_identifier(scope) {
-        Some(reader.identifier(scope)?)
-    } else {
-        None
-    };
+    if reader.is_at_identifier(scope) {
+        return named_core(scope, reader);
+    }
     let tree = DeclaratorParts {
         layers: Vec::new(scope.alloc),
-        name,
+        name: None,
     };
     Ok(Parsed { tree, height: 0 })
 }
@@ -103,10 +142,13 @@ fn behind_stars(
     reader: &mut Reader<'_>,
     stars: Vec<u32>,
     budget: u32,
-) -> Result<Parsed<DeclaratorParts>, Trouble> {
+) -> Result<Parsed<DeclaratorParts>, Trouble>
+    ensures { IfOk result (λ n. FoundBehind scope.entry.typedefs.now budget stars.items (map declarator_layer_view n.tree.layers.items) (option_map name_view n.tree.name) n.height reader.old reader.new) }
+{
     let inside = core(scope, reader, budget)?;
     let suffixes = suffixes(scope, reader, inside.height, budget)?;
-    layered(inside.tree, stars, suffixes, budget)
+    let whole = layered(inside.tree, stars, suffixes, budget)?;
+    Ok(whole)
 }
 
 /// A declarator or an abstract declarator.
@@ -115,9 +157,12 @@ fn any_declarator(
     scope: Scope<'_>,
     reader: &mut Reader<'_>,
     budget: u32,
-) -> Result<Parsed<DeclaratorParts>, Trouble> {
+) -> Result<Parsed<DeclaratorParts>, Trouble>
+    ensures { IfOk result (λ n. FoundLayers scope.entry.typedefs.now budget (map declarator_layer_view n.tree.layers.items) (option_map name_view n.tree.name) n.height reader.old reader.new) }
+{
     let stars = stars(scope.alloc, reader)?;
-    behind_stars(scope, reader, stars, budget)
+    let found = behind_stars(scope, reader, stars, budget)?;
+    Ok(found)
 }
 
 /// A declarator or an abstract declarator.
@@ -125,8 +170,12 @@ pub fn parameter_declarator(
     scope: Scope<'_>,
     reader: &mut Reader<'_>,
     budget: u32,
-) -> Result<Parsed<Declarator>, Trouble> {
-    Ok(declarator_of(any_declarator(scope, reader, budget)?))
+) -> Result<Parsed<Declarator>, Trouble>
+    ensures { IfOk result (λ n. FoundDeclarator scope.entry.typedefs.now budget (declarator_view n.tree) n.height reader.old reader.new) }
+{
+    let parts = any_declarator(scope, reader, budget)?;
+    let whole = declarator_of(parts);
+    Ok(whole)
 }
 
 /// A declarator, which has a name, behind these stars.
@@ -135,12 +184,15 @@ pub fn named_declarator(
     reader: &mut Reader<'_>,
     stars: Vec<u32>,
     budget: u32,
-) -> Result<Parsed<Declarator>, Trouble> {
+) -> Result<Parsed<Declarator>, Trouble>
+    ensures { IfOk result (λ n. FoundNamedBehind scope.entry.typedefs.now budget stars.items (declarator_view n.tree) n.height reader.old reader.new) }
+{
     let found = behind_stars(scope, reader, stars, budget)?;
-    if found.tree.name.is_none() {
+    if !found.tree.name.is_some() {
         return Err(Trouble::Syntax);
     }
-    Ok(declarator_of(found))
+    let whole = declarator_of(found);
+    Ok(whole)
 }
 
 /// A declarator, which has a name.
@@ -148,9 +200,12 @@ pub fn declarator(
     scope: Scope<'_>,
     reader: &mut Reader<'_>,
     budget: u32,
-) -> Result<Parsed<Declarator>, Trouble> {
+) -> Result<Parsed<Declarator>, Trouble>
+    ensures { IfOk result (λ n. FoundNamed scope.entry.typedefs.now budget (declarator_view n.tree) n.height reader.old reader.new) }
+{
     let stars = stars(scope.alloc, reader)?;
-    named_declarator(scope, reader, stars, budget)
+    let whole = named_declarator(scope, reader, stars, budget)?;
+    Ok(whole)
 }
 
 /// One declarator or more, with commas between them.
@@ -158,19 +213,19 @@ pub fn declarator_list(
     scope: Scope<'_>,
     reader: &mut Reader<'_>,
     budget: u32,
-) -> Result<Parsed<Vec<Declarator>>, Trouble> {
-    let first = declarator(scope, reader, budget)?;
-    let mut height = first.height;
+) -> Result<Parsed<Vec<Declarator>>, Trouble>
+    ensures { IfOk result (λ n. FoundListed (IsNamed scope.entry.typedefs.now) declarator_height budget (map declarator_view n.tree.items) n.height reader.old reader.new) }
+{
     let mut found = Vec::new(scope.alloc);
-    found.push(first.tree)?;
+    let mut height = 0u32;
     for _turn in 0..reader.left() {
-        if !reader.accept(Punctuator::Comma) {
-            break;
-        }
         let next = declarator(scope, reader, budget)?;
         height = height.max(next.height);
         found.push(next.tree)?;
+        if !reader.accept(Punctuator::Comma) {
+            let tree = found;
+            return Ok(Parsed { tree, height });
+        }
     }
-    let tree = found;
-    Ok(Parsed { tree, height })
+    Err(Trouble::Syntax)
 }

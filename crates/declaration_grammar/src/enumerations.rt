@@ -1,14 +1,35 @@
 //! Enumerations (6.7.2.2).
-use c_layout::{Enumerator, Name, SpecWord};
+ghost use Rattle.std.specs.Prelude.{◌≡◌, map, IfOk};
+ghost use Rattle.std.specs.Option.{option_map};
+ghost use Rattle.c_layout.specs.SyntaxTrees.{tree_of};
+ghost use Rattle.c_layout.specs.DeclarationTrees.{EnumTag, EnumBody, name_view, enumerator_view, spec_tree};
+ghost use Rattle.declaration_grammar.specs.Findings.{FoundEnumerator, FoundEnumerators, FoundWord};
+ghost use Rattle.declaration_grammar.specs.Specifiers.{Tag};
+
+use c_layout::{Enumerator, Expr, Name, SpecWord};
+use cc_base::Place;
 use expression_grammar::{Parsed, Reader, Scope, Trouble, conditional, inner, made};
 use token_classes::{Keyword, Punctuator};
 
 /// The tag that stands next, if one does.
-pub fn optional_tag(scope: Scope<'_>, reader: &mut Reader<'_>) -> Result<Option<Name>, Trouble> {
+pub fn optional_tag(scope: Scope<'_>, reader: &mut Reader<'_>) -> Result<Option<Name>, Trouble>
+    ensures { IfOk result (λ tag. Tag scope.entry.typedefs.now (option_map name_view tag) reader.old reader.new) }
+{
     if reader.is_at_identifier(scope) {
-        Ok(Some(reader.identifier(scope)?))
+        let name = reader.identifier(scope)?;
+        Ok(Some(name))
     } else {
         Ok(None)
+    }
+}
+
+/// An enumerator with its value.
+fn valued(name: Name, value: Box<Expr>) -> Enumerator
+    ensures { enumerator_view result ≡ record { name = name_view name; value = Some (tree_of value.value) } }
+{
+    Enumerator {
+        name,
+        value: Some(Box::into_inner(value)),
     }
 }
 
@@ -17,7 +38,9 @@ fn enumerator(
     scope: Scope<'_>,
     reader: &mut Reader<'_>,
     budget: u32,
-) -> Result<Parsed<Enumerator>, Trouble> {
+) -> Result<Parsed<Enumerator>, Trouble>
+    ensures { IfOk result (λ n. FoundEnumerator scope.entry.typedefs.now budget (enumerator_view n.tree) n.height reader.old reader.new) }
+{
     let name = reader.identifier(scope)?;
     if !reader.accept(Punctuator::Assign) {
         let tree = Enumerator { name, value: None };
@@ -25,10 +48,7 @@ fn enumerator(
     }
     let value = conditional(scope, reader, inner(budget)?)?;
     let height = made(budget, value.height)?;
-    let tree = Enumerator {
-        name,
-        value: Some(Box::into_inner(value.tree)),
-    };
+    let tree = valued(name, value.tree);
     Ok(Parsed { tree, height })
 }
 
@@ -37,20 +57,40 @@ fn enumerators(
     scope: Scope<'_>,
     reader: &mut Reader<'_>,
     budget: u32,
-) -> Result<Parsed<Vec<Enumerator>>, Trouble> {
+) -> Result<Parsed<Vec<Enumerator>>, Trouble>
+    ensures { IfOk result (λ n. FoundEnumerators scope.entry.typedefs.now budget (map enumerator_view n.tree.items) n.height reader.old reader.new) }
+{
     let mut found = Vec::new(scope.alloc);
     let mut height = 0u32;
     for _turn in 0..reader.left() {
         let next = enumerator(scope, reader, budget)?;
         height = height.max(next.height);
         found.push(next.tree)?;
-        if !reader.accept(Punctuator::Comma) || reader.is_at(Punctuator::RightBrace) {
-            break;
+        if !reader.accept(Punctuator::Comma) {
+            reader.expect(Punctuator::RightBrace)?;
+            let tree = found;
+            return Ok(Parsed { tree, height });
+        }
+        if reader.accept(Punctuator::RightBrace) {
+            let tree = found;
+            return Ok(Parsed { tree, height });
         }
     }
-    reader.expect(Punctuator::RightBrace)?;
-    let tree = found;
-    Ok(Parsed { tree, height })
+    Err(Trouble::Syntax)
+}
+
+/// `enum` with a body.
+fn enum_body(place: Place, tag: Option<Name>, body: Vec<Enumerator>) -> SpecWord
+    ensures { spec_tree result ≡ EnumBody place (option_map name_view tag) (map enumerator_view body.items) }
+{
+    SpecWord::Enum(place, tag, Some(body))
+}
+
+/// `enum` with a tag alone.
+fn enum_tag(place: Place, tag: Option<Name>) -> SpecWord
+    ensures { spec_tree result ≡ EnumTag place (option_map name_view tag) }
+{
+    SpecWord::Enum(place, tag, None)
 }
 
 /// `enum` with a tag, a body or both.
@@ -58,19 +98,21 @@ pub fn enumeration(
     scope: Scope<'_>,
     reader: &mut Reader<'_>,
     budget: u32,
-) -> Result<Parsed<SpecWord>, Trouble> {
+) -> Result<Parsed<SpecWord>, Trouble>
+    ensures { IfOk result (λ n. FoundWord scope.entry.typedefs.now budget (spec_tree n.tree) n.height reader.old reader.new) }
+{
     let place = reader.expect_word(Keyword::Enum)?;
     let tag = optional_tag(scope, reader)?;
     if reader.accept(Punctuator::LeftBrace) {
         let body = enumerators(scope, reader, inner(budget)?)?;
         let height = made(budget, body.height)?;
-        let tree = SpecWord::Enum(place, tag, Some(body.tree));
+        let tree = enum_body(place, tag, body.tree);
         return Ok(Parsed { tree, height });
     }
-    if tag.is_none() {
+    if !tag.is_some() {
         return Err(Trouble::Syntax);
     }
     let height = made(budget, 0)?;
-    let tree = SpecWord::Enum(place, tag, None);
+    let tree = enum_tag(place, tag);
     Ok(Parsed { tree, height })
 }

@@ -1,17 +1,41 @@
 //! Initializers (6.7.9).
-use c_layout::{Declarator, InitDeclarator, Initializer};
+ghost use Rattle.std.specs.Prelude.{◌≡◌, map, IfOk};
+ghost use Rattle.c_layout.specs.SyntaxTrees.{tree_of};
+ghost use Rattle.c_layout.specs.DeclarationTrees.{Single, Braces, initializer_tree, initializer_trees};
+ghost use Rattle.declaration_grammar.specs.Findings.{FoundInitializer, FoundBraced};
+
+use c_layout::{Declarator, Expr, InitDeclarator, Initializer};
+use cc_base::Place;
 use expression_grammar::{Parsed, Reader, Scope, Trouble, assignment, inner, made};
 use token_classes::Punctuator;
 
 /// An expression as an initializer.
+fn single(value: Box<Expr>) -> Initializer
+    ensures { initializer_tree result ≡ Single (tree_of value.value) }
+{
+    Initializer::Value(Box::into_inner(value))
+}
+
+/// A list in braces as an initializer.
+fn braces(place: Place, items: Vec<Initializer>) -> Initializer
+    ensures { initializer_tree result ≡ Braces place (initializer_trees (map initializer_tree items.items)) }
+{
+    Initializer::Braces(place, items)
+}
+
+/// An expression as an initializer.
+#[tactic(auto, using(crate::proofs::Initializing::one_value))]
 fn value(
     scope: Scope<'_>,
     reader: &mut Reader<'_>,
     budget: u32,
-) -> Result<Parsed<Initializer>, Trouble> {
+) -> Result<Parsed<Initializer>, Trouble>
+    ensures { IfOk result (λ n. FoundInitializer scope.entry.typedefs.now budget (initializer_tree n.tree) n.height reader.old reader.new) }
+{
     let found = assignment(scope, reader, budget)?;
+    let tree = single(found.tree);
     Ok(Parsed {
-        tree: Initializer::Value(Box::into_inner(found.tree)),
+        tree,
         height: found.height,
     })
 }
@@ -22,36 +46,45 @@ fn initializer_list(
     scope: Scope<'_>,
     reader: &mut Reader<'_>,
     budget: u32,
-) -> Result<Parsed<Vec<Initializer>>, Trouble> {
+) -> Result<Parsed<Vec<Initializer>>, Trouble>
+    ensures { IfOk result (λ n. FoundBraced scope.entry.typedefs.now budget (map initializer_tree n.tree.items) n.height reader.old reader.new) }
+{
     let mut found = Vec::new(scope.alloc);
     let mut height = 0u32;
     for _turn in 0..reader.left() {
         let next = initializer(scope, reader, budget)?;
         height = height.max(next.height);
         found.push(next.tree)?;
-        if !reader.accept(Punctuator::Comma) || reader.is_at(Punctuator::RightBrace) {
-            break;
+        if !reader.accept(Punctuator::Comma) {
+            reader.expect(Punctuator::RightBrace)?;
+            let tree = found;
+            return Ok(Parsed { tree, height });
+        }
+        if reader.accept(Punctuator::RightBrace) {
+            let tree = found;
+            return Ok(Parsed { tree, height });
         }
     }
-    reader.expect(Punctuator::RightBrace)?;
-    let tree = found;
-    Ok(Parsed { tree, height })
+    Err(Trouble::Syntax)
 }
 
 /// An initializer.
 #[cycle(initializers)]
+#[tactic(auto, using(crate::proofs::Initializing::in_braces))]
 pub fn initializer(
     scope: Scope<'_>,
     reader: &mut Reader<'_>,
     budget: u32,
-) -> Result<Parsed<Initializer>, Trouble> {
+) -> Result<Parsed<Initializer>, Trouble>
+    ensures { IfOk result (λ n. FoundInitializer scope.entry.typedefs.now budget (initializer_tree n.tree) n.height reader.old reader.new) }
+{
     if !reader.is_at(Punctuator::LeftBrace) {
         return value(scope, reader, budget);
     }
-    let place = reader.take();
+    let place = reader.expect(Punctuator::LeftBrace)?;
     let items = initializer_list(scope, reader, inner(budget)?)?;
     let height = made(budget, items.height)?;
-    let tree = Initializer::Braces(place, items.tree);
+    let tree = braces(place, items.tree);
     Ok(Parsed { tree, height })
 }
 

@@ -1,4 +1,6 @@
-use Rattle.std.proofs.Common.{◌+◌, ◌*◌}
+use Rattle.std.proofs.Common.{◌+◌, ◌*◌, map}
+use Rattle.c_layout.specs.DeclarationTrees.{initializer_tree}
+use Rattle.declaration_grammar.specs.Findings.{FoundSome}
 use Rattle.declaration_grammar.proofs.initializers.+initializers.Given as goal
 
 abbrev pub decreases-initializer : goal.decreases-initializer
@@ -6,3 +8,6 @@ decreases-initializer l = 4 * l.budget + 0
 
 abbrev pub decreases-initializer_list : goal.decreases-initializer_list
 decreases-initializer_list l = 4 * l.budget + 1
+
+abbrev pub invariant-initializer_list-loop-turn : goal.invariant-initializer_list-loop-turn
+invariant-initializer_list-loop-turn l = FoundSome l.scope.typedefs.now l.budget (map initializer_tree l.found.items) l.height l.fn.reader l.reader

@@ -1,4 +1,6 @@
-use Rattle.std.proofs.Common.{◌+◌, ◌*◌}
+use Rattle.std.proofs.Common.{◌+◌, ◌*◌, map}
+use Rattle.c_layout.specs.DeclarationTrees.{spec_tree, member_tree}
+use Rattle.declaration_grammar.specs.Findings.{FoundWords, FoundChain}
 use Rattle.declaration_grammar.proofs.specifier_lists.+specifiers.Given as goal
 
 abbrev pub decreases-specifiers : goal.decreases-specifiers
@@ -15,3 +17,9 @@ decreases-members l = 4 * l.budget + 3
 
 abbrev pub decreases-member : goal.decreases-member
 decreases-member l = 4 * l.budget + 0
+
+abbrev pub invariant-specifiers-loop-turn : goal.invariant-specifiers-loop-turn
+invariant-specifiers-loop-turn l = FoundWords l.scope.typedefs.now l.budget (map spec_tree l.words.items) l.counts l.height l.fn.reader l.reader
+
+abbrev pub invariant-members-loop-turn : goal.invariant-members-loop-turn
+invariant-members-loop-turn l = FoundChain l.scope.typedefs.now l.budget (map member_tree l.found.items) l.height l.fn.reader l.reader

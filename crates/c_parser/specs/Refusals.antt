@@ -1,0 +1,13 @@
+-- How a unit is refused, by what its tokens are to the grammar.
+use Rattle.std.specs.Prelude.{◌≡◌, Result, Ok, Err, List, ◌⊎◌}
+use Rattle.cc_base.specs.declared.refusals.Fault.{Fault}
+use Rattle.cc_base.specs.declared.refusals.Stop.{Stop}
+use Rattle.cc_base.specs.declared.refusals.Stop.TheVariants as stop
+use Rattle.token_classes.specs.declared.terminals.Terminal.{Terminal}
+use Rattle.c_parser.specs.Pieces.{StopsAtPiece}
+
+-- a unit with a number of a bad form or a word that is left out is refused for that; every other one
+-- with `Syntax` at the first terminal of a piece
+abbrev pub Refuses : Result (List Terminal) Fault → Stop → Type 0
+Refuses (Err fault) e = (e ≡ stop.Memory) ⊎ (e ≡ stop.Refused fault)
+Refuses (Ok ts) e = StopsAtPiece ts e
