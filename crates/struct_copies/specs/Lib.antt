@@ -1,0 +1,3 @@
+pub mod CopyPlaces
+pub mod LeafCopies
+pub mod CopyZeros

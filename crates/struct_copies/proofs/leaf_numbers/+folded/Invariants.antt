@@ -1,4 +1,4 @@
-use Rattle.std.proofs.Common.{◌≡◌, ◌+◌, ◌*◌}
+use Rattle.std.proofs.Common.{◌+◌, ◌*◌}
 use Rattle.struct_copies.proofs.leaf_numbers.+folded.Given as goal
 
 abbrev pub decreases-folded_leaf : goal.decreases-folded_leaf

@@ -1,4 +1,4 @@
-use Rattle.std.proofs.Common.{◌≡◌, ◌+◌, ◌*◌}
+use Rattle.std.proofs.Common.{◌+◌, ◌*◌}
 use Rattle.struct_copies.proofs.leaf_numbers.+plain.Given as goal
 
 abbrev pub decreases-plain_leaf : goal.decreases-plain_leaf

@@ -1,4 +1,4 @@
-use Rattle.std.proofs.Common.{◌≡◌, ◌-◌}
+use Rattle.std.proofs.Common.{◌-◌}
 use Rattle.struct_copies.proofs.struct_copy.+copy_leaves.Given as goal
 
 abbrev pub decreases-copy_leaves : goal.decreases-copy_leaves
