@@ -5,3 +5,4 @@ pub mod LeafCounts
 pub mod LeafNumbers
 pub mod PaddingWrites
 pub mod StructCopies
+pub mod CopyLengths
