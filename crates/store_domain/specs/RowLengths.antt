@@ -1,6 +1,6 @@
 -- What writes a row keeps its length.
 use Rattle.std.specs.Prelude.{◌≡◌, ℕ, zero, suc, ◌+◌, pos, ℤ, Bool, true, false, cond, not, ◌&&◌, Option, Some, None, is_some, ◌==◌, List, [], ◌∷◌, length, map, set, slice_get}
-use Rattle.std.proofs.Common.{◌∙◌, refl}
+use Rattle.std.proofs.Common.{◌∙◌, refl, subst}
 use Rattle.std.proofs.lemmas.List.{length-set, length-map}
 use Rattle.cc_base.specs.Lattices.{LatticeOf}
 use Rattle.cc_base.specs.IntegerDomains.{IntegersOf}
@@ -8,6 +8,7 @@ use Rattle.cc_base.specs.NumberRanges.{Range}
 use Rattle.cc_base.specs.declared.integer_operators.Rel.TheVariants.{Eq}
 use Rattle.cc_base.specs.declared.integer_operators.Tri.{Tri}
 use Rattle.c_layout.specs.declared.data_model.Model.{Model}
+use Rattle.c_layout.specs.declared.leaf_lists.Class.{Class}
 use Rattle.c_layout.specs.declared.leaf_lists.Class.TheVariants.{Char}
 use Rattle.c_layout.specs.declared.leaf_lists.Leaf.{Leaf}
 use Rattle.c_layout.specs.declared.shapes.BaseInfo.{BaseInfo}
@@ -23,6 +24,9 @@ use Rattle.value_domain.specs.Values.{value_lattice}
 use Rattle.value_domain.specs.AllocStates.{state_lattice}
 use Rattle.value_domain.specs.ValueTables.{blank_value}
 use Rattle.store_domain.specs.declared.access_windows.Window.{Window}
+use Rattle.store_domain.specs.declared.cell_reads.Access.{Access}
+use Rattle.store_domain.specs.ScalarTypes.{class_bytes}
+use Rattle.store_domain.specs.AccessWindows.{window_of}
 use Rattle.store_domain.specs.declared.first_zero_writes.ZeroTarget.{ZeroTarget}
 use Rattle.store_domain.specs.declared.stores.Write.{Write}
 use Rattle.store_domain.specs.declared.allocation.Fresh.{Fresh}
@@ -37,7 +41,7 @@ use Rattle.store_domain.specs.ByteWrites.{byte_written}
 use Rattle.store_domain.specs.FirstZeroWrites.{zero_target, put_at, put_target, put_part, put_character, any_zero, forget_target, forget_part, forget_zeros, set_part, set_zeros, no_zero, zero_first}
 use Rattle.store_domain.specs.LiveBases.{has_base, is_one_instance}
 use Rattle.store_domain.specs.Loads.{reaches_class}
-use Rattle.store_domain.specs.Stores.{cell_value, is_strong, store_leaf_at, store_leaf, store_leaves, store_class_cell, store_other_leaf_at, store_other_leaf, store_other_leaves, store_other_class, store_other_classes, store_other_bytes, store_own, store_character, store_wider, store_base, store_if, store_to, store_all}
+use Rattle.store_domain.specs.Stores.{cell_value, is_strong, store_leaf_at, store_leaf, store_leaves, store_class_cell, store_other_leaf_at, store_other_leaf, store_other_leaves, store_other_class, store_other_classes, store_other_bytes, store_own, store_character, store_wider, store_base, store_if, store_to, store_all, write_to, can_store, store_access, reached_of, store_within, store}
 use Rattle.store_domain.specs.ObjectLives.{set_cell, set_values, blank_object, at_base, forget, zero_value, clear_leaf, clear_leaves, clear_object, clear, ended_cell, leave_object, leave}
 use Rattle.store_domain.specs.Spelling.{is_one_place, one_character, characters, is_spelled, written_count, spell_cell, spell_leaf_at, spell_leaf, spell_leaves, first_zero_of, spell_part, spell_zero, spell_object, spell}
 use Rattle.store_domain.specs.Freeing.{is_heap_in, freed_state, free_base_if, free_base, free_bases, free}
@@ -56,6 +60,11 @@ turns_keep f h (suc count) row = h count (turns f count row) ∙ turns_keep f h 
 pub cond_keeps : {C : Type 0} (b : Bool) (x y row : List C) → length x ≡ length row → length y ≡ length row → length (cond b x y) ≡ length row
 cond_keeps true x y row h k = h
 cond_keeps false x y row h k = k
+
+-- so does an optional row, where there is one
+pub some_keeps : {C : Type 0} (b : Bool) (x y row : List C) → cond b (Some x) None ≡ Some y → length x ≡ length row → length y ≡ length row
+some_keeps true x y row e h = let k : x ≡ y = cc in subst (λ r. length r ≡ length row) k h
+some_keeps false x y row e h = absurd (let k : ⊥ = cc in k)
 
 pub base_keeps : {I : Type 0} (f : BaseInfo → List (Cell I) → List (Cell I)) → ((base : BaseInfo) (row : List (Cell I)) → length (f base row) ≡ length row) → (base : Option BaseInfo) (row : List (Cell I)) → length (at_base f base row) ≡ length row
 base_keeps f h None row = refl
@@ -168,6 +177,21 @@ module _ {I : Type 0} (l : LatticeOf I) (n : IntegersOf I) where
   pub store_all_keeps : (m : Model) (bases : List BaseInfo) (set : Bases) (write : Write I) (row : List (Cell I)) → length (store_all l n m bases set write row) ≡ length row
   unfolding store_all
   store_all_keeps m bases set write row = walk_keeps (store_to l n m set write) (λ base number r. store_to_keeps m set write base number r) 0 bases row
+
+  store_within_keeps : (m : Model) (bases : List BaseInfo) (set : Bases) (class : Class) (signed : Bool) (v : values.Value I) (row after : List (Cell I)) (w : Option Window)
+      → store_within l n m bases set class signed v row w ≡ Some after → length after ≡ length row
+  unfolding store_access
+  store_within_keeps m bases set class signed v row after None e = absurd (let k : ⊥ = cc in k)
+  store_within_keeps m bases set class signed v row after (Some w) e =
+      let reached = reached_of l n bases row set in
+      let access : Access = record { class = class; signed = signed; window = w } in
+      let all = store_all l n m bases reached (write_to bases reached access v) row in
+      some_keeps (can_store n m bases reached access v) all after row e (store_all_keeps m bases reached (write_to bases reached access v) row)
+
+  pub store_keeps : (m : Model) (bases : List BaseInfo) (p : Pointers I) (class : Class) (signed : Bool) (v : values.Value I) (row after : List (Cell I))
+      → store l n m bases p class signed v row ≡ Some after → length after ≡ length row
+  unfolding store
+  store_keeps m bases p class signed v row after e = store_within_keeps m bases p.bases class signed v row after (window_of n p (class_bytes m class)) e
 
   -- ---- the life of objects
 
