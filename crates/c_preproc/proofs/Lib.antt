@@ -1,3 +1,4 @@
 pub mod NameLists
 pub mod Searches
 pub mod Own
+pub mod Groups
