@@ -2,3 +2,4 @@ pub mod NameLists
 pub mod Searches
 pub mod Own
 pub mod Groups
+pub mod Definitions
