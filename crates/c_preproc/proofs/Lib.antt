@@ -1,3 +1,5 @@
 pub mod NameLists
 pub mod Searches
 pub mod Own
+pub mod Groups
+pub mod Definitions

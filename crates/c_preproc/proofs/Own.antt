@@ -1,6 +1,5 @@
 -- Refusals that do not come from the files.
-use Rattle.std.proofs.Common.{◌≡◌, Bool, true, false, ◌||◌, ◌&&◌, ◌==◌, ℕ, List, [], ◌∷◌, sym, subst, if◌then◌else◌, Err, refl, ap}
-use Rattle.cc_base.specs.Outside.{Files}
+use Rattle.std.proofs.Common.{Bool, true, false, ◌||◌, ◌&&◌, ◌==◌, ℕ, List, [], ◌∷◌, sym, subst, if◌then◌else◌, Err}
 use Rattle.cc_base.specs.declared.refusals.Stop.{Stop}
 use Rattle.cc_base.specs.declared.refusals.Stop.TheVariants as stop
 use Rattle.cc_base.specs.declared.refusals.Refusal.{Refusal}

@@ -1,6 +1,6 @@
 -- Searching goes along the names.
-use Rattle.std.proofs.Common.{◌≡◌, ◌≤◌, ◌+◌, ◌-◌, ◌^◌, ◌⊎◌, inl, inr, ℕ, zero, suc, ◌<◌, List, [], ◌∷◌, Option, Some, None, Result, Ok, Err, IfErr, map, drop, length, string_bytes, get_or, refl, sym, ◌∙◌, ap, subst, arith, min}
-use Rattle.cc_base.specs.Outside.{Files, file_at, Holds, Lacks, Rose, RoseBeyond, HoldsTooLong}
+use Rattle.std.proofs.Common.{◌≡◌, ◌≤◌, ◌+◌, inl, inr, ℕ, zero, suc, ◌<◌, List, [], ◌∷◌, Option, Some, None, Result, Ok, Err, IfErr, map, drop, length, string_bytes, get_or, refl, sym, ◌∙◌, ap, subst, arith}
+use Rattle.cc_base.specs.Outside.{Files, Holds, Lacks, Rose, RoseBeyond, HoldsTooLong}
 use Rattle.cc_base.specs.declared.refusals.Stop.{Stop}
 use Rattle.cc_base.specs.declared.refusals.Stop.TheVariants as stop
 use Rattle.cc_base.specs.declared.refusals.Refusal.{Refusal}
@@ -10,7 +10,7 @@ use Rattle.c_layout.specs.declared.data_model.Model.{Model}
 use Rattle.c_preproc.specs.Searching.{Found, found_of, LackAll, FirstHeld, Searches, built_in, searched_names}
 use Rattle.c_preproc.specs.declared.found_file.FoundFile.{FoundFile}
 use Rattle.c_preproc.specs.Reading.{found_as, ReadAnswers, SearchAnswers}
-use Rattle.c_preproc.specs.Causes.{Seen, seen_of, IsTooLong, IsMissing, IsCausedBy, IsCaused, IsCausedFrom, Went}
+use Rattle.c_preproc.specs.Causes.{Seen, seen_of, IsMissing, IsCausedBy, IsCaused, IsCausedFrom, Went}
 
 pub rose_earlier : (a b c : ℕ) → a ≤ b → Rose b c → Rose a c
 rose_earlier a b c h r = omega arith

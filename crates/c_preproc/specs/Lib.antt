@@ -3,3 +3,4 @@ pub mod Searching
 pub mod Causes
 pub mod Reading
 pub mod Groups
+pub mod Definitions

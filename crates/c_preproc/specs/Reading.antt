@@ -1,6 +1,6 @@
 -- What the reading of files does to a tree, and what its answers mean.
-use Rattle.std.specs.Prelude.{◌≡◌, ◌≤◌, ℕ, List, [], ◌∷◌, Option, Some, None, Result, Ok, Err, string_bytes}
-use Rattle.cc_base.specs.Outside.{Files, Holds, Lacks, Rose}
+use Rattle.std.specs.Prelude.{◌≡◌, ℕ, List, Option, Some, None, Result, Ok, Err, string_bytes}
+use Rattle.cc_base.specs.Outside.{Holds, Lacks, Rose}
 use Rattle.cc_base.specs.declared.refusals.Stop.{Stop}
 use Rattle.c_layout.specs.declared.data_model.Model.{Model}
 use Rattle.c_preproc.specs.declared.found_file.FoundFile.{FoundFile}

@@ -1,5 +1,5 @@
 -- Where an included file is searched (6.10.2), and what is found.
-use Rattle.std.specs.Prelude.{◌≡◌, ℕ, suc, Bool, true, false, ◌==◌, if◌then◌else◌, List, [], ◌∷◌, ◌++◌, take, map, length, Option, Some, None, ◌⊎◌, codes, option_map}
+use Rattle.std.specs.Prelude.{◌≡◌, ℕ, suc, ◌==◌, if◌then◌else◌, List, [], ◌∷◌, ◌++◌, take, map, Option, Some, None, ◌⊎◌, codes, option_map}
 use Rattle.cc_base.specs.Outside.{Files, file_at, Rose}
 use Rattle.c_layout.specs.declared.data_model.Model.{Model}
 use Rattle.lib_models.specs.Headers.{header_text}

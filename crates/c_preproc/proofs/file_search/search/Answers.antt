@@ -1,4 +1,4 @@
-use Rattle.std.proofs.Common.{[], refl, arith, string_bytes}
+use Rattle.std.proofs.Common.{[], arith, string_bytes}
 use Rattle.c_preproc.proofs.Searches.{found_here, missed_here, caused_earlier}
 use Rattle.c_preproc.proofs.file_search.search.Goals as goal
 

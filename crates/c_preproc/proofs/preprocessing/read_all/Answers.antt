@@ -1,5 +1,5 @@
 use Rattle.std.proofs.Common.{map, string_bytes}
-use Rattle.c_preproc.proofs.Searches.{caused_earlier, went_on}
+use Rattle.c_preproc.proofs.Searches.{caused_earlier}
 use Rattle.c_preproc.proofs.preprocessing.read_all.Goals as goal
 
 pub returns-in-Err-clause-cause : goal.returns-in-Err-clause-cause
