@@ -35,3 +35,15 @@ fn text_rule(rt: HostRuntime) -> Result<(), Fail> {
     assert!(rt; holds);
     Ok(())
 }
+
+#[test]
+fn sizes_that_no_run_evaluates(rt: HostRuntime) -> Result<(), Fail> {
+    let holds = checks(
+        rt.alloc(),
+        "int *p;\nint a[sizeof p];\nenum e {A = sizeof p};\nstatic unsigned long q = sizeof p;\nstruct s {int z[sizeof p];};\nint main(void){switch(A){case sizeof p: default:;}return 0;}\n",
+        1,
+        "a.c:2:7: sizeofptr: sizeof is taken of a pointer\na.c:3:13: sizeofptr: sizeof is taken of a pointer\na.c:4:26: sizeofptr: sizeof is taken of a pointer\na.c:5:17: sizeofptr: sizeof is taken of a pointer\na.c:6:31: sizeofptr: sizeof is taken of a pointer\n5 diagnostics in a.c\n",
+    )?;
+    assert!(rt; holds);
+    Ok(())
+}

@@ -1,1 +1,4 @@
 pub mod Telling
+pub mod Choosing
+pub mod Called
+pub mod Placing

@@ -1,10 +1,13 @@
 -- What a call of the program came to.
-use Rattle.std.proofs.Common.{◌≡◌, ℕ, List, refl}
+use Rattle.std.proofs.Common.{ℕ, refl}
+use Rattle.c_preproc.specs.Causes.{Seen}
+use Rattle.command_words.specs.Requests.{Asked}
 use Rattle.report_texts.specs.Reports.{Bytes}
+use Rattle.report_cli.specs.Verdicts.{Tells, Order, IsVerdict}
 use Rattle.report_cli.specs.Outcomes.{Took, PutOnce, PutFailed, told, write_fault, Answers}
 
-pub told_answers : (faults faults_now : ℕ) (sink : Took) (status : ℕ) (text : Bytes) → PutOnce sink text → Answers faults faults_now sink status
-told_answers faults faults_now sink status text put = record { outcome = told status text; by_status = refl; happened = put }
+pub told_answers : (order : Order) (seen : Seen) (asked : Asked) (sink : Took) (status : ℕ) (text : Bytes) → Tells (IsVerdict order seen asked) status text → PutOnce sink text → Answers order seen asked sink status
+told_answers order seen asked sink status text called put = record { outcome = told status text; by_status = refl; happened = (called, put) }
 
-pub failed_answers : (faults faults_now : ℕ) (sink : Took) (status : ℕ) (text : Bytes) → PutFailed sink text → Answers faults faults_now sink 6
-failed_answers faults faults_now sink status text put = record { outcome = write_fault status text; by_status = refl; happened = put }
+pub failed_answers : (order : Order) (seen : Seen) (asked : Asked) (sink : Took) (status : ℕ) (text : Bytes) → Tells (IsVerdict order seen asked) status text → PutFailed sink text → Answers order seen asked sink 6
+failed_answers order seen asked sink status text called put = record { outcome = write_fault status text; by_status = refl; happened = (called, put) }

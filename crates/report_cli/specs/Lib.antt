@@ -1,2 +1,4 @@
+pub mod Verdicts
+pub mod Answering
 pub mod Outcomes
 pub mod Choices

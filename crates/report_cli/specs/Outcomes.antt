@@ -1,7 +1,10 @@
 -- What a call of the program came to: what it told, or which device gave out.
-use Rattle.std.specs.Prelude.{◌≡◌, ◌≤◌, ℕ, List, Option}
+use Rattle.std.specs.Prelude.{◌≡◌, ℕ, Option}
 use Rattle.cc_base.specs.Outside.{Rose, Appends, AppendsPrefix, next_count}
+use Rattle.c_preproc.specs.Causes.{Seen}
+use Rattle.command_words.specs.Requests.{Asked}
 use Rattle.report_texts.specs.Reports.{Bytes}
+use Rattle.report_cli.specs.Verdicts.{Tells, Order, IsVerdict}
 
 -- the sink before and after the call
 pub record Took : Type 0 where
@@ -40,18 +43,19 @@ status_at read_fault = 5
 status_at (write_fault status text) = 6
 status_at no_memory = 7
 
--- what happened: a text was put whole, a read failed, the write failed, or memory ran out
-abbrev pub Happened : ℕ → ℕ → Took → Outcome → Type 0
-Happened faults faults_now sink (told status text) = PutOnce sink text
-Happened faults faults_now sink read_fault = Rose faults faults_now × PutNothing sink
-Happened faults faults_now sink (write_fault status text) = PutFailed sink text
-Happened faults faults_now sink no_memory = PutNothing sink
+-- what happened: a text that is called for was put whole, a read failed, the write of such a text failed,
+-- or memory ran out
+abbrev pub Happened : Order → Seen → Asked → Took → Outcome → Type 0
+Happened order seen asked sink (told status text) = Tells (IsVerdict order seen asked) status text × PutOnce sink text
+Happened order seen asked sink read_fault = Rose seen.faults seen.faults_now × PutNothing sink
+Happened order seen asked sink (write_fault status text) = Tells (IsVerdict order seen asked) status text × PutFailed sink text
+Happened order seen asked sink no_memory = PutNothing sink
 
--- every answer of the program with what happened; the counts of the tree's faults before and after
-pub record Answers (faults faults_now : ℕ) (sink : Took) (status : ℕ) : Type 0 where
+-- every answer of the program with what happened
+pub record Answers (order : Order) (seen : Seen) (asked : Asked) (sink : Took) (status : ℕ) : Type 0 where
   pub outcome : Outcome
   pub by_status : status ≡ status_at outcome
-  pub happened : Happened faults faults_now sink outcome
+  pub happened : Happened order seen asked sink outcome
 
 abbrev pub took : Option Bytes → Option Bytes → ℕ → ℕ → ℕ → ℕ → Took
 took written written_now faults faults_now calls calls_now = record { written = written; written_now = written_now; faults = faults; faults_now = faults_now; calls = calls; calls_now = calls_now }

@@ -1,20 +1,26 @@
 //! What the words and the files call for.
-ghost use Rattle.std.specs.Prelude.{◌≡◌, ◌≤◌, ◌<◌, All, IfOk, IsErrOf, true};
+ghost use Rattle.std.specs.Prelude.{◌≡◌, ◌≤◌, ◌<◌, ◌⊎◌, All, IfOk, IsErrOf, false, true, map, string_bytes, length};
+ghost use Rattle.std.specs.List.Sorted.{IsStrictlySortedBy};
 ghost use Rattle.cc_base.specs.Outside.{Rose};
 ghost use Rattle.c_layout.specs.Models.{is_model};
+ghost use Rattle.c_preproc.specs.Causes.{seen_of, IsOwnRefusal};
+ghost use Rattle.command_words.specs.Requests.{asked, command_view, Check, Load};
+ghost use Rattle.report_cli.specs.Verdicts.{file_name, report_status, report_in, IsReport, Tells, AnswersUnit, AnswersLoad, RefusesModel, Under, IsVerdict};
+ghost use Rattle.report_cli.specs.Answering.{AnswersFault, AnswersStop, AnswersOwn, AnswersReport, AnswersSummary};
 ghost use Rattle.cc_base.specs.declared.refusals.Stop.TheVariants as stops;
 
 use crate::model_choice::{ModelChoice, choose_model};
 use crate::unit_answers::{Judged, judge_unit};
 use c_layout::{Model, Unit7};
 use c_preproc::{expand, expand_bytes};
-use cc_base::{Diag, Fault, Memory, Stop, Tree};
+use cc_base::{Diag, Fault, Memory, Refusal, Stop, Tree};
 use command_words::{Command, Format, Request, read_words};
 use report_texts::{
     Answer, help, load_unit, no_file, refusal_answer, report_json, report_text, summary, version,
     words_refused,
 };
 use std::alloc::{AllocError, Global};
+use syntax_rules::ordered;
 
 /// What ends the work without a text.
 #[derive(Clone, Copy, PartialEq, Eq)]
@@ -46,7 +52,9 @@ impl From<Memory> for Halt {
 }
 
 /// The name of a file of the unit; the unit's own where the list has none.
-fn file_name<'a>(files: &'a [String], unit: &'a str, file: u32) -> &'a str {
+fn file_name<'a>(files: &'a [String], unit: &'a str, file: u32) -> &'a str
+    ensures { result.now ≡ file_name (map string_bytes files.now) unit.now file }
+{
     match files.get(file as usize) {
         Some(name) => name.as_str(),
         None => unit,
@@ -56,17 +64,35 @@ fn file_name<'a>(files: &'a [String], unit: &'a str, file: u32) -> &'a str {
 /// The answer to a refusal.
 fn refused(alloc: Global, files: &[String], unit: &str, fault: &Fault) -> Result<Answer, Halt>
     ensures fault { IsErrOf result Halt.ReadFault → ⊥ }
+    ensures called { IfOk result (λ a. AnswersFault (map string_bytes files.now) unit.now fault.now a.status a.text.items) }
 {
     let name = file_name(files, unit, fault.place.file);
     Ok(refusal_answer(alloc, name, fault)?)
 }
 
-/// The answer where the work behind the expansion stopped, which reads no file.
+/// Whether a refusal comes from the files: of one that is too long, or of a header that is missing.
+fn is_of_files(refusal: &Refusal) -> bool
+    ensures { result ≡ false → IsOwnRefusal refusal.now }
+{
+    matches!(
+        refusal,
+        Refusal::FileTooLong { .. } | Refusal::HeaderMissing(_)
+    )
+}
+
+/// The answer where the work behind the expansion stopped. It reads no file, so nothing that comes
+/// from the files stops it.
 fn stopped(alloc: Global, files: &[String], unit: &str, stop: Stop) -> Result<Answer, Halt>
     ensures fault { IsErrOf result Halt.ReadFault → ⊥ }
+    ensures called { IfOk result (λ a. AnswersOwn (map string_bytes files.now) unit.now a.status a.text.items) }
 {
     match stop {
-        Stop::Refused(fault) => refused(alloc, files, unit, &fault),
+        Stop::Refused(fault) => {
+            if is_of_files(&fault.refusal) {
+                return Err(Halt::Memory);
+            }
+            refused(alloc, files, unit, &fault)
+        }
         Stop::NotHeld | Stop::ReadFault | Stop::Memory => Err(Halt::Memory),
     }
 }
@@ -74,6 +100,7 @@ fn stopped(alloc: Global, files: &[String], unit: &str, stop: Stop) -> Result<An
 /// The answer where the expansion stopped.
 fn not_expanded(alloc: Global, files: &[String], unit: &str, stop: Stop) -> Result<Answer, Halt>
     ensures fault { IsErrOf result Halt.ReadFault → stop ≡ stops.ReadFault }
+    ensures called { IfOk result (λ a. AnswersStop (map string_bytes files.now) unit.now stop a.status a.text.items) }
 {
     match stop {
         Stop::Refused(fault) => refused(alloc, files, unit, &fault),
@@ -96,27 +123,56 @@ fn placed(alloc: Global, diags: &[Diag], count: usize) -> Result<Vec<Diag>, Allo
     Ok(kept)
 }
 
-fn status_for(diags: &[Diag]) -> u8 {
-    if diags.len() == 0 { 0 } else { 1 }
+/// The diagnostics whose files are in the list, in order, each once.
+fn listed(alloc: Global, diags: &[Diag], count: usize) -> Result<Vec<Diag>, AllocError>
+    ensures ascending { IfOk result (λ v. IsStrictlySortedBy ⟦<Diag as Ord>⟧.cmp v.items) }
+    ensures placed { IfOk result (λ v. All (λ d. d.place.file < count) v.items) }
+{
+    Ok(ordered(placed(alloc, diags, count)?))
+}
+
+/// 1 where there is a diagnostic.
+fn status_for(diags: &[Diag]) -> u8
+    ensures { result ≡ report_status diags.now }
+{
+    match diags {
+        [] => 0,
+        [_, ..] => 1,
+    }
+}
+
+/// The text of a report.
+fn report(
+    alloc: Global,
+    format: Format,
+    files: &[String],
+    unit: &str,
+    diags: &[Diag],
+) -> Result<Vec<u8>, Memory>
+    requires { All (λ d. d.place.file < length files.now) diags.now }
+    ensures { IfOk result (λ b. b.items ≡ report_in format (map string_bytes files.now) unit.now diags.now) }
+{
+    match format {
+        Format::Text => report_text(alloc, files, unit, diags),
+        Format::Json => report_json(alloc, files, unit, diags),
+    }
 }
 
 /// The report on an accepted unit.
 fn reported(
     alloc: Global,
     files: &[String],
-    command: &Command,
+    format: Format,
+    unit: &str,
     diags: &[Diag],
 ) -> Result<Answer, Halt>
     ensures fault { IsErrOf result Halt.ReadFault → ⊥ }
+    ensures called { IfOk result (λ a. AnswersReport ⟦<Diag as Ord>⟧.cmp format (map string_bytes files.now) unit.now a.status a.text.items) }
 {
-    let kept = placed(alloc, diags, files.len())?;
-    let unit = command.unit.as_str();
-    let text = match command.format {
-        Format::Text => report_text(alloc, files, unit, kept.as_slice())?,
-        Format::Json => report_json(alloc, files, unit, kept.as_slice())?,
-    };
+    let listed = listed(alloc, diags, files.len())?;
+    let text = report(alloc, format, files, unit, listed.as_slice())?;
     Ok(Answer {
-        status: status_for(kept.as_slice()),
+        status: status_for(listed.as_slice()),
         text,
     })
 }
@@ -131,10 +187,12 @@ fn checked(
 ) -> Result<Answer, Halt>
     requires { is_model model.now ≡ true }
     ensures fault { IsErrOf result Halt.ReadFault → ⊥ }
+    ensures called { IfOk result (λ a. AnswersOwn (map string_bytes files.now) (string_bytes command.now.unit) a.status a.text.items ⊎ AnswersReport ⟦<Diag as Ord>⟧.cmp command.now.format (map string_bytes files.now) (string_bytes command.now.unit) a.status a.text.items) }
 {
+    let name = command.unit.as_str();
     match judge_unit(alloc, unit, model, command.entry.as_str()) {
-        Ok(judged) => reported(alloc, files, command, judged.diags.as_slice()),
-        Err(stop) => stopped(alloc, files, command.unit.as_str(), stop),
+        Ok(judged) => reported(alloc, files, command.format, name, judged.diags.as_slice()),
+        Err(stop) => stopped(alloc, files, name, stop),
     }
 }
 
@@ -147,6 +205,7 @@ fn check_under<T: Tree>(
 ) -> Result<Answer, Halt>
     requires { is_model model.now ≡ true }
     ensures fault { IsErrOf result Halt.ReadFault → Rose (T.faults tree.old) (T.faults tree.new) }
+    ensures called { IfOk result (λ a. Tells (AnswersUnit ⟦<Diag as Ord>⟧.cmp (seen_of (T.files tree.old) (T.faults tree.old) (T.faults tree.new) (T.taken tree.old) (T.taken tree.new)) (command_view command.now) model.now) a.status a.text.items) }
     ensures files { T.files tree.new ≡ T.files tree.old }
     ensures faults { T.faults tree.old ≤ T.faults tree.new }
     ensures taken { T.taken tree.old ≤ T.taken tree.new }
@@ -169,6 +228,7 @@ fn check_under<T: Tree>(
 /// The answer to `check`.
 fn answer_check<T: Tree>(alloc: Global, command: &Command, tree: &mut T) -> Result<Answer, Halt>
     ensures fault { IsErrOf result Halt.ReadFault → Rose (T.faults tree.old) (T.faults tree.new) }
+    ensures called { IfOk result (λ a. Tells (IsVerdict ⟦<Diag as Ord>⟧.cmp (seen_of (T.files tree.old) (T.faults tree.old) (T.faults tree.new) (T.taken tree.old) (T.taken tree.new)) (Check (command_view command.now))) a.status a.text.items) }
     ensures files { T.files tree.new ≡ T.files tree.old }
     ensures faults { T.faults tree.old ≤ T.faults tree.new }
     ensures taken { T.taken tree.old ≤ T.taken tree.new }
@@ -182,15 +242,17 @@ fn answer_check<T: Tree>(alloc: Global, command: &Command, tree: &mut T) -> Resu
 /// The summary on an accepted unit.
 fn summarised(alloc: Global, files: &[String], unit: &str, judged: &Judged) -> Result<Answer, Halt>
     ensures fault { IsErrOf result Halt.ReadFault → ⊥ }
+    ensures called { IfOk result (λ a. AnswersSummary ⟦<Diag as Ord>⟧.cmp unit.now a.status a.text.items) }
 {
-    let kept = placed(alloc, judged.diags.as_slice(), files.len())?;
-    let text = summary(alloc, unit, judged.bases, judged.cells, kept.as_slice())?;
+    let listed = listed(alloc, judged.diags.as_slice(), files.len())?;
+    let text = summary(alloc, unit, judged.bases, judged.cells, listed.as_slice())?;
     Ok(Answer {
-        status: status_for(kept.as_slice()),
+        status: status_for(listed.as_slice()),
         text,
     })
 }
 
+/// The answer to `load` on a unit that was expanded.
 fn loaded(
     alloc: Global,
     files: &[String],
@@ -200,6 +262,7 @@ fn loaded(
 ) -> Result<Answer, Halt>
     requires { is_model model.now ≡ true }
     ensures fault { IsErrOf result Halt.ReadFault → ⊥ }
+    ensures called { IfOk result (λ a. AnswersOwn (map string_bytes files.now) name.now a.status a.text.items ⊎ AnswersSummary ⟦<Diag as Ord>⟧.cmp name.now a.status a.text.items) }
 {
     match judge_unit(alloc, unit, model, "main") {
         Ok(judged) => summarised(alloc, files, name, &judged),
@@ -216,6 +279,7 @@ fn load_under<T: Tree>(
 ) -> Result<Answer, Halt>
     requires { is_model model.now ≡ true }
     ensures fault { IsErrOf result Halt.ReadFault → Rose (T.faults tree.old) (T.faults tree.new) }
+    ensures called { IfOk result (λ a. Tells (AnswersLoad ⟦<Diag as Ord>⟧.cmp (seen_of (T.files tree.old) (T.faults tree.old) (T.faults tree.new) (T.taken tree.old) (T.taken tree.new)) (command_view command.now) model.now) a.status a.text.items) }
     ensures files { T.files tree.new ≡ T.files tree.old }
     ensures faults { T.faults tree.old ≤ T.faults tree.new }
     ensures taken { T.taken tree.old ≤ T.taken tree.new }
@@ -235,6 +299,7 @@ fn load_under<T: Tree>(
 /// The answer to `load`.
 fn answer_load<T: Tree>(alloc: Global, command: &Command, tree: &mut T) -> Result<Answer, Halt>
     ensures fault { IsErrOf result Halt.ReadFault → Rose (T.faults tree.old) (T.faults tree.new) }
+    ensures called { IfOk result (λ a. Tells (IsVerdict ⟦<Diag as Ord>⟧.cmp (seen_of (T.files tree.old) (T.faults tree.old) (T.faults tree.new) (T.taken tree.old) (T.taken tree.new)) (Load (command_view command.now))) a.status a.text.items) }
     ensures files { T.files tree.new ≡ T.files tree.old }
     ensures faults { T.faults tree.old ≤ T.faults tree.new }
     ensures taken { T.taken tree.old ≤ T.taken tree.new }
@@ -248,6 +313,7 @@ fn answer_load<T: Tree>(alloc: Global, command: &Command, tree: &mut T) -> Resul
 /// What the words and the tree call for. On a read fault the tree's faults rose.
 pub(crate) fn decide<T: Tree>(alloc: Global, words: &[String], tree: &mut T) -> Result<Answer, Halt>
     ensures fault { IsErrOf result Halt.ReadFault → Rose (T.faults tree.old) (T.faults tree.new) }
+    ensures called { IfOk result (λ a. Tells (IsVerdict ⟦<Diag as Ord>⟧.cmp (seen_of (T.files tree.old) (T.faults tree.old) (T.faults tree.new) (T.taken tree.old) (T.taken tree.new)) (asked (map string_bytes words.now))) a.status a.text.items) }
     ensures files { T.files tree.new ≡ T.files tree.old }
     ensures faults { T.faults tree.old ≤ T.faults tree.new }
     ensures taken { T.taken tree.old ≤ T.taken tree.new }

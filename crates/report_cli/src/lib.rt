@@ -2,9 +2,6 @@
 #![tactic(auto)]
 
 mod decision;
-
-
-
 mod model_choice;
 mod program;
 mod unit_answers;

@@ -1,5 +1,5 @@
 //! What a unit that was expanded comes to.
-ghost use Rattle.std.specs.Prelude.{◌≡◌, true};
+ghost use Rattle.std.specs.Prelude.{◌≡◌, ◌++◌, IfOk, true};
 ghost use Rattle.c_layout.specs.Models.{is_model};
 
 use c_layout::{Checked, Model, Unit7};
@@ -12,7 +12,7 @@ use flow_program::{Flow, thresholds};
 use std::alloc::{AllocError, Global};
 use syntax_rules::syntactic;
 
-/// A unit that was accepted: its diagnostics in order, and how many bases and cells its program has.
+/// A unit that was accepted: its diagnostics, and how many bases and cells its program has.
 #[derive(Drop)]
 pub struct Judged {
     pub diags: Vec<Diag>,
@@ -33,14 +33,12 @@ fn cell_count(flow: &Flow) -> u64 {
     count
 }
 
-/// Both lists in order, each pair once.
-fn merged(first: Vec<Diag>, second: Vec<Diag>) -> Result<Vec<Diag>, AllocError> {
+/// Both lists, one after the other.
+fn joined(first: Vec<Diag>, second: &[Diag]) -> Result<Vec<Diag>, AllocError>
+    ensures { IfOk result (λ v. v.items ≡ first.items ++ second.now) }
+{
     let mut all = first;
-    for at in 0..second.len() {
-        all.push(second[at])?;
-    }
-    all.sort_unstable();
-    all.dedup();
+    all.extend_from_slice(second)?;
     Ok(all)
 }
 
@@ -51,7 +49,7 @@ fn judge_program(alloc: Global, checked: &Checked, flow: &Flow) -> Result<Judged
     let found = analyse(alloc, flow, &list)?;
     let texts = syntactic(alloc, checked)?;
     Ok(Judged {
-        diags: merged(texts, found)?,
+        diags: joined(texts, found.as_slice())?,
         bases: flow.bases.len() as u64,
         cells: cell_count(flow),
     })

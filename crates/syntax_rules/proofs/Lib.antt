@@ -1,1 +1,1 @@
-mod Ordered
+mod Sorting

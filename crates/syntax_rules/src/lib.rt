@@ -9,4 +9,5 @@ mod switches;
 mod syntactic_rules;
 mod term_places;
 
+pub use diagnostic_lists::ordered;
 pub use syntactic_rules::syntactic;

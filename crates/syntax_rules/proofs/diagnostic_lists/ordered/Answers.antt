@@ -1,4 +1,4 @@
-use Rattle.syntax_rules.proofs.Ordered.{ordered_ascends, ordered_kept, ordered_made}
+use Rattle.syntax_rules.proofs.Sorting.{ordered_ascends, ordered_kept, ordered_made}
 use Rattle.syntax_rules.proofs.diagnostic_lists.ordered.Goals as goal
 
 pub returns-clause-ascending : goal.returns-clause-ascending

@@ -1,0 +1,110 @@
+-- What is told of a unit is called for.
+use Rattle.std.proofs.Common.{◌≡◌, ◌≤◌, ◌⊎◌, ℕ, List, [], Option, refl, inl, inr, subst, sym}
+use Rattle.cc_base.specs.declared.refusals.Stop.{Stop}
+use Rattle.cc_base.specs.declared.refusals.Stop.TheVariants as stop
+use Rattle.c_layout.specs.declared.data_model.Model.{Model}
+use Rattle.cc_base.specs.Outside.{Files}
+use Rattle.c_preproc.specs.Causes.{Seen, seen_of, IsCaused, IsCausedFrom}
+use Rattle.c_preproc.proofs.Own.{own_caused}
+use Rattle.command_words.specs.Requests.{CommandView, Asked, Help, Version, Check, Load, Refused}
+use Rattle.report_texts.specs.Reports.{Bytes}
+use Rattle.report_texts.specs.FixedTexts.{help_text, version_text, words_refused_text}
+use Rattle.report_cli.specs.declared.model_choice.ModelChoice.{ModelChoice}
+use Rattle.report_cli.specs.declared.model_choice.ModelChoice.TheVariants.{Chosen}
+use Rattle.report_cli.specs.Choices.{IsChoice}
+use Rattle.report_cli.specs.Verdicts.{Tells, helped, versioned, words_refused, absent, refused, reported, summed, file_name, Order, AnswersUnit, AnswersLoad, HasModel, RefusesModel, IsLater, IsVerdict}
+use Rattle.report_cli.specs.Answering.{AnswersStop, AnswersOwn, AnswersReport, AnswersSummary}
+
+pub stop_told : (order : Order) (seen : Seen) (c : CommandView) (m : Model) (names : List Bytes) (s : Stop) (status : ℕ) (text : Bytes) → IsCausedFrom c.unit seen c.dirs m names s → AnswersStop names c.unit s status text → Tells (AnswersUnit order seen c m) status text
+stop_told order seen c m names (stop.Refused f) status text h a = record { verdict = refused (file_name names c.unit f.place.file) f; called_for = record { names = names; named = refl; cause = h }; by_status = a.0; by_text = a.1 }
+stop_told order seen c m names stop.NotHeld status text h a = record { verdict = absent c.unit; called_for = (refl, h); by_status = a.0; by_text = a.1 }
+stop_told order seen c m names stop.ReadFault status text h a = absurd a
+stop_told order seen c m names stop.Memory status text h a = absurd a
+
+own_told : (order : Order) (seen : Seen) (c : CommandView) (m : Model) (names : List Bytes) (status : ℕ) (text : Bytes) → AnswersOwn names c.unit status text → Tells (AnswersUnit order seen c m) status text
+own_told order seen c m names status text a = record { verdict = refused (file_name names c.unit a.why.place.file) a.why; called_for = record { names = names; named = refl; cause = own_caused seen c.dirs m names (stop.Refused a.why) a.own }; by_status = a.answers.0; by_text = a.answers.1 }
+
+report_told : (order : Order) (seen : Seen) (c : CommandView) (m : Model) (names : List Bytes) (status : ℕ) (text : Bytes) → AnswersReport order c.format names c.unit status text → Tells (AnswersUnit order seen c m) status text
+report_told order seen c m names status text a = record { verdict = reported c.format names c.unit a.diags; called_for = (refl, refl, a.is_report); by_status = a.by_status; by_text = a.by_text }
+
+-- what is told of a unit that was expanded
+pub checked_told : (order : Order) (seen : Seen) (c : CommandView) (m : Model) (names : List Bytes) (status : ℕ) (text : Bytes) → AnswersOwn names c.unit status text ⊎ AnswersReport order c.format names c.unit status text → Tells (AnswersUnit order seen c m) status text
+checked_told order seen c m names status text h = elim h [
+  | inl a ↦ own_told order seen c m names status text a
+  | inr a ↦ report_told order seen c m names status text a
+]
+
+own_made : (order : Order) (seen : Seen) (c : CommandView) (m : Model) (names : List Bytes) (status : ℕ) (text : Bytes) → AnswersOwn names c.unit status text → Tells (AnswersLoad order seen c m) status text
+own_made order seen c m names status text a = record { verdict = refused (file_name names c.unit a.why.place.file) a.why; called_for = record { names = names; named = refl; cause = own_caused seen [] m names (stop.Refused a.why) a.own }; by_status = a.answers.0; by_text = a.answers.1 }
+
+summary_made : (order : Order) (seen : Seen) (c : CommandView) (m : Model) (status : ℕ) (text : Bytes) → AnswersSummary order c.unit status text → Tells (AnswersLoad order seen c m) status text
+summary_made order seen c m status text a = record { verdict = summed c.unit a.bases a.cells a.diags; called_for = (refl, a.names, a.is_report); by_status = a.by_status; by_text = a.by_text }
+
+-- what is told of a unit that was made
+pub loaded_told : (order : Order) (seen : Seen) (c : CommandView) (m : Model) (names : List Bytes) (status : ℕ) (text : Bytes) → AnswersOwn names c.unit status text ⊎ AnswersSummary order c.unit status text → Tells (AnswersLoad order seen c m) status text
+loaded_told order seen c m names status text h = elim h [
+  | inl a ↦ own_made order seen c m names status text a
+  | inr a ↦ summary_made order seen c m status text a
+]
+
+pub stop_made : (order : Order) (seen : Seen) (c : CommandView) (m : Model) (names : List Bytes) (s : Stop) (status : ℕ) (text : Bytes) → IsCaused seen [] m names s → AnswersStop names c.unit s status text → Tells (AnswersLoad order seen c m) status text
+stop_made order seen c m names (stop.Refused f) status text h a = record { verdict = refused (file_name names c.unit f.place.file) f; called_for = record { names = names; named = refl; cause = h }; by_status = a.0; by_text = a.1 }
+stop_made order seen c m names stop.NotHeld status text h a = absurd h
+stop_made order seen c m names stop.ReadFault status text h a = absurd a
+stop_made order seen c m names stop.Memory status text h a = absurd a
+
+-- the same, with the names and the unit as the work has them
+pub stop_under : (order : Order) (seen : Seen) (c : CommandView) (m : Model) (names given : List Bytes) (unit : Bytes) (dirs : List Bytes) (s : Stop) (status : ℕ) (text : Bytes) → unit ≡ c.unit → dirs ≡ c.dirs → given ≡ names → IsCausedFrom unit seen dirs m names s → AnswersStop given unit s status text → Tells (AnswersUnit order seen c m) status text
+stop_under order seen c m names given unit dirs s status text same_unit same_dirs same_names h a =
+    let cause = subst (λ u. IsCausedFrom u seen c.dirs m names s) same_unit (subst (λ d. IsCausedFrom unit seen d m names s) same_dirs h) in
+    let answer = subst (λ u. AnswersStop names u s status text) same_unit (subst (λ n. AnswersStop n unit s status text) same_names a) in
+    stop_told order seen c m names s status text cause answer
+
+pub loaded_under : (order : Order) (seen : Seen) (c : CommandView) (m : Model) (names : List Bytes) (unit : Bytes) (status : ℕ) (text : Bytes) → unit ≡ c.unit → AnswersOwn names unit status text ⊎ AnswersSummary order unit status text → Tells (AnswersLoad order seen c m) status text
+loaded_under order seen c m names unit status text same h = loaded_told order seen c m names status text (subst (λ u. AnswersOwn names u status text ⊎ AnswersSummary order u status text) same h)
+
+pub stop_made_under : (order : Order) (seen : Seen) (c : CommandView) (m : Model) (names given : List Bytes) (unit : Bytes) (s : Stop) (status : ℕ) (text : Bytes) → unit ≡ c.unit → given ≡ names → IsCaused seen [] m names s → AnswersStop given unit s status text → Tells (AnswersLoad order seen c m) status text
+stop_made_under order seen c m names given unit s status text same_unit same_names h a =
+    let answer = subst (λ u. AnswersStop names u s status text) same_unit (subst (λ n. AnswersStop n unit s status text) same_names a) in
+    stop_made order seen c m names s status text h answer
+
+-- where there is no model
+pub model_refused_check : (order : Order) (seen : Seen) (c : CommandView) (status : ℕ) (text : Bytes) → Tells (RefusesModel seen c.model) status text → Tells (IsVerdict order seen (Check c)) status text
+model_refused_check order seen c status text t = record { verdict = t.verdict; called_for = inl t.called_for; by_status = t.by_status; by_text = t.by_text }
+
+pub model_refused_load : (order : Order) (seen : Seen) (c : CommandView) (status : ℕ) (text : Bytes) → Tells (RefusesModel seen c.model) status text → Tells (IsVerdict order seen (Load c)) status text
+model_refused_load order seen c status text t = record { verdict = t.verdict; called_for = inl t.called_for; by_status = t.by_status; by_text = t.by_text }
+
+-- where there is one
+pub unit_answered : (order : Order) (seen later : Seen) (c : CommandView) (m : Model) (status : ℕ) (text : Bytes) → HasModel seen.files c.model m → IsLater seen later → Tells (AnswersUnit order later c m) status text → Tells (IsVerdict order seen (Check c)) status text
+unit_answered order seen later c m status text has after t = record { verdict = t.verdict; called_for = inr (record { chosen = m; has_model = has; later = later; is_later = after; answered = t.called_for }); by_status = t.by_status; by_text = t.by_text }
+
+pub load_answered : (order : Order) (seen later : Seen) (c : CommandView) (m : Model) (status : ℕ) (text : Bytes) → HasModel seen.files c.model m → IsLater seen later → Tells (AnswersLoad order later c m) status text → Tells (IsVerdict order seen (Load c)) status text
+load_answered order seen later c m status text has after t = record { verdict = t.verdict; called_for = inr (record { chosen = m; has_model = has; later = later; is_later = after; answered = t.called_for }); by_status = t.by_status; by_text = t.by_text }
+
+later : (f0 f1 : Option Files) (a0 a1 a2 b0 b1 b2 : ℕ) → f1 ≡ f0 → a0 ≤ a1 → b0 ≤ b1 → IsLater (seen_of f0 a0 a2 b0 b2) (seen_of f1 a1 a2 b1 b2)
+later f0 f1 a0 a1 a2 b0 b1 b2 same faults taken = record { files = same; faults = faults; faults_now = refl; taken = taken; taken_now = refl }
+
+model_held : (seen : Seen) (name model : Bytes) (choice : ModelChoice) (m : Model) → name ≡ model → choice ≡ Chosen m → IsChoice seen name choice → HasModel seen.files model m
+model_held seen name model choice m same chose h =
+    let by_name : IsChoice seen name (Chosen m) = subst (λ k. IsChoice seen name k) chose h in
+    subst (λ n. HasModel seen.files n m) same by_name.1
+
+-- what is told under the model that was chosen, from what the tree gave meanwhile on
+pub check_chosen : (order : Order) (f0 f1 : Option Files) (a0 a1 a2 b0 b1 b2 : ℕ) (c : CommandView) (m : Model) (name : Bytes) (choice : ModelChoice) (status : ℕ) (text : Bytes) → name ≡ c.model → choice ≡ Chosen m → IsChoice (seen_of f0 a0 a1 b0 b1) name choice → f1 ≡ f0 → a0 ≤ a1 → b0 ≤ b1 → Tells (AnswersUnit order (seen_of f1 a1 a2 b1 b2) c m) status text → Tells (IsVerdict order (seen_of f0 a0 a2 b0 b2) (Check c)) status text
+check_chosen order f0 f1 a0 a1 a2 b0 b1 b2 c m name choice status text same chose given files faults taken t =
+    unit_answered order (seen_of f0 a0 a2 b0 b2) (seen_of f1 a1 a2 b1 b2) c m status text (model_held (seen_of f0 a0 a1 b0 b1) name c.model choice m same chose given) (later f0 f1 a0 a1 a2 b0 b1 b2 files faults taken) t
+
+pub load_chosen : (order : Order) (f0 f1 : Option Files) (a0 a1 a2 b0 b1 b2 : ℕ) (c : CommandView) (m : Model) (name : Bytes) (choice : ModelChoice) (status : ℕ) (text : Bytes) → name ≡ c.model → choice ≡ Chosen m → IsChoice (seen_of f0 a0 a1 b0 b1) name choice → f1 ≡ f0 → a0 ≤ a1 → b0 ≤ b1 → Tells (AnswersLoad order (seen_of f1 a1 a2 b1 b2) c m) status text → Tells (IsVerdict order (seen_of f0 a0 a2 b0 b2) (Load c)) status text
+load_chosen order f0 f1 a0 a1 a2 b0 b1 b2 c m name choice status text same chose given files faults taken t =
+    load_answered order (seen_of f0 a0 a2 b0 b2) (seen_of f1 a1 a2 b1 b2) c m status text (model_held (seen_of f0 a0 a1 b0 b1) name c.model choice m same chose given) (later f0 f1 a0 a1 a2 b0 b1 b2 files faults taken) t
+
+-- what is told where no unit is asked for
+pub helped_told : (order : Order) (seen : Seen) (a : Asked) (status : ℕ) (text : Bytes) → a ≡ Help → status ≡ 0 → text ≡ help_text → Tells (IsVerdict order seen a) status text
+helped_told order seen a status text e s t = subst (λ x. Tells (IsVerdict order seen x) status text) (sym e) (record { verdict = helped; called_for = refl; by_status = s; by_text = t })
+
+pub versioned_told : (order : Order) (seen : Seen) (a : Asked) (status : ℕ) (text : Bytes) → a ≡ Version → status ≡ 0 → text ≡ version_text → Tells (IsVerdict order seen a) status text
+versioned_told order seen a status text e s t = subst (λ x. Tells (IsVerdict order seen x) status text) (sym e) (record { verdict = versioned; called_for = refl; by_status = s; by_text = t })
+
+pub words_told : (order : Order) (seen : Seen) (a : Asked) (status : ℕ) (text : Bytes) → a ≡ Refused → status ≡ 3 → text ≡ words_refused_text → Tells (IsVerdict order seen a) status text
+words_told order seen a status text e s t = subst (λ x. Tells (IsVerdict order seen x) status text) (sym e) (record { verdict = words_refused; called_for = refl; by_status = s; by_text = t })

@@ -1,0 +1,18 @@
+use Rattle.std.proofs.Common.{ap, map, string_bytes}
+use Rattle.std.proofs.lemmas.Result.{IfOk-weaker}
+use Rattle.command_words.specs.Requests.{command_view}
+use Rattle.report_cli.proofs.Called.{checked_told, stop_under}
+use Rattle.report_cli.proofs.decision.check_under.Goals as goal
+
+pub returns-in-Ok-clause-called : goal.returns-in-Ok-clause-called
+returns-in-Ok-clause-called g c =
+    IfOk-weaker c.checked.result _ _
+    (λ a h. checked_told _ _ (command_view c.args.command.now) c.args.model.now (map string_bytes c.as_slice-in-Ok.result.now) a.status a.text.items h)
+    c.checked.ensures.called
+
+pub returns-clause-called : goal.returns-clause-called
+returns-clause-called g c =
+    IfOk-weaker c.not_expanded.result _ _
+    (λ a h. stop_under _ _ (command_view c.args.command.now) c.args.model.now (map string_bytes c.expand.new.files.items) (map string_bytes c.as_slice-in-Err.result.now) c.as_str-unit.result.now (map string_bytes c.as_slice.result.now) c.in-Err.stop a.status a.text.items
+    c.as_str-unit.ensures.value (ap (map string_bytes) c.as_slice.ensures.value) (ap (map string_bytes) c.as_slice-in-Err.ensures.value) c.in-Err.ensures.cause h)
+    c.not_expanded.ensures.called

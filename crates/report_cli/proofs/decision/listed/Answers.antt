@@ -1,0 +1,6 @@
+use Rattle.std.proofs.Common.{◌<◌}
+use Rattle.report_cli.proofs.Placing.{all_made}
+use Rattle.report_cli.proofs.decision.listed.Goals as goal
+
+pub returns-clause-placed : goal.returns-clause-placed
+returns-clause-placed c = all_made (λ d. d.place.file < c.args.count) c.in_ok-placed.field-0.items c.ordered.result.items c.ordered.ensures.made c.in_ok-placed.ensures

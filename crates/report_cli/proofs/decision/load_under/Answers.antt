@@ -1,0 +1,18 @@
+use Rattle.std.proofs.Common.{ap, map, string_bytes}
+use Rattle.std.proofs.lemmas.Result.{IfOk-weaker}
+use Rattle.command_words.specs.Requests.{command_view}
+use Rattle.report_cli.proofs.Called.{loaded_under, stop_made_under}
+use Rattle.report_cli.proofs.decision.load_under.Goals as goal
+
+pub returns-in-Ok-clause-called : goal.returns-in-Ok-clause-called
+returns-in-Ok-clause-called g c =
+    IfOk-weaker c.loaded.result _ _
+    (λ a h. loaded_under _ _ (command_view c.args.command.now) c.args.model.now (map string_bytes c.as_slice-in-Ok.result.now) c.as_str-unit.result.now a.status a.text.items c.as_str-unit.ensures.value h)
+    c.loaded.ensures.called
+
+pub returns-clause-called : goal.returns-clause-called
+returns-clause-called g c =
+    IfOk-weaker c.not_expanded.result _ _
+    (λ a h. stop_made_under _ _ (command_view c.args.command.now) c.args.model.now (map string_bytes c.expand_bytes.new.files.items) (map string_bytes c.as_slice-in-Err.result.now) c.as_str-unit.result.now c.in-Err.stop a.status a.text.items
+    c.as_str-unit.ensures.value (ap (map string_bytes) c.as_slice-in-Err.ensures.value) c.in-Err.ensures.cause h)
+    c.not_expanded.ensures.called

@@ -1,0 +1,178 @@
+-- What words and files call for, and what the program tells then.
+use Rattle.std.specs.Prelude.{◌≡◌, ◌≤◌, ◌<◌, ◌⊎◌, ℕ, List, [], ◌∷◌, length, All, Option, Some, None, Result, Ok, Err, codes, slice_get, unwrap_or, IsUtf8}
+use Rattle.std.specs.List.Sorted.{IsStrictlySortedBy}
+use Rattle.std.specs.declared.cmp.Ordering.{Ordering}
+use Rattle.toml.specs.Parse.{parse_document}
+use Rattle.cc_base.specs.Outside.{Files, Holds, HoldsTooLong, Lacks, Rose, RoseBeyond}
+use Rattle.cc_base.specs.declared.diagnostics.Diag.{Diag}
+use Rattle.cc_base.specs.declared.refusals.Fault.{Fault}
+use Rattle.c_layout.specs.Models.{model_named}
+use Rattle.c_layout.specs.ModelText.{model_in}
+use Rattle.c_layout.specs.declared.data_model.Model.{Model}
+use Rattle.c_layout.specs.declared.model_file.Key.{Key}
+use Rattle.c_layout.specs.declared.model_file.Key.TheVariants as key
+use Rattle.c_layout.specs.declared.model_file.ModelFault.{ModelFault}
+use Rattle.c_layout.specs.declared.model_file.ModelFault.TheVariants as fault
+use Rattle.c_preproc.specs.Causes.{Seen, IsCausedBy}
+use Rattle.command_words.specs.declared.commands.Format.{Format}
+use Rattle.command_words.specs.declared.commands.Format.TheVariants as format
+use Rattle.command_words.specs.Requests.{Asked, CommandView}
+use Rattle.command_words.specs.Requests as asked
+use Rattle.report_texts.specs.Reports.{Bytes, report_of}
+use Rattle.report_texts.specs.JsonReports.{json_of}
+use Rattle.report_texts.specs.Summaries.{summary_of}
+use Rattle.report_texts.specs.Refusals.{refusal_line, refusal_status}
+use Rattle.report_texts.specs.FixedTexts.{help_text, version_text, words_refused_text, no_file_text, too_long_text, no_model_text}
+
+-- one for each kind of answer that has a text
+pub data Verdict : Type 0 where
+  helped : Verdict
+  versioned : Verdict
+  words_refused : Verdict
+  -- the unit's file or the model file is not held
+  absent : (name : Bytes) → Verdict
+  -- the model file is too long
+  too_long : (name : Bytes) → Verdict
+  -- the model file gives no model
+  no_model : (name reason : Bytes) → Verdict
+  -- the unit is refused
+  refused : (file : Bytes) (why : Fault) → Verdict
+  -- the unit is accepted
+  reported : (form : Format) (names : List Bytes) (unit : Bytes) (diags : List Diag) → Verdict
+  -- the unit that was made is accepted
+  summed : (unit : Bytes) (bases cells : ℕ) (diags : List Diag) → Verdict
+
+-- 1 where there is a diagnostic
+abbrev pub report_status : List Diag → ℕ
+report_status [] = 0
+report_status (d ∷ ds) = 1
+
+abbrev pub status_of : Verdict → ℕ
+status_of helped = 0
+status_of versioned = 0
+status_of words_refused = 3
+status_of (absent name) = 4
+status_of (too_long name) = 8
+status_of (no_model name reason) = 3
+status_of (refused file why) = refusal_status why.refusal
+status_of (reported form names unit diags) = report_status diags
+status_of (summed unit bases cells diags) = report_status diags
+
+abbrev pub report_in : Format → List Bytes → Bytes → List Diag → Bytes
+report_in format.Text names unit diags = report_of names unit diags
+report_in format.Json names unit diags = json_of names unit diags
+
+abbrev pub text_of : Verdict → Bytes
+text_of helped = help_text
+text_of versioned = version_text
+text_of words_refused = words_refused_text
+text_of (absent name) = no_file_text name
+text_of (too_long name) = too_long_text name
+text_of (no_model name reason) = no_model_text name reason
+text_of (refused file why) = refusal_line file why.place why.refusal
+text_of (reported form names unit diags) = report_in form names unit diags
+text_of (summed unit bases cells diags) = summary_of unit bases cells diags
+
+-- a status and a text are those of a verdict that is called for
+pub record Tells (P : Verdict → Type 0) (status : ℕ) (text : Bytes) : Type 0 where
+  pub verdict : Verdict
+  pub called_for : P verdict
+  pub by_status : status ≡ status_of verdict
+  pub by_text : text ≡ text_of verdict
+
+-- ---- the data model
+
+-- what the bytes of a model file give
+pub record IsModelText (bytes : Bytes) (found : Result Model ModelFault) : Type 0 where
+  pub text : IsUtf8 bytes → found ≡ model_in (parse_document bytes)
+  pub binary : ¬ IsUtf8 bytes → found ≡ Err fault.Shape
+
+abbrev pub key_reason : Key → Bytes
+key_reason key.Short = codes "ModelValue short"
+key_reason key.Int = codes "ModelValue int"
+key_reason key.Long = codes "ModelValue long"
+key_reason key.LongLong = codes "ModelValue long_long"
+key_reason key.Pointer = codes "ModelValue pointer"
+key_reason key.CharSigned = codes "ModelValue char_signed"
+
+abbrev pub reason_of : ModelFault → Bytes
+reason_of fault.Shape = codes "ModelShape"
+reason_of (fault.Value k) = key_reason k
+reason_of fault.Memory = []
+
+-- a file, which holds no named model, gives this
+pub record ReadsModel (files : Option Files) (name : Bytes) (found : Result Model ModelFault) : Type 0 where
+  pub unnamed : model_named name ≡ None
+  pub bytes : Bytes
+  pub held : Holds files name bytes
+  pub given : IsModelText bytes found
+
+-- the model that a name or a file gives
+abbrev pub HasModel : Option Files → Bytes → Model → Type 0
+HasModel files name m = (model_named name ≡ Some m) ⊎ ReadsModel files name (Ok m)
+
+-- why there is no model
+abbrev pub RefusesModel : Seen → Bytes → Verdict → Type 0
+RefusesModel seen model (absent name) = (name ≡ model) × (model_named model ≡ None) × Lacks seen.files model (Rose seen.faults seen.faults_now)
+RefusesModel seen model (too_long name) = (name ≡ model) × (model_named model ≡ None) × HoldsTooLong 1048576 seen.files model (RoseBeyond 1048576 seen.taken seen.taken_now)
+RefusesModel seen model (no_model name reason) = (name ≡ model) × (why : ModelFault) × (reason ≡ reason_of why) × ReadsModel seen.files model (Err why)
+RefusesModel seen model _ = ⊥
+
+-- ---- the unit
+
+-- a file of the list, or the unit where the list has none
+abbrev pub file_name : List Bytes → Bytes → ℕ → Bytes
+file_name names unit file = unwrap_or (slice_get names file) unit
+
+-- the order of diagnostics
+abbrev pub Order : Type 0
+Order = Diag → Diag → Ordering
+
+-- diagnostics of files of the list, in order and each once
+pub record IsReport (order : Order) (names : List Bytes) (diags : List Diag) : Type 0 where
+  pub ascending : IsStrictlySortedBy order diags
+  pub placed : All (λ d. d.place.file < length names) diags
+
+-- the unit is refused in a file, by the cause of that refusal
+pub record IsRefusal (seen : Seen) (dirs : List Bytes) (m : Model) (unit file : Bytes) (why : Fault) : Type 0 where
+  pub names : List Bytes
+  pub named : file ≡ file_name names unit why.place.file
+  pub cause : IsCausedBy seen dirs m names why why.refusal
+
+-- what `check` tells of a unit under a model
+abbrev pub AnswersUnit : Order → Seen → CommandView → Model → Verdict → Type 0
+AnswersUnit order seen c m (absent name) = (name ≡ c.unit) × Lacks seen.files c.unit (Rose seen.faults seen.faults_now)
+AnswersUnit order seen c m (refused file why) = IsRefusal seen c.dirs m c.unit file why
+AnswersUnit order seen c m (reported form names unit diags) = (form ≡ c.format) × (unit ≡ c.unit) × IsReport order names diags
+AnswersUnit order seen c m _ = ⊥
+
+-- what `load` tells of the unit that it makes
+abbrev pub AnswersLoad : Order → Seen → CommandView → Model → Verdict → Type 0
+AnswersLoad order seen c m (refused file why) = IsRefusal seen [] m c.unit file why
+AnswersLoad order seen c m (summed unit bases cells diags) = (unit ≡ c.unit) × (names : List Bytes) × IsReport order names diags
+AnswersLoad order seen c m _ = ⊥
+
+-- ---- the whole
+
+-- the same files and the same end, from a later time on
+pub record IsLater (seen later : Seen) : Type 0 where
+  pub files : later.files ≡ seen.files
+  pub faults : seen.faults ≤ later.faults
+  pub faults_now : later.faults_now ≡ seen.faults_now
+  pub taken : seen.taken ≤ later.taken
+  pub taken_now : later.taken_now ≡ seen.taken_now
+
+-- under the model that is found first, the unit is answered by what follows
+pub record Under (seen : Seen) (model : Bytes) (P : Seen → Model → Type 0) : Type 0 where
+  pub chosen : Model
+  pub has_model : HasModel seen.files model chosen
+  pub later : Seen
+  pub is_later : IsLater seen later
+  pub answered : P later chosen
+
+abbrev pub IsVerdict : Order → Seen → Asked → Verdict → Type 0
+IsVerdict order seen asked.Help v = v ≡ helped
+IsVerdict order seen asked.Version v = v ≡ versioned
+IsVerdict order seen asked.Refused v = v ≡ words_refused
+IsVerdict order seen (asked.Check c) v = RefusesModel seen c.model v ⊎ Under seen c.model (λ later m. AnswersUnit order later c m v)
+IsVerdict order seen (asked.Load c) v = RefusesModel seen c.model v ⊎ Under seen c.model (λ later m. AnswersLoad order later c m v)
