@@ -2,6 +2,7 @@
 ghost use Rattle.std.specs.Prelude.{◌≡◌, length};
 ghost use Rattle.cc_base.specs.IntegerDomains.{IsNear};
 ghost use Rattle.pointer_domain.specs.PointerTables.{IsNearPointer};
+ghost use Rattle.access_checks.specs.Temporaries.{temp_position, temp_value, amount_value, put_temp};
 
 use cc_base::IntDomain;
 use flow_program::{Amount, Flow};
@@ -9,7 +10,9 @@ use store_domain::{near_value, put_value, value_at};
 use value_domain::{Cell, Labels, Value};
 
 /// The position of a temporary in a row.
-pub fn temp_position(flow: &Flow, temp: u32) -> usize {
+pub fn temp_position(flow: &Flow, temp: u32) -> usize
+    ensures { result ≡ temp_position flow.now temp }
+{
     let first = (flow.width as usize).saturating_sub(flow.temps as usize);
     first.saturating_add(temp as usize)
 }
@@ -18,6 +21,7 @@ pub fn temp_position(flow: &Flow, temp: u32) -> usize {
 pub fn temp_value<I: IntDomain>(flow: &Flow, row: &[Cell<I>], temp: u32) -> Value<I>
     ensures number { IsNear (I.numbers.bounds result.num) }
     ensures pointer { IsNearPointer I.numbers result.pointer }
+    ensures value { result ≡ temp_value I.lattice I.numbers flow.now row.now temp }
 {
     value_at(row, temp_position(flow, temp))
 }
@@ -26,6 +30,7 @@ pub fn temp_value<I: IntDomain>(flow: &Flow, row: &[Cell<I>], temp: u32) -> Valu
 pub fn amount_value<I: IntDomain>(flow: &Flow, row: &[Cell<I>], amount: Amount) -> Value<I>
     ensures number { IsNear (I.numbers.bounds result.num) }
     ensures pointer { IsNearPointer I.numbers result.pointer }
+    ensures value { result ≡ amount_value I.lattice I.numbers flow.now row.now amount }
 {
     match amount {
         Amount::Temp(temp) => temp_value(flow, row, temp),
@@ -35,7 +40,8 @@ pub fn amount_value<I: IntDomain>(flow: &Flow, row: &[Cell<I>], amount: Amount) 
 
 /// Puts a value into a temporary.
 pub fn put_temp<I: IntDomain>(flow: &Flow, row: &mut [Cell<I>], temp: u32, value: Value<I>)
-    ensures { length row.new ≡ length row.old }
+    ensures length { length row.new ≡ length row.old }
+    ensures row { row.new ≡ put_temp flow.now row.old temp value }
 {
     put_value(row, temp_position(flow, temp), value);
 }

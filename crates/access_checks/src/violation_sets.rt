@@ -1,4 +1,7 @@
 //! Sets of the rules that a run may violate.
+ghost use Rattle.std.specs.Prelude.{◌≡◌, ◌||◌};
+ghost use Rattle.access_checks.specs.ViolationSets.{no_violations, violations_union, violates};
+
 use cc_base::Rule;
 
 /// A set of the rules on runs.
@@ -21,9 +24,18 @@ pub struct Violations {
     pub xfree: bool,
 }
 
+/// Whether one of both holds.
+fn either(a: bool, b: bool) -> bool
+    ensures { result ≡ (a || b) }
+{
+    a || b
+}
+
 impl Violations {
     /// No rule.
-    pub fn none() -> Violations {
+    pub fn none() -> Violations
+        ensures { result ≡ no_violations }
+    {
         Violations {
             accfree: false,
             chrsgnext: false,
@@ -44,28 +56,32 @@ impl Violations {
     }
 
     /// The rules of either set.
-    pub fn union(self, other: Violations) -> Violations {
+    pub fn union(self, other: Violations) -> Violations
+        ensures { result ≡ violations_union self other }
+    {
         Violations {
-            accfree: self.accfree || other.accfree,
-            chrsgnext: self.chrsgnext || other.chrsgnext,
-            dblfree: self.dblfree || other.dblfree,
-            diverr: self.diverr || other.diverr,
-            insufmem: self.insufmem || other.insufmem,
-            intoflow: self.intoflow || other.intoflow,
-            invptr: self.invptr || other.invptr,
-            libptr: self.libptr || other.libptr,
-            nonnullcs: self.nonnullcs || other.nonnullcs,
-            nullref: self.nullref || other.nullref,
-            ptrobj: self.ptrobj || other.ptrobj,
-            strmod: self.strmod || other.strmod,
-            taintsink: self.taintsink || other.taintsink,
-            uninitref: self.uninitref || other.uninitref,
-            xfree: self.xfree || other.xfree,
+            accfree: either(self.accfree, other.accfree),
+            chrsgnext: either(self.chrsgnext, other.chrsgnext),
+            dblfree: either(self.dblfree, other.dblfree),
+            diverr: either(self.diverr, other.diverr),
+            insufmem: either(self.insufmem, other.insufmem),
+            intoflow: either(self.intoflow, other.intoflow),
+            invptr: either(self.invptr, other.invptr),
+            libptr: either(self.libptr, other.libptr),
+            nonnullcs: either(self.nonnullcs, other.nonnullcs),
+            nullref: either(self.nullref, other.nullref),
+            ptrobj: either(self.ptrobj, other.ptrobj),
+            strmod: either(self.strmod, other.strmod),
+            taintsink: either(self.taintsink, other.taintsink),
+            uninitref: either(self.uninitref, other.uninitref),
+            xfree: either(self.xfree, other.xfree),
         }
     }
 
     /// Whether the rule is in the set. The syntactic rules never are.
-    pub fn has(self, rule: Rule) -> bool {
+    pub fn has(self, rule: Rule) -> bool
+        ensures { result ≡ violates self rule }
+    {
         match rule {
             Rule::Accfree => self.accfree,
             Rule::Chrsgnext => self.chrsgnext,
