@@ -1,0 +1,13 @@
+pub mod Plans
+pub mod Arguments
+pub mod Characters
+pub mod Allocations
+pub mod Outputs
+pub mod Sources
+pub mod TextWrites
+pub mod FillWrites
+pub mod CopyWrites
+pub mod MemoryCalls
+pub mod StringCalls
+pub mod Effects
+pub mod Planning

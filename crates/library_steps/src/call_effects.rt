@@ -1,5 +1,6 @@
 //! The effect of a call on a row.
-ghost use Rattle.std.specs.Prelude.{◌≡◌, length};
+ghost use Rattle.std.specs.Prelude.{◌≡◌, true, false, Some, None, length};
+ghost use Rattle.library_steps.specs.Effects.{put_result, allocated, apply, is_write};
 ghost use Rattle.cc_base.specs.IntegerDomains.{IsNear};
 
 use crate::call_plans::Effect;
@@ -14,7 +15,8 @@ use value_domain::{Cell, Value};
 
 /// Keeps the result of a call in its temporary, where it has one.
 fn put_result<I: IntDomain>(flow: &Flow, row: &mut [Cell<I>], to_temp: Option<u32>, value: Value<I>)
-    ensures { length row.new ≡ length row.old }
+    ensures length { length row.new ≡ length row.old }
+    ensures row { row.new ≡ put_result flow.now to_temp value row.old }
 {
     if let Some(temp) = to_temp {
         put_temp(flow, row, temp, value);
@@ -30,7 +32,9 @@ fn allocate<I: IntDomain>(
     size: I,
     fresh: Fresh<I>,
 ) -> bool
-    ensures { length row.new ≡ length row.old }
+    ensures length { length row.new ≡ length row.old }
+    ensures reached { result ≡ true → allocated I.lattice I.numbers flow.now to_temp newest size fresh row.old ≡ Some row.new }
+    ensures unreached { result ≡ false → allocated I.lattice I.numbers flow.now to_temp newest size fresh row.old ≡ None }
 {
     let Some(newest) = newest else {
         return false;
@@ -44,6 +48,7 @@ fn allocate<I: IntDomain>(
 
 /// What the effect makes of the row; false where the call does not go on, and then the row is
 /// unspecified. The result goes to a temporary, and an allocation has the newest base of its site.
+#[tactic(auto, unfolding(crate::specs::Effects::apply))]
 pub fn apply<I: IntDomain>(
     flow: &Flow,
     row: &mut [Cell<I>],
@@ -51,7 +56,9 @@ pub fn apply<I: IntDomain>(
     newest: Option<u32>,
     effect: Effect<I>,
 ) -> bool
-    ensures { length row.new ≡ length row.old }
+    ensures length { length row.new ≡ length row.old }
+    ensures reached { result ≡ true → apply I.lattice I.numbers flow.now to_temp newest effect row.old ≡ Some row.new }
+    ensures unreached { result ≡ false → apply I.lattice I.numbers flow.now to_temp newest effect row.old ≡ None }
 {
     match effect {
         Effect::Unreached => false,
@@ -67,19 +74,24 @@ pub fn apply<I: IntDomain>(
             true
         }
         Effect::Result(_) | Effect::Text(_, _) | Effect::Fill(_, _) | Effect::Copy(_, _) => {
-            write_bytes(flow, row, to_temp, effect)
+            write_bytes(flow, row, to_temp, newest, effect)
         }
     }
 }
 
 /// The effects that write bytes, or nothing but a result.
+#[tactic(auto, unfolding(crate::specs::Effects::apply))]
 fn write_bytes<I: IntDomain>(
     flow: &Flow,
     row: &mut [Cell<I>],
     to_temp: Option<u32>,
+    newest: Option<u32>,
     effect: Effect<I>,
 ) -> bool
-    ensures { length row.new ≡ length row.old }
+    requires { is_write effect ≡ true }
+    ensures length { length row.new ≡ length row.old }
+    ensures reached { result ≡ true → apply I.lattice I.numbers flow.now to_temp newest effect row.old ≡ Some row.new }
+    ensures unreached { result ≡ false → apply I.lattice I.numbers flow.now to_temp newest effect row.old ≡ None }
 {
     match effect {
         Effect::Result(value) => {

@@ -1,4 +1,7 @@
 //! What a call will do: which rules it may violate, and its effect where it goes on.
+ghost use Rattle.std.specs.Prelude.{◌≡◌};
+ghost use Rattle.library_steps.specs.Plans.{planned, harmless};
+
 use crate::copied_bytes::CopyWrite;
 use crate::fill_writes::FillWrite;
 use crate::text_writes::TextWrite;
@@ -43,8 +46,13 @@ pub struct Trail {
 }
 
 impl Trail {
+    ghost use Rattle.std.specs.Prelude.{◌≡◌};
+    ghost use Rattle.library_steps.specs.Plans.{trail_of, checked};
+
     /// No check so far; what is violated in any case.
-    pub fn start(violations: Violations) -> Trail {
+    pub fn start(violations: Violations) -> Trail
+        ensures { result ≡ trail_of violations }
+    {
         Trail {
             violations,
             goes_on: true,
@@ -53,7 +61,9 @@ impl Trail {
 
     /// One check more: what it may violate where the call comes to it, and whether the call can go on
     /// behind it.
-    pub fn check(self, violations: Violations, goes_on: bool) -> Trail {
+    pub fn check(self, violations: Violations, goes_on: bool) -> Trail
+        ensures { result ≡ checked self violations goes_on }
+    {
         if self.goes_on {
             Trail {
                 violations: self.violations.union(violations),
@@ -66,7 +76,9 @@ impl Trail {
 }
 
 /// The plan behind the checks.
-pub fn planned<I: IntDomain>(trail: Trail, effect: Effect<I>) -> Plan<I> {
+pub fn planned<I: IntDomain>(trail: Trail, effect: Effect<I>) -> Plan<I>
+    ensures { result ≡ planned trail effect }
+{
     if trail.goes_on {
         Plan {
             violations: trail.violations,
@@ -81,7 +93,9 @@ pub fn planned<I: IntDomain>(trail: Trail, effect: Effect<I>) -> Plan<I> {
 }
 
 /// A plan that violates nothing.
-pub fn harmless<I: IntDomain>(effect: Effect<I>) -> Plan<I> {
+pub fn harmless<I: IntDomain>(effect: Effect<I>) -> Plan<I>
+    ensures { result ≡ harmless effect }
+{
     Plan {
         violations: Violations::none(),
         effect,

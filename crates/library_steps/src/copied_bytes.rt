@@ -1,12 +1,13 @@
 //! Copying bytes, as `memcpy` and `memmove` do (7.24.2.1, 7.24.2.2 of ISO/IEC 9899:2011).
-ghost use Rattle.std.specs.Prelude.{◌≡◌, length};
+ghost use Rattle.std.specs.Prelude.{◌≡◌, ◌<◌, length};
+ghost use Rattle.library_steps.specs.CopyWrites.{no_bytes, with_cell, with_padding, with_leaf, with_leaves, is_read_class, with_class, with_class_cells, with_base, with_base_if, bytes_of_source, copied_value, with_null, copy_leaf, copy_leaves, copy_class, copy_class_of, copy_class_cells, copy_base, copy_base_if, write_copy};
 
 use c_layout::{BaseInfo, Class, Leaf, Model};
 use cc_base::{IntDomain, Lattice};
 use flow_program::Flow;
 use pointer_domain::{Bases, Pointers};
 use store_domain::{
-    CLASSES, Window, class_position, forget_zeros, has_base, has_stray, is_overlapped, join_value,
+    Window, class_at, class_position, forget_zeros, has_base, has_stray, is_overlapped, join_value,
     kind_of, leaf_position, meets_padding, null_pointer, value_at, whole_range,
 };
 use value_domain::{Cell, Labels, Value};
@@ -30,7 +31,9 @@ pub struct CopyWrite<I> {
 }
 
 /// No byte.
-pub fn no_bytes<I: IntDomain>() -> CopiedBytes<I> {
+pub fn no_bytes<I: IntDomain>() -> CopiedBytes<I>
+    ensures { result ≡ no_bytes I.lattice }
+{
     CopiedBytes {
         indeterminate: false,
         labels: Labels::none(),
@@ -40,7 +43,9 @@ pub fn no_bytes<I: IntDomain>() -> CopiedBytes<I> {
 }
 
 /// The bytes of a cell besides others.
-fn with_cell<I: IntDomain>(found: CopiedBytes<I>, value: Value<I>, class: Class) -> CopiedBytes<I> {
+fn with_cell<I: IntDomain>(found: CopiedBytes<I>, value: Value<I>, class: Class) -> CopiedBytes<I>
+    ensures { result ≡ with_cell I.lattice found value class }
+{
     let is_pointer = class == Class::Pointer;
     CopiedBytes {
         indeterminate: found.indeterminate || value.indeterminate,
@@ -55,7 +60,9 @@ fn with_cell<I: IntDomain>(found: CopiedBytes<I>, value: Value<I>, class: Class)
 }
 
 /// Bytes of which nothing is known, besides others.
-fn with_padding<I: IntDomain>(found: CopiedBytes<I>, met: bool) -> CopiedBytes<I> {
+fn with_padding<I: IntDomain>(found: CopiedBytes<I>, met: bool) -> CopiedBytes<I>
+    ensures { result ≡ with_padding found met }
+{
     if !met {
         return found;
     }
@@ -67,37 +74,81 @@ fn with_padding<I: IntDomain>(found: CopiedBytes<I>, met: bool) -> CopiedBytes<I
     }
 }
 
+#[tactic(auto, unfolding(crate::specs::CopyWrites::with_leaf))]
+fn with_leaf<I: IntDomain>(
+    model: &Model,
+    base: &BaseInfo,
+    row: &[Cell<I>],
+    window: Window,
+    leaf: Leaf,
+    number: usize,
+    found: CopiedBytes<I>,
+) -> CopiedBytes<I>
+    ensures { result ≡ with_leaf I.lattice I.numbers model.now base.now row.now window leaf number found }
+{
+    if is_overlapped(model, leaf, window) {
+        let value = value_at(row, leaf_position(base, number));
+        with_cell(found, value, leaf.class)
+    } else {
+        found
+    }
+}
+
+#[tactic(auto, unfolding(crate::specs::CopyWrites::with_leaves))]
 fn with_leaves<I: IntDomain>(
     model: &Model,
     base: &BaseInfo,
     row: &[Cell<I>],
     window: Window,
     start: CopiedBytes<I>,
-) -> CopiedBytes<I> {
+) -> CopiedBytes<I>
+    ensures { result ≡ with_leaves I.lattice I.numbers model.now base.now row.now window start }
+{
     let leaves = base.shape.cells.as_slice();
     let mut found = start;
     for at in 0..leaves.len() {
-        if is_overlapped(model, leaves[at], window) {
-            let value = value_at(row, leaf_position(base, at));
-            found = with_cell(found, value, leaves[at].class);
-        }
+        found = with_leaf(model, base, row, window, leaves[at], at, found);
     }
     found
 }
 
+/// Whether a class cell is met: that of characters only where a byte is no character leaf.
+fn is_read_class(stray: bool, number: usize) -> bool
+    ensures { result ≡ is_read_class stray number }
+{
+    number != 0 || stray
+}
+
+fn with_class<I: IntDomain>(
+    base: &BaseInfo,
+    row: &[Cell<I>],
+    stray: bool,
+    number: usize,
+    found: CopiedBytes<I>,
+) -> CopiedBytes<I>
+    ensures { result ≡ with_class I.lattice I.numbers base.now row.now stray number found }
+{
+    if is_read_class(stray, number) {
+        let value = value_at(row, class_position(base, number));
+        with_cell(found, value, class_at(number))
+    } else {
+        found
+    }
+}
+
+#[tactic(auto, using(crate::proofs::Trails::turns_next), unfolding(crate::specs::CopyWrites::with_class_cells))]
 fn with_class_cells<I: IntDomain>(
     base: &BaseInfo,
     row: &[Cell<I>],
     window: Window,
     start: CopiedBytes<I>,
-) -> CopiedBytes<I> {
+) -> CopiedBytes<I>
+    ensures { result ≡ with_class_cells I.lattice I.numbers base.now row.now window start }
+{
     let mut found = start;
     let stray = has_stray(base.shape.cells.as_slice(), Class::Char, window);
-    for class in 0..6 {
-        if class != 0 || stray {
-            let value = value_at(row, class_position(base, class));
-            found = with_cell(found, value, CLASSES[class]);
-        }
+    for number in 0..6 {
+        found = with_class(base, row, stray, number, found);
     }
     CopiedBytes {
         indeterminate: found.indeterminate,
@@ -107,13 +158,16 @@ fn with_class_cells<I: IntDomain>(
     }
 }
 
+#[tactic(auto, unfolding(crate::specs::CopyWrites::with_base))]
 fn with_base<I: IntDomain>(
     model: &Model,
     base: &BaseInfo,
     row: &[Cell<I>],
     window: Window,
     start: CopiedBytes<I>,
-) -> CopiedBytes<I> {
+) -> CopiedBytes<I>
+    ensures { result ≡ with_base I.lattice I.numbers model.now base.now row.now window start }
+{
     let found = with_leaves(model, base, row, window, start);
     if base.shape.heap {
         return with_class_cells(base, row, window, found);
@@ -122,22 +176,40 @@ fn with_base<I: IntDomain>(
     with_padding(found, meets_padding(model, leaves, window, base.size))
 }
 
+#[tactic(auto, unfolding(crate::specs::CopyWrites::with_base_if))]
+fn with_base_if<I: IntDomain>(
+    model: &Model,
+    row: &[Cell<I>],
+    window: Window,
+    wanted: bool,
+    base: &BaseInfo,
+    found: CopiedBytes<I>,
+) -> CopiedBytes<I>
+    ensures { result ≡ with_base_if I.lattice I.numbers model.now row.now window wanted base.now found }
+{
+    if wanted {
+        with_base(model, base, row, window, found)
+    } else {
+        found
+    }
+}
+
 /// What the bytes of a window can hold, over the bases of a set.
 pub fn bytes_of_source<I: IntDomain>(
     flow: &Flow,
     row: &[Cell<I>],
     set: Bases,
     window: Option<Window>,
-) -> CopiedBytes<I> {
+) -> CopiedBytes<I>
+    ensures { result ≡ bytes_of_source I.lattice I.numbers flow.now row.now set window }
+{
     let Some(window) = window else {
         return no_bytes();
     };
     let bases = flow.bases.as_slice();
     let mut found = no_bytes();
     for n in 0..bases.len() {
-        if has_base(set, n) {
-            found = with_base(&flow.model, &bases[n], row, window, found);
-        }
+        found = with_base_if(&flow.model, row, window, has_base(set, n), &bases[n], found);
     }
     found
 }
@@ -148,7 +220,9 @@ pub fn copied_value<I: IntDomain>(
     class: Class,
     signed: bool,
     bytes: CopiedBytes<I>,
-) -> Value<I> {
+) -> Value<I>
+    ensures { result ≡ copied_value I.lattice I.numbers model.now class signed bytes }
+{
     match class {
         Class::Pointer => Value {
             num: I::bottom(),
@@ -164,17 +238,21 @@ pub fn copied_value<I: IntDomain>(
     }
 }
 
-fn with_null<I: IntDomain>(p: Pointers<I>, null: bool) -> Pointers<I> {
+fn with_null<I: IntDomain>(p: Pointers<I>, null: bool) -> Pointers<I>
+    ensures { result ≡ with_null I.lattice p null }
+{
     if null { p.join(null_pointer()) } else { p }
 }
 
+#[tactic(auto, unfolding(crate::specs::CopyWrites::copy_leaves))]
 fn copy_leaves<I: IntDomain>(
     model: &Model,
     base: &BaseInfo,
     row: &mut [Cell<I>],
     write: CopyWrite<I>,
 )
-    ensures { length row.new ≡ length row.old }
+    ensures length { length row.new ≡ length row.old }
+    ensures row { row.new ≡ copy_leaves I.lattice I.numbers model.now base.now write row.old }
 {
     let leaves = base.shape.cells.as_slice();
     for at in 0..leaves.len() {
@@ -182,6 +260,7 @@ fn copy_leaves<I: IntDomain>(
     }
 }
 
+#[tactic(auto, unfolding(crate::specs::CopyWrites::copy_leaf))]
 fn copy_leaf<I: IntDomain>(
     model: &Model,
     row: &mut [Cell<I>],
@@ -189,7 +268,8 @@ fn copy_leaf<I: IntDomain>(
     leaf: Leaf,
     write: &CopyWrite<I>,
 )
-    ensures { length row.new ≡ length row.old }
+    ensures length { length row.new ≡ length row.old }
+    ensures row { row.new ≡ copy_leaf I.lattice I.numbers model.now write.now leaf position row.old }
 {
     if is_overlapped(model, leaf, write.window) {
         let value = copied_value(model, leaf.class, leaf.signed, write.bytes);
@@ -197,25 +277,36 @@ fn copy_leaf<I: IntDomain>(
     }
 }
 
+fn copy_class_of<I: IntDomain>(
+    model: &Model,
+    base: &BaseInfo,
+    row: &mut [Cell<I>],
+    write: &CopyWrite<I>,
+    stray: bool,
+    number: usize,
+)
+    ensures length { length row.new ≡ length row.old }
+    ensures row { row.new ≡ copy_class_of I.lattice I.numbers model.now base.now write.now stray number row.old }
+{
+    if is_read_class(stray, number) {
+        let position = class_position(base, number);
+        copy_class(model, row, position, class_at(number), write);
+    }
+}
+
+#[tactic(auto, using(crate::proofs::Trails::turns_next), unfolding(crate::specs::CopyWrites::copy_class_cells))]
 fn copy_class_cells<I: IntDomain>(
     model: &Model,
     base: &BaseInfo,
     row: &mut [Cell<I>],
     write: CopyWrite<I>,
 )
-    ensures { length row.new ≡ length row.old }
+    ensures length { length row.new ≡ length row.old }
+    ensures row { row.new ≡ copy_class_cells I.lattice I.numbers model.now base.now write row.old }
 {
     let stray = has_stray(base.shape.cells.as_slice(), Class::Char, write.window);
-    for class in 0..6 {
-        if class != 0 || stray {
-            copy_class(
-                model,
-                row,
-                class_position(base, class),
-                CLASSES[class],
-                &write,
-            );
-        }
+    for number in 0..6 {
+        copy_class_of(model, base, row, &write, stray, number);
     }
 }
 
@@ -226,13 +317,16 @@ fn copy_class<I: IntDomain>(
     class: Class,
     write: &CopyWrite<I>,
 )
-    ensures { length row.new ≡ length row.old }
+    ensures length { length row.new ≡ length row.old }
+    ensures row { row.new ≡ copy_class I.lattice I.numbers model.now write.now position class row.old }
 {
     join_value(row, position, copied_value(model, class, true, write.bytes));
 }
 
+#[tactic(auto, unfolding(crate::specs::CopyWrites::copy_base))]
 fn copy_base<I: IntDomain>(model: &Model, base: &BaseInfo, row: &mut [Cell<I>], write: CopyWrite<I>)
-    ensures { length row.new ≡ length row.old }
+    ensures length { length row.new ≡ length row.old }
+    ensures row { row.new ≡ copy_base I.lattice I.numbers model.now base.now write row.old }
 {
     copy_leaves(model, base, row, write);
     if base.shape.heap {
@@ -241,14 +335,31 @@ fn copy_base<I: IntDomain>(model: &Model, base: &BaseInfo, row: &mut [Cell<I>], 
     forget_zeros(base, row, write.window);
 }
 
+#[tactic(auto, unfolding(crate::specs::CopyWrites::copy_base_if))]
+fn copy_base_if<I: IntDomain>(
+    model: &Model,
+    base: &BaseInfo,
+    row: &mut [Cell<I>],
+    write: &CopyWrite<I>,
+    wanted: bool,
+)
+    ensures length { length row.new ≡ length row.old }
+    ensures row { row.new ≡ copy_base_if I.lattice I.numbers model.now write.now wanted base.now row.old }
+{
+    if wanted {
+        copy_base(model, base, row, *write);
+    }
+}
+
 /// Writes the bytes to each base of the set.
+#[tactic(auto, unfolding(crate::specs::CopyWrites::write_copy))]
 pub fn write_copy<I: IntDomain>(flow: &Flow, row: &mut [Cell<I>], write: CopyWrite<I>)
-    ensures { length row.new ≡ length row.old }
+    ensures length { length row.new ≡ length row.old }
+    ensures row { row.new ≡ write_copy I.lattice I.numbers flow.now write row.old }
 {
     let bases = flow.bases.as_slice();
     for n in 0..bases.len() {
-        if has_base(write.bases, n) {
-            copy_base(&flow.model, &bases[n], row, write);
-        }
+        let wanted = has_base(write.bases, n);
+        copy_base_if(&flow.model, &bases[n], row, &write, wanted);
     }
 }
