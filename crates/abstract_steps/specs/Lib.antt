@@ -1,0 +1,5 @@
+pub mod Scalars
+pub mod ValueSteps
+pub mod PointerSteps
+pub mod MemorySteps
+pub mod Refinements
