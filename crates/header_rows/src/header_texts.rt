@@ -1,4 +1,7 @@
 //! The whole text of each built-in header under two models, with its entries written by hand.
+ghost use Rattle.std.specs.Prelude.{◌≡◌, true};
+ghost use Rattle.c_layout.specs.Models.{is_model};
+
 use c_layout::Model;
 use lib_models::header;
 use std::alloc::{AllocError, Global};
@@ -49,7 +52,9 @@ fn define(text: &mut String, name: &str, value: &str) -> Result<(), AllocError> 
 }
 
 /// Whether the header has this text.
-fn is_text(name: &str, model: &Model, text: &String) -> bool {
+fn is_text(name: &str, model: &Model, text: &String) -> bool
+    requires { is_model model.now ≡ true }
+{
     match header(name, model) {
         Some(found) => found == text.as_bytes(),
         None => false,
