@@ -1,5 +1,4 @@
 pub mod NameLists
 pub mod Searches
 pub mod Own
-pub mod Groups
-pub mod Definitions
+pub mod Placed

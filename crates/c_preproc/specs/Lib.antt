@@ -2,5 +2,6 @@ pub mod Names
 pub mod Searching
 pub mod Causes
 pub mod Reading
-pub mod Groups
-pub mod Definitions
+pub mod Known
+pub mod Units
+pub mod Placed

@@ -2,14 +2,11 @@
 //! a unit after translation phase 4.
 #![tactic(auto)]
 
-mod conditional_groups;
-mod directive_names;
 mod file_names;
 mod file_paths;
 mod file_search;
 mod found_file;
-mod macro_definitions;
-mod open_files;
+mod places_in_files;
 mod preprocessing;
 mod preprocessor_state;
 #[cfg(test)]

@@ -2,20 +2,22 @@
 ghost use Rattle.std.specs.Prelude.{◌≡◌, ◌≤◌, ◌^◌, true, length, map, string_bytes, [], IfOk, IfErr};
 ghost use Rattle.c_layout.specs.Models.{is_model};
 ghost use Rattle.c_preproc.specs.Names.{is_distinct};
+ghost use Rattle.c_preproc.specs.Placed.{StandsIn};
 ghost use Rattle.std.specs.Prelude.{ℕ, List, option_map};
+ghost use Rattle.c_preproc.specs.Known.{known_of, reading_of, Gives, conditional, plain, line_of, line_as, directive_at, text_lines, is_header, header_number, only_header, include_asks, asked_as};
 ghost use Rattle.c_layout.specs.declared.data_model.Model.{Model};
 ghost use Rattle.c_preproc.specs.Causes.{Seen, IsMissing, seen_of, IsCaused, IsCausedFrom, IsOwn, Went};
 
-use crate::directive_names::{Directive, directive_named};
 use crate::file_names::FileNames;
 use crate::file_paths::candidates;
 use crate::file_search::{search, too_long};
 use crate::found_file::FoundFile;
-use crate::open_files::{OpenFile, begins_directive};
-use crate::preprocessor_state::{State, end_if, refused, turn_else};
+use crate::places_in_files::within;
+use crate::preprocessor_state::{State, end_if, first_name, refused, turn_else};
 use c_layout::{Model, Unit7};
 use c_tokens::lex;
 use cc_base::{Kind, Place, Refusal, Stop, Text, Tree, TreeFault};
+use directive_lines::{Directive, OpenFile, begins_directive, directive_named, header_name};
 use macro_expansion::Lexeme;
 use std::alloc::Global;
 
@@ -38,14 +40,74 @@ fn opened(alloc: Global, state: &mut State, file: u32, bytes: &[u8]) -> Result<O
     Ok(open)
 }
 
-/// A header name without its quotes, and whether it stands in `"`.
-fn header_name(text: &[u8]) -> Option<(&str, bool)> {
-    let [quote, inside @ .., _] = text else {
-        return None;
+/// The header that an `#include` asks for.
+#[derive(Drop)]
+struct Wanted {
+    name: String,
+    /// Whether its name stands in `"`.
+    quoted: bool,
+}
+
+fn is_header(kind: Kind) -> bool
+    ensures { result ≡ is_header kind }
+{
+    match kind {
+        Kind::HeaderName => true,
+        _ => false,
+    }
+}
+
+/// The number of the spelling of a header name.
+fn header_number(x: Lexeme) -> Option<u32>
+    ensures { result ≡ header_number x }
+{
+    match x {
+        Lexeme::Other(kind, text, _) => { if is_header(kind) { Some(text) } else { None } }
+        _ => None,
+    }
+}
+
+/// The header name that a line is.
+fn only_header(line: &[Lexeme]) -> Option<u32>
+    ensures { result ≡ only_header line.now }
+{
+    match line {
+        [x] => header_number(*x),
+        _ => None,
+    }
+}
+
+/// The header that an `#include` asks for; `deepest` says that no further inclusion may be open in
+/// this one.
+fn asked(
+    alloc: Global,
+    state: &mut State,
+    deepest: bool,
+    place: Place,
+    line: &[Lexeme],
+) -> Result<Wanted, Stop>
+    ensures own { IfErr result IsOwn }
+    ensures given { Gives (include_asks deepest place line.now (known_of state.old)) (λ w. asked_as (known_of state.new) w) result }
+{
+    let Some(number) = only_header(line) else {
+        return Err(refused(place, Refusal::BadDirective));
     };
-    match str::from_utf8(inside) {
-        Ok(name) => Some((name, *quote == b'"')),
-        Err(_) => None,
+    if deepest {
+        return Err(refused(place, Refusal::IncludeDepth));
+    }
+    if MOST_INCLUSIONS <= state.inclusions {
+        return Err(refused(place, Refusal::IncludeDepth));
+    }
+    state.inclusions += 1;
+    match header_name(state.spellings.text(number)) {
+        None => Err(refused(place, Refusal::BadDirective)),
+        Some(header) => {
+            let name = String::from_str(alloc, header.name)?;
+            Ok(Wanted {
+                name,
+                quoted: header.quoted,
+            })
+        }
     }
 }
 
@@ -66,17 +128,10 @@ fn include<T: Tree>(
     ensures went { Went (T.files tree.old) (T.files tree.new) (T.faults tree.old) (T.faults tree.new) (T.taken tree.old) (T.taken tree.new) }
     ensures cause { IfErr result (IsCaused (seen_of (T.files tree.old) (T.faults tree.old) (T.faults tree.new) (T.taken tree.old) (T.taken tree.new)) (map string_bytes dirs.now) model.now files.new) }
 {
-    let [Lexeme::Other(Kind::HeaderName, text, _)] = line else {
-        return Err(refused(place, Refusal::BadDirective));
+    let Wanted { name, quoted } = match asked(alloc, state, depth > DEEPEST, place, line) {
+        Ok(wanted) => wanted,
+        Err(stop) => return Err(stop),
     };
-    if depth > DEEPEST || state.inclusions >= MOST_INCLUSIONS {
-        return Err(refused(place, Refusal::IncludeDepth));
-    }
-    state.inclusions += 1;
-    let Some((name, quoted)) = header_name(state.spellings.text(*text)) else {
-        return Err(refused(place, Refusal::BadDirective));
-    };
-    let name = String::from_str(alloc, name)?;
     let includer = includer_of(files, top, quoted);
     let searched = candidates(alloc, includer, dirs, name.as_str())?;
     match search(
@@ -128,37 +183,65 @@ fn enter(
     Ok(Some(open))
 }
 
-/// A directive of an if-section; None where it is another.
+/// A directive of an if-section.
 fn conditional(
     alloc: Global,
-    model: &Model,
+    char_signed: bool,
     state: &mut State,
     top: &mut OpenFile,
     directive: Directive,
     place: Place,
     line: &[Lexeme],
-) -> Result<bool, Stop>
-    ensures { IfErr result IsOwn }
+) -> Result<(), Stop>
+    ensures own { IfErr result IsOwn }
+    ensures given { Gives (conditional char_signed directive place line.now (reading_of state.old top.old)) (λ _. reading_of state.new top.new) result }
 {
     match directive {
-        Directive::If => state.begin_if(alloc, model.char_signed, top, place, line)?,
-        Directive::Ifdef => state.begin_ifdef(top, true, place, line)?,
-        Directive::Ifndef => state.begin_ifdef(top, false, place, line)?,
-        Directive::Elif => state.turn_elif(alloc, model.char_signed, top, place, line)?,
-        Directive::Else => turn_else(top, place, line)?,
-        Directive::Endif => end_if(top, place, line)?,
-        _ => return Ok(false),
+        Directive::If => state.begin_if(alloc, char_signed, top, place, line),
+        Directive::Ifdef => state.begin_ifdef(top, true, place, line),
+        Directive::Ifndef => state.begin_ifdef(top, false, place, line),
+        Directive::Elif => state.turn_elif(alloc, char_signed, top, place, line),
+        Directive::Else => turn_else(top, place, line),
+        Directive::Endif => end_if(top, place, line),
+        _ => Ok(()),
     }
-    Ok(true)
+}
+
+/// A directive that is no conditional one and no `#include`.
+fn plain(
+    alloc: Global,
+    state: &mut State,
+    directive: Directive,
+    file: u32,
+    place: Place,
+    line: &[Lexeme],
+    behind: &[Lexeme],
+) -> Result<(), Stop>
+    ensures own { IfErr result IsOwn }
+    ensures given { Gives (plain directive file place line.now behind.now (known_of state.old)) (λ _. known_of state.new) result }
+{
+    match directive {
+        Directive::Define => state.define(alloc, place, line),
+        Directive::Undef => state.undefine(place, line),
+        Directive::Error => Err(refused(place, Refusal::ErrorDirective)),
+        Directive::Pragma => state.pragma(file, line),
+        _ => {
+            if behind.is_empty() {
+                Ok(())
+            } else {
+                Err(refused(place, Refusal::BadDirective))
+            }
+        }
+    }
 }
 
 /// The directive of a line behind its `#`, and what follows the directive's name.
-fn directive_of<'a>(state: &State, behind: &'a [Lexeme]) -> (Directive, &'a [Lexeme]) {
-    match behind {
-        [Lexeme::Name(name, _), rest @ ..] => {
-            (directive_named(state.spellings.text(*name)), rest)
-        }
-        _ => (Directive::Unknown, behind),
+fn directive_of<'a>(state: &State, behind: &'a [Lexeme]) -> (Directive, &'a [Lexeme])
+    ensures { line_as result ≡ line_of (known_of state.now).texts behind.now }
+{
+    match first_name(behind) {
+        Some((name, rest)) => (directive_named(state.spellings.text(name)), rest),
+        None => (Directive::Unknown, behind),
     }
 }
 
@@ -180,60 +263,49 @@ fn directive<T: Tree>(
     ensures cause { IfErr result (IsCaused (seen_of (T.files tree.old) (T.faults tree.old) (T.faults tree.new) (T.taken tree.old) (T.taken tree.new)) (map string_bytes dirs.now) model.now files.new) }
 {
     let (directive, line) = directive_of(state, behind);
-    if conditional(alloc, model, state, top, directive, place, line)?
-        || top.sections.is_skipping()
-    {
+    if directive.is_conditional() {
+        conditional(alloc, model.char_signed, state, top, directive, place, line)?;
         return Ok(None);
     }
-    match directive {
-        Directive::Include => {
-            return include(
-                alloc, tree, dirs, model, files, state, top.file, depth, place, line,
-            );
-        }
-        Directive::Define => state.define(alloc, place, line)?,
-        Directive::Undef => state.undefine(place, line)?,
-        Directive::Error => return Err(refused(place, Refusal::ErrorDirective)),
-        Directive::Pragma => state.pragma(top.file, line)?,
-        _ => {
-            if !behind.is_empty() {
-                return Err(refused(place, Refusal::BadDirective));
-            }
-        }
+    if top.sections.is_skipping() {
+        return Ok(None);
     }
+    if directive.is_include() {
+        return include(
+            alloc, tree, dirs, model, files, state, top.file, depth, place, line,
+        );
+    }
+    plain(alloc, state, directive, top.file, place, line, behind)?;
     Ok(None)
 }
 
 /// The place of the directive that a token begins.
-fn directive_place(state: &State, next: Option<Lexeme>) -> Option<Place> {
+fn directive_place(state: &State, next: Option<Lexeme>) -> Option<Place>
+    ensures { result ≡ directive_at (known_of state.now).texts next }
+{
     match next {
-        Some(x) if begins_directive(&state.spellings, x) => Some(x.mark().place),
-        _ => None,
+        Some(x) => {
+            if begins_directive(&state.spellings, x) {
+                Some(x.mark().place)
+            } else {
+                None
+            }
+        }
+        None => None,
     }
 }
 
 /// Reads the text lines up to the next directive.
 fn text_lines(alloc: Global, state: &mut State, top: &mut OpenFile) -> Result<(), Stop>
-    ensures { IfErr result IsOwn }
+    ensures own { IfErr result IsOwn }
+    ensures given { Gives (text_lines (reading_of state.old top.old)) (λ _. reading_of state.new top.new) result }
 {
-    let mut list = Vec::new(alloc);
-    list.extend_from_slice(top.text(&state.spellings))?;
-    top.skip(list.len());
+    let list = top.text_lines(alloc, &state.spellings)?;
     if top.sections.is_skipping() {
         return Ok(());
     }
     let ends = directive_place(state, top.next());
     state.text(alloc, list.as_slice(), ends)
-}
-
-/// Reads a directive's line.
-fn directive_line(alloc: Global, top: &mut OpenFile) -> Result<Vec<Lexeme>, Stop>
-    ensures { IfErr result IsOwn }
-{
-    let mut line = Vec::new(alloc);
-    line.extend_from_slice(top.line())?;
-    top.skip(line.len());
-    Ok(line)
 }
 
 /// What one step of the reading leaves of a file.
@@ -273,12 +345,18 @@ fn read_step<T: Tree>(
         text_lines(alloc, state, top)?;
         return Ok(Step::GoesOn);
     };
-    let line = directive_line(alloc, top)?;
-    let [_, behind @ ..] = line.as_slice() else {
-        return Ok(Step::GoesOn);
-    };
+    let behind = top.directive_line(alloc)?;
     match directive(
-        alloc, tree, dirs, model, files, state, top, depth, place, behind,
+        alloc,
+        tree,
+        dirs,
+        model,
+        files,
+        state,
+        top,
+        depth,
+        place,
+        behind.as_slice(),
     )? {
         None => Ok(Step::GoesOn),
         Some(open) => Ok(Step::Includes(open)),
@@ -392,10 +470,12 @@ pub fn expand_bytes<T: Tree>(
     ensures went { Went (T.files tree.old) (T.files tree.new) (T.faults tree.old) (T.faults tree.new) (T.taken tree.old) (T.taken tree.new) }
     ensures cause { IfErr result (IsCaused (seen_of (T.files tree.old) (T.faults tree.old) (T.faults tree.new) (T.taken tree.old) (T.taken tree.new)) (map string_bytes dirs.now) model.now (map string_bytes files.new.items)) }
     ensures distinct { is_distinct (map string_bytes files.new.items) ≡ true }
+    ensures placed { StandsIn (length files.new.items) result }
     ensures few { IfOk result (λ u. length u.tokens ≤ 131072) }
 {
     let mut names = FileNames::new(alloc);
     let answer = unit_of(alloc, tree, main, bytes, dirs, model, &mut names);
+    let answer = within(names.len(), answer);
     *files = names.into_names();
     answer
 }
@@ -422,10 +502,12 @@ pub fn expand<T: Tree>(
     ensures went { Went (T.files tree.old) (T.files tree.new) (T.faults tree.old) (T.faults tree.new) (T.taken tree.old) (T.taken tree.new) }
     ensures cause { IfErr result (IsCausedFrom main.now (seen_of (T.files tree.old) (T.faults tree.old) (T.faults tree.new) (T.taken tree.old) (T.taken tree.new)) (map string_bytes dirs.now) model.now (map string_bytes files.new.items)) }
     ensures distinct { is_distinct (map string_bytes files.new.items) ≡ true }
+    ensures placed { StandsIn (length files.new.items) result }
     ensures few { IfOk result (λ u. length u.tokens ≤ 131072) }
 {
     let mut names = FileNames::new(alloc);
     let answer = unit_from(alloc, tree, main, dirs, model, &mut names);
+    let answer = within(names.len(), answer);
     *files = names.into_names();
     answer
 }

@@ -1,14 +1,20 @@
 //! What is known while a unit is preprocessed, and what its directives do to it.
-ghost use Rattle.std.specs.Prelude.{◌≡◌, IfErr};
+ghost use Rattle.std.specs.Prelude.{◌≡◌, ◌∷◌, [], Some, not, true, false, IfErr, IfOk, option_map};
+ghost use Rattle.macro_expansion.specs.Numbering.{texts_of};
+ghost use Rattle.directive_conditions.specs.DefinedNames.{named_of};
 ghost use Rattle.c_tokens.specs.Cutting.{fault_of};
 ghost use Rattle.c_preproc.specs.Causes.{IsOwn, IsOwnRefusal};
+ghost use Rattle.directive_lines.specs.OpenFiles.{opened_of};
+ghost use Rattle.c_preproc.specs.Known.{known_of, reading_of, Gives, start, trouble_fault, unclosed_fault, uneven_fault, condition_fault, appended, text_read, condition, decided, begun_if, begun_ifdef, turned_elif, else_turned, if_ended, define, undefine, pragma, is_once, name_of, only_name, name_before, first_name, is_nil, define_as, condition_expanded, IsConditionStop};
+ghost use Rattle.macro_expansion.specs.Expanding.{Outcome};
+ghost use Rattle.macro_expansion.specs.Rules.{defined_of};
 
-use crate::conditional_groups::{GroupState, Uneven};
-use crate::macro_definitions::{DefinitionFault, definition, may_be_defined, same_definition};
-use crate::open_files::OpenFile;
 use crate::unit_tokens::UnitTokens;
 use cc_base::{Fault, Kind, Place, Refusal, Stop};
-use directive_conditions::{ConditionFault, holds, replace_defined};
+use directive_conditions::{ConditionFault, Digits, holds, replace_defined};
+use directive_lines::{
+    DefinitionFault, GroupState, OpenFile, Uneven, definition, may_be_defined, same_definition,
+};
 use macro_expansion::{
     Expansion, Failure, Lexeme, Macro, Macros, Mark, Part, Refused, Spellings, Trouble, expand_list,
 };
@@ -19,6 +25,8 @@ use std::alloc::Global;
 pub struct State {
     pub spellings: Spellings,
     pub macros: Macros,
+    /// The numbers of the spellings `0` and `1`.
+    pub digits: Digits,
     /// How many tokens all replacements so far have made.
     pub used: usize,
     /// How many inclusions there were.
@@ -39,7 +47,8 @@ pub fn refused(place: Place, refusal: Refusal) -> Stop
 /// The refusal of a call of a macro; a call that is not closed is refused as `unclosed`.
 fn trouble(fault: Refused, unclosed: Fault) -> Stop
     requires { IsOwnRefusal unclosed.refusal }
-    ensures { IsOwn result }
+    ensures own { IsOwn result }
+    ensures fault { result ≡ Stop.Refused (trouble_fault fault.trouble fault.place unclosed) }
 {
     match fault.trouble {
         Trouble::Spill => refused(fault.place, Refusal::MacroSpill),
@@ -58,7 +67,8 @@ fn trouble(fault: Refused, unclosed: Fault) -> Stop
 /// What refuses a call that is not closed in its list: the directive behind the list, if there is
 /// one, or else the call itself.
 fn unclosed_by(directive: Option<Place>, call: Place) -> Fault
-    ensures { IsOwnRefusal result.refusal }
+    ensures own { IsOwnRefusal result.refusal }
+    ensures fault { result ≡ unclosed_fault directive call }
 {
     match directive {
         Some(place) => Fault {
@@ -73,7 +83,8 @@ fn unclosed_by(directive: Option<Place>, call: Place) -> Fault
 }
 
 fn uneven(place: Place, fault: Uneven) -> Stop
-    ensures { IsOwn result }
+    ensures own { IsOwn result }
+    ensures fault { result ≡ Stop.Refused (uneven_fault place fault) }
 {
     match fault {
         Uneven::Misplaced => refused(place, Refusal::UnevenConditional),
@@ -81,15 +92,55 @@ fn uneven(place: Place, fault: Uneven) -> Stop
     }
 }
 
+fn name_of(x: Lexeme) -> Option<u32>
+    ensures { result ≡ name_of x }
+{
+    match x {
+        Lexeme::Name(name, _) => Some(name),
+        _ => None,
+    }
+}
+
+/// The name that a line is.
+fn only_name(line: &[Lexeme]) -> Option<u32>
+    ensures { result ≡ only_name line.now }
+{
+    match line {
+        [x] => name_of(*x),
+        _ => None,
+    }
+}
+
+fn name_before(x: Lexeme, rest: &[Lexeme]) -> Option<(u32, &[Lexeme])>
+    ensures { option_map named_of result ≡ name_before x rest.now }
+{
+    match x {
+        Lexeme::Name(name, _) => Some((name, rest)),
+        _ => None,
+    }
+}
+
+/// The name that a line begins with, and what stands behind it.
+pub fn first_name(line: &[Lexeme]) -> Option<(u32, &[Lexeme])>
+    ensures { option_map named_of result ≡ first_name line.now }
+{
+    match line {
+        [] => None,
+        [x, rest @ ..] => name_before(*x, rest),
+    }
+}
+
 impl State {
     /// At the start of a unit, where `__STDC__` alone is defined, as 1.
     pub fn new(alloc: Global) -> Result<State, Stop>
-        ensures { IfErr result IsOwn }
+        ensures own { IfErr result IsOwn }
+        ensures start { IfOk result (λ s. known_of s ≡ start) }
     {
         let mut spellings = Spellings::new(alloc);
         let mut macros = Macros::new(alloc);
         let name = spellings.number(alloc, b"__STDC__")?;
         let one = spellings.number(alloc, b"1")?;
+        let zero = spellings.number(alloc, b"0")?;
         let mark = Mark {
             place: Place {
                 file: 0,
@@ -111,6 +162,7 @@ impl State {
         Ok(State {
             spellings,
             macros,
+            digits: Digits { zero, one },
             used: 0,
             inclusions: 0,
             once: Vec::new(alloc),
@@ -125,7 +177,8 @@ impl State {
         list: &[Lexeme],
         directive: Option<Place>,
     ) -> Result<(), Stop>
-        ensures { IfErr result IsOwn }
+        ensures own { IfErr result IsOwn }
+        ensures given { Gives (text_read list.now directive (known_of self.old)) (λ _. known_of self.new) result }
     {
         match expand_list(alloc, &self.macros, self.used, list) {
             Ok(expansion) => self.append(alloc, expansion),
@@ -136,25 +189,61 @@ impl State {
         }
     }
 
+    /// Adds a token of an expanded list to the unit's.
+    fn push(&mut self, alloc: Global, x: Lexeme) -> Result<(), Stop>
+        ensures own { IfErr result IsOwn }
+        ensures given { Gives (appended (x ∷ []) (known_of self.old)) (λ _. known_of self.new) result }
+    {
+        if self.out.is_full() {
+            return Err(refused(
+                x.mark().place,
+                Refusal::TooManyTokens {
+                    count: 131_073,
+                    limit: 131_072,
+                },
+            ));
+        }
+        let token = self.spellings.token(alloc, x)?;
+        self.out.push(token)?;
+        Ok(())
+    }
+
     /// Adds the tokens of an expanded list to the unit's.
     fn append(&mut self, alloc: Global, expansion: Expansion) -> Result<(), Stop>
-        ensures { IfErr result IsOwn }
+        ensures own { IfErr result IsOwn }
+        ensures given { Gives (appended expansion.words.items (record (known_of self.old) { used = expansion.used })) (λ _. known_of self.new) result }
     {
         self.used = expansion.used;
         for x in &expansion.words {
-            if self.out.is_full() {
-                return Err(refused(
-                    x.mark().place,
-                    Refusal::TooManyTokens {
-                        count: 131_073,
-                        limit: 131_072,
-                    },
-                ));
+            match self.push(alloc, *x) {
+                Ok(()) => {}
+                Err(stop) => return Err(stop),
             }
-            let token = self.spellings.token(alloc, *x)?;
-            self.out.push(token)?;
         }
         Ok(())
+    }
+
+    /// Whether the expanded condition of the directive at `place` holds.
+    fn truth(
+        &mut self,
+        alloc: Global,
+        char_signed: bool,
+        place: Place,
+        expansion: Expansion,
+    ) -> Result<bool, Stop>
+        ensures own { IfErr result IsOwn }
+        ensures given { Gives (condition_expanded char_signed place (Outcome.done expansion.words.items expansion.used) (known_of self.old)) (λ b. decided (known_of self.new) b) result }
+    {
+        self.used = expansion.used;
+        match holds(
+            alloc,
+            &self.spellings,
+            char_signed,
+            expansion.words.as_slice(),
+        ) {
+            Ok(value) => Ok(value),
+            Err(fault) => Err(condition_fault(place, fault)),
+        }
     }
 
     /// Whether the condition of the directive at `place` holds.
@@ -165,28 +254,17 @@ impl State {
         place: Place,
         line: &[Lexeme],
     ) -> Result<bool, Stop>
-        ensures { IfErr result IsOwn }
+        ensures own { IfErr result IsOwn }
+        ensures given { Gives (condition char_signed place line.now (known_of self.old)) (λ b. decided (known_of self.new) b) result }
     {
-        let named = replace_defined(alloc, &mut self.spellings, &self.macros, line);
-        let named = match named {
+        let named = match replace_defined(alloc, &self.spellings, &self.macros, self.digits, line) {
             Ok(list) => list,
             Err(fault) => return Err(condition_fault(place, fault)),
         };
         match expand_list(alloc, &self.macros, self.used, named.as_slice()) {
             Err(Failure::Memory) => Err(Stop::Memory),
             Err(Failure::Refused(fault)) => Err(trouble(fault, unclosed_by(None, fault.place))),
-            Ok(expansion) => {
-                self.used = expansion.used;
-                match holds(
-                    alloc,
-                    &self.spellings,
-                    char_signed,
-                    expansion.words.as_slice(),
-                ) {
-                    Ok(value) => Ok(value),
-                    Err(fault) => Err(condition_fault(place, fault)),
-                }
-            }
+            Ok(expansion) => self.truth(alloc, char_signed, place, expansion),
         }
     }
 
@@ -199,36 +277,43 @@ impl State {
         place: Place,
         line: &[Lexeme],
     ) -> Result<(), Stop>
-        ensures { IfErr result IsOwn }
+        ensures own { IfErr result IsOwn }
+        ensures given { Gives (begun_if char_signed place line.now (reading_of self.old top.old)) (λ _. reading_of self.new top.new) result }
     {
-        let state = if top.sections.is_skipping() {
-            GroupState::Outside
-        } else {
-            GroupState::first(self.condition(alloc, char_signed, place, line)?)
-        };
-        top.sections.enter(place, state)?;
-        Ok(())
+        if top.sections.is_skipping() {
+            top.sections.enter(place, GroupState::Outside)?;
+            return Ok(());
+        }
+        match self.condition(alloc, char_signed, place, line) {
+            Ok(holds) => {
+                top.sections.enter(place, GroupState::first(holds))?;
+                Ok(())
+            }
+            Err(stop) => Err(stop),
+        }
     }
 
     /// `#ifdef`, or `#ifndef` where `wanted` is false.
     pub fn begin_ifdef(
-        &mut self,
+        &self,
         top: &mut OpenFile,
         wanted: bool,
         place: Place,
         line: &[Lexeme],
     ) -> Result<(), Stop>
-        ensures { IfErr result IsOwn }
+        ensures own { IfErr result IsOwn }
+        ensures given { Gives (begun_ifdef wanted place line.now (reading_of self.now top.old)) (λ _. reading_of self.now top.new) result }
     {
-        let state = if top.sections.is_skipping() {
-            GroupState::Outside
-        } else {
-            let [Lexeme::Name(name, _)] = line else {
-                return Err(refused(place, Refusal::BadDirective));
-            };
-            GroupState::first(self.macros.get(*name).is_some() == wanted)
+        if top.sections.is_skipping() {
+            top.sections.enter(place, GroupState::Outside)?;
+            return Ok(());
+        }
+        let Some(name) = only_name(line) else {
+            return Err(refused(place, Refusal::BadDirective));
         };
-        top.sections.enter(place, state)?;
+        let known = self.macros.get(name).is_some();
+        let holds = if wanted { known } else { !known };
+        top.sections.enter(place, GroupState::first(holds))?;
         Ok(())
     }
 
@@ -241,36 +326,30 @@ impl State {
         place: Place,
         line: &[Lexeme],
     ) -> Result<(), Stop>
-        ensures { IfErr result IsOwn }
+        ensures own { IfErr result IsOwn }
+        ensures given { Gives (turned_elif char_signed place line.now (reading_of self.old top.old)) (λ _. reading_of self.new top.new) result }
     {
         let Some(before) = top.sections.before_elif() else {
             return Err(refused(place, Refusal::UnevenConditional));
         };
-        let state = if before == GroupState::Waiting {
-            GroupState::first(self.condition(alloc, char_signed, place, line)?)
-        } else {
-            before.behind()
-        };
-        top.sections.set_state(state);
-        Ok(())
+        if !before.is_waiting() {
+            top.sections.set_state(before.behind());
+            return Ok(());
+        }
+        match self.condition(alloc, char_signed, place, line) {
+            Ok(holds) => {
+                top.sections.set_state(GroupState::first(holds));
+                Ok(())
+            }
+            Err(stop) => Err(stop),
+        }
     }
 
-    /// `#define`
-    pub fn define(&mut self, alloc: Global, place: Place, line: &[Lexeme]) -> Result<(), Stop>
-        ensures { IfErr result IsOwn }
+    /// Defines a name that is not defined, or looks whether its definition is the same.
+    fn define_as(&mut self, place: Place, name: u32, rule: Macro) -> Result<(), Stop>
+        ensures own { IfErr result IsOwn }
+        ensures given { Gives (define_as place name (Some (defined_of rule)) (known_of self.old)) (λ _. known_of self.new) result }
     {
-        let [Lexeme::Name(name, _), rest @ ..] = line else {
-            return Err(refused(place, Refusal::BadDirective));
-        };
-        let name = *name;
-        if !may_be_defined(&self.spellings, name) {
-            return Err(refused(place, Refusal::BadDirective));
-        }
-        let rule = match definition(alloc, &self.spellings, rest) {
-            Ok(rule) => rule,
-            Err(DefinitionFault::Malformed) => return Err(refused(place, Refusal::BadDirective)),
-            Err(DefinitionFault::Memory) => return Err(Stop::Memory),
-        };
         match self.macros.get(name) {
             Some(old) => {
                 if same_definition(old, &rule) {
@@ -284,41 +363,64 @@ impl State {
         Ok(())
     }
 
-    /// `#undef`
-    pub fn undefine(&mut self, place: Place, line: &[Lexeme]) -> Result<(), Stop>
-        ensures { IfErr result IsOwn }
+    /// `#define`
+    pub fn define(&mut self, alloc: Global, place: Place, line: &[Lexeme]) -> Result<(), Stop>
+        ensures own { IfErr result IsOwn }
+        ensures given { Gives (define place line.now (known_of self.old)) (λ _. known_of self.new) result }
     {
-        let [Lexeme::Name(name, _)] = line else {
+        let Some((name, rest)) = first_name(line) else {
             return Err(refused(place, Refusal::BadDirective));
         };
-        if !may_be_defined(&self.spellings, *name) {
+        if !may_be_defined(&self.spellings, name) {
             return Err(refused(place, Refusal::BadDirective));
         }
-        self.macros.undefine(*name);
+        match definition(alloc, &self.spellings, rest) {
+            Ok(rule) => self.define_as(place, name, rule),
+            Err(DefinitionFault::Malformed) => Err(refused(place, Refusal::BadDirective)),
+            Err(DefinitionFault::Memory) => Err(Stop::Memory),
+        }
+    }
+
+    /// `#undef`
+    pub fn undefine(&mut self, place: Place, line: &[Lexeme]) -> Result<(), Stop>
+        ensures own { IfErr result IsOwn }
+        ensures given { Gives (undefine place line.now (known_of self.old)) (λ _. known_of self.new) result }
+    {
+        let Some(name) = only_name(line) else {
+            return Err(refused(place, Refusal::BadDirective));
+        };
+        if !may_be_defined(&self.spellings, name) {
+            return Err(refused(place, Refusal::BadDirective));
+        }
+        self.macros.undefine(name);
         Ok(())
     }
 
     /// `#pragma`: `once` is obeyed, all others are skipped.
     pub fn pragma(&mut self, file: u32, line: &[Lexeme]) -> Result<(), Stop>
-        ensures { IfErr result IsOwn }
+        ensures own { IfErr result IsOwn }
+        ensures given { Gives (pragma file line.now (known_of self.old)) (λ _. known_of self.new) result }
     {
-        let [Lexeme::Name(name, _)] = line else {
+        let Some(name) = only_name(line) else {
             return Ok(());
         };
-        if self.spellings.text(*name) == b"once".as_slice() && !self.is_once(file) {
+        if self.spellings.text(name) == b"once".as_slice() && !self.is_once(file) {
             self.once.push(file)?;
         }
         Ok(())
     }
 
     /// Whether a file has `#pragma once`.
-    pub fn is_once(&self, file: u32) -> bool {
+    pub fn is_once(&self, file: u32) -> bool
+        ensures { result ≡ is_once self.now.once.items file }
+    {
         self.once.iter().any(|x| *x == file)
     }
 }
 
 fn condition_fault(place: Place, fault: ConditionFault) -> Stop
-    ensures { IsOwn result }
+    ensures own { IsOwn result }
+    ensures fault { IsConditionStop place fault result }
 {
     match fault {
         ConditionFault::NumberForm(at) => refused(at, Refusal::NumberForm),
@@ -329,7 +431,8 @@ fn condition_fault(place: Place, fault: ConditionFault) -> Stop
 
 /// `#else`
 pub fn turn_else(top: &mut OpenFile, place: Place, line: &[Lexeme]) -> Result<(), Stop>
-    ensures { IfErr result IsOwn }
+    ensures own { IfErr result IsOwn }
+    ensures given { Gives (else_turned place line.now (opened_of top.old)) (λ _. opened_of top.new) result }
 {
     match top.sections.turn_else(!line.is_empty()) {
         None => Ok(()),
@@ -339,7 +442,8 @@ pub fn turn_else(top: &mut OpenFile, place: Place, line: &[Lexeme]) -> Result<()
 
 /// `#endif`
 pub fn end_if(top: &mut OpenFile, place: Place, line: &[Lexeme]) -> Result<(), Stop>
-    ensures { IfErr result IsOwn }
+    ensures own { IfErr result IsOwn }
+    ensures given { Gives (if_ended place line.now (opened_of top.old)) (λ _. opened_of top.new) result }
 {
     match top.sections.leave(!line.is_empty()) {
         None => Ok(()),

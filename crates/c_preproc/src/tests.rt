@@ -330,3 +330,134 @@ fn standard_examples(rt: HostRuntime) -> Result<(), Fail> {
     );
     Ok(())
 }
+
+#[test]
+fn tables_and_lists_of_the_standard(rt: HostRuntime) -> Result<(), Fail> {
+    let alloc = rt.alloc();
+    assert!(rt;
+        is(
+            alloc,
+            "#define TABSIZE 100\nint table[TABSIZE];",
+            " int table [ 100 ] ;"
+        )?
+    );
+    assert!(rt;
+        is(
+            alloc,
+            "#define max(a, b) ((a) > (b) ? (a) : (b))\nmax(i, (j, k))",
+            " ( ( i ) > ( ( j , k ) ) ? ( i ) : ( ( j , k ) ) )"
+        )?
+    );
+    assert!(rt;
+        is(
+            alloc,
+            "#define OBJ_LIKE (1-1)\n#define OBJ_LIKE (0)\n",
+            "a.c:2:1: MacroRedefined"
+        )?
+    );
+    assert!(rt;
+        is(
+            alloc,
+            "#define FUNC_LIKE(a) ( a )\n#define FUNC_LIKE(b) ( a )\n",
+            "a.c:2:1: MacroRedefined"
+        )?
+    );
+    Ok(())
+}
+
+/// A text so many times.
+fn repeated(alloc: Global, text: &str, times: usize) -> Result<String, Fail> {
+    let mut whole = String::new(alloc);
+    for _ in 0..times {
+        whole.push_str(text)?;
+    }
+    Ok(whole)
+}
+
+/// Macros `a0` to `a` and the last number, each twice the one before, and the last one's use.
+fn doubling_macros(alloc: Global, last: usize) -> Result<String, Fail> {
+    let mut text = String::from_str(alloc, "#define a0 +1\n")?;
+    for i in 0..last {
+        let next = i + 1;
+        let line = format!(in alloc; "#define a{next} a{i} a{i}\n")?;
+        text.push_str(line.as_str())?;
+    }
+    let line = format!(in alloc; "int x=a{last};")?;
+    text.push_str(line.as_str())?;
+    Ok(text)
+}
+
+#[test]
+fn inclusions_one_too_many(rt: HostRuntime) -> Result<(), Fail> {
+    let alloc = rt.alloc();
+    let text = repeated(alloc, "#include \"e.h\"\n", 1025)?;
+    assert!(rt; is_with(alloc, "e.h", "", text.as_str(), "a.c:1025:1: IncludeDepth")?);
+    let text = repeated(alloc, "#include \"e.h\"\n", 1024)?;
+    assert!(rt; is_with(alloc, "e.h", "", text.as_str(), "")?);
+    Ok(())
+}
+
+#[test]
+fn tokens_one_too_many(rt: HostRuntime) -> Result<(), Fail> {
+    let alloc = rt.alloc();
+    let text = doubling_macros(alloc, 17)?;
+    assert!(rt;
+        is(
+            alloc,
+            text.as_str(),
+            "a.c:19:7: TooManyTokens 131073/131072"
+        )?
+    );
+    let text = doubling_macros(alloc, 19)?;
+    assert!(rt;
+        is(
+            alloc,
+            text.as_str(),
+            "a.c:21:7: TooManyTokens 1048578/1048576"
+        )?
+    );
+    Ok(())
+}
+
+#[test]
+fn calls_in_one_another(rt: HostRuntime) -> Result<(), Fail> {
+    let alloc = rt.alloc();
+    let mut text = String::from_str(alloc, "#define f(x) x\n")?;
+    text.push_str(repeated(alloc, "f(", 40000)?.as_str())?;
+    text.push_str("7")?;
+    text.push_str(repeated(alloc, ")", 40000)?.as_str())?;
+    assert!(rt; is(alloc, text.as_str(), " 7")?);
+    Ok(())
+}
+
+#[test]
+fn names_of_macros_and_their_digits(rt: HostRuntime) -> Result<(), Fail> {
+    let alloc = rt.alloc();
+    assert!(rt; is(alloc, "#define __STDC__ 1\n", "a.c:1:1: BadDirective")?);
+    assert!(rt; is(alloc, "#undef defined\n", "a.c:1:1: BadDirective")?);
+    assert!(rt; is(alloc, "__STDC__", " 1")?);
+    assert!(rt;
+        is(
+            alloc,
+            "#define A A\n#define A A\n#undef A\n#define A 2\nA",
+            " 2"
+        )?
+    );
+    assert!(rt;
+        is(
+            alloc,
+            "#if defined (X) + defined A\n#endif\n#define A\n#if defined ( A )\na\n#endif",
+            " a"
+        )?
+    );
+    assert!(rt; is(alloc, "#if defined\n#endif", "a.c:1:1: BadDirective")?);
+    assert!(rt; is(alloc, "# \n#include x\n", "a.c:2:1: BadDirective")?);
+    assert!(rt;
+        is(
+            alloc,
+            "#if 0\n#include x\n#unknown\n#endif\n#unknown",
+            "a.c:5:1: BadDirective"
+        )?
+    );
+    Ok(())
+}

@@ -3,3 +3,4 @@ pub mod Sound
 pub mod Evaluating
 pub mod Expressions
 pub mod Lines
+pub mod DefinedNames

@@ -6,3 +6,5 @@ pub mod Expressions
 pub mod Reading
 pub mod Readings
 pub mod Lines
+pub mod DefinedNames
+pub mod Truth

@@ -6,7 +6,7 @@ use Rattle.cc_base.specs.declared.lexemes.Kind.TheVariants as kind
 use Rattle.macro_expansion.specs.declared.lexeme.Lexeme.{Lexeme}
 use Rattle.macro_expansion.specs.declared.lexeme.Lexeme.TheVariants.{Name, Painted, Open, Close, Comma, Other}
 use Rattle.macro_expansion.specs.declared.spelling_numbers.Spellings.{Spellings}
-use Rattle.macro_expansion.specs.Numbering.{text_of}
+use Rattle.macro_expansion.specs.Numbering.{texts_of, text_at}
 use Rattle.directive_conditions.specs.declared.condition_symbols.Symbol.{Symbol}
 use Rattle.directive_conditions.specs.declared.condition_symbols.Symbol.TheVariants as symbol
 use Rattle.directive_conditions.specs.declared.condition_value.Number.{Number}
@@ -32,13 +32,16 @@ other_symbol kind.Punct text char_signed place = Ok (punctuator text)
 other_symbol k text char_signed place = Ok symbol.Foreign
 
 -- what a token is in a condition: a name that is left is 0
+abbrev pub symbol_in : List (List ℕ) → Bool → Lexeme → Result Symbol Place
+symbol_in texts char_signed (Name n m) = Ok (symbol.Constant (Signed (pos 0)))
+symbol_in texts char_signed (Painted n m) = Ok (symbol.Constant (Signed (pos 0)))
+symbol_in texts char_signed (Open m) = Ok symbol.Open
+symbol_in texts char_signed (Close m) = Ok symbol.Close
+symbol_in texts char_signed (Comma m) = Ok symbol.Foreign
+symbol_in texts char_signed (Other k n m) = other_symbol k (text_at texts n) char_signed m.place
+
 abbrev pub symbol_of : Spellings → Bool → Lexeme → Result Symbol Place
-symbol_of spellings char_signed (Name n m) = Ok (symbol.Constant (Signed (pos 0)))
-symbol_of spellings char_signed (Painted n m) = Ok (symbol.Constant (Signed (pos 0)))
-symbol_of spellings char_signed (Open m) = Ok symbol.Open
-symbol_of spellings char_signed (Close m) = Ok symbol.Close
-symbol_of spellings char_signed (Comma m) = Ok symbol.Foreign
-symbol_of spellings char_signed (Other k n m) = other_symbol k (text_of spellings n) char_signed m.place
+symbol_of spellings char_signed x = symbol_in (texts_of spellings) char_signed x
 
 abbrev pub before : Result Symbol Place → Result (List Symbol) Place → Result (List Symbol) Place
 before (Err place) rest = Err place
@@ -46,9 +49,12 @@ before (Ok x) (Err place) = Err place
 before (Ok x) (Ok xs) = Ok (x ∷ xs)
 
 -- the tokens of a line, or the place of the first that has a form that is not in
+abbrev pub symbols_in : List (List ℕ) → Bool → List Lexeme → Result (List Symbol) Place
+symbols_in texts char_signed [] = Ok []
+symbols_in texts char_signed (x ∷ xs) = before (symbol_in texts char_signed x) (symbols_in texts char_signed xs)
+
 abbrev pub symbols_of : Spellings → Bool → List Lexeme → Result (List Symbol) Place
-symbols_of spellings char_signed [] = Ok []
-symbols_of spellings char_signed (x ∷ xs) = before (symbol_of spellings char_signed x) (symbols_of spellings char_signed xs)
+symbols_of spellings char_signed line = symbols_in (texts_of spellings) char_signed line
 
 -- a condition holds where its value is not 0; it has no value where it is no expression, or where what is evaluated of it is undefined
 abbrev pub HoldsBy : Result (List Symbol) Place → Result Bool ConditionFault → Type 0

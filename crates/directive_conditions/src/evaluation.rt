@@ -4,6 +4,7 @@ ghost use Rattle.std.specs.Prelude.{◌≡◌, List, [], Some, None, Ok, IfOk};
 ghost use Rattle.directive_conditions.specs.Expressions.{IsExpression};
 ghost use Rattle.directive_conditions.specs.Lines.{symbol_of, symbols_of, decided, HoldsBy, Collects, Adds};
 ghost use Rattle.directive_conditions.specs.Reading.{prefixed, reduced, closed, prefix_read, begun, infix_read, gone_on, step, ended, run};
+ghost use Rattle.directive_conditions.specs.Truth.{truth, line_truth, IsTruth};
 ghost use Rattle.directive_conditions.specs.Readings.{Reads, Answers, Evaluates};
 
 use crate::condition_symbols::{Symbol, symbol_of};
@@ -273,7 +274,8 @@ fn run(alloc: Global, symbols: &[Symbol]) -> Result<Value, ConditionFault>
 
 /// The value of an expression.
 fn value_of(alloc: Global, symbols: &[Symbol]) -> Result<Value, ConditionFault>
-    ensures { Evaluates symbols.now result }
+    ensures derives { Evaluates symbols.now result }
+    ensures computed { Answers (run symbols.now (record { stack = []; operand = None })) result }
 {
     run(alloc, symbols)
 }
@@ -332,7 +334,8 @@ fn decided(value: Value) -> Result<bool, ConditionFault>
 
 /// Whether an expression is not 0.
 fn truth_of(alloc: Global, symbols: &[Symbol]) -> Result<bool, ConditionFault>
-    ensures { HoldsBy (Ok symbols.now) result }
+    ensures derives { HoldsBy (Ok symbols.now) result }
+    ensures computed { IsTruth (truth symbols.now) result }
 {
     match value_of(alloc, symbols) {
         Ok(value) => decided(value),
@@ -353,7 +356,8 @@ pub fn holds(
     char_signed: bool,
     line: &[Lexeme],
 ) -> Result<bool, ConditionFault>
-    ensures { HoldsBy (symbols_of spellings.now char_signed line.now) result }
+    ensures derives { HoldsBy (symbols_of spellings.now char_signed line.now) result }
+    ensures computed { IsTruth (line_truth (symbols_of spellings.now char_signed line.now)) result }
 {
     match symbols_of(alloc, spellings, char_signed, line) {
         Ok(symbols) => truth_of(alloc, symbols.as_slice()),

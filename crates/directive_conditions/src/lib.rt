@@ -9,5 +9,5 @@ mod number_forms;
 mod operations;
 
 pub use condition_value::Number;
-pub use defined_names::replace_defined;
+pub use defined_names::{Digits, replace_defined};
 pub use evaluation::{ConditionFault, holds, one_value};

@@ -6,3 +6,4 @@ pub mod Frames
 pub mod Rules
 pub mod States
 pub mod Numbering
+pub mod Places

@@ -1,5 +1,5 @@
 -- The machine of the code as the pure one, and what an answer says of an expansion.
-use Rattle.std.specs.Prelude.{◌≡◌, Bool, true, false, List, Result, Ok, Err}
+use Rattle.std.specs.Prelude.{◌≡◌, ℕ, Bool, true, false, List, Result, Ok, Err}
 use Rattle.macro_expansion.specs.declared.lexeme.Lexeme.{Lexeme}
 use Rattle.macro_expansion.specs.declared.machine.Machine.{Machine}
 use Rattle.macro_expansion.specs.declared.machine.Expansion.{Expansion}
@@ -12,13 +12,17 @@ use Rattle.macro_expansion.specs.Expanding.Outcome.{done, refused}
 use Rattle.macro_expansion.specs.Machine.{State, Next}
 use Rattle.macro_expansion.specs.Machine.Next.{more, ended}
 use Rattle.macro_expansion.specs.Frames.{frames_of}
-use Rattle.macro_expansion.specs.Rules.{rules_of}
+use Rattle.macro_expansion.specs.Rules.{Defined, rules_of, rules_in}
 
 abbrev pub state_of : Machine → State
 state_of m = record { frames = frames_of m.levels.stack.items; names = m.levels.within.items; pending = m.pending.items.items; place = m.place; out = m.out.items; used = m.used }
 
 abbrev pub setting_of : Macros → Setting
 setting_of macros = record { table = rules_of macros; limit = LIMIT }
+
+-- the same, of macros as they were defined
+abbrev pub setting_in : List (ℕ × Defined) → Setting
+setting_in macros = record { table = rules_in macros; limit = LIMIT }
 
 -- a move of the machine is this one, unless memory ran out
 abbrev pub Moves : {A : Type 0} → Next → Machine → Result A Failure → Type 0

@@ -1,11 +1,14 @@
 //! Expands a list with a stack of what is still to be read, and no recursion.
-ghost use Rattle.std.specs.Prelude.{◌≡◌, ◌∷◌, [], ◌++◌, map, vec_items, vec_len};
+ghost use Rattle.std.specs.Prelude.{◌≡◌, Bool, true, ◌∷◌, [], ◌++◌, map, vec_items, vec_len};
 ghost use Rattle.macro_expansion.specs.Expanding.{EndsEmpty, GoesByItsFirst, expansion, look, put, unclosed};
 ghost use Rattle.macro_expansion.specs.Frames.{frame_of, frames_of};
 ghost use Rattle.macro_expansion.specs.Lexemes.{moved, place_by};
 ghost use Rattle.macro_expansion.specs.Machine.{at_of, call_at, call_ended, close_in, comma_in, function_at, kept, macro_at, opened, replaced, started, suits, token_at, turned};
-ghost use Rattle.macro_expansion.specs.Rules.{rule_of};
-ghost use Rattle.macro_expansion.specs.States.{state_of, setting_of, Moves, Turns, Expands};
+ghost use Rattle.macro_expansion.specs.Rules.{rule_of, macros_of};
+ghost use Rattle.macro_expansion.specs.States.{state_of, setting_of, setting_in, Moves, Turns, Expands};
+ghost use Rattle.macro_expansion.specs.Places.{StandsBy, IfPlaced};
+ghost use Rattle.std.specs.List.{All};
+ghost use Rattle.cc_base.specs.declared.diagnostics.Place.{Place};
 
 use crate::levels::{Call, Level, Levels};
 use crate::lexeme::{Lexeme, Mark};
@@ -374,18 +377,8 @@ pub fn goes_by_its_first_token()
     ensures first { GoesByItsFirst }
 {}
 
-/// Expands a list of tokens under some macros, where replacements before it have made `used`
-/// tokens.
-///
-/// # Errors
-///
-/// `Refused` by the first call that is wrong; `Memory` for want of memory.
-pub fn expand_list(
-    alloc: Global,
-    macros: &Macros,
-    used: usize,
-    text: &[Lexeme],
-) -> Result<Expansion, Failure>
+/// Runs the machine over a list of tokens.
+fn run(alloc: Global, macros: &Macros, used: usize, text: &[Lexeme]) -> Result<Expansion, Failure>
     ensures { Expands (expansion (setting_of macros.now) text.now used) result }
 {
     let mut machine = Machine::new(alloc, used);
@@ -402,4 +395,22 @@ pub fn expand_list(
             }
         }
     }
+}
+
+/// Expands a list of tokens under some macros, where replacements before it have made `used`
+/// tokens. Each token that comes out, and each refusal, stands at the place of a token of the list.
+///
+/// # Errors
+///
+/// `Refused` by the first call that is wrong; `Memory` for want of memory.
+pub fn expand_list(
+    alloc: Global,
+    macros: &Macros,
+    used: usize,
+    text: &[Lexeme],
+) -> Result<Expansion, Failure>
+    ensures value { Expands (expansion (setting_in (macros_of macros.now)) text.now used) result }
+    ensures placed { (p : Place → Bool) → All (StandsBy (λ at. p at ≡ true)) text.now → IfPlaced (λ at. p at ≡ true) result }
+{
+    run(alloc, macros, used, text)
 }

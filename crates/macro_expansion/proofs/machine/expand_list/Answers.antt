@@ -1,25 +1,13 @@
+use Rattle.std.proofs.Common.{◌≡◌, true, subst}
 use Rattle.macro_expansion.specs.Expanding.{expansion}
-use Rattle.macro_expansion.specs.States.{state_of, setting_of}
-use Rattle.macro_expansion.proofs.Whole.{begun, goes_on, comes_down, stopped, failed}
+use Rattle.macro_expansion.specs.States.{setting_of, Expands}
+use Rattle.macro_expansion.specs.declared.machine.TheConstants.{LIMIT}
+use Rattle.macro_expansion.proofs.Places.{list-placed}
+use Rattle.macro_expansion.proofs.Tables.{rules-are}
 use Rattle.macro_expansion.proofs.machine.expand_list.Goals as goal
 
-pub turns-init : goal.turns-init
-turns-init c =
-    begun (setting_of c.args.macros.now) c.args.text.now c.args.used c.new-machine.result.levels.stack.items c.new-machine.result.levels.within.items
-    c.new-machine.result.pending.items.items c.push_list.new.self.items.items c.new-machine.result.place c.new-machine.result.out.items c.new-machine.result.used
-    c.new-machine.ensures.frames c.new-machine.ensures.names c.new-machine.ensures.pending c.in_ok-push_list.ensures c.new-machine.ensures.out c.new-machine.ensures.used
+pub returns-clause-value : goal.returns-clause-value
+returns-clause-value c = subst (λ t. Expands (expansion (record { table = t; limit = LIMIT }) c.args.text.now c.args.used) c.run.result) (rules-are c.args.macros.now) c.run.ensures
 
-pub returns-in-Err : goal.returns-in-Err
-returns-in-Err c =
-    failed (setting_of c.args.macros.now) (state_of c.turns.machine) (expansion (setting_of c.args.macros.now) c.args.text.now c.args.used) c.turn.new.self c.in-Err.failure c.turns.invariant c.in-Err.ensures
-
-pub turns-smaller : goal.turns-smaller
-turns-smaller c = comes_down (setting_of c.args.macros.now) (state_of c.turns.machine) c.turn.new.self c.in-Ok-true.field-0 c.in-Ok-true.field-0-test c.in-Ok-true.ensures
-
-pub turns-preserved : goal.turns-preserved
-turns-preserved c =
-    goes_on (setting_of c.args.macros.now) (state_of c.turns.machine) (expansion (setting_of c.args.macros.now) c.args.text.now c.args.used) c.turn.new.self c.in-Ok-true.field-0 c.turns.invariant c.in-Ok-true.field-0-test c.in-Ok-true.ensures
-
-pub returns-in-Ok-false : goal.returns-in-Ok-false
-returns-in-Ok-false c =
-    stopped (setting_of c.args.macros.now) (state_of c.turns.machine) (expansion (setting_of c.args.macros.now) c.args.text.now c.args.used) c.turn.new.self c.in-Ok-false.field-0 c.turns.invariant c.in-Ok-false.field-0-test c.in-Ok-false.ensures
+pub returns-clause-placed : goal.returns-clause-placed
+returns-clause-placed c = λ p h. list-placed (λ at. p at ≡ true) (setting_of c.args.macros.now) c.args.text.now c.args.used c.run.result c.run.ensures h

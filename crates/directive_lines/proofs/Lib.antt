@@ -1,0 +1,3 @@
+pub mod Groups
+pub mod Definitions
+pub mod OpenFiles

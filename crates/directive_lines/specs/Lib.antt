@@ -1,0 +1,4 @@
+pub mod Groups
+pub mod Definitions
+pub mod Directives
+pub mod OpenFiles
