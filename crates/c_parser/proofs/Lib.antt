@@ -1,1 +1,7 @@
+pub mod Bodies
+pub mod Declaring
+pub mod Jumps
+pub mod Parts
 pub mod Refusing
+pub mod Rows
+pub mod Units

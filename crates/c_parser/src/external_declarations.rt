@@ -1,4 +1,11 @@
 //! External declarations (6.9).
+ghost use Rattle.std.specs.Prelude.{◌≡◌, ◌+◌, ◌≤◌, [], map, IfOk};
+ghost use Rattle.c_layout.specs.DeclarationTrees.{Declared, spec_tree, spec_trees, init_declarator_view, external_tree};
+ghost use Rattle.declaration_grammar.specs.Findings.{FoundSpec, FoundBare, FoundTail};
+ghost use Rattle.expression_grammar.specs.Fronts.{first_place};
+ghost use Rattle.c_parser.specs.Externals.{with_declared};
+ghost use Rattle.c_parser.specs.Findings.{FoundLast, FoundBehind, FoundNamed, FoundExternal};
+
 use crate::statements::block;
 use c_layout::{External, InitDeclarator, SpecWord};
 use cc_base::{Place, Text};
@@ -15,16 +22,22 @@ struct Head {
     height: u32,
 }
 
-/// Puts the declarator's name in force as a typedef name.
+/// Puts the declarator's name in force, where it `gives` it as a typedef name.
 fn put_in_force(
     alloc: Global,
     typedefs: &mut Vec<Text>,
     declared: &InitDeclarator,
-) -> Result<(), AllocError> {
-    if let Some(name) = named_by(declared) {
-        typedefs.push(name.text.copy(alloc)?)?;
+    gives: bool,
+) -> Result<(), AllocError>
+    ensures { IfOk result (λ _. typedefs.new.items ≡ with_declared gives typedefs.old.items (init_declarator_view declared.now)) }
+{
+    if !gives {
+        return Ok(());
     }
-    Ok(())
+    match named_by(declared) {
+        Some(name) => Ok(typedefs.push(name.text.copy(alloc)?)?),
+        None => Ok(()),
+    }
 }
 
 /// A declarator without initializer. Behind it its name is in force, where it is a typedef name.
@@ -32,17 +45,18 @@ fn declared_name(
     alloc: Global,
     typedefs: &mut Vec<Text>,
     reader: &mut Reader<'_>,
-    gives_names: bool,
+    gives: bool,
     budget: u32,
-) -> Result<Parsed<InitDeclarator>, Trouble> {
+) -> Result<Parsed<InitDeclarator>, Trouble>
+    ensures found { IfOk result (λ n. FoundBare typedefs.old.items budget (init_declarator_view n.tree) n.height reader.old reader.new) }
+    ensures names { IfOk result (λ n. typedefs.new.items ≡ with_declared gives typedefs.old.items (init_declarator_view n.tree)) }
+{
     let scope = Scope {
         alloc,
         typedefs: typedefs.as_slice(),
     };
     let found = file_declarator(scope, reader, budget)?;
-    if gives_names {
-        put_in_force(alloc, typedefs, &found.tree)?;
-    }
+    put_in_force(alloc, typedefs, &found.tree, gives)?;
     Ok(found)
 }
 
@@ -53,8 +67,11 @@ fn completed(
     reader: &mut Reader<'_>,
     declared: Parsed<InitDeclarator>,
     budget: u32,
-) -> Result<Parsed<InitDeclarator>, Trouble> {
-    initialized(Scope { alloc, typedefs }, reader, declared, budget)
+) -> Result<Parsed<InitDeclarator>, Trouble>
+    ensures { IfOk result (λ n. FoundTail typedefs.now budget (init_declarator_view declared.tree) declared.height (init_declarator_view n.tree) n.height reader.old reader.new) }
+{
+    let scope = Scope { alloc, typedefs };
+    initialized(scope, reader, declared, budget)
 }
 
 /// The declarators behind the first one, each behind a comma, with the `;`. They go to the end of
@@ -63,16 +80,18 @@ fn further_declarators(
     alloc: Global,
     typedefs: &mut Vec<Text>,
     reader: &mut Reader<'_>,
-    gives_names: bool,
+    gives: bool,
     found: &mut Vec<InitDeclarator>,
     budget: u32,
-) -> Result<u32, Trouble> {
+) -> Result<u32, Trouble>
+    ensures { IfOk result (λ h. FoundLast gives typedefs.old.items typedefs.new.items budget (map init_declarator_view found.old.items) (map init_declarator_view found.new.items) h reader.old reader.new) }
+{
     let mut height = 0u32;
     for _turn in 0..reader.left() {
         if !reader.accept(Punctuator::Comma) {
             break;
         }
-        let name = declared_name(alloc, typedefs, reader, gives_names, budget)?;
+        let name = declared_name(alloc, typedefs, reader, gives, budget)?;
         let next = completed(alloc, typedefs.as_slice(), reader, name, budget)?;
         height = height.max(next.height);
         found.push(next.tree)?;
@@ -89,14 +108,18 @@ fn declaration(
     head: Head,
     name: Parsed<InitDeclarator>,
     budget: u32,
-) -> Result<Parsed<External>, Trouble> {
+) -> Result<Parsed<External>, Trouble>
+    ensures { IfOk result (λ n. FoundBehind typedefs.old.items typedefs.new.items budget head.place (map spec_tree head.words.items) head.height (init_declarator_view name.tree) name.height (external_tree n.tree) n.height reader.old reader.new) }
+{
     let parts = inner(budget)?;
-    let gives_names = is_typedef(head.words.as_slice());
+    let gives = is_typedef(head.words.as_slice());
     let first = completed(alloc, typedefs.as_slice(), reader, name, parts)?;
     let mut found = Vec::new(alloc);
     found.push(first.tree)?;
-    let further = further_declarators(alloc, typedefs, reader, gives_names, &mut found, parts)?;
-    let height = made(budget, head.height.max(first.height).max(further))?;
+    let further = further_declarators(alloc, typedefs, reader, gives, &mut found, parts)?;
+    let begun = head.height.max(first.height);
+    let all = begun.max(further);
+    let height = made(budget, all)?;
     let tree = External::Declaration(head.place, head.words, found);
     Ok(Parsed { tree, height })
 }
@@ -109,13 +132,18 @@ fn definition(
     head: Head,
     name: Parsed<InitDeclarator>,
     budget: u32,
-) -> Result<Parsed<External>, Trouble> {
+) -> Result<Parsed<External>, Trouble>
+    ensures { IfOk result (λ n. FoundBehind typedefs.now typedefs.now budget head.place (map spec_tree head.words.items) head.height (init_declarator_view name.tree) name.height (external_tree n.tree) n.height reader.old reader.new) }
+{
     let Parsed { tree, height } = name;
     let InitDeclarator::Function(declared) = tree else {
         return Err(Trouble::Syntax);
     };
-    let body = block(Scope { alloc, typedefs }, reader, inner(budget)?)?;
-    let height = made(budget, head.height.max(height).max(body.height))?;
+    let scope = Scope { alloc, typedefs };
+    let body = block(scope, reader, inner(budget)?)?;
+    let begun = head.height.max(height);
+    let all = begun.max(body.height);
+    let height = made(budget, all)?;
     let tree = External::Function(head.place, head.words, declared, body.tree);
     Ok(Parsed { tree, height })
 }
@@ -126,9 +154,13 @@ fn read_head(
     typedefs: &[Text],
     reader: &mut Reader<'_>,
     budget: u32,
-) -> Result<Head, Trouble> {
+) -> Result<Head, Trouble>
+    ensures place { IfOk result (λ h. h.place ≡ first_place reader.old) }
+    ensures found { IfOk result (λ h. FoundSpec typedefs.now budget (spec_trees (map spec_tree h.words.items)) h.height reader.old reader.new) }
+{
     let place = reader.place();
-    let found = specifiers(Scope { alloc, typedefs }, reader, budget)?;
+    let scope = Scope { alloc, typedefs };
+    let found = specifiers(scope, reader, budget)?;
     Ok(Head {
         place,
         words: found.tree,
@@ -137,10 +169,33 @@ fn read_head(
 }
 
 /// A declaration without declarators, behind its `;`.
-fn nameless(alloc: Global, head: Head, budget: u32) -> Result<Parsed<External>, Trouble> {
+fn nameless(alloc: Global, head: Head, budget: u32) -> Result<Parsed<External>, Trouble>
+    ensures tree { IfOk result (λ n. external_tree n.tree ≡ Declared head.place (map spec_tree head.words.items) []) }
+    ensures height { IfOk result (λ n. (n.height ≡ head.height + 1) × (n.height ≤ budget)) }
+{
     let height = made(budget, head.height)?;
     let tree = External::Declaration(head.place, head.words, Vec::new(alloc));
     Ok(Parsed { tree, height })
+}
+
+/// An external declaration with declarators, behind its specifiers.
+fn with_declarators(
+    alloc: Global,
+    typedefs: &mut Vec<Text>,
+    reader: &mut Reader<'_>,
+    head: Head,
+    budget: u32,
+) -> Result<Parsed<External>, Trouble>
+    ensures { IfOk result (λ n. FoundNamed typedefs.old.items typedefs.new.items budget head.place (map spec_tree head.words.items) head.height (external_tree n.tree) n.height reader.old reader.new) }
+{
+    let gives = is_typedef(head.words.as_slice());
+    let name = declared_name(alloc, typedefs, reader, gives, inner(budget)?)?;
+    if reader.is_at(Punctuator::LeftBrace) {
+        let found = definition(alloc, typedefs.as_slice(), reader, head, name, budget)?;
+        return Ok(found);
+    }
+    let found = declaration(alloc, typedefs, reader, head, name, budget)?;
+    Ok(found)
 }
 
 /// An external declaration. The typedef names that it declares are then in force.
@@ -153,17 +208,14 @@ pub fn external(
     typedefs: &mut Vec<Text>,
     reader: &mut Reader<'_>,
     budget: u32,
-) -> Result<Parsed<External>, Trouble> {
-    let parts = inner(budget)?;
-    let head = read_head(alloc, typedefs.as_slice(), reader, parts)?;
+) -> Result<Parsed<External>, Trouble>
+    ensures { IfOk result (λ n. FoundExternal typedefs.old.items typedefs.new.items budget (external_tree n.tree) n.height reader.old reader.new) }
+{
+    let head = read_head(alloc, typedefs.as_slice(), reader, inner(budget)?)?;
     if reader.accept(Punctuator::Semicolon) {
-        return nameless(alloc, head, budget);
+        let found = nameless(alloc, head, budget)?;
+        return Ok(found);
     }
-    let gives_names = is_typedef(head.words.as_slice());
-    let name = declared_name(alloc, typedefs, reader, gives_names, parts)?;
-    if reader.is_at(Punctuator::LeftBrace) {
-        definition(alloc, typedefs.as_slice(), reader, head, name, budget)
-    } else {
-        declaration(alloc, typedefs, reader, head, name, budget)
-    }
+    let found = with_declarators(alloc, typedefs, reader, head, budget)?;
+    Ok(found)
 }

@@ -1,54 +1,74 @@
 //! Statements without statements in them: jumps (6.8.6) and expression statements (6.8.3).
+ghost use Rattle.std.specs.Prelude.{◌≡◌, IfOk};
+ghost use Rattle.c_layout.specs.DeclarationTrees.{statement_tree};
+ghost use Rattle.c_parser.specs.Findings.{FoundStatement};
+
+use crate::statement_nodes::{
+    break_node, continue_node, expression_statement, goto, null_statement, return_node,
+};
 use crate::statement_parts::optional_expression;
 use c_layout::Statement;
-use expression_grammar::{Parsed, Reader, Scope, Trouble, inner, made};
-use token_classes::Punctuator;
+use expression_grammar::{Parsed, Reader, Scope, Trouble, expression, inner, made};
+use token_classes::{Keyword, Punctuator};
 
 /// `goto`
-pub fn goto_statement(
+fn goto_statement(
     scope: Scope<'_>,
     reader: &mut Reader<'_>,
     budget: u32,
-) -> Result<Parsed<Statement>, Trouble> {
-    let place = reader.take();
+) -> Result<Parsed<Statement>, Trouble>
+    ensures { IfOk result (λ n. FoundStatement scope.entry.typedefs.now budget (statement_tree n.tree) n.height reader.old reader.new) }
+{
+    let place = reader.expect_word(Keyword::Goto)?;
     let label = reader.identifier(scope)?;
     reader.expect(Punctuator::Semicolon)?;
     let height = made(budget, 0)?;
-    let tree = Statement::Goto(place, label);
+    let tree = goto(place, label);
     Ok(Parsed { tree, height })
 }
 
 /// `continue`
-pub fn continue_statement(
+fn continue_statement(
+    scope: Scope<'_>,
     reader: &mut Reader<'_>,
     budget: u32,
-) -> Result<Parsed<Statement>, Trouble> {
-    let place = reader.take();
+) -> Result<Parsed<Statement>, Trouble>
+    ensures { IfOk result (λ n. FoundStatement scope.entry.typedefs.now budget (statement_tree n.tree) n.height reader.old reader.new) }
+{
+    let place = reader.expect_word(Keyword::Continue)?;
     reader.expect(Punctuator::Semicolon)?;
     let height = made(budget, 0)?;
-    let tree = Statement::Continue(place);
+    let tree = continue_node(place);
     Ok(Parsed { tree, height })
 }
 
 /// `break`
-pub fn break_statement(reader: &mut Reader<'_>, budget: u32) -> Result<Parsed<Statement>, Trouble> {
-    let place = reader.take();
+fn break_statement(
+    scope: Scope<'_>,
+    reader: &mut Reader<'_>,
+    budget: u32,
+) -> Result<Parsed<Statement>, Trouble>
+    ensures { IfOk result (λ n. FoundStatement scope.entry.typedefs.now budget (statement_tree n.tree) n.height reader.old reader.new) }
+{
+    let place = reader.expect_word(Keyword::Break)?;
     reader.expect(Punctuator::Semicolon)?;
     let height = made(budget, 0)?;
-    let tree = Statement::Break(place);
+    let tree = break_node(place);
     Ok(Parsed { tree, height })
 }
 
 /// `return`
-pub fn return_statement(
+fn return_statement(
     scope: Scope<'_>,
     reader: &mut Reader<'_>,
     budget: u32,
-) -> Result<Parsed<Statement>, Trouble> {
-    let place = reader.take();
+) -> Result<Parsed<Statement>, Trouble>
+    ensures { IfOk result (λ n. FoundStatement scope.entry.typedefs.now budget (statement_tree n.tree) n.height reader.old reader.new) }
+{
+    let place = reader.expect_word(Keyword::Return)?;
     let value = optional_expression(scope, reader, Punctuator::Semicolon, inner(budget)?)?;
     let height = made(budget, value.height)?;
-    let tree = Statement::Return(place, value.tree);
+    let tree = return_node(place, value.tree);
     Ok(Parsed { tree, height })
 }
 
@@ -57,14 +77,35 @@ pub fn value_statement(
     scope: Scope<'_>,
     reader: &mut Reader<'_>,
     budget: u32,
-) -> Result<Parsed<Statement>, Trouble> {
+) -> Result<Parsed<Statement>, Trouble>
+    ensures { IfOk result (λ n. FoundStatement scope.entry.typedefs.now budget (statement_tree n.tree) n.height reader.old reader.new) }
+{
     let place = reader.place();
     if reader.accept(Punctuator::Semicolon) {
-        let tree = Statement::Value(place, None);
+        let tree = null_statement(place);
         return Ok(Parsed { tree, height: 0 });
     }
-    let value = optional_expression(scope, reader, Punctuator::Semicolon, inner(budget)?)?;
+    let value = expression(scope, reader, inner(budget)?)?;
+    reader.expect(Punctuator::Semicolon)?;
     let height = made(budget, value.height)?;
-    let tree = Statement::Value(place, value.tree);
+    let tree = expression_statement(place, value.tree);
     Ok(Parsed { tree, height })
+}
+
+/// A statement that a keyword of a jump begins, or an expression statement.
+pub fn plain_statement(
+    scope: Scope<'_>,
+    reader: &mut Reader<'_>,
+    word: Keyword,
+    budget: u32,
+) -> Result<Parsed<Statement>, Trouble>
+    ensures { IfOk result (λ n. FoundStatement scope.entry.typedefs.now budget (statement_tree n.tree) n.height reader.old reader.new) }
+{
+    match word {
+        Keyword::Goto => goto_statement(scope, reader, budget),
+        Keyword::Continue => continue_statement(scope, reader, budget),
+        Keyword::Break => break_statement(scope, reader, budget),
+        Keyword::Return => return_statement(scope, reader, budget),
+        _ => value_statement(scope, reader, budget),
+    }
 }

@@ -2,16 +2,11 @@
 //! ISO/IEC 9899:2011), piece by piece.
 #![tactic(auto)]
 
-#[cfg(test)]
-mod acceptance_tests;
-#[cfg(test)]
-mod blank_tokens;
 mod external_declarations;
 mod jump_statements;
-#[cfg(test)]
-mod outline_tests;
 mod parsing;
 mod pieces;
+mod statement_nodes;
 mod statement_parts;
 mod statements;
 

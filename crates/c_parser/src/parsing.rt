@@ -1,6 +1,8 @@
 //! Parses a unit.
-ghost use Rattle.std.specs.Prelude.{◌≡◌, [], length, IfOk, IfErr, IsOk};
-ghost use Rattle.c_parser.specs.Pieces.{StopsAt, StopsAtPiece, left_behind};
+ghost use Rattle.std.specs.Prelude.{◌≡◌, [], map, IfOk, IfErr};
+ghost use Rattle.c_layout.specs.DeclarationTrees.{external_tree, unit_tree};
+ghost use Rattle.c_parser.specs.Externals.{in_force, IsPiece, ArePieces, IsUnit};
+ghost use Rattle.c_parser.specs.Pieces.{StopsAt, StopsAtPiece};
 ghost use Rattle.c_parser.specs.Refusals.{Refuses};
 ghost use Rattle.token_classes.specs.Classes.{classified};
 
@@ -17,7 +19,10 @@ fn piece_tree(
     alloc: Global,
     typedefs: &mut Vec<Text>,
     piece: &[Terminal],
-) -> Result<External, Trouble> {
+) -> Result<External, Trouble>
+    ensures piece { IfOk result (λ e. IsPiece typedefs.old.items (external_tree e) piece.now) }
+    ensures names { IfOk result (λ e. typedefs.new.items ≡ in_force typedefs.old.items (external_tree e)) }
+{
     let mut reader = Reader::new(piece);
     let found = external(alloc, typedefs, &mut reader, GREATEST_HEIGHT)?;
     if reader.left() == 0 {
@@ -47,7 +52,9 @@ fn external_at(
     piece: &[Terminal],
     place: Place,
 ) -> Result<External, Stop>
-    ensures { IfErr result (StopsAt place) }
+    ensures piece { IfOk result (λ e. IsPiece typedefs.old.items (external_tree e) piece.now) }
+    ensures names { IfOk result (λ e. typedefs.new.items ≡ in_force typedefs.old.items (external_tree e)) }
+    ensures place { IfErr result (StopsAt place) }
 {
     match piece_tree(alloc, typedefs, piece) {
         Ok(found) => Ok(found),
@@ -57,7 +64,7 @@ fn external_at(
 
 /// The external declarations that the pieces of these terminals are.
 fn externals(alloc: Global, terminals: &[Terminal]) -> Result<Vec<External>, Stop>
-    ensures pieces { IfOk result (λ found. left_behind (length found.items) terminals.now ≡ []) }
+    ensures found { IfOk result (λ found. ArePieces (map external_tree found.items) [] terminals.now []) }
     ensures place { IfErr result (StopsAtPiece terminals.now) }
 {
     let mut found = Vec::new(alloc);
@@ -81,7 +88,7 @@ fn externals(alloc: Global, terminals: &[Terminal]) -> Result<Vec<External>, Sto
 /// most 256; or want of memory.
 #[tactic(auto, using(crate::proofs::Refusing::by_tokens, crate::proofs::Refusing::by_piece))]
 pub fn parse(alloc: Global, unit: &Unit7) -> Result<Tree7, Stop>
-    ensures classes { IfOk result (λ tree. IsOk (classified unit.now.model unit.now.tokens)) }
+    ensures found { IfOk result (λ tree. IsUnit unit.now.model unit.now.tokens (unit_tree tree)) }
     ensures refused { IfErr result (Refuses (classified unit.now.model unit.now.tokens)) }
 {
     let terminals = classify(alloc, unit)?;

@@ -1,20 +1,36 @@
 //! What statements are made of besides statements (6.8).
+ghost use Rattle.std.specs.Prelude.{◌≡◌, IfOk};
+ghost use Rattle.std.specs.Option.{option_map};
+ghost use Rattle.c_layout.specs.SyntaxTrees.{tree_of};
+ghost use Rattle.c_layout.specs.DeclarationTrees.{for_first_view};
+ghost use Rattle.c_parser.specs.Findings.{FoundCondition, FoundMaybe, FoundFirst};
+
 use c_layout::{Expr, ForFirst};
 use declaration_grammar::local_declaration;
 use expression_grammar::{Parsed, Reader, Scope, Trouble, expression};
 use token_classes::Punctuator;
+
+/// An expression outside of its box.
+fn unboxed(value: Box<Expr>) -> Expr
+    ensures { tree_of result ≡ tree_of value.value }
+{
+    Box::into_inner(value)
+}
 
 /// An expression in the parentheses that belong to a statement.
 pub fn condition(
     scope: Scope<'_>,
     reader: &mut Reader<'_>,
     budget: u32,
-) -> Result<Parsed<Expr>, Trouble> {
+) -> Result<Parsed<Expr>, Trouble>
+    ensures { IfOk result (λ n. FoundCondition scope.entry.typedefs.now budget (tree_of n.tree) n.height reader.old reader.new) }
+{
     reader.expect(Punctuator::LeftParenthesis)?;
     let found = expression(scope, reader, budget)?;
     reader.expect(Punctuator::RightParenthesis)?;
+    let tree = unboxed(found.tree);
     Ok(Parsed {
-        tree: Box::into_inner(found.tree),
+        tree,
         height: found.height,
     })
 }
@@ -25,7 +41,9 @@ pub fn optional_expression(
     reader: &mut Reader<'_>,
     end: Punctuator,
     budget: u32,
-) -> Result<Parsed<Option<Expr>>, Trouble> {
+) -> Result<Parsed<Option<Expr>>, Trouble>
+    ensures { IfOk result (λ n. FoundMaybe scope.entry.typedefs.now budget end (option_map tree_of n.tree) n.height reader.old reader.new) }
+{
     if reader.accept(end) {
         return Ok(Parsed {
             tree: None,
@@ -34,29 +52,49 @@ pub fn optional_expression(
     }
     let found = expression(scope, reader, budget)?;
     reader.expect(end)?;
+    let value = unboxed(found.tree);
     Ok(Parsed {
-        tree: Some(Box::into_inner(found.tree)),
+        tree: Some(value),
         height: found.height,
     })
 }
 
-/// The first clause of a `for` as an expression, with its `;`.
+/// The first clause of a `for` as an expression or nothing, with its `;`.
 fn first_value(
     scope: Scope<'_>,
     reader: &mut Reader<'_>,
     budget: u32,
-) -> Result<Parsed<ForFirst>, Trouble> {
-    let Parsed { tree, height } = optional_expression(
-        scope,
-        reader,
-        Punctuator::Semicolon,
-        budget,
-    )?;
-    let tree = match tree {
-        Some(value) => ForFirst::Value(value),
-        None => ForFirst::Nothing,
-    };
-    Ok(Parsed { tree, height })
+) -> Result<Parsed<ForFirst>, Trouble>
+    ensures { IfOk result (λ n. FoundFirst scope.entry.typedefs.now budget (for_first_view n.tree) n.height reader.old reader.new) }
+{
+    if reader.accept(Punctuator::Semicolon) {
+        let tree = ForFirst::Nothing;
+        return Ok(Parsed { tree, height: 0 });
+    }
+    let found = expression(scope, reader, budget)?;
+    reader.expect(Punctuator::Semicolon)?;
+    let value = unboxed(found.tree);
+    let tree = ForFirst::Value(value);
+    Ok(Parsed {
+        tree,
+        height: found.height,
+    })
+}
+
+/// The first clause of a `for` as a declaration, with its `;`.
+fn first_local(
+    scope: Scope<'_>,
+    reader: &mut Reader<'_>,
+    budget: u32,
+) -> Result<Parsed<ForFirst>, Trouble>
+    ensures { IfOk result (λ n. FoundFirst scope.entry.typedefs.now budget (for_first_view n.tree) n.height reader.old reader.new) }
+{
+    let found = local_declaration(scope, reader, budget)?;
+    let tree = ForFirst::Declaration(found.tree);
+    Ok(Parsed {
+        tree,
+        height: found.height,
+    })
 }
 
 /// The first clause of a `for`, with its `;`.
@@ -64,13 +102,12 @@ pub fn for_first(
     scope: Scope<'_>,
     reader: &mut Reader<'_>,
     budget: u32,
-) -> Result<Parsed<ForFirst>, Trouble> {
-    if !reader.begins_specifiers(scope) {
-        return first_value(scope, reader, budget);
+) -> Result<Parsed<ForFirst>, Trouble>
+    ensures { IfOk result (λ n. FoundFirst scope.entry.typedefs.now budget (for_first_view n.tree) n.height reader.old reader.new) }
+{
+    if reader.begins_specifiers(scope) {
+        first_local(scope, reader, budget)
+    } else {
+        first_value(scope, reader, budget)
     }
-    let found = local_declaration(scope, reader, budget)?;
-    Ok(Parsed {
-        tree: ForFirst::Declaration(found.tree),
-        height: found.height,
-    })
 }

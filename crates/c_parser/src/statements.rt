@@ -1,6 +1,13 @@
 //! Statements and blocks (6.8).
-use crate::jump_statements::{
-    break_statement, continue_statement, goto_statement, return_statement, value_statement,
+ghost use Rattle.std.specs.Prelude.{◌≡◌, map, IfOk};
+ghost use Rattle.c_layout.specs.DeclarationTrees.{statement_tree};
+ghost use Rattle.c_parser.specs.Findings.{FoundStatement, FoundItem, FoundBraced, FoundBlock, is_else};
+ghost use Rattle.expression_grammar.specs.Fronts.{first_symbol};
+
+use crate::jump_statements::{plain_statement, value_statement};
+use crate::statement_nodes::{
+    block_node, case, default, do_loop, for_loop, if_alone, if_else, label, local_item, switch,
+    while_loop,
 };
 use crate::statement_parts::{condition, for_first, optional_expression};
 use c_layout::Statement;
@@ -14,8 +21,10 @@ fn body(
     scope: Scope<'_>,
     reader: &mut Reader<'_>,
     budget: u32,
-) -> Result<Parsed<Box<Statement>>, Trouble> {
-    let found = statement(scope, reader, inner(budget)?)?;
+) -> Result<Parsed<Box<Statement>>, Trouble>
+    ensures { IfOk result (λ n. FoundStatement scope.entry.typedefs.now budget (statement_tree n.tree.value) n.height reader.old reader.new) }
+{
+    let found = statement(scope, reader, budget)?;
     Ok(Parsed {
         tree: Box::new(scope.alloc, found.tree)?,
         height: found.height,
@@ -28,12 +37,14 @@ fn label_statement(
     scope: Scope<'_>,
     reader: &mut Reader<'_>,
     budget: u32,
-) -> Result<Parsed<Statement>, Trouble> {
+) -> Result<Parsed<Statement>, Trouble>
+    ensures { IfOk result (λ n. FoundStatement scope.entry.typedefs.now budget (statement_tree n.tree) n.height reader.old reader.new) }
+{
     let name = reader.identifier(scope)?;
     reader.expect(Punctuator::Colon)?;
-    let labelled = body(scope, reader, budget)?;
+    let labelled = body(scope, reader, inner(budget)?)?;
     let height = made(budget, labelled.height)?;
-    let tree = Statement::Label(name, labelled.tree);
+    let tree = label(name, labelled.tree);
     Ok(Parsed { tree, height })
 }
 
@@ -43,13 +54,16 @@ fn case_statement(
     scope: Scope<'_>,
     reader: &mut Reader<'_>,
     budget: u32,
-) -> Result<Parsed<Statement>, Trouble> {
-    let place = reader.take();
+) -> Result<Parsed<Statement>, Trouble>
+    ensures { IfOk result (λ n. FoundStatement scope.entry.typedefs.now budget (statement_tree n.tree) n.height reader.old reader.new) }
+{
+    let place = reader.expect_word(Keyword::Case)?;
     let value = conditional(scope, reader, inner(budget)?)?;
     reader.expect(Punctuator::Colon)?;
-    let labelled = body(scope, reader, budget)?;
-    let height = made(budget, value.height.max(labelled.height))?;
-    let tree = Statement::Case(place, Box::into_inner(value.tree), labelled.tree);
+    let labelled = body(scope, reader, inner(budget)?)?;
+    let parts = value.height.max(labelled.height);
+    let height = made(budget, parts)?;
+    let tree = case(place, value.tree, labelled.tree);
     Ok(Parsed { tree, height })
 }
 
@@ -59,13 +73,22 @@ fn default_statement(
     scope: Scope<'_>,
     reader: &mut Reader<'_>,
     budget: u32,
-) -> Result<Parsed<Statement>, Trouble> {
-    let place = reader.take();
+) -> Result<Parsed<Statement>, Trouble>
+    ensures { IfOk result (λ n. FoundStatement scope.entry.typedefs.now budget (statement_tree n.tree) n.height reader.old reader.new) }
+{
+    let place = reader.expect_word(Keyword::Default)?;
     reader.expect(Punctuator::Colon)?;
-    let labelled = body(scope, reader, budget)?;
+    let labelled = body(scope, reader, inner(budget)?)?;
     let height = made(budget, labelled.height)?;
-    let tree = Statement::Default(place, labelled.tree);
+    let tree = default(place, labelled.tree);
     Ok(Parsed { tree, height })
+}
+
+/// Whether `else` stands next.
+fn is_at_else(reader: &Reader<'_>) -> bool
+    ensures { result ≡ is_else (first_symbol reader.now) }
+{
+    matches!(reader.peek(), Symbol::Keyword(Keyword::Else))
 }
 
 /// `if`. An `else` goes with the nearest `if` before it.
@@ -74,20 +97,23 @@ fn if_statement(
     scope: Scope<'_>,
     reader: &mut Reader<'_>,
     budget: u32,
-) -> Result<Parsed<Statement>, Trouble> {
-    let place = reader.take();
+) -> Result<Parsed<Statement>, Trouble>
+    ensures { IfOk result (λ n. FoundStatement scope.entry.typedefs.now budget (statement_tree n.tree) n.height reader.old reader.new) }
+{
+    let place = reader.expect_word(Keyword::If)?;
     let test = condition(scope, reader, inner(budget)?)?;
-    let first = body(scope, reader, budget)?;
+    let first = body(scope, reader, inner(budget)?)?;
     let parts = test.height.max(first.height);
-    if !reader.is_at_word(Keyword::Else) {
+    if !is_at_else(reader) {
         let height = made(budget, parts)?;
-        let tree = Statement::If(place, test.tree, first.tree);
+        let tree = if_alone(place, test.tree, first.tree);
         return Ok(Parsed { tree, height });
     }
-    reader.take();
-    let second = body(scope, reader, budget)?;
-    let height = made(budget, parts.max(second.height))?;
-    let tree = Statement::IfElse(place, test.tree, first.tree, second.tree);
+    reader.expect_word(Keyword::Else)?;
+    let second = body(scope, reader, inner(budget)?)?;
+    let all = parts.max(second.height);
+    let height = made(budget, all)?;
+    let tree = if_else(place, test.tree, first.tree, second.tree);
     Ok(Parsed { tree, height })
 }
 
@@ -97,12 +123,15 @@ fn switch_statement(
     scope: Scope<'_>,
     reader: &mut Reader<'_>,
     budget: u32,
-) -> Result<Parsed<Statement>, Trouble> {
-    let place = reader.take();
+) -> Result<Parsed<Statement>, Trouble>
+    ensures { IfOk result (λ n. FoundStatement scope.entry.typedefs.now budget (statement_tree n.tree) n.height reader.old reader.new) }
+{
+    let place = reader.expect_word(Keyword::Switch)?;
     let value = condition(scope, reader, inner(budget)?)?;
-    let cases = body(scope, reader, budget)?;
-    let height = made(budget, value.height.max(cases.height))?;
-    let tree = Statement::Switch(place, value.tree, cases.tree);
+    let cases = body(scope, reader, inner(budget)?)?;
+    let parts = value.height.max(cases.height);
+    let height = made(budget, parts)?;
+    let tree = switch(place, value.tree, cases.tree);
     Ok(Parsed { tree, height })
 }
 
@@ -112,12 +141,15 @@ fn while_statement(
     scope: Scope<'_>,
     reader: &mut Reader<'_>,
     budget: u32,
-) -> Result<Parsed<Statement>, Trouble> {
-    let place = reader.take();
+) -> Result<Parsed<Statement>, Trouble>
+    ensures { IfOk result (λ n. FoundStatement scope.entry.typedefs.now budget (statement_tree n.tree) n.height reader.old reader.new) }
+{
+    let place = reader.expect_word(Keyword::While)?;
     let test = condition(scope, reader, inner(budget)?)?;
-    let repeated = body(scope, reader, budget)?;
-    let height = made(budget, test.height.max(repeated.height))?;
-    let tree = Statement::While(place, test.tree, repeated.tree);
+    let repeated = body(scope, reader, inner(budget)?)?;
+    let parts = test.height.max(repeated.height);
+    let height = made(budget, parts)?;
+    let tree = while_loop(place, test.tree, repeated.tree);
     Ok(Parsed { tree, height })
 }
 
@@ -127,14 +159,17 @@ fn do_statement(
     scope: Scope<'_>,
     reader: &mut Reader<'_>,
     budget: u32,
-) -> Result<Parsed<Statement>, Trouble> {
-    let place = reader.take();
-    let repeated = body(scope, reader, budget)?;
+) -> Result<Parsed<Statement>, Trouble>
+    ensures { IfOk result (λ n. FoundStatement scope.entry.typedefs.now budget (statement_tree n.tree) n.height reader.old reader.new) }
+{
+    let place = reader.expect_word(Keyword::Do)?;
+    let repeated = body(scope, reader, inner(budget)?)?;
     reader.expect_word(Keyword::While)?;
     let test = condition(scope, reader, inner(budget)?)?;
     reader.expect(Punctuator::Semicolon)?;
-    let height = made(budget, repeated.height.max(test.height))?;
-    let tree = Statement::Do(place, repeated.tree, test.tree);
+    let parts = repeated.height.max(test.height);
+    let height = made(budget, parts)?;
+    let tree = do_loop(place, repeated.tree, test.tree);
     Ok(Parsed { tree, height })
 }
 
@@ -144,18 +179,38 @@ fn for_statement(
     scope: Scope<'_>,
     reader: &mut Reader<'_>,
     budget: u32,
-) -> Result<Parsed<Statement>, Trouble> {
-    let place = reader.take();
-    let parts = inner(budget)?;
+) -> Result<Parsed<Statement>, Trouble>
+    ensures { IfOk result (λ n. FoundStatement scope.entry.typedefs.now budget (statement_tree n.tree) n.height reader.old reader.new) }
+{
+    let place = reader.expect_word(Keyword::For)?;
+    let within = inner(budget)?;
     reader.expect(Punctuator::LeftParenthesis)?;
-    let first = for_first(scope, reader, parts)?;
-    let test = optional_expression(scope, reader, Punctuator::Semicolon, parts)?;
-    let step = optional_expression(scope, reader, Punctuator::RightParenthesis, parts)?;
-    let repeated = body(scope, reader, budget)?;
-    let clauses = first.height.max(test.height).max(step.height);
-    let height = made(budget, clauses.max(repeated.height))?;
-    let tree = Statement::For(place, first.tree, test.tree, step.tree, repeated.tree);
+    let first = for_first(scope, reader, within)?;
+    let test = optional_expression(scope, reader, Punctuator::Semicolon, within)?;
+    let step = optional_expression(scope, reader, Punctuator::RightParenthesis, within)?;
+    let repeated = body(scope, reader, within)?;
+    let begun = first.height.max(test.height);
+    let clauses = begun.max(step.height);
+    let parts = clauses.max(repeated.height);
+    let height = made(budget, parts)?;
+    let tree = for_loop(place, first.tree, test.tree, step.tree, repeated.tree);
     Ok(Parsed { tree, height })
+}
+
+/// A declaration as an item of a block.
+fn declared_item(
+    scope: Scope<'_>,
+    reader: &mut Reader<'_>,
+    budget: u32,
+) -> Result<Parsed<Statement>, Trouble>
+    ensures { IfOk result (λ n. FoundItem scope.entry.typedefs.now budget (statement_tree n.tree) n.height reader.old reader.new) }
+{
+    let found = local_declaration(scope, reader, budget)?;
+    let tree = local_item(found.tree);
+    Ok(Parsed {
+        tree,
+        height: found.height,
+    })
 }
 
 /// An item of a block.
@@ -164,15 +219,14 @@ fn item(
     scope: Scope<'_>,
     reader: &mut Reader<'_>,
     budget: u32,
-) -> Result<Parsed<Statement>, Trouble> {
-    if !reader.begins_specifiers(scope) {
-        return statement(scope, reader, budget);
+) -> Result<Parsed<Statement>, Trouble>
+    ensures { IfOk result (λ n. FoundItem scope.entry.typedefs.now budget (statement_tree n.tree) n.height reader.old reader.new) }
+{
+    if reader.begins_specifiers(scope) {
+        return declared_item(scope, reader, budget);
     }
-    let found = local_declaration(scope, reader, budget)?;
-    Ok(Parsed {
-        tree: Statement::Local(found.tree),
-        height: found.height,
-    })
+    let found = statement(scope, reader, budget)?;
+    Ok(found)
 }
 
 /// The items of a block behind its `{`, with the `}`.
@@ -181,7 +235,9 @@ fn items(
     scope: Scope<'_>,
     reader: &mut Reader<'_>,
     budget: u32,
-) -> Result<Parsed<Vec<Statement>>, Trouble> {
+) -> Result<Parsed<Vec<Statement>>, Trouble>
+    ensures { IfOk result (λ n. FoundBraced scope.entry.typedefs.now budget (map statement_tree n.tree.items) n.height reader.old reader.new) }
+{
     let mut found = Vec::new(scope.alloc);
     let mut height = 0u32;
     for _turn in 0..reader.left() {
@@ -207,13 +263,14 @@ pub fn block(
     scope: Scope<'_>,
     reader: &mut Reader<'_>,
     budget: u32,
-) -> Result<Parsed<Vec<Statement>>, Trouble> {
+) -> Result<Parsed<Vec<Statement>>, Trouble>
+    ensures { IfOk result (λ n. FoundBlock scope.entry.typedefs.now budget (map statement_tree n.tree.items) n.height reader.old reader.new) }
+{
     reader.expect(Punctuator::LeftBrace)?;
     let found = items(scope, reader, inner(budget)?)?;
-    Ok(Parsed {
-        height: made(budget, found.height)?,
-        tree: found.tree,
-    })
+    let height = made(budget, found.height)?;
+    let tree = found.tree;
+    Ok(Parsed { tree, height })
 }
 
 /// A block as a statement, which adds nothing to the height.
@@ -222,29 +279,16 @@ fn block_statement(
     scope: Scope<'_>,
     reader: &mut Reader<'_>,
     budget: u32,
-) -> Result<Parsed<Statement>, Trouble> {
+) -> Result<Parsed<Statement>, Trouble>
+    ensures { IfOk result (λ n. FoundStatement scope.entry.typedefs.now budget (statement_tree n.tree) n.height reader.old reader.new) }
+{
     let place = reader.place();
     let found = block(scope, reader, budget)?;
+    let tree = block_node(place, found.tree);
     Ok(Parsed {
-        tree: Statement::Block(place, found.tree),
+        tree,
         height: found.height,
     })
-}
-
-/// A statement that a keyword of a jump begins, or an expression statement.
-fn plain_statement(
-    scope: Scope<'_>,
-    reader: &mut Reader<'_>,
-    word: Keyword,
-    budget: u32,
-) -> Result<Parsed<Statement>, Trouble> {
-    match word {
-        Keyword::Goto => goto_statement(scope, reader, budget),
-        Keyword::Continue => continue_statement(reader, budget),
-        Keyword::Break => break_statement(reader, budget),
-        Keyword::Return => return_statement(scope, reader, budget),
-        _ => value_statement(scope, reader, budget),
-    }
 }
 
 /// A statement that a keyword begins.
@@ -254,7 +298,9 @@ fn keyword_statement(
     reader: &mut Reader<'_>,
     word: Keyword,
     budget: u32,
-) -> Result<Parsed<Statement>, Trouble> {
+) -> Result<Parsed<Statement>, Trouble>
+    ensures { IfOk result (λ n. FoundStatement scope.entry.typedefs.now budget (statement_tree n.tree) n.height reader.old reader.new) }
+{
     match word {
         Keyword::Case => case_statement(scope, reader, budget),
         Keyword::Default => default_statement(scope, reader, budget),
@@ -273,7 +319,9 @@ fn statement(
     scope: Scope<'_>,
     reader: &mut Reader<'_>,
     budget: u32,
-) -> Result<Parsed<Statement>, Trouble> {
+) -> Result<Parsed<Statement>, Trouble>
+    ensures { IfOk result (λ n. FoundStatement scope.entry.typedefs.now budget (statement_tree n.tree) n.height reader.old reader.new) }
+{
     if let Symbol::Keyword(word) = reader.peek() {
         return keyword_statement(scope, reader, word, budget);
     }

@@ -1,13 +1,13 @@
 -- Initializers in braces, read one after another.
-use Rattle.std.proofs.Common.{◌≡◌, ℕ, ◌+◌, ◌≤◌, Bool, true, List, [], ◌∷◌, ◌++◌, max, inl, inr, ◌⊎◌, refl, sym, subst, ap, ◌∙◌, arith}
+use Rattle.std.proofs.Common.{◌≡◌, ℕ, ◌+◌, ◌≤◌, true, List, [], ◌∷◌, ◌++◌, max, inl, inr, refl, sym, subst, ap, ◌∙◌, arith}
 use Rattle.cc_base.specs.declared.diagnostics.Place.{Place}
 use Rattle.c_layout.specs.SyntaxTrees.{Tree}
-use Rattle.c_layout.specs.DeclarationTrees.{InitializerTree, InitializerTrees, Single, Braces, initializer_trees}
+use Rattle.c_layout.specs.DeclarationTrees.{InitializerTree, Single, Braces, initializer_trees}
 use Rattle.token_classes.specs.declared.terminals.Terminal.{Terminal}
 use Rattle.token_classes.specs.declared.terminals.Punctuator.TheVariants as p
 use Rattle.expression_grammar.specs.Findings.{Found}
 use Rattle.expression_grammar.specs.Fronts.{first_place, IsSign}
-use Rattle.expression_grammar.specs.Spans.{Span, Trailed, Separated}
+use Rattle.expression_grammar.specs.Spans.{Span}
 use Rattle.expression_grammar.proofs.Listing.{trailed_more, separated_last}
 use Rattle.declaration_grammar.specs.Findings.{FoundInitializer, FoundSome, FoundBraced}
 use Rattle.declaration_grammar.specs.Initializers.{DeriveInitializer, DeriveItems, initializer_height, items_height, has_item}

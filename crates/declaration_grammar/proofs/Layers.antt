@@ -1,20 +1,17 @@
 -- Brackets and layers of declarators, put together.
-use Rattle.std.proofs.Common.{◌≡◌, ℕ, suc, ◌+◌, ◌≤◌, Bool, true, false, List, [], ◌∷◌, ◌++◌, max, map, reverse, length, Option, Some, None, is_some, refl, sym, ap, ◌∙◌, subst, arith}
+use Rattle.std.proofs.Common.{◌≡◌, ℕ, suc, ◌+◌, ◌≤◌, Bool, true, false, List, [], ◌∷◌, ◌++◌, max, map, reverse, length, Option, Some, None, is_some, refl, sym, ap, ◌∙◌, subst}
 use Rattle.std.specs.Option.{option_map}
-use Rattle.std.proofs.lemmas.Grind.{common_steps}
 use Rattle.std.proofs.lemmas.List.{reverse-append}
-use Rattle.cc_base.specs.declared.diagnostics.Place.{Place}
-use Rattle.c_layout.specs.SyntaxTrees.{Tree, tree_of}
+use Rattle.c_layout.specs.SyntaxTrees.{Tree}
 use Rattle.c_layout.specs.DeclarationTrees.{NameView, SuffixView, DeclaratorLayerView, DeclaratorView}
 use Rattle.token_classes.specs.declared.terminals.Terminal.{Terminal}
 use Rattle.token_classes.specs.declared.terminals.Punctuator.TheVariants as p
-use Rattle.expression_grammar.specs.Expressions.{height_of}
 use Rattle.expression_grammar.specs.Findings.{Found}
 use Rattle.expression_grammar.specs.Fronts.{first_place, IsSign}
 use Rattle.expression_grammar.specs.Spans.{Chain}
 use Rattle.expression_grammar.specs.TypeNames.{Stars}
 use Rattle.expression_grammar.proofs.Listing.{chain_more}
-use Rattle.declaration_grammar.specs.Declarators.{IsSuffix, Core, Inside, Layers, Shape, is_something, length_height, flat, climbed, height_by, layer_height, enclosed_by, enclosed_height, layers_height, shape_height, inside_height}
+use Rattle.declaration_grammar.specs.Declarators.{IsSuffix, Inside, Layers, Shape, length_height, flat, climbed, height_by, layer_height, enclosed_by, enclosed_height, layers_height, shape_height, inside_height}
 use Rattle.declaration_grammar.specs.Findings.{FoundSuffix, FoundSuffixes, FoundInside, FoundLayers, FoundBehind, FoundDeclarator, FoundNamedBehind, FoundNamed, is_empty, IsSomething, layer_of}
 use Rattle.expression_grammar.proofs.Layers as lower
 

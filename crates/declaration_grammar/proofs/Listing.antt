@@ -1,6 +1,5 @@
 -- Lists of items with commas that grow at the end.
-use Rattle.std.proofs.Common.{◌≡◌, ℕ, ◌≤◌, List, [], ◌∷◌, ◌++◌, max, map, inl, inr, refl, sym, subst, ap, ◌∙◌, arith}
-use Rattle.std.proofs.lemmas.Grind.{common_steps}
+use Rattle.std.proofs.Common.{◌≡◌, ℕ, ◌≤◌, List, [], ◌∷◌, ◌++◌, max, map, inl, inr, refl, subst, ap, ◌∙◌, arith}
 use Rattle.std.proofs.lemmas.List.{map-append}
 use Rattle.c_layout.specs.DeclarationTrees.{EnumeratorView}
 use Rattle.token_classes.specs.declared.terminals.Terminal.{Terminal}

@@ -1,9 +1,9 @@
 -- Words of specifiers and members of structures, read one after another.
-use Rattle.std.proofs.Common.{◌≡◌, ℕ, suc, ◌+◌, ◌≤◌, ◌==◌, Bool, true, false, cond, List, [], ◌∷◌, ◌++◌, length, max, map, Option, Some, is_some, refl, sym, subst, ap, ◌∙◌, arith}
+use Rattle.std.proofs.Common.{◌≡◌, ℕ, suc, ◌+◌, ◌≤◌, ◌==◌, true, cond, List, [], ◌∷◌, ◌++◌, length, max, Option, is_some, refl, sym, subst, ap, ◌∙◌, arith}
 use native.Mathlib.Numerals.{unary_clauses}
 use Rattle.std.proofs.lemmas.Grind.{common_steps}
 use Rattle.cc_base.specs.declared.diagnostics.Place.{Place}
-use Rattle.c_layout.specs.DeclarationTrees.{NameView, DeclaratorView, SpecTree, SpecTrees, MemberTree, MemberTrees, StorageWord, Qualifier, TypeOf, StructTag, StructBody, EnumTag, EnumBody, TypedefName, Members, spec_trees, member_trees}
+use Rattle.c_layout.specs.DeclarationTrees.{NameView, DeclaratorView, SpecTree, SpecTrees, MemberTree, StorageWord, Qualifier, TypeOf, StructTag, StructBody, EnumTag, EnumBody, TypedefName, Members, spec_trees, member_trees}
 use Rattle.token_classes.specs.declared.terminals.Terminal.{Terminal}
 use Rattle.token_classes.specs.declared.terminals.Keyword.TheVariants as k
 use Rattle.token_classes.specs.declared.terminals.Punctuator.TheVariants as p
@@ -12,8 +12,7 @@ use Rattle.expression_grammar.specs.Fronts.{first_place, IsSign, IsWord}
 use Rattle.expression_grammar.specs.TypeNames.{is_one_type, no_words}
 use Rattle.declaration_grammar.specs.Declarators.{declarator_height}
 use Rattle.declaration_grammar.specs.Findings.{FoundWord, FoundWords, FoundSpec, FoundMember, FoundChain, FoundMembers, FoundListed, PlainWord}
-use Rattle.declaration_grammar.specs.Lists.{highest}
-use Rattle.declaration_grammar.specs.Specifiers.{Tag, IsNamed, DeriveWord, DeriveWords, DeriveMember, DeriveMembers, has_member, counted, counts_after, counts_of, listed_height, word_height, words_height, member_height, members_height, spec_height}
+use Rattle.declaration_grammar.specs.Specifiers.{Tag, IsNamed, DeriveWord, DeriveWords, DeriveMember, DeriveMembers, has_member, counted, counts_after, listed_height, word_height, words_height, member_height, members_height, spec_height}
 
 pub plain_found : (w : SpecTree) (known : List (List ℕ)) (budget : ℕ) (ts rest : List Terminal) → PlainWord w ts rest → FoundWord known budget w 0 ts rest
 plain_found (StorageWord at class) known budget ts rest d = record { derives = d; height = refl; within = omega arith }

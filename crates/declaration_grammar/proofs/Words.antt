@@ -1,12 +1,11 @@
 -- Words of specifiers: enumerations.
-use Rattle.std.proofs.Common.{◌≡◌, ℕ, ◌+◌, ◌≤◌, Bool, true, List, [], ◌∷◌, Option, Some, None, is_some, refl, sym, subst, ap, ◌∙◌, arith}
+use Rattle.std.proofs.Common.{◌≡◌, ℕ, ◌+◌, ◌≤◌, true, List, Option, Some, None, is_some, refl, ap, ◌∙◌, arith}
 use Rattle.cc_base.specs.declared.diagnostics.Place.{Place}
 use Rattle.c_layout.specs.SyntaxTrees.{Tree}
 use Rattle.c_layout.specs.DeclarationTrees.{NameView, EnumeratorView, SpecTree, EnumTag, EnumBody}
 use Rattle.token_classes.specs.declared.terminals.Terminal.{Terminal}
 use Rattle.token_classes.specs.declared.terminals.Keyword.TheVariants as k
 use Rattle.token_classes.specs.declared.terminals.Punctuator.TheVariants as p
-use Rattle.expression_grammar.specs.Expressions.{height_of}
 use Rattle.expression_grammar.specs.Findings.{Found}
 use Rattle.expression_grammar.specs.Fronts.{first_place, IsSign, IsWord, IsName}
 use Rattle.declaration_grammar.specs.Findings.{FoundEnumerator, FoundEnumerators, FoundWord}

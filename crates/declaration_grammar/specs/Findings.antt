@@ -1,6 +1,7 @@
 -- What the readers of declarations answer.
-use Rattle.std.specs.Prelude.{◌≡◌, ◌+◌, ◌≤◌, ℕ, Bool, true, false, List, [], ◌∷◌, reverse, Option, Some, is_some, ◌⊎◌}
-use Rattle.c_layout.specs.DeclarationTrees.{NameView, SuffixView, DeclaratorLayerView, DeclaratorView, EnumeratorView, SpecTree, SpecTrees, MemberTree, StorageWord, Qualifier, TypeOf, spec_trees, member_trees, InitializerTree, initializer_trees}
+use Rattle.std.specs.Prelude.{◌≡◌, ◌≤◌, ℕ, Bool, true, false, max, List, [], ◌∷◌, reverse, Option, Some, is_some, ◌⊎◌}
+use Rattle.cc_base.specs.declared.diagnostics.Place.{Place}
+use Rattle.c_layout.specs.DeclarationTrees.{NameView, SuffixView, DeclaratorLayerView, DeclaratorView, EnumeratorView, SpecTree, SpecTrees, MemberTree, StorageWord, Qualifier, TypeOf, spec_trees, member_trees, InitializerTree, initializer_trees, ParameterView, ParametersView, FunctionDeclaratorView, InitDeclaratorView, Object, Initialized, LocalView}
 use Rattle.token_classes.specs.declared.terminals.Terminal.{Terminal}
 use Rattle.token_classes.specs.declared.terminals.Punctuator.TheVariants as p
 use Rattle.token_classes.specs.declared.terminals.Keyword.{Keyword}
@@ -9,6 +10,7 @@ use Rattle.expression_grammar.specs.Fronts.{first_place, IsSign, IsWord}
 use Rattle.expression_grammar.specs.Spans as spans
 use Rattle.expression_grammar.specs.Spans.{Chain, Span}
 use Rattle.expression_grammar.specs.TypeNames.{Stars, is_qualifier, type_word_of}
+use Rattle.declaration_grammar.specs.Declarations.{IsParameter, parameter_height, Parameters, list_height, parameters_height, IsFunction, function_height, IsDeclared, IsInitialized, bare, init_height, local_init_height, is_object, IsLocalDeclarator, LocalDeclarators, IsLocal, local_height}
 use Rattle.declaration_grammar.specs.Declarators.{IsSuffix, Inside, Shape, IsDeclarator, is_something, length_height, flat, climbed, inside_height, shape_height, declarator_height}
 use Rattle.declaration_grammar.specs.Initializers.{DeriveInitializer, DeriveItems, initializer_height, items_height, has_item}
 use Rattle.declaration_grammar.specs.Lists.{Trailed, Listed, highest}
@@ -163,4 +165,91 @@ pub record FoundMembers (known : List (List ℕ)) (budget : ℕ) (ms : List Memb
   pub derive : DeriveMembers (member_trees ms) known ts last
   pub closes : IsSign p.RightBrace last rest
   pub high_is : high ≡ members_height (member_trees ms)
+  pub within : high ≤ budget
+
+-- ---- parameters
+
+pub record FoundParameter (known : List (List ℕ)) (budget : ℕ) (parameter : ParameterView) (high : ℕ) (ts rest : List Terminal) : Type 0 where
+  pub derives : IsParameter known parameter ts rest
+  pub height : high ≡ parameter_height parameter
+  pub within : high ≤ budget
+
+-- one parameter or more behind a `(`, with the `)`
+pub record FoundParameterList (known : List (List ℕ)) (budget : ℕ) (items : List ParameterView) (high : ℕ) (ts rest : List Terminal) : Type 0 where
+  pub last : List Terminal
+  pub derive : Listed (IsParameter known) items ts last
+  pub closes : IsSign p.RightParenthesis last rest
+  pub height : high ≡ list_height items
+  pub within : high ≤ budget
+
+-- what stands behind a `(`, with the `)`
+pub record FoundParameters (known : List (List ℕ)) (budget : ℕ) (parameters : ParametersView) (high : ℕ) (ts rest : List Terminal) : Type 0 where
+  pub last : List Terminal
+  pub derive : Parameters known parameters ts last
+  pub closes : IsSign p.RightParenthesis last rest
+  pub height : high ≡ parameters_height parameters
+  pub within : high ≤ budget
+
+-- the declarator of a function behind stars that have been read
+pub record FoundFunctionBehind (known : List (List ℕ)) (budget : ℕ) (stars : List ℕ) (f : FunctionDeclaratorView) (high : ℕ) (ts rest : List Terminal) : Type 0 where
+  pub goes : (start : List Terminal) → Stars stars start ts → IsFunction known f start rest
+  pub height : high ≡ function_height f
+  pub within : high ≤ budget
+
+-- ---- declarators with initializers
+
+-- a declarator without initializer behind stars that have been read
+pub record FoundBareBehind (known : List (List ℕ)) (budget : ℕ) (stars : List ℕ) (d : InitDeclaratorView) (high : ℕ) (ts rest : List Terminal) : Type 0 where
+  pub goes : (start : List Terminal) → Stars stars start ts → IsDeclared known d start rest
+  pub alone : bare d ≡ d
+  pub height : high ≡ init_height d
+  pub within : high ≤ budget
+
+-- a declarator without initializer
+pub record FoundBare (known : List (List ℕ)) (budget : ℕ) (d : InitDeclaratorView) (high : ℕ) (ts rest : List Terminal) : Type 0 where
+  pub derives : IsDeclared known d ts rest
+  pub alone : bare d ≡ d
+  pub height : high ≡ init_height d
+  pub within : high ≤ budget
+
+-- an initializer with its `=`, behind a declarator of the height `low`
+pub record FoundAssigned (known : List (List ℕ)) (budget : ℕ) (d : DeclaratorView) (low : ℕ) (i : InitDeclaratorView) (high : ℕ) (ts rest : List Terminal) : Type 0 where
+  pub equals : Place
+  pub value : InitializerTree
+  pub is : i ≡ Initialized d equals value
+  pub initializer : IsInitialized known (Initialized d equals value) ts rest
+  pub height : high ≡ max low (initializer_height value)
+  pub within : low ≤ budget → high ≤ budget
+
+-- an initializer, if there is one, behind a declarator of an object in a block
+pub record FoundLocalTail (known : List (List ℕ)) (budget : ℕ) (d : DeclaratorView) (low : ℕ) (i : InitDeclaratorView) (high : ℕ) (ts rest : List Terminal) : Type 0 where
+  pub object : is_object i ≡ true
+  pub alone : bare i ≡ Object d
+  pub initializer : IsInitialized known i ts rest
+  pub height : low ≡ declarator_height d → high ≡ local_init_height i
+  pub within : low ≤ budget → high ≤ budget
+
+-- an initializer, if there is one, behind a declarator at file scope
+pub record FoundTail (known : List (List ℕ)) (budget : ℕ) (before : InitDeclaratorView) (low : ℕ) (d : InitDeclaratorView) (high : ℕ) (ts rest : List Terminal) : Type 0 where
+  pub alone : bare before ≡ before → bare d ≡ before
+  pub initializer : bare before ≡ before → IsInitialized known d ts rest
+  pub height : low ≡ init_height before → high ≡ init_height d
+  pub within : low ≤ budget → high ≤ budget
+
+pub record FoundLocalDeclarator (known : List (List ℕ)) (budget : ℕ) (d : InitDeclaratorView) (high : ℕ) (ts rest : List Terminal) : Type 0 where
+  pub derives : IsLocalDeclarator known d ts rest
+  pub height : high ≡ local_init_height d
+  pub within : high ≤ budget
+
+-- the declarators of a declaration in a block, with the `;`
+pub record FoundLocalDeclarators (known : List (List ℕ)) (budget : ℕ) (ds : List InitDeclaratorView) (high : ℕ) (ts rest : List Terminal) : Type 0 where
+  pub last : List Terminal
+  pub derive : LocalDeclarators known ds ts last
+  pub ends : IsSign p.Semicolon last rest
+  pub high_is : high ≡ highest local_init_height ds
+  pub within : high ≤ budget
+
+pub record FoundLocal (known : List (List ℕ)) (budget : ℕ) (l : LocalView) (high : ℕ) (ts rest : List Terminal) : Type 0 where
+  pub derives : IsLocal known l ts rest
+  pub height : high ≡ local_height l
   pub within : high ≤ budget

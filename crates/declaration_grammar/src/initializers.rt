@@ -1,8 +1,8 @@
 //! Initializers (6.7.9).
 ghost use Rattle.std.specs.Prelude.{◌≡◌, map, IfOk};
 ghost use Rattle.c_layout.specs.SyntaxTrees.{tree_of};
-ghost use Rattle.c_layout.specs.DeclarationTrees.{Single, Braces, initializer_tree, initializer_trees};
-ghost use Rattle.declaration_grammar.specs.Findings.{FoundInitializer, FoundBraced};
+ghost use Rattle.c_layout.specs.DeclarationTrees.{Single, Braces, declarator_view, init_declarator_view, initializer_tree, initializer_trees};
+ghost use Rattle.declaration_grammar.specs.Findings.{FoundInitializer, FoundBraced, FoundAssigned};
 
 use c_layout::{Declarator, Expr, InitDeclarator, Initializer};
 use cc_base::Place;
@@ -88,24 +88,21 @@ pub fn initializer(
     Ok(Parsed { tree, height })
 }
 
-/// A declarator with the initializer that follows its `=`, if one does. The height is the greatest of
-/// the two, and that of the initializer is at most `budget`.
-pub fn with_initializer(
+/// A declarator and the initializer that follows its `=`. The height is the greatest of the two, and
+/// that of the initializer is at most `budget`.
+pub fn assigned(
     scope: Scope<'_>,
     reader: &mut Reader<'_>,
     declared: Parsed<Declarator>,
     budget: u32,
-) -> Result<Parsed<InitDeclarator>, Trouble> {
-    if !reader.is_at(Punctuator::Assign) {
-        return Ok(Parsed {
-            tree: InitDeclarator::Object(declared.tree),
-            height: declared.height,
-        });
-    }
-    let place = reader.take();
+) -> Result<Parsed<InitDeclarator>, Trouble>
+    ensures { IfOk result (λ n. FoundAssigned scope.entry.typedefs.now budget (declarator_view declared.tree) declared.height (init_declarator_view n.tree) n.height reader.old reader.new) }
+{
+    let place = reader.expect(Punctuator::Assign)?;
     let found = initializer(scope, reader, budget)?;
+    let tree = InitDeclarator::Initialized(declared.tree, place, found.tree);
     Ok(Parsed {
-        tree: InitDeclarator::Initialized(declared.tree, place, found.tree),
+        tree,
         height: declared.height.max(found.height),
     })
 }

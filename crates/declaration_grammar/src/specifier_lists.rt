@@ -202,7 +202,7 @@ pub fn specifiers(
 }
 
 /// The height of a list of so many words: one word alone adds nothing.
-fn list_height(count: usize, parts: u32, budget: u32) -> Result<u32, Trouble>
+pub fn list_height(count: usize, parts: u32, budget: u32) -> Result<u32, Trouble>
     ensures is { IfOk result (λ h. h ≡ cond (count == 1) parts (parts + 1)) }
     ensures within { IfOk result (λ h. parts ≤ budget → h ≤ budget) }
 {

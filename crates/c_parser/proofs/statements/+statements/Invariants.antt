@@ -1,8 +1,10 @@
-use Rattle.std.proofs.Common.{◌+◌, ◌*◌}
+use Rattle.std.proofs.Common.{◌+◌, ◌*◌, map}
+use Rattle.c_layout.specs.DeclarationTrees.{statement_tree}
+use Rattle.c_parser.specs.Findings.{FoundItems}
 use Rattle.c_parser.proofs.statements.+statements.Given as goal
 
 abbrev pub decreases-body : goal.decreases-body
-decreases-body l = 8 * l.budget + 0
+decreases-body l = 8 * l.budget + 4
 
 abbrev pub decreases-label_statement : goal.decreases-label_statement
 decreases-label_statement l = 8 * l.budget + 1
@@ -45,3 +47,6 @@ decreases-item l = 8 * l.budget + 4
 
 abbrev pub decreases-items : goal.decreases-items
 decreases-items l = 8 * l.budget + 5
+
+abbrev pub invariant-items-loop-turn : goal.invariant-items-loop-turn
+invariant-items-loop-turn l = FoundItems l.scope.typedefs.now l.budget (map statement_tree l.found.items) l.height l.fn.reader l.reader

@@ -1,6 +1,6 @@
-//! Units for tests: words that blanks set apart. The column of a token is its number.
-use crate::parse;
+//! Units of words that blanks set apart. The column of a token is its number.
 use c_layout::{Model, Tree7, Unit7};
+use c_parser::parse;
 use cc_base::{Fault, Kind, Place, Refusal, Stop, Text, Token, Tokens};
 use std::alloc::Global;
 use std::test::Fail;

@@ -1,5 +1,5 @@
 use Rattle.std.proofs.Common.{◌+◌, ◌*◌}
-use Rattle.c_parser.proofs.outline_tests.+statement_outline.Given as goal
+use Rattle.grammar_rows.proofs.outlines.+statement_outline.Given as goal
 
 abbrev pub decreases-add_statement : goal.decreases-add_statement
 decreases-add_statement l = 2 * l.fuel + 1

@@ -1,5 +1,5 @@
 use Rattle.std.proofs.Common.{◌+◌, ◌*◌}
-use Rattle.c_parser.proofs.outline_tests.+expression_outline.Given as goal
+use Rattle.grammar_rows.proofs.outlines.+expression_outline.Given as goal
 
 abbrev pub decreases-add_expression : goal.decreases-add_expression
 decreases-add_expression l = 2 * l.fuel + 1

@@ -1,0 +1,51 @@
+-- Pieces, read one after another.
+use Rattle.std.proofs.Common.{◌≡◌, ℕ, suc, ◌≤◌, List, [], ◌∷◌, ◌++◌, take, drop, length, Ok, refl, sym, subst, ap, ◌∙◌}
+use Rattle.cc_base.specs.declared.lexemes.Token.{Token}
+use Rattle.c_layout.specs.declared.data_model.Model.{Model}
+use Rattle.c_layout.specs.DeclarationTrees.{ExternalTree}
+use Rattle.token_classes.specs.Classes.{classified}
+use Rattle.token_classes.specs.declared.terminals.Terminal.{Terminal}
+use Rattle.c_parser.specs.Externals.{in_force, in_force_behind, IsExternal, IsPiece, ArePieces, IsUnit}
+use Rattle.c_parser.specs.Findings.{FoundExternal, FoundPieces}
+use Rattle.c_parser.specs.Pieces.{piece_length, left_behind}
+
+nothing_left : (ts : List Terminal) → length ts ≡ 0 → ts ≡ []
+nothing_left [] e = refl
+nothing_left (t ∷ ts) e = absurd cc
+
+pub one_piece : {known behind : List (List ℕ)} {h n : ℕ} {e : ExternalTree} {ts rest : List Terminal} → FoundExternal known behind 256 e h ts rest → n ≡ length rest → n ≡ 0 → IsPiece known e ts
+one_piece {known} {behind} {h} {n} {e} {ts} {rest} found n-is none =
+    record { derives = subst (λ (at : List Terminal). IsExternal known e ts at) (nothing_left rest (sym n-is ∙ none)) found.derives; height = subst (λ (m : ℕ). m ≤ 256) found.height found.within }
+
+-- ---- all pieces
+
+pieces_more : (es : List ExternalTree) (e : ExternalTree) (known : List (List ℕ)) (ts rest : List Terminal) →
+    ArePieces es known ts rest → IsPiece (in_force_behind known es) e (take (piece_length rest) rest) → ArePieces (es ++ (e ∷ [])) known ts (drop (piece_length rest) rest)
+pieces_more [] e known ts rest so one = subst (λ (at : List Terminal). IsPiece known e (take (piece_length at) at) × (drop (piece_length rest) rest ≡ drop (piece_length at) at)) so (one, refl)
+pieces_more (d ∷ ds) e known ts rest so one = (so.0, pieces_more ds e (in_force known d) (drop (piece_length ts) ts) rest so.1 one)
+
+names_more : (es : List ExternalTree) (e : ExternalTree) (known : List (List ℕ)) → in_force_behind known (es ++ (e ∷ [])) ≡ in_force (in_force_behind known es) e
+names_more [] e known = refl
+names_more (d ∷ ds) e known = names_more ds e (in_force known d)
+
+pub piece_more : {es next : List ExternalTree} {e : ExternalTree} {names behind : List (List ℕ)} {ts rest piece after : List Terminal} →
+    FoundPieces es names ts rest → piece ≡ take (piece_length rest) rest → after ≡ drop (piece_length rest) rest → IsPiece names e piece → behind ≡ in_force names e → next ≡ es ++ (e ∷ []) →
+    FoundPieces next behind ts after
+piece_more {es} {next} {e} {names} {behind} {ts} {rest} {piece} {after} so piece-is after-is one behind-is next-is =
+    let here : IsPiece (in_force_behind [] es) e (take (piece_length rest) rest) = subst (λ (ns : List (List ℕ)). IsPiece ns e (take (piece_length rest) rest)) so.names_are (subst (λ (at : List Terminal). IsPiece names e at) piece-is one) in
+    rw (next-is, after-is) (record {
+      pieces = pieces_more es e [] ts rest so.pieces here;
+      names_are = behind-is ∙ (ap (λ (ns : List (List ℕ)). in_force ns e) so.names_are ∙ sym (names_more es e []));
+    })
+
+length_more : {X : Type 0} (xs : List X) (x : X) → length (xs ++ (x ∷ [])) ≡ suc (length xs)
+length_more [] x = refl
+length_more (y ∷ ys) x = ap suc (length_more ys x)
+
+pub cut_more : {X : Type 0} (xs next : List X) (x : X) (ts rest after : List Terminal) → left_behind (length xs) ts ≡ rest → next ≡ xs ++ (x ∷ []) → after ≡ drop (piece_length rest) rest → left_behind (length next) ts ≡ after
+cut_more {X} xs next x ts rest after so next-is after-is =
+    ap (λ (ys : List X). left_behind (length ys) ts) next-is
+    ∙ (ap (λ (n : ℕ). left_behind n ts) (length_more xs x) ∙ (ap (λ (at : List Terminal). drop (piece_length at) at) so ∙ sym after-is))
+
+pub whole_unit : {m : Model} {tokens : List Token} {es : List ExternalTree} (ts : List Terminal) → classified m tokens ≡ Ok ts → ArePieces es [] ts [] → IsUnit m tokens es
+whole_unit {m} {tokens} {es} ts classes pieces = record { terminals = ts; classes = classes; pieces = pieces }
