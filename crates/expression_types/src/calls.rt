@@ -1,11 +1,11 @@
 //! Calls (6.5.2.2 of ISO/IEC 9899:2011).
-use crate::implicit_conversions::{assigned, integer_as};
-use crate::operands::{Operand, term_of, value_operand};
 use crate::primaries::library_named;
 use crate::printf_formats::{Length, Wanted, wanted_by};
+use binary_operators::{Operand, assigned, integer_as, term_of, value_operand};
 use c_layout::{CType, CheckedTerm, Expr, LibFn, TermForm};
-use cc_base::{IntType, Memory, Place, Stop, Text};
-use type_rules::{char_kind, int_kind, promoted, size_kind};
+use cc_base::{Memory, Place, Stop, Text};
+use operator_types::promoted_kind;
+use type_rules::{char_kind, int_kind, size_kind};
 use type_scopes::{
     Context, DeclaredType, Meaning, copied_types, format_fault, library_signature, type_fault,
     undeclared,
@@ -143,14 +143,6 @@ fn is_wanted(cx: &Context, wanted: Wanted, argument: &CType) -> bool {
             CType::Int(kind) => kind.rank == wanted_rank(cx, length),
             _ => false,
         },
-    }
-}
-
-/// The promoted type of an integer type.
-fn promoted_kind(cx: &Context, t: &CType) -> Option<IntType> {
-    match t {
-        CType::Int(kind) => Some(promoted(&cx.model.numbers, *kind)),
-        _ => None,
     }
 }
 

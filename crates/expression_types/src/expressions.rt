@@ -1,17 +1,15 @@
 //! Expressions: each is typed after its parts, by the rule of its operator (6.5 of ISO/IEC
 //! 9899:2011).
-use crate::assignments::assignment;
 use crate::calls::{call, callee_named, note_callee};
-use crate::choices::{comma, conditional, logical};
-use crate::comparisons::binary;
-use crate::members::{arrow, member, subscript};
-use crate::operands::{Operand, parenthesized, term_of};
+use crate::members::{arrow, member};
 use crate::primaries::{constant, literal, name};
-use crate::sizes_and_casts::{cast, size_of_operand, size_of_type};
 use crate::type_names::named_type;
-use crate::unary_operators::{step, unary};
+use binary_operators::{Operand, binary, parenthesized, subscript, term_of};
 use c_layout::{CType, CheckedTerm, Expr, StepTime, TypeName};
 use cc_base::{Place, Stop, Text};
+use operator_types::{
+    assignment, cast, comma, conditional, logical, size_of_operand, size_of_type, step, unary,
+};
 use type_scopes::{Context, type_fault};
 
 /// The length that a term is: an integer constant above 0.

@@ -1,8 +1,7 @@
-//! Members and subscripts (6.5.2.1, 6.5.2.3 of ISO/IEC 9899:2011).
-use crate::operands::{Form, Operand, lvalue_operand, term_of};
-use crate::pointer_arithmetic::pointer_sum;
-use c_layout::{CType, CheckedTerm, Lvalue, LvalueForm};
-use cc_base::{Memory, Place, Stop, Text};
+//! Members (6.5.2.3 of ISO/IEC 9899:2011).
+use binary_operators::{Form, Operand, indirection, lvalue_operand, term_of};
+use c_layout::{CType, Lvalue, LvalueForm};
+use cc_base::{Place, Stop, Text};
 use type_scopes::{Context, StructTypes, type_fault, undeclared};
 
 /// The number of a complete struct that a type is.
@@ -40,47 +39,9 @@ pub fn member(cx: &Context, place: Place, whole: Operand, name: &Text) -> Result
     }
 }
 
-/// The complete type to which a type points.
-fn target_type(cx: &Context, t: &CType) -> Result<Option<CType>, Memory> {
-    match t {
-        CType::Pointer(target) => match cx.size_of(target) {
-            Some(_) => Ok(Some(target.copy(cx.alloc)?)),
-            None => Ok(None),
-        },
-        _ => Ok(None),
-    }
-}
-
-/// What a pointer to a complete type points to.
-pub fn indirection(cx: &Context, place: Place, pointer: Box<CheckedTerm>) -> Result<Operand, Stop> {
-    match target_type(cx, &pointer.ctype)? {
-        Some(ctype) => Ok(lvalue_operand(
-            cx.alloc,
-            place,
-            ctype,
-            LvalueForm::Target(pointer),
-            None,
-        )?),
-        None => Err(type_fault(place)),
-    }
-}
-
 /// `->`
 pub fn arrow(cx: &Context, place: Place, pointer: Operand, name: &Text) -> Result<Operand, Stop> {
     let pointer = term_of(cx.alloc, pointer)?;
     let whole = indirection(cx, place, pointer)?;
     member(cx, place, whole, name)
-}
-
-/// A subscript: what the sum of a pointer and an integer points to.
-pub fn subscript(
-    cx: &Context,
-    place: Place,
-    left: Operand,
-    right: Operand,
-) -> Result<Operand, Stop> {
-    let left = term_of(cx.alloc, left)?;
-    let right = term_of(cx.alloc, right)?;
-    let sum = pointer_sum(cx, place, left, right)?;
-    indirection(cx, place, sum)
 }

@@ -1,5 +1,5 @@
 //! Names, constants and literals (6.5.1 of ISO/IEC 9899:2011).
-use crate::operands::{Constancy, Operand, lvalue_operand, number_operand};
+use binary_operators::{Constancy, Operand, lvalue_operand, number_operand};
 use c_layout::{CType, Constant, LibFn, LvalueForm, ObjectRef, TermForm};
 use cc_base::{Memory, Place, Stop, Text};
 use lib_models::signature;

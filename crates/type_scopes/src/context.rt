@@ -1,4 +1,8 @@
 //! What typing knows at a place of a unit.
+ghost use Rattle.std.specs.Prelude.{◌≡◌};
+ghost use Rattle.c_layout.specs.Types.{view};
+ghost use Rattle.type_scopes.specs.Known.{known, size_of};
+
 use crate::data_models::DataModel;
 use crate::declared_types::{DeclaredType, ObjectDeclaration, Signature};
 use crate::definitions::Definitions;
@@ -159,7 +163,9 @@ impl Context {
     }
 
     /// The size of a complete type; None for any other.
-    pub fn size_of(&self, t: &CType) -> Option<u64> {
+    pub fn size_of(&self, t: &CType) -> Option<u64>
+        ensures { result ≡ size_of (known self.now) (view t.now) }
+    {
         size_if_complete(t, &self.types.structs, self.model.numbers.pointer)
     }
 

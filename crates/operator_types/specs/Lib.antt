@@ -1,0 +1,4 @@
+pub mod Choices
+pub mod Assignments
+pub mod UnaryOperators
+pub mod SizesAndCasts
