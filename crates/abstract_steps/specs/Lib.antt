@@ -1,5 +1,3 @@
-pub mod Scalars
-pub mod ValueSteps
-pub mod PointerSteps
-pub mod MemorySteps
 pub mod Refinements
+pub mod Edges
+pub mod StartRows

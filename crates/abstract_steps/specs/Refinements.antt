@@ -69,13 +69,17 @@ named_by (Number value) right = None
 named_by Null right = None
 
 module _ {I : Type 0} where
+  -- a number, without labels
+  abbrev pub number_side : LatticeOf I → IntegersOf I → ℤ → Value I
+  number_side l n number = near_value l n (number_value l (n.one number) no_labels)
+
   abbrev pub value_of_object : LatticeOf I → IntegersOf I → List (Cell I) → Option ℕ → Value I
   value_of_object l n row None = near_value l n (value_lattice l).least
   value_of_object l n row (Some at) = value_at l n row at
 
-  -- a side of a test: the value of an object, or a number without labels
+  -- a side of a test: the value of an object, or a number
   abbrev pub side_value : LatticeOf I → IntegersOf I → Flow → List (Cell I) → Side → Value I
-  side_value l n flow row (Number value) = near_value l n (number_value l (n.one value) no_labels)
+  side_value l n flow row (Number number) = number_side l n number
   side_value l n flow row Null = near_value l n (value_lattice l).least
   side_value l n flow row (Object base kind) = value_of_object l n row (object_position flow base)
 
@@ -99,42 +103,48 @@ module _ {I : Type 0} where
   abbrev pub met : LatticeOf I → IntegersOf I → Value I → Value I → Value I
   met l n x y = record x { num = met_number l n x.num (n.bounds y.num); labels = common_labels x.labels y.labels }
 
-  abbrev pub put_at : Option ℕ → Value I → List (Cell I) → List (Cell I)
+  unfoldable pub put_at : Option ℕ → Value I → List (Cell I) → List (Cell I)
   put_at None v row = row
   put_at (Some at) v row = put_value row at v
 
   -- what is known of an object is kept
-  abbrev pub put_side : Flow → Side → Value I → List (Cell I) → List (Cell I)
+  unfoldable pub put_side : Flow → Side → Value I → List (Cell I) → List (Cell I)
   put_side flow (Object base kind) v row = put_at (object_position flow base) v row
-  put_side flow (Number value) v row = row
+  put_side flow (Number number) v row = row
   put_side flow Null v row = row
 
   abbrev pub has_number : IntegersOf I → Value I → Bool
   has_number n v = is_some (n.bounds v.num)
 
-  abbrev pub refine_one : LatticeOf I → IntegersOf I → Flow → Side → Value I → List (Cell I) → Option (List (Cell I))
-  refine_one l n flow side v row = cond (has_number n v) (Some (put_side flow side v row)) None
+  -- what is known of the object of both sides
+  unfoldable pub refine_one : IntegersOf I → Flow → Side → Value I → List (Cell I) → Option (List (Cell I))
+  refine_one n flow side v row = cond (has_number n v) (Some (put_side flow side v row)) None
 
-  abbrev pub refine_two : IntegersOf I → Flow → Side → Side → Value I → Value I → List (Cell I) → Option (List (Cell I))
-  refine_two n flow left right v w row = cond (has_number n v && has_number n w) (Some (put_side flow right w (put_side flow left v row))) None
+  unfoldable pub refine_two : IntegersOf I → Flow → Test → Value I → Value I → List (Cell I) → Option (List (Cell I))
+  refine_two n flow test v w row = cond (has_number n v && has_number n w) (Some (put_side flow test.right w (put_side flow test.left v row))) None
 
-  abbrev pub refine_values : LatticeOf I → IntegersOf I → Flow → Test → IntType → Value I → Value I → List (Cell I) → Option (List (Cell I))
-  refine_values l n flow test common v w row =
-      cond (is_same_object test.left test.right)
-      (refine_one l n flow test.left (met l n (refined n v test.rel w common) (refined n w (mirrored test.rel) v common)) row)
-      (refine_two n flow test.left test.right (refined n v test.rel w common) (refined n w (mirrored test.rel) v common) row)
+  -- what is known of the sides behind the test
+  unfoldable pub refine_sides : LatticeOf I → IntegersOf I → Flow → Test → Value I → Value I → List (Cell I) → Option (List (Cell I))
+  refine_sides l n flow test v w row = cond (is_same_object test.left test.right) (refine_one n flow test.left (met l n v w) row) (refine_two n flow test v w row)
+
+  unfoldable pub refine_values : LatticeOf I → IntegersOf I → Flow → Test → IntType → Value I → Value I → List (Cell I) → Option (List (Cell I))
+  refine_values l n flow test common v w row = refine_sides l n flow test (refined n v test.rel w common) (refined n w (mirrored test.rel) v common) row
 
   -- the row where a test on integers holds
-  abbrev pub refine_integers : LatticeOf I → IntegersOf I → Flow → Test → IntType → List (Cell I) → Option (List (Cell I))
+  unfoldable pub refine_integers : LatticeOf I → IntegersOf I → Flow → Test → IntType → List (Cell I) → Option (List (Cell I))
   refine_integers l n flow test common row = refine_values l n flow test common (side_value l n flow row test.left) (side_value l n flow row test.right) row
 
-  -- the pointers that are null, or those that are not
-  abbrev pub null_or_not : LatticeOf I → Pointers I → Bool → Pointers I
-  null_or_not l p null = cond null (record { bases = no_base; lo = l.least; rel = l.least; len = l.least; part = false; null = p.null; ended = false }) (record p { null = false })
+  -- the pointers that are null
+  abbrev pub only_null : LatticeOf I → Pointers I → Pointers I
+  only_null l p = record { bases = no_base; lo = l.least; rel = l.least; len = l.least; part = false; null = p.null; ended = false }
+
+  -- the pointers that are not
+  abbrev pub not_null : Pointers I → Pointers I
+  not_null p = record p { null = false }
 
   abbrev pub tested_pointer : LatticeOf I → Pointers I → Rel → Pointers I
-  tested_pointer l p Eq = null_or_not l p true
-  tested_pointer l p Ne = null_or_not l p false
+  tested_pointer l p Eq = only_null l p
+  tested_pointer l p Ne = not_null p
   tested_pointer l p Lt = p
   tested_pointer l p Le = p
   tested_pointer l p Gt = p
@@ -148,10 +158,10 @@ module _ {I : Type 0} where
   refine_pointer_at l n (Some at) rel row = put_value row at (tested_value l (value_at l n row at) rel)
 
   -- the row where a named pointer equals a null constant, or does not
-  abbrev pub refine_pointer : LatticeOf I → IntegersOf I → Flow → ℕ → Rel → List (Cell I) → List (Cell I)
+  unfoldable pub refine_pointer : LatticeOf I → IntegersOf I → Flow → ℕ → Rel → List (Cell I) → List (Cell I)
   refine_pointer l n flow base rel row = refine_pointer_at l n (object_position flow base) rel row
 
-  abbrev pub refine_named : LatticeOf I → IntegersOf I → Flow → Option ℕ → Rel → List (Cell I) → List (Cell I)
+  unfoldable pub refine_named : LatticeOf I → IntegersOf I → Flow → Option ℕ → Rel → List (Cell I) → List (Cell I)
   refine_named l n flow None rel row = row
   refine_named l n flow (Some base) rel row = refine_pointer l n flow base rel row
 
@@ -160,19 +170,26 @@ module _ {I : Type 0} where
   refine_in l n flow test None row = Some (refine_named l n flow (named_by test.left test.right) test.rel row)
 
   -- the row where a test holds; None where no run has it
-  abbrev pub refine : LatticeOf I → IntegersOf I → Flow → Test → List (Cell I) → Option (List (Cell I))
+  unfoldable pub refine : LatticeOf I → IntegersOf I → Flow → Test → List (Cell I) → Option (List (Cell I))
   refine l n flow test row = refine_in l n flow test test.common row
 
   abbrev pub labelled_number : LatticeOf I → IntegersOf I → Value I → ℤ → I
   labelled_number l n v number = of_range l n (range_met (n.bounds v.num) number number)
 
-  abbrev pub put_case : IntegersOf I → ℕ → Value I → I → List (Cell I) → Option (List (Cell I))
-  put_case n at v x row = cond (is_some (n.bounds x)) (Some (put_value row at (record v { num = x; labels = no_labels }))) None
+  -- with these numbers, without labels
+  abbrev pub with_number : Value I → I → Value I
+  with_number v x = record v { num = x; labels = no_labels }
+
+  unfoldable pub put_case : IntegersOf I → ℕ → Value I → I → List (Cell I) → Option (List (Cell I))
+  put_case n at v x row = cond (is_some (n.bounds x)) (Some (put_value row at (with_number v x))) None
+
+  unfoldable pub refine_value : LatticeOf I → IntegersOf I → ℕ → Value I → ℤ → List (Cell I) → Option (List (Cell I))
+  refine_value l n at v number row = put_case n at v (labelled_number l n v number) row
 
   abbrev pub refine_case_at : LatticeOf I → IntegersOf I → Option ℕ → ℤ → List (Cell I) → Option (List (Cell I))
   refine_case_at l n None number row = Some row
-  refine_case_at l n (Some at) number row = put_case n at (value_at l n row at) (labelled_number l n (value_at l n row at) number) row
+  refine_case_at l n (Some at) number row = refine_value l n at (value_at l n row at) number row
 
   -- the row where the object that is switched on has a label's value
-  abbrev pub refine_case : LatticeOf I → IntegersOf I → Flow → ℕ → ℤ → List (Cell I) → Option (List (Cell I))
+  unfoldable pub refine_case : LatticeOf I → IntegersOf I → Flow → ℕ → ℤ → List (Cell I) → Option (List (Cell I))
   refine_case l n flow base number row = refine_case_at l n (object_position flow base) number row

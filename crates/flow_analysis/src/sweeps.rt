@@ -1,9 +1,10 @@
 //! Passes over the blocks, until no row changes.
 use crate::block_rows::{BlockRows, copy_cells};
 use crate::row_arrivals::arrive;
-use abstract_steps::{edge, start_row, step};
+use abstract_steps::{edge, start_row};
 use cc_base::{IntDomain, Thresholds};
 use flow_program::Flow;
+use instruction_steps::step;
 use value_domain::Cell;
 
 /// Two rows that are spent: at the end of a block, and behind one of its edges.
@@ -118,7 +119,9 @@ pub fn settle<I: IntDomain>(
     found: &mut BlockRows<I>,
     spare: &mut SpareRows<I>,
 ) {
-    start_row(flow, spare.behind.as_mut_slice());
+    if !start_row(flow, spare.behind.as_mut_slice()) {
+        return;
+    }
     arrive(found, 0, spare.behind.as_slice(), is_head(flow, 0), list);
     for _pass in 0..u64::MAX {
         if !sweep(flow, list, found, spare) {

@@ -4,7 +4,7 @@ use Rattle.cc_base.specs.Lattices.{LatticeOf}
 use Rattle.cc_base.specs.IntegerDomains.{IntegersOf}
 use Rattle.value_domain.specs.declared.row_cells.Cell.{Cell}
 use Rattle.store_domain.specs.Walks.{turns}
-use Rattle.library_steps.specs.declared.call_arguments.Call.{Call}
+use Rattle.library_steps.specs.Calls.{Call}
 use Rattle.library_steps.specs.declared.call_plans.Trail.{Trail}
 use Rattle.library_steps.specs.Outputs.{pointer_trail_if, scan_trail_if, pointer_trails, scan_trails}
 

@@ -17,7 +17,7 @@ use Rattle.store_domain.specs.ScalarTypes.{kind_of}
 use Rattle.access_checks.specs.declared.allocation_checks.Released.{Released}
 use Rattle.access_checks.specs.AllocationChecks.{allocation_violations, check_release}
 use Rattle.access_checks.specs.ViolationSets.{no_violations}
-use Rattle.library_steps.specs.declared.call_arguments.Call.{Call}
+use Rattle.library_steps.specs.Calls.{Call}
 use Rattle.library_steps.specs.declared.call_plans.Effect.TheVariants as effect
 use Rattle.library_steps.specs.declared.call_plans.Plan.{Plan}
 use Rattle.library_steps.specs.declared.call_plans.Trail.{Trail}
@@ -44,7 +44,7 @@ module _ {I : Type 0} where
   instance_size l n m size = near_number l n (of_range l n (range_met size (pos 0) (greatest_of (kind_of m Pointer true))))
 
   abbrev pub malloc_of : LatticeOf I → IntegersOf I → Call → Value I → Plan I
-  malloc_of l n call v = planned (sized_trail (n.bounds v.num) v.labels call.wanted) (effect.Allocate (instance_size l n call.flow.now.model (n.bounds v.num)) false)
+  malloc_of l n call v = planned (sized_trail (n.bounds v.num) v.labels call.wanted) (effect.Allocate (instance_size l n call.flow.model (n.bounds v.num)) false)
 
   unfoldable pub plan_malloc : LatticeOf I → IntegersOf I → Call → List (Cell I) → Plan I
   plan_malloc l n call row = malloc_of l n call (argument_value l n call row 0)
@@ -52,18 +52,18 @@ module _ {I : Type 0} where
   abbrev pub calloc_of : LatticeOf I → IntegersOf I → Call → Value I → Value I → Plan I
   calloc_of l n call v w =
       planned (sized_trail (products (n.bounds v.num) (n.bounds w.num)) (labels_join v.labels w.labels) call.wanted)
-      (effect.Allocate (instance_size l n call.flow.now.model (products (n.bounds v.num) (n.bounds w.num))) true)
+      (effect.Allocate (instance_size l n call.flow.model (products (n.bounds v.num) (n.bounds w.num))) true)
 
   unfoldable pub plan_calloc : LatticeOf I → IntegersOf I → Call → List (Cell I) → Plan I
   plan_calloc l n call row = calloc_of l n call (argument_value l n call row 0) (argument_value l n call row 1)
 
   abbrev pub released : LatticeOf I → IntegersOf I → Call → List (Cell I) → Released I
-  released l n call row = check_release l n call.flow.now.bases.items row (argument_value l n call row 0).pointer
+  released l n call row = check_release l n call.flow.bases.items row (argument_value l n call row 0).pointer
 
   abbrev pub realloc_of : LatticeOf I → IntegersOf I → Call → Value I → Released I → Plan I
   realloc_of l n call v old =
       planned (checked (sized_trail (n.bounds v.num) v.labels call.wanted) old.violations (is_any old.rest))
-      (effect.Reallocate (instance_size l n call.flow.now.model (n.bounds v.num)) old.rest)
+      (effect.Reallocate (instance_size l n call.flow.model (n.bounds v.num)) old.rest)
 
   unfoldable pub plan_realloc : LatticeOf I → IntegersOf I → Call → List (Cell I) → Plan I
   plan_realloc l n call row = realloc_of l n call (argument_value l n call row 1) (released l n call row)

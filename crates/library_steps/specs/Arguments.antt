@@ -10,7 +10,7 @@ use Rattle.store_domain.specs.NearValues.{near_value}
 use Rattle.access_checks.specs.declared.violation_sets.Violations.{Violations}
 use Rattle.access_checks.specs.ViolationSets.{no_violations}
 use Rattle.access_checks.specs.Temporaries.{temp_value}
-use Rattle.library_steps.specs.declared.call_arguments.Call.{Call}
+use Rattle.library_steps.specs.Calls.{Call}
 
 abbrev pub string_violations : Bool → Violations
 string_violations unknown = record no_violations { nonnullcs = unknown }
@@ -28,4 +28,4 @@ module _ {I : Type 0} where
 
   -- the value of an argument; the least value where there is none
   unfoldable pub argument_value : LatticeOf I → IntegersOf I → Call → List (Cell I) → ℕ → Value I
-  argument_value l n call row at = value_of_argument l n call.flow.now row (slice_get call.arguments.now at)
+  argument_value l n call row at = value_of_argument l n call.flow row (slice_get call.arguments at)

@@ -1,4 +1,5 @@
 pub mod Plans
+pub mod Calls
 pub mod Arguments
 pub mod Characters
 pub mod Allocations

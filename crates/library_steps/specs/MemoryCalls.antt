@@ -17,7 +17,7 @@ use Rattle.store_domain.specs.LiveBases.{writable_of}
 use Rattle.access_checks.specs.declared.library_arguments.Argument.{Argument}
 use Rattle.access_checks.specs.IntegerChecks.{sink_violations}
 use Rattle.access_checks.specs.LibraryArguments.{cut_by_room, passes_room, after_write, writes_literal, within_bases, touched_window}
-use Rattle.library_steps.specs.declared.call_arguments.Call.{Call}
+use Rattle.library_steps.specs.Calls.{Call}
 use Rattle.library_steps.specs.declared.call_plans.Effect.{Effect}
 use Rattle.library_steps.specs.declared.call_plans.Effect.TheVariants as effect
 use Rattle.library_steps.specs.declared.call_plans.Plan.{Plan}
@@ -57,8 +57,8 @@ module _ {I : Type 0} where
   -- the check that no literal is written
   abbrev pub target_of : LatticeOf I → IntegersOf I → Call → Trail → Pointers I → Range → Target I
   target_of l n call trail p need = record {
-    trail = checked trail (literal_violations (writes_literal call.flow.now.bases.items p.bases need)) (not (bases_empty (after_write call.flow.now.bases.items p.bases need)));
-    rest = within_bases l n p (after_write call.flow.now.bases.items p.bases need);
+    trail = checked trail (literal_violations (writes_literal call.flow.bases.items p.bases need)) (not (bases_empty (after_write call.flow.bases.items p.bases need)));
+    rest = within_bases l n p (after_write call.flow.bases.items p.bases need);
     count = need;
   }
 
@@ -68,9 +68,9 @@ module _ {I : Type 0} where
   copy_in_window l n call row from target None = effect.Result (pointer_value l target.rest)
   copy_in_window l n call row from target (Some w) =
       effect.Copy (record {
-        bases = writable_of call.flow.now.bases.items target.rest.bases;
+        bases = writable_of call.flow.bases.items target.rest.bases;
         window = w;
-        bytes = bytes_of_source l n call.flow.now row from.rest.bases (touched_window n from.rest target.count);
+        bytes = bytes_of_source l n call.flow row from.rest.bases (touched_window n from.rest target.count);
       }) (pointer_value l target.rest)
 
   abbrev pub copy_to : LatticeOf I → IntegersOf I → Call → List (Cell I) → Argument I → Target I → Plan I
@@ -98,7 +98,7 @@ module _ {I : Type 0} where
   abbrev pub fill_effect : LatticeOf I → IntegersOf I → Call → Target I → Value I → Window → Window → Effect I
   fill_effect l n call target c w start =
       effect.Fill (record {
-        bases = writable_of call.flow.now.bases.items target.rest.bases;
+        bases = writable_of call.flow.bases.items target.rest.bases;
         start = start;
         window = w;
         sure = sure_window (offsets n target.rest) target.count;

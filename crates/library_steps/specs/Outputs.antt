@@ -17,7 +17,7 @@ use Rattle.access_checks.specs.declared.string_scans.Scanned.{Scanned}
 use Rattle.access_checks.specs.LibraryArguments.{check_argument}
 use Rattle.access_checks.specs.StringScans.{scan}
 use Rattle.access_checks.specs.ViolationSets.{no_violations}
-use Rattle.library_steps.specs.declared.call_arguments.Call.{Call}
+use Rattle.library_steps.specs.Calls.{Call}
 use Rattle.library_steps.specs.declared.call_plans.Effect.TheVariants as effect
 use Rattle.library_steps.specs.declared.call_plans.Plan.{Plan}
 use Rattle.library_steps.specs.declared.call_plans.Trail.{Trail}
@@ -27,10 +27,10 @@ use Rattle.library_steps.specs.Arguments.{argument_value, string_violations}
 module _ {I : Type 0} where
   -- an argument that is a pointer, and what of it goes on
   abbrev pub argument_at : LatticeOf I → IntegersOf I → Call → List (Cell I) → ℕ → Argument I
-  argument_at l n call row at = check_argument l n call.flow.now.bases.items row (argument_value l n call row at).pointer
+  argument_at l n call row at = check_argument l n call.flow.bases.items row (argument_value l n call row at).pointer
 
   abbrev pub scan_at : LatticeOf I → IntegersOf I → Call → List (Cell I) → Argument I → Scanned I
-  scan_at l n call row given = scan l n call.flow.now.bases.items row given.rest
+  scan_at l n call row given = scan l n call.flow.bases.items row given.rest
 
   -- the trail behind the check of a pointer argument
   abbrev pub given_trail : Trail → Argument I → Trail
@@ -84,7 +84,7 @@ module _ {I : Type 0} where
 
   -- each argument that is a pointer is a string
   unfoldable pub plan_printf : LatticeOf I → IntegersOf I → Call → List (Cell I) → Plan I
-  plan_printf l n call row = planned (printf_trail l n call row (length call.arguments.now - 1)) (effect.Result (number_value l (between_or_least l n (pos 0) (greatest_of (kind_of call.flow.now.model Int true))) no_labels))
+  plan_printf l n call row = planned (printf_trail l n call row (length call.arguments - 1)) (effect.Result (number_value l (between_or_least l n (pos 0) (greatest_of (kind_of call.flow.model Int true))) no_labels))
 
   -- the length, in the range of size_t
   abbrev pub length_of : LatticeOf I → IntegersOf I → Model → Scanned I → I
@@ -99,7 +99,7 @@ module _ {I : Type 0} where
   strlen_scanned l n m given found = strlen_of l n given found (length_of l n m found)
 
   abbrev pub strlen_given : LatticeOf I → IntegersOf I → Call → List (Cell I) → Argument I → Plan I
-  strlen_given l n call row given = strlen_scanned l n call.flow.now.model given (scan_at l n call row given)
+  strlen_given l n call row given = strlen_scanned l n call.flow.model given (scan_at l n call row given)
 
   unfoldable pub plan_strlen : LatticeOf I → IntegersOf I → Call → List (Cell I) → Plan I
   plan_strlen l n call row = strlen_given l n call row (argument_at l n call row 0)

@@ -5,7 +5,7 @@ use Rattle.cc_base.specs.IntegerDomains.{IntegersOf}
 use Rattle.c_layout.specs.declared.library_functions.LibFn.{LibFn}
 use Rattle.c_layout.specs.declared.library_functions.LibFn.TheVariants as f
 use Rattle.value_domain.specs.declared.row_cells.Cell.{Cell}
-use Rattle.library_steps.specs.declared.call_arguments.Call.{Call}
+use Rattle.library_steps.specs.Calls.{Call}
 use Rattle.library_steps.specs.declared.call_plans.Effect.TheVariants as effect
 use Rattle.library_steps.specs.declared.call_plans.Plan.{Plan}
 use Rattle.library_steps.specs.Plans.{harmless}
@@ -35,8 +35,8 @@ module _ {I : Type 0} where
   plan_call l n f.Strncpy call row = plan_strncpy l n call row
   plan_call l n f.Strcat call row = plan_strcat l n call row
   plan_call l n f.Strcmp call row = plan_strcmp l n call row
-  plan_call l n f.Getchar call row = plan_getchar l n call.flow.now.model
-  plan_call l n f.Putchar call row = plan_putchar l n call.flow.now.model (argument_value l n call row 0)
+  plan_call l n f.Getchar call row = plan_getchar l n call.flow.model
+  plan_call l n f.Putchar call row = plan_putchar l n call.flow.model (argument_value l n call row 0)
   plan_call l n f.Puts call row = plan_puts l n call row
   plan_call l n f.Printf call row = plan_printf l n call row
   plan_call l n f.Fgets call row = harmless effect.Unreached

@@ -23,7 +23,7 @@ use Rattle.access_checks.specs.declared.string_scans.Scanned.{Scanned}
 use Rattle.access_checks.specs.IntegerChecks.{sink_violations}
 use Rattle.access_checks.specs.LibraryArguments.{cut_by_room, passes_room, within_bases, touched_window}
 use Rattle.access_checks.specs.ViolationSets.{no_violations}
-use Rattle.library_steps.specs.declared.call_arguments.Call.{Call}
+use Rattle.library_steps.specs.Calls.{Call}
 use Rattle.library_steps.specs.declared.call_plans.Effect.{Effect}
 use Rattle.library_steps.specs.declared.call_plans.Effect.TheVariants as effect
 use Rattle.library_steps.specs.declared.call_plans.Plan.{Plan}
@@ -64,7 +64,7 @@ module _ {I : Type 0} where
   -- a text write of a target from the given start, or the result alone where no byte is written
   abbrev pub text_effect : LatticeOf I → Call → Target I → Option Window → Option Window → Characters I → ZeroRule I → Effect I
   text_effect l call target (Some start) (Some w) characters rule =
-      effect.Text (record { bases = writable_of call.flow.now.bases.items target.rest.bases; start = start; window = w; characters = characters; zero = rule }) (pointer_value l target.rest)
+      effect.Text (record { bases = writable_of call.flow.bases.items target.rest.bases; start = start; window = w; characters = characters; zero = rule }) (pointer_value l target.rest)
   text_effect l call target None w characters rule = effect.Result (pointer_value l target.rest)
   text_effect l call target (Some start) None characters rule = effect.Result (pointer_value l target.rest)
 
@@ -79,7 +79,7 @@ module _ {I : Type 0} where
   -- ---- strcpy
 
   abbrev pub source_characters : LatticeOf I → IntegersOf I → Call → List (Cell I) → Pointers I → Range → Characters I
-  source_characters l n call row source need = characters_of l n call.flow.now.model call.flow.now.bases.items row source.bases (touched_window n source need)
+  source_characters l n call row source need = characters_of l n call.flow.model call.flow.bases.items row source.bases (touched_window n source need)
 
   abbrev pub strcpy_scanned : LatticeOf I → IntegersOf I → Call → List (Cell I) → Argument I → Argument I → Scanned I → Plan I
   strcpy_scanned l n call row to from found =
@@ -139,7 +139,7 @@ module _ {I : Type 0} where
 
   abbrev pub reads_blank : LatticeOf I → IntegersOf I → Call → List (Cell I) → Pointers I → Option Window → Bool
   reads_blank l n call row from None = false
-  reads_blank l n call row from (Some w) = is_blank (characters_read l n call.flow.now.model call.flow.now.bases.items row from.bases w true)
+  reads_blank l n call row from (Some w) = is_blank (characters_read l n call.flow.model call.flow.bases.items row from.bases w true)
 
   -- bytes before a zero may be read that are no string: the source is not known to end, and it may be
   -- read past the room, or an indeterminate byte
@@ -185,7 +185,7 @@ module _ {I : Type 0} where
   fgets_given l n call v to =
       text_from_start l n call
       (target_of l n call (room_trail n (line_trail n v to) to.rest (line_count n v)) to.rest (cut_by_room n (line_count n v) to.rest))
-      (input_characters l n call.flow.now.model)
+      (input_characters l n call.flow.model)
       (line_rule l n (cut_by_room n (line_count n v) to.rest))
 
   -- the checks of `fgets`, and then the line that is written

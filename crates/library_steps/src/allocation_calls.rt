@@ -1,5 +1,6 @@
 //! `malloc`, `calloc`, `realloc` and `free` (7.22.3 of ISO/IEC 9899:2011).
 ghost use Rattle.std.specs.Prelude.{◌≡◌};
+ghost use Rattle.library_steps.specs.Calls.{call_view};
 ghost use Rattle.library_steps.specs.Allocations.{sized_trail, malloc_of, calloc_of, released, realloc_of, free_of, instance_size, plan_malloc, product_of, products, plan_calloc, plan_realloc, plan_free};
 ghost use Rattle.pointer_domain.specs.PointerTables.{IsNearPointer};
 ghost use Rattle.cc_base.specs.IntegerDomains.{IsNear};
@@ -30,7 +31,7 @@ fn sized_trail(size: Option<(i128, i128)>, labels: Labels, wanted: Option<u64>) 
 }
 
 fn malloc_of<I: IntDomain>(call: Call, n: Value<I>) -> Plan<I>
-    ensures { result ≡ malloc_of I.lattice I.numbers call.entry n }
+    ensures { result ≡ malloc_of I.lattice I.numbers (call_view call.entry) n }
 {
     let size = n.num.bounds();
     let trail = sized_trail(size, n.labels, call.wanted);
@@ -43,7 +44,7 @@ fn malloc_of<I: IntDomain>(call: Call, n: Value<I>) -> Plan<I>
 /// The plan of `malloc`.
 #[tactic(auto, unfolding(crate::specs::Allocations::plan_malloc))]
 pub fn plan_malloc<I: IntDomain>(call: Call, row: &[Cell<I>]) -> Plan<I>
-    ensures { result ≡ plan_malloc I.lattice I.numbers call.entry row.now }
+    ensures { result ≡ plan_malloc I.lattice I.numbers (call_view call.entry) row.now }
 {
     malloc_of(call, argument_value(call, row, 0))
 }
@@ -65,7 +66,7 @@ fn products(x: Option<(i128, i128)>, y: Option<(i128, i128)>) -> Option<(i128, i
 }
 
 fn calloc_of<I: IntDomain>(call: Call, m: Value<I>, n: Value<I>) -> Plan<I>
-    ensures { result ≡ calloc_of I.lattice I.numbers call.entry m n }
+    ensures { result ≡ calloc_of I.lattice I.numbers (call_view call.entry) m n }
 {
     let size = products(m.num.bounds(), n.num.bounds());
     let trail = sized_trail(size, m.labels.union(n.labels), call.wanted);
@@ -78,7 +79,7 @@ fn calloc_of<I: IntDomain>(call: Call, m: Value<I>, n: Value<I>) -> Plan<I>
 /// The plan of `calloc`.
 #[tactic(auto, unfolding(crate::specs::Allocations::plan_calloc))]
 pub fn plan_calloc<I: IntDomain>(call: Call, row: &[Cell<I>]) -> Plan<I>
-    ensures { result ≡ plan_calloc I.lattice I.numbers call.entry row.now }
+    ensures { result ≡ plan_calloc I.lattice I.numbers (call_view call.entry) row.now }
 {
     let m = argument_value(call, row, 0);
     let n = argument_value(call, row, 1);
@@ -87,14 +88,14 @@ pub fn plan_calloc<I: IntDomain>(call: Call, row: &[Cell<I>]) -> Plan<I>
 
 /// The release of the first argument.
 fn released<I: IntDomain>(call: Call, row: &[Cell<I>]) -> Released<I>
-    ensures { result ≡ released I.lattice I.numbers call.entry row.now }
+    ensures { result ≡ released I.lattice I.numbers (call_view call.entry) row.now }
 {
     let bases = call.flow.bases.as_slice();
     check_release(bases, row, argument_value(call, row, 0).pointer)
 }
 
 fn realloc_of<I: IntDomain>(call: Call, n: Value<I>, old: Released<I>) -> Plan<I>
-    ensures { result ≡ realloc_of I.lattice I.numbers call.entry n old }
+    ensures { result ≡ realloc_of I.lattice I.numbers (call_view call.entry) n old }
 {
     let size = n.num.bounds();
     let trail = sized_trail(size, n.labels, call.wanted);
@@ -108,7 +109,7 @@ fn realloc_of<I: IntDomain>(call: Call, n: Value<I>, old: Released<I>) -> Plan<I
 /// The plan of `realloc`.
 #[tactic(auto, unfolding(crate::specs::Allocations::plan_realloc))]
 pub fn plan_realloc<I: IntDomain>(call: Call, row: &[Cell<I>]) -> Plan<I>
-    ensures { result ≡ plan_realloc I.lattice I.numbers call.entry row.now }
+    ensures { result ≡ plan_realloc I.lattice I.numbers (call_view call.entry) row.now }
 {
     let n = argument_value(call, row, 1);
     realloc_of(call, n, released(call, row))
@@ -125,7 +126,7 @@ fn free_of<I: IntDomain>(old: Released<I>) -> Plan<I>
 /// The plan of `free`.
 #[tactic(auto, unfolding(crate::specs::Allocations::plan_free))]
 pub fn plan_free<I: IntDomain>(call: Call, row: &[Cell<I>]) -> Plan<I>
-    ensures { result ≡ plan_free I.lattice I.numbers call.entry row.now }
+    ensures { result ≡ plan_free I.lattice I.numbers (call_view call.entry) row.now }
 {
     free_of(released(call, row))
 }

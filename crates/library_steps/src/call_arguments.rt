@@ -2,6 +2,7 @@
 ghost use Rattle.std.specs.Prelude.{◌≡◌};
 ghost use Rattle.value_domain.specs.Values.{value_lattice};
 ghost use Rattle.store_domain.specs.NearValues.{near_value};
+ghost use Rattle.library_steps.specs.Calls.{call_view};
 ghost use Rattle.library_steps.specs.Arguments.{argument_value, string_violations, room_violations, literal_violations};
 ghost use Rattle.cc_base.specs.IntegerDomains.{IsNear};
 ghost use Rattle.pointer_domain.specs.PointerTables.{IsNearPointer};
@@ -35,7 +36,7 @@ fn no_argument<I: IntDomain>() -> Value<I>
 pub fn argument_value<I: IntDomain>(call: Call, row: &[Cell<I>], at: usize) -> Value<I>
     ensures number { IsNear (I.numbers.bounds result.num) }
     ensures pointer { IsNearPointer I.numbers result.pointer }
-    ensures value { result ≡ argument_value I.lattice I.numbers call.entry row.now at }
+    ensures value { result ≡ argument_value I.lattice I.numbers (call_view call.entry) row.now at }
 {
     match call.arguments.get(at) {
         Some(temp) => temp_value(call.flow, row, *temp),

@@ -1,6 +1,7 @@
 //! `memcpy`, `memmove` and `memset`.
 ghost use Rattle.std.specs.Prelude.{◌≡◌};
 ghost use Rattle.access_checks.specs.LibraryArguments.{cut_by_room};
+ghost use Rattle.library_steps.specs.Calls.{call_view};
 ghost use Rattle.library_steps.specs.MemoryCalls.{room_trail, target_of, plan_copy, sure_window, is_zero_byte, least_of, fill_effect, fill_in_window, fill_to, fill_given, plan_fill, copy_in_window, copy_to, both_given, copy_both};
 ghost use Rattle.pointer_domain.specs.PointerTables.{IsNearPointer};
 
@@ -50,7 +51,7 @@ pub fn check_literals<I: IntDomain>(
     need: Option<(i128, i128)>,
 ) -> Target<I>
     ensures near { IsNearPointer I.numbers result.rest }
-    ensures value { result ≡ target_of I.lattice I.numbers call.entry trail p need }
+    ensures value { result ≡ target_of I.lattice I.numbers (call_view call.entry) trail p need }
 {
     let bases = call.flow.bases.as_slice();
     let kept = after_write(bases, p.bases, need);
@@ -71,7 +72,7 @@ fn copy_in_window<I: IntDomain>(
     window: Option<Window>,
 ) -> Effect<I>
     requires { IsNearPointer I.numbers from.rest }
-    ensures { result ≡ copy_in_window I.lattice I.numbers call.entry row.now from target window }
+    ensures { result ≡ copy_in_window I.lattice I.numbers (call_view call.entry) row.now from target window }
 {
     let result = Value::of_pointer(target.rest);
     match window {
@@ -98,7 +99,7 @@ fn copy_to<I: IntDomain>(
 ) -> Plan<I>
     requires from { IsNearPointer I.numbers from.rest }
     requires target { IsNearPointer I.numbers target.rest }
-    ensures { result ≡ copy_to I.lattice I.numbers call.entry row.now from target }
+    ensures { result ≡ copy_to I.lattice I.numbers (call_view call.entry) row.now from target }
 {
     let window = touched_window(target.rest, target.count);
     planned(
@@ -124,7 +125,7 @@ fn copy_both<I: IntDomain>(
 ) -> Plan<I>
     requires to { IsNearPointer I.numbers to.rest }
     requires from { IsNearPointer I.numbers from.rest }
-    ensures { result ≡ copy_both I.lattice I.numbers call.entry row.now n to from }
+    ensures { result ≡ copy_both I.lattice I.numbers (call_view call.entry) row.now n to from }
 {
     let trail = both_given(n, to, from);
     let (trail, count) = check_room(trail, to.rest, n.num.bounds());
@@ -134,7 +135,7 @@ fn copy_both<I: IntDomain>(
 
 /// The plan of `memcpy` and `memmove`.
 pub fn plan_copy<I: IntDomain>(call: Call, row: &[Cell<I>]) -> Plan<I>
-    ensures { result ≡ plan_copy I.lattice I.numbers call.entry row.now }
+    ensures { result ≡ plan_copy I.lattice I.numbers (call_view call.entry) row.now }
 {
     let n = argument_value(call, row, 2);
     let to = argument_at(call, row, 0);
@@ -184,7 +185,7 @@ fn fill_effect<I: IntDomain>(
     start: Window,
 ) -> Effect<I>
     requires { IsNearPointer I.numbers target.rest }
-    ensures { result ≡ fill_effect I.lattice I.numbers call.entry target c window start }
+    ensures { result ≡ fill_effect I.lattice I.numbers (call_view call.entry) target c window start }
 {
     Effect::Fill(
         FillWrite {
@@ -208,7 +209,7 @@ fn fill_in_window<I: IntDomain>(
     start: Option<Window>,
 ) -> Effect<I>
     requires { IsNearPointer I.numbers target.rest }
-    ensures { result ≡ fill_in_window I.lattice I.numbers call.entry target c window start }
+    ensures { result ≡ fill_in_window I.lattice I.numbers (call_view call.entry) target c window start }
 {
     match (window, start) {
         (Some(w), Some(start)) => fill_effect(call, target, c, w, start),
@@ -218,7 +219,7 @@ fn fill_in_window<I: IntDomain>(
 
 fn fill_to<I: IntDomain>(call: Call, c: Value<I>, target: Target<I>) -> Plan<I>
     requires { IsNearPointer I.numbers target.rest }
-    ensures { result ≡ fill_to I.lattice I.numbers call.entry c target }
+    ensures { result ≡ fill_to I.lattice I.numbers (call_view call.entry) c target }
 {
     let window = touched_window(target.rest, target.count);
     let start = window_within(target.rest.offsets());
@@ -227,7 +228,7 @@ fn fill_to<I: IntDomain>(call: Call, c: Value<I>, target: Target<I>) -> Plan<I>
 
 fn fill_given<I: IntDomain>(call: Call, c: Value<I>, n: Value<I>, to: Argument<I>) -> Plan<I>
     requires { IsNearPointer I.numbers to.rest }
-    ensures { result ≡ fill_given I.lattice I.numbers call.entry c n to }
+    ensures { result ≡ fill_given I.lattice I.numbers (call_view call.entry) c n to }
 {
     let trail = given_trail(Trail::start(sink_violations(n.labels)), to);
     let (trail, count) = check_room(trail, to.rest, n.num.bounds());
@@ -237,7 +238,7 @@ fn fill_given<I: IntDomain>(call: Call, c: Value<I>, n: Value<I>, to: Argument<I
 /// The plan of `memset`.
 #[tactic(auto, unfolding(crate::specs::MemoryCalls::plan_fill))]
 pub fn plan_fill<I: IntDomain>(call: Call, row: &[Cell<I>]) -> Plan<I>
-    ensures { result ≡ plan_fill I.lattice I.numbers call.entry row.now }
+    ensures { result ≡ plan_fill I.lattice I.numbers (call_view call.entry) row.now }
 {
     let c = argument_value(call, row, 1);
     let n = argument_value(call, row, 2);

@@ -1,5 +1,6 @@
 //! Input, output and the end of the run (7.21 and 7.22.4 of ISO/IEC 9899:2011).
 ghost use Rattle.std.specs.Prelude.{◌≡◌};
+ghost use Rattle.library_steps.specs.Calls.{call_view};
 ghost use Rattle.library_steps.specs.Outputs.{plan_getchar, plan_putchar, pointer_trail, scan_trail, plan_puts, is_pointer, pointer_trail_if, scan_trail_if, pointer_trails, scan_trails, plan_printf, plan_strlen, plan_strcmp, argument_at, scan_at, given_trail, scanned_trail, length_of, strlen_of};
 ghost use Rattle.pointer_domain.specs.PointerTables.{IsNearPointer};
 ghost use Rattle.cc_base.specs.IntegerDomains.{IsNear};
@@ -36,7 +37,7 @@ pub fn plan_putchar<I: IntDomain>(model: &Model, c: Value<I>) -> Plan<I>
 /// An argument that is a pointer, and what of it goes on.
 pub fn argument_at<I: IntDomain>(call: Call, row: &[Cell<I>], at: usize) -> Argument<I>
     ensures near { IsNearPointer I.numbers result.rest }
-    ensures value { result ≡ argument_at I.lattice I.numbers call.entry row.now at }
+    ensures value { result ≡ argument_at I.lattice I.numbers (call_view call.entry) row.now at }
 {
     let bases = call.flow.bases.as_slice();
     check_argument(bases, row, argument_value(call, row, at).pointer)
@@ -46,7 +47,7 @@ pub fn argument_at<I: IntDomain>(call: Call, row: &[Cell<I>], at: usize) -> Argu
 pub fn scan_at<I: IntDomain>(call: Call, row: &[Cell<I>], given: Argument<I>) -> Scanned<I>
     requires { IsNearPointer I.numbers given.rest }
     ensures near { IsNear (I.numbers.bounds result.length) }
-    ensures value { result ≡ scan_at I.lattice I.numbers call.entry row.now given }
+    ensures value { result ≡ scan_at I.lattice I.numbers (call_view call.entry) row.now given }
 {
     scan(call.flow.bases.as_slice(), row, given.rest)
 }
@@ -66,13 +67,13 @@ pub fn scanned_trail<I: IntDomain>(trail: Trail, found: Scanned<I>) -> Trail
 }
 
 fn pointer_trail<I: IntDomain>(call: Call, row: &[Cell<I>], at: usize, trail: Trail) -> Trail
-    ensures { result ≡ pointer_trail I.lattice I.numbers call.entry row.now at trail }
+    ensures { result ≡ pointer_trail I.lattice I.numbers (call_view call.entry) row.now at trail }
 {
     given_trail(trail, argument_at(call, row, at))
 }
 
 fn scan_trail<I: IntDomain>(call: Call, row: &[Cell<I>], at: usize, trail: Trail) -> Trail
-    ensures { result ≡ scan_trail I.lattice I.numbers call.entry row.now at trail }
+    ensures { result ≡ scan_trail I.lattice I.numbers (call_view call.entry) row.now at trail }
 {
     let given = argument_at(call, row, at);
     scanned_trail(trail, scan_at(call, row, given))
@@ -81,7 +82,7 @@ fn scan_trail<I: IntDomain>(call: Call, row: &[Cell<I>], at: usize, trail: Trail
 /// `puts`.
 #[tactic(auto, unfolding(crate::specs::Outputs::plan_puts))]
 pub fn plan_puts<I: IntDomain>(call: Call, row: &[Cell<I>]) -> Plan<I>
-    ensures { result ≡ plan_puts I.lattice I.numbers call.entry row.now }
+    ensures { result ≡ plan_puts I.lattice I.numbers (call_view call.entry) row.now }
 {
     let trail = pointer_trail(call, row, 0, Trail::start(Violations::none()));
     let trail = scan_trail(call, row, 0, trail);
@@ -93,7 +94,7 @@ pub fn plan_puts<I: IntDomain>(call: Call, row: &[Cell<I>]) -> Plan<I>
 
 /// Whether the argument is a pointer: an integer has a number.
 fn is_pointer<I: IntDomain>(call: Call, row: &[Cell<I>], at: usize) -> bool
-    ensures { result ≡ is_pointer I.lattice I.numbers call.entry row.now at }
+    ensures { result ≡ is_pointer I.lattice I.numbers (call_view call.entry) row.now at }
 {
     argument_value(call, row, at).num.bounds().is_none()
 }
@@ -101,7 +102,7 @@ fn is_pointer<I: IntDomain>(call: Call, row: &[Cell<I>], at: usize) -> bool
 /// The trail behind the checks of the arguments that are pointers, behind a format.
 #[tactic(auto, using(crate::proofs::Trails::pointer_trails_next))]
 fn pointer_trails<I: IntDomain>(call: Call, row: &[Cell<I>], count: usize, trail: Trail) -> Trail
-    ensures { result ≡ pointer_trails I.lattice I.numbers call.entry row.now count trail }
+    ensures { result ≡ pointer_trails I.lattice I.numbers (call_view call.entry) row.now count trail }
 {
     let mut checked = trail;
     for at in 0..count {
@@ -111,7 +112,7 @@ fn pointer_trails<I: IntDomain>(call: Call, row: &[Cell<I>], count: usize, trail
 }
 
 fn pointer_trail_if<I: IntDomain>(call: Call, row: &[Cell<I>], at: usize, trail: Trail) -> Trail
-    ensures { result ≡ pointer_trail_if I.lattice I.numbers call.entry row.now at trail }
+    ensures { result ≡ pointer_trail_if I.lattice I.numbers (call_view call.entry) row.now at trail }
 {
     if is_pointer(call, row, at) {
         pointer_trail(call, row, at, trail)
@@ -123,7 +124,7 @@ fn pointer_trail_if<I: IntDomain>(call: Call, row: &[Cell<I>], at: usize, trail:
 /// The trail behind the scans of the arguments that are pointers, behind a format.
 #[tactic(auto, using(crate::proofs::Trails::scan_trails_next))]
 fn scan_trails<I: IntDomain>(call: Call, row: &[Cell<I>], count: usize, trail: Trail) -> Trail
-    ensures { result ≡ scan_trails I.lattice I.numbers call.entry row.now count trail }
+    ensures { result ≡ scan_trails I.lattice I.numbers (call_view call.entry) row.now count trail }
 {
     let mut checked = trail;
     for at in 0..count {
@@ -133,7 +134,7 @@ fn scan_trails<I: IntDomain>(call: Call, row: &[Cell<I>], count: usize, trail: T
 }
 
 fn scan_trail_if<I: IntDomain>(call: Call, row: &[Cell<I>], at: usize, trail: Trail) -> Trail
-    ensures { result ≡ scan_trail_if I.lattice I.numbers call.entry row.now at trail }
+    ensures { result ≡ scan_trail_if I.lattice I.numbers (call_view call.entry) row.now at trail }
 {
     if is_pointer(call, row, at) {
         scan_trail(call, row, at, trail)
@@ -145,7 +146,7 @@ fn scan_trail_if<I: IntDomain>(call: Call, row: &[Cell<I>], at: usize, trail: Tr
 /// `printf`: its format is a literal; each argument that is a pointer is a string.
 #[tactic(auto, unfolding(crate::specs::Outputs::plan_printf))]
 pub fn plan_printf<I: IntDomain>(call: Call, row: &[Cell<I>]) -> Plan<I>
-    ensures { result ≡ plan_printf I.lattice I.numbers call.entry row.now }
+    ensures { result ≡ plan_printf I.lattice I.numbers (call_view call.entry) row.now }
 {
     let count = call.arguments.len().saturating_sub(1);
     let trail = pointer_trails(call, row, count, Trail::start(Violations::none()));
@@ -180,7 +181,7 @@ fn strlen_of<I: IntDomain>(given: Argument<I>, found: Scanned<I>, length: I) -> 
 /// `strlen`: the length, in the range of size_t, without labels.
 #[tactic(auto, unfolding(crate::specs::Outputs::plan_strlen))]
 pub fn plan_strlen<I: IntDomain>(call: Call, row: &[Cell<I>]) -> Plan<I>
-    ensures { result ≡ plan_strlen I.lattice I.numbers call.entry row.now }
+    ensures { result ≡ plan_strlen I.lattice I.numbers (call_view call.entry) row.now }
 {
     let given = argument_at(call, row, 0);
     let found = scan_at(call, row, given);
@@ -190,7 +191,7 @@ pub fn plan_strlen<I: IntDomain>(call: Call, row: &[Cell<I>]) -> Plan<I>
 /// `strcmp`: -1, 0 or 1.
 #[tactic(auto, unfolding(crate::specs::Outputs::plan_strcmp))]
 pub fn plan_strcmp<I: IntDomain>(call: Call, row: &[Cell<I>]) -> Plan<I>
-    ensures { result ≡ plan_strcmp I.lattice I.numbers call.entry row.now }
+    ensures { result ≡ plan_strcmp I.lattice I.numbers (call_view call.entry) row.now }
 {
     let bases = call.flow.bases.as_slice();
     let left = check_argument(bases, row, argument_value(call, row, 0).pointer);

@@ -1,6 +1,7 @@
 //! The plan of each library function.
 ghost use Rattle.std.specs.Prelude.{◌≡◌};
 ghost use Rattle.library_steps.specs.Planning.{plan_call, plan_test};
+ghost use Rattle.library_steps.specs.Calls.{call_view};
 ghost use Rattle.library_steps.specs.StringCalls.{plan_fgets};
 
 use crate::allocation_calls::{plan_calloc, plan_free, plan_malloc, plan_realloc};
@@ -18,7 +19,7 @@ use value_domain::Cell;
 
 /// The plan of a call that tests or maps a character.
 fn plan_test<I: IntDomain>(function: LibFn, call: Call, row: &[Cell<I>]) -> Plan<I>
-    ensures { result ≡ plan_test I.lattice I.numbers function call.entry row.now }
+    ensures { result ≡ plan_test I.lattice I.numbers function (call_view call.entry) row.now }
 {
     plan_character(function, argument_value(call, row, 0))
 }
@@ -27,7 +28,7 @@ fn plan_test<I: IntDomain>(function: LibFn, call: Call, row: &[Cell<I>]) -> Plan
 /// block.
 #[tactic(auto, unfolding(crate::specs::Planning::plan_call))]
 pub fn plan_call<I: IntDomain>(function: LibFn, call: Call, row: &[Cell<I>]) -> Plan<I>
-    ensures { result ≡ plan_call I.lattice I.numbers function call.entry row.now }
+    ensures { result ≡ plan_call I.lattice I.numbers function (call_view call.entry) row.now }
 {
     match function {
         LibFn::Malloc => plan_malloc(call, row),
@@ -62,7 +63,7 @@ pub fn plan_call<I: IntDomain>(function: LibFn, call: Call, row: &[Cell<I>]) -> 
 
 /// What a call of `fgets` may violate, and the line that it writes on success.
 pub fn plan_line<I: IntDomain>(call: Call, row: &[Cell<I>]) -> Plan<I>
-    ensures { result ≡ plan_fgets I.lattice I.numbers call.entry row.now }
+    ensures { result ≡ plan_fgets I.lattice I.numbers (call_view call.entry) row.now }
 {
     plan_fgets(call, row)
 }

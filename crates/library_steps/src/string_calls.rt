@@ -1,5 +1,6 @@
 //! `strcpy`, `strncpy`, `strcat` and `fgets`.
 ghost use Rattle.std.specs.Prelude.{◌≡◌, Some};
+ghost use Rattle.library_steps.specs.Calls.{call_view};
 ghost use Rattle.library_steps.specs.StringCalls.{one_more, one_less, text_effect, text_from_start, two_given, source_characters, strcpy_scanned, plan_strcpy, append_start, append_window, append_rule, strcat_to, strcat_place, strcat_scanned, plan_strcat, line_count, line_trail, line_rule, fgets_given, reads_no_string, reads_blank, plan_strncpy, input_characters, plan_fgets};
 ghost use Rattle.pointer_domain.specs.PointerTables.{IsNearPointer};
 ghost use Rattle.cc_base.specs.IntegerDomains.{IsNear};
@@ -47,7 +48,7 @@ fn text_effect<I: IntDomain>(
     characters: Characters<I>,
     zero: ZeroRule<I>,
 ) -> Effect<I>
-    ensures { result ≡ text_effect I.lattice call.entry target start window characters zero }
+    ensures { result ≡ text_effect I.lattice (call_view call.entry) target start window characters zero }
 {
     let result = Value::of_pointer(target.rest);
     match (start, window) {
@@ -73,7 +74,7 @@ fn text_from_start<I: IntDomain>(
     zero: ZeroRule<I>,
 ) -> Plan<I>
     requires target { IsNearPointer I.numbers target.rest }
-    ensures { result ≡ text_from_start I.lattice I.numbers call.entry target characters zero }
+    ensures { result ≡ text_from_start I.lattice I.numbers (call_view call.entry) target characters zero }
 {
     let start = window_within(target.rest.offsets());
     let window = touched_window(target.rest, target.count);
@@ -98,7 +99,7 @@ fn source_characters<I: IntDomain>(
     need: Option<(i128, i128)>,
 ) -> Characters<I>
     requires source { IsNearPointer I.numbers source }
-    ensures { result ≡ source_characters I.lattice I.numbers call.entry row.now source need }
+    ensures { result ≡ source_characters I.lattice I.numbers (call_view call.entry) row.now source need }
 {
     let read = touched_window(source, need);
     let bases = call.flow.bases.as_slice();
@@ -116,7 +117,7 @@ fn strcpy_scanned<I: IntDomain>(
     requires to { IsNearPointer I.numbers to.rest }
     requires from { IsNearPointer I.numbers from.rest }
     requires found { IsNear (I.numbers.bounds found.length) }
-    ensures { result ≡ strcpy_scanned I.lattice I.numbers call.entry row.now to from found }
+    ensures { result ≡ strcpy_scanned I.lattice I.numbers (call_view call.entry) row.now to from found }
 {
     let need = one_more(found.length);
     let trail = scanned_trail(two_given(to, from), found);
@@ -129,7 +130,7 @@ fn strcpy_scanned<I: IntDomain>(
 
 /// The plan of `strcpy`.
 pub fn plan_strcpy<I: IntDomain>(call: Call, row: &[Cell<I>]) -> Plan<I>
-    ensures { result ≡ plan_strcpy I.lattice I.numbers call.entry row.now }
+    ensures { result ≡ plan_strcpy I.lattice I.numbers (call_view call.entry) row.now }
 {
     let to = argument_at(call, row, 0);
     let from = argument_at(call, row, 1);
@@ -185,7 +186,7 @@ fn strcat_to<I: IntDomain>(
     requires from { IsNearPointer I.numbers from.rest }
     requires there { IsNear (I.numbers.bounds there.length) }
     requires target { IsNearPointer I.numbers target.rest }
-    ensures { result ≡ strcat_to I.lattice I.numbers call.entry row.now from there added target }
+    ensures { result ≡ strcat_to I.lattice I.numbers (call_view call.entry) row.now from there added target }
 {
     let start = window_within(append_start(target.rest, there.length));
     let window = append_window(target.rest, there.length, target.count);
@@ -211,7 +212,7 @@ fn strcat_place<I: IntDomain>(
     requires from { IsNearPointer I.numbers from.rest }
     requires there { IsNear (I.numbers.bounds there.length) }
     requires place { IsNearPointer I.numbers place }
-    ensures { result ≡ strcat_place I.lattice I.numbers call.entry row.now to from there added place }
+    ensures { result ≡ strcat_place I.lattice I.numbers (call_view call.entry) row.now to from there added place }
 {
     let trail = scanned_trail(scanned_trail(two_given(to, from), there), added);
     let need = added_ranges(there.length.bounds(), one_more(added.length));
@@ -232,7 +233,7 @@ fn strcat_scanned<I: IntDomain>(
     requires to { IsNearPointer I.numbers to.rest }
     requires from { IsNearPointer I.numbers from.rest }
     requires there { IsNear (I.numbers.bounds there.length) }
-    ensures { result ≡ strcat_scanned I.lattice I.numbers call.entry row.now to from there added }
+    ensures { result ≡ strcat_scanned I.lattice I.numbers (call_view call.entry) row.now to from there added }
 {
     let place = within_bases(to.rest, there.bases);
     strcat_place(call, row, to, from, there, added, place)
@@ -240,7 +241,7 @@ fn strcat_scanned<I: IntDomain>(
 
 /// The plan of `strcat`.
 pub fn plan_strcat<I: IntDomain>(call: Call, row: &[Cell<I>]) -> Plan<I>
-    ensures { result ≡ plan_strcat I.lattice I.numbers call.entry row.now }
+    ensures { result ≡ plan_strcat I.lattice I.numbers (call_view call.entry) row.now }
 {
     let to = argument_at(call, row, 0);
     let from = argument_at(call, row, 1);
@@ -259,7 +260,7 @@ fn reads_no_string<I: IntDomain>(
     count: Option<(i128, i128)>,
 ) -> bool
     requires { IsNearPointer I.numbers from }
-    ensures { result ≡ reads_no_string I.lattice I.numbers call.entry row.now from unknown count }
+    ensures { result ≡ reads_no_string I.lattice I.numbers (call_view call.entry) row.now from unknown count }
 {
     let blank = match touched_window(from, count) {
         None => false,
@@ -269,7 +270,7 @@ fn reads_no_string<I: IntDomain>(
 }
 
 fn reads_blank<I: IntDomain>(call: Call, row: &[Cell<I>], from: Pointers<I>, window: Window) -> bool
-    ensures { result ≡ reads_blank I.lattice I.numbers call.entry row.now from (Some window) }
+    ensures { result ≡ reads_blank I.lattice I.numbers (call_view call.entry) row.now from (Some window) }
 {
     let bases = call.flow.bases.as_slice();
     match characters_read(&call.flow.model, bases, row, from.bases, window, true) {
@@ -281,7 +282,7 @@ fn reads_blank<I: IntDomain>(call: Call, row: &[Cell<I>], from: Pointers<I>, win
 /// The plan of `strncpy`.
 #[tactic(auto, unfolding(crate::specs::StringCalls::plan_strncpy))]
 pub fn plan_strncpy<I: IntDomain>(call: Call, row: &[Cell<I>]) -> Plan<I>
-    ensures { result ≡ plan_strncpy I.lattice I.numbers call.entry row.now }
+    ensures { result ≡ plan_strncpy I.lattice I.numbers (call_view call.entry) row.now }
 {
     let bases = call.flow.bases.as_slice();
     let n = argument_value(call, row, 2);
@@ -339,7 +340,7 @@ fn line_rule<I: IntDomain>(cut: Option<(i128, i128)>) -> ZeroRule<I>
 /// The plan of `fgets` with its arguments.
 fn fgets_given<I: IntDomain>(call: Call, n: Value<I>, to: Argument<I>) -> Plan<I>
     requires to { IsNearPointer I.numbers to.rest }
-    ensures { result ≡ fgets_given I.lattice I.numbers call.entry n to }
+    ensures { result ≡ fgets_given I.lattice I.numbers (call_view call.entry) n to }
 {
     let (trail, cut) = check_room(line_trail(n, to), to.rest, line_count(n));
     let target = check_literals(call, trail, to.rest, cut);
@@ -349,7 +350,7 @@ fn fgets_given<I: IntDomain>(call: Call, n: Value<I>, to: Argument<I>) -> Plan<I
 
 /// The plan of `fgets` on success: its checks, and then the line that is written.
 pub fn plan_fgets<I: IntDomain>(call: Call, row: &[Cell<I>]) -> Plan<I>
-    ensures { result ≡ plan_fgets I.lattice I.numbers call.entry row.now }
+    ensures { result ≡ plan_fgets I.lattice I.numbers (call_view call.entry) row.now }
 {
     let n = argument_value(call, row, 1);
     let to = argument_at(call, row, 0);

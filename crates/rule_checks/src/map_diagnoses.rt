@@ -1,7 +1,10 @@
 //! The rules that a program may break, over a map of its rows.
-ghost use Rattle.std.specs.Prelude.{◌≡◌, ℕ, Some};
-ghost use Rattle.row_pool.specs.Pool.{IsTaken};
-ghost use Rattle.fixpoint_engine.specs.RowMap.{IsHeld, slot_index};
+ghost use Rattle.std.specs.Prelude.{◌≡◌, ◌++◌, ℕ, Some, true, IfOk, Any, Contains};
+ghost use Rattle.std.specs.List.Sorted.{IsStrictlySortedBy};
+ghost use Rattle.cc_base.specs.declared.diagnostics.Diag.{Diag};
+ghost use Rattle.row_pool.specs.Pool.{row_of, IsTaken};
+ghost use Rattle.fixpoint_engine.specs.RowMap.{IsHeld, slot_index, slot_row, rows_in};
+ghost use Rattle.rule_checks.specs.AdmittedRules.{entry_pairs, map_pairs};
 
 use crate::block_diagnoses::{diagnose_block, sorted_diagnoses};
 use cc_base::{Diag, IntDomain, Memory};
@@ -17,15 +20,12 @@ fn copied<I: IntDomain>(
     row: &Row,
 ) -> Result<Vec<Cell<I>>, AllocError>
     requires { IsTaken pool.now row.now.index }
+    ensures { IfOk result (λ copy. copy.items ≡ row_of pool.now row.now.index) }
 {
-    let cells = pool.row(row);
-    let mut out = Vec::new(alloc);
-    for at in 0..cells.len() {
-        out.push(cells[at])?;
-    }
-    Ok(out)
+    Vec::from_slice(alloc, pool.row(row))
 }
 
+/// Adds what the instructions of a block may break from the row that it has by the map.
 fn diagnose_entry<I: IntDomain>(
     alloc: Global,
     out: &mut Vec<Diag>,
@@ -35,6 +35,7 @@ fn diagnose_entry<I: IntDomain>(
     block: u32,
 ) -> Result<(), AllocError>
     requires { (s : ℕ) → slot_index slot.now ≡ Some s → IsTaken pool.now s }
+    ensures { IfOk result (λ _. out.new.items ≡ out.old.items ++ entry_pairs I.lattice I.numbers flow.now block (slot_row pool.now slot.now)) }
 {
     match slot {
         None => Ok(()),
@@ -45,8 +46,31 @@ fn diagnose_entry<I: IntDomain>(
     }
 }
 
+/// The pairs of place and rule that the map admits, block by block.
+#[tactic(auto, unfolding(crate::specs::AdmittedRules::map_pairs))]
+fn diagnose_map<I: IntDomain>(
+    alloc: Global,
+    flow: &Flow,
+    pool: &RowPool<Cell<I>>,
+    map: &[Option<Row>],
+) -> Result<Vec<Diag>, AllocError>
+    requires { IsHeld pool.now map.now }
+    ensures { IfOk result (λ found. found.items ≡ map_pairs I.lattice I.numbers flow.now (rows_in pool.now map.now)) }
+{
+    let mut out = Vec::new(alloc);
+    for block in 0..map.len() {
+        let number = u32::try_from(block).ok().ok_or(AllocError)?;
+        diagnose_entry(alloc, &mut out, flow, pool, &map[block], number)?;
+    }
+    Ok(out)
+}
+
 /// The pairs of place and rule that some instruction of a reached block may break, in the row that it
-/// has by the map: in order of places and then of rules, each once. `Memory` where memory is short.
+/// has by the map: in order of places and then of rules, each once.
+///
+/// # Errors
+///
+/// Want of memory.
 pub fn diagnose<I: IntDomain>(
     alloc: Global,
     flow: &Flow,
@@ -54,11 +78,9 @@ pub fn diagnose<I: IntDomain>(
     map: &[Option<Row>],
 ) -> Result<Vec<Diag>, Memory>
     requires { IsHeld pool.now map.now }
+    ensures ascending { IfOk result (λ found. IsStrictlySortedBy ⟦<Diag as Ord>⟧.cmp found.items) }
+    ensures kept { IfOk result (λ found. (d : Diag) → Contains (map_pairs I.lattice I.numbers flow.now (rows_in pool.now map.now)) d → Any (λ e. ⟦<Diag as PartialEq>⟧.eq d e ≡ true) found.items) }
+    ensures made { IfOk result (λ found. (d : Diag) → Contains found.items d → Contains (map_pairs I.lattice I.numbers flow.now (rows_in pool.now map.now)) d) }
 {
-    let mut out = Vec::new(alloc);
-    for block in 0..map.len() {
-        let number = u32::try_from(block).ok().ok_or(AllocError)?;
-        diagnose_entry(alloc, &mut out, flow, pool, &map[block], number)?;
-    }
-    Ok(sorted_diagnoses(out))
+    Ok(sorted_diagnoses(diagnose_map(alloc, flow, pool, map)?))
 }

@@ -1,4 +1,5 @@
 use Rattle.std.proofs.Common.{◌∙◌, ap}
+use Rattle.library_steps.specs.Calls.{call_view}
 use Rattle.library_steps.specs.Arguments.{argument_value}
 use Rattle.library_steps.specs.StringCalls.{fgets_given, plan_fgets}
 use Rattle.library_steps.proofs.string_calls.plan_fgets.Goals as goal
@@ -7,5 +8,5 @@ pub returns : goal.returns
 unfolding plan_fgets
 returns g c =
     c.fgets_given.ensures
-    ∙ ap (λ v. fgets_given g.I.Lattice.lattice g.I.IntDomain.numbers c.args.call v c.argument_at-to.result) c.argument_value-n.ensures.value
-    ∙ ap (λ to. fgets_given g.I.Lattice.lattice g.I.IntDomain.numbers c.args.call (argument_value g.I.Lattice.lattice g.I.IntDomain.numbers c.args.call c.args.row.now 1) to) c.argument_at-to.ensures.value
+    ∙ ap (λ v. fgets_given g.I.Lattice.lattice g.I.IntDomain.numbers (call_view c.args.call) v c.argument_at-to.result) c.argument_value-n.ensures.value
+    ∙ ap (λ to. fgets_given g.I.Lattice.lattice g.I.IntDomain.numbers (call_view c.args.call) (argument_value g.I.Lattice.lattice g.I.IntDomain.numbers (call_view c.args.call) c.args.row.now 1) to) c.argument_at-to.ensures.value

@@ -1,13 +1,17 @@
 //! Scalars of instructions, by class.
 ghost use Rattle.std.specs.Prelude.{◌≡◌, true};
 ghost use Rattle.cc_base.specs.IntegerTypes.{is_size};
+ghost use Rattle.value_steps.specs.Scalars.{class_of_kind, class_of, minds_blank};
 
 use c_layout::Class;
 use cc_base::IntType;
 use flow_program::Scalar;
+use store_domain::same_class;
 
 /// The class of an integer type.
-pub fn class_of_kind(kind: IntType) -> Class {
+pub fn class_of_kind(kind: IntType) -> Class
+    ensures { result ≡ class_of_kind kind }
+{
     match kind.rank {
         1 => Class::Char,
         2 => Class::Short,
@@ -18,7 +22,9 @@ pub fn class_of_kind(kind: IntType) -> Class {
 }
 
 /// The class of a scalar, and whether it is signed. Pointers are not.
-pub fn class_of(scalar: Scalar) -> (Class, bool) {
+pub fn class_of(scalar: Scalar) -> (Class, bool)
+    ensures { result ≡ class_of scalar }
+{
     match scalar {
         Scalar::Int(kind) => (class_of_kind(kind), kind.signed),
         Scalar::Pointer => (Class::Pointer, false),
@@ -35,8 +41,10 @@ pub fn is_sized(kind: IntType) -> bool
     }
 }
 
-/// Whether a load of the scalar may read an indeterminate byte: of unsigned char it stops there and
-/// violates nothing.
-pub fn minds_blank(class: Class, signed: bool) -> bool {
-    class != Class::Char || signed
+/// Whether a load of the scalar may not read an indeterminate byte: of unsigned char it stops there
+/// and violates nothing.
+pub fn minds_blank(class: Class, signed: bool) -> bool
+    ensures { result ≡ minds_blank class signed }
+{
+    !same_class(class, Class::Char) || signed
 }

@@ -1,0 +1,4 @@
+pub mod Scalars
+pub mod ResultTemps
+pub mod IntegerSteps
+pub mod PointerSteps
