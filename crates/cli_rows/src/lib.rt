@@ -14,6 +14,8 @@ mod division_rows;
 #[cfg(test)]
 mod heap_rows;
 #[cfg(test)]
+mod literal_rows;
+#[cfg(test)]
 mod load_rows;
 #[cfg(test)]
 mod preprocessing_rows;
@@ -29,3 +31,5 @@ mod string_rows;
 mod taint_rows;
 #[cfg(test)]
 mod text_rule_rows;
+#[cfg(test)]
+mod typing_rows;

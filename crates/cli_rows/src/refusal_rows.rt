@@ -57,3 +57,23 @@ fn refusal_more(rt: HostRuntime) -> Result<(), Fail> {
     assert!(rt; holds);
     Ok(())
 }
+
+#[test]
+fn numbers_in_conditions(rt: HostRuntime) -> Result<(), Fail> {
+    let alloc = rt.alloc();
+    let holds = checks(
+        alloc,
+        "#if 1.0\n#endif\nint main(void){return 0;}",
+        2,
+        "a.c:1:5: refused: NumberForm\n",
+    )?;
+    assert!(rt; holds);
+    let holds = checks(
+        alloc,
+        "#if ) 09\n#endif\nint main(void){return 0;}",
+        2,
+        "a.c:1:7: refused: NumberForm\n",
+    )?;
+    assert!(rt; holds);
+    Ok(())
+}

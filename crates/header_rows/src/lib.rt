@@ -1,5 +1,7 @@
-//! Rows of the built-in headers, as tests.
+//! Rows of the built-in headers and of the data models with names, as tests.
 #![tactic(auto)]
 
 #[cfg(test)]
 mod header_texts;
+#[cfg(test)]
+mod model_rows;

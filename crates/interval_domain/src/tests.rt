@@ -524,10 +524,100 @@ fn all_right(op: IntOp, numbers: &[i128], signed: bool) -> bool {
     right
 }
 
+/// The least bounds of two numbers or more, one after the other.
+fn with_number(least: Option<(i128, i128)>, n: Option<i128>) -> Option<(i128, i128)> {
+    match (least, n) {
+        (None, Some(m)) => Some((m, m)),
+        (Some(p), Some(m)) => Some((p.0.min(m), p.1.max(m))),
+        (p, None) => p,
+    }
+}
+
+/// What C gives on one number of a char.
+fn unary_in_char(op: UnOp, a: i128, signed: bool) -> Option<i128> {
+    let exact = match op {
+        UnOp::Neg => a.wrapping_neg(),
+        UnOp::Compl => a.wrapping_neg().wrapping_sub(1),
+    };
+    Some(if signed { exact } else { exact.rem_euclid(256) })
+}
+
+/// Whether the operators on one interval of chars, and its conversion, give the least bounds.
+fn is_right_alone(s: (i128, i128), signed: bool) -> bool {
+    let mut turned: Option<(i128, i128)> = None;
+    let mut flipped: Option<(i128, i128)> = None;
+    let mut converted: Option<(i128, i128)> = None;
+    for a in s.0..s.1.saturating_add(1) {
+        turned = with_number(turned, unary_in_char(UnOp::Neg, a, signed));
+        flipped = with_number(flipped, unary_in_char(UnOp::Compl, a, signed));
+        converted = with_number(converted, Some(a.rem_euclid(256)));
+    }
+    let x = given(s.0, s.1);
+    x.unary(UnOp::Neg, kind(1, signed)).bounds() == turned
+        && x.unary(UnOp::Compl, kind(1, signed)).bounds() == flipped
+        && x.convert(kind(1, false)).bounds() == converted
+}
+
+const RELATIONS: [Rel; 6] = [Rel::Lt, Rel::Le, Rel::Gt, Rel::Ge, Rel::Eq, Rel::Ne];
+
+fn holds(rel: Rel, a: i128, b: i128) -> bool {
+    match rel {
+        Rel::Lt => a < b,
+        Rel::Le => a <= b,
+        Rel::Gt => a > b,
+        Rel::Ge => a >= b,
+        Rel::Eq => a == b,
+        Rel::Ne => a != b,
+    }
+}
+
+/// Whether a relation of two intervals is told as their numbers have it, and leaves the least bounds.
+fn is_right_relation(rel: Rel, s: (i128, i128), t: (i128, i128)) -> bool {
+    let mut left: Option<(i128, i128)> = None;
+    let mut can_fail = false;
+    for a in s.0..s.1.saturating_add(1) {
+        for b in t.0..t.1.saturating_add(1) {
+            can_fail |= !holds(rel, a, b);
+            left = with_number(left, if holds(rel, a, b) { Some(a) } else { None });
+        }
+    }
+    let told = given(s.0, s.1).compare(rel, given(t.0, t.1));
+    told.can_hold() == left.is_some()
+        && told.can_fail() == can_fail
+        && given(s.0, s.1).refine(rel, given(t.0, t.1)).bounds() == left
+}
+
+fn all_relations_right(s: (i128, i128), t: (i128, i128)) -> bool {
+    let mut right = true;
+    for rel in RELATIONS {
+        right &= is_right_relation(rel, s, t);
+    }
+    right
+}
+
+fn all_right_beside_operators(numbers: &[i128], signed: bool) -> bool {
+    let mut right = true;
+    for (i, a) in numbers.iter().enumerate() {
+        for b in &numbers[i..] {
+            right &= is_right_alone((*a, *b), signed);
+            for (j, c) in numbers.iter().enumerate() {
+                for d in &numbers[j..] {
+                    right &= all_relations_right((*a, *b), (*c, *d));
+                }
+            }
+        }
+    }
+    right
+}
+
 #[test]
 fn small_intervals(rt: HostRuntime) {
+    let around_zero = [-4, -3, -2, -1, 0, 1, 2, 3, 4];
+    let from_zero = [0, 1, 2, 3, 4, 5, 6, 7];
     for op in OPERATORS {
-        assert!(rt; all_right(op, [-4, -3, -2, -1, 0, 1, 2, 3, 4].as_slice(), true));
-        assert!(rt; all_right(op, [0, 1, 2, 3, 4, 5, 6, 7].as_slice(), false));
+        assert!(rt; all_right(op, around_zero.as_slice(), true));
+        assert!(rt; all_right(op, from_zero.as_slice(), false));
     }
+    assert!(rt; all_right_beside_operators(around_zero.as_slice(), true));
+    assert!(rt; all_right_beside_operators(from_zero.as_slice(), false));
 }

@@ -3,7 +3,8 @@ use Rattle.std.proofs.Common.{ℕ, refl}
 use Rattle.c_preproc.specs.Causes.{Seen}
 use Rattle.command_words.specs.Requests.{Asked}
 use Rattle.report_texts.specs.Reports.{Bytes}
-use Rattle.report_cli.specs.Verdicts.{Tells, Order, IsVerdict}
+use Rattle.report_cli.specs.Verdicts.{Tells, IsVerdict}
+use Rattle.report_cli.specs.Judging.{Order}
 use Rattle.report_cli.specs.Outcomes.{Took, PutOnce, PutFailed, told, write_fault, Answers}
 
 pub told_answers : (order : Order) (seen : Seen) (asked : Asked) (sink : Took) (status : ℕ) (text : Bytes) → Tells (IsVerdict order seen asked) status text → PutOnce sink text → Answers order seen asked sink status

@@ -1,3 +1,5 @@
+pub mod Stages
+pub mod Judging
 pub mod Verdicts
 pub mod Answering
 pub mod Outcomes

@@ -4,7 +4,8 @@ use Rattle.cc_base.specs.Outside.{Rose, Appends, AppendsPrefix, next_count}
 use Rattle.c_preproc.specs.Causes.{Seen}
 use Rattle.command_words.specs.Requests.{Asked}
 use Rattle.report_texts.specs.Reports.{Bytes}
-use Rattle.report_cli.specs.Verdicts.{Tells, Order, IsVerdict}
+use Rattle.report_cli.specs.Judging.{Order}
+use Rattle.report_cli.specs.Verdicts.{Tells, IsVerdict}
 
 -- the sink before and after the call
 pub record Took : Type 0 where

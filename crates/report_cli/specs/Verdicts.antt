@@ -1,7 +1,5 @@
 -- What words and files call for, and what the program tells then.
-use Rattle.std.specs.Prelude.{◌≡◌, ◌≤◌, ◌<◌, ◌⊎◌, ℕ, List, [], ◌∷◌, length, All, Option, Some, None, Result, Ok, Err, codes, slice_get, unwrap_or, IsUtf8}
-use Rattle.std.specs.List.Sorted.{IsStrictlySortedBy}
-use Rattle.std.specs.declared.cmp.Ordering.{Ordering}
+use Rattle.std.specs.Prelude.{◌≡◌, ◌≤◌, ◌⊎◌, ℕ, true, List, [], ◌∷◌, length, Option, Some, None, Result, Ok, Err, codes, slice_get, unwrap_or, IsUtf8}
 use Rattle.toml.specs.Parse.{parse_document}
 use Rattle.cc_base.specs.Outside.{Files, Holds, HoldsTooLong, Lacks, Rose, RoseBeyond}
 use Rattle.cc_base.specs.declared.diagnostics.Diag.{Diag}
@@ -13,12 +11,18 @@ use Rattle.c_layout.specs.declared.model_file.Key.{Key}
 use Rattle.c_layout.specs.declared.model_file.Key.TheVariants as key
 use Rattle.c_layout.specs.declared.model_file.ModelFault.{ModelFault}
 use Rattle.c_layout.specs.declared.model_file.ModelFault.TheVariants as fault
+use Rattle.c_layout.specs.declared.unit_tokens.Unit7.{Unit7}
+use Rattle.c_preproc.specs.Names.{is_distinct}
 use Rattle.c_preproc.specs.Causes.{Seen, IsCausedBy}
 use Rattle.command_words.specs.declared.commands.Format.{Format}
 use Rattle.command_words.specs.declared.commands.Format.TheVariants as format
 use Rattle.command_words.specs.Requests.{Asked, CommandView}
 use Rattle.command_words.specs.Requests as asked
 use Rattle.report_texts.specs.Reports.{Bytes, report_of}
+use Rattle.report_cli.specs.Stages.{stage_of}
+use Rattle.report_cli.specs.Judging.{Order, IsSetOf, in_files, IsJudged, RefusesUnit}
+use Rattle.report_cli.specs.declared.stages.Stage.{Stage}
+use Rattle.report_cli.specs.declared.stages.Stage.TheVariants as stage
 use Rattle.report_texts.specs.JsonReports.{json_of}
 use Rattle.report_texts.specs.Summaries.{summary_of}
 use Rattle.report_texts.specs.Refusals.{refusal_line, refusal_status}
@@ -124,32 +128,51 @@ RefusesModel seen model _ = ⊥
 abbrev pub file_name : List Bytes → Bytes → ℕ → Bytes
 file_name names unit file = unwrap_or (slice_get names file) unit
 
--- the order of diagnostics
-abbrev pub Order : Type 0
-Order = Diag → Diag → Ordering
+-- the tokens that an expansion gave, and the names of its files
+pub record IsExpanded (names : List Bytes) (expanded : Unit7) : Type 0 where
+  pub distinct : is_distinct names ≡ true
+  pub few : length expanded.tokens ≤ 131072
 
--- diagnostics of files of the list, in order and each once
-pub record IsReport (order : Order) (names : List Bytes) (diags : List Diag) : Type 0 where
-  pub ascending : IsStrictlySortedBy order diags
-  pub placed : All (λ d. d.place.file < length names) diags
+-- the diagnostics of an accepted unit: what was found in files of the list, in order and each once
+pub record IsReport (order : Order) (m : Model) (names : List Bytes) (diags : List Diag) : Type 0 where
+  pub expanded : Unit7
+  pub is_expanded : IsExpanded names expanded
+  pub pairs : List Diag
+  pub judged : IsJudged order expanded m pairs
+  pub listed : IsSetOf order (in_files (length names) pairs) diags
+
+-- a refusal of a later stage than the expansion is that of a unit that was expanded
+pub record IsLaterRefusal (m : Model) (names : List Bytes) (why : Fault) : Type 0 where
+  pub expanded : Unit7
+  pub is_expanded : IsExpanded names expanded
+  pub refuses : RefusesUnit expanded m why
+
+-- where a refusal comes from, by its stage; a number may be refused in a condition of a directive too
+abbrev pub IsStaged : Model → List Bytes → Fault → Stage → Type 0
+IsStaged m names why stage.Expansion = Unit {0}
+IsStaged m names why stage.Numbers = Unit {0}
+IsStaged m names why stage.Grammar = IsLaterRefusal m names why
+IsStaged m names why stage.Typing = IsLaterRefusal m names why
+IsStaged m names why stage.Counting = IsLaterRefusal m names why
 
 -- the unit is refused in a file, by the cause of that refusal
 pub record IsRefusal (seen : Seen) (dirs : List Bytes) (m : Model) (unit file : Bytes) (why : Fault) : Type 0 where
   pub names : List Bytes
   pub named : file ≡ file_name names unit why.place.file
   pub cause : IsCausedBy seen dirs m names why why.refusal
+  pub staged : IsStaged m names why (stage_of why.refusal)
 
 -- what `check` tells of a unit under a model
 abbrev pub AnswersUnit : Order → Seen → CommandView → Model → Verdict → Type 0
 AnswersUnit order seen c m (absent name) = (name ≡ c.unit) × Lacks seen.files c.unit (Rose seen.faults seen.faults_now)
 AnswersUnit order seen c m (refused file why) = IsRefusal seen c.dirs m c.unit file why
-AnswersUnit order seen c m (reported form names unit diags) = (form ≡ c.format) × (unit ≡ c.unit) × IsReport order names diags
+AnswersUnit order seen c m (reported form names unit diags) = (form ≡ c.format) × (unit ≡ c.unit) × IsReport order m names diags
 AnswersUnit order seen c m _ = ⊥
 
 -- what `load` tells of the unit that it makes
 abbrev pub AnswersLoad : Order → Seen → CommandView → Model → Verdict → Type 0
 AnswersLoad order seen c m (refused file why) = IsRefusal seen [] m c.unit file why
-AnswersLoad order seen c m (summed unit bases cells diags) = (unit ≡ c.unit) × (names : List Bytes) × IsReport order names diags
+AnswersLoad order seen c m (summed unit bases cells diags) = (unit ≡ c.unit) × (names : List Bytes) × IsReport order m names diags
 AnswersLoad order seen c m _ = ⊥
 
 -- ---- the whole

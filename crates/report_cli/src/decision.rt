@@ -1,19 +1,20 @@
 //! What the words and the files call for.
-ghost use Rattle.std.specs.Prelude.{◌≡◌, ◌≤◌, ◌<◌, ◌⊎◌, All, IfOk, IsErrOf, false, true, map, string_bytes, length};
-ghost use Rattle.std.specs.List.Sorted.{IsStrictlySortedBy};
+ghost use Rattle.std.specs.Prelude.{◌≡◌, ◌≤◌, ◌<◌, ◌⊎◌, All, IfOk, IsErrOf, true, map, string_bytes, length};
 ghost use Rattle.cc_base.specs.Outside.{Rose};
 ghost use Rattle.c_layout.specs.Models.{is_model};
-ghost use Rattle.c_preproc.specs.Causes.{seen_of, IsOwnRefusal};
+ghost use Rattle.c_preproc.specs.Causes.{seen_of};
 ghost use Rattle.command_words.specs.Requests.{asked, command_view, Check, Load};
-ghost use Rattle.report_cli.specs.Verdicts.{file_name, report_status, report_in, IsReport, Tells, AnswersUnit, AnswersLoad, RefusesModel, Under, IsVerdict};
-ghost use Rattle.report_cli.specs.Answering.{AnswersFault, AnswersStop, AnswersOwn, AnswersReport, AnswersSummary};
+ghost use Rattle.report_cli.specs.Judging.{order_of, in_files, IsSetOf, StopsUnit};
+ghost use Rattle.report_cli.specs.Verdicts.{file_name, report_status, report_in, Tells, AnswersUnit, AnswersLoad, RefusesModel, Under, IsVerdict};
+ghost use Rattle.report_cli.specs.Answering.{AnswersFault, AnswersStop, AnswersOwn, AnswersReport, AnswersSummary, AnswersJudged, AnswersMade};
 ghost use Rattle.cc_base.specs.declared.refusals.Stop.TheVariants as stops;
 
 use crate::model_choice::{ModelChoice, choose_model};
+use crate::stages::{Stage, stage_of};
 use crate::unit_answers::{Judged, judge_unit};
 use c_layout::{Model, Unit7};
 use c_preproc::{expand, expand_bytes};
-use cc_base::{Diag, Fault, Memory, Refusal, Stop, Tree};
+use cc_base::{Diag, Fault, Memory, Stop, Tree};
 use command_words::{Command, Format, Request, read_words};
 use report_texts::{
     Answer, help, load_unit, no_file, refusal_answer, report_json, report_text, summary, version,
@@ -70,40 +71,38 @@ fn refused(alloc: Global, files: &[String], unit: &str, fault: &Fault) -> Result
     Ok(refusal_answer(alloc, name, fault)?)
 }
 
-/// Whether a refusal comes from the files: of one that is too long, or of a header that is missing.
-fn is_of_files(refusal: &Refusal) -> bool
-    ensures { result ≡ false → IsOwnRefusal refusal.now }
-{
-    matches!(
-        refusal,
-        Refusal::FileTooLong { .. } | Refusal::HeaderMissing(_)
-    )
-}
-
-/// The answer where the work behind the expansion stopped. It reads no file, so nothing that comes
-/// from the files stops it.
-fn stopped(alloc: Global, files: &[String], unit: &str, stop: Stop) -> Result<Answer, Halt>
+/// The answer where the work behind the expansion stopped.
+fn stopped(
+    alloc: Global,
+    files: &[String],
+    unit: &str,
+    expanded: &Unit7,
+    model: &Model,
+    stop: Stop,
+) -> Result<Answer, Halt>
+    requires { StopsUnit expanded.now model.now stop }
     ensures fault { IsErrOf result Halt.ReadFault → ⊥ }
-    ensures called { IfOk result (λ a. AnswersOwn (map string_bytes files.now) unit.now a.status a.text.items) }
+    ensures called { IfOk result (λ a. AnswersOwn model.now expanded.now (map string_bytes files.now) unit.now a.status a.text.items) }
 {
     match stop {
-        Stop::Refused(fault) => {
-            if is_of_files(&fault.refusal) {
-                return Err(Halt::Memory);
-            }
-            refused(alloc, files, unit, &fault)
-        }
+        Stop::Refused(fault) => refused(alloc, files, unit, &fault),
         Stop::NotHeld | Stop::ReadFault | Stop::Memory => Err(Halt::Memory),
     }
 }
 
-/// The answer where the expansion stopped.
+/// The answer where the expansion stopped. A refusal of a later stage is none of its own.
 fn not_expanded(alloc: Global, files: &[String], unit: &str, stop: Stop) -> Result<Answer, Halt>
     ensures fault { IsErrOf result Halt.ReadFault → stop ≡ stops.ReadFault }
     ensures called { IfOk result (λ a. AnswersStop (map string_bytes files.now) unit.now stop a.status a.text.items) }
 {
     match stop {
-        Stop::Refused(fault) => refused(alloc, files, unit, &fault),
+        Stop::Refused(fault) => match stage_of(&fault.refusal) {
+            Stage::Expansion => refused(alloc, files, unit, &fault),
+            Stage::Numbers => refused(alloc, files, unit, &fault),
+            Stage::Grammar => Err(Halt::Memory),
+            Stage::Typing => Err(Halt::Memory),
+            Stage::Counting => Err(Halt::Memory),
+        },
         Stop::NotHeld => Ok(no_file(alloc, unit)?),
         Stop::ReadFault => Err(Halt::ReadFault),
         Stop::Memory => Err(Halt::Memory),
@@ -112,7 +111,8 @@ fn not_expanded(alloc: Global, files: &[String], unit: &str, stop: Stop) -> Resu
 
 /// The diagnostics whose files are in the list.
 fn placed(alloc: Global, diags: &[Diag], count: usize) -> Result<Vec<Diag>, AllocError>
-    ensures { IfOk result (λ v. All (λ d. d.place.file < count) v.items) }
+    ensures placed { IfOk result (λ v. All (λ d. d.place.file < count) v.items) }
+    ensures kept { IfOk result (λ v. v.items ≡ in_files count diags.now) }
 {
     let mut kept = Vec::new(alloc);
     for at in 0..diags.len() {
@@ -125,8 +125,8 @@ fn placed(alloc: Global, diags: &[Diag], count: usize) -> Result<Vec<Diag>, Allo
 
 /// The diagnostics whose files are in the list, in order, each once.
 fn listed(alloc: Global, diags: &[Diag], count: usize) -> Result<Vec<Diag>, AllocError>
-    ensures ascending { IfOk result (λ v. IsStrictlySortedBy ⟦<Diag as Ord>⟧.cmp v.items) }
     ensures placed { IfOk result (λ v. All (λ d. d.place.file < count) v.items) }
+    ensures set { IfOk result (λ v. IsSetOf (order_of ⟦<Diag as Ord>⟧.cmp ⟦<Diag as PartialEq>⟧.eq) (in_files count diags.now) v.items) }
 {
     Ok(ordered(placed(alloc, diags, count)?))
 }
@@ -167,7 +167,7 @@ fn reported(
     diags: &[Diag],
 ) -> Result<Answer, Halt>
     ensures fault { IsErrOf result Halt.ReadFault → ⊥ }
-    ensures called { IfOk result (λ a. AnswersReport ⟦<Diag as Ord>⟧.cmp format (map string_bytes files.now) unit.now a.status a.text.items) }
+    ensures called { IfOk result (λ a. AnswersReport (order_of ⟦<Diag as Ord>⟧.cmp ⟦<Diag as PartialEq>⟧.eq) diags.now format (map string_bytes files.now) unit.now a.status a.text.items) }
 {
     let listed = listed(alloc, diags, files.len())?;
     let text = report(alloc, format, files, unit, listed.as_slice())?;
@@ -187,12 +187,12 @@ fn checked(
 ) -> Result<Answer, Halt>
     requires { is_model model.now ≡ true }
     ensures fault { IsErrOf result Halt.ReadFault → ⊥ }
-    ensures called { IfOk result (λ a. AnswersOwn (map string_bytes files.now) (string_bytes command.now.unit) a.status a.text.items ⊎ AnswersReport ⟦<Diag as Ord>⟧.cmp command.now.format (map string_bytes files.now) (string_bytes command.now.unit) a.status a.text.items) }
+    ensures called { IfOk result (λ a. AnswersOwn model.now unit.now (map string_bytes files.now) (string_bytes command.now.unit) a.status a.text.items ⊎ AnswersJudged (order_of ⟦<Diag as Ord>⟧.cmp ⟦<Diag as PartialEq>⟧.eq) model.now unit.now command.now.format (map string_bytes files.now) (string_bytes command.now.unit) a.status a.text.items) }
 {
     let name = command.unit.as_str();
     match judge_unit(alloc, unit, model, command.entry.as_str()) {
         Ok(judged) => reported(alloc, files, command.format, name, judged.diags.as_slice()),
-        Err(stop) => stopped(alloc, files, name, stop),
+        Err(stop) => stopped(alloc, files, name, unit, model, stop),
     }
 }
 
@@ -205,7 +205,7 @@ fn check_under<T: Tree>(
 ) -> Result<Answer, Halt>
     requires { is_model model.now ≡ true }
     ensures fault { IsErrOf result Halt.ReadFault → Rose (T.faults tree.old) (T.faults tree.new) }
-    ensures called { IfOk result (λ a. Tells (AnswersUnit ⟦<Diag as Ord>⟧.cmp (seen_of (T.files tree.old) (T.faults tree.old) (T.faults tree.new) (T.taken tree.old) (T.taken tree.new)) (command_view command.now) model.now) a.status a.text.items) }
+    ensures called { IfOk result (λ a. Tells (AnswersUnit (order_of ⟦<Diag as Ord>⟧.cmp ⟦<Diag as PartialEq>⟧.eq) (seen_of (T.files tree.old) (T.faults tree.old) (T.faults tree.new) (T.taken tree.old) (T.taken tree.new)) (command_view command.now) model.now) a.status a.text.items) }
     ensures files { T.files tree.new ≡ T.files tree.old }
     ensures faults { T.faults tree.old ≤ T.faults tree.new }
     ensures taken { T.taken tree.old ≤ T.taken tree.new }
@@ -228,7 +228,7 @@ fn check_under<T: Tree>(
 /// The answer to `check`.
 fn answer_check<T: Tree>(alloc: Global, command: &Command, tree: &mut T) -> Result<Answer, Halt>
     ensures fault { IsErrOf result Halt.ReadFault → Rose (T.faults tree.old) (T.faults tree.new) }
-    ensures called { IfOk result (λ a. Tells (IsVerdict ⟦<Diag as Ord>⟧.cmp (seen_of (T.files tree.old) (T.faults tree.old) (T.faults tree.new) (T.taken tree.old) (T.taken tree.new)) (Check (command_view command.now))) a.status a.text.items) }
+    ensures called { IfOk result (λ a. Tells (IsVerdict (order_of ⟦<Diag as Ord>⟧.cmp ⟦<Diag as PartialEq>⟧.eq) (seen_of (T.files tree.old) (T.faults tree.old) (T.faults tree.new) (T.taken tree.old) (T.taken tree.new)) (Check (command_view command.now))) a.status a.text.items) }
     ensures files { T.files tree.new ≡ T.files tree.old }
     ensures faults { T.faults tree.old ≤ T.faults tree.new }
     ensures taken { T.taken tree.old ≤ T.taken tree.new }
@@ -242,7 +242,7 @@ fn answer_check<T: Tree>(alloc: Global, command: &Command, tree: &mut T) -> Resu
 /// The summary on an accepted unit.
 fn summarised(alloc: Global, files: &[String], unit: &str, judged: &Judged) -> Result<Answer, Halt>
     ensures fault { IsErrOf result Halt.ReadFault → ⊥ }
-    ensures called { IfOk result (λ a. AnswersSummary ⟦<Diag as Ord>⟧.cmp unit.now a.status a.text.items) }
+    ensures called { IfOk result (λ a. AnswersSummary (order_of ⟦<Diag as Ord>⟧.cmp ⟦<Diag as PartialEq>⟧.eq) judged.now.diags.items (map string_bytes files.now) unit.now a.status a.text.items) }
 {
     let listed = listed(alloc, judged.diags.as_slice(), files.len())?;
     let text = summary(alloc, unit, judged.bases, judged.cells, listed.as_slice())?;
@@ -262,11 +262,11 @@ fn loaded(
 ) -> Result<Answer, Halt>
     requires { is_model model.now ≡ true }
     ensures fault { IsErrOf result Halt.ReadFault → ⊥ }
-    ensures called { IfOk result (λ a. AnswersOwn (map string_bytes files.now) name.now a.status a.text.items ⊎ AnswersSummary ⟦<Diag as Ord>⟧.cmp name.now a.status a.text.items) }
+    ensures called { IfOk result (λ a. AnswersOwn model.now unit.now (map string_bytes files.now) name.now a.status a.text.items ⊎ AnswersMade (order_of ⟦<Diag as Ord>⟧.cmp ⟦<Diag as PartialEq>⟧.eq) model.now unit.now (map string_bytes files.now) name.now a.status a.text.items) }
 {
     match judge_unit(alloc, unit, model, "main") {
         Ok(judged) => summarised(alloc, files, name, &judged),
-        Err(stop) => stopped(alloc, files, name, stop),
+        Err(stop) => stopped(alloc, files, name, unit, model, stop),
     }
 }
 
@@ -279,7 +279,7 @@ fn load_under<T: Tree>(
 ) -> Result<Answer, Halt>
     requires { is_model model.now ≡ true }
     ensures fault { IsErrOf result Halt.ReadFault → Rose (T.faults tree.old) (T.faults tree.new) }
-    ensures called { IfOk result (λ a. Tells (AnswersLoad ⟦<Diag as Ord>⟧.cmp (seen_of (T.files tree.old) (T.faults tree.old) (T.faults tree.new) (T.taken tree.old) (T.taken tree.new)) (command_view command.now) model.now) a.status a.text.items) }
+    ensures called { IfOk result (λ a. Tells (AnswersLoad (order_of ⟦<Diag as Ord>⟧.cmp ⟦<Diag as PartialEq>⟧.eq) (seen_of (T.files tree.old) (T.faults tree.old) (T.faults tree.new) (T.taken tree.old) (T.taken tree.new)) (command_view command.now) model.now) a.status a.text.items) }
     ensures files { T.files tree.new ≡ T.files tree.old }
     ensures faults { T.faults tree.old ≤ T.faults tree.new }
     ensures taken { T.taken tree.old ≤ T.taken tree.new }
@@ -299,7 +299,7 @@ fn load_under<T: Tree>(
 /// The answer to `load`.
 fn answer_load<T: Tree>(alloc: Global, command: &Command, tree: &mut T) -> Result<Answer, Halt>
     ensures fault { IsErrOf result Halt.ReadFault → Rose (T.faults tree.old) (T.faults tree.new) }
-    ensures called { IfOk result (λ a. Tells (IsVerdict ⟦<Diag as Ord>⟧.cmp (seen_of (T.files tree.old) (T.faults tree.old) (T.faults tree.new) (T.taken tree.old) (T.taken tree.new)) (Load (command_view command.now))) a.status a.text.items) }
+    ensures called { IfOk result (λ a. Tells (IsVerdict (order_of ⟦<Diag as Ord>⟧.cmp ⟦<Diag as PartialEq>⟧.eq) (seen_of (T.files tree.old) (T.faults tree.old) (T.faults tree.new) (T.taken tree.old) (T.taken tree.new)) (Load (command_view command.now))) a.status a.text.items) }
     ensures files { T.files tree.new ≡ T.files tree.old }
     ensures faults { T.faults tree.old ≤ T.faults tree.new }
     ensures taken { T.taken tree.old ≤ T.taken tree.new }
@@ -313,7 +313,7 @@ fn answer_load<T: Tree>(alloc: Global, command: &Command, tree: &mut T) -> Resul
 /// What the words and the tree call for. On a read fault the tree's faults rose.
 pub(crate) fn decide<T: Tree>(alloc: Global, words: &[String], tree: &mut T) -> Result<Answer, Halt>
     ensures fault { IsErrOf result Halt.ReadFault → Rose (T.faults tree.old) (T.faults tree.new) }
-    ensures called { IfOk result (λ a. Tells (IsVerdict ⟦<Diag as Ord>⟧.cmp (seen_of (T.files tree.old) (T.faults tree.old) (T.faults tree.new) (T.taken tree.old) (T.taken tree.new)) (asked (map string_bytes words.now))) a.status a.text.items) }
+    ensures called { IfOk result (λ a. Tells (IsVerdict (order_of ⟦<Diag as Ord>⟧.cmp ⟦<Diag as PartialEq>⟧.eq) (seen_of (T.files tree.old) (T.faults tree.old) (T.faults tree.new) (T.taken tree.old) (T.taken tree.new)) (asked (map string_bytes words.now))) a.status a.text.items) }
     ensures files { T.files tree.new ≡ T.files tree.old }
     ensures faults { T.faults tree.old ≤ T.faults tree.new }
     ensures taken { T.taken tree.old ≤ T.taken tree.new }

@@ -4,6 +4,7 @@
 mod decision;
 mod model_choice;
 mod program;
+mod stages;
 mod unit_answers;
 
 pub use program::run;

@@ -1,13 +1,14 @@
 use Rattle.std.proofs.Common.{ap, map, string_bytes}
 use Rattle.std.proofs.lemmas.Result.{IfOk-weaker}
 use Rattle.command_words.specs.Requests.{command_view}
-use Rattle.report_cli.proofs.Called.{loaded_under, stop_made_under}
+use Rattle.report_cli.proofs.Called.{names_expanded, loaded_under, stop_made_under}
 use Rattle.report_cli.proofs.decision.load_under.Goals as goal
 
 pub returns-in-Ok-clause-called : goal.returns-in-Ok-clause-called
 returns-in-Ok-clause-called g c =
     IfOk-weaker c.loaded.result _ _
-    (λ a h. loaded_under _ _ (command_view c.args.command.now) c.args.model.now (map string_bytes c.as_slice-in-Ok.result.now) c.as_str-unit.result.now a.status a.text.items c.as_str-unit.ensures.value h)
+    (λ a h. loaded_under _ _ (command_view c.args.command.now) c.args.model.now c.in-Ok.expanded (map string_bytes c.as_slice-in-Ok.result.now) c.as_str-unit.result.now a.status a.text.items c.as_str-unit.ensures.value
+    (names_expanded string_bytes c.expand_bytes.new.files.items c.as_slice-in-Ok.result.now c.in-Ok.expanded c.as_slice-in-Ok.ensures.value c.expand_bytes.ensures.distinct c.in-Ok.ensures.few) h)
     c.loaded.ensures.called
 
 pub returns-clause-called : goal.returns-clause-called

@@ -1,0 +1,5 @@
+#ifndef WORDS_H
+#define WORDS_H
+#define LINE 64
+struct line { char *text; size_t length; };
+#endif
