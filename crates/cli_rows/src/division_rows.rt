@@ -110,3 +110,16 @@ fn division_further(rt: HostRuntime) -> Result<(), Fail> {
     assert!(rt; holds);
     Ok(())
 }
+
+#[test]
+fn division_behind_a_loop(rt: HostRuntime) -> Result<(), Fail> {
+    let alloc = rt.alloc();
+    let holds = checks(
+        alloc,
+        "int main(void){int i;int s=0;for(i=0;i<3;i++)s=s+i;return 6/(s-4);}",
+        1,
+        "a.c:1:49: intoflow: signed result is out of range\na.c:1:60: diverr: division is undefined\n2 diagnostics in a.c\n",
+    )?;
+    assert!(rt; holds);
+    Ok(())
+}

@@ -14,6 +14,8 @@ mod division_rows;
 #[cfg(test)]
 mod heap_rows;
 #[cfg(test)]
+mod limit_rows;
+#[cfg(test)]
 mod literal_rows;
 #[cfg(test)]
 mod load_rows;

@@ -1,9 +1,7 @@
-//! The analysis of a control-flow program: the rows of its blocks, and the rules that it may break.
+//! The analysis of a control-flow program: the rules that it may break, by an inductive map of its
+//! system.
 #![tactic(auto)]
 
-mod block_rows;
-mod reported_pairs;
-mod row_arrivals;
-mod sweeps;
+mod program_analysis;
 
-pub use reported_pairs::analyse;
+pub use program_analysis::analyse;

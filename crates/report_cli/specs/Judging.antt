@@ -1,5 +1,5 @@
 -- What a unit that was expanded comes to: the work behind the expansion, layer by layer, as far as the layers have clauses.
-use Rattle.std.specs.Prelude.{◌≡◌, ◌≤◌, ◌<◌, ◌++◌, ℕ, Bool, true, List, length, nat_lt, Any, Contains, Some, slice_get, vec_len}
+use Rattle.std.specs.Prelude.{◌≡◌, ◌≤◌, ◌<◌, ◌++◌, ℕ, ℤ, Bool, true, List, length, nat_lt, Any, Contains, Some, slice_get, vec_len}
 use Rattle.std.specs.List.{filter}
 use Rattle.std.specs.List.Sorted.{IsStrictlySortedBy}
 use Rattle.std.specs.declared.cmp.Ordering.{Ordering}
@@ -19,7 +19,11 @@ use Rattle.c_parser.specs.Externals.{IsUnit}
 use Rattle.c_parser.specs.Refusals.{Refuses}
 use Rattle.syntax_rules.specs.StatementPlaces.{unit_places}
 use Rattle.flow_program.specs.declared.programs.Flow.{Flow}
+use Rattle.flow_program.specs.Nearest.{AreThresholds}
+use Rattle.flow_program.specs.ThresholdNumbers.{limits_of}
+use Rattle.flow_program.specs.StructNumbers.{flow_numbers}
 use Rattle.flow_counts.specs.SizeRefusals.{IsTooLarge}
+use Rattle.flow_analysis.specs.Analyses.{IsAnalysis}
 use Rattle.report_cli.specs.Stages.{stage_of}
 use Rattle.report_cli.specs.declared.stages.Stage.{Stage}
 use Rattle.report_cli.specs.declared.stages.Stage.TheVariants as stage
@@ -56,11 +60,15 @@ pub record IsLowered (checked : Checked) (flow : Flow) : Type 0 where
   pub entry : (e : Function) → slice_get checked.functions.items checked.entry ≡ Some e → flow.entry ≡ e.place
   pub temps : flow.temps ≤ standard_limits.temps
 
--- what the syntactic rules find in a checked unit, and behind it what the analysis finds
-pub record IsFound (order : Order) (checked : Checked) (pairs : List Diag) : Type 0 where
+-- what the syntactic rules find in a checked unit, and behind it what the analysis finds in its
+-- program, with bounds rounded to the thresholds of the program
+pub record IsFound (order : Order) (checked : Checked) (flow : Flow) (pairs : List Diag) : Type 0 where
   pub texts : List Diag
   pub by_texts : IsSetOf order (unit_places checked) texts
+  pub list : List ℤ
+  pub thresholds : AreThresholds (limits_of flow.model) (flow_numbers flow) list
   pub runs : List Diag
+  pub by_runs : IsAnalysis order.same flow list runs
   pub both : pairs ≡ texts ++ runs
 
 -- an accepted unit: its checked unit, its program, and what is found in them
@@ -71,7 +79,7 @@ pub record IsJudged (order : Order) (unit : Unit7) (m : Model) (pairs : List Dia
   pub typed : IsTyped m checked
   pub flow : Flow
   pub lowered : IsLowered checked flow
-  pub found : IsFound order checked pairs
+  pub found : IsFound order checked flow pairs
 
 -- the count of some checked unit's program that passes its limit, at the name of the entry
 pub record IsPast (m : Model) (why : Fault) : Type 0 where

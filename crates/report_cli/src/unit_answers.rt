@@ -47,7 +47,7 @@ fn joined(first: Vec<Diag>, second: &[Diag]) -> Result<Vec<Diag>, AllocError>
 /// What the syntactic rules find in a checked unit and what the analysis finds in its program.
 fn judge_program(alloc: Global, checked: &Checked, flow: &Flow) -> Result<Judged, Memory>
     requires { is_model flow.now.model ≡ true }
-    ensures { IfOk result (λ j. IsFound (order_of ⟦<Diag as Ord>⟧.cmp ⟦<Diag as PartialEq>⟧.eq) checked.now j.diags.items) }
+    ensures { IfOk result (λ j. IsFound (order_of ⟦<Diag as Ord>⟧.cmp ⟦<Diag as PartialEq>⟧.eq) checked.now flow.now j.diags.items) }
 {
     let list = thresholds(alloc, flow)?;
     let found = analyse(alloc, flow, &list)?;

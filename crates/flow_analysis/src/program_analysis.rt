@@ -1,0 +1,84 @@
+//! The rules that a program may break.
+ghost use Rattle.std.specs.Prelude.{◌≡◌, ◌+◌, ◌<◌, ◌≤◌, true, length, None, IfOk};
+ghost use Rattle.std.proofs.Common.{replicate};
+ghost use Rattle.std.specs.List.Sorted.{IsStrictlySortedBy};
+ghost use Rattle.row_pool.specs.Pool.{free_count};
+ghost use Rattle.flow_system.specs.SystemChecks.{is_system};
+ghost use Rattle.flow_analysis.specs.Analyses.{IsAnalysis};
+
+use cc_base::{Diag, Lattice, Memory, Steps, System, Thresholds};
+use fixpoint_engine::{drop_map, new_map, release, solve};
+use flow_program::Flow;
+use flow_system::{FlowSystem, is_system, system};
+use interval_domain::Interval;
+use row_pool::{Row, RowPool};
+use rule_checks::diagnose;
+use std::alloc::Global;
+use std::marker::Brand;
+use std::sync::ledger::{Blank, Ledger};
+use value_domain::Cell;
+
+/// Fills the map, which holds no row, finds the pairs that it admits, and gives its rows back.
+fn found_by<L: Ledger>(
+    alloc: Global,
+    flow: &Flow,
+    list: &Thresholds,
+    pool: &mut RowPool<Cell<Interval>>,
+    map: &mut [Option<Row>],
+    steps: &mut Steps<L>,
+) -> Result<Vec<Diag>, Memory>
+    requires valid { is_system flow.now ≡ true }
+    requires width { pool.old.width ≡ flow.now.width }
+    requires vacant { map.old ≡ replicate (length flow.now.blocks.items) None }
+    requires room { length flow.now.blocks.items + 2 ≤ free_count pool.old }
+    ensures vacant { map.new ≡ replicate (length map.old) None }
+    ensures ascending { IfOk result (λ found. IsStrictlySortedBy ⟦<Diag as Ord>⟧.cmp found.items) }
+    ensures found { IfOk result (λ found. IsAnalysis ⟦<Diag as PartialEq>⟧.eq flow.now list.now found.items) }
+{
+    let equations: FlowSystem<Interval> = system(flow, list);
+    solve(&equations, pool, map, steps);
+    let found = diagnose(alloc, flow, pool, map);
+    release(pool, map);
+    found
+}
+
+/// The pairs that a program whose blocks and edges make a system may break.
+#[tactic(auto, using(crate::specs::Counts::few_blocks))]
+fn found_in<L: Ledger>(
+    alloc: Global,
+    flow: &Flow,
+    list: &Thresholds,
+    blank: Blank,
+) -> Result<Vec<Diag>, Memory>
+    requires valid { is_system flow.now ≡ true }
+    requires name { blank.name ≡ L.name }
+    requires parts { blank.parts ≡ L.parts }
+    requires some { 0 < blank.parts }
+    ensures ascending { IfOk result (λ found. IsStrictlySortedBy ⟦<Diag as Ord>⟧.cmp found.items) }
+    ensures found { IfOk result (λ found. IsAnalysis ⟦<Diag as PartialEq>⟧.eq flow.now list.now found.items) }
+{
+    let blocks = flow.blocks.len() as u32;
+    let mut pool = RowPool::new(alloc, blocks + 2, flow.width, Cell::bottom())?;
+    let mut map = new_map(alloc, blocks)?;
+    let mut steps = Steps::<L>::start(blank);
+    let found = found_by(alloc, flow, list, &mut pool, map.as_mut_slice(), &mut steps);
+    drop_map(map);
+    found
+}
+
+/// The pairs of place and rule that the program may break, with intervals whose bounds are rounded to
+/// the numbers of a list at heads: in order of places and then of rules, each once.
+///
+/// # Errors
+///
+/// Want of memory, and a program whose blocks and edges make no system.
+pub fn analyse(alloc: Global, flow: &Flow, list: &Thresholds) -> Result<Vec<Diag>, Memory>
+    ensures ascending { IfOk result (λ found. IsStrictlySortedBy ⟦<Diag as Ord>⟧.cmp found.items) }
+    ensures found { IfOk result (λ found. IsAnalysis ⟦<Diag as PartialEq>⟧.eq flow.now list.now found.items) }
+{
+    if is_system(flow) {
+        found_in::<Brand>(alloc, flow, list, Blank::new(1))
+    } else {
+        Err(Memory)
+    }
+}

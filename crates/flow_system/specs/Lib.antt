@@ -1,0 +1,6 @@
+pub mod Ends
+pub mod FittedRows
+pub mod BlockPasses
+pub mod FlowMachines
+pub mod SystemChecks
+pub mod FlowLaws

@@ -1,0 +1,13 @@
+//! The system of flow equations of a control-flow program: its blocks and edges, the row of its
+//! entry, and what each edge makes of the row at the start of its block.
+#![tactic(auto)]
+
+mod block_passes;
+mod bounded_numbers;
+mod fitted_rows;
+mod flow_systems;
+mod system_checks;
+
+pub use bounded_numbers::Bounded;
+pub use flow_systems::{FlowSystem, system};
+pub use system_checks::is_system;
