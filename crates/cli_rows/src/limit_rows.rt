@@ -72,11 +72,17 @@ fn inclusions(rt: HostRuntime) -> Result<(), Fail> {
 }
 
 #[test]
-fn tokens(rt: HostRuntime) -> Result<(), Fail> {
+fn tokens_of_a_unit(rt: HostRuntime) -> Result<(), Fail> {
     let alloc = rt.alloc();
     let unit = doubling(alloc, 17)?;
     let told = "a.c:19:7: limit: TooManyTokens 131073/131072\n";
     assert!(rt; checks(alloc, unit.as_str(), 8, told)?);
+    Ok(())
+}
+
+#[test]
+fn tokens_of_an_expansion(rt: HostRuntime) -> Result<(), Fail> {
+    let alloc = rt.alloc();
     let unit = doubling(alloc, 19)?;
     let told = "a.c:21:7: limit: TooManyTokens 1048578/1048576\n";
     assert!(rt; checks(alloc, unit.as_str(), 8, told)?);

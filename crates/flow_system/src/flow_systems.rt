@@ -19,6 +19,7 @@ use value_domain::Cell;
 
 /// The system of a control-flow program: its blocks, edges and heads, rows as long as those of the
 /// program, and the numbers of a list to which rows are rounded at heads.
+#[derive(Drop)]
 pub struct FlowSystem<'a, I: Bounded> {
     flow: &'a Flow,
     list: &'a Thresholds,
