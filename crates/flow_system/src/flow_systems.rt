@@ -63,12 +63,7 @@ fn begin<I: Bounded>(flow: &Flow, list: &Thresholds, row: &mut [Cell<I>])
 /// Makes of the row of the block that an edge leaves the row behind the edge, fitted to the ends of
 /// the list; false where no run takes the edge.
 #[tactic(auto, unfolding(crate::specs::FlowMachines::through), using(crate::specs::FittedRows::fit_is_map))]
-fn go_through<I: Bounded>(
-    flow: &Flow,
-    list: &Thresholds,
-    number: u32,
-    row: &mut [Cell<I>],
-) -> bool
+fn go_through<I: Bounded>(flow: &Flow, list: &Thresholds, number: u32, row: &mut [Cell<I>]) -> bool
     requires edge { number < length flow.now.edges.items }
     requires width { length row.old ≡ flow.now.width }
     ensures reached { result ≡ true → through I.lattice I.numbers flow.now list.now number row.old ≡ Some row.new }
