@@ -1,4 +1,5 @@
 pub mod Ends
+pub mod CellKinds
 pub mod FittedRows
 pub mod BlockPasses
 pub mod FlowMachines

@@ -38,7 +38,7 @@ pub fn system<'a, I: Bounded>(flow: &'a Flow, list: &'a Thresholds) -> FlowSyste
     }
 }
 
-/// Makes `row` the row of the entry; where a static initializer has no place, nothing is known.
+/// Makes `row` the row of the entry; where a static initializer has no place, no cell has anything.
 fn begin_known<I: Bounded>(flow: &Flow, row: &mut [Cell<I>])
     requires { length row.old ≡ flow.now.width }
     ensures length { length row.new ≡ length row.old }
@@ -46,23 +46,23 @@ fn begin_known<I: Bounded>(flow: &Flow, row: &mut [Cell<I>])
 {
     fill_row(row, Cell::Nothing);
     if !start_row(flow, row) {
-        fill_row(row, Cell::Mixed);
+        fill_row(row, Cell::Nothing);
     }
 }
 
 /// Makes `row` the row of the entry, fitted to the ends of the list.
-#[tactic(auto, unfolding(crate::specs::FlowMachines::start_of), using(crate::specs::FittedRows::fit_is_map))]
+#[tactic(auto, unfolding(crate::specs::FlowMachines::start_of))]
 fn begin<I: Bounded>(flow: &Flow, list: &Thresholds, row: &mut [Cell<I>])
     requires { length row.old ≡ flow.now.width }
     ensures { row.new ≡ start_of I.lattice I.numbers flow.now list.now }
 {
     begin_known(flow, row);
-    fit_row(row, list);
+    fit_row(flow.bases.as_slice(), row, list);
 }
 
 /// Makes of the row of the block that an edge leaves the row behind the edge, fitted to the ends of
 /// the list; false where no run takes the edge.
-#[tactic(auto, unfolding(crate::specs::FlowMachines::through), using(crate::specs::FittedRows::fit_is_map))]
+#[tactic(auto, unfolding(crate::specs::FlowMachines::through))]
 fn go_through<I: Bounded>(flow: &Flow, list: &Thresholds, number: u32, row: &mut [Cell<I>]) -> bool
     requires edge { number < length flow.now.edges.items }
     requires width { length row.old ≡ flow.now.width }
@@ -71,7 +71,7 @@ fn go_through<I: Bounded>(flow: &Flow, list: &Thresholds, number: u32, row: &mut
 {
     let from = flow.edges[number as usize].from;
     if pass_edge(flow, row, from, number) {
-        fit_row(row, list);
+        fit_row(flow.bases.as_slice(), row, list);
         true
     } else {
         false

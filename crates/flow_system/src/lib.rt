@@ -4,6 +4,7 @@
 
 mod block_passes;
 mod bounded_numbers;
+mod cell_kinds;
 mod fitted_rows;
 mod flow_systems;
 mod system_checks;
