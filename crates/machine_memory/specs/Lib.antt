@@ -1,0 +1,6 @@
+pub mod Bytes
+pub mod Instances
+pub mod Matching
+pub mod Places
+pub mod ValueMeaning
+pub mod RowMeaning
