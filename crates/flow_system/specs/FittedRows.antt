@@ -92,6 +92,33 @@ module _ {I : Type 0} where
   cell_fit l list kind.First cell = fit_as_first l list cell
   cell_fit l list kind.State cell = fit_as_state l list cell
 
+  -- an own cell is left as it is
+  own_value_fits : (l : LatticeOf I) (list : List ℤ) (x : Cell I) → is_own_value l list x ≡ true → fit_as_value l list x ≡ x
+  own_value_fits l list Nothing h = cc
+  own_value_fits l list (Value v) h = rw h refl
+  own_value_fits l list (First f) h = cc
+  own_value_fits l list (State s) h = cc
+  own_value_fits l list Mixed h = cc
+
+  own_first_fits : (l : LatticeOf I) (list : List ℤ) (x : Cell I) → is_own_first l list x ≡ true → fit_as_first l list x ≡ x
+  own_first_fits l list Nothing h = cc
+  own_first_fits l list (Value v) h = cc
+  own_first_fits l list (First f) h = rw h refl
+  own_first_fits l list (State s) h = cc
+  own_first_fits l list Mixed h = cc
+
+  own_state_fits : (l : LatticeOf I) (list : List ℤ) (x : Cell I) → is_own_state l list x ≡ true → fit_as_state l list x ≡ x
+  own_state_fits l list Nothing h = cc
+  own_state_fits l list (Value v) h = cc
+  own_state_fits l list (First f) h = cc
+  own_state_fits l list (State s) h = rw h refl
+  own_state_fits l list Mixed h = cc
+
+  pub own_cell_fits : (l : LatticeOf I) (list : List ℤ) (k : CellKind) (x : Cell I) → is_own_cell l list k x ≡ true → cell_fit l list k x ≡ x
+  own_cell_fits l list kind.Value x h = own_value_fits l list x h
+  own_cell_fits l list kind.First x h = own_first_fits l list x h
+  own_cell_fits l list kind.State x h = own_state_fits l list x h
+
   abbrev pub cells_fit : LatticeOf I → List ℤ → List CellKind → List (Cell I) → List (Cell I)
   cells_fit l list kinds [] = []
   cells_fit l list kinds (cell ∷ cells) = cell_fit l list (first_kind kinds) cell ∷ cells_fit l list (kinds_behind kinds) cells

@@ -3,7 +3,7 @@ ghost use Rattle.std.specs.Prelude.{◌≡◌, length, map, replicate};
 ghost use Rattle.pointer_domain.specs.PointerLattice.{pointer_lattice};
 ghost use Rattle.value_domain.specs.Values.{value_lattice};
 ghost use Rattle.flow_system.specs.CellKinds.{all_kinds};
-ghost use Rattle.flow_system.specs.FittedRows.{value_fit, first_fit, state_fit, fit_as_value, fit_as_first, fit_as_state, cell_fit, cells_fit, row_fit, filled_with};
+ghost use Rattle.flow_system.specs.FittedRows.{is_own_value, is_own_first, is_own_state, is_own_cell, value_fit, first_fit, state_fit, fit_as_value, fit_as_first, fit_as_state, cell_fit, cells_fit, row_fit, filled_with};
 
 use crate::bounded_numbers::Bounded;
 use crate::cell_kinds::{CellKind, first_kind, kinds_behind, settled, start_of_row};
@@ -19,16 +19,63 @@ fn is_pointer_within<I: Bounded>(pointer: Pointers<I>, list: &Thresholds) -> boo
     pointer.lo.is_within(list) && (pointer.rel.is_within(list) && pointer.len.is_within(list))
 }
 
-fn is_value_within<I: Bounded>(value: Value<I>, list: &Thresholds) -> bool
-    ensures { result ≡ (value_lattice I.lattice).within list.now value }
+fn is_value_within<I: Bounded>(value: &Value<I>, list: &Thresholds) -> bool
+    ensures { result ≡ (value_lattice I.lattice).within list.now value.now }
 {
     value.num.is_within(list) && is_pointer_within(value.pointer, list)
+}
+
+fn is_own_value<I: Bounded>(cell: &Cell<I>, list: &Thresholds) -> bool
+    ensures { result ≡ is_own_value I.lattice list.now cell.now }
+{
+    match cell {
+        Cell::Nothing => false,
+        Cell::Value(value) => is_value_within(value, list),
+        Cell::First(_) => false,
+        Cell::State(_) => false,
+        Cell::Mixed => false,
+    }
+}
+
+fn is_own_first<I: Bounded>(cell: &Cell<I>, list: &Thresholds) -> bool
+    ensures { result ≡ is_own_first I.lattice list.now cell.now }
+{
+    match cell {
+        Cell::Nothing => false,
+        Cell::Value(_) => false,
+        Cell::First(zero) => zero.at.is_within(list),
+        Cell::State(_) => false,
+        Cell::Mixed => false,
+    }
+}
+
+fn is_own_state<I: Bounded>(cell: &Cell<I>, list: &Thresholds) -> bool
+    ensures { result ≡ is_own_state I.lattice list.now cell.now }
+{
+    match cell {
+        Cell::Nothing => false,
+        Cell::Value(_) => false,
+        Cell::First(_) => false,
+        Cell::State(state) => state.size.is_within(list),
+        Cell::Mixed => false,
+    }
+}
+
+/// Whether a cell is of a kind, with bounds within the ends of the list.
+fn is_own_cell<I: Bounded>(kind: CellKind, cell: &Cell<I>, list: &Thresholds) -> bool
+    ensures { result ≡ is_own_cell I.lattice list.now kind cell.now }
+{
+    match kind {
+        CellKind::Value => is_own_value(cell, list),
+        CellKind::First => is_own_first(cell, list),
+        CellKind::State => is_own_state(cell, list),
+    }
 }
 
 fn fit_value<I: Bounded>(value: Value<I>, list: &Thresholds) -> Value<I>
     ensures { result ≡ value_fit I.lattice list.now value }
 {
-    if is_value_within(value, list) {
+    if is_value_within(&value, list) {
         value
     } else {
         Value::bottom()
@@ -102,6 +149,16 @@ fn fit_cell<I: Bounded>(kind: CellKind, cell: Cell<I>, list: &Thresholds) -> Cel
     }
 }
 
+/// Fits a cell in its place. Most are own ones already, and are not written.
+#[tactic(auto, using(crate::specs::FittedRows::own_cell_fits))]
+fn fit_in_place<I: Bounded>(kind: CellKind, cell: &mut Cell<I>, list: &Thresholds)
+    ensures { cell.new ≡ cell_fit I.lattice list.now kind cell.old }
+{
+    if !is_own_cell(kind, cell, list) {
+        *cell = fit_cell(kind, *cell, list);
+    }
+}
+
 fn fit_cells<I: Bounded>(bases: &[BaseInfo], row: &mut [Cell<I>], list: &Thresholds)
     ensures length { length row.new ≡ length row.old }
     ensures row { row.new ≡ cells_fit I.lattice list.now (all_kinds bases.now) row.old }
@@ -109,7 +166,7 @@ fn fit_cells<I: Bounded>(bases: &[BaseInfo], row: &mut [Cell<I>], list: &Thresho
     let mut left = start_of_row(bases);
     for at in 0..row.len() {
         left = settled(bases, left);
-        row[at] = fit_cell(first_kind(bases, left), row[at], list);
+        fit_in_place(first_kind(bases, left), &mut row[at], list);
         left = kinds_behind(bases, left);
     }
 }

@@ -13,26 +13,28 @@ use row_pool::{Row, RowPool};
 use std::alloc::{AllocError, Global};
 use value_domain::Cell;
 
-/// A row of the pool that may be spent.
-fn copied<I: IntDomain>(
-    alloc: Global,
+/// Makes `spent` the row of the pool, which may then be written.
+fn copy_row<I: IntDomain>(
+    spent: &mut Vec<Cell<I>>,
     pool: &RowPool<Cell<I>>,
     row: &Row,
-) -> Result<Vec<Cell<I>>, AllocError>
+) -> Result<(), AllocError>
     requires { IsTaken pool.now row.now.index }
-    ensures { IfOk result (λ copy. copy.items ≡ row_of pool.now row.now.index) }
+    ensures { IfOk result (λ _. spent.new.items ≡ row_of pool.now row.now.index) }
 {
-    Vec::from_slice(alloc, pool.row(row))
+    spent.clear();
+    spent.extend_from_slice(pool.row(row))
 }
 
-/// Adds what the instructions of a block may break from the row that it has by the map.
+/// Adds what the instructions of a block may break from the row that it has by the map, of which
+/// `spent` becomes a copy.
 fn diagnose_entry<I: IntDomain>(
-    alloc: Global,
     out: &mut Vec<Diag>,
+    spent: &mut Vec<Cell<I>>,
     flow: &Flow,
     pool: &RowPool<Cell<I>>,
     slot: &Option<Row>,
-    block: u32,
+    block: usize,
 ) -> Result<(), AllocError>
     requires { (s : ℕ) → slot_index slot.now ≡ Some s → IsTaken pool.now s }
     ensures { IfOk result (λ _. out.new.items ≡ out.old.items ++ entry_pairs I.lattice I.numbers flow.now block (slot_row pool.now slot.now)) }
@@ -40,8 +42,9 @@ fn diagnose_entry<I: IntDomain>(
     match slot {
         None => Ok(()),
         Some(row) => {
-            let mut spent = copied(alloc, pool, row)?;
-            diagnose_block(out, flow, spent.as_mut_slice(), block)
+            let number = u32::try_from(block).ok().ok_or(AllocError)?;
+            copy_row(spent, pool, row)?;
+            diagnose_block(out, flow, spent.as_mut_slice(), number)
         }
     }
 }
@@ -58,9 +61,9 @@ fn diagnose_map<I: IntDomain>(
     ensures { IfOk result (λ found. found.items ≡ map_pairs I.lattice I.numbers flow.now (rows_in pool.now map.now)) }
 {
     let mut out = Vec::new(alloc);
+    let mut spent = Vec::new(alloc);
     for block in 0..map.len() {
-        let number = u32::try_from(block).ok().ok_or(AllocError)?;
-        diagnose_entry(alloc, &mut out, flow, pool, &map[block], number)?;
+        diagnose_entry(&mut out, &mut spent, flow, pool, &map[block], block)?;
     }
     Ok(out)
 }
