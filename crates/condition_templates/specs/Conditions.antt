@@ -40,7 +40,7 @@ logical_condition sign left right decision p = part (p.labels + 1) right decisio
 
 -- `?:`: the arms go straight to the targets and are no tests
 abbrev pub conditional_condition : TermTree → TermTree → TermTree → Decision → Plan → Plan
-conditional_condition test yes no decision p = part (p.labels + 2) no (tested_or_not decision.targets decision.depth false) (part (p.labels + 1) yes (tested_or_not decision.targets decision.depth false) (part p.labels test (tested_or_not (record { yes = p.labels + 1; no = p.labels + 2 }) decision.depth true) (with_labels 3 p)))
+conditional_condition test first second decision p = part (p.labels + 2) second (tested_or_not decision.targets decision.depth false) (part (p.labels + 1) first (tested_or_not decision.targets decision.depth false) (part p.labels test (tested_or_not (record { yes = p.labels + 1; no = p.labels + 2 }) decision.depth true) (with_labels 3 p)))
 
 -- a call of fgets: its place and its arguments
 pub record LineCallView : Type 0 where
@@ -135,7 +135,7 @@ negated_condition e decision p = with_work (Condition e (to_targets decision (fl
 abbrev pub condition_of_form : SettingView → TermTree → FormTree → Decision → Plan → Plan
 condition_of_form s e (tree.Logical sign left right) decision p = logical_condition sign left right decision p
 condition_of_form s e (tree.Not inner) decision p = negated_condition inner decision p
-condition_of_form s e (tree.Conditional test yes no) decision p = conditional_condition test yes no decision p
+condition_of_form s e (tree.Conditional test first second) decision p = conditional_condition test first second decision p
 condition_of_form s e _ decision p = leaf_condition s e decision p
 
 abbrev pub condition : SettingView → TermTree → Decision → Plan → Plan

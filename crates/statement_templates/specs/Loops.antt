@@ -12,7 +12,7 @@ use Rattle.statement_templates.specs.PlainStatements.{all_statements, in_scope}
 
 -- a controlling expression in a block of its own
 abbrev pub condition : ℕ → TermTree → ℕ → ℕ → Plan → Plan
-condition label e yes no p = with_work (Condition e (record { targets = record { yes = yes; no = no }; depth = 0; is_test = true })) (begun label p)
+condition label e first second p = with_work (Condition e (record { targets = record { yes = first; no = second }; depth = 0; is_test = true })) (begun label p)
 
 abbrev pub part : ℕ → StatementTree → Surroundings → Plan → Plan
 part label body around p = with_work (Statement body around) (begun label p)
@@ -39,8 +39,8 @@ do_loop body e around p = begun (p.labels + 2) (condition (p.labels + 1) e p.lab
 
 -- a condition that is left out has no test and no branch
 abbrev pub check : ℕ → Option TermTree → ℕ → ℕ → Plan → Plan
-check label None yes no p = begun label p
-check label (Some e) yes no p = condition label e yes no p
+check label None first second p = begun label p
+check label (Some e) first second p = condition label e first second p
 
 abbrev pub unused : Option TermTree → Plan → Plan
 unused None p = p

@@ -64,4 +64,4 @@ choice first e depth targets p = with_work (Condition e (decided targets depth))
 
 -- `?:`: condition, second operand, third operand, after
 abbrev pub conditional : SettingView → TermTree → TermTree → TermTree → ℕ → Bool → Plan → Plan
-conditional s test yes no depth used p = begun (p.labels + 3) (arm_at (p.labels + 2) no depth used (jump s.at (p.labels + 3) (arm_at (p.labels + 1) yes depth used (choice p.labels test depth (record { yes = p.labels + 1; no = p.labels + 2 }) (with_labels 4 p)))))
+conditional s test first second depth used p = begun (p.labels + 3) (arm_at (p.labels + 2) second depth used (jump s.at (p.labels + 3) (arm_at (p.labels + 1) first depth used (choice p.labels test depth (record { yes = p.labels + 1; no = p.labels + 2 }) (with_labels 4 p)))))
