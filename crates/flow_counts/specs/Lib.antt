@@ -1,2 +1,4 @@
 pub mod SizeRefusals
 pub mod Extents
+pub mod PieceCounts
+pub mod FirstOver

@@ -1,6 +1,5 @@
 -- Works are done until none is left: a work is a piece, or the works that it consists of.
-use Rattle.std.specs.Prelude.{◌≡◌, ℕ, zero, suc, Bool, true, false, List, [], ◌∷◌, ◌++◌, map}
-use Rattle.std.specs.List.{reverse}
+use Rattle.std.specs.Prelude.{◌≡◌, ℕ, zero, suc, Bool, true, false, List, [], ◌∷◌, ◌++◌, map, reverse}
 use Rattle.template_works.specs.Pieces.{PieceView, piece_view, TemplateView}
 use Rattle.template_works.specs.Works as jobs
 use Rattle.template_works.specs.Works.{Job, job}

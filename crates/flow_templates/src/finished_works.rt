@@ -1,6 +1,5 @@
 //! Works are done until none is left: a work is a piece, or the works that it consists of.
-ghost use Rattle.std.specs.Prelude.{◌≡◌, ◌++◌, IfOk, map, is_cons, true, false};
-ghost use Rattle.std.specs.List.{reverse};
+ghost use Rattle.std.specs.Prelude.{◌≡◌, ◌++◌, IfOk, map, reverse};
 ghost use Rattle.template_works.specs.Pieces.{piece_view, template_view};
 ghost use Rattle.template_works.specs.Works.{job};
 ghost use Rattle.template_works.specs.Plans.{plan};
@@ -23,8 +22,9 @@ pub struct Making<'a> {
 }
 
 /// Puts works on the stack, the first one on top.
+#[tactic(auto, using(crate::proofs::Stacks::pushed))]
 fn schedule<'a>(stack: &mut Vec<Work<'a>>, mut works: Vec<Work<'a>>) -> Result<(), AllocError>
-    ensures { IfOk result (λ _. stack.new.items ≡ stack.old.items ++ reverse works.entry.items) }
+    ensures { IfOk result (λ _. map job stack.new.items ≡ map job stack.old.items ++ reverse (map job works.entry.items)) }
 {
     while let Some(work) = works.pop() {
         stack.push(work)?;
@@ -52,6 +52,7 @@ fn turn<'a>(
 }
 
 /// Puts the works that are planned on the stack.
+#[tactic(auto, using(crate::proofs::Stacks::on_top))]
 fn schedule_plan(making: &mut Making) -> Result<(), AllocError>
     ensures { IfOk result (λ _. making making.new ≡ spec.scheduled (making making.old)) }
 {
@@ -73,6 +74,7 @@ fn turn_top<'a>(
 }
 
 /// Does the next work; whether there was one.
+#[tactic(auto, using(crate::proofs::Stacks::top))]
 fn advance<'a>(cx: &Setting<'a>, making: &mut Making<'a>) -> Result<bool, AllocError>
     ensures after { IfOk result (λ _. making making.new ≡ spec.next (setting cx.now) (making making.old)) }
     ensures left { IfOk result (λ b. b ≡ spec.has_work (making making.old)) }

@@ -44,14 +44,14 @@ way_between s from to p = way s s.scopes.scopes from to p
 abbrev pub leap : SettingView → ℕ → Landing → Plan → Plan
 leap s from to p = jump s.at to.label (way_between s from to.scope p)
 
-abbrev pub is_none : List ℕ → Bool
-is_none [] = true
-is_none (x ∷ xs) = false
+abbrev pub is_empty : List ℕ → Bool
+is_empty [] = true
+is_empty (x ∷ xs) = false
 
 -- whether an object is entered on the way
 abbrev pub enters : SettingView → List ScopeView → ℕ → ℕ → Bool
 enters s [] from to = false
-enters s (_ ∷ steps) from to = cond (from == to) false (cond (nat_lt to from) (enters s steps (around s from) to) (cond (is_none (objects s to)) (enters s steps from (around s to)) true))
+enters s (_ ∷ steps) from to = cond (from == to) false (cond (nat_lt to from) (enters s steps (around s from) to) (cond (is_empty (objects s to)) (enters s steps from (around s to)) true))
 
 abbrev pub enters_between : SettingView → ℕ → ℕ → Bool
 enters_between s from to = enters s s.scopes.scopes from to
