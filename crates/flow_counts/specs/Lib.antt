@@ -5,3 +5,4 @@ pub mod FirstOver
 pub mod HeapBases
 pub mod BaseCounts
 pub mod FunctionTotals
+pub mod SettledTemplates

@@ -77,6 +77,8 @@ begun p = scheduled (record { pieces = []; stack = []; planned = p })
 abbrev pub template_of : Going → TemplateView
 template_of g = record { pieces = g.pieces; names = g.planned.names; labels = g.planned.labels }
 
--- the works of a plan come to a template
-abbrev pub Finishes : SettingView → Plan → TemplateView → Type 0
-Finishes s p t = (n : ℕ) × (has_work (after s n (begun p)) ≡ false) × (template_of (after s n (begun p)) ≡ t)
+-- the works of a plan come to a template: after so many turns nothing is left
+pub record Finishes (s : SettingView) (p : Plan) (t : TemplateView) : Type 0 where
+  pub turns : ℕ
+  pub ended : has_work (after s turns (begun p)) ≡ false
+  pub comes_to : template_of (after s turns (begun p)) ≡ t

@@ -1,8 +1,8 @@
 //! Templates of functions.
-ghost use Rattle.std.specs.Prelude.{◌≡◌, ◌++◌, IfOk};
-ghost use Rattle.c_layout.specs.CheckedUnits.{function_view};
-ghost use Rattle.c_layout.specs.StructViews.{structs_view};
-ghost use Rattle.template_works.specs.Pieces.{template_view};
+ghost use Rattle.std.specs.Prelude.{◌≡◌, ℕ, Bool, List, IfOk};
+ghost use Rattle.c_layout.specs.CheckedUnits.{FunctionView, function_view};
+ghost use Rattle.c_layout.specs.StructViews.{StructView, structs_view};
+ghost use Rattle.template_works.specs.Pieces.{TemplateView, template_view};
 ghost use Rattle.template_works.specs.Plans.{plan};
 ghost use Rattle.template_works.specs.Settings.{setting};
 ghost use Rattle.flow_templates.specs.Functions.{numbers_from, setting_of, no_plan, IsTemplate};
@@ -14,6 +14,7 @@ use std::alloc::{AllocError, Global};
 use template_works::{Builder, Setting, Template, scope_tree};
 
 /// The numbers below one, in order.
+#[tactic(auto, using(crate::proofs::Numbers::next_number, crate::proofs::Numbers::no_number))]
 fn numbers_below(alloc: Global, count: u32) -> Result<Vec<u32>, AllocError>
     ensures { IfOk result (λ v. v.items ≡ numbers_from 0 count) }
 {
@@ -76,3 +77,8 @@ pub fn template<'a>(
     push_function(&cx, &mut builder, function)?;
     finished(&cx, builder)
 }
+
+/// A function has one template at most.
+pub fn one_template()
+    ensures { (structs : List StructView) (pointer int_bytes : ℕ) (f : FunctionView) (is_entry : Bool) (t u : TemplateView) → IsTemplate structs pointer int_bytes f is_entry t → IsTemplate structs pointer int_bytes f is_entry u → t ≡ u }
+{}

@@ -5,5 +5,5 @@ mod finished_works;
 mod function_templates;
 mod function_works;
 
-pub use function_templates::template;
+pub use function_templates::{one_template, template};
 pub use template_works::{BaseName, Exit, OwnCall, Piece, Template};
