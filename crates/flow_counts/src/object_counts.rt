@@ -180,6 +180,7 @@ impl BaseTally {
     }
 
     /// Counts the parameters, which are the first local objects.
+    #[tactic(auto, using(crate::proofs::Slots::next_slot))]
     fn add_parameters(
         &mut self,
         unit: &Checked,

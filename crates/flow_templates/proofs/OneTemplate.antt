@@ -1,5 +1,5 @@
 -- Works come to one template at most: behind the last turn nothing changes.
-use Rattle.std.proofs.Common.{◌≡◌, ℕ, zero, suc, ◌<◌, ◌≤◌, ◌⊎◌, inl, inr, Bool, true, false, List, [], ◌∷◌, refl, ap, sym, ◌∙◌, arith}
+use Rattle.std.proofs.Common.{◌≡◌, ℕ, zero, suc, ◌+◌, ◌<◌, ◌≤◌, ◌⊎◌, inl, inr, Bool, true, false, List, [], ◌∷◌, refl, ap, sym, ◌∙◌, arith}
 use Rattle.std.proofs.lemmas.Bool.{cases_lt}
 use Rattle.template_works.specs.Pieces.{TemplateView}
 use Rattle.template_works.specs.Works.{Job}
@@ -32,3 +32,6 @@ one_finish s p t u a b = sym a.comes_to ∙ ap template_of (one_end s (begun p) 
 -- a turn without a work ends
 pub finishes : (s : SettingView) (p : Plan) (n : ℕ) (g : Going) (t : TemplateView) → g ≡ next s (after s n (begun p)) → has_work (after s n (begun p)) ≡ false → template_of g ≡ t → Finishes s p t
 finishes s p n g t e h k = record { turns = n; ended = h; comes_to = ap template_of (sym (stays s (after s n (begun p)) h)) ∙ ap template_of (sym e) ∙ k }
+
+pub after_next : (s : SettingView) (n : ℕ) (g : Going) → after s (n + 1) g ≡ next s (after s n g)
+after_next s n g = let e : n + 1 ≡ suc n = omega arith in ap (λ k. after s k g) e

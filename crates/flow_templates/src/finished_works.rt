@@ -89,6 +89,7 @@ fn advance<'a>(cx: &Setting<'a>, making: &mut Making<'a>) -> Result<bool, AllocE
 }
 
 /// The template that a function's first works come to.
+#[tactic(auto, using(crate::proofs::OneTemplate::after_next))]
 pub fn finished<'a>(cx: &Setting<'a>, builder: Builder<'a>) -> Result<Template<'a>, AllocError>
     ensures { IfOk result (λ t. Finishes (setting cx.now) (plan builder.entry) (template_view t)) }
 {

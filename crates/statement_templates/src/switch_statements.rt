@@ -1,5 +1,5 @@
 //! `switch` (6.8.4.2 of ISO/IEC 9899:2011).
-ghost use Rattle.std.specs.Prelude.{◌≡◌, ◌++◌, IfOk, map, length};
+ghost use Rattle.std.specs.Prelude.{◌≡◌, [], ◌∷◌, ◌++◌, IfOk, map, length};
 ghost use Rattle.c_layout.specs.CheckedTrees.{term_tree, statement_tree};
 ghost use Rattle.template_works.specs.Pieces.{exits_view};
 ghost use Rattle.template_works.specs.Plans.{plan};
@@ -135,7 +135,22 @@ fn case_arms(
     Ok(arms)
 }
 
-/// The edges of the cases, each with what it knows.
+/// The edge of a case, with what it knows.
+fn push_case_exit(
+    exits: &mut Vec<Exit>,
+    arm: CaseArm,
+    object: Option<u32>,
+) -> Result<(), AllocError>
+    ensures { IfOk result (λ _. exits_view exits.new.items ≡ exits_view exits.old.items ++ spec.case_exit object arm ∷ []) }
+{
+    let kind = EdgeKind::Case(CaseTest {
+        value: arm.value,
+        object,
+    });
+    Ok(exits.push(Exit { to: arm.to, kind })?)
+}
+
+/// The edges of the cases, in order.
 fn push_case_exits(
     exits: &mut Vec<Exit>,
     arms: &[CaseArm],
@@ -144,11 +159,7 @@ fn push_case_exits(
     ensures { IfOk result (λ _. exits_view exits.new.items ≡ exits_view exits.old.items ++ spec.case_exits arms.now object) }
 {
     for arm in arms {
-        let kind = EdgeKind::Case(CaseTest {
-            value: arm.value,
-            object,
-        });
-        exits.push(Exit { to: arm.to, kind })?;
+        push_case_exit(exits, *arm, object)?;
     }
     Ok(())
 }

@@ -5,4 +5,4 @@ use Rattle.flow_templates.specs.Turns.{making, begun, after}
 use Rattle.flow_templates.proofs.finished_works.finished.Given as goal
 
 abbrev pub invariant-loop-turn : goal.invariant-loop-turn
-invariant-loop-turn l = making l.making ≡ after (setting l.cx) l._turn (making l.initial.making)
+invariant-loop-turn l = making l.making ≡ after (setting l.cx) l._turn (begun (plan l.fn.builder))
