@@ -11,7 +11,7 @@ use Rattle.flow_counts.specs.declared.object_counts.BaseCount.{BaseCount}
 use Rattle.flow_counts.specs.declared.object_counts.BaseTally.{BaseTally}
 use Rattle.flow_counts.specs.Extents.{capped}
 use Rattle.flow_counts.specs.PieceCounts.{counted}
-use Rattle.flow_counts.specs.HeapBases.{heap_leaves}
+use Rattle.base_shapes.specs.HeapBases.{heap_leaves}
 
 abbrev pub no_bases : BaseCount
 no_bases = record { bases = 0; cells = 0 }

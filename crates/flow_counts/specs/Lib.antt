@@ -2,7 +2,6 @@ pub mod SizeRefusals
 pub mod Extents
 pub mod PieceCounts
 pub mod FirstOver
-pub mod HeapBases
 pub mod BaseCounts
 pub mod FunctionTotals
 pub mod SettledTemplates

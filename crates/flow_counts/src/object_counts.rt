@@ -8,8 +8,8 @@ ghost use Rattle.flow_templates.specs.Functions.{local_type};
 ghost use Rattle.flow_counts.specs.BaseCounts as spec;
 ghost use Rattle.flow_counts.specs.BaseCounts.{tally};
 
-use crate::base_shapes::heap_leaves;
 use crate::function_counts::{FunctionCounts, capped_sum, counts_at};
+use base_shapes::heap_leaves;
 use c_layout::{CType, Checked, Function, count_leaves};
 use flow_templates::{BaseName, Piece};
 use std::alloc::{AllocError, Global};

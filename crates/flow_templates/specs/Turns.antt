@@ -34,8 +34,8 @@ pub record Going : Type 0 where
   pub stack : List Job
   pub planned : Plan
 
-abbrev pub making : Making → Going
-making m = record { pieces = map piece_view m.pieces.items; stack = reverse (map job m.stack.items); planned = plan m.builder }
+abbrev pub going : Making → Going
+going m = record { pieces = map piece_view m.pieces.items; stack = reverse (map job m.stack.items); planned = plan m.builder }
 
 abbrev pub planless : Plan → Plan
 planless p = record p { jobs = [] }

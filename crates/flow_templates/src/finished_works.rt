@@ -5,7 +5,7 @@ ghost use Rattle.template_works.specs.Works.{job};
 ghost use Rattle.template_works.specs.Plans.{plan};
 ghost use Rattle.template_works.specs.Settings.{setting};
 ghost use Rattle.flow_templates.specs.Turns as spec;
-ghost use Rattle.flow_templates.specs.Turns.{turned, making, begun, Finishes};
+ghost use Rattle.flow_templates.specs.Turns.{turned, going, Finishes};
 
 use condition_templates::condition_works;
 use statement_templates::statement_works;
@@ -54,7 +54,7 @@ fn turn<'a>(
 /// Puts the works that are planned on the stack.
 #[tactic(auto, using(crate::proofs::Stacks::on_top))]
 fn schedule_plan(making: &mut Making) -> Result<(), AllocError>
-    ensures { IfOk result (λ _. making making.new ≡ spec.scheduled (making making.old)) }
+    ensures { IfOk result (λ _. going making.new ≡ spec.scheduled (going making.old)) }
 {
     let none = Vec::new(making.builder.alloc);
     let works = std::mem::replace(&mut making.builder.works, none);
@@ -67,7 +67,7 @@ fn turn_top<'a>(
     making: &mut Making<'a>,
     work: Work<'a>,
 ) -> Result<(), AllocError>
-    ensures { IfOk result (λ _. making making.new ≡ spec.turned_on (setting cx.now) (job work.entry) (making making.old)) }
+    ensures { IfOk result (λ _. going making.new ≡ spec.turned_on (setting cx.now) (job work.entry) (going making.old)) }
 {
     turn(cx, &mut making.builder, &mut making.pieces, work)?;
     schedule_plan(making)
@@ -76,8 +76,8 @@ fn turn_top<'a>(
 /// Does the next work; whether there was one.
 #[tactic(auto, using(crate::proofs::Stacks::top))]
 fn advance<'a>(cx: &Setting<'a>, making: &mut Making<'a>) -> Result<bool, AllocError>
-    ensures after { IfOk result (λ _. making making.new ≡ spec.next (setting cx.now) (making making.old)) }
-    ensures left { IfOk result (λ b. b ≡ spec.has_work (making making.old)) }
+    ensures after { IfOk result (λ _. going making.new ≡ spec.next (setting cx.now) (going making.old)) }
+    ensures left { IfOk result (λ b. b ≡ spec.has_work (going making.old)) }
 {
     match making.stack.pop() {
         Some(work) => {

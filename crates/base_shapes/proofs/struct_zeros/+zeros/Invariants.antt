@@ -1,5 +1,5 @@
 use Rattle.std.proofs.Common.{◌≡◌, ◌+◌, ◌*◌}
-use Rattle.flow_counts.proofs.struct_zeros.+zeros.Given as goal
+use Rattle.base_shapes.proofs.struct_zeros.+zeros.Given as goal
 
 abbrev pub decreases-push_zeros : goal.decreases-push_zeros
 decreases-push_zeros l = 3 * l.depth + 1

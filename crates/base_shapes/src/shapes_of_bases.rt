@@ -4,7 +4,7 @@ ghost use Rattle.c_layout.specs.Types.{view};
 ghost use Rattle.c_layout.specs.StructViews.{structs_view};
 ghost use Rattle.c_layout.specs.Leaves.{leaves_of};
 ghost use Rattle.template_works.specs.Pieces.{target_view};
-ghost use Rattle.flow_counts.specs.HeapBases as spec;
+ghost use Rattle.base_shapes.specs.HeapBases as spec;
 
 use crate::struct_zeros::push_zeros;
 use crate::whole_types::{is_sound, is_whole};
