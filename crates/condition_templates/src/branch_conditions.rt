@@ -90,7 +90,12 @@ fn conditional_condition<'a>(
         no: first + 2,
     };
     let arm = tested_or_not(decision.targets, decision.depth, false);
-    push_part(builder, first, test, tested_or_not(targets, decision.depth, true))?;
+    push_part(
+        builder,
+        first,
+        test,
+        tested_or_not(targets, decision.depth, true),
+    )?;
     push_part(builder, first + 1, yes, arm)?;
     push_part(builder, first + 2, no, arm)
 }
@@ -148,7 +153,11 @@ fn line_call_in(term: &CheckedTerm) -> Option<LineCall>
         TermForm::StepPointer(_, _, _, _) => None,
         TermForm::Struct(_) => None,
         TermForm::Call(_, _, _) => None,
-        TermForm::Library(function, arguments, _) => line_call_of(term.place, *function, arguments.as_slice()),
+        TermForm::Library(function, arguments, _) => line_call_of(
+            term.place,
+            *function,
+            arguments.as_slice(),
+        ),
     }
 }
 
@@ -243,7 +252,11 @@ fn read_by(term: &CheckedTerm) -> Option<ReadTest>
 fn read_targets(wants_line: bool, targets: Targets) -> Targets
     ensures { result ≡ spec.read_targets wants_line targets }
 {
-    if wants_line { targets } else { flipped(targets) }
+    if wants_line {
+        targets
+    } else {
+        flipped(targets)
+    }
 }
 
 fn read_condition<'a>(
@@ -255,7 +268,14 @@ fn read_condition<'a>(
 {
     let targets = read_targets(read.wants_line, decision.targets);
     let call = read.call;
-    read_line(builder, call.place, call.arguments, decision.depth, targets.no, targets.yes)
+    read_line(
+        builder,
+        call.place,
+        call.arguments,
+        decision.depth,
+        targets.no,
+        targets.yes,
+    )
 }
 
 /// The test of a condition, where it is one.
@@ -297,7 +317,13 @@ fn plain_condition<'a>(
 {
     let test = test_if(cx, builder, term, decision.is_test)?;
     builder.add(Work::Value(term, decision.depth))?;
-    branch(builder, term, decision.depth, decision.targets, known_by(test))
+    branch(
+        builder,
+        term,
+        decision.depth,
+        decision.targets,
+        known_by(test),
+    )
 }
 
 fn leaf_condition<'a>(
@@ -352,8 +378,12 @@ pub fn condition_works<'a>(
         TermForm::Shift(_, _, _, _) => leaf_condition(cx, builder, term, decision),
         TermForm::Difference(_, _, _) => leaf_condition(cx, builder, term, decision),
         TermForm::Compare(_, _, _) => leaf_condition(cx, builder, term, decision),
-        TermForm::Logical(op, left, right) => logical_condition(builder, *op, left, right, decision),
-        TermForm::Conditional(test, yes, no) => conditional_condition(builder, test, yes, no, decision),
+        TermForm::Logical(op, left, right) => logical_condition(
+            builder, *op, left, right, decision,
+        ),
+        TermForm::Conditional(test, yes, no) => conditional_condition(
+            builder, test, yes, no, decision,
+        ),
         TermForm::Comma(_, _) => leaf_condition(cx, builder, term, decision),
         TermForm::Assign(_, _) => leaf_condition(cx, builder, term, decision),
         TermForm::Compound(_, _, _, _) => leaf_condition(cx, builder, term, decision),

@@ -140,20 +140,44 @@ impl Shifted {
     {
         match operation {
             Operation::Constant(to, n, kind) => Ok(Operation::Constant(self.temp(*to), *n, *kind)),
-            Operation::Address(to, _, offset) => Ok(Operation::Address(self.temp(*to), self.base, *offset)),
-            Operation::Load(to, from, kind) => Ok(Operation::Load(self.temp(*to), self.temp(*from), *kind)),
+            Operation::Address(to, _, offset) => Ok(Operation::Address(
+                self.temp(*to),
+                self.base,
+                *offset,
+            )),
+            Operation::Load(to, from, kind) => Ok(Operation::Load(
+                self.temp(*to),
+                self.temp(*from),
+                *kind,
+            )),
             Operation::Store(to, from, kind, kept) => {
                 Ok(Operation::Store(self.temp(*to), self.temp(*from), *kind, self.kept(*kept)))
             }
-            Operation::Copy(to, from, number) => Ok(Operation::Copy(self.temp(*to), self.temp(*from), *number)),
+            Operation::Copy(to, from, number) => Ok(Operation::Copy(
+                self.temp(*to),
+                self.temp(*from),
+                *number,
+            )),
             Operation::Narrow(to, from, offset, size) => {
                 Ok(Operation::Narrow(self.temp(*to), self.temp(*from), *offset, *size))
             }
             Operation::Shift(to, from, by, size, backward) => {
-                Ok(Operation::Shift(self.temp(*to), self.temp(*from), self.amount(*by), *size, *backward))
+                Ok(Operation::Shift(
+                    self.temp(*to),
+                    self.temp(*from),
+                    self.amount(*by),
+                    *size,
+                    *backward,
+                ))
             }
             Operation::Binary(to, op, left, right, kind) => {
-                Ok(Operation::Binary(self.temp(*to), *op, self.temp(*left), self.amount(*right), *kind))
+                Ok(Operation::Binary(
+                    self.temp(*to),
+                    *op,
+                    self.temp(*left),
+                    self.amount(*right),
+                    *kind,
+                ))
             }
             Operation::Unary(to, op, from, kind) => {
                 Ok(Operation::Unary(self.temp(*to), *op, self.temp(*from), *kind))
@@ -161,12 +185,26 @@ impl Shifted {
             Operation::Compare(to, rel, left, right) => {
                 Ok(Operation::Compare(self.temp(*to), *rel, self.temp(*left), self.temp(*right)))
             }
-            Operation::Not(to, from, kind) => Ok(Operation::Not(self.temp(*to), self.temp(*from), *kind)),
+            Operation::Not(to, from, kind) => Ok(Operation::Not(
+                self.temp(*to),
+                self.temp(*from),
+                *kind,
+            )),
             Operation::Difference(to, left, right, size) => {
-                Ok(Operation::Difference(self.temp(*to), self.temp(*left), self.temp(*right), *size))
+                Ok(Operation::Difference(
+                    self.temp(*to),
+                    self.temp(*left),
+                    self.temp(*right),
+                    *size,
+                ))
             }
             Operation::ComparePointers(to, rel, left, right) => {
-                Ok(Operation::ComparePointers(self.temp(*to), *rel, self.temp(*left), self.temp(*right)))
+                Ok(Operation::ComparePointers(
+                    self.temp(*to),
+                    *rel,
+                    self.temp(*left),
+                    self.temp(*right),
+                ))
             }
             Operation::Convert(to, from, old, new) => {
                 Ok(Operation::Convert(self.temp(*to), self.temp(*from), *old, *new))
@@ -183,7 +221,12 @@ impl Shifted {
             Operation::Branch(from, kind) => Ok(Operation::Branch(self.temp(*from), *kind)),
             Operation::Switch(from, kind) => Ok(Operation::Switch(self.temp(*from), *kind)),
             Operation::ReadLine(to, text, size, stream) => {
-                Ok(Operation::ReadLine(self.temp(*to), self.temp(*text), self.temp(*size), self.temp(*stream)))
+                Ok(Operation::ReadLine(
+                    self.temp(*to),
+                    self.temp(*text),
+                    self.temp(*size),
+                    self.temp(*stream),
+                ))
             }
             Operation::Stop => Ok(Operation::Stop),
         }

@@ -1,6 +1,6 @@
 //! The bases of a control-flow program, in order of first naming.
-use c_layout::{BaseInfo, BaseKind, CType, Checked, Function, Shape, StaticBase, StaticObject};
 use base_shapes::{heap_shape, object_shape};
+use c_layout::{BaseInfo, BaseKind, CType, Checked, Function, Shape, StaticBase, StaticObject};
 use flow_counts::{literal_type, local_type, pointed_into, slot_of};
 use flow_program::type_bytes;
 use flow_templates::BaseName;

@@ -62,11 +62,7 @@ fn schedule_plan(making: &mut Making) -> Result<(), AllocError>
 }
 
 /// Does the work on top of the stack, and plans what it consists of.
-fn turn_top<'a>(
-    cx: &Setting<'a>,
-    making: &mut Making<'a>,
-    work: Work<'a>,
-) -> Result<(), AllocError>
+fn turn_top<'a>(cx: &Setting<'a>, making: &mut Making<'a>, work: Work<'a>) -> Result<(), AllocError>
     ensures { IfOk result (λ _. going making.new ≡ spec.turned_on (setting cx.now) (job work.entry) (going making.old)) }
 {
     turn(cx, &mut making.builder, &mut making.pieces, work)?;
@@ -102,7 +98,9 @@ pub fn finished<'a>(cx: &Setting<'a>, builder: Builder<'a>) -> Result<Template<'
     for _turn in 0..u64::MAX {
         if !advance(cx, &mut making)? {
             let Making {
-                pieces, builder, ..
+                pieces,
+                builder,
+                ..
             } = making;
             return Ok(Template {
                 pieces,

@@ -27,11 +27,7 @@ fn local_type(function: &Function, number: u32) -> &CType
 }
 
 /// Adds the entering of the object of the result, where there is one.
-fn push_result_enter(
-    builder: &mut Builder,
-    place: Place,
-    ctype: &CType,
-) -> Result<(), AllocError>
+fn push_result_enter(builder: &mut Builder, place: Place, ctype: &CType) -> Result<(), AllocError>
     ensures { IfOk result (λ _. plan builder.new ≡ spec.result_entered place (view ctype.now) (plan builder.old)) }
 {
     if is_void(ctype) {
@@ -88,22 +84,14 @@ fn push_parameters(
 }
 
 /// Adds an instruction that is done where the call's value is used.
-fn push_if_used(
-    builder: &mut Builder,
-    place: Place,
-    operation: Operation,
-) -> Result<(), AllocError>
+fn push_if_used(builder: &mut Builder, place: Place, operation: Operation) -> Result<(), AllocError>
     ensures { IfOk result (λ _. plan builder.new ≡ spec.if_used place (act operation) (plan builder.old)) }
 {
     builder.add(Work::Ready(Piece::DoIfUsed(Instruction { place, operation })))
 }
 
 /// Adds the loading of the result, where it is used, and its leaving.
-fn push_loaded_result(
-    builder: &mut Builder,
-    place: Place,
-    kind: Scalar,
-) -> Result<(), AllocError>
+fn push_loaded_result(builder: &mut Builder, place: Place, kind: Scalar) -> Result<(), AllocError>
     ensures { IfOk result (λ _. plan builder.new ≡ spec.result_loaded place kind (plan builder.old)) }
 {
     let base = builder.base(BaseName::Outcome)?;
@@ -165,11 +153,7 @@ fn push_entry<'a>(
 }
 
 /// What stands behind the body of a function that is called.
-fn push_after_body(
-    cx: &Setting,
-    builder: &mut Builder,
-    ctype: &CType,
-) -> Result<(), AllocError>
+fn push_after_body(cx: &Setting, builder: &mut Builder, ctype: &CType) -> Result<(), AllocError>
     ensures { IfOk result (λ _. plan builder.new ≡ spec.after_body (setting cx.now) (view ctype.now) (plan builder.old)) }
 {
     push_leaves(builder, cx.place, cx.parameters.as_slice())?;

@@ -94,12 +94,7 @@ fn push_exit(cx: &Setting, builder: &mut Builder) -> Result<(), AllocError>
 
 /// Adds the end of a return: from the entry the run stops, from another function a jump leads behind
 /// its body.
-fn push_end(
-    cx: &Setting,
-    builder: &mut Builder,
-    place: Place,
-    from: u32,
-) -> Result<(), AllocError>
+fn push_end(cx: &Setting, builder: &mut Builder, place: Place, from: u32) -> Result<(), AllocError>
     ensures { IfOk result (λ _. plan builder.new ≡ spec.end (setting cx.now) place from (plan builder.old)) }
 {
     push_way(cx, builder, from, 0)?;

@@ -207,7 +207,12 @@ fn push_turn<'a>(
     ensures { IfOk result (λ _. plan builder.new ≡ spec.turn place first (option_map term_tree test.now) (option_map term_tree step.now) (statement_tree body.now) inside (plan builder.old)) }
 {
     push_check(builder, first + 1, test, first + 2, first + 4)?;
-    push_part(builder, first + 2, body, in_loop(inside, first + 4, first + 3))?;
+    push_part(
+        builder,
+        first + 2,
+        body,
+        in_loop(inside, first + 4, first + 3),
+    )?;
     push_step(builder, place, first + 3, step, first + 1)
 }
 

@@ -78,12 +78,7 @@ fn push_steps(
 }
 
 /// Adds the way from one scope to another.
-pub fn push_way(
-    cx: &Setting,
-    builder: &mut Builder,
-    from: u32,
-    to: u32,
-) -> Result<(), AllocError>
+pub fn push_way(cx: &Setting, builder: &mut Builder, from: u32, to: u32) -> Result<(), AllocError>
     ensures { IfOk result (λ _. plan builder.new ≡ spec.way_between (setting cx.now) from to (plan builder.old)) }
 {
     push_steps(cx, builder, cx.tree.scopes.as_slice(), from, to)

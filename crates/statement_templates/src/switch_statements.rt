@@ -54,10 +54,7 @@ fn case_scope(cx: &Setting, number: u32) -> u32
 }
 
 /// The integer object among what is named.
-fn integer_mention(
-    builder: &mut Builder,
-    found: NamedObject,
-) -> Result<Option<u32>, AllocError>
+fn integer_mention(builder: &mut Builder, found: NamedObject) -> Result<Option<u32>, AllocError>
     ensures { IfOk result (λ b. mentioned b (plan builder.new) ≡ spec.integer_mention found (plan builder.old)) }
 {
     match found.kind {
@@ -70,10 +67,7 @@ fn integer_mention(
 }
 
 /// The integer object that is switched on, where the value is one.
-fn switched_object(
-    builder: &mut Builder,
-    value: &CheckedTerm,
-) -> Result<Option<u32>, AllocError>
+fn switched_object(builder: &mut Builder, value: &CheckedTerm) -> Result<Option<u32>, AllocError>
     ensures { IfOk result (λ b. mentioned b (plan builder.new) ≡ spec.switched_object (term_tree value.now) (plan builder.old)) }
 {
     match named(value) {
@@ -307,7 +301,11 @@ fn push_dispatch<'a>(
     let object = switched_object(builder, value)?;
     let exits = dispatch_exits(builder.alloc, arms.as_slice(), cases, object, other)?;
     builder.add(Work::Value(value, 0))?;
-    builder.close(place, Operation::Switch(0, integer_type(&value.ctype)), exits)?;
+    builder.close(
+        place,
+        Operation::Switch(0, integer_type(&value.ctype)),
+        exits,
+    )?;
     push_blocks(cx, builder, from, arms.as_slice())?;
     push_block(cx, builder, from, other, landing)
 }

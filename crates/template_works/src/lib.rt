@@ -13,6 +13,7 @@ pub use scope_trees::{Choice, Scope, ScopeTree, scope_tree};
 pub use template_builder::{Builder, Dispatch, Setting};
 pub use template_pieces::{BaseName, Exit, OwnCall, Piece, Template};
 pub use term_kinds::{
-    OperatorMeaning, assigned, common_with_int, integer_type, is_backward, is_null_constant, is_void, loaded,
-    meaning, opposite, peeled, relation, scalar, step_operator, struct_number, turned,
+    OperatorMeaning, assigned, common_with_int, integer_type, is_backward, is_null_constant,
+    is_void, loaded, meaning, opposite, peeled, relation, scalar, step_operator, struct_number,
+    turned,
 };

@@ -60,7 +60,14 @@ pub fn assignment<'a>(
     push_sides(builder, lvalue, value, depth)?;
     let second = behind(depth, 1);
     let kind = scalar(&lvalue.ctype);
-    push_store(builder, lvalue.place, depth, second, kind, kept(used, depth, second))
+    push_store(
+        builder,
+        lvalue.place,
+        depth,
+        second,
+        kind,
+        kept(used, depth, second),
+    )
 }
 
 fn is_same(a: IntType, b: IntType) -> bool
@@ -148,7 +155,14 @@ pub fn compound<'a>(
 {
     let own = integer_type(&lvalue.ctype);
     push_old_value(builder, lvalue, value, depth, Scalar::Int(own))?;
-    push_computed(builder, place, number_operator(op), own, integer_type(kind), depth)?;
+    push_computed(
+        builder,
+        place,
+        number_operator(op),
+        own,
+        integer_type(kind),
+        depth,
+    )?;
     let second = behind(depth, 1);
     let kept = kept(used, depth, second);
     push_store(builder, lvalue.place, depth, second, Scalar::Int(own), kept)
@@ -247,7 +261,15 @@ pub fn step<'a>(
     push_target(builder, lvalue, depth, Scalar::Int(own))?;
     let old = behind(depth, 1);
     let new = new_value(old, keeps_old(time, used));
-    push_stepped(builder, place, step_operator(op), own, integer_type(kind), old, new)?;
+    push_stepped(
+        builder,
+        place,
+        step_operator(op),
+        own,
+        integer_type(kind),
+        old,
+        new,
+    )?;
     let kept = kept(used, depth, old);
     push_store(builder, lvalue.place, depth, new, Scalar::Int(own), kept)
 }
@@ -268,7 +290,10 @@ pub fn pointer_step<'a>(
     push_target(builder, lvalue, depth, Scalar::Pointer)?;
     let old = behind(depth, 1);
     let new = new_value(old, keeps_old(time, used));
-    builder.emit(place, Operation::Shift(new, old, Amount::One, size, is_backward(op)))?;
+    builder.emit(
+        place,
+        Operation::Shift(new, old, Amount::One, size, is_backward(op)),
+    )?;
     let kept = kept(used, depth, old);
     push_store(builder, lvalue.place, depth, new, Scalar::Pointer, kept)
 }

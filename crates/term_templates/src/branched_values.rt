@@ -50,7 +50,11 @@ pub fn branch(
     ensures { IfOk result (λ _. plan builder.new ≡ spec.branch (term_tree term.now) depth targets known (plan builder.old)) }
 {
     let exits = branch_exits(builder.alloc, targets, known)?;
-    builder.close(term.place, Operation::Branch(depth, scalar(&term.ctype)), exits)
+    builder.close(
+        term.place,
+        Operation::Branch(depth, scalar(&term.ctype)),
+        exits,
+    )
 }
 
 fn jump_exits(alloc: Global, to: u32) -> Result<Vec<Exit>, AllocError>

@@ -63,15 +63,13 @@ fn one<'a>(
 }
 
 /// A number.
-fn number(
-    builder: &mut Builder,
-    term: &CheckedTerm,
-    n: i128,
-    depth: u32,
-) -> Result<(), AllocError>
+fn number(builder: &mut Builder, term: &CheckedTerm, n: i128, depth: u32) -> Result<(), AllocError>
     ensures { IfOk result (λ _. plan builder.new ≡ spec.number (term_tree term.now) n depth (plan builder.old)) }
 {
-    builder.emit(term.place, Operation::Constant(depth, n, integer_type(&term.ctype)))
+    builder.emit(
+        term.place,
+        Operation::Constant(depth, n, integer_type(&term.ctype)),
+    )
 }
 
 /// The conversion of an array lvalue to a pointer to its first element (6.3.2.1).
@@ -89,15 +87,14 @@ fn decay<'a>(
 }
 
 /// The value of an lvalue of scalar type.
-fn load<'a>(
-    builder: &mut Builder<'a>,
-    lvalue: &'a Lvalue,
-    depth: u32,
-) -> Result<(), AllocError>
+fn load<'a>(builder: &mut Builder<'a>, lvalue: &'a Lvalue, depth: u32) -> Result<(), AllocError>
     ensures { IfOk result (λ _. plan builder.new ≡ spec.load (lvalue_tree lvalue.now) depth (plan builder.old)) }
 {
     builder.add(Work::Address(lvalue, depth))?;
-    builder.emit(lvalue.place, Operation::Load(depth, depth, scalar(&lvalue.ctype)))
+    builder.emit(
+        lvalue.place,
+        Operation::Load(depth, depth, scalar(&lvalue.ctype)),
+    )
 }
 
 /// A conversion.
@@ -110,7 +107,13 @@ fn conversion<'a>(
     ensures { IfOk result (λ _. plan builder.new ≡ spec.conversion (term_tree term.now) (term_tree inner.now) depth (plan builder.old)) }
 {
     let (from, to) = (scalar(&inner.ctype), scalar(&term.ctype));
-    one(builder, term.place, inner, depth, Operation::Convert(depth, depth, from, to))
+    one(
+        builder,
+        term.place,
+        inner,
+        depth,
+        Operation::Convert(depth, depth, from, to),
+    )
 }
 
 /// Minus or complement in the type of the term.
@@ -262,11 +265,22 @@ pub fn term_works<'a>(
         }
         TermForm::Compare(op, left, right) => pointers(builder, place, *op, left, right, depth),
         TermForm::Logical(op, left, right) => logical(builder, *op, left, right, depth),
-        TermForm::Conditional(test, yes, no) => conditional(cx, builder, test, yes, no, depth, used),
+        TermForm::Conditional(test, yes, no) => conditional(
+            cx, builder, test, yes, no, depth, used,
+        ),
         TermForm::Comma(left, right) => comma(builder, left, right, depth, used),
         TermForm::Assign(lvalue, value) => assignment(builder, lvalue, value, depth, used),
         TermForm::Compound(op, kind, lvalue, value) => {
-            compound(builder, place, meaning(*op), kind, lvalue, value, depth, used)
+            compound(
+                builder,
+                place,
+                meaning(*op),
+                kind,
+                lvalue,
+                value,
+                depth,
+                used,
+            )
         }
         TermForm::CompoundShift(backward, size, lvalue, value) => {
             compound_shift(builder, place, *backward, *size, lvalue, value, depth, used)
@@ -279,10 +293,25 @@ pub fn term_works<'a>(
         }
         TermForm::Struct(lvalue) => builder.add(Work::Address(lvalue, depth)),
         TermForm::Call(function, arguments, is_used) => {
-            own_call(builder, place, *function, arguments.as_slice(), *is_used, depth)
+            own_call(
+                builder,
+                place,
+                *function,
+                arguments.as_slice(),
+                *is_used,
+                depth,
+            )
         }
         TermForm::Library(function, arguments, target) => {
-            library_call(cx, builder, place, *function, arguments.as_slice(), target, depth)
+            library_call(
+                cx,
+                builder,
+                place,
+                *function,
+                arguments.as_slice(),
+                target,
+                depth,
+            )
         }
     }
 }
