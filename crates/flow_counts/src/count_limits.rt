@@ -1,6 +1,7 @@
 //! The counts of a unit's control-flow program, and their limits.
-ghost use Rattle.std.specs.Prelude.{◌≡◌, ◌≤◌, IfErr, IfOk};
+ghost use Rattle.std.specs.Prelude.{◌≡◌, ◌≤◌, IfErr, IfOk, Some, None};
 ghost use Rattle.flow_counts.specs.SizeRefusals.{limit_of, IsTooLarge};
+ghost use Rattle.flow_counts.specs.FirstOver.{over, first_over, refusal_in, unit_counts};
 
 use crate::function_counts::{FunctionCounts, capped_sum};
 use crate::object_counts::BaseCount;
@@ -18,7 +19,9 @@ pub struct UnitCounts {
 }
 
 /// The counts of the entry, with the bases that functions share.
-pub fn unit_counts(entry: FunctionCounts, shared: BaseCount) -> UnitCounts {
+pub fn unit_counts(entry: FunctionCounts, shared: BaseCount) -> UnitCounts
+    ensures { result ≡ unit_counts entry shared }
+{
     UnitCounts {
         temps: entry.temps,
         bases: capped_sum(entry.bases, shared.bases),
@@ -45,6 +48,8 @@ fn limit(what: Count, limits: &Limits) -> u64
 pub fn within(place: Place, what: Count, count: u64, limits: &Limits) -> Result<(), Stop>
     ensures ok { IfOk result (λ _. count ≤ limit_of what limits.now) }
     ensures err { IfErr result (IsTooLarge limits.now place) }
+    ensures fits { IfOk result (λ _. over limits.now what count ≡ None) }
+    ensures passes { IfErr result (λ s. over limits.now what count ≡ Some (refusal_in s)) }
 {
     let limit = limit(what, limits);
     if count <= limit {
@@ -64,6 +69,8 @@ pub fn all_within(place: Place, counts: UnitCounts, limits: &Limits) -> Result<(
     ensures blocks { IfOk result (λ _. counts.blocks ≤ limits.now.blocks) }
     ensures instructions { IfOk result (λ _. counts.instructions ≤ limits.now.instructions) }
     ensures err { IfErr result (IsTooLarge limits.now place) }
+    ensures fit { IfOk result (λ _. first_over limits.now counts ≡ None) }
+    ensures passes { IfErr result (λ s. first_over limits.now counts ≡ Some (refusal_in s)) }
 {
     within(place, Count::Temps, counts.temps, limits)?;
     within(place, Count::Bases, counts.bases, limits)?;

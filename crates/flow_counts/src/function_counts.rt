@@ -1,10 +1,15 @@
 //! What a function adds to a control-flow program, counted without making it.
-ghost use Rattle.std.specs.Prelude.{◌≡◌, ◌+◌, ◌*◌, cond};
+ghost use Rattle.std.specs.Prelude.{◌≡◌, ◌+◌, ◌*◌, cond, map, IfOk};
+ghost use Rattle.template_works.specs.Acts.{act};
+ghost use Rattle.template_works.specs.Pieces.{piece_view};
 ghost use Rattle.flow_counts.specs.Extents.{capped, with_instruction, with_end, with_mark, added_by, with_call};
+ghost use Rattle.flow_counts.specs.PieceCounts as spec;
+ghost use Rattle.flow_counts.specs.PieceCounts.{counted};
 
 use flow_program::Operation;
 use flow_templates::{OwnCall, Piece};
 use std::alloc::AllocError;
+use template_works::behind;
 
 /// The greatest count; it stands for all greater ones too.
 const MOST: u64 = 1_000_000_000_000_000_000;
@@ -104,10 +109,15 @@ fn after_call(at: BlockExtent, counts: FunctionCounts, used: bool) -> BlockExten
 pub fn counts_at(
     table: &[Option<FunctionCounts>],
     function: u32,
-) -> Result<FunctionCounts, AllocError> {
+) -> Result<FunctionCounts, AllocError>
+    ensures { IfOk result (λ c. c ≡ counted table.now function) }
+{
     match table.get(function as usize) {
-        Some(Some(counts)) => Ok(*counts),
-        _ => Err(AllocError),
+        Some(found) => match found {
+            Some(counts) => Ok(*counts),
+            None => Err(AllocError),
+        },
+        None => Err(AllocError),
     }
 }
 
@@ -115,7 +125,9 @@ fn after_piece(
     at: BlockExtent,
     piece: &Piece,
     table: &[Option<FunctionCounts>],
-) -> Result<BlockExtent, AllocError> {
+) -> Result<BlockExtent, AllocError>
+    ensures { IfOk result (λ e. e ≡ spec.with_piece table.now (piece_view piece.now) at) }
+{
     match piece {
         Piece::Do(_) => Ok(after_instruction(at)),
         Piece::DoIfUsed(_) => Ok(at),
@@ -133,7 +145,9 @@ pub fn extent(
     pieces: &[Piece],
     is_empty: bool,
     table: &[Option<FunctionCounts>],
-) -> Result<BlockExtent, AllocError> {
+) -> Result<BlockExtent, AllocError>
+    ensures { IfOk result (λ e. e ≡ spec.extent table.now (map piece_view pieces.now) is_empty) }
+{
     let mut at = BlockExtent {
         blocks: 0,
         instructions: 0,
@@ -145,76 +159,110 @@ pub fn extent(
     Ok(at)
 }
 
+/// How many temporaries there are up to one that may take a result.
+fn result_temps(to: Option<u32>) -> u32
+    ensures { result ≡ spec.result_temps to }
+{
+    match to {
+        Some(to) => behind(to, 1),
+        None => 0,
+    }
+}
+
 /// How many temporaries there are up to the one that an operation writes.
-fn written(operation: &Operation) -> u32 {
+fn written(operation: &Operation) -> u32
+    ensures { result ≡ spec.written (act operation.now) }
+{
     match operation {
-        Operation::Constant(to, _, _)
-        | Operation::Address(to, _, _)
-        | Operation::Load(to, _, _)
-        | Operation::Narrow(to, _, _, _)
-        | Operation::Shift(to, _, _, _, _)
-        | Operation::Binary(to, _, _, _, _)
-        | Operation::Unary(to, _, _, _)
-        | Operation::Compare(to, _, _, _)
-        | Operation::Not(to, _, _)
-        | Operation::Difference(to, _, _, _)
-        | Operation::ComparePointers(to, _, _, _)
-        | Operation::Convert(to, _, _, _)
-        | Operation::ReadLine(to, _, _, _) => to.saturating_add(1),
-        Operation::Library(to, _, _, _, _) => match to {
-            Some(to) => to.saturating_add(1),
-            None => 0,
-        },
-        _ => 0,
+        Operation::Constant(to, _, _) => behind(*to, 1),
+        Operation::Address(to, _, _) => behind(*to, 1),
+        Operation::Load(to, _, _) => behind(*to, 1),
+        Operation::Store(_, _, _, _) => 0,
+        Operation::Copy(_, _, _) => 0,
+        Operation::Narrow(to, _, _, _) => behind(*to, 1),
+        Operation::Shift(to, _, _, _, _) => behind(*to, 1),
+        Operation::Binary(to, _, _, _, _) => behind(*to, 1),
+        Operation::Unary(to, _, _, _) => behind(*to, 1),
+        Operation::Compare(to, _, _, _) => behind(*to, 1),
+        Operation::Not(to, _, _) => behind(*to, 1),
+        Operation::Difference(to, _, _, _) => behind(*to, 1),
+        Operation::ComparePointers(to, _, _, _) => behind(*to, 1),
+        Operation::Convert(to, _, _, _) => behind(*to, 1),
+        Operation::Library(to, _, _, _, _) => result_temps(*to),
+        Operation::Enter(_) => 0,
+        Operation::Leave(_) => 0,
+        Operation::Forget(_) => 0,
+        Operation::Clear(_) => 0,
+        Operation::Spell(_, _, _, _) => 0,
+        Operation::Jump => 0,
+        Operation::Branch(_, _) => 0,
+        Operation::Switch(_, _) => 0,
+        Operation::ReadLine(to, _, _, _) => behind(*to, 1),
+        Operation::Stop => 0,
     }
 }
 
-fn used_temps(call: OwnCall) -> u32 {
-    if call.used {
-        call.depth.saturating_add(1)
-    } else {
-        0
-    }
+fn used_temps(call: OwnCall) -> u32
+    ensures { result ≡ spec.used_temps call }
+{
+    if call.used { behind(call.depth, 1) } else { 0 }
 }
 
-fn called_temps(call: OwnCall, table: &[Option<FunctionCounts>]) -> Result<u64, AllocError> {
-    let counts = counts_at(table, call.function)?;
+/// The temporaries of a call whose function has these counts.
+fn called_temps(call: OwnCall, counts: FunctionCounts) -> u64
+    ensures { result ≡ spec.called_temps call counts }
+{
     let inner = capped_sum(call.depth as u64, counts.temps);
-    Ok(inner.max(used_temps(call) as u64))
+    inner.max(used_temps(call) as u64)
 }
 
-fn piece_temps(piece: &Piece, table: &[Option<FunctionCounts>]) -> Result<u64, AllocError> {
+fn piece_temps(piece: &Piece, table: &[Option<FunctionCounts>]) -> Result<u64, AllocError>
+    ensures { IfOk result (λ n. n ≡ spec.piece_temps table.now (piece_view piece.now)) }
+{
     match piece {
         Piece::Do(instruction) => Ok(written(&instruction.operation) as u64),
         Piece::End(instruction, _) => Ok(written(&instruction.operation) as u64),
-        Piece::DoIfUsed(_) | Piece::Mark(_) => Ok(0),
-        Piece::Call(call) => called_temps(*call, table),
+        Piece::DoIfUsed(_) => Ok(0),
+        Piece::Mark(_) => Ok(0),
+        Piece::Call(call) => {
+            let counts = counts_at(table, call.function)?;
+            Ok(called_temps(*call, counts))
+        }
     }
 }
 
 /// How many temporaries pieces need.
-pub fn temps(pieces: &[Piece], table: &[Option<FunctionCounts>]) -> Result<u64, AllocError> {
+pub fn temps(pieces: &[Piece], table: &[Option<FunctionCounts>]) -> Result<u64, AllocError>
+    ensures { IfOk result (λ n. n ≡ spec.temps table.now (map piece_view pieces.now) 0) }
+{
     let mut most = 0;
     for piece in pieces {
-        most = piece_temps(piece, table)?.max(most);
+        let found = piece_temps(piece, table)?;
+        most = found.max(most);
     }
     Ok(most)
 }
 
-fn is_if_used(piece: &Piece) -> bool {
+/// How many instructions a piece adds only where the value is used.
+fn if_used_by(piece: &Piece) -> u64
+    ensures { result ≡ spec.if_used_by (piece_view piece.now) }
+{
     match piece {
-        Piece::DoIfUsed(_) => true,
-        _ => false,
+        Piece::Do(_) => 0,
+        Piece::DoIfUsed(_) => 1,
+        Piece::End(_, _) => 0,
+        Piece::Mark(_) => 0,
+        Piece::Call(_) => 0,
     }
 }
 
 /// How many instructions are done only where the value is used.
-pub fn if_used(pieces: &[Piece]) -> u64 {
+pub fn if_used(pieces: &[Piece]) -> u64
+    ensures { result ≡ spec.if_used (map piece_view pieces.now) 0 }
+{
     let mut count = 0;
     for piece in pieces {
-        if is_if_used(piece) {
-            count = capped_sum(count, 1);
-        }
+        count = capped_sum(count, if_used_by(piece));
     }
     count
 }

@@ -1,17 +1,13 @@
 //! What a unit's control-flow program has, counted without making it, and the shapes of its bases.
 #![tactic(auto)]
 
-mod base_shapes;
 mod count_limits;
 mod function_counts;
 mod object_counts;
 mod prepared_functions;
 mod settled_templates;
 mod shared_objects;
-mod struct_zeros;
-mod whole_types;
 
-pub use base_shapes::{heap_shape, object_shape};
 pub use count_limits::{UnitCounts, all_within, unit_counts, within};
 pub use function_counts::{BlockExtent, FunctionCounts, capped_product, capped_sum, counts_at};
 pub use object_counts::{BaseCount, local_type, slot_of};

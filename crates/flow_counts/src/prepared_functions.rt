@@ -1,10 +1,17 @@
 //! The functions that the entry reaches, each after those that it calls.
+ghost use Rattle.std.specs.Prelude.{◌≡◌, IfOk};
+ghost use Rattle.c_layout.specs.StructViews.{structs_view};
+ghost use Rattle.c_layout.specs.CheckedUnits.{function_view};
+ghost use Rattle.template_works.specs.Pieces.{template_view};
+ghost use Rattle.flow_counts.specs.FunctionTotals.{is_nothing, function_counts};
+
 use crate::function_counts::{BlockExtent, FunctionCounts, extent, if_used, temps};
 use crate::object_counts::{both, inner_bases, own_bases};
 use crate::settled_templates::settled;
-use c_layout::{CType, Checked, Function};
+use c_layout::{Checked, Function};
 use flow_templates::{Piece, Template, template};
 use std::alloc::{AllocError, Global};
+use template_works::is_void;
 
 /// The templates and counts of the functions that the entry reaches, by number.
 #[derive(Drop)]
@@ -118,15 +125,10 @@ fn ordered_calls<'a>(
     Ok(order)
 }
 
-fn is_void(t: &CType) -> bool {
-    match t {
-        CType::Void => true,
-        CType::Int(_) | CType::Pointer(_) | CType::Array(_, _) | CType::Struct(_) => false,
-    }
-}
-
 /// Whether a call adds nothing.
-fn is_nothing(function: &Function, from_empty: BlockExtent) -> bool {
+fn is_nothing(function: &Function, from_empty: BlockExtent) -> bool
+    ensures { result ≡ is_nothing (function_view function.now) from_empty }
+{
     from_empty.instructions == 0 && (function.parameters == 0 && is_void(&function.result))
 }
 
@@ -148,8 +150,22 @@ fn count(
     table: &[Option<FunctionCounts>],
 ) -> Result<FunctionCounts, AllocError> {
     let function = function_at(unit, number)?;
-    let pieces = made.pieces.as_slice();
     let parameters = named_parameters(unit, number, function);
+    counts_of(alloc, unit, function, parameters, made, table)
+}
+
+/// The counts of a function whose template is settled; `parameters` are bases in any case.
+fn counts_of(
+    alloc: Global,
+    unit: &Checked,
+    function: &Function,
+    parameters: u32,
+    made: &Template,
+    table: &[Option<FunctionCounts>],
+) -> Result<FunctionCounts, AllocError>
+    ensures { IfOk result (λ c. c ≡ function_counts (structs_view unit.now.structs) unit.now.model.pointer (function_view function.now) parameters (template_view made.now) table.now) }
+{
+    let pieces = made.pieces.as_slice();
     let own = own_bases(alloc, unit, function, made.names.as_slice(), parameters)?;
     let bases = both(own, inner_bases(pieces, table)?);
     let from_empty = extent(pieces, true, table)?;

@@ -1,18 +1,45 @@
 //! Operations put in at a call: their temporaries are counted from the call's first one.
+ghost use Rattle.std.specs.Prelude.{◌≡◌, IfOk, map};
+ghost use Rattle.std.specs.Option.{option_map};
+ghost use Rattle.template_works.specs.Acts.{act};
+ghost use Rattle.flow_lower.specs.MovedActs as spec;
+
+use c_layout::LibFn;
+use cc_base::Text;
 use flow_program::{Amount, Operation};
 use std::alloc::{AllocError, Global};
+use template_works::behind;
 
 /// The number of the template's base that an operation names.
-pub fn own_base(operation: &Operation) -> Option<u32> {
+pub fn own_base(operation: &Operation) -> Option<u32>
+    ensures { result ≡ spec.own_base (act operation.now) }
+{
     match operation {
+        Operation::Constant(_, _, _) => None,
         Operation::Address(_, base, _) => Some(*base),
-        Operation::Enter(base)
-        | Operation::Leave(base)
-        | Operation::Forget(base)
-        | Operation::Clear(base) => Some(*base),
-        Operation::Spell(base, _, _, _) => Some(*base),
+        Operation::Load(_, _, _) => None,
+        Operation::Store(_, _, _, _) => None,
+        Operation::Copy(_, _, _) => None,
+        Operation::Narrow(_, _, _, _) => None,
+        Operation::Shift(_, _, _, _, _) => None,
+        Operation::Binary(_, _, _, _, _) => None,
+        Operation::Unary(_, _, _, _) => None,
+        Operation::Compare(_, _, _, _) => None,
+        Operation::Not(_, _, _) => None,
+        Operation::Difference(_, _, _, _) => None,
+        Operation::ComparePointers(_, _, _, _) => None,
+        Operation::Convert(_, _, _, _) => None,
         Operation::Library(_, _, _, base, _) => *base,
-        _ => None,
+        Operation::Enter(base) => Some(*base),
+        Operation::Leave(base) => Some(*base),
+        Operation::Forget(base) => Some(*base),
+        Operation::Clear(base) => Some(*base),
+        Operation::Spell(base, _, _, _) => Some(*base),
+        Operation::Jump => None,
+        Operation::Branch(_, _) => None,
+        Operation::Switch(_, _) => None,
+        Operation::ReadLine(_, _, _, _) => None,
+        Operation::Stop => None,
     }
 }
 
@@ -24,39 +51,51 @@ pub struct Shifted {
 }
 
 impl Shifted {
-    fn temp(self, temp: u32) -> u32 {
-        temp.saturating_add(self.depth)
+    fn temp(self, temp: u32) -> u32
+        ensures { result ≡ spec.temp self.depth temp }
+    {
+        behind(temp, self.depth)
     }
 
-    fn amount(self, amount: Amount) -> Amount {
+    fn amount(self, amount: Amount) -> Amount
+        ensures { result ≡ spec.amount_moved self.depth amount }
+    {
         match amount {
             Amount::Temp(temp) => Amount::Temp(self.temp(temp)),
             Amount::One => Amount::One,
         }
     }
 
-    fn kept(self, kept: Option<(u32, u32)>) -> Option<(u32, u32)> {
+    fn kept(self, kept: Option<(u32, u32)>) -> Option<(u32, u32)>
+        ensures { result ≡ spec.kept_moved self.depth kept }
+    {
         match kept {
             Some((to, from)) => Some((self.temp(to), self.temp(from))),
             None => None,
         }
     }
 
-    fn result(self, temp: Option<u32>) -> Option<u32> {
+    fn result(self, temp: Option<u32>) -> Option<u32>
+        ensures { result ≡ option_map (spec.temp self.depth) temp }
+    {
         match temp {
             Some(temp) => Some(self.temp(temp)),
             None => None,
         }
     }
 
-    fn named(self, base: Option<u32>) -> Option<u32> {
+    fn named(self, base: Option<u32>) -> Option<u32>
+        ensures { result ≡ spec.named self.base base }
+    {
         match base {
             Some(_) => Some(self.base),
             None => None,
         }
     }
 
-    fn temps(self, alloc: Global, temps: &[u32]) -> Result<Vec<u32>, AllocError> {
+    fn temps(self, alloc: Global, temps: &[u32]) -> Result<Vec<u32>, AllocError>
+        ensures { IfOk result (λ v. v.items ≡ map (spec.temp self.depth) temps.now) }
+    {
         let mut list = Vec::new(alloc);
         for temp in temps {
             list.push(self.temp(*temp))?;
@@ -64,119 +103,139 @@ impl Shifted {
         Ok(list)
     }
 
-    /// An operation on memory.
-    fn memory_access(self, operation: &Operation) -> Operation {
-        match operation {
-            Operation::Constant(to, n, kind) => Operation::Constant(self.temp(*to), *n, *kind),
-            Operation::Address(to, _, offset) => {
-                Operation::Address(self.temp(*to), self.base, *offset)
-            }
-            Operation::Load(to, from, kind) => {
-                Operation::Load(self.temp(*to), self.temp(*from), *kind)
-            }
-            Operation::Store(to, from, kind, kept) => Operation::Store(
-                self.temp(*to),
-                self.temp(*from),
-                *kind,
-                self.kept(*kept),
-            ),
-            Operation::Copy(to, from, number) => {
-                Operation::Copy(self.temp(*to), self.temp(*from), *number)
-            }
-            Operation::Narrow(to, from, offset, size) => {
-                Operation::Narrow(self.temp(*to), self.temp(*from), *offset, *size)
-            }
-            _ => self.number(operation),
-        }
+    /// A library call, moved.
+    fn library(
+        self,
+        alloc: Global,
+        to: Option<u32>,
+        function: LibFn,
+        arguments: &[u32],
+        base: Option<u32>,
+        size: Option<u64>,
+    ) -> Result<Operation, AllocError>
+        ensures { IfOk result (λ o. act o ≡ spec.library self.depth self.base to function arguments.now base size) }
+    {
+        let arguments = self.temps(alloc, arguments)?;
+        let (to, base) = (self.result(to), self.named(base));
+        Ok(Operation::Library(to, function, arguments, base, size))
     }
 
-    /// An operator.
-    fn number(self, operation: &Operation) -> Operation {
-        match operation {
-            Operation::Shift(to, from, by, size, backward) => Operation::Shift(
-                self.temp(*to),
-                self.temp(*from),
-                self.amount(*by),
-                *size,
-                *backward,
-            ),
-            Operation::Binary(to, op, left, right, kind) => Operation::Binary(
-                self.temp(*to),
-                *op,
-                self.temp(*left),
-                self.amount(*right),
-                *kind,
-            ),
-            Operation::Unary(to, op, from, kind) => {
-                Operation::Unary(self.temp(*to), *op, self.temp(*from), *kind)
-            }
-            Operation::Compare(to, rel, left, right) => {
-                Operation::Compare(self.temp(*to), *rel, self.temp(*left), self.temp(*right))
-            }
-            Operation::Not(to, from, kind) => {
-                Operation::Not(self.temp(*to), self.temp(*from), *kind)
-            }
-            _ => self.pointer(operation),
-        }
-    }
-
-    /// An operator on pointers, or a conversion.
-    fn pointer(self, operation: &Operation) -> Operation {
-        match operation {
-            Operation::Difference(to, left, right, size) => {
-                Operation::Difference(self.temp(*to), self.temp(*left), self.temp(*right), *size)
-            }
-            Operation::ComparePointers(to, rel, left, right) => Operation::ComparePointers(
-                self.temp(*to),
-                *rel,
-                self.temp(*left),
-                self.temp(*right),
-            ),
-            Operation::Convert(to, from, old, new) => {
-                Operation::Convert(self.temp(*to), self.temp(*from), *old, *new)
-            }
-            Operation::Enter(_) => Operation::Enter(self.base),
-            Operation::Leave(_) => Operation::Leave(self.base),
-            Operation::Forget(_) => Operation::Forget(self.base),
-            Operation::Clear(_) => Operation::Clear(self.base),
-            _ => self.ending(operation),
-        }
-    }
-
-    /// An operation that ends a block.
-    fn ending(self, operation: &Operation) -> Operation {
-        match operation {
-            Operation::Branch(from, kind) => Operation::Branch(self.temp(*from), *kind),
-            Operation::Switch(from, kind) => Operation::Switch(self.temp(*from), *kind),
-            Operation::ReadLine(to, text, size, stream) => Operation::ReadLine(
-                self.temp(*to),
-                self.temp(*text),
-                self.temp(*size),
-                self.temp(*stream),
-            ),
-            Operation::Jump => Operation::Jump,
-            _ => Operation::Stop,
-        }
+    /// The characters of a literal, in the own base.
+    fn spell(
+        self,
+        alloc: Global,
+        offset: u64,
+        room: u64,
+        text: &Text,
+    ) -> Result<Operation, AllocError>
+        ensures { IfOk result (λ o. act o ≡ spec.spelled self.base offset room text.now) }
+    {
+        let text = text.copy(alloc)?;
+        Ok(Operation::Spell(self.base, offset, room, text))
     }
 
     /// An operation of a template, moved.
-    pub fn operation(self, alloc: Global, operation: &Operation) -> Result<Operation, AllocError> {
+    pub fn operation(self, alloc: Global, operation: &Operation) -> Result<Operation, AllocError>
+        ensures { IfOk result (λ o. act o ≡ spec.moved self.depth self.base (act operation.now)) }
+    {
         match operation {
+            Operation::Constant(to, n, kind) => Ok(Operation::Constant(self.temp(*to), *n, *kind)),
+            Operation::Address(to, _, offset) => Ok(Operation::Address(
+                self.temp(*to),
+                self.base,
+                *offset,
+            )),
+            Operation::Load(to, from, kind) => Ok(Operation::Load(
+                self.temp(*to),
+                self.temp(*from),
+                *kind,
+            )),
+            Operation::Store(to, from, kind, kept) => {
+                Ok(Operation::Store(self.temp(*to), self.temp(*from), *kind, self.kept(*kept)))
+            }
+            Operation::Copy(to, from, number) => Ok(Operation::Copy(
+                self.temp(*to),
+                self.temp(*from),
+                *number,
+            )),
+            Operation::Narrow(to, from, offset, size) => {
+                Ok(Operation::Narrow(self.temp(*to), self.temp(*from), *offset, *size))
+            }
+            Operation::Shift(to, from, by, size, backward) => {
+                Ok(Operation::Shift(
+                    self.temp(*to),
+                    self.temp(*from),
+                    self.amount(*by),
+                    *size,
+                    *backward,
+                ))
+            }
+            Operation::Binary(to, op, left, right, kind) => {
+                Ok(Operation::Binary(
+                    self.temp(*to),
+                    *op,
+                    self.temp(*left),
+                    self.amount(*right),
+                    *kind,
+                ))
+            }
+            Operation::Unary(to, op, from, kind) => {
+                Ok(Operation::Unary(self.temp(*to), *op, self.temp(*from), *kind))
+            }
+            Operation::Compare(to, rel, left, right) => {
+                Ok(Operation::Compare(self.temp(*to), *rel, self.temp(*left), self.temp(*right)))
+            }
+            Operation::Not(to, from, kind) => Ok(Operation::Not(
+                self.temp(*to),
+                self.temp(*from),
+                *kind,
+            )),
+            Operation::Difference(to, left, right, size) => {
+                Ok(Operation::Difference(
+                    self.temp(*to),
+                    self.temp(*left),
+                    self.temp(*right),
+                    *size,
+                ))
+            }
+            Operation::ComparePointers(to, rel, left, right) => {
+                Ok(Operation::ComparePointers(
+                    self.temp(*to),
+                    *rel,
+                    self.temp(*left),
+                    self.temp(*right),
+                ))
+            }
+            Operation::Convert(to, from, old, new) => {
+                Ok(Operation::Convert(self.temp(*to), self.temp(*from), *old, *new))
+            }
             Operation::Library(to, function, arguments, base, size) => {
-                let arguments = self.temps(alloc, arguments.as_slice())?;
-                let (to, base) = (self.result(*to), self.named(*base));
-                Ok(Operation::Library(to, *function, arguments, base, *size))
+                self.library(alloc, *to, *function, arguments.as_slice(), *base, *size)
             }
-            Operation::Spell(_, offset, room, text) => {
-                let text = text.copy(alloc)?;
-                Ok(Operation::Spell(self.base, *offset, *room, text))
+            Operation::Enter(_) => Ok(Operation::Enter(self.base)),
+            Operation::Leave(_) => Ok(Operation::Leave(self.base)),
+            Operation::Forget(_) => Ok(Operation::Forget(self.base)),
+            Operation::Clear(_) => Ok(Operation::Clear(self.base)),
+            Operation::Spell(_, offset, room, text) => self.spell(alloc, *offset, *room, text),
+            Operation::Jump => Ok(Operation::Jump),
+            Operation::Branch(from, kind) => Ok(Operation::Branch(self.temp(*from), *kind)),
+            Operation::Switch(from, kind) => Ok(Operation::Switch(self.temp(*from), *kind)),
+            Operation::ReadLine(to, text, size, stream) => {
+                Ok(Operation::ReadLine(
+                    self.temp(*to),
+                    self.temp(*text),
+                    self.temp(*size),
+                    self.temp(*stream),
+                ))
             }
-            _ => Ok(self.memory_access(operation)),
+            Operation::Stop => Ok(Operation::Stop),
         }
     }
 
     /// A number that a temporary takes on an edge.
-    pub fn put(self, put: Option<(u32, i128)>) -> Option<(u32, i128)> {
+    pub fn put(self, put: Option<(u32, i128)>) -> Option<(u32, i128)>
+        ensures { result ≡ spec.put_moved self.depth put }
+    {
         match put {
             Some((temp, n)) => Some((self.temp(temp), n)),
             None => None,

@@ -1,6 +1,7 @@
 //! The bases of a control-flow program, in order of first naming.
+use base_shapes::{heap_shape, object_shape};
 use c_layout::{BaseInfo, BaseKind, CType, Checked, Function, Shape, StaticBase, StaticObject};
-use flow_counts::{heap_shape, literal_type, local_type, object_shape, pointed_into, slot_of};
+use flow_counts::{literal_type, local_type, pointed_into, slot_of};
 use flow_program::type_bytes;
 use flow_templates::BaseName;
 use std::alloc::{AllocError, Global};

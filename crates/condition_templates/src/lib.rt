@@ -1,0 +1,8 @@
+//! Conditions as works: where they lead, and what is known on their edges.
+#![tactic(auto)]
+
+mod branch_conditions;
+mod branch_tests;
+
+pub use branch_conditions::condition_works;
+pub use branch_tests::{NamedObject, named};

@@ -1,0 +1,5 @@
+pub mod Assignments
+pub mod Branches
+pub mod Calls
+pub mod LvaluePointers
+pub mod Values
