@@ -8,7 +8,7 @@ use Rattle.c_tokens.specs.Answers.{IfRefused}
 use Rattle.c_tokens.specs.Cutting.{is_past, fault_of}
 use Rattle.c_tokens.proofs.Sizes.{size_fits, fewer_left}
 use Rattle.c_tokens.proofs.Along.{goes_by, refuses_nothing, refuses_many, refuses_bad}
-use Rattle.c_tokens.proofs.cutting.lex.Goals as goal
+use Rattle.c_tokens.proofs.cutting.cut_file.Goals as goal
 
 refused_is : (r : Stop) (at : Place) (why : Refusal) (P : Fault → Type 0) → r ≡ stop.Refused (fault_of at why) → P (fault_of at why) → IfRefused (Err r) P
 refused_is r at why P e h = subst (λ v. IfRefused (Err v) P) (sym e) h
