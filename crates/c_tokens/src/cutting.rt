@@ -110,7 +110,6 @@ fn cut_file(alloc: Global, file: u32, bytes: &[u8]) -> Result<Tokens, Stop>
 /// without `*/`, `OpenLiteral` for a quote without a mate on its line, else `BadByte`. At a byte
 /// that may not stand in the comment or token round it: `BadByte`. At the first token past
 /// 131,072: `TooManyTokens`. The first of these places decides. `Memory`: want of memory.
-#[tactic(auto, using(crate::proofs::Total::gives))]
 pub fn lex(alloc: Global, file: u32, bytes: &[u8]) -> Result<Tokens, Stop>
     requires { length bytes.now ≤ 2 ^ 20 }
     ensures ok { IfOk result (Lexes file bytes.now) }
@@ -129,7 +128,6 @@ pub fn one_answer()
 
 /// Every file has an answer: the definition that computes gives the tokens of the longest cutting,
 /// or the first refusal.
-#[tactic(auto, using(crate::proofs::Total::answer_is))]
 pub fn every_file_has_an_answer()
     ensures { (file : ℕ) (bytes : List ℕ) → IsFileAnswer file bytes (file_tokens file bytes) }
 {}

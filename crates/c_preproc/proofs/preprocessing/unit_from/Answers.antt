@@ -8,4 +8,4 @@ returns-in-Ok-clause-cause g c = if_caused_from c.unit_of.result c.args.main.now
 
 pub returns-in-Err-TooLong-clause-cause : goal.returns-in-Err-TooLong-clause-cause
 returns-in-Err-TooLong-clause-cause g c = caused_from c.args.main.now _ (map string_bytes c.args.dirs.now) c.args.model.now c.too_long.new.files c.too_long.result
-    (c.too_long.ensures _ _ _ (c.read.ensures.too_long (c.in-Err-TooLong.is ∙ ap Err c.in-Err-TooLong.field-0-is)))
+    (c.too_long.ensures.cause _ _ _ (c.read.ensures.too_long (c.in-Err-TooLong.is ∙ ap Err c.in-Err-TooLong.field-0-is)))
