@@ -252,8 +252,10 @@ left_includes w deepest top file next below c after e h = is (16 - length below)
   where
     deepest_here : deepest ≡ is_deepest (16 - length below)
     deepest_here = e ∙ deepest_is (length below)
+
     read : left_of w (top ∷ below) c ≡ then (then (deeper_of w (16 - length below) file after) (file_read w (16 - length below) next)) (left_of w below)
     read = ap (λ v. then v (left_of w below)) (read_by w deepest top below c (Ok (includes file next after)) e h)
+
     is : (m : ℕ) → 16 - length below ≡ m → left_of w (top ∷ below) c ≡ left_of w (file ∷ next ∷ below) after
     is zero i =
         let here : step w true top c ≡ Ok (includes file next after) = ap (λ b. step w b top c) (sym (deepest_here ∙ ap is_deepest i)) ∙ h in

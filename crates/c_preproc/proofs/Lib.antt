@@ -4,4 +4,6 @@ pub mod Own
 pub mod Told
 pub mod Steps
 pub mod Files
-pub mod Placed
+pub mod InFiles
+pub mod FilesMet
+pub mod Whole

@@ -28,8 +28,8 @@ use Rattle.c_preproc.specs.Told.{IsSought, UnitGives, IsMissingStop, SearchGives
 use Rattle.c_preproc.proofs.Told.{find_by, find_by_finds}
 
 -- what is the same as one answer is given as that one is
-by : {A B : Type 0} (x y : Result B Refused) (view : A → B) (names : List (List ℕ)) (r : Result A Stop) → x ≡ y → UnitGives y view names r → UnitGives x view names r
-by x y view names r e h = subst (λ v. UnitGives v view names r) (sym e) h
+given_by : {A B : Type 0} (x y : Result B Refused) (view : A → B) (names : List (List ℕ)) (r : Result A Stop) → x ≡ y → UnitGives y view names r → UnitGives x view names r
+given_by x y view names r e h = subst (λ v. UnitGives v view names r) (sym e) h
 
 -- a refusal of a part is one of the whole
 under_refused : {A B C D : Type 0} (part : Result B Fault) (part_view : A → B) (go : B → Result D Refused) (view : C → D) (names : List (List ℕ)) (s : Stop) → Gives part part_view (Err s) → UnitGives (then (under names part) go) view names (Err s)
@@ -73,7 +73,7 @@ enter_open f k names now n e h i = enter_by f k names now n e h ∙ ap (λ b. co
 
 pub enter_refused : {A : Type 0} (f : Found) (k : Known) (names now : List (List ℕ)) (n : ℕ) (bytes : List ℕ) (part_view : OpenFile → Opening) (view : A → Entered) (s : Stop) → n ≡ number_in names f.name → now ≡ with_text names f.name → is_once k.once n ≡ false → bytes ≡ f.bytes
     → Gives (opened_by n k (file_tokens n bytes)) part_view (Err s) → UnitGives (entered f k names) view now (Err s)
-enter_refused f k names now n bytes part_view view s e h i t g = by _ _ view now (Err s) (enter_open f k names now n e h i)
+enter_refused f k names now n bytes part_view view s e h i t g = given_by _ _ view now (Err s) (enter_open f k names now n e h i)
     (under_refused (opened_by n k (file_tokens n f.bytes)) part_view _ view now s (subst (λ v. Gives (opened_by n k (file_tokens n v)) part_view (Err s)) t g))
 
 pub enter_opened : (f : Found) (k after : Known) (names now : List (List ℕ)) (n : ℕ) (bytes : List ℕ) (o : Opened) → n ≡ number_in names f.name → now ≡ with_text names f.name → is_once k.once n ≡ false → bytes ≡ f.bytes
@@ -83,10 +83,10 @@ enter_opened f k after names now n bytes o e h i t g = enter_open f k names now 
 
 -- ---- `#include`
 
-include_given : (w : World) (top : ℕ) (deepest : Bool) (place : Place) (line : List Lexeme) (k : Known) (names : List (List ℕ)) (a : Asked) (found : Sought)
-    → include_asks deepest place line k ≡ Ok a → sought_from w (includer_in names top a.header.quoted) a.header.name ≡ found
-    → include w top deepest place line k names ≡ included place a.header.name found a.known names
-include_given w top deepest place line k names a found e h =
+include_given : (w : World) (top : ℕ) (deepest : Bool) (place : Place) (line : List Lexeme) (k : Known) (names : List (List ℕ)) (a : Asked) (s : Sought)
+    → include_asks deepest place line k ≡ Ok a → sought_from w (includer_in names top a.header.quoted) a.header.name ≡ s
+    → include w top deepest place line k names ≡ included place a.header.name s a.known names
+include_given w top deepest place line k names a s e h =
     ap (λ v. then (under names v) (λ a. included place a.header.name (sought_from w (includer_in names top a.header.quoted) a.header.name) a.known names)) e ∙ ap (λ v. included place a.header.name v a.known names) h
 
 pub include_not_asked : {A B : Type 0} (w : World) (top : ℕ) (deepest : Bool) (place : Place) (line : List Lexeme) (k : Known) (names : List (List ℕ)) (part_view : A → Asked) (view : B → Entered) (s : Stop) → Gives (include_asks deepest place line k) part_view (Err s)
@@ -127,40 +127,49 @@ pub include_entered : {B : Type 0} (w : World) (top : ℕ) (deepest : Bool) (pla
     → UnitGives (include w top deepest place line k names) view now r
 include_entered w top deepest place line k names before now a wanted o f view r e h t n g =
     let found_one : SearchGives wanted names before (Ok (Some f)) = subst (λ v. SearchGives wanted names before (Ok v)) n t in
-    by _ _ view now r (include_given w top deepest place line k names a (found (found_as f)) e (h ∙ found_one.0)) (subst (λ v. UnitGives (entered (found_as f) a.known v) view now r) found_one.1 g)
+    given_by _ _ view now r (include_given w top deepest place line k names a (found (found_as f)) e (h ∙ found_one.0)) (subst (λ v. UnitGives (entered (found_as f) a.known v) view now r) found_one.1 g)
 
 -- ---- directives
 
+abbrev line_with : Directive → List Lexeme → Line
+line_with d line = record { directive = d; line = line }
+
+chosen_true : {A : Type 0} (b : Bool) (x y : A) → b ≡ true → cond b x y ≡ x
+chosen_true b x y e = ap (λ v. cond v x y) e
+
+chosen_false : {A : Type 0} (b : Bool) (x y : A) → b ≡ false → cond b x y ≡ y
+chosen_false b x y e = ap (λ v. cond v x y) e
+
 as_conditional : (w : World) (deepest : Bool) (place : Place) (behind : List Lexeme) (l : Line) (top : Opened) (c : Course) → is_conditional l.directive ≡ true
     → directive w deepest place behind l top c ≡ then (under c.names (conditional w.model.char_signed l.directive place l.line (record { known = c.known; top = top }))) (λ r. Ok (on_reading c.names r))
-as_conditional w deepest place behind l top c e = rw e refl
+as_conditional w deepest place behind l top c e = chosen_true (is_conditional l.directive) _ _ e
 
 as_skipped : (w : World) (deepest : Bool) (place : Place) (behind : List Lexeme) (l : Line) (top : Opened) (c : Course) → is_conditional l.directive ≡ false → is_skipped top.sections ≡ true → directive w deepest place behind l top c ≡ Ok (goes_on top c)
-as_skipped w deepest place behind l top c e h = rw (e, h) refl
+as_skipped w deepest place behind l top c e h = chosen_false (is_conditional l.directive) _ _ e ∙ chosen_true (is_skipped top.sections) _ _ h
 
 as_include : (w : World) (deepest : Bool) (place : Place) (behind : List Lexeme) (l : Line) (top : Opened) (c : Course) → is_conditional l.directive ≡ false → is_skipped top.sections ≡ false → is_include l.directive ≡ true
     → directive w deepest place behind l top c ≡ then (include w top.file deepest place l.line c.known c.names) (λ e. Ok (step_into e.file top e.course))
-as_include w deepest place behind l top c e h i = rw (e, h, i) refl
+as_include w deepest place behind l top c e h i = chosen_false (is_conditional l.directive) _ _ e ∙ (chosen_false (is_skipped top.sections) _ _ h ∙ chosen_true (is_include l.directive) _ _ i)
 
 as_plain : (w : World) (deepest : Bool) (place : Place) (behind : List Lexeme) (l : Line) (top : Opened) (c : Course) → is_conditional l.directive ≡ false → is_skipped top.sections ≡ false → is_include l.directive ≡ false
     → directive w deepest place behind l top c ≡ then (under c.names (plain l.directive top.file place l.line behind c.known)) (λ k. Ok (on_known top c.names k))
-as_plain w deepest place behind l top c e h i = rw (e, h, i) refl
+as_plain w deepest place behind l top c e h i = chosen_false (is_conditional l.directive) _ _ e ∙ (chosen_false (is_skipped top.sections) _ _ h ∙ chosen_false (is_include l.directive) _ _ i)
 
 pub conditional_refused : {A B : Type 0} (w : World) (deepest : Bool) (place : Place) (behind : List Lexeme) (d : Directive) (line : List Lexeme) (l : Line) (top : Opened) (c : Course) (part_view : A → Reading) (view : B → Step) (s : Stop)
-    → record { directive = d; line = line } ≡ l → is_conditional d ≡ true → Gives (conditional w.model.char_signed d place line (record { known = c.known; top = top })) part_view (Err s)
+    → line_with d line ≡ l → is_conditional d ≡ true → Gives (conditional w.model.char_signed d place line (record { known = c.known; top = top })) part_view (Err s)
     → UnitGives (directive w deepest place behind l top c) view c.names (Err s)
 conditional_refused w deepest place behind d line l top c part_view view s e h g = subst (λ v. UnitGives (directive w deepest place behind v top c) view c.names (Err s)) e
-    (by _ _ view c.names (Err s) (as_conditional w deepest place behind (record { directive = d; line = line }) top c h) (under_refused _ part_view _ view c.names s g))
+    (given_by _ _ view c.names (Err s) (as_conditional w deepest place behind (line_with d line) top c h) (under_refused _ part_view _ view c.names s g))
 
 pub conditional_done : (w : World) (deepest : Bool) (place : Place) (behind : List Lexeme) (d : Directive) (line : List Lexeme) (l : Line) (top after : Opened) (c : Course) (k : Known)
-    → record { directive = d; line = line } ≡ l → is_conditional d ≡ true → conditional w.model.char_signed d place line (record { known = c.known; top = top }) ≡ Ok (record { known = k; top = after })
+    → line_with d line ≡ l → is_conditional d ≡ true → conditional w.model.char_signed d place line (record { known = c.known; top = top }) ≡ Ok (record { known = k; top = after })
     → directive w deepest place behind l top c ≡ Ok (goes_on after (course k c.names))
 conditional_done w deepest place behind d line l top after c k e h g = subst (λ v. directive w deepest place behind v top c ≡ Ok (goes_on after (course k c.names))) e
-    (as_conditional w deepest place behind (record { directive = d; line = line }) top c h ∙ ap (λ v. then (under c.names v) (λ r. Ok (on_reading c.names r))) g)
+    (as_conditional w deepest place behind (line_with d line) top c h ∙ ap (λ v. then (under c.names v) (λ r. Ok (on_reading c.names r))) g)
 
 pub directive_skipped : (w : World) (deepest : Bool) (place : Place) (behind : List Lexeme) (d : Directive) (line : List Lexeme) (l : Line) (top : Opened) (c : Course)
-    → record { directive = d; line = line } ≡ l → is_conditional d ≡ false → is_skipped top.sections ≡ true → directive w deepest place behind l top c ≡ Ok (goes_on top c)
-directive_skipped w deepest place behind d line l top c e h i = subst (λ v. directive w deepest place behind v top c ≡ Ok (goes_on top c)) e (as_skipped w deepest place behind (record { directive = d; line = line }) top c h i)
+    → line_with d line ≡ l → is_conditional d ≡ false → is_skipped top.sections ≡ true → directive w deepest place behind l top c ≡ Ok (goes_on top c)
+directive_skipped w deepest place behind d line l top c e h i = subst (λ v. directive w deepest place behind v top c ≡ Ok (goes_on top c)) e (as_skipped w deepest place behind (line_with d line) top c h i)
 
 included_step : {A : Type 0} (x : Result Entered Refused) (top : Opened) (k : Known) (names : List (List ℕ)) (file : A → Option Opened) (r : Result A Stop) → UnitGives x (λ o. entered_as k names (file o)) names r
     → UnitGives (then x (λ e. Ok (step_into e.file top e.course))) (λ o. step_into (file o) top (course k names)) names r
@@ -168,22 +177,22 @@ included_step x top k names file (Ok o) h = ap (λ v. then v (λ e. Ok (step_int
 included_step x top k names file (Err s) h = then_refused x (λ o. entered_as k names (file o)) _ _ names s h
 
 pub directive_includes : {A : Type 0} (w : World) (deepest : Bool) (place : Place) (behind : List Lexeme) (d : Directive) (line : List Lexeme) (l : Line) (top : Opened) (c : Course) (k : Known) (names : List (List ℕ)) (file : A → Option Opened) (r : Result A Stop)
-    → record { directive = d; line = line } ≡ l → is_conditional d ≡ false → is_skipped top.sections ≡ false → is_include d ≡ true → UnitGives (include w top.file deepest place line c.known c.names) (λ o. entered_as k names (file o)) names r
+    → line_with d line ≡ l → is_conditional d ≡ false → is_skipped top.sections ≡ false → is_include d ≡ true → UnitGives (include w top.file deepest place line c.known c.names) (λ o. entered_as k names (file o)) names r
     → UnitGives (directive w deepest place behind l top c) (λ o. step_into (file o) top (course k names)) names r
 directive_includes w deepest place behind d line l top c k names file r e h i j g = subst (λ v. UnitGives (directive w deepest place behind v top c) (λ o. step_into (file o) top (course k names)) names r) e
-    (by _ _ _ names r (as_include w deepest place behind (record { directive = d; line = line }) top c h i j) (included_step _ top k names file r g))
+    (given_by _ _ _ names r (as_include w deepest place behind (line_with d line) top c h i j) (included_step _ top k names file r g))
 
 pub plain_refused : {A B : Type 0} (w : World) (deepest : Bool) (place : Place) (behind : List Lexeme) (d : Directive) (line : List Lexeme) (l : Line) (top : Opened) (c : Course) (part_view : A → Known) (view : B → Step) (s : Stop)
-    → record { directive = d; line = line } ≡ l → is_conditional d ≡ false → is_skipped top.sections ≡ false → is_include d ≡ false → Gives (plain d top.file place line behind c.known) part_view (Err s)
+    → line_with d line ≡ l → is_conditional d ≡ false → is_skipped top.sections ≡ false → is_include d ≡ false → Gives (plain d top.file place line behind c.known) part_view (Err s)
     → UnitGives (directive w deepest place behind l top c) view c.names (Err s)
 plain_refused w deepest place behind d line l top c part_view view s e h i j g = subst (λ v. UnitGives (directive w deepest place behind v top c) view c.names (Err s)) e
-    (by _ _ view c.names (Err s) (as_plain w deepest place behind (record { directive = d; line = line }) top c h i j) (under_refused _ part_view _ view c.names s g))
+    (given_by _ _ view c.names (Err s) (as_plain w deepest place behind (line_with d line) top c h i j) (under_refused _ part_view _ view c.names s g))
 
 pub plain_done : (w : World) (deepest : Bool) (place : Place) (behind : List Lexeme) (d : Directive) (line : List Lexeme) (l : Line) (top : Opened) (c : Course) (k : Known)
-    → record { directive = d; line = line } ≡ l → is_conditional d ≡ false → is_skipped top.sections ≡ false → is_include d ≡ false → plain d top.file place line behind c.known ≡ Ok k
+    → line_with d line ≡ l → is_conditional d ≡ false → is_skipped top.sections ≡ false → is_include d ≡ false → plain d top.file place line behind c.known ≡ Ok k
     → directive w deepest place behind l top c ≡ Ok (goes_on top (course k c.names))
 plain_done w deepest place behind d line l top c k e h i j g = subst (λ v. directive w deepest place behind v top c ≡ Ok (goes_on top (course k c.names))) e
-    (as_plain w deepest place behind (record { directive = d; line = line }) top c h i j ∙ ap (λ v. then (under c.names v) (λ k. Ok (on_known top c.names k))) g)
+    (as_plain w deepest place behind (line_with d line) top c h i j ∙ ap (λ v. then (under c.names v) (λ k. Ok (on_known top c.names k))) g)
 
 -- ---- a step of a file
 
@@ -215,7 +224,7 @@ as_text w deepest top c o e h i = ap (λ v. step_by w deepest v top c) (sym e) �
 
 pub step_text_refused : {A B : Type 0} (w : World) (deepest : Bool) (top : Opened) (c : Course) (o : Option Lexeme) (part_view : A → Reading) (view : B → Step) (s : Stop) → o ≡ first_of top.unread → is_none o ≡ false → directive_at c.known.texts o ≡ None
     → Gives (text_lines (record { known = c.known; top = top })) part_view (Err s) → UnitGives (step w deepest top c) view c.names (Err s)
-step_text_refused w deepest top c o part_view view s e h i g = by _ _ view c.names (Err s) (as_text w deepest top c o e h i) (under_refused _ part_view _ view c.names s g)
+step_text_refused w deepest top c o part_view view s e h i g = given_by _ _ view c.names (Err s) (as_text w deepest top c o e h i) (under_refused _ part_view _ view c.names s g)
 
 pub step_text : (w : World) (deepest : Bool) (top after : Opened) (c : Course) (o : Option Lexeme) (k : Known) → o ≡ first_of top.unread → is_none o ≡ false → directive_at c.known.texts o ≡ None
     → text_lines (record { known = c.known; top = top }) ≡ Ok (record { known = k; top = after }) → step w deepest top c ≡ Ok (goes_on after (course k c.names))
@@ -236,4 +245,4 @@ pub step_directive : {A : Type 0} (w : World) (deepest : Bool) (top between : Op
 step_directive w deepest top between c o place behind view names r e i f b g =
     let line : UnitGives (directive w deepest place (cut_directive top.unread).front (line_of c.known.texts (cut_directive top.unread).front) between c) view names r =
     subst (λ v. UnitGives (directive w deepest place v (line_of c.known.texts v) between c) view names r) f g in
-    by _ _ view names r (as_directive w deepest top c o place e i) (subst (λ v. UnitGives (directive w deepest place (cut_directive top.unread).front (line_of c.known.texts (cut_directive top.unread).front) v c) view names r) b line)
+    given_by _ _ view names r (as_directive w deepest top c o place e i) (subst (λ v. UnitGives (directive w deepest place (cut_directive top.unread).front (line_of c.known.texts (cut_directive top.unread).front) v c) view names r) b line)

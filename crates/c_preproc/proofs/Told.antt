@@ -67,6 +67,9 @@ read_memory t name before now = record { read = some_read t name; is = some_read
 pub read_fault : (t : Option Files) (name : List ℕ) (before now : List (List ℕ)) → Reads t name before now (Err stop.ReadFault)
 read_fault t name before now = record { read = some_read t name; is = some_read_is t name; gives = tt }
 
+pub reads_as : (t u : Option Files) (name : List ℕ) (before now : List (List ℕ)) (r : Result (Option FoundFile) Stop) → t ≡ u → Reads t name before now r → Reads u name before now r
+reads_as t u name before now r e h = subst (λ v. Reads v name before now r) e h
+
 -- ---- the search along the names
 
 -- what is found behind some of the names is found from the first on

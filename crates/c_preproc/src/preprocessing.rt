@@ -2,7 +2,7 @@
 ghost use Rattle.std.specs.Prelude.{◌≡◌, ◌≤◌, ◌^◌, Some, true, nat_lt, length, map, string_bytes, [], IfOk, IfErr};
 ghost use Rattle.c_layout.specs.Models.{is_model};
 ghost use Rattle.c_preproc.specs.Names.{is_distinct};
-ghost use Rattle.c_preproc.specs.Placed.{StandsIn};
+ghost use Rattle.c_preproc.specs.Placed.{StandsIn, OpenIn, KnownIn, ReadIn};
 ghost use Rattle.std.specs.Prelude.{ℕ, List, option_map};
 ghost use Rattle.c_preproc.specs.Known.{known_of, reading_of, Gives, conditional, plain, line_of, line_as, directive_at, text_lines, is_header, header_number, only_header, include_asks, asked_as};
 ghost use Rattle.c_layout.specs.declared.data_model.Model.{Model};
@@ -18,7 +18,6 @@ use crate::file_names::FileNames;
 use crate::file_paths::candidates;
 use crate::file_search::{search, too_long};
 use crate::found_file::FoundFile;
-use crate::places_in_files::within;
 use crate::preprocessor_state::{State, end_if, first_name, refused, turn_else};
 use c_layout::{Model, Unit7};
 use c_tokens::lex;
@@ -407,6 +406,7 @@ fn read_all<T: Tree>(
     requires { is_model model.now ≡ true }
     ensures went { Went (T.files tree.old) (T.files tree.new) (T.faults tree.old) (T.faults tree.new) (T.taken tree.old) (T.taken tree.new) }
     ensures told { (held : Files) → T.files tree.old ≡ Some held → UnitGives (file_read (world_of (sought held) (map string_bytes dirs.now) model.now) 16 (opened_of main) (course (known_of state.old) files.old)) (λ _. course (known_of state.new) files.new) files.new result }
+    ensures placed { OpenIn (length files.old) (opened_of main) → KnownIn (length files.old) (known_of state.old) → ReadIn (length files.new) (known_of state.new) result }
     ensures cause { IfErr result (IsCaused (seen_of (T.files tree.old) (T.faults tree.old) (T.faults tree.new) (T.taken tree.old) (T.taken tree.new)) (map string_bytes dirs.now) model.now files.new) }
 {
     let mut stack = VecDeque::new(alloc);
@@ -440,6 +440,8 @@ fn unit_of<T: Tree>(
     ensures went { Went (T.files tree.old) (T.files tree.new) (T.faults tree.old) (T.faults tree.new) (T.taken tree.old) (T.taken tree.new) }
     ensures told { (held : Files) → T.files tree.old ≡ Some held → files.old ≡ [] → UnitGives (unit (world_of (sought held) (map string_bytes dirs.now) model.now) main.now bytes.now) (unit_as files.new) files.new result }
     ensures cause { IfErr result (IsCaused (seen_of (T.files tree.old) (T.faults tree.old) (T.faults tree.new) (T.taken tree.old) (T.taken tree.new)) (map string_bytes dirs.now) model.now files.new) }
+    ensures placed { StandsIn (length files.new) result }
+    ensures model { IfOk result (λ u. u.model ≡ model.now) }
     ensures few { IfOk result (λ u. length u.tokens ≤ 131072) }
 {
     let file = files.number(alloc, main)?;
@@ -465,6 +467,8 @@ fn unit_from<T: Tree>(
     ensures went { Went (T.files tree.old) (T.files tree.new) (T.faults tree.old) (T.faults tree.new) (T.taken tree.old) (T.taken tree.new) }
     ensures told { (held : Files) → T.files tree.old ≡ Some held → files.old ≡ [] → UnitFrom (unit_from held (map string_bytes dirs.now) model.now main.now) files.new result }
     ensures cause { IfErr result (IsCausedFrom main.now (seen_of (T.files tree.old) (T.faults tree.old) (T.faults tree.new) (T.taken tree.old) (T.taken tree.new)) (map string_bytes dirs.now) model.now files.new) }
+    ensures placed { StandsIn (length files.new) result }
+    ensures model { IfOk result (λ u. u.model ≡ model.now) }
     ensures few { IfOk result (λ u. length u.tokens ≤ 131072) }
 {
     let mut bytes = Vec::new(alloc);
@@ -501,11 +505,11 @@ pub fn expand_bytes<T: Tree>(
     ensures cause { IfErr result (IsCaused (seen_of (T.files tree.old) (T.faults tree.old) (T.faults tree.new) (T.taken tree.old) (T.taken tree.new)) (map string_bytes dirs.now) model.now (map string_bytes files.new.items)) }
     ensures distinct { is_distinct (map string_bytes files.new.items) ≡ true }
     ensures placed { StandsIn (length files.new.items) result }
+    ensures model { IfOk result (λ u. u.model ≡ model.now) }
     ensures few { IfOk result (λ u. length u.tokens ≤ 131072) }
 {
     let mut names = FileNames::new(alloc);
     let answer = unit_of(alloc, tree, main, bytes, dirs, model, &mut names);
-    let answer = within(names.len(), answer);
     *files = names.into_names();
     answer
 }
@@ -534,11 +538,11 @@ pub fn expand<T: Tree>(
     ensures cause { IfErr result (IsCausedFrom main.now (seen_of (T.files tree.old) (T.faults tree.old) (T.faults tree.new) (T.taken tree.old) (T.taken tree.new)) (map string_bytes dirs.now) model.now (map string_bytes files.new.items)) }
     ensures distinct { is_distinct (map string_bytes files.new.items) ≡ true }
     ensures placed { StandsIn (length files.new.items) result }
+    ensures model { IfOk result (λ u. u.model ≡ model.now) }
     ensures few { IfOk result (λ u. length u.tokens ≤ 131072) }
 {
     let mut names = FileNames::new(alloc);
     let answer = unit_from(alloc, tree, main, dirs, model, &mut names);
-    let answer = within(names.len(), answer);
     *files = names.into_names();
     answer
 }

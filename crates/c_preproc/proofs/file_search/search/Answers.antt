@@ -1,7 +1,6 @@
-use Rattle.std.proofs.Common.{[], Ok, Err, subst, arith, string_bytes}
-use Rattle.c_preproc.specs.Told.{Reads}
+use Rattle.std.proofs.Common.{[], arith, string_bytes}
 use Rattle.c_preproc.proofs.Searches.{found_here, missed_here, caused_earlier}
-use Rattle.c_preproc.proofs.Told.{seek_missed, seek_found, seek_refused}
+use Rattle.c_preproc.proofs.Told.{reads_as, seek_missed, seek_found, seek_refused}
 use Rattle.c_preproc.proofs.file_search.search.Goals as goal
 
 pub returns-in-Err-clause-answer : goal.returns-in-Err-clause-answer
@@ -13,16 +12,16 @@ returns-in-Some-clause-answer g c = λ dirs. found_here string_bytes _ _ (g.T.Tr
 
 pub returns-in-Err-clause-seeks : goal.returns-in-Err-clause-seeks
 returns-in-Err-clause-seeks g c = seek_refused string_bytes _ _ _ c.loop-candidate.candidate-index c.candidate-item.result _ _ _ _ c.in-Err.stop c.loop-candidate.invariant.seeking (omega arith) c.candidate-item.is c.as_str.ensures.value
-    (subst (λ v. Reads v _ _ _ (Err c.in-Err.stop)) c.loop-candidate.invariant.along.went.same c.in-Err.ensures.reads)
+    (reads_as _ _ _ _ _ _ c.loop-candidate.invariant.along.went.same c.in-Err.ensures.reads)
 
 pub returns-in-Some-clause-seeks : goal.returns-in-Some-clause-seeks
 returns-in-Some-clause-seeks g c = seek_found string_bytes _ _ _ c.loop-candidate.candidate-index c.candidate-item.result _ _ _ _ c.in-Ok.held c.in-Some.found c.loop-candidate.invariant.seeking (omega arith) c.candidate-item.is c.as_str.ensures.value
-    (subst (λ v. Reads v _ _ _ (Ok c.in-Ok.held)) c.loop-candidate.invariant.along.went.same c.in-Ok.ensures.reads) c.in-Some.is
+    (reads_as _ _ _ _ _ _ c.loop-candidate.invariant.along.went.same c.in-Ok.ensures.reads) c.in-Some.is
 
 pub loop-candidate-preserved : goal.loop-candidate-preserved
 loop-candidate-preserved g c = record {
   along = missed_here string_bytes _ _ (g.T.Tree.files c.read_if_held.new.tree) _ _ _ _ _ _ [] c.read_if_held.new.files _ c.loop-candidate.candidate-index c.candidate-item.result _ c.args.model.now c.in-Ok.held
       c.loop-candidate.invariant.along (omega arith) c.candidate-item.is c.as_str.ensures.value c.in-Ok.ensures.went (c.in-Ok.ensures.answer [] c.args.model.now) c.in-None.is;
   seeking = seek_missed string_bytes _ _ _ c.loop-candidate.candidate-index c.candidate-item.result _ _ _ _ c.in-Ok.held c.loop-candidate.invariant.seeking (omega arith) c.candidate-item.is c.as_str.ensures.value
-      (subst (λ v. Reads v _ _ _ (Ok c.in-Ok.held)) c.loop-candidate.invariant.along.went.same c.in-Ok.ensures.reads) c.in-None.is;
+      (reads_as _ _ _ _ _ _ c.loop-candidate.invariant.along.went.same c.in-Ok.ensures.reads) c.in-None.is;
 }
