@@ -1,5 +1,6 @@
 -- The reading of a file goes by its steps, and what a stack of open files still gives.
-use Rattle.std.proofs.Common.{◌≡◌, ◌≤◌, ◌<◌, ◌+◌, ◌-◌, ℕ, zero, suc, Bool, true, false, cond, nat_lt, List, [], ◌∷◌, length, map, Option, Some, None, Result, Ok, Err, refl, sym, ◌∙◌, ap, subst, arith, nat_tests}
+use Rattle.std.proofs.Common.{◌≡◌, ◌≤◌, ◌<◌, ◌+◌, ◌-◌, ℕ, zero, suc, Bool, true, false, cond, nat_lt, List, [], ◌∷◌, length, map, Option, Some, None, Result, Ok, Err, refl, sym, ◌∙◌, ap, subst, arith}
+use Rattle.std.proofs.lemmas.Bool.Decides.{nat_tests}
 use Rattle.cc_base.specs.declared.diagnostics.Place.{Place}
 use Rattle.cc_base.specs.declared.refusals.Fault.{Fault}
 use Rattle.cc_base.specs.declared.refusals.Stop.{Stop}
@@ -18,8 +19,11 @@ use Rattle.c_preproc.specs.Known.{Known, Reading, Line, Decided, condition, ente
 use Rattle.c_preproc.specs.declared.preprocessing.Step.{Step as StepOf}
 use Rattle.c_preproc.specs.declared.preprocessing.Step.TheVariants.{Ended, GoesOn, Includes}
 use Rattle.cc_base.specs.declared.refusals.Stop.TheVariants as stop
-use Rattle.c_preproc.specs.Told.{UnitGives, step_as, stacked}
-use Rattle.c_preproc.specs.Units.{World, Course, course, Refused, refused, then, under, Entered, include, Step, on_reading, on_known, step_into, directive, file_ended, step_at, step_by, step, follow, lines, file_read}
+use Rattle.cc_base.specs.Outside.{Files}
+use Rattle.c_layout.specs.declared.data_model.Model.{Model}
+use Rattle.c_preproc.specs.Searching.{Found}
+use Rattle.c_preproc.specs.Told.{IsFind, UnitGives, step_as, stacked}
+use Rattle.c_preproc.specs.Units.{World, world_of, Sought, sought, Course, course, Refused, refused, then, under, Entered, include, Step, on_reading, on_known, step_into, directive, file_ended, step_at, step_by, step, follow, lines, file_read}
 use Rattle.c_preproc.specs.Units.Step.{ended, goes_on, includes}
 
 either : {A : Type 0} (t : Bool) (x y : A) (P : A → Type 0) → (t ≡ true → P x) → (t ≡ false → P y) → P (cond t x y)
@@ -216,7 +220,8 @@ ended_includes_none (Some place) c = tt
 
 step_at_includes_none : (w : World) (o : Option Place) (top : Opened) (c : Course) → IsNoInclusion (step_at w true o top c)
 step_at_includes_none w None top c = reading_includes_none c.names _
-step_at_includes_none w (Some place) top c = directive_includes_none w place _ _ _ c
+step_at_includes_none w (Some place) top c =
+    directive_includes_none w place (cut_directive top.unread).front (line_of c.known.texts (cut_directive top.unread).front) (record top { unread = (cut_directive top.unread).rest }) c
 
 step_includes_none : (w : World) (o : Option Lexeme) (top : Opened) (c : Course) → IsNoInclusion (step_by w true o top c)
 step_includes_none w None top c = ended_includes_none (first_open top.sections) c
@@ -285,3 +290,26 @@ stack_refused w deepest top below c wanted part_view view names (stop.Refused f)
 stack_refused w deepest top below c wanted part_view view names stop.NotHeld e h g = g
 stack_refused w deepest top below c wanted part_view view names stop.ReadFault e h g = tt
 stack_refused w deepest top below c wanted part_view view names stop.Memory e h g = tt
+
+-- ---- where the files are told
+
+found_as_told : (t : Option Files) (held : Files) (dirs : List (List ℕ)) (model : Model) (deepest : Bool) (top : Opened) (c : Course) (find : List (List ℕ) → Option Found → Sought) (P : Result Step Refused → Type 0)
+    → t ≡ Some held → IsFind t find → P (step (world_of find dirs model) deepest top c) → P (step (world_of (sought held) dirs model) deepest top c)
+found_as_told t held dirs model deepest top c find P e f h =
+    let same : find ≡ sought held = subst (λ v. IsFind v find) e f in
+    subst (λ v. P (step (world_of v dirs model) deepest top c)) same h
+
+pub stack_told : (t : Option Files) (held : Files) (dirs : List (List ℕ)) (model : Model) (deepest : Bool) (top next : Opened) (below stack now : List Opened) (c after : Course) (s : StepOf) (wanted : Result Course Refused) (find : List (List ℕ) → Option Found → Sought)
+    → t ≡ Some held → IsFind t find → step (world_of find dirs model) deepest top c ≡ Ok (step_as next after s) → deepest ≡ nat_lt 16 (length below + 1) → stack ≡ top ∷ below → now ≡ stacked next s below
+    → left_of (world_of (sought held) dirs model) stack c ≡ wanted → left_of (world_of (sought held) dirs model) now after ≡ wanted
+stack_told t held dirs model deepest top next below stack now c after s wanted find e f h d i j w =
+    let here : step (world_of (sought held) dirs model) deepest top c ≡ Ok (step_as next after s) = found_as_told t held dirs model deepest top c find (λ v. v ≡ Ok (step_as next after s)) e f h in
+    ap (λ v. left_of (world_of (sought held) dirs model) v after) j
+    ∙ (sym (left_step (world_of (sought held) dirs model) deepest top next below c after s d here) ∙ (ap (λ v. left_of (world_of (sought held) dirs model) v c) (sym i) ∙ w))
+
+pub stack_told_refused : {A B : Type 0} (t : Option Files) (held : Files) (dirs : List (List ℕ)) (model : Model) (deepest : Bool) (top : Opened) (below stack : List Opened) (c : Course) (wanted : Result Course Refused) (part_view : A → Step) (view : B → Course) (names : List (List ℕ)) (s : Stop)
+    (find : List (List ℕ) → Option Found → Sought) → t ≡ Some held → IsFind t find → UnitGives (step (world_of find dirs model) deepest top c) part_view names (Err s) → deepest ≡ nat_lt 16 (length below + 1) → stack ≡ top ∷ below
+    → left_of (world_of (sought held) dirs model) stack c ≡ wanted → UnitGives wanted view names (Err s)
+stack_told_refused t held dirs model deepest top below stack c wanted part_view view names s find e f h d i w =
+    stack_refused (world_of (sought held) dirs model) deepest top below c wanted part_view view names s d (ap (λ v. left_of (world_of (sought held) dirs model) v c) (sym i) ∙ w)
+    (found_as_told t held dirs model deepest top c find (λ v. UnitGives v part_view names (Err s)) e f h)

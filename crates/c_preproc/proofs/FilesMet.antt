@@ -1,5 +1,5 @@
 -- The reading of files stands in the files that were met.
-use Rattle.std.proofs.Common.{◌≡◌, ◌≤◌, ◌<◌, ◌+◌, ◌||◌, ◌&&◌, ℕ, zero, suc, Bool, true, false, not, cond, nat_eq, nat_lt, List, [], ◌∷◌, ◌++◌, length, Option, Some, None, Result, Ok, Err, refl, sym, ◌∙◌, ap, subst, arith, length-append}
+use Rattle.std.proofs.Common.{◌≡◌, ◌≤◌, ◌<◌, ◌+◌, ◌||◌, ◌&&◌, ◌==◌, get_or, ℕ, zero, suc, Bool, true, false, not, cond, nat_eq, nat_lt, List, [], ◌∷◌, ◌++◌, length, Option, Some, None, Result, Ok, Err, refl, sym, ◌∙◌, ap, subst, arith, length-append}
 use Rattle.std.specs.List.{list_all, list_any, position_or_len, All}
 use Rattle.std.specs.Cmp.Lexicographic.{pointwise}
 use Rattle.std.proofs.lemmas.Bool.Decides.{nat_tests}
@@ -59,7 +59,7 @@ known_more m n [] h k = refl
 known_more m n (t ∷ ts) h k = let w = both (is_in m t.place) (all_in m ts) k in rw (in_more m n t.place h w.0) (known_more m n ts h w.1)
 
 stand_more : (m n : ℕ) (xs : List Lexeme) → m ≤ n → Stand m xs → Stand n xs
-stand_more m n xs h s = λ k d l. in_more m n _ h (s k d l)
+stand_more m n xs h s = λ k d l. in_more m n (mark_of (get_or xs k d)).place h (s k d l)
 
 sections_more : (m n : ℕ) (sections : List Section) → m ≤ n → SectionsIn m sections → SectionsIn n sections
 sections_more m n [] h s = tt
@@ -116,7 +116,7 @@ MarkedBy m (Some x) = mark_of x ≡ m
 
 bracket_mark : (text : List ℕ) (m : Mark) → MarkedBy m (bracket text m)
 bracket_mark [] m = tt
-bracket_mark (b ∷ []) m = either _ _ _ (MarkedBy m) (λ e. refl) (λ e. either _ _ _ (MarkedBy m) (λ i. refl) (λ i. either _ _ _ (MarkedBy m) (λ j. refl) (λ j. tt)))
+bracket_mark (b ∷ []) m = either (b == 40) (Some (Open m)) _ (MarkedBy m) (λ e. refl) (λ e. either (b == 41) (Some (Close m)) _ (MarkedBy m) (λ i. refl) (λ i. either (b == 44) (Some (Comma m)) None (MarkedBy m) (λ j. refl) (λ j. tt)))
 bracket_mark (b ∷ c ∷ s) m = tt
 
 bracket_of_mark : (k : Kind) (text : List ℕ) (m : Mark) → MarkedBy m (bracket_of k text m)
@@ -244,7 +244,7 @@ known_step_in top names (Err f) t h = h
 
 into_in : (least : ℕ) (o : Option Opened) (top : Opened) (c : Course) → CourseIn least c → FileIn (length c.names) o → OpenIn (length c.names) top → StepResult least (Ok (step_into o top c))
 into_in least None top c h f t = (h, t)
-into_in least (Some file) top c h f t = (h, f, t)
+into_in least (Some file) top c h f t = (h, (f, t))
 
 include_step_in : (names : List (List ℕ)) (top : Opened) (x : Result Entered Refused) → OpenIn (length names) top → EnteredResult (length names) x → StepResult (length names) (then x (λ e. Ok (step_into e.file top e.course)))
 include_step_in names top (Ok e) t h = into_in (length names) e.file top e.course h.0 h.1 (open_more (length names) (length e.course.names) top h.0.longer t)
@@ -314,7 +314,7 @@ stack_left least top below c next after GoesOn h r = record {
 }
 stack_left least top below c next after (Includes file) h r = record {
   course = record { longer = let p = h.course.longer in let q = r.0.longer in omega arith; known = r.0.known };
-  files = (r.1.0, r.1.1, all_open_more (length c.names) (length after.names) below r.0.longer h.files.1);
+  files = (r.1.0, (r.1.1, all_open_more (length c.names) (length after.names) below r.0.longer h.files.1));
 }
 
 pub stack_step : (w : World) (deepest : Bool) (least : ℕ) (top : Opened) (below : List Opened) (c : Course) (next : Opened) (after : Course) (s : StepOf) → StackIn least (top ∷ below) c → step w deepest top c ≡ Ok (step_as next after s) → StackIn least (stacked next s below) after
@@ -325,3 +325,13 @@ stack_stopped w deepest least top below c view names (stop.Refused f) h g = subs
 stack_stopped w deepest least top below c view names stop.NotHeld h g = tt
 stack_stopped w deepest least top below c view names stop.ReadFault h g = tt
 stack_stopped w deepest least top below c view names stop.Memory h g = tt
+
+-- a stack behind a step of the code, and a refusal of one
+pub stack_goes : (w : World) (deepest : Bool) (least : ℕ) (top : Opened) (below stack now : List Opened) (c : Course) (next : Opened) (after : Course) (s : StepOf) → StackIn least stack c → stack ≡ top ∷ below → now ≡ stacked next s below
+    → step w deepest top c ≡ Ok (step_as next after s) → StackIn least now after
+stack_goes w deepest least top below stack now c next after s h i j e =
+    subst (λ v. StackIn least v after) (sym j) (stack_step w deepest least top below c next after s (subst (λ v. StackIn least v c) i h) e)
+
+pub stack_ends : {A : Type 0} (w : World) (deepest : Bool) (least : ℕ) (top : Opened) (below stack : List Opened) (c : Course) (view : A → Step) (names : List (List ℕ)) (s : Stop) → StackIn least stack c → stack ≡ top ∷ below
+    → UnitGives (step w deepest top c) view names (Err s) → StopIn (length names) s
+stack_ends w deepest least top below stack c view names s h i g = stack_stopped w deepest least top below c view names s (subst (λ v. StackIn least v c) i h) g

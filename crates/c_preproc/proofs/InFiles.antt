@@ -1,4 +1,5 @@
 -- What the directives and text lines of a file make stands in the files that were met.
+use Rattle.std.specs.Prelude.{codes}
 use Rattle.std.proofs.Common.{◌≡◌, ◌≤◌, ◌<◌, ◌+◌, ℕ, zero, suc, Bool, true, false, ◌&&◌, cond, not, nat_eq, nat_le, nat_lt, List, [], ◌∷◌, ◌++◌, length, map, slice_get, Option, Some, None, option_map, Result, Ok, Err, refl, sym, ◌∙◌, ap, subst, arith}
 use Rattle.std.specs.List.{list_all, list_any, position_or_len, All}
 use Rattle.std.specs.Cmp.Lexicographic.{pointwise}
@@ -301,7 +302,7 @@ undefine_in n place (Some name) k h i = either (may_be_defined k.texts name) _ _
 
 pragma_in : (n file : ℕ) (o : Option ℕ) (k : Known) → KnownIn n k → KnownResult n (pragma_named file o k)
 pragma_in n file None k i = i
-pragma_in n file (Some name) k i = either _ _ _ (KnownResult n) (λ e. i) (λ e. i)
+pragma_in n file (Some name) k i = either (is_spelled k.texts name (codes "once") && not (is_once k.once file)) _ _ (KnownResult n) (λ e. i) (λ e. i)
 
 pub plain_in : (n : ℕ) (d : Directive) (file : ℕ) (place : Place) (line behind : List Lexeme) (k : Known) → is_in n place ≡ true → KnownIn n k → KnownResult n (plain d file place line behind k)
 plain_in n Define file place line behind k h i = define_named_in n place (first_name line) k h i

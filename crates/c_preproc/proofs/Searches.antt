@@ -111,6 +111,12 @@ drop_at text [] k x h e = absurd (omega arith)
 drop_at text (y ∷ ys) zero x h e = ap (λ v. text v ∷ map text ys) (sym e)
 drop_at text (y ∷ ys) (suc k) x h e = let m : suc k + 1 ≡ suc (k + 1) = omega arith in rw m (drop_at text ys k x (omega arith) e)
 
+pub drop_all : {A : Type 0} (text : A → List ℕ) (xs : List A) (k : ℕ) → length xs ≤ k → map text (drop k xs) ≡ []
+drop_all text [] zero h = refl
+drop_all text [] (suc k) h = refl
+drop_all text (x ∷ xs) zero h = absurd (omega arith)
+drop_all text (x ∷ xs) (suc k) h = drop_all text xs k (omega arith)
+
 -- the search stops at the file that is held
 pub found_here : {A : Type 0} (text : A → List ℕ) (f0 f1 f2 : Option Files) (a0 a1 a2 b0 b1 b2 : ℕ) (dirs : List (List ℕ)) (names : List (List ℕ)) (xs : List A) (k : ℕ) (x : A) (n name : List ℕ) (model : Model) (o : Option FoundFile) (f : FoundFile)
     → Along f0 f1 a0 a1 b0 b1 (map text xs) (map text (drop k xs)) → k < length xs → x ≡ get_or xs k x → n ≡ text x → Went f1 f2 a1 a2 b1 b2

@@ -1,5 +1,5 @@
 -- What the functions that read files answer, from what those below them answer.
-use Rattle.std.proofs.Common.{◌≡◌, ℕ, Bool, true, false, cond, List, [], ◌∷◌, Option, Some, None, Result, Ok, Err, IfOk, is_none, map, option_map, string_bytes, refl, sym, ◌∙◌, ap, subst}
+use Rattle.std.proofs.Common.{◌≡◌, ℕ, Bool, true, false, cond, List, [], ◌∷◌, Option, Some, None, Result, Ok, Err, IfOk, is_some, map, option_map, string_bytes, refl, sym, ◌∙◌, ap, subst}
 use Rattle.cc_base.specs.Outside.{Files}
 use Rattle.cc_base.specs.declared.diagnostics.Place.{Place}
 use Rattle.cc_base.specs.declared.lexemes.Token.{Token}
@@ -24,7 +24,9 @@ use Rattle.c_preproc.specs.Reading.{found_as}
 use Rattle.c_preproc.specs.Units.{World, world_of, Course, course, Refused, refused, then, under, Sought, sought, Opening, opening, opened_by, Entered, entered_as, entered, long_refused, included, includer_in, sought_from, include, Step, on_reading, on_known, step_into, directive, file_ended, step_at, step_by, step, file_read, read_if, preprocessed, unit, main_read, unit_from}
 use Rattle.c_preproc.specs.Units.Sought.{found, too_long, nothing}
 use Rattle.c_preproc.specs.Units.Step.{ended, goes_on, includes}
-use Rattle.c_preproc.specs.Told.{IsSought, UnitGives, IsMissingStop, SearchGives}
+use Rattle.c_preproc.specs.declared.preprocessing.Step.{Step as StepOf}
+use Rattle.c_preproc.specs.declared.preprocessing.Step.TheVariants.{GoesOn}
+use Rattle.c_preproc.specs.Told.{IsSought, UnitGives, IsMissingStop, SearchGives, opened_if, step_as}
 use Rattle.c_preproc.proofs.Told.{find_by, find_by_finds}
 
 -- what is the same as one answer is given as that one is
@@ -43,6 +45,9 @@ then_refused part part_view go view names (stop.Refused f) h = ap (λ v. then v 
 then_refused part part_view go view names stop.NotHeld h = h
 then_refused part part_view go view names stop.ReadFault h = tt
 then_refused part part_view go view names stop.Memory h = tt
+
+pub refused_as : {A B : Type 0} (x : Result B Refused) (view : A → B) (names : List (List ℕ)) (s : Stop) (f : Fault) → s ≡ stop.Refused f → x ≡ Err (refused f names) → UnitGives x view names (Err s)
+refused_as x view names s f e h = subst (λ v. UnitGives x view names (Err v)) (sym e) h
 
 -- ---- a file is opened
 
@@ -171,17 +176,6 @@ pub directive_skipped : (w : World) (deepest : Bool) (place : Place) (behind : L
     → line_with d line ≡ l → is_conditional d ≡ false → is_skipped top.sections ≡ true → directive w deepest place behind l top c ≡ Ok (goes_on top c)
 directive_skipped w deepest place behind d line l top c e h i = subst (λ v. directive w deepest place behind v top c ≡ Ok (goes_on top c)) e (as_skipped w deepest place behind (line_with d line) top c h i)
 
-included_step : {A : Type 0} (x : Result Entered Refused) (top : Opened) (k : Known) (names : List (List ℕ)) (file : A → Option Opened) (r : Result A Stop) → UnitGives x (λ o. entered_as k names (file o)) names r
-    → UnitGives (then x (λ e. Ok (step_into e.file top e.course))) (λ o. step_into (file o) top (course k names)) names r
-included_step x top k names file (Ok o) h = ap (λ v. then v (λ e. Ok (step_into e.file top e.course))) h
-included_step x top k names file (Err s) h = then_refused x (λ o. entered_as k names (file o)) _ _ names s h
-
-pub directive_includes : {A : Type 0} (w : World) (deepest : Bool) (place : Place) (behind : List Lexeme) (d : Directive) (line : List Lexeme) (l : Line) (top : Opened) (c : Course) (k : Known) (names : List (List ℕ)) (file : A → Option Opened) (r : Result A Stop)
-    → line_with d line ≡ l → is_conditional d ≡ false → is_skipped top.sections ≡ false → is_include d ≡ true → UnitGives (include w top.file deepest place line c.known c.names) (λ o. entered_as k names (file o)) names r
-    → UnitGives (directive w deepest place behind l top c) (λ o. step_into (file o) top (course k names)) names r
-directive_includes w deepest place behind d line l top c k names file r e h i j g = subst (λ v. UnitGives (directive w deepest place behind v top c) (λ o. step_into (file o) top (course k names)) names r) e
-    (given_by _ _ _ names r (as_include w deepest place behind (line_with d line) top c h i j) (included_step _ top k names file r g))
-
 pub plain_refused : {A B : Type 0} (w : World) (deepest : Bool) (place : Place) (behind : List Lexeme) (d : Directive) (line : List Lexeme) (l : Line) (top : Opened) (c : Course) (part_view : A → Known) (view : B → Step) (s : Stop)
     → line_with d line ≡ l → is_conditional d ≡ false → is_skipped top.sections ≡ false → is_include d ≡ false → Gives (plain d top.file place line behind c.known) part_view (Err s)
     → UnitGives (directive w deepest place behind l top c) view c.names (Err s)
@@ -194,39 +188,52 @@ pub plain_done : (w : World) (deepest : Bool) (place : Place) (behind : List Lex
 plain_done w deepest place behind d line l top c k e h i j g = subst (λ v. directive w deepest place behind v top c ≡ Ok (goes_on top (course k c.names))) e
     (as_plain w deepest place behind (line_with d line) top c h i j ∙ ap (λ v. then (under c.names v) (λ k. Ok (on_known top c.names k))) g)
 
+-- no file is included
+pub conditional_step : (w : World) (deepest : Bool) (place : Place) (behind : List Lexeme) (d : Directive) (line : List Lexeme) (l : Line) (top after : Opened) (c : Course) (k : Known) (r : Result (Option OpenFile) Stop)
+    → line_with d line ≡ l → is_conditional d ≡ true → IfOk r (λ o. o ≡ None) → Gives (conditional w.model.char_signed d place line (record { known = c.known; top = top })) (λ _. record { known = k; top = after }) r
+    → UnitGives (directive w deepest place behind l top c) (λ o. step_into (opened_if o) after (course k c.names)) c.names r
+conditional_step w deepest place behind d line l top after c k (Ok o) e h n g = conditional_done w deepest place behind d line l top after c k e h g ∙ ap (λ v. Ok (step_into (opened_if v) after (course k c.names))) (sym n)
+conditional_step w deepest place behind d line l top after c k (Err s) e h n g = conditional_refused {A = Option OpenFile} w deepest place behind d line l top c (λ _. record { known = k; top = after }) (λ o. step_into (opened_if o) after (course k c.names)) s e h g
+
+pub plain_step : (w : World) (deepest : Bool) (place : Place) (behind : List Lexeme) (d : Directive) (line : List Lexeme) (l : Line) (top : Opened) (c : Course) (k : Known) (r : Result (Option OpenFile) Stop)
+    → line_with d line ≡ l → is_conditional d ≡ false → is_skipped top.sections ≡ false → is_include d ≡ false → IfOk r (λ o. o ≡ None) → Gives (plain d top.file place line behind c.known) (λ _. k) r
+    → UnitGives (directive w deepest place behind l top c) (λ o. step_into (opened_if o) top (course k c.names)) c.names r
+plain_step w deepest place behind d line l top c k (Ok o) e h i j n g = plain_done w deepest place behind d line l top c k e h i j g ∙ ap (λ v. Ok (step_into (opened_if v) top (course k c.names))) (sym n)
+plain_step w deepest place behind d line l top c k (Err s) e h i j n g = plain_refused {A = Option OpenFile} w deepest place behind d line l top c (λ _. k) (λ o. step_into (opened_if o) top (course k c.names)) s e h i j g
+
 -- ---- a step of a file
 
 none_some : {A : Type 0} (x : A) → None ≡ Some x → ⊥
 none_some x e = cc
 
-pub step_ended : (w : World) (deepest : Bool) (top : Opened) (c : Course) (o : Option Lexeme) → o ≡ first_of top.unread → is_none o ≡ true → first_open top.sections ≡ None → step w deepest top c ≡ Ok (ended c)
+pub step_ended : (w : World) (deepest : Bool) (top : Opened) (c : Course) (o : Option Lexeme) → o ≡ first_of top.unread → is_some o ≡ false → first_open top.sections ≡ None → step w deepest top c ≡ Ok (ended c)
 step_ended w deepest top c o e h i = ap (λ v. step_by w deepest v top c) (sym e) ∙ go o h
   where
-    go : (o : Option Lexeme) → is_none o ≡ true → step_by w deepest o top c ≡ Ok (ended c)
+    go : (o : Option Lexeme) → is_some o ≡ false → step_by w deepest o top c ≡ Ok (ended c)
     go None h = ap (λ v. file_ended v c) i
     go (Some x) h = absurd (cc)
 
-pub step_uneven : (w : World) (deepest : Bool) (top : Opened) (c : Course) (o : Option Lexeme) (place : Place) → o ≡ first_of top.unread → is_none o ≡ true → first_open top.sections ≡ Some place
+pub step_uneven : (w : World) (deepest : Bool) (top : Opened) (c : Course) (o : Option Lexeme) (place : Place) → o ≡ first_of top.unread → is_some o ≡ false → first_open top.sections ≡ Some place
     → step w deepest top c ≡ Err (refused (fault_of place refusal.UnevenConditional) c.names)
 step_uneven w deepest top c o place e h i = ap (λ v. step_by w deepest v top c) (sym e) ∙ go o h
   where
-    go : (o : Option Lexeme) → is_none o ≡ true → step_by w deepest o top c ≡ Err (refused (fault_of place refusal.UnevenConditional) c.names)
+    go : (o : Option Lexeme) → is_some o ≡ false → step_by w deepest o top c ≡ Err (refused (fault_of place refusal.UnevenConditional) c.names)
     go None h = ap (λ v. file_ended v c) i
     go (Some x) h = absurd (cc)
 
-as_text : (w : World) (deepest : Bool) (top : Opened) (c : Course) (o : Option Lexeme) → o ≡ first_of top.unread → is_none o ≡ false → directive_at c.known.texts o ≡ None
+as_text : (w : World) (deepest : Bool) (top : Opened) (c : Course) (o : Option Lexeme) → o ≡ first_of top.unread → is_some o ≡ true → directive_at c.known.texts o ≡ None
     → step w deepest top c ≡ then (under c.names (text_lines (record { known = c.known; top = top }))) (λ r. Ok (on_reading c.names r))
 as_text w deepest top c o e h i = ap (λ v. step_by w deepest v top c) (sym e) ∙ go o h i
   where
-    go : (o : Option Lexeme) → is_none o ≡ false → directive_at c.known.texts o ≡ None → step_by w deepest o top c ≡ then (under c.names (text_lines (record { known = c.known; top = top }))) (λ r. Ok (on_reading c.names r))
+    go : (o : Option Lexeme) → is_some o ≡ true → directive_at c.known.texts o ≡ None → step_by w deepest o top c ≡ then (under c.names (text_lines (record { known = c.known; top = top }))) (λ r. Ok (on_reading c.names r))
     go None h i = absurd (cc)
     go (Some x) h i = ap (λ v. step_at w deepest v top c) i
 
-pub step_text_refused : {A B : Type 0} (w : World) (deepest : Bool) (top : Opened) (c : Course) (o : Option Lexeme) (part_view : A → Reading) (view : B → Step) (s : Stop) → o ≡ first_of top.unread → is_none o ≡ false → directive_at c.known.texts o ≡ None
+pub step_text_refused : {A B : Type 0} (w : World) (deepest : Bool) (top : Opened) (c : Course) (o : Option Lexeme) (part_view : A → Reading) (view : B → Step) (s : Stop) → o ≡ first_of top.unread → is_some o ≡ true → directive_at c.known.texts o ≡ None
     → Gives (text_lines (record { known = c.known; top = top })) part_view (Err s) → UnitGives (step w deepest top c) view c.names (Err s)
 step_text_refused w deepest top c o part_view view s e h i g = given_by _ _ view c.names (Err s) (as_text w deepest top c o e h i) (under_refused _ part_view _ view c.names s g)
 
-pub step_text : (w : World) (deepest : Bool) (top after : Opened) (c : Course) (o : Option Lexeme) (k : Known) → o ≡ first_of top.unread → is_none o ≡ false → directive_at c.known.texts o ≡ None
+pub step_text : (w : World) (deepest : Bool) (top after : Opened) (c : Course) (o : Option Lexeme) (k : Known) → o ≡ first_of top.unread → is_some o ≡ true → directive_at c.known.texts o ≡ None
     → text_lines (record { known = c.known; top = top }) ≡ Ok (record { known = k; top = after }) → step w deepest top c ≡ Ok (goes_on after (course k c.names))
 step_text w deepest top after c o k e h i g = as_text w deepest top c o e h i ∙ ap (λ v. then (under c.names v) (λ r. Ok (on_reading c.names r))) g
 
@@ -246,3 +253,9 @@ step_directive w deepest top between c o place behind view names r e i f b g =
     let line : UnitGives (directive w deepest place (cut_directive top.unread).front (line_of c.known.texts (cut_directive top.unread).front) between c) view names r =
     subst (λ v. UnitGives (directive w deepest place v (line_of c.known.texts v) between c) view names r) f g in
     given_by _ _ view names r (as_directive w deepest top c o place e i) (subst (λ v. UnitGives (directive w deepest place (cut_directive top.unread).front (line_of c.known.texts (cut_directive top.unread).front) v c) view names r) b line)
+
+pub text_step : (w : World) (deepest : Bool) (top after : Opened) (c : Course) (o : Option Lexeme) (k : Known) (r : Result StepOf Stop) → o ≡ first_of top.unread → is_some o ≡ true → directive_at c.known.texts o ≡ None
+    → IfOk r (λ s. s ≡ GoesOn) → Gives (text_lines (record { known = c.known; top = top })) (λ _. record { known = k; top = after }) r
+    → UnitGives (step w deepest top c) (step_as after (course k c.names)) c.names r
+text_step w deepest top after c o k (Ok s) e h i n g = step_text w deepest top after c o k e h i g ∙ ap (λ v. Ok (step_as after (course k c.names) v)) (sym n)
+text_step w deepest top after c o k (Err s) e h i n g = step_text_refused {A = StepOf} w deepest top c o (λ _. record { known = k; top = after }) (step_as after (course k c.names)) s e h i g

@@ -122,3 +122,9 @@ long_in main names now (stop.Refused f) l =
 long_in main names now stop.NotHeld l = tt
 long_in main names now stop.ReadFault l = tt
 long_in main names now stop.Memory l = tt
+
+pub stands_stop : (n : ℕ) (s : Stop) → StopIn n s → StandsIn n (Err s)
+stands_stop n (stop.Refused f) h = h
+stands_stop n stop.NotHeld h = tt
+stands_stop n stop.ReadFault h = tt
+stands_stop n stop.Memory h = tt

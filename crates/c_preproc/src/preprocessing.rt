@@ -1,5 +1,5 @@
 //! Reads a unit: text lines and directives, file by file.
-ghost use Rattle.std.specs.Prelude.{◌≡◌, ◌≤◌, ◌^◌, Some, true, nat_lt, length, map, string_bytes, [], IfOk, IfErr};
+ghost use Rattle.std.specs.Prelude.{◌≡◌, ◌≤◌, ◌^◌, Some, None, true, nat_lt, length, map, string_bytes, [], IfOk, IfErr};
 ghost use Rattle.c_layout.specs.Models.{is_model};
 ghost use Rattle.c_preproc.specs.Names.{is_distinct};
 ghost use Rattle.c_preproc.specs.Placed.{StandsIn, OpenIn, KnownIn, ReadIn};
@@ -191,8 +191,10 @@ fn enter(
     if state.is_once(file) {
         return Ok(None);
     }
-    let open = opened(alloc, state, file, found.bytes.as_slice())?;
-    Ok(Some(open))
+    match opened(alloc, state, file, found.bytes.as_slice()) {
+        Ok(open) => Ok(Some(open)),
+        Err(stop) => Err(stop),
+    }
 }
 
 /// A directive of an if-section.
@@ -247,6 +249,46 @@ fn plain(
     }
 }
 
+/// A directive of an if-section, which includes no file.
+fn conditional_directive(
+    alloc: Global,
+    char_signed: bool,
+    state: &mut State,
+    top: &mut OpenFile,
+    directive: Directive,
+    place: Place,
+    line: &[Lexeme],
+) -> Result<Option<OpenFile>, Stop>
+    ensures own { IfErr result IsOwn }
+    ensures none { IfOk result (λ o. o ≡ None) }
+    ensures given { Gives (conditional char_signed directive place line.now (reading_of state.old top.old)) (λ _. reading_of state.new top.new) result }
+{
+    match conditional(alloc, char_signed, state, top, directive, place, line) {
+        Ok(()) => Ok(None),
+        Err(stop) => Err(stop),
+    }
+}
+
+/// A directive that is no conditional one and no `#include`, which includes no file.
+fn plain_directive(
+    alloc: Global,
+    state: &mut State,
+    directive: Directive,
+    file: u32,
+    place: Place,
+    line: &[Lexeme],
+    behind: &[Lexeme],
+) -> Result<Option<OpenFile>, Stop>
+    ensures own { IfErr result IsOwn }
+    ensures none { IfOk result (λ o. o ≡ None) }
+    ensures given { Gives (plain directive file place line.now behind.now (known_of state.old)) (λ _. known_of state.new) result }
+{
+    match plain(alloc, state, directive, file, place, line, behind) {
+        Ok(()) => Ok(None),
+        Err(stop) => Err(stop),
+    }
+}
+
 /// The directive of a line behind its `#`, and what follows the directive's name.
 fn directive_of<'a>(state: &State, behind: &'a [Lexeme]) -> (Directive, &'a [Lexeme])
     ensures { line_as result ≡ line_of (known_of state.now).texts behind.now }
@@ -277,8 +319,7 @@ fn directive<T: Tree>(
 {
     let (directive, line) = directive_of(state, behind);
     if directive.is_conditional() {
-        conditional(alloc, model.char_signed, state, top, directive, place, line)?;
-        return Ok(None);
+        return conditional_directive(alloc, model.char_signed, state, top, directive, place, line);
     }
     if top.sections.is_skipping() {
         return Ok(None);
@@ -288,8 +329,7 @@ fn directive<T: Tree>(
             alloc, tree, dirs, model, files, state, top.file, depth, place, line,
         );
     }
-    plain(alloc, state, directive, top.file, place, line, behind)?;
-    Ok(None)
+    plain_directive(alloc, state, directive, top.file, place, line, behind)
 }
 
 /// The place of the directive that a token begins.
@@ -332,6 +372,18 @@ enum Step {
     Includes(OpenFile),
 }
 
+/// Reads the text lines up to the next directive, behind which the file goes on.
+fn text_step(alloc: Global, state: &mut State, top: &mut OpenFile) -> Result<Step, Stop>
+    ensures own { IfErr result IsOwn }
+    ensures goes_on { IfOk result (λ s. s ≡ Step.GoesOn) }
+    ensures given { Gives (text_lines (reading_of state.old top.old)) (λ _. reading_of state.new top.new) result }
+{
+    match text_lines(alloc, state, top) {
+        Ok(()) => Ok(Step::GoesOn),
+        Err(stop) => Err(stop),
+    }
+}
+
 /// Reads the next directive or the text lines before it.
 fn read_step<T: Tree>(
     alloc: Global,
@@ -356,8 +408,7 @@ fn read_step<T: Tree>(
         };
     }
     let Some(place) = directive_place(state, next) else {
-        text_lines(alloc, state, top)?;
-        return Ok(Step::GoesOn);
+        return text_step(alloc, state, top);
     };
     let behind = top.directive_line(alloc)?;
     match directive(
@@ -446,12 +497,17 @@ fn unit_of<T: Tree>(
 {
     let file = files.number(alloc, main)?;
     let mut state = State::new(alloc)?;
-    let open = opened(alloc, &mut state, file, bytes)?;
-    read_all(alloc, tree, dirs, model, files, &mut state, open)?;
-    Ok(Unit7 {
-        tokens: state.out.into_tokens(),
-        model: *model,
-    })
+    let open = match opened(alloc, &mut state, file, bytes) {
+        Ok(open) => open,
+        Err(stop) => return Err(stop),
+    };
+    match read_all(alloc, tree, dirs, model, files, &mut state, open) {
+        Ok(()) => Ok(Unit7 {
+            tokens: state.out.into_tokens(),
+            model: *model,
+        }),
+        Err(stop) => Err(stop),
+    }
 }
 
 /// Reads a unit from its main file on.

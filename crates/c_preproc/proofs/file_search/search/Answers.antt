@@ -1,6 +1,6 @@
 use Rattle.std.proofs.Common.{[], arith, string_bytes}
-use Rattle.c_preproc.proofs.Searches.{found_here, missed_here, caused_earlier}
-use Rattle.c_preproc.proofs.Told.{reads_as, seek_missed, seek_found, seek_refused}
+use Rattle.c_preproc.proofs.Searches.{drop_all, found_here, missed_here, caused_earlier}
+use Rattle.c_preproc.proofs.Told.{reads_as, seek_missed, seek_found, seek_refused, seek_built_in}
 use Rattle.c_preproc.proofs.file_search.search.Goals as goal
 
 pub returns-in-Err-clause-answer : goal.returns-in-Err-clause-answer
@@ -25,3 +25,6 @@ loop-candidate-preserved g c = record {
   seeking = seek_missed string_bytes _ _ _ c.loop-candidate.candidate-index c.candidate-item.result _ _ _ _ c.in-Ok.held c.loop-candidate.invariant.seeking (omega arith) c.candidate-item.is c.as_str.ensures.value
       (reads_as _ _ _ _ _ _ c.loop-candidate.invariant.along.went.same c.in-Ok.ensures.reads) c.in-None.is;
 }
+
+pub returns-clause-seeks : goal.returns-clause-seeks
+returns-clause-seeks g c = seek_built_in _ _ _ _ _ c.args.name.now c.args.model.now c.built_in.result c.loop-candidate.invariant.seeking (drop_all string_bytes c.args.searched.now c.loop-candidate.candidate-index (omega arith)) c.built_in.ensures.value c.built_in.ensures.error
