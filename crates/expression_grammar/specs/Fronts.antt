@@ -8,7 +8,6 @@ use Rattle.token_classes.specs.declared.terminals.Terminal.{Terminal}
 use Rattle.token_classes.specs.declared.terminals.Keyword.{Keyword}
 use Rattle.token_classes.specs.declared.terminals.Keyword.TheVariants as k
 use Rattle.token_classes.specs.declared.terminals.Punctuator.{Punctuator}
-use Rattle.token_classes.specs.declared.terminals.Punctuator.TheVariants as p
 use Rattle.token_classes.specs.declared.terminals.Symbol.{Symbol}
 use Rattle.token_classes.specs.declared.terminals.Symbol.TheVariants as symbol
 
@@ -86,14 +85,6 @@ begins_with _ named = named
 
 abbrev pub begins_specifiers : List (List ℕ) → List Terminal → Bool
 begins_specifiers known ts = begins_with (first_symbol ts) (is_typedef_first known ts)
-
-abbrev pub is_left_parenthesis : Symbol → Bool
-is_left_parenthesis (symbol.Punctuator p.LeftParenthesis) = true
-is_left_parenthesis _ = false
-
--- whether `(` stands at the front, and behind it what begins a type name
-abbrev pub opens_type_name : List (List ℕ) → List Terminal → Bool
-opens_type_name known ts = is_left_parenthesis (first_symbol ts) && begins_specifiers known (behind_first ts)
 
 -- an identifier that is no typedef name, with its place and its text
 pub record IsName (known : List (List ℕ)) (at : Place) (text : List ℕ) (ts rest : List Terminal) : Type 0 where

@@ -174,10 +174,3 @@ goes_on (symbol.Punctuator p.Arrow) = true
 goes_on (symbol.Punctuator p.Increment) = true
 goes_on (symbol.Punctuator p.Decrement) = true
 goes_on _ = false
-
--- whether an abstract declarator begins
-abbrev pub begins_abstract : Symbol → Bool
-begins_abstract (symbol.Punctuator p.Star) = true
-begins_abstract (symbol.Punctuator p.LeftParenthesis) = true
-begins_abstract (symbol.Punctuator p.LeftBracket) = true
-begins_abstract _ = false

@@ -1,7 +1,7 @@
 //! The terminals that are still to be read.
 ghost use Rattle.std.specs.Prelude.{◌≡◌, length, IfOk, IsTrue, ◌↔◌};
 ghost use Rattle.std.specs.Bool.{OnTrue, OnFalse};
-ghost use Rattle.expression_grammar.specs.Fronts.{first_symbol, first_place, first_text, behind_first, is_typedef, is_identifier, is_typedef_first, is_identifier_first, is_specifier, begins_specifiers, is_left_parenthesis, opens_type_name, IsSign, IsWord, IsName, IsTypedefName, IsConstant, IsLiteral};
+ghost use Rattle.expression_grammar.specs.Fronts.{first_symbol, first_place, first_text, behind_first, is_typedef, is_identifier, is_typedef_first, is_identifier_first, is_specifier, begins_specifiers, IsSign, IsWord, IsName, IsTypedefName, IsConstant, IsLiteral};
 
 use crate::heights::Trouble;
 use c_layout::{Constant, Name};
@@ -127,20 +127,6 @@ fn begins_specifiers(rest: &[Terminal], typedefs: &[Text]) -> bool
         Symbol::Keyword(word) => is_specifier(word),
         _ => is_typedef_first(rest, typedefs),
     }
-}
-
-/// Whether a symbol is `(`.
-fn is_left_parenthesis(symbol: Symbol) -> bool
-    ensures { result ≡ is_left_parenthesis symbol }
-{
-    matches!(symbol, Symbol::Punctuator(Punctuator::LeftParenthesis))
-}
-
-/// Whether `(` stands at the front, and behind it what begins a type name.
-fn opens_type_name(rest: &[Terminal], typedefs: &[Text]) -> bool
-    ensures { result ≡ opens_type_name typedefs.now rest.now }
-{
-    is_left_parenthesis(first_symbol(rest)) && begins_specifiers(behind_first(rest), typedefs)
 }
 
 impl<'a> Reader<'a> {
@@ -322,16 +308,14 @@ impl<'a> Reader<'a> {
     }
 
     /// Whether `(` stands next, and behind it what begins a type name.
-    pub fn opens_type_name(&self, scope: Scope<'_>) -> bool
-        ensures { result ≡ opens_type_name scope.entry.typedefs.now self.now }
-    {
-        opens_type_name(self.rest, scope.typedefs)
+    pub fn opens_type_name(&self, scope: Scope<'_>) -> bool {
+        self.is_at(Punctuator::LeftParenthesis)
+            && begins_specifiers(behind_first(self.rest), scope.typedefs)
     }
 
     /// Whether behind the next terminal `(` stands, and behind that what begins a type name.
-    pub fn is_before_type_name(&self, scope: Scope<'_>) -> bool
-        ensures { result ≡ opens_type_name scope.entry.typedefs.now (behind_first self.now) }
-    {
-        opens_type_name(behind_first(self.rest), scope.typedefs)
+    pub fn is_before_type_name(&self, scope: Scope<'_>) -> bool {
+        self.is_before(Punctuator::LeftParenthesis)
+            && begins_specifiers(behind_first(behind_first(self.rest)), scope.typedefs)
     }
 }

@@ -2,7 +2,6 @@
 ghost use Rattle.std.specs.Prelude.{◌≡◌, true, map, IfOk};
 ghost use Rattle.c_layout.specs.SyntaxTrees.{tree_of, layer_view, type_name_view};
 ghost use Rattle.expression_grammar.specs.Findings.{FoundPair, FoundArrays, FoundLayers, FoundNested, FoundTypeName};
-ghost use Rattle.expression_grammar.specs.Levels.{begins_abstract};
 ghost use Rattle.expression_grammar.specs.Spans.{Chain};
 ghost use Rattle.expression_grammar.specs.TypeNames.{IsTypeNameWord, words_height, is_one_type, counts_of};
 
@@ -186,17 +185,11 @@ fn abstract_declarator(
     Ok(whole)
 }
 
-/// Whether an abstract declarator begins with a symbol.
-fn begins_abstract(symbol: Symbol) -> bool
-    ensures { result ≡ begins_abstract symbol }
-{
-    match symbol {
-        Symbol::Punctuator(sign) => matches!(
-            sign,
-            Punctuator::Star | Punctuator::LeftParenthesis | Punctuator::LeftBracket
-        ),
-        _ => false,
-    }
+/// Whether an abstract declarator stands next.
+fn begins_abstract(reader: &Reader<'_>) -> bool {
+    reader.is_at(Punctuator::Star)
+        || reader.is_at(Punctuator::LeftParenthesis)
+        || reader.is_at(Punctuator::LeftBracket)
 }
 
 /// A type name.
@@ -209,7 +202,7 @@ pub fn type_name(
     ensures { IfOk result (λ n. FoundTypeName scope.entry.typedefs.now (type_name_view n.tree.value.name) (map tree_of n.tree.value.lengths.items) n.height reader.old reader.new) }
 {
     let words = type_name_words(scope, reader)?;
-    if !begins_abstract(reader.peek()) {
+    if !begins_abstract(reader) {
         let plain = plain_name(scope.alloc, words)?;
         return Ok(plain);
     }
