@@ -1,4 +1,9 @@
 pub mod NameLists
 pub mod Searches
 pub mod Own
-pub mod Placed
+pub mod Told
+pub mod Steps
+pub mod Files
+pub mod InFiles
+pub mod FilesMet
+pub mod Whole

@@ -106,10 +106,16 @@ caused_earlier f0 f1 f2 a0 a1 a2 b0 b1 b2 dirs model names stop.ReadFault w c = 
 caused_earlier f0 f1 f2 a0 a1 a2 b0 b1 b2 dirs model names stop.NotHeld w c = c
 caused_earlier f0 f1 f2 a0 a1 a2 b0 b1 b2 dirs model names stop.Memory w c = c
 
-drop_at : {A : Type 0} (text : A → List ℕ) (xs : List A) (k : ℕ) (x : A) → k < length xs → x ≡ get_or xs k x → map text (drop k xs) ≡ text x ∷ map text (drop (k + 1) xs)
+pub drop_at : {A : Type 0} (text : A → List ℕ) (xs : List A) (k : ℕ) (x : A) → k < length xs → x ≡ get_or xs k x → map text (drop k xs) ≡ text x ∷ map text (drop (k + 1) xs)
 drop_at text [] k x h e = absurd (omega arith)
 drop_at text (y ∷ ys) zero x h e = ap (λ v. text v ∷ map text ys) (sym e)
 drop_at text (y ∷ ys) (suc k) x h e = let m : suc k + 1 ≡ suc (k + 1) = omega arith in rw m (drop_at text ys k x (omega arith) e)
+
+pub drop_all : {A : Type 0} (text : A → List ℕ) (xs : List A) (k : ℕ) → length xs ≤ k → map text (drop k xs) ≡ []
+drop_all text [] zero h = refl
+drop_all text [] (suc k) h = refl
+drop_all text (x ∷ xs) zero h = absurd (omega arith)
+drop_all text (x ∷ xs) (suc k) h = drop_all text xs k (omega arith)
 
 -- the search stops at the file that is held
 pub found_here : {A : Type 0} (text : A → List ℕ) (f0 f1 f2 : Option Files) (a0 a1 a2 b0 b1 b2 : ℕ) (dirs : List (List ℕ)) (names : List (List ℕ)) (xs : List A) (k : ℕ) (x : A) (n name : List ℕ) (model : Model) (o : Option FoundFile) (f : FoundFile)

@@ -4,4 +4,5 @@ pub mod Causes
 pub mod Reading
 pub mod Known
 pub mod Units
+pub mod Told
 pub mod Placed

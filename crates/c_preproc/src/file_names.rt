@@ -1,6 +1,7 @@
 //! The names of the files that were met.
-ghost use Rattle.std.specs.Prelude.{◌≡◌, ◌≤◌, ◌<◌, ◌++◌, ◌∷◌, [], ℕ, List, true, map, length, string_bytes, slice_get, Some, option_map, IfOk, OnErr, MatchOption, false};
-ghost use Rattle.c_preproc.specs.Names.{is_among, is_distinct};
+ghost use Rattle.std.specs.Prelude.{◌≡◌, ◌++◌, ◌∷◌, [], true, map, length, string_bytes, slice_get, Some, option_map, IfOk, false};
+ghost use Rattle.macro_expansion.specs.Numbering.{number_in, with_text};
+ghost use Rattle.c_preproc.specs.Names.{is_among, is_distinct, position_from};
 
 use cc_base::Memory;
 use std::alloc::Global;
@@ -23,12 +24,12 @@ impl Model for FileNames {
     ghost invariant = { λ f. is_distinct (map string_bytes f.names.items) ≡ true };
 }
 
-/// Whether a name is in a list, and where.
+/// The first position of a name in a list, if it is there.
 fn position_of(names: &[String], name: &str) -> Option<usize>
-    ensures found { MatchOption result (is_among name.now (map string_bytes names.now) ≡ false) (λ k. slice_get (map string_bytes names.now) k ≡ Some name.now) }
+    ensures { result ≡ position_from 0 name.now (map string_bytes names.now) }
 {
     for (at, known) in names.iter().enumerate() {
-        if known.as_str() == name {
+        if name == known.as_str() {
             return Some(at);
         }
     }
@@ -73,8 +74,11 @@ impl FileNames {
     }
 
     /// The index of a name, which joins the list at the end if it is not there.
+    #[tactic(auto, using(crate::proofs::NameLists::number_found, crate::proofs::NameLists::name_found, crate::proofs::NameLists::list_found, crate::proofs::NameLists::number_new, crate::proofs::NameLists::name_new, crate::proofs::NameLists::list_new, crate::proofs::NameLists::is_new))]
     pub fn number(&mut self, alloc: Global, name: &str) -> Result<u32, Memory>
-        ensures { IfOk result (λ k. slice_get self.new k ≡ Some name.now) }
+        ensures number { IfOk result (λ k. k ≡ number_in self.old name.now) }
+        ensures names { IfOk result (λ _. self.new ≡ with_text self.old name.now) }
+        ensures name { IfOk result (λ k. slice_get self.new k ≡ Some name.now) }
     {
         match position_of(self.names.as_slice(), name) {
             Some(at) => index_of(at),
@@ -85,7 +89,8 @@ impl FileNames {
     /// Adds a name that is not there.
     fn add(&mut self, alloc: Global, name: &str) -> Result<u32, Memory>
         requires { is_among name.now self.old ≡ false }
-        ensures { IfOk result (λ k. slice_get self.new k ≡ Some name.now) }
+        ensures number { IfOk result (λ k. k ≡ length self.old) }
+        ensures names { IfOk result (λ _. self.new ≡ self.old ++ name.now ∷ []) }
     {
         let at = index_of(self.names.len())?;
         let name = String::from_str(alloc, name)?;

@@ -7,6 +7,7 @@ ghost use Rattle.std.specs.Prelude.{List};
 ghost use Rattle.c_layout.specs.declared.data_model.Model.{Model};
 ghost use Rattle.c_preproc.specs.Causes.{Seen, seen_of, IsCaused, IsTooLong, Went};
 ghost use Rattle.c_preproc.specs.Reading.{found_if, ReadAnswers, SearchAnswers};
+ghost use Rattle.c_preproc.specs.Told.{IsLongStop, Reads, Seeks};
 
 use crate::file_names::FileNames;
 use crate::found_file::FoundFile;
@@ -17,7 +18,8 @@ use std::alloc::Global;
 
 /// The refusal of a file that is too long; its name joins the list.
 pub fn too_long(alloc: Global, files: &mut FileNames, name: &str) -> Stop
-    ensures { (seen : Seen) (dirs : List (List ℕ)) (model : Model) → IsTooLong seen name.now → IsCaused seen dirs model files.new result }
+    ensures long { IsLongStop name.now files.old files.new result }
+    ensures cause { (seen : Seen) (dirs : List (List ℕ)) (model : Model) → IsTooLong seen name.now → IsCaused seen dirs model files.new result }
 {
     match files.number(alloc, name) {
         Err(_) => Stop::Memory,
@@ -36,6 +38,7 @@ pub fn too_long(alloc: Global, files: &mut FileNames, name: &str) -> Stop
 }
 
 /// Reads a file if it is held.
+#[tactic(auto, using(crate::proofs::Told::read_held, crate::proofs::Told::read_missing, crate::proofs::Told::read_memory, crate::proofs::Told::read_fault))]
 fn read_if_held<T: Tree>(
     alloc: Global,
     tree: &mut T,
@@ -44,6 +47,7 @@ fn read_if_held<T: Tree>(
 ) -> Result<Option<FoundFile>, Stop>
     ensures went { Went (T.files tree.old) (T.files tree.new) (T.faults tree.old) (T.faults tree.new) (T.taken tree.old) (T.taken tree.new) }
     ensures fits { IfOk result (λ o. IfSome o (λ f. length f.bytes.items ≤ 1048576)) }
+    ensures reads { Reads (T.files tree.old) name.now files.old files.new result }
     ensures answer { (dirs : List (List ℕ)) (model : Model) → ReadAnswers (seen_of (T.files tree.old) (T.faults tree.old) (T.faults tree.new) (T.taken tree.old) (T.taken tree.new)) dirs name.now model files.new result }
 {
     let text = String::from_str(alloc, name)?;
@@ -87,6 +91,7 @@ pub fn search<T: Tree>(
     requires { is_model model.now ≡ true }
     ensures went { Went (T.files tree.old) (T.files tree.new) (T.faults tree.old) (T.faults tree.new) (T.taken tree.old) (T.taken tree.new) }
     ensures fits { IfOk result (λ o. IfSome o (λ f. length f.bytes.items ≤ 1048576)) }
+    ensures seeks { Seeks (T.files tree.old) (map string_bytes searched.now) (built_in name.now model.now) files.old files.new result }
     ensures answer { (dirs : List (List ℕ)) → SearchAnswers (seen_of (T.files tree.old) (T.faults tree.old) (T.faults tree.new) (T.taken tree.old) (T.taken tree.new)) dirs (map string_bytes searched.now) name.now model.now files.new result }
 {
     for candidate in searched {

@@ -6,7 +6,6 @@ mod file_names;
 mod file_paths;
 mod file_search;
 mod found_file;
-mod places_in_files;
 mod preprocessing;
 mod preprocessor_state;
 #[cfg(test)]

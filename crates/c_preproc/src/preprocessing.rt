@@ -1,18 +1,23 @@
 //! Reads a unit: text lines and directives, file by file.
-ghost use Rattle.std.specs.Prelude.{◌≡◌, ◌≤◌, ◌^◌, true, length, map, string_bytes, [], IfOk, IfErr};
+ghost use Rattle.std.specs.Prelude.{◌≡◌, ◌≤◌, ◌^◌, Some, None, true, nat_lt, length, map, string_bytes, [], IfOk, IfErr};
 ghost use Rattle.c_layout.specs.Models.{is_model};
 ghost use Rattle.c_preproc.specs.Names.{is_distinct};
-ghost use Rattle.c_preproc.specs.Placed.{StandsIn};
+ghost use Rattle.c_preproc.specs.Placed.{StandsIn, OpenIn, KnownIn, ReadIn};
 ghost use Rattle.std.specs.Prelude.{ℕ, List, option_map};
 ghost use Rattle.c_preproc.specs.Known.{known_of, reading_of, Gives, conditional, plain, line_of, line_as, directive_at, text_lines, is_header, header_number, only_header, include_asks, asked_as};
 ghost use Rattle.c_layout.specs.declared.data_model.Model.{Model};
+ghost use Rattle.cc_base.specs.Outside.{Files};
+ghost use Rattle.directive_lines.specs.OpenFiles.{opened_of, first_of};
+ghost use Rattle.c_tokens.specs.FileTokens.{file_tokens};
+ghost use Rattle.c_preproc.specs.Reading.{found_as};
+ghost use Rattle.c_preproc.specs.Units.{world_of, sought, course, opening, opened_by, entered_as, entered, includer_in, include, step_into, directive, step, file_read, unit, unit_from};
+ghost use Rattle.c_preproc.specs.Told.{UnitGives, Under, IsMissingStop, step_as, stacked, opened_if, unit_as, UnitFrom};
 ghost use Rattle.c_preproc.specs.Causes.{Seen, IsMissing, seen_of, IsCaused, IsCausedFrom, IsOwn, Went};
 
 use crate::file_names::FileNames;
 use crate::file_paths::candidates;
 use crate::file_search::{search, too_long};
 use crate::found_file::FoundFile;
-use crate::places_in_files::within;
 use crate::preprocessor_state::{State, end_if, first_name, refused, turn_else};
 use c_layout::{Model, Unit7};
 use c_tokens::lex;
@@ -20,6 +25,7 @@ use cc_base::{Kind, Place, Refusal, Stop, Text, Tree, TreeFault};
 use directive_lines::{Directive, OpenFile, begins_directive, directive_named, header_name};
 use macro_expansion::Lexeme;
 use std::alloc::Global;
+use std::collections::VecDeque;
 
 /// The most inclusions that may be open one in the other.
 const DEEPEST: usize = 16;
@@ -30,7 +36,8 @@ const MOST_INCLUSIONS: u32 = 1024;
 /// Opens a file whose bytes are known.
 fn opened(alloc: Global, state: &mut State, file: u32, bytes: &[u8]) -> Result<OpenFile, Stop>
     requires { length bytes.now ≤ 2 ^ 20 }
-    ensures { IfErr result IsOwn }
+    ensures own { IfErr result IsOwn }
+    ensures given { Gives (opened_by file (known_of state.old) (file_tokens file bytes.now)) (λ f. opening (known_of state.new) (opened_of f)) result }
 {
     let tokens = match lex(alloc, file, bytes) {
         Ok(tokens) => tokens,
@@ -126,6 +133,7 @@ fn include<T: Tree>(
 ) -> Result<Option<OpenFile>, Stop>
     requires { is_model model.now ≡ true }
     ensures went { Went (T.files tree.old) (T.files tree.new) (T.faults tree.old) (T.faults tree.new) (T.taken tree.old) (T.taken tree.new) }
+    ensures reads { Under (T.files tree.old) (map string_bytes dirs.now) model.now (λ w. UnitGives (include w top (nat_lt 16 depth) place line.now (known_of state.old) files.old) (λ o. entered_as (known_of state.new) files.new (opened_if o)) files.new result) }
     ensures cause { IfErr result (IsCaused (seen_of (T.files tree.old) (T.faults tree.old) (T.faults tree.new) (T.taken tree.old) (T.taken tree.new)) (map string_bytes dirs.now) model.now files.new) }
 {
     let Wanted { name, quoted } = match asked(alloc, state, depth > DEEPEST, place, line) {
@@ -152,7 +160,8 @@ fn include<T: Tree>(
 
 /// The refusal of a header that no file and no built-in header is.
 fn missing(alloc: Global, name: &str, place: Place) -> Stop
-    ensures { (seen : Seen) (dirs : List (List ℕ)) (model : Model) (names : List (List ℕ)) → IsMissing seen dirs model name.now → IsCaused seen dirs model names result }
+    ensures stop { IsMissingStop place name.now result }
+    ensures cause { (seen : Seen) (dirs : List (List ℕ)) (model : Model) (names : List (List ℕ)) → IsMissing seen dirs model name.now → IsCaused seen dirs model names result }
 {
     match Text::from_bytes(alloc, name.as_bytes()) {
         Ok(text) => refused(place, Refusal::HeaderMissing(text)),
@@ -161,7 +170,9 @@ fn missing(alloc: Global, name: &str, place: Place) -> Stop
 }
 
 /// The name of the including file, where its directory is searched.
-fn includer_of(files: &FileNames, top: u32, quoted: bool) -> Option<&str> {
+fn includer_of(files: &FileNames, top: u32, quoted: bool) -> Option<&str>
+    ensures { option_map (λ s. s.now) result ≡ includer_in files.now top quoted }
+{
     if quoted { files.name(top) } else { None }
 }
 
@@ -173,14 +184,17 @@ fn enter(
     found: FoundFile,
 ) -> Result<Option<OpenFile>, Stop>
     requires { length found.bytes.items ≤ 1048576 }
-    ensures { IfErr result IsOwn }
+    ensures own { IfErr result IsOwn }
+    ensures given { UnitGives (entered (found_as found) (known_of state.old) files.old) (λ o. entered_as (known_of state.new) files.new (opened_if o)) files.new result }
 {
     let file = files.number(alloc, found.name.as_str())?;
     if state.is_once(file) {
         return Ok(None);
     }
-    let open = opened(alloc, state, file, found.bytes.as_slice())?;
-    Ok(Some(open))
+    match opened(alloc, state, file, found.bytes.as_slice()) {
+        Ok(open) => Ok(Some(open)),
+        Err(stop) => Err(stop),
+    }
 }
 
 /// A directive of an if-section.
@@ -235,6 +249,46 @@ fn plain(
     }
 }
 
+/// A directive of an if-section, which includes no file.
+fn conditional_directive(
+    alloc: Global,
+    char_signed: bool,
+    state: &mut State,
+    top: &mut OpenFile,
+    directive: Directive,
+    place: Place,
+    line: &[Lexeme],
+) -> Result<Option<OpenFile>, Stop>
+    ensures own { IfErr result IsOwn }
+    ensures none { IfOk result (λ o. o ≡ None) }
+    ensures given { Gives (conditional char_signed directive place line.now (reading_of state.old top.old)) (λ _. reading_of state.new top.new) result }
+{
+    match conditional(alloc, char_signed, state, top, directive, place, line) {
+        Ok(()) => Ok(None),
+        Err(stop) => Err(stop),
+    }
+}
+
+/// A directive that is no conditional one and no `#include`, which includes no file.
+fn plain_directive(
+    alloc: Global,
+    state: &mut State,
+    directive: Directive,
+    file: u32,
+    place: Place,
+    line: &[Lexeme],
+    behind: &[Lexeme],
+) -> Result<Option<OpenFile>, Stop>
+    ensures own { IfErr result IsOwn }
+    ensures none { IfOk result (λ o. o ≡ None) }
+    ensures given { Gives (plain directive file place line.now behind.now (known_of state.old)) (λ _. known_of state.new) result }
+{
+    match plain(alloc, state, directive, file, place, line, behind) {
+        Ok(()) => Ok(None),
+        Err(stop) => Err(stop),
+    }
+}
+
 /// The directive of a line behind its `#`, and what follows the directive's name.
 fn directive_of<'a>(state: &State, behind: &'a [Lexeme]) -> (Directive, &'a [Lexeme])
     ensures { line_as result ≡ line_of (known_of state.now).texts behind.now }
@@ -260,12 +314,12 @@ fn directive<T: Tree>(
 ) -> Result<Option<OpenFile>, Stop>
     requires { is_model model.now ≡ true }
     ensures went { Went (T.files tree.old) (T.files tree.new) (T.faults tree.old) (T.faults tree.new) (T.taken tree.old) (T.taken tree.new) }
+    ensures reads { Under (T.files tree.old) (map string_bytes dirs.now) model.now (λ w. UnitGives (directive w (nat_lt 16 depth) place behind.now (line_of (known_of state.old).texts behind.now) (opened_of top.old) (course (known_of state.old) files.old)) (λ o. step_into (opened_if o) (opened_of top.new) (course (known_of state.new) files.new)) files.new result) }
     ensures cause { IfErr result (IsCaused (seen_of (T.files tree.old) (T.faults tree.old) (T.faults tree.new) (T.taken tree.old) (T.taken tree.new)) (map string_bytes dirs.now) model.now files.new) }
 {
     let (directive, line) = directive_of(state, behind);
     if directive.is_conditional() {
-        conditional(alloc, model.char_signed, state, top, directive, place, line)?;
-        return Ok(None);
+        return conditional_directive(alloc, model.char_signed, state, top, directive, place, line);
     }
     if top.sections.is_skipping() {
         return Ok(None);
@@ -275,8 +329,7 @@ fn directive<T: Tree>(
             alloc, tree, dirs, model, files, state, top.file, depth, place, line,
         );
     }
-    plain(alloc, state, directive, top.file, place, line, behind)?;
-    Ok(None)
+    plain_directive(alloc, state, directive, top.file, place, line, behind)
 }
 
 /// The place of the directive that a token begins.
@@ -319,6 +372,18 @@ enum Step {
     Includes(OpenFile),
 }
 
+/// Reads the text lines up to the next directive, behind which the file goes on.
+fn text_step(alloc: Global, state: &mut State, top: &mut OpenFile) -> Result<Step, Stop>
+    ensures own { IfErr result IsOwn }
+    ensures goes_on { IfOk result (λ s. s ≡ Step.GoesOn) }
+    ensures given { Gives (text_lines (reading_of state.old top.old)) (λ _. reading_of state.new top.new) result }
+{
+    match text_lines(alloc, state, top) {
+        Ok(()) => Ok(Step::GoesOn),
+        Err(stop) => Err(stop),
+    }
+}
+
 /// Reads the next directive or the text lines before it.
 fn read_step<T: Tree>(
     alloc: Global,
@@ -332,6 +397,7 @@ fn read_step<T: Tree>(
 ) -> Result<Step, Stop>
     requires { is_model model.now ≡ true }
     ensures went { Went (T.files tree.old) (T.files tree.new) (T.faults tree.old) (T.faults tree.new) (T.taken tree.old) (T.taken tree.new) }
+    ensures reads { Under (T.files tree.old) (map string_bytes dirs.now) model.now (λ w. UnitGives (step w (nat_lt 16 depth) (opened_of top.old) (course (known_of state.old) files.old)) (step_as (opened_of top.new) (course (known_of state.new) files.new)) files.new result) }
     ensures cause { IfErr result (IsCaused (seen_of (T.files tree.old) (T.faults tree.old) (T.faults tree.new) (T.taken tree.old) (T.taken tree.new)) (map string_bytes dirs.now) model.now files.new) }
 {
     let next = top.next();
@@ -342,8 +408,7 @@ fn read_step<T: Tree>(
         };
     }
     let Some(place) = directive_place(state, next) else {
-        text_lines(alloc, state, top)?;
-        return Ok(Step::GoesOn);
+        return text_step(alloc, state, top);
     };
     let behind = top.directive_line(alloc)?;
     match directive(
@@ -363,6 +428,22 @@ fn read_step<T: Tree>(
     }
 }
 
+/// Puts what a step leaves of a file on the files in which it is included, the innermost first.
+fn put_back(stack: &mut VecDeque<OpenFile>, top: OpenFile, left: Step) -> Result<(), Stop>
+    ensures own { IfErr result (λ s. s ≡ Stop.Memory) }
+    ensures files { IfOk result (λ _. map opened_of stack.new.items ≡ stacked (opened_of top) left (map opened_of stack.old.items)) }
+{
+    match left {
+        Step::Ended => Ok(()),
+        Step::GoesOn => Ok(stack.push_front(top)?),
+        Step::Includes(file) => {
+            stack.push_front(top)?;
+            stack.push_front(file)?;
+            Ok(())
+        }
+    }
+}
+
 /// Reads all files from the main one on.
 fn read_all<T: Tree>(
     alloc: Global,
@@ -375,24 +456,21 @@ fn read_all<T: Tree>(
 ) -> Result<(), Stop>
     requires { is_model model.now ≡ true }
     ensures went { Went (T.files tree.old) (T.files tree.new) (T.faults tree.old) (T.faults tree.new) (T.taken tree.old) (T.taken tree.new) }
+    ensures told { (held : Files) → T.files tree.old ≡ Some held → UnitGives (file_read (world_of (sought held) (map string_bytes dirs.now) model.now) 16 (opened_of main) (course (known_of state.old) files.old)) (λ _. course (known_of state.new) files.new) files.new result }
+    ensures placed { OpenIn (length files.old) (opened_of main) → KnownIn (length files.old) (known_of state.old) → ReadIn (length files.new) (known_of state.new) result }
     ensures cause { IfErr result (IsCaused (seen_of (T.files tree.old) (T.faults tree.old) (T.faults tree.new) (T.taken tree.old) (T.taken tree.new)) (map string_bytes dirs.now) model.now files.new) }
 {
-    let mut stack = Vec::new(alloc);
-    stack.push(main)?;
+    let mut stack = VecDeque::new(alloc);
+    stack.push_front(main)?;
     // Each step takes a token of a file or ends one, of which there are at most so many.
     'steps: for _ in 0..1_048_577u64 * 1_025 {
-        let Some(mut top) = stack.pop() else {
+        let Some(mut top) = stack.pop_front() else {
             return Ok(());
         };
         let depth = stack.len() + 1;
         match read_step(alloc, tree, dirs, model, files, state, &mut top, depth) {
             Err(stop) => return Err(stop),
-            Ok(Step::Ended) => {}
-            Ok(Step::GoesOn) => stack.push(top)?,
-            Ok(Step::Includes(open)) => {
-                stack.push(top)?;
-                stack.push(open)?;
-            }
+            Ok(left) => put_back(&mut stack, top, left)?,
         }
     }
     Err(Stop::Memory)
@@ -411,17 +489,25 @@ fn unit_of<T: Tree>(
     requires model { is_model model.now ≡ true }
     requires size { length bytes.now ≤ 2 ^ 20 }
     ensures went { Went (T.files tree.old) (T.files tree.new) (T.faults tree.old) (T.faults tree.new) (T.taken tree.old) (T.taken tree.new) }
+    ensures told { (held : Files) → T.files tree.old ≡ Some held → files.old ≡ [] → UnitGives (unit (world_of (sought held) (map string_bytes dirs.now) model.now) main.now bytes.now) (unit_as files.new) files.new result }
     ensures cause { IfErr result (IsCaused (seen_of (T.files tree.old) (T.faults tree.old) (T.faults tree.new) (T.taken tree.old) (T.taken tree.new)) (map string_bytes dirs.now) model.now files.new) }
+    ensures placed { StandsIn (length files.new) result }
+    ensures model { IfOk result (λ u. u.model ≡ model.now) }
     ensures few { IfOk result (λ u. length u.tokens ≤ 131072) }
 {
     let file = files.number(alloc, main)?;
     let mut state = State::new(alloc)?;
-    let open = opened(alloc, &mut state, file, bytes)?;
-    read_all(alloc, tree, dirs, model, files, &mut state, open)?;
-    Ok(Unit7 {
-        tokens: state.out.into_tokens(),
-        model: *model,
-    })
+    let open = match opened(alloc, &mut state, file, bytes) {
+        Ok(open) => open,
+        Err(stop) => return Err(stop),
+    };
+    match read_all(alloc, tree, dirs, model, files, &mut state, open) {
+        Ok(()) => Ok(Unit7 {
+            tokens: state.out.into_tokens(),
+            model: *model,
+        }),
+        Err(stop) => Err(stop),
+    }
 }
 
 /// Reads a unit from its main file on.
@@ -435,7 +521,10 @@ fn unit_from<T: Tree>(
 ) -> Result<Unit7, Stop>
     requires { is_model model.now ≡ true }
     ensures went { Went (T.files tree.old) (T.files tree.new) (T.faults tree.old) (T.faults tree.new) (T.taken tree.old) (T.taken tree.new) }
+    ensures told { (held : Files) → T.files tree.old ≡ Some held → files.old ≡ [] → UnitFrom (unit_from held (map string_bytes dirs.now) model.now main.now) files.new result }
     ensures cause { IfErr result (IsCausedFrom main.now (seen_of (T.files tree.old) (T.faults tree.old) (T.faults tree.new) (T.taken tree.old) (T.taken tree.new)) (map string_bytes dirs.now) model.now files.new) }
+    ensures placed { StandsIn (length files.new) result }
+    ensures model { IfOk result (λ u. u.model ≡ model.now) }
     ensures few { IfOk result (λ u. length u.tokens ≤ 131072) }
 {
     let mut bytes = Vec::new(alloc);
@@ -468,14 +557,15 @@ pub fn expand_bytes<T: Tree>(
     requires size { length bytes.now ≤ 2 ^ 20 }
     requires empty { files.old.items ≡ [] }
     ensures went { Went (T.files tree.old) (T.files tree.new) (T.faults tree.old) (T.faults tree.new) (T.taken tree.old) (T.taken tree.new) }
+    ensures told { (held : Files) → T.files tree.old ≡ Some held → UnitGives (unit (world_of (sought held) (map string_bytes dirs.now) model.now) main.now bytes.now) (unit_as (map string_bytes files.new.items)) (map string_bytes files.new.items) result }
     ensures cause { IfErr result (IsCaused (seen_of (T.files tree.old) (T.faults tree.old) (T.faults tree.new) (T.taken tree.old) (T.taken tree.new)) (map string_bytes dirs.now) model.now (map string_bytes files.new.items)) }
     ensures distinct { is_distinct (map string_bytes files.new.items) ≡ true }
     ensures placed { StandsIn (length files.new.items) result }
+    ensures model { IfOk result (λ u. u.model ≡ model.now) }
     ensures few { IfOk result (λ u. length u.tokens ≤ 131072) }
 {
     let mut names = FileNames::new(alloc);
     let answer = unit_of(alloc, tree, main, bytes, dirs, model, &mut names);
-    let answer = within(names.len(), answer);
     *files = names.into_names();
     answer
 }
@@ -500,14 +590,15 @@ pub fn expand<T: Tree>(
     requires model { is_model model.now ≡ true }
     requires empty { files.old.items ≡ [] }
     ensures went { Went (T.files tree.old) (T.files tree.new) (T.faults tree.old) (T.faults tree.new) (T.taken tree.old) (T.taken tree.new) }
+    ensures told { (held : Files) → T.files tree.old ≡ Some held → UnitFrom (unit_from held (map string_bytes dirs.now) model.now main.now) (map string_bytes files.new.items) result }
     ensures cause { IfErr result (IsCausedFrom main.now (seen_of (T.files tree.old) (T.faults tree.old) (T.faults tree.new) (T.taken tree.old) (T.taken tree.new)) (map string_bytes dirs.now) model.now (map string_bytes files.new.items)) }
     ensures distinct { is_distinct (map string_bytes files.new.items) ≡ true }
     ensures placed { StandsIn (length files.new.items) result }
+    ensures model { IfOk result (λ u. u.model ≡ model.now) }
     ensures few { IfOk result (λ u. length u.tokens ≤ 131072) }
 {
     let mut names = FileNames::new(alloc);
     let answer = unit_from(alloc, tree, main, dirs, model, &mut names);
-    let answer = within(names.len(), answer);
     *files = names.into_names();
     answer
 }

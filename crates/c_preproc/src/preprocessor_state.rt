@@ -10,7 +10,7 @@ ghost use Rattle.macro_expansion.specs.Expanding.{Outcome};
 ghost use Rattle.macro_expansion.specs.Rules.{defined_of};
 
 use crate::unit_tokens::UnitTokens;
-use cc_base::{Fault, Kind, Place, Refusal, Stop};
+use cc_base::{Fault, Kind, Memory, Place, Refusal, Stop};
 use directive_conditions::{ConditionFault, Digits, holds, replace_defined};
 use directive_lines::{
     DefinitionFault, GroupState, OpenFile, Uneven, definition, may_be_defined, same_definition,
@@ -132,9 +132,8 @@ pub fn first_name(line: &[Lexeme]) -> Option<(u32, &[Lexeme])>
 
 impl State {
     /// At the start of a unit, where `__STDC__` alone is defined, as 1.
-    pub fn new(alloc: Global) -> Result<State, Stop>
-        ensures own { IfErr result IsOwn }
-        ensures start { IfOk result (λ s. known_of s ≡ start) }
+    pub fn new(alloc: Global) -> Result<State, Memory>
+        ensures { IfOk result (λ s. known_of s ≡ start) }
     {
         let mut spellings = Spellings::new(alloc);
         let mut macros = Macros::new(alloc);

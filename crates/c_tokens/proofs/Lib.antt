@@ -6,4 +6,5 @@ pub mod Below
 pub mod Begin
 pub mod Along
 pub mod Only
+pub mod Total
 pub mod Rows

@@ -5,3 +5,4 @@ pub mod Pieces
 pub mod Splicing
 pub mod Cutting
 pub mod Answers
+pub mod FileTokens

@@ -4,6 +4,7 @@ ghost use Rattle.std.specs.Prelude.{ℕ, List};
 ghost use Rattle.cc_base.specs.declared.lexemes.Token.{Token};
 ghost use Rattle.cc_base.specs.declared.refusals.Fault.{Fault};
 ghost use Rattle.c_tokens.specs.Answers.{IfRefused};
+ghost use Rattle.c_tokens.specs.FileTokens.{file_tokens, IsFileAnswer, Gives};
 ghost use Rattle.c_tokens.specs.Cutting.{cause, too_many, token_list, fault_of, Lexes, Refuses};
 
 use crate::pieces::{Shape, State};
@@ -65,17 +66,8 @@ fn add(
     }
 }
 
-/// The preprocessing tokens of a file, the `file`th of its unit, with their places in the file as
-/// it is written. Source bytes are tab, LF, VT, FF and 0x20 to 0x7E; bytes from 0x80 stand in
-/// comments and string literals alone.
-///
-/// # Errors
-///
-/// At the first place at which no token, comment or white space begins: `OpenComment` for a `/*`
-/// without `*/`, `OpenLiteral` for a quote without a mate on its line, else `BadByte`. At a byte
-/// that may not stand in the comment or token round it: `BadByte`. At the first token past
-/// 131,072: `TooManyTokens`. The first of these places decides. `Memory`: want of memory.
-pub fn lex(alloc: Global, file: u32, bytes: &[u8]) -> Result<Tokens, Stop>
+/// Cuts a file into its pieces, one after the other.
+fn cut_file(alloc: Global, file: u32, bytes: &[u8]) -> Result<Tokens, Stop>
     requires { length bytes.now ≤ 2 ^ 20 }
     ensures ok { IfOk result (Lexes file bytes.now) }
     ensures refused { IfRefused result (Refuses file bytes.now) }
@@ -108,9 +100,34 @@ pub fn lex(alloc: Global, file: u32, bytes: &[u8]) -> Result<Tokens, Stop>
     Ok(tokens)
 }
 
+/// The preprocessing tokens of a file, the `file`th of its unit, with their places in the file as
+/// it is written. Source bytes are tab, LF, VT, FF and 0x20 to 0x7E; bytes from 0x80 stand in
+/// comments and string literals alone.
+///
+/// # Errors
+///
+/// At the first place at which no token, comment or white space begins: `OpenComment` for a `/*`
+/// without `*/`, `OpenLiteral` for a quote without a mate on its line, else `BadByte`. At a byte
+/// that may not stand in the comment or token round it: `BadByte`. At the first token past
+/// 131,072: `TooManyTokens`. The first of these places decides. `Memory`: want of memory.
+pub fn lex(alloc: Global, file: u32, bytes: &[u8]) -> Result<Tokens, Stop>
+    requires { length bytes.now ≤ 2 ^ 20 }
+    ensures ok { IfOk result (Lexes file bytes.now) }
+    ensures refused { IfRefused result (Refuses file bytes.now) }
+    ensures given { Gives (file_tokens file bytes.now) result }
+{
+    cut_file(alloc, file, bytes)
+}
+
 /// A file has one answer: at most one list of tokens, at most one first refusal, and not both.
 pub fn one_answer()
     ensures tokens { (file : ℕ) (bytes : List ℕ) (ts us : List Token) → Lexes file bytes ts → Lexes file bytes us → ts ≡ us }
     ensures fault { (file : ℕ) (bytes : List ℕ) (f g : Fault) → Refuses file bytes f → Refuses file bytes g → f ≡ g }
     ensures apart { (file : ℕ) (bytes : List ℕ) (ts : List Token) (f : Fault) → Lexes file bytes ts → Refuses file bytes f → ⊥ }
+{}
+
+/// Every file has an answer: the definition that computes gives the tokens of the longest cutting,
+/// or the first refusal.
+pub fn every_file_has_an_answer()
+    ensures { (file : ℕ) (bytes : List ℕ) → IsFileAnswer file bytes (file_tokens file bytes) }
 {}

@@ -12,4 +12,4 @@ mod splicing;
 #[cfg(test)]
 mod tests;
 
-pub use cutting::{lex, one_answer};
+pub use cutting::{every_file_has_an_answer, lex, one_answer};

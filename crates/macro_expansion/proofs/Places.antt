@@ -18,7 +18,7 @@ use Rattle.macro_expansion.specs.Expanding.Action.{keep, replace, stop}
 use Rattle.macro_expansion.specs.States.{Expands}
 use Rattle.macro_expansion.specs.Places.{StandsBy, IfPlaced}
 
-abbrev PlacedIf : (Place → Type 0) → Outcome (List Lexeme) → Type 0
+abbrev pub PlacedIf : (Place → Type 0) → Outcome (List Lexeme) → Type 0
 PlacedIf P (done ys c) = All (StandsBy P) ys
 PlacedIf P (refused why place) = P place
 
@@ -187,7 +187,7 @@ along-text P s deeper hidden d (suc turns) spills (x ∷ xs) c h =
     (λ ts c1. along-inside P s deeper hidden (mark_of x).place p (λ n more made c2. d (mark_of x).place n more made c2 p) turns false ts c1)
     (λ ts c1 q. along-text P s deeper hidden d turns spills ts c1 q) behind (act-fine P s.table spills hidden (unclosed None) x xs p behind)
 
-expansion-placed : (P : Place → Type 0) (s : Setting) (ts : List Lexeme) (c : ℕ) → All (StandsBy P) ts → PlacedIf P (expansion s ts c)
+pub expansion-placed : (P : Place → Type 0) (s : Setting) (ts : List Lexeme) (c : ℕ) → All (StandsBy P) ts → PlacedIf P (expansion s ts c)
 unfolding repl within
 expansion-placed P s ts c h =
     along-text P s (λ outer n more made c1. within s (length s.table) (n ∷ []) outer more made c1) [] (λ p n more made c1 q. within-inside P s (length s.table) (n ∷ []) p more made c1 q) (length ts) false ts c h

@@ -1,6 +1,6 @@
 use Rattle.std.proofs.Common.{length}
 use Rattle.c_tokens.proofs.Along.{Goes}
-use Rattle.c_tokens.proofs.cutting.lex.Given as goal
+use Rattle.c_tokens.proofs.cutting.cut_file.Given as goal
 
 abbrev pub invariant-loop-rest : goal.invariant-loop-rest
 invariant-loop-rest l = Goes l.file l.bytes l.rest l.state l.tokens l.cursor
