@@ -43,9 +43,11 @@ abbrev one_block : Memory
 one_block = record { storage = allocated; life = freed; bytes = plain 7 ∷ [] } ∷ []
 
 first_byte : byte_at one_block 0 0 ≡ Some (plain 7)
+unfolding byte_at
 first_byte = refl
 
 past_the_end : byte_at one_block 0 1 ≡ None
+unfolding byte_at
 past_the_end = refl
 
 freed_block : life_at one_block 0 ≡ freed

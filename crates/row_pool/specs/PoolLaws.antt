@@ -4,7 +4,7 @@ use Rattle.std.proofs.Math.Nat.{mul-le-mul_left}
 use Rattle.std.proofs.lemmas.Bool.{cases_lt}
 use Rattle.std.proofs.lemmas.Grind.{common_steps}
 use Rattle.std.proofs.lemmas.Option.{gets}
-use Rattle.std.proofs.lemmas.List.{take_at, drop_at, take_all, drop-take}
+use Rattle.std.proofs.lemmas.List.{take_at, drop_at, take_all, drop-take, take-append-drop, drop-drop}
 use Rattle.std.proofs.lemmas.Slice.{drop-put_mid, take-put_mid_below}
 use Rattle.std.proofs.lemmas.Int.{clamps}
 use Rattle.std.proofs.lemmas.List.Sums.{sum_by-set}
@@ -148,3 +148,9 @@ SameBut-whole p q r h whole = rw (h.cells, h.taken, h.width) whole
 
 pub SameBut-refl : {V : Type 0} (p : Pool V) (r : ℕ) → SameBut p p r
 SameBut-refl p r = record { width = refl; taken = refl; cells = refl; others = λ s ne t. refl }
+
+-- a part that is copied to its own place
+pub copied_onto_itself : {V : Type 0} (cells : List V) (from to width : ℕ) → from ≡ to → cells ≡ take to cells ++ (take width (drop from cells) ++ drop (to + width) cells)
+copied_onto_itself cells from to width e =
+    let rest : take width (drop to cells) ++ drop (to + width) cells ≡ drop to cells = ap (λ z. take width (drop to cells) ++ z) (sym (drop-drop width to cells)) ∙ take-append-drop width (drop to cells) in
+    sym (ap (λ z. take to cells ++ (take width (drop z cells) ++ drop (to + width) cells)) e ∙ ap (λ z. take to cells ++ z) rest ∙ take-append-drop to cells)

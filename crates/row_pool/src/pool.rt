@@ -1,5 +1,5 @@
 //! The pool of rows.
-ghost use Rattle.std.specs.Prelude.{◌≡◌, ◌≢◌, ◌+◌, ◌*◌, ◌<◌, ◌≤◌, ◌^◌, ℕ, true, false, length, slice_get, IfOk, IfSome, IfNone, count_by, not};
+ghost use Rattle.std.specs.Prelude.{◌≡◌, ◌≢◌, ◌+◌, ◌*◌, ◌<◌, ◌≤◌, ◌++◌, ◌^◌, ℕ, true, false, length, take, drop, slice_get, IfOk, IfSome, IfNone, count_by, not};
 ghost use Rattle.std.specs.Borrow.{sem};
 ghost use Rattle.std.proofs.Common.{replicate};
 ghost use Rattle.row_pool.specs.Pool.{Pool, row_of, with_row, with_mark, IsTaken, IsFree, IsWhole, free_count, fresh_pool};
@@ -120,6 +120,7 @@ impl<V: Copy> RowPool<V> {
     }
 
     /// Writes the cells of the row `from` into the row `to`.
+    #[tactic(auto, using(crate::specs::PoolLaws::row_below, crate::specs::PoolLaws::row_end))]
     pub fn copy(&mut self, from: &Row, to: &Row)
         requires from { IsTaken self.old from.now.index }
         requires to { IsTaken self.old to.now.index }
@@ -128,9 +129,24 @@ impl<V: Copy> RowPool<V> {
         let width = self.width as usize;
         let start = from.index as usize * width;
         let target = to.index as usize * width;
-        self.cells
-            .as_mut_slice()
-            .copy_within(start..start + width, target);
+        copy_part(self.cells.as_mut_slice(), start, target, width);
+    }
+}
+
+// Copies `width` cells from one place to another, in one piece.
+fn copy_part<V: Copy>(cells: &mut [V], from: usize, to: usize, width: usize)
+    requires from_within { from + width ≤ length cells.old }
+    requires to_within { to + width ≤ length cells.old }
+    requires below { from < to → from + width ≤ to }
+    requires above { to < from → to + width ≤ from }
+    ensures { cells.new ≡ take to cells.old ++ (take width (drop from cells.old) ++ drop (to + width) cells.old) }
+{
+    if from < to {
+        let (low, high) = cells.split_at_mut(to);
+        high[..width].copy_from_slice(&low[from..from + width]);
+    } else if to < from {
+        let (low, high) = cells.split_at_mut(from);
+        low[to..to + width].copy_from_slice(&high[..width]);
     }
 }
 
