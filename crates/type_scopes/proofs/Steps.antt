@@ -14,8 +14,8 @@ unfolding stepped
 one_more structs pointer base made steps turn d next some before is =
     let at : length steps - 1 - turn < length steps = omega (arith, some) in
     let here : length steps - (turn + 1) ≡ length steps - 1 - turn = omega (arith, some) in
-    let behind : length steps - 1 - turn + 1 ≡ length steps - turn = omega (arith, some) in
-    let cut : drop (length steps - 1 - turn) steps ≡ slice_index_or steps (length steps - 1 - turn) d ∷ drop (length steps - 1 - turn + 1) steps = drop-cons (length steps - 1 - turn) steps d at in
+    let behind : suc (length steps - 1 - turn) ≡ length steps - turn = omega (arith, some) in
+    let cut : drop (length steps - 1 - turn) steps ≡ slice_index_or steps (length steps - 1 - turn) d ∷ drop (suc (length steps - 1 - turn)) steps = drop-cons steps (length steps - 1 - turn) d at in
     ap (λ n. stepped structs pointer base (drop n steps)) here
     ∙ ap (stepped structs pointer base) cut
     ∙ ap (λ n. then_step structs pointer (slice_index_or steps (length steps - 1 - turn) d) (stepped structs pointer base (drop n steps))) behind

@@ -101,12 +101,7 @@ fn pointer_to(alloc: Global, target: CType) -> Result<CType, AllocError>
 }
 
 /// The type of a slot; `stream` is the number of the struct that a stream points to.
-fn slot_type(
-    alloc: Global,
-    model: &DataModel,
-    slot: Slot,
-    stream: u32,
-) -> Result<CType, AllocError>
+fn slot_type(alloc: Global, model: &DataModel, slot: Slot, stream: u32) -> Result<CType, AllocError>
     ensures { IfOk result (λ t. view t ≡ spec.slot_type model.now.numbers stream slot) }
 {
     match slot {

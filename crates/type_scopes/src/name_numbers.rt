@@ -13,7 +13,7 @@ pub struct NameNumbers {
 }
 
 /// A number that is small enough.
-fn short(n: usize) -> Result<u32, Memory>
+pub(crate) fn short(n: usize) -> Result<u32, Memory>
     ensures { IfOk result (λ m. m ≡ n) }
 {
     match u32::try_from(n) {

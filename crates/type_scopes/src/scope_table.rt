@@ -1,7 +1,9 @@
 //! The names of one name space in nested scopes (6.2.1, 6.2.3 of ISO/IEC 9899:2011).
-ghost use Rattle.std.specs.Prelude.{◌≡◌, ◌<◌, ◌-◌, ◌+◌, ◌∷◌, ◌++◌, [], ℕ, None, IfOk, OnErr, slice_set, get_or, map, take, length, cond};
+ghost use Rattle.std.specs.Prelude.{◌≡◌, ◌<◌, ◌-◌, ◌+◌, ◌∷◌, ◌++◌, [], ℕ, None, IfOk, OnErr, slice_set, get_or, map, take, length, slice_get, Some, cond};
 ghost use Rattle.type_scopes.specs.ScopeTables as spec;
+ghost use Rattle.type_scopes.specs.NewestNames.{declarations};
 
+use crate::name_numbers::short;
 use cc_base::Memory;
 use std::alloc::Global;
 use std::marker::Model;
@@ -183,7 +185,7 @@ impl ScopeTable {
     pub fn declare(&mut self, name: u32, meaning: u32) -> Result<(), Memory>
         ensures { IfOk result (λ _. self.new ≡ spec.declared_in self.old name meaning) }
     {
-        let at = u32::try_from(self.entries.len()).map_err(|_| Memory)?;
+        let at = short(self.entries.len())?;
         make_room(&mut self.newest, name)?;
         let hidden = position_in(self.newest.as_slice(), name);
         let declared = NameDeclaration { name, meaning };
