@@ -20,3 +20,9 @@ declared_of d = option_map declared_view d
 
 abbrev pub items_of : Vec ℕ Global → List ℕ
 items_of v = v.items
+
+abbrev pub same_length : Option ℕ → Option ℕ
+same_length n = n
+
+abbrev pub lengths_view : Vec (Option ℕ) Global → List (Option ℕ)
+lengths_view v = v.items

@@ -1,6 +1,6 @@
 //! Calls (6.5.2.2 of ISO/IEC 9899:2011).
 ghost use Rattle.std.specs.Prelude.{◌≡◌, ◌∷◌, [], Some, None, Ok, IfOk, map, option_map};
-ghost use Rattle.std_alloc.specs.VecDeque.{deque_items};
+ghost use Rattle.std.specs.VecDeque.{deque_items};
 ghost use Rattle.c_layout.specs.Types.{view, Int};
 ghost use Rattle.c_layout.specs.CheckedTrees.{term_tree, TermTree};
 ghost use Rattle.c_layout.specs.SyntaxTrees.{tree_of};
