@@ -1,5 +1,5 @@
 -- Tags, typedef names and type names (6.7.2.2, 6.7.2.3, 6.7.7, 6.7.8).
-use Rattle.std.specs.Prelude.{ℕ, Bool, cond, true, List, [], ◌∷◌, ◌++◌, length, slice_get, Option, Some, None, Ok, Err}
+use Rattle.std.specs.Prelude.{ℕ, Bool, cond, true, false, List, [], ◌∷◌, ◌++◌, length, slice_get, Option, Some, None, Ok, Err}
 use Rattle.cc_base.specs.declared.diagnostics.Place.{Place}
 use Rattle.c_layout.specs.Types.{Ty, Int, Struct, Void}
 use Rattle.c_layout.specs.SyntaxTrees.{LayerView, TypeNameView}

@@ -348,7 +348,7 @@ fn literal_bytes(e: &Expr) -> Option<&Text>
 
 /// The bytes of the literal that the first argument is.
 fn format_bytes(format: Option<&Expr>) -> Option<&Text>
-    ensures { option_map (λ t. t.now) result ≡ spec.format_bytes (option_map (λ e. tree_of e.now) format) }
+    ensures { option_map (λ t. t.now) result ≡ spec.format_bytes (option_map (λ e. tree_of e.now) format.entry) }
 {
     match format {
         Some(e) => literal_bytes(e),
@@ -406,7 +406,7 @@ fn printf_call(
     format: Option<&Expr>,
     arguments: VecDeque<Operand>,
 ) -> Result<Operand, Stop>
-    ensures { Gives operand_view (spec.printf_call (known cx.now) place (option_map (λ e. tree_of e.now) format) (map operand_view (deque_items arguments))) result }
+    ensures { Gives operand_view (spec.printf_call (known cx.now) place (option_map (λ e. tree_of e.now) format.entry) (map operand_view (deque_items arguments))) result }
 {
     match format_bytes(format) {
         Some(bytes) => printf_format(cx, place, bytes, arguments),
@@ -447,7 +447,7 @@ fn library_call(
     format: Option<&Expr>,
     arguments: VecDeque<Operand>,
 ) -> Result<Operand, Stop>
-    ensures { Gives operand_view (spec.library_call (state cx.now) place function (option_map (λ e. tree_of e.now) format) (map operand_view (deque_items arguments))) result }
+    ensures { Gives operand_view (spec.library_call (state cx.now) place function (option_map (λ e. tree_of e.now) format.entry) (map operand_view (deque_items arguments))) result }
 {
     if is_printf(function) {
         printf_call(cx, place, format, arguments)
@@ -464,7 +464,7 @@ pub fn call(
     format: Option<&Expr>,
     arguments: VecDeque<Operand>,
 ) -> Result<Operand, Stop>
-    ensures { Gives operand_view (spec.call (state cx.now) place callee (option_map (λ e. tree_of e.now) format) (map operand_view (deque_items arguments))) result }
+    ensures { Gives operand_view (spec.call (state cx.now) place callee (option_map (λ e. tree_of e.now) format.entry) (map operand_view (deque_items arguments))) result }
 {
     match callee {
         Callee::Own(function) => own_call(cx, place, function, arguments),

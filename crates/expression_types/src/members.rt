@@ -41,7 +41,7 @@ fn found_member(
     whole: Box<Lvalue>,
     found: FoundMember<'_>,
 ) -> Result<Operand, Memory>
-    ensures { IfOk result (λ o. Ok (operand_view o) ≡ spec.member_by place (lvalue_tree whole.value) (Some (member_view found))) }
+    ensures { IfOk result (λ o. Ok (operand_view o) ≡ spec.member_by place (lvalue_tree whole.value) (Some (member_view found.entry))) }
 {
     let ctype = found.field.ctype.copy(cx.alloc)?;
     let form = LvalueForm::Member(whole, found.field.offset);

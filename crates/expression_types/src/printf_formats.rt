@@ -203,7 +203,7 @@ fn conversion_of(wanted: Option<Wanted>, rest: &[u8]) -> FormatStep<'_>
 
 /// A conversion behind its length.
 fn lettered(written: WrittenLength<'_>) -> FormatStep<'_>
-    ensures { spec.step_view result ≡ spec.lettered (spec.length_view written) }
+    ensures { spec.step_view result ≡ spec.lettered (spec.length_view written.entry) }
 {
     match written.rest.split_first() {
         Some((first, more)) => {
