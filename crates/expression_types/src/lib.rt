@@ -12,4 +12,4 @@ mod type_names;
 pub use binary_operators::{Form, Operand, assigned, integer_as, is_scalar, term_of, unused};
 pub use expressions::{length, typed};
 pub use operator_types::struct_source;
-pub use type_names::{enumeration_tag, struct_tag, typedef_named};
+pub use type_names::{Tagged, enumeration_tag, struct_tag, typedef_named};

@@ -1,22 +1,12 @@
 //! Members (6.5.2.3 of ISO/IEC 9899:2011).
-ghost use Rattle.std.specs.Prelude.{◌≡◌, Some, Ok, IfOk};
-ghost use Rattle.c_layout.specs.Types.{view};
-ghost use Rattle.c_layout.specs.CheckedTrees.{lvalue_tree};
-ghost use Rattle.type_scopes.specs.Answers.{Gives};
-ghost use Rattle.type_scopes.specs.StructTables.{member_view};
-ghost use Rattle.type_scopes.specs.States.{state};
-ghost use Rattle.binary_operators.specs.Operands.{operand_view};
-ghost use Rattle.expression_types.specs.Members as spec;
-
 use binary_operators::{Form, Operand, indirection, lvalue_operand, term_of};
 use c_layout::{CType, Lvalue, LvalueForm};
-use cc_base::{Memory, Place, Stop, Text};
-use type_scopes::{Context, FoundMember, StructTypes, type_fault, undeclared};
+use cc_base::{Place, Stop, Text};
+use type_scopes::{Context, StructTypes, type_fault, undeclared};
 
-/// A struct's number, where it is complete.
-fn if_complete(cx: &Context, number: u32) -> Option<u32>
-    ensures { result ≡ spec.complete_by (state cx.now) (Some number) }
-{
+/// The number of a complete struct that a type is.
+fn complete_struct(cx: &Context, t: &CType) -> Option<u32> {
+    let number = StructTypes::struct_of(t)?;
     if cx.types.is_complete(number) {
         Some(number)
     } else {
@@ -24,76 +14,24 @@ fn if_complete(cx: &Context, number: u32) -> Option<u32>
     }
 }
 
-/// The number of a complete struct that a type is.
-fn complete_struct(cx: &Context, t: &CType) -> Option<u32>
-    ensures { result ≡ spec.complete_struct (state cx.now) (view t.now) }
-{
-    match StructTypes::struct_of(t) {
-        Some(number) => if_complete(cx, number),
-        None => None,
-    }
-}
-
-/// A member that was found.
-fn found_member(
-    cx: &Context,
-    place: Place,
-    whole: Box<Lvalue>,
-    found: FoundMember<'_>,
-) -> Result<Operand, Memory>
-    ensures { IfOk result (λ o. Ok (operand_view o) ≡ spec.member_by place (lvalue_tree whole.value) (Some (member_view found.entry))) }
-{
+/// The member of a struct lvalue.
+fn selected(cx: &Context, place: Place, whole: Box<Lvalue>, name: &Text) -> Result<Operand, Stop> {
+    let Some(owner) = complete_struct(cx, &whole.ctype) else {
+        return Err(type_fault(place));
+    };
+    let Some(known) = cx.scopes.known(name) else {
+        return Err(undeclared(place));
+    };
+    let Some(found) = cx.types.member(owner, known) else {
+        return Err(undeclared(place));
+    };
     let ctype = found.field.ctype.copy(cx.alloc)?;
     let form = LvalueForm::Member(whole, found.field.offset);
-    lvalue_operand(cx.alloc, place, ctype, form, found.enumeration)
-}
-
-/// The member of a struct whose name has a number.
-fn numbered(
-    cx: &Context,
-    place: Place,
-    whole: Box<Lvalue>,
-    owner: u32,
-    name: u32,
-) -> Result<Operand, Stop>
-    ensures { Gives operand_view (spec.named_by (state cx.now) place (lvalue_tree whole.value) owner (Some name)) result }
-{
-    match cx.types.member(owner, name) {
-        Some(found) => Ok(found_member(cx, place, whole, found)?),
-        None => Err(undeclared(place)),
-    }
-}
-
-/// The member of a struct with a name.
-fn named(
-    cx: &Context,
-    place: Place,
-    whole: Box<Lvalue>,
-    owner: u32,
-    name: &Text,
-) -> Result<Operand, Stop>
-    ensures { Gives operand_view (spec.named (state cx.now) place (lvalue_tree whole.value) owner name.now) result }
-{
-    match cx.scopes.known(name) {
-        Some(known) => numbered(cx, place, whole, owner, known),
-        None => Err(undeclared(place)),
-    }
-}
-
-/// The member of a struct lvalue.
-fn selected(cx: &Context, place: Place, whole: Box<Lvalue>, name: &Text) -> Result<Operand, Stop>
-    ensures { Gives operand_view (spec.selected (state cx.now) place (lvalue_tree whole.value) name.now) result }
-{
-    match complete_struct(cx, &whole.ctype) {
-        Some(owner) => named(cx, place, whole, owner, name),
-        None => Err(type_fault(place)),
-    }
+    Ok(lvalue_operand(cx.alloc, place, ctype, form, found.enumeration)?)
 }
 
 /// `.`
-pub fn member(cx: &Context, place: Place, whole: Operand, name: &Text) -> Result<Operand, Stop>
-    ensures { Gives operand_view (spec.member (state cx.now) place (operand_view whole) name.now) result }
-{
+pub fn member(cx: &Context, place: Place, whole: Operand, name: &Text) -> Result<Operand, Stop> {
     let Operand { form, .. } = whole;
     match form {
         Form::Lvalue(lvalue) => selected(cx, place, lvalue, name),
@@ -102,9 +40,7 @@ pub fn member(cx: &Context, place: Place, whole: Operand, name: &Text) -> Result
 }
 
 /// `->`
-pub fn arrow(cx: &Context, place: Place, pointer: Operand, name: &Text) -> Result<Operand, Stop>
-    ensures { Gives operand_view (spec.arrow (state cx.now) place (operand_view pointer) name.now) result }
-{
+pub fn arrow(cx: &Context, place: Place, pointer: Operand, name: &Text) -> Result<Operand, Stop> {
     let pointer = term_of(cx.alloc, pointer)?;
     let whole = indirection(cx, place, pointer)?;
     member(cx, place, whole, name)

@@ -1,25 +1,13 @@
 //! Names, constants and literals (6.5.1 of ISO/IEC 9899:2011).
-ghost use Rattle.std.specs.Prelude.{◌≡◌, Some, None, Ok, IfOk, get_or};
-ghost use Rattle.c_layout.specs.Types.{view};
-ghost use Rattle.c_layout.specs.CheckedUnits.{local_view};
-ghost use Rattle.type_scopes.specs.Answers.{Gives};
-ghost use Rattle.type_scopes.specs.Known.{known};
-ghost use Rattle.type_scopes.specs.DeclaredTypes.{object_view};
-ghost use Rattle.type_scopes.specs.States.{state, with_literal};
-ghost use Rattle.binary_operators.specs.Operands.{operand_view};
-ghost use Rattle.expression_types.specs.Primaries as spec;
-
 use binary_operators::{Constancy, Operand, lvalue_operand, number_operand};
-use c_layout::{CType, Constant, LibFn, LocalObject, LvalueForm, ObjectRef, TermForm};
+use c_layout::{CType, Constant, LibFn, LvalueForm, ObjectRef, TermForm};
 use cc_base::{Memory, Place, Stop, Text};
 use lib_models::signature;
 use type_rules::{char_kind, int_kind};
-use type_scopes::{Context, Meaning, ObjectDeclaration, type_fault, undeclared};
+use type_scopes::{Context, Meaning, type_fault, undeclared};
 
 /// The library function of a name.
-pub fn library_named(name: &Text) -> Option<LibFn>
-    ensures { result ≡ spec.library_named name.now }
-{
+pub fn library_named(name: &Text) -> Option<LibFn> {
     match std::str::from_utf8(name.as_bytes()) {
         Ok(text) => signature(text),
         Err(_) => None,
@@ -27,102 +15,44 @@ pub fn library_named(name: &Text) -> Option<LibFn>
 }
 
 /// What a name in an expression means.
-pub fn meaning_of(cx: &Context, name: &Text) -> Option<Meaning>
-    ensures { result ≡ spec.meaning_of (state cx.now) name.now }
-{
-    match cx.scopes.known(name) {
-        Some(number) => cx.scopes.find(number),
-        None => None,
-    }
+pub fn meaning_of(cx: &Context, name: &Text) -> Option<Meaning> {
+    cx.scopes.find(cx.scopes.known(name)?)
 }
 
-/// Whether what the unit does not define is used: nothing is under `sizeof`.
-pub fn is_missing(cx: &Context, number: Option<u32>) -> bool
-    ensures { result ≡ spec.is_missing (state cx.now) number }
-{
-    match number {
-        Some(_) => false,
-        None => cx.is_evaluated(),
-    }
-}
-
-/// The number of what the unit defines, or the greatest number.
-pub fn number_of(number: Option<u32>) -> u32
-    ensures { result ≡ spec.number_of number }
-{
-    number.unwrap_or(u32::MAX)
-}
-
-/// A declared object of static storage. One that the unit does not define is not used, unless it is
-/// not evaluated, and then has the greatest number.
-fn defined_object(cx: &Context, place: Place, object: &ObjectDeclaration) -> Result<Operand, Stop>
-    ensures { Gives operand_view (spec.defined_object (state cx.now) place (object_view object.now)) result }
-{
-    if is_missing(cx, object.number) {
+/// An object of static storage. One that the unit does not define is not used, unless it is not
+/// evaluated, and then has the greatest number.
+fn static_object(cx: &Context, place: Place, declared: u32) -> Result<Operand, Stop> {
+    let Some(object) = cx.objects.get(declared as usize) else {
+        return Err(undeclared(place));
+    };
+    if object.number.is_none() && cx.is_evaluated() {
         return Err(undeclared(place));
     }
+    let known = object.number.unwrap_or(u32::MAX);
     let ctype = object.declared.ctype.copy(cx.alloc)?;
-    let form = LvalueForm::Object(ObjectRef::Static(number_of(object.number)));
+    let form = LvalueForm::Object(ObjectRef::Static(known));
     Ok(lvalue_operand(cx.alloc, place, ctype, form, object.declared.enumeration)?)
 }
 
-/// An object of static storage.
-fn static_object(cx: &Context, place: Place, declared: u32) -> Result<Operand, Stop>
-    ensures { Gives operand_view (spec.static_object (state cx.now) place declared) result }
-{
-    match cx.objects.get(declared as usize) {
-        Some(object) => defined_object(cx, place, object),
-        None => Err(undeclared(place)),
-    }
-}
-
-/// The enumerated type that the declaration of an object of the function at hand names.
-fn local_enumeration(enumerations: &[Option<u32>], known: u32) -> Option<u32>
-    ensures { result ≡ get_or enumerations.now known None }
-{
-    match enumerations.get(known as usize) {
-        Some(enumeration) => *enumeration,
-        None => None,
-    }
-}
-
-/// A declared object of the function at hand.
-fn declared_local(
-    cx: &Context,
-    place: Place,
-    known: u32,
-    object: &LocalObject,
-) -> Result<Operand, Memory>
-    ensures { IfOk result (λ o. Ok (operand_view o) ≡ spec.local_by (state cx.now) place known (Some (local_view object.now))) }
-{
-    let ctype = object.ctype.copy(cx.alloc)?;
-    let enumeration = local_enumeration(cx.body.enumerations.as_slice(), known);
-    let form = LvalueForm::Object(ObjectRef::Local(known));
-    lvalue_operand(cx.alloc, place, ctype, form, enumeration)
-}
-
 /// An object of the function at hand.
-fn local_object(cx: &Context, place: Place, known: u32) -> Result<Operand, Stop>
-    ensures { Gives operand_view (spec.local_object (state cx.now) place known) result }
-{
-    match cx.body.locals.get(known as usize) {
-        Some(object) => Ok(declared_local(cx, place, known, object)?),
-        None => Err(undeclared(place)),
-    }
+fn local_object(cx: &Context, place: Place, known: u32) -> Result<Operand, Stop> {
+    let Some(object) = cx.body.locals.get(known as usize) else {
+        return Err(undeclared(place));
+    };
+    let ctype = object.ctype.copy(cx.alloc)?;
+    let enumeration = cx.body.enumerations.get(known as usize).copied().flatten();
+    let form = LvalueForm::Object(ObjectRef::Local(known));
+    Ok(lvalue_operand(cx.alloc, place, ctype, form, enumeration)?)
 }
 
 /// An enumeration constant.
-fn enumerator(cx: &Context, place: Place, value: i128) -> Result<Operand, Memory>
-    ensures { IfOk result (λ o. operand_view o ≡ spec.enumerator (known cx.now) place value) }
-{
+fn enumerator(cx: &Context, place: Place, value: i128) -> Result<Operand, Memory> {
     let ctype = CType::Int(int_kind(&cx.model.numbers));
     fixed_number(cx, place, ctype, value)
 }
 
 /// A number of a type.
-fn fixed_number(cx: &Context, place: Place, ctype: CType, value: i128) -> Result<Operand, Memory>
-    ensures { IfOk result (λ o. operand_view o ≡ spec.fixed_number place (view ctype) value) }
-{
+fn fixed_number(cx: &Context, place: Place, ctype: CType, value: i128) -> Result<Operand, Memory> {
     let constancy = Constancy {
         constant: Some(value),
         fixed: true,
@@ -130,78 +60,43 @@ fn fixed_number(cx: &Context, place: Place, ctype: CType, value: i128) -> Result
     number_operand(cx.alloc, place, ctype, TermForm::Number(value), constancy)
 }
 
-/// A name that is declared. A function has no value of its own here.
-fn meant(cx: &Context, place: Place, meaning: Meaning) -> Result<Operand, Stop>
-    ensures { Gives operand_view (spec.meant (state cx.now) place meaning) result }
-{
-    match meaning {
-        Meaning::Static(declared) => static_object(cx, place, declared),
-        Meaning::Local(known) => local_object(cx, place, known),
-        Meaning::Enumerator(value) => Ok(enumerator(cx, place, value)?),
-        Meaning::Function(_) => Err(type_fault(place)),
-        Meaning::Typedef(_) => Err(type_fault(place)),
-    }
-}
-
-/// The refusal of a name that is not declared; those of the library need no declaration.
-fn unknown(place: Place, name: &Text) -> Result<Operand, Stop>
-    ensures { Gives operand_view (spec.unknown place name.now) result }
-{
-    match library_named(name) {
-        Some(_) => Err(type_fault(place)),
-        None => Err(undeclared(place)),
-    }
-}
-
-/// A name that is not called.
-pub fn name(cx: &Context, place: Place, name: &Text) -> Result<Operand, Stop>
-    ensures { Gives operand_view (spec.name (state cx.now) place name.now) result }
-{
+/// A name that is not called. A function has no value of its own here.
+pub fn name(cx: &Context, place: Place, name: &Text) -> Result<Operand, Stop> {
     match meaning_of(cx, name) {
-        Some(meaning) => meant(cx, place, meaning),
-        None => unknown(place, name),
-    }
-}
-
-/// The value of a constant.
-fn constant_value(constant: &Constant) -> i128
-    ensures { result ≡ spec.constant_value constant.now }
-{
-    let magnitude = i128::from(constant.value);
-    if constant.negative {
-        -magnitude
-    } else {
-        magnitude
+        Some(Meaning::Static(declared)) => static_object(cx, place, declared),
+        Some(Meaning::Local(known)) => local_object(cx, place, known),
+        Some(Meaning::Enumerator(value)) => Ok(enumerator(cx, place, value)?),
+        Some(Meaning::Function(_)) | Some(Meaning::Typedef(_)) => Err(type_fault(place)),
+        None => match library_named(name) {
+            Some(_) => Err(type_fault(place)),
+            None => Err(undeclared(place)),
+        },
     }
 }
 
 /// An integer or a character constant (6.4.4).
-pub fn constant(cx: &Context, place: Place, constant: &Constant) -> Result<Operand, Memory>
-    ensures { IfOk result (λ o. operand_view o ≡ spec.constant place constant.now) }
-{
-    let value = constant_value(constant);
+pub fn constant(cx: &Context, place: Place, constant: &Constant) -> Result<Operand, Memory> {
+    let magnitude = i128::from(constant.value);
+    let value = if constant.negative {
+        -magnitude
+    } else {
+        magnitude
+    };
     let ctype = CType::Int(constant.kind);
     fixed_number(cx, place, ctype, value)
 }
 
 /// The type of a literal: an array of its characters and a closing zero (6.4.5).
-pub fn literal_type(cx: &Context, bytes: &Text) -> Result<CType, Memory>
-    ensures { IfOk result (λ t. view t ≡ spec.literal_type (known cx.now) bytes.now) }
-{
-    let count = bytes.as_bytes().len() as u64;
-    let Some(count) = count.checked_add(1) else {
-        return Err(Memory);
-    };
+pub fn literal_type(cx: &Context, bytes: &Text) -> Result<CType, Memory> {
+    let count = u64::try_from(bytes.as_bytes().len()).map_err(|_| Memory)?;
+    let count = count.checked_add(1).ok_or(Memory)?;
     let element = CType::Int(char_kind(&cx.model.numbers));
     Ok(CType::Array(Box::new(cx.alloc, element)?, count))
 }
 
 /// A string literal that is an array of its own.
-pub fn literal(cx: &mut Context, place: Place, bytes: &Text) -> Result<Operand, Memory>
-    ensures value { IfOk result (λ o. operand_view o ≡ spec.literal (state cx.old) place bytes.now) }
-    ensures after { IfOk result (λ _. state cx.new ≡ with_literal (state cx.old) place bytes.now) }
-{
+pub fn literal(cx: &mut Context, place: Place, bytes: &Text) -> Result<Operand, Stop> {
     let ctype = literal_type(cx, bytes)?;
     let form = LvalueForm::Literal(cx.add_literal(place, bytes)?);
-    lvalue_operand(cx.alloc, place, ctype, form, None)
+    Ok(lvalue_operand(cx.alloc, place, ctype, form, None)?)
 }

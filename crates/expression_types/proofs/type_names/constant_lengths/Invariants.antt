@@ -1,6 +1,0 @@
-use Rattle.std.proofs.Common.{◌≡◌, [], drop}
-use Rattle.expression_types.specs.TypeNames.{constant_lengths}
-use Rattle.expression_types.proofs.type_names.constant_lengths.Given as goal
-
-abbrev pub invariant-loop-length : goal.invariant-loop-length
-invariant-loop-length l = constant_lengths l.place (drop l.length-index l.lengths) l.made.items ≡ constant_lengths l.place l.lengths []
