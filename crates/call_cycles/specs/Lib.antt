@@ -1,0 +1,2 @@
+pub mod CallCycles
+pub mod Certificates

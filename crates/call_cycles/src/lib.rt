@@ -2,5 +2,7 @@
 #![tactic(auto)]
 
 mod call_graph;
+mod call_removal;
+mod certificates;
 
 pub use call_graph::{Call, CallGraph};

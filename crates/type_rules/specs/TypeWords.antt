@@ -1,12 +1,32 @@
 -- Which words name which type (6.7.2p2).
-use Rattle.std.specs.Prelude.{◌==◌, Bool, true, false, ◌&&◌, ◌||◌, cond, nat_le, Option, Some, None, not}
+use Rattle.std.specs.Prelude.{ℕ, pos, ◌+◌, ◌==◌, Bool, true, false, ◌&&◌, ◌||◌, cond, nat_le, Option, Some, None, not}
+use Rattle.std.specs.Int.{w8, saturate_unsigned}
 use Rattle.c_layout.specs.declared.data_model.Model.{Model}
+use Rattle.c_layout.specs.declared.syntax_tree.declarations.TypeWord.{TypeWord}
+use Rattle.c_layout.specs.declared.syntax_tree.declarations.TypeWord.TheVariants as word
 use Rattle.type_rules.specs.declared.integer_kinds.Rank.{Rank}
 use Rattle.type_rules.specs.declared.integer_kinds.Rank.TheVariants as rank
 use Rattle.type_rules.specs.declared.type_words.NamedKind.{NamedKind}
 use Rattle.type_rules.specs.declared.type_words.NamedKind.TheVariants.{Void, Integer}
 use Rattle.type_rules.specs.declared.type_words.WordCounts.{WordCounts}
 use Rattle.type_rules.specs.IntegerKinds.{kind_of}
+
+abbrev pub no_words : WordCounts
+no_words = record { voids = 0; chars = 0; shorts = 0; ints = 0; longs = 0; signed = 0; unsigned = 0 }
+
+-- a word is counted up to 255, which names nothing, as two of most words do
+abbrev pub one_more : ℕ → ℕ
+one_more n = saturate_unsigned w8 (pos (n + 1))
+
+-- the counts with a word more
+abbrev pub with_word : WordCounts → TypeWord → WordCounts
+with_word w word.Void = record w { voids = one_more w.voids }
+with_word w word.Char = record w { chars = one_more w.chars }
+with_word w word.Short = record w { shorts = one_more w.shorts }
+with_word w word.Int = record w { ints = one_more w.ints }
+with_word w word.Long = record w { longs = one_more w.longs }
+with_word w word.Signed = record w { signed = one_more w.signed }
+with_word w word.Unsigned = record w { unsigned = one_more w.unsigned }
 
 -- how many of `signed` and `unsigned` stand there
 abbrev pub at_most_one_sign : WordCounts → Bool

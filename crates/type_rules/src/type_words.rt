@@ -1,6 +1,6 @@
 //! The types that words name (6.7.2 of ISO/IEC 9899:2011).
 ghost use Rattle.std.specs.Prelude.{◌≡◌};
-ghost use Rattle.type_rules.specs.TypeWords.{at_most_one_sign, char_signed, rank_of, with_rank, is_any, is_void, is_char, is_integer, named};
+ghost use Rattle.type_rules.specs.TypeWords.{at_most_one_sign, char_signed, rank_of, with_rank, is_any, is_void, is_char, is_integer, named, no_words, with_word};
 
 use crate::integer_kinds::{Rank, integer_kind};
 use c_layout::{Model, TypeWord};
@@ -27,7 +27,9 @@ pub struct WordCounts {
 
 impl WordCounts {
     /// No word.
-    pub fn new() -> WordCounts {
+    pub fn new() -> WordCounts
+        ensures { result ≡ no_words }
+    {
         WordCounts {
             voids: 0,
             chars: 0,
@@ -40,7 +42,9 @@ impl WordCounts {
     }
 
     /// Adds a word.
-    pub fn add(&mut self, word: TypeWord) {
+    pub fn add(&mut self, word: TypeWord)
+        ensures { self.new ≡ with_word self.old word }
+    {
         match word {
             TypeWord::Void => self.voids = self.voids.saturating_add(1),
             TypeWord::Char => self.chars = self.chars.saturating_add(1),

@@ -11,3 +11,21 @@ Gives view rule (Err (stop.Refused f)) = rule ≡ Err f
 Gives view rule (Err stop.Memory) = Unit {0}
 Gives view rule (Err stop.NotHeld) = ⊥
 Gives view rule (Err stop.ReadFault) = ⊥
+
+-- the same of a step that changes what typing knows
+abbrev pub Leads : {A V S : Type 0} → (A → V) → Ruled (V × S) → Result A Stop → S → Type 0
+Leads view rule (Ok a) after = rule ≡ Ok (view a, after)
+Leads view rule (Err (stop.Refused f)) after = rule ≡ Err f
+Leads view rule (Err stop.Memory) after = Unit {0}
+Leads view rule (Err stop.NotHeld) after = ⊥
+Leads view rule (Err stop.ReadFault) after = ⊥
+
+-- a step that changes nothing
+abbrev pub kept : {V S : Type 0} → S → Ruled V → Ruled (V × S)
+kept s (Ok v) = Ok (v, s)
+kept s (Err f) = Err f
+
+-- a step after another one
+abbrev pub after : {U V S : Type 0} → Ruled (U × S) → (U → S → Ruled (V × S)) → Ruled (V × S)
+after (Ok p) next = next p.0 p.1
+after (Err f) next = Err f

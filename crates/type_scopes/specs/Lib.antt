@@ -1,3 +1,12 @@
 pub mod Refusals
 pub mod Answers
 pub mod Known
+pub mod ScopeTables
+pub mod NewestNames
+pub mod Names
+pub mod StructTables
+pub mod Definitions
+pub mod DeclaredTypes
+pub mod LibraryTypes
+pub mod TypeSteps
+pub mod States

@@ -1,4 +1,8 @@
 //! What a unit defines, known before its first declaration is typed.
+ghost use Rattle.std.specs.Prelude.{◌≡◌, IfOk};
+ghost use Rattle.type_scopes.specs.Definitions as spec;
+ghost use Rattle.type_scopes.specs.Definitions.{definitions_view};
+
 use cc_base::Memory;
 use indexmap::{IndexMap, IndexSet};
 use std::alloc::Global;
@@ -14,7 +18,9 @@ pub struct Definitions {
 
 impl Definitions {
     /// No definition.
-    pub fn new(alloc: Global) -> Definitions {
+    pub fn new(alloc: Global) -> Definitions
+        ensures { definitions_view result ≡ spec.no_definitions }
+    {
         Definitions {
             functions: IndexMap::new(alloc),
             objects: IndexSet::new(alloc),
@@ -24,28 +30,38 @@ impl Definitions {
 
     /// Adds the definition of a function. A second one of the same name, which typing refuses,
     /// takes a number and is not found.
-    pub fn add_function(&mut self, name: u32) -> Result<(), Memory> {
-        let number = self.count;
+    pub fn add_function(&mut self, name: u32) -> Result<(), Memory>
+        ensures { IfOk result (λ _. definitions_view self.new ≡ spec.with_function (definitions_view self.old) name) }
+    {
+        let Some(next) = self.count.checked_add(1) else {
+            return Err(Memory);
+        };
         if self.functions.get(&name).is_none() {
-            self.functions.insert(name, number)?;
+            self.functions.insert(name, self.count)?;
         }
-        self.count = number.checked_add(1).ok_or(Memory)?;
+        self.count = next;
         Ok(())
     }
 
     /// Adds the definition of an object.
-    pub fn add_object(&mut self, name: u32) -> Result<(), Memory> {
+    pub fn add_object(&mut self, name: u32) -> Result<(), Memory>
+        ensures { IfOk result (λ _. definitions_view self.new ≡ spec.with_object (definitions_view self.old) name) }
+    {
         self.objects.insert(name)?;
         Ok(())
     }
 
     /// The number of the function of a name, where the unit defines it.
-    pub fn function(&self, name: u32) -> Option<u32> {
+    pub fn function(&self, name: u32) -> Option<u32>
+        ensures { result ≡ spec.function_of (definitions_view self.now) name }
+    {
         self.functions.get(&name).copied()
     }
 
     /// Whether the unit defines an object of this name at file scope.
-    pub fn has_object(&self, name: u32) -> bool {
+    pub fn has_object(&self, name: u32) -> bool
+        ensures { result ≡ spec.has_object (definitions_view self.now) name }
+    {
         self.objects.contains(&name)
     }
 }
