@@ -1,9 +1,13 @@
 -- Pieces are settled one after another.
-use Rattle.std.proofs.Common.{◌≡◌, List, [], ◌∷◌, ◌++◌, Option, refl}
+use Rattle.std.proofs.Common.{◌≡◌, List, [], ◌∷◌, ◌++◌, Option, refl, ap, sym, ◌∙◌}
 use Rattle.template_works.specs.Pieces.{PieceView}
 use Rattle.flow_counts.specs.declared.function_counts.FunctionCounts.{FunctionCounts}
-use Rattle.flow_counts.specs.SettledTemplates.{NamesView, SettlingView, with_if, with_all}
+use Rattle.flow_counts.specs.SettledTemplates.{NamesView, SettlingView, with_if, with_all, nothing_settled}
 
 pub one_more : (table : List (Option FunctionCounts)) (n : NamesView) (ps : List PieceView) (p : PieceView) (g : SettlingView) → with_all table n (ps ++ p ∷ []) g ≡ with_if table n p (with_all table n ps g)
 one_more table n [] p g = refl
 one_more table n (q ∷ ps) p g = one_more table n ps p (with_if table n q g)
+
+-- the next piece of a list
+pub settled_on : (table : List (Option FunctionCounts)) (n : NamesView) (ps : List PieceView) (p : PieceView) (g h : SettlingView) → g ≡ with_all table n ps nothing_settled → h ≡ with_if table n p g → h ≡ with_all table n (ps ++ p ∷ []) nothing_settled
+settled_on table n ps p g h before e = e ∙ ap (λ k. with_if table n p k) before ∙ sym (one_more table n ps p nothing_settled)
