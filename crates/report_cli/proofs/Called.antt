@@ -13,6 +13,7 @@ use Rattle.c_preproc.specs.Causes.{Seen, seen_of, IsCaused, IsCausedFrom, IsOwnR
 use Rattle.c_preproc.proofs.Own.{own_caused}
 use Rattle.command_words.specs.Requests.{CommandView, Asked, Help, Version, Check, Load, Refused}
 use Rattle.report_texts.specs.Reports.{Bytes}
+use Rattle.report_texts.specs.LoadUnits.{load_of}
 use Rattle.report_texts.specs.FixedTexts.{help_text, version_text, words_refused_text}
 use Rattle.report_cli.specs.declared.model_choice.ModelChoice.{ModelChoice}
 use Rattle.report_cli.specs.declared.model_choice.ModelChoice.TheVariants.{Chosen}
@@ -21,16 +22,16 @@ use Rattle.report_cli.specs.Stages.{stage_of}
 use Rattle.report_cli.specs.declared.stages.Stage.{Stage}
 use Rattle.report_cli.specs.declared.stages.Stage.TheVariants as stage
 use Rattle.report_cli.specs.Judging.{Order, RefusesAt, RefusesUnit}
-use Rattle.report_cli.specs.Verdicts.{Tells, helped, versioned, words_refused, absent, refused, reported, summed, file_name, IsExpanded, IsLaterRefusal, IsStaged, IsRefusal, AnswersUnit, AnswersLoad, HasModel, RefusesModel, IsLater, IsVerdict}
+use Rattle.report_cli.specs.Verdicts.{Tells, helped, versioned, words_refused, absent, refused, reported, summed, file_name, Gives, FromFiles, FromBytes, IsExpanded, IsLaterRefusal, IsStaged, IsRefusal, AnswersUnit, AnswersLoad, HasModel, RefusesModel, IsLater, IsVerdict}
 use Rattle.report_cli.specs.Answering.{IsEarly, AnswersStop, AnswersOwn, AnswersJudged, AnswersMade}
 
 -- a refusal of a later stage, by its stage
-later_staged : (m : Model) (names : List Bytes) (why : Fault) (at : Stage) → IsLaterRefusal m names why → IsStaged m names why at
-later_staged m names why stage.Expansion h = tt
-later_staged m names why stage.Numbers h = tt
-later_staged m names why stage.Grammar h = h
-later_staged m names why stage.Typing h = h
-later_staged m names why stage.Counting h = h
+later_staged : (given : Gives) (m : Model) (names : List Bytes) (why : Fault) (at : Stage) → IsLaterRefusal given m names why → IsStaged given m names why at
+later_staged given m names why stage.Expansion h = tt
+later_staged given m names why stage.Numbers h = tt
+later_staged given m names why stage.Grammar h = h
+later_staged given m names why stage.Typing h = h
+later_staged given m names why stage.Counting h = h
 
 -- no refusal that comes from the files is of a later stage
 own_refusal : (u : Unit7) (m : Model) (why : Fault) (r : Refusal) → RefusesAt u m why (stage_of r) → IsOwnRefusal r
@@ -38,34 +39,34 @@ own_refusal u m why (refusal.FileTooLong count limit) h = absurd h
 own_refusal u m why (refusal.HeaderMissing name) h = absurd h
 own_refusal u m why _ h = tt
 
-early_staged : (m : Model) (names : List Bytes) (why : Fault) (at : Stage) → IsEarly at → IsStaged m names why at
-early_staged m names why stage.Expansion h = tt
-early_staged m names why stage.Numbers h = tt
-early_staged m names why stage.Grammar h = absurd h
-early_staged m names why stage.Typing h = absurd h
-early_staged m names why stage.Counting h = absurd h
+early_staged : (given : Gives) (m : Model) (names : List Bytes) (why : Fault) (at : Stage) → IsEarly at → IsStaged given m names why at
+early_staged given m names why stage.Expansion h = tt
+early_staged given m names why stage.Numbers h = tt
+early_staged given m names why stage.Grammar h = absurd h
+early_staged given m names why stage.Typing h = absurd h
+early_staged given m names why stage.Counting h = absurd h
 
-stopped_refusal : (seen : Seen) (dirs : List Bytes) (m : Model) (unit : Bytes) (names : List Bytes) (f : Fault) → IsCaused seen dirs m names (stop.Refused f) → IsEarly (stage_of f.refusal) → IsRefusal seen dirs m unit (file_name names unit f.place.file) f
-stopped_refusal seen dirs m unit names f h e = record { names = names; named = refl; cause = h; staged = early_staged m names f (stage_of f.refusal) e }
+stopped_refusal : (given : Gives) (seen : Seen) (dirs : List Bytes) (m : Model) (unit : Bytes) (names : List Bytes) (f : Fault) → IsCaused seen dirs m names (stop.Refused f) → IsEarly (stage_of f.refusal) → IsRefusal given seen dirs m unit (file_name names unit f.place.file) f
+stopped_refusal given seen dirs m unit names f h e = record { names = names; named = refl; cause = h; staged = early_staged given m names f (stage_of f.refusal) e }
 
-later_refusal : (seen : Seen) (dirs : List Bytes) (m : Model) (u : Unit7) (unit : Bytes) (names : List Bytes) (f : Fault) → IsExpanded names u → RefusesUnit u m f → IsRefusal seen dirs m unit (file_name names unit f.place.file) f
-later_refusal seen dirs m u unit names f expanded h = record {
+later_refusal : (given : Gives) (seen : Seen) (dirs : List Bytes) (m : Model) (u : Unit7) (unit : Bytes) (names : List Bytes) (f : Fault) → IsExpanded given names u → RefusesUnit u m f → IsRefusal given seen dirs m unit (file_name names unit f.place.file) f
+later_refusal given seen dirs m u unit names f expanded h = record {
   names = names;
   named = refl;
   cause = own_caused seen dirs m names (stop.Refused f) (own_refusal u m f f.refusal h);
-  staged = later_staged m names f (stage_of f.refusal) (record { expanded = u; is_expanded = expanded; refuses = h });
+  staged = later_staged given m names f (stage_of f.refusal) (record { expanded = u; is_expanded = expanded; refuses = h });
 }
 
 pub stop_told : (order : Order) (seen : Seen) (c : CommandView) (m : Model) (names : List Bytes) (s : Stop) (status : ℕ) (text : Bytes) → IsCausedFrom c.unit seen c.dirs m names s → AnswersStop names c.unit s status text → Tells (AnswersUnit order seen c m) status text
-stop_told order seen c m names (stop.Refused f) status text h a = record { verdict = refused (file_name names c.unit f.place.file) f; called_for = stopped_refusal seen c.dirs m c.unit names f h a.1; by_status = a.0.0; by_text = a.0.1 }
+stop_told order seen c m names (stop.Refused f) status text h a = record { verdict = refused (file_name names c.unit f.place.file) f; called_for = stopped_refusal (FromFiles seen.files c.dirs m c.unit) seen c.dirs m c.unit names f h a.1; by_status = a.0.0; by_text = a.0.1 }
 stop_told order seen c m names stop.NotHeld status text h a = record { verdict = absent c.unit; called_for = (refl, h); by_status = a.0; by_text = a.1 }
 stop_told order seen c m names stop.ReadFault status text h a = absurd a
 stop_told order seen c m names stop.Memory status text h a = absurd a
 
-own_told : (order : Order) (seen : Seen) (c : CommandView) (m : Model) (u : Unit7) (names : List Bytes) (status : ℕ) (text : Bytes) → IsExpanded names u → AnswersOwn m u names c.unit status text → Tells (AnswersUnit order seen c m) status text
-own_told order seen c m u names status text expanded a = record { verdict = refused (file_name names c.unit a.why.place.file) a.why; called_for = later_refusal seen c.dirs m u c.unit names a.why expanded a.refuses; by_status = a.answers.0; by_text = a.answers.1 }
+own_told : (order : Order) (seen : Seen) (c : CommandView) (m : Model) (u : Unit7) (names : List Bytes) (status : ℕ) (text : Bytes) → IsExpanded (FromFiles seen.files c.dirs m c.unit) names u → AnswersOwn m u names c.unit status text → Tells (AnswersUnit order seen c m) status text
+own_told order seen c m u names status text expanded a = record { verdict = refused (file_name names c.unit a.why.place.file) a.why; called_for = later_refusal (FromFiles seen.files c.dirs m c.unit) seen c.dirs m u c.unit names a.why expanded a.refuses; by_status = a.answers.0; by_text = a.answers.1 }
 
-judged_told : (order : Order) (seen : Seen) (c : CommandView) (m : Model) (u : Unit7) (names : List Bytes) (status : ℕ) (text : Bytes) → IsExpanded names u → AnswersJudged order m u c.format names c.unit status text → Tells (AnswersUnit order seen c m) status text
+judged_told : (order : Order) (seen : Seen) (c : CommandView) (m : Model) (u : Unit7) (names : List Bytes) (status : ℕ) (text : Bytes) → IsExpanded (FromFiles seen.files c.dirs m c.unit) names u → AnswersJudged order m u c.format names c.unit status text → Tells (AnswersUnit order seen c m) status text
 judged_told order seen c m u names status text expanded a = record {
   verdict = reported c.format names c.unit a.answers.diags;
   called_for = (refl, refl, record { expanded = u; is_expanded = expanded; pairs = a.pairs; judged = a.judged; listed = a.answers.listed });
@@ -74,16 +75,16 @@ judged_told order seen c m u names status text expanded a = record {
 }
 
 -- what is told of a unit that was expanded
-pub checked_told : (order : Order) (seen : Seen) (c : CommandView) (m : Model) (u : Unit7) (names : List Bytes) (status : ℕ) (text : Bytes) → IsExpanded names u → AnswersOwn m u names c.unit status text ⊎ AnswersJudged order m u c.format names c.unit status text → Tells (AnswersUnit order seen c m) status text
+pub checked_told : (order : Order) (seen : Seen) (c : CommandView) (m : Model) (u : Unit7) (names : List Bytes) (status : ℕ) (text : Bytes) → IsExpanded (FromFiles seen.files c.dirs m c.unit) names u → AnswersOwn m u names c.unit status text ⊎ AnswersJudged order m u c.format names c.unit status text → Tells (AnswersUnit order seen c m) status text
 checked_told order seen c m u names status text expanded h = elim h [
   | inl a ↦ own_told order seen c m u names status text expanded a
   | inr a ↦ judged_told order seen c m u names status text expanded a
 ]
 
-own_made : (order : Order) (seen : Seen) (c : CommandView) (m : Model) (u : Unit7) (names : List Bytes) (status : ℕ) (text : Bytes) → IsExpanded names u → AnswersOwn m u names c.unit status text → Tells (AnswersLoad order seen c m) status text
-own_made order seen c m u names status text expanded a = record { verdict = refused (file_name names c.unit a.why.place.file) a.why; called_for = later_refusal seen [] m u c.unit names a.why expanded a.refuses; by_status = a.answers.0; by_text = a.answers.1 }
+own_made : (order : Order) (seen : Seen) (c : CommandView) (m : Model) (u : Unit7) (names : List Bytes) (status : ℕ) (text : Bytes) → IsExpanded (FromBytes seen.files m c.unit (load_of c.seed c.count)) names u → AnswersOwn m u names c.unit status text → Tells (AnswersLoad order seen c m) status text
+own_made order seen c m u names status text expanded a = record { verdict = refused (file_name names c.unit a.why.place.file) a.why; called_for = later_refusal (FromBytes seen.files m c.unit (load_of c.seed c.count)) seen [] m u c.unit names a.why expanded a.refuses; by_status = a.answers.0; by_text = a.answers.1 }
 
-summary_made : (order : Order) (seen : Seen) (c : CommandView) (m : Model) (u : Unit7) (names : List Bytes) (status : ℕ) (text : Bytes) → IsExpanded names u → AnswersMade order m u names c.unit status text → Tells (AnswersLoad order seen c m) status text
+summary_made : (order : Order) (seen : Seen) (c : CommandView) (m : Model) (u : Unit7) (names : List Bytes) (status : ℕ) (text : Bytes) → IsExpanded (FromBytes seen.files m c.unit (load_of c.seed c.count)) names u → AnswersMade order m u names c.unit status text → Tells (AnswersLoad order seen c m) status text
 summary_made order seen c m u names status text expanded a = record {
   verdict = summed c.unit a.answers.bases a.answers.cells a.answers.diags;
   called_for = (refl, names, record { expanded = u; is_expanded = expanded; pairs = a.pairs; judged = a.judged; listed = a.answers.listed });
@@ -92,14 +93,14 @@ summary_made order seen c m u names status text expanded a = record {
 }
 
 -- what is told of a unit that was made
-pub loaded_told : (order : Order) (seen : Seen) (c : CommandView) (m : Model) (u : Unit7) (names : List Bytes) (status : ℕ) (text : Bytes) → IsExpanded names u → AnswersOwn m u names c.unit status text ⊎ AnswersMade order m u names c.unit status text → Tells (AnswersLoad order seen c m) status text
+pub loaded_told : (order : Order) (seen : Seen) (c : CommandView) (m : Model) (u : Unit7) (names : List Bytes) (status : ℕ) (text : Bytes) → IsExpanded (FromBytes seen.files m c.unit (load_of c.seed c.count)) names u → AnswersOwn m u names c.unit status text ⊎ AnswersMade order m u names c.unit status text → Tells (AnswersLoad order seen c m) status text
 loaded_told order seen c m u names status text expanded h = elim h [
   | inl a ↦ own_made order seen c m u names status text expanded a
   | inr a ↦ summary_made order seen c m u names status text expanded a
 ]
 
 pub stop_made : (order : Order) (seen : Seen) (c : CommandView) (m : Model) (names : List Bytes) (s : Stop) (status : ℕ) (text : Bytes) → IsCaused seen [] m names s → AnswersStop names c.unit s status text → Tells (AnswersLoad order seen c m) status text
-stop_made order seen c m names (stop.Refused f) status text h a = record { verdict = refused (file_name names c.unit f.place.file) f; called_for = stopped_refusal seen [] m c.unit names f h a.1; by_status = a.0.0; by_text = a.0.1 }
+stop_made order seen c m names (stop.Refused f) status text h a = record { verdict = refused (file_name names c.unit f.place.file) f; called_for = stopped_refusal (FromBytes seen.files m c.unit (load_of c.seed c.count)) seen [] m c.unit names f h a.1; by_status = a.0.0; by_text = a.0.1 }
 stop_made order seen c m names stop.NotHeld status text h a = absurd h
 stop_made order seen c m names stop.ReadFault status text h a = absurd a
 stop_made order seen c m names stop.Memory status text h a = absurd a
@@ -111,12 +112,19 @@ stop_under order seen c m names given unit dirs s status text same_unit same_dir
     let answer = subst (λ u. AnswersStop names u s status text) same_unit (subst (λ n. AnswersStop n unit s status text) same_names a) in
     stop_told order seen c m names s status text cause answer
 
-pub loaded_under : (order : Order) (seen : Seen) (c : CommandView) (m : Model) (u : Unit7) (names : List Bytes) (unit : Bytes) (status : ℕ) (text : Bytes) → unit ≡ c.unit → IsExpanded names u → AnswersOwn m u names unit status text ⊎ AnswersMade order m u names unit status text → Tells (AnswersLoad order seen c m) status text
+pub loaded_under : (order : Order) (seen : Seen) (c : CommandView) (m : Model) (u : Unit7) (names : List Bytes) (unit : Bytes) (status : ℕ) (text : Bytes) → unit ≡ c.unit → IsExpanded (FromBytes seen.files m c.unit (load_of c.seed c.count)) names u → AnswersOwn m u names unit status text ⊎ AnswersMade order m u names unit status text → Tells (AnswersLoad order seen c m) status text
 loaded_under order seen c m u names unit status text same expanded h = loaded_told order seen c m u names status text expanded (subst (λ v. AnswersOwn m u names v status text ⊎ AnswersMade order m u names v status text) same h)
 
 -- the names and the tokens that an expansion gave
-pub names_expanded : {S : Type 0} (name : S → Bytes) (files given : List S) (u : Unit7) → given ≡ files → is_distinct (map name files) ≡ true → length u.tokens ≤ 131072 → IsExpanded (map name given) u
-names_expanded name files given u same distinct few = record { distinct = subst (λ l. is_distinct (map name l) ≡ true) (sym same) distinct; few = few }
+pub names_expanded : {S : Type 0} (gives : Gives) (name : S → Bytes) (files given : List S) (u : Unit7) → given ≡ files → gives (map name files) u → is_distinct (map name files) ≡ true → length u.tokens ≤ 131072 → IsExpanded gives (map name given) u
+names_expanded gives name files given u same made distinct few = record { gives = subst (λ l. gives (map name l) u) (sym same) made; distinct = subst (λ l. is_distinct (map name l) ≡ true) (sym same) distinct; few = few }
+
+-- what the files make, by the directories and the main file as the work has them
+pub made_from : (files : Option Files) (dirs given : List Bytes) (m : Model) (main unit : Bytes) (names : List Bytes) (u : Unit7) → given ≡ dirs → unit ≡ main → FromFiles files given m unit names u → FromFiles files dirs m main names u
+made_from files dirs given m main unit names u same_dirs same_unit h = subst (λ x. FromFiles files dirs m x names u) same_unit (subst (λ d. FromFiles files d m unit names u) same_dirs h)
+
+pub made_of : (files : Option Files) (m : Model) (main unit bytes load : Bytes) (names : List Bytes) (u : Unit7) → unit ≡ main → bytes ≡ load → FromBytes files m unit bytes names u → FromBytes files m main load names u
+made_of files m main unit bytes load names u same_unit same_bytes h = subst (λ x. FromBytes files m x load names u) same_unit (subst (λ b. FromBytes files m unit b names u) same_bytes h)
 
 pub stop_made_under : (order : Order) (seen : Seen) (c : CommandView) (m : Model) (names given : List Bytes) (unit : Bytes) (s : Stop) (status : ℕ) (text : Bytes) → unit ≡ c.unit → given ≡ names → IsCaused seen [] m names s → AnswersStop given unit s status text → Tells (AnswersLoad order seen c m) status text
 stop_made_under order seen c m names given unit s status text same_unit same_names h a =

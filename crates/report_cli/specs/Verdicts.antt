@@ -14,6 +14,9 @@ use Rattle.c_layout.specs.declared.model_file.ModelFault.TheVariants as fault
 use Rattle.c_layout.specs.declared.unit_tokens.Unit7.{Unit7}
 use Rattle.c_preproc.specs.Names.{is_distinct}
 use Rattle.c_preproc.specs.Causes.{Seen, IsCausedBy}
+use Rattle.c_preproc.specs.Units.{unit, unit_from, world_of, sought}
+use Rattle.c_preproc.specs.Told.{unit_as}
+use Rattle.report_texts.specs.LoadUnits.{load_of}
 use Rattle.command_words.specs.declared.commands.Format.{Format}
 use Rattle.command_words.specs.declared.commands.Format.TheVariants as format
 use Rattle.command_words.specs.Requests.{Asked, CommandView}
@@ -128,51 +131,64 @@ RefusesModel seen model _ = ⊥
 abbrev pub file_name : List Bytes → Bytes → ℕ → Bytes
 file_name names unit file = unwrap_or (slice_get names file) unit
 
+-- what an expansion gives: tokens, and the names of the files
+abbrev pub Gives : Type 1
+Gives = List Bytes → Unit7 → Type 0
+
+-- where the files are told, what they make of a unit from its main file on
+abbrev pub FromFiles : Option Files → List Bytes → Model → Bytes → Gives
+FromFiles files dirs m main names expanded = (held : Files) → files ≡ Some held → unit_from held dirs m main ≡ Some (Ok (unit_as names expanded))
+
+-- of a main file that was made
+abbrev pub FromBytes : Option Files → Model → Bytes → Bytes → Gives
+FromBytes files m main bytes names expanded = (held : Files) → files ≡ Some held → unit (world_of (sought held) [] m) main bytes ≡ Ok (unit_as names expanded)
+
 -- the tokens that an expansion gave, and the names of its files
-pub record IsExpanded (names : List Bytes) (expanded : Unit7) : Type 0 where
+pub record IsExpanded (given : Gives) (names : List Bytes) (expanded : Unit7) : Type 0 where
+  pub gives : given names expanded
   pub distinct : is_distinct names ≡ true
   pub few : length expanded.tokens ≤ 131072
 
 -- the diagnostics of an accepted unit: what was found in files of the list, in order and each once
-pub record IsReport (order : Order) (m : Model) (names : List Bytes) (diags : List Diag) : Type 0 where
+pub record IsReport (given : Gives) (order : Order) (m : Model) (names : List Bytes) (diags : List Diag) : Type 0 where
   pub expanded : Unit7
-  pub is_expanded : IsExpanded names expanded
+  pub is_expanded : IsExpanded given names expanded
   pub pairs : List Diag
   pub judged : IsJudged order expanded m pairs
   pub listed : IsSetOf order (in_files (length names) pairs) diags
 
 -- a refusal of a later stage than the expansion is that of a unit that was expanded
-pub record IsLaterRefusal (m : Model) (names : List Bytes) (why : Fault) : Type 0 where
+pub record IsLaterRefusal (given : Gives) (m : Model) (names : List Bytes) (why : Fault) : Type 0 where
   pub expanded : Unit7
-  pub is_expanded : IsExpanded names expanded
+  pub is_expanded : IsExpanded given names expanded
   pub refuses : RefusesUnit expanded m why
 
 -- where a refusal comes from, by its stage; a number may be refused in a condition of a directive too
-abbrev pub IsStaged : Model → List Bytes → Fault → Stage → Type 0
-IsStaged m names why stage.Expansion = Unit {0}
-IsStaged m names why stage.Numbers = Unit {0}
-IsStaged m names why stage.Grammar = IsLaterRefusal m names why
-IsStaged m names why stage.Typing = IsLaterRefusal m names why
-IsStaged m names why stage.Counting = IsLaterRefusal m names why
+abbrev pub IsStaged : Gives → Model → List Bytes → Fault → Stage → Type 0
+IsStaged given m names why stage.Expansion = Unit {0}
+IsStaged given m names why stage.Numbers = Unit {0}
+IsStaged given m names why stage.Grammar = IsLaterRefusal given m names why
+IsStaged given m names why stage.Typing = IsLaterRefusal given m names why
+IsStaged given m names why stage.Counting = IsLaterRefusal given m names why
 
 -- the unit is refused in a file, by the cause of that refusal
-pub record IsRefusal (seen : Seen) (dirs : List Bytes) (m : Model) (unit file : Bytes) (why : Fault) : Type 0 where
+pub record IsRefusal (given : Gives) (seen : Seen) (dirs : List Bytes) (m : Model) (unit file : Bytes) (why : Fault) : Type 0 where
   pub names : List Bytes
   pub named : file ≡ file_name names unit why.place.file
   pub cause : IsCausedBy seen dirs m names why why.refusal
-  pub staged : IsStaged m names why (stage_of why.refusal)
+  pub staged : IsStaged given m names why (stage_of why.refusal)
 
 -- what `check` tells of a unit under a model
 abbrev pub AnswersUnit : Order → Seen → CommandView → Model → Verdict → Type 0
 AnswersUnit order seen c m (absent name) = (name ≡ c.unit) × Lacks seen.files c.unit (Rose seen.faults seen.faults_now)
-AnswersUnit order seen c m (refused file why) = IsRefusal seen c.dirs m c.unit file why
-AnswersUnit order seen c m (reported form names unit diags) = (form ≡ c.format) × (unit ≡ c.unit) × IsReport order m names diags
+AnswersUnit order seen c m (refused file why) = IsRefusal (FromFiles seen.files c.dirs m c.unit) seen c.dirs m c.unit file why
+AnswersUnit order seen c m (reported form names unit diags) = (form ≡ c.format) × (unit ≡ c.unit) × IsReport (FromFiles seen.files c.dirs m c.unit) order m names diags
 AnswersUnit order seen c m _ = ⊥
 
 -- what `load` tells of the unit that it makes
 abbrev pub AnswersLoad : Order → Seen → CommandView → Model → Verdict → Type 0
-AnswersLoad order seen c m (refused file why) = IsRefusal seen [] m c.unit file why
-AnswersLoad order seen c m (summed unit bases cells diags) = (unit ≡ c.unit) × (names : List Bytes) × IsReport order m names diags
+AnswersLoad order seen c m (refused file why) = IsRefusal (FromBytes seen.files m c.unit (load_of c.seed c.count)) seen [] m c.unit file why
+AnswersLoad order seen c m (summed unit bases cells diags) = (unit ≡ c.unit) × (names : List Bytes) × IsReport (FromBytes seen.files m c.unit (load_of c.seed c.count)) order m names diags
 AnswersLoad order seen c m _ = ⊥
 
 -- ---- the whole

@@ -1,14 +1,17 @@
 use Rattle.std.proofs.Common.{ap, map, string_bytes}
 use Rattle.std.proofs.lemmas.Result.{IfOk-weaker}
 use Rattle.command_words.specs.Requests.{command_view}
-use Rattle.report_cli.proofs.Called.{checked_told, names_expanded, stop_under}
+use Rattle.report_cli.proofs.Called.{checked_told, names_expanded, made_from, stop_under}
+use Rattle.report_cli.specs.Verdicts.{FromFiles}
 use Rattle.report_cli.proofs.decision.check_under.Goals as goal
 
 pub returns-in-Ok-clause-called : goal.returns-in-Ok-clause-called
 returns-in-Ok-clause-called g c =
     IfOk-weaker c.checked.result _ _
     (λ a h. checked_told _ _ (command_view c.args.command.now) c.args.model.now c.in-Ok.expanded (map string_bytes c.as_slice-in-Ok.result.now) a.status a.text.items
-    (names_expanded string_bytes c.expand.new.files.items c.as_slice-in-Ok.result.now c.in-Ok.expanded c.as_slice-in-Ok.ensures.value c.expand.ensures.distinct c.in-Ok.ensures.few) h)
+    (names_expanded (FromFiles _ (command_view c.args.command.now).dirs c.args.model.now (command_view c.args.command.now).unit) string_bytes c.expand.new.files.items c.as_slice-in-Ok.result.now c.in-Ok.expanded c.as_slice-in-Ok.ensures.value
+    (made_from _ (command_view c.args.command.now).dirs (map string_bytes c.as_slice.result.now) c.args.model.now (command_view c.args.command.now).unit c.as_str-unit.result.now _ c.in-Ok.expanded (ap (map string_bytes) c.as_slice.ensures.value) c.as_str-unit.ensures.value c.in-Ok.ensures.told)
+    c.expand.ensures.distinct c.in-Ok.ensures.few) h)
     c.checked.ensures.called
 
 pub returns-clause-called : goal.returns-clause-called
