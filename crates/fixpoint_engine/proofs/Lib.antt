@@ -1,5 +1,6 @@
 pub mod ArrivalLaws
 pub mod Advance
+pub mod DiscoveryLaws
 pub mod FollowingLaws
 pub mod Passes
 pub mod SlotLaws

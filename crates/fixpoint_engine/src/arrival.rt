@@ -129,7 +129,12 @@ pub(crate) fn take_row<C: Copy>(pool: &mut RowPool<C>) -> Row
     }
 }
 
-fn round_if<C: Lattice>(pool: &mut RowPool<C>, row: &Row, rounding: bool, list: &Thresholds)
+pub(crate) fn round_if<C: Lattice>(
+    pool: &mut RowPool<C>,
+    row: &Row,
+    rounding: bool,
+    list: &Thresholds,
+)
     requires whole { IsWhole pool.old }
     requires taken { IsTaken pool.old row.now.index }
     ensures same_but { SameBut pool.old pool.new row.now.index }
@@ -148,7 +153,7 @@ fn round_row<C: Lattice>(row: &mut [C], list: &Thresholds)
     }
 }
 
-fn set_row(slot: &mut Option<Row>, row: Row)
+pub(crate) fn set_row(slot: &mut Option<Row>, row: Row)
     requires { slot.old ≡ None }
     ensures { slot.new ≡ Some row }
 {

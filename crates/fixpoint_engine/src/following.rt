@@ -7,6 +7,7 @@ ghost use Rattle.fixpoint_engine.specs.RowMap.{slot_row, slot_mark, slot_index, 
 ghost use Rattle.fixpoint_engine.specs.Entering.{entered_map, follows_map};
 
 use crate::arrival::arrive;
+use crate::discovery::{discover, is_vacant};
 use cc_base::{Steps, System};
 use row_pool::{Row, RowPool};
 use std::sync::ledger::Ledger;
@@ -99,6 +100,34 @@ fn follow<S: System, L: Ledger>(
     ensures grew { result ≡ head_grows S.Cell.lattice (S.machine system.now) edge (state_in pool.old map.old) }
     ensures ticks { steps.new ≤ steps.old + 1 }
 {
+    let to = system.edge_to(edge);
+    if is_vacant(&map[to as usize]) {
+        discover(system, pool, map, edge, to, spare, steps)
+    } else {
+        revisit(system, pool, map, edge, spare, steps)
+    }
+}
+
+// The same by way of `spare`, for a target that may have a row.
+fn revisit<S: System, L: Ledger>(
+    system: &S,
+    pool: &mut RowPool<S::Cell>,
+    map: &mut [Option<Row>],
+    edge: u32,
+    spare: &Row,
+    steps: &mut Steps<L>,
+) -> bool
+    requires valid { S.valid system.now }
+    requires edge { edge < (S.machine system.now).edges }
+    requires size { length map.old ≡ (S.machine system.now).blocks }
+    requires held { IsHeldBeside pool.old map.old spare.now.index }
+    requires room { count_by is_vacant map.old ≤ free_count pool.old }
+    requires own { (b : ℕ) → IsOwn (S.machine system.now) (row_at (rows_in pool.old map.old) b) }
+    ensures changed { Changed pool.old map.old spare.now.index pool.new map.new }
+    ensures state { state_in pool.new map.new ≡ advance S.Cell.lattice (S.machine system.now) edge (state_in pool.old map.old) }
+    ensures grew { result ≡ head_grows S.Cell.lattice (S.machine system.now) edge (state_in pool.old map.old) }
+    ensures ticks { steps.new ≤ steps.old + 1 }
+{
     let from = system.edge_from(edge) as usize;
     if !leave(system, pool, &map[from], edge, spare, steps) {
         return false;
@@ -108,7 +137,7 @@ fn follow<S: System, L: Ledger>(
 }
 
 // Leaves in `spare` what the edge makes of the row of its source. False if the edge is not taken.
-fn leave<S: System, L: Ledger>(
+pub(crate) fn leave<S: System, L: Ledger>(
     system: &S,
     pool: &mut RowPool<S::Cell>,
     slot: &Option<Row>,

@@ -2,6 +2,7 @@
 #![tactic(auto)]
 
 mod arrival;
+mod discovery;
 mod following;
 mod least_map;
 mod map_memory;

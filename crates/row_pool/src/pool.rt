@@ -155,9 +155,7 @@ fn filled<V: Copy>(alloc: Global, count: usize, fill: V) -> Result<Vec<V>, Alloc
     ensures { IfOk result (λ all. all.items ≡ replicate count fill) }
 {
     let mut all = Vec::with_capacity(alloc, count)?;
-    for _i in 0..count {
-        all.push(fill)?;
-    }
+    all.resize(count, fill)?;
     Ok(all)
 }
 

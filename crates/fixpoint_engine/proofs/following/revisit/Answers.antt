@@ -5,7 +5,7 @@ use Rattle.fixpoint_engine.specs.SolverState.{arrive, grows}
 use Rattle.fixpoint_engine.specs.RowMap.{state_in, rows_in}
 use Rattle.fixpoint_engine.proofs.MapLaws.{row_at-rows_in}
 use Rattle.fixpoint_engine.proofs.SpareLaws.{spare-changed, spare-rows, spare-state, advance-is, head_grows-is, Changed-trans}
-use Rattle.fixpoint_engine.proofs.following.follow.Goals as goal
+use Rattle.fixpoint_engine.proofs.following.revisit.Goals as goal
 
 pub leave-requires-clause-own : goal.leave-requires-clause-own
 leave-requires-clause-own g c =
