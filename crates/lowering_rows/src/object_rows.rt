@@ -45,6 +45,72 @@ fn structs(rt: HostRuntime) -> Result<(), Fail> {
     Ok(())
 }
 
+/// The program of a unit that compares, subtracts and moves pointers.
+const POINTERS: &str = "\
+    temps 3, width 7\n\
+    base 0 automatic size 8 first 0: sint@0 sint@4\n\
+    base 1 automatic size 8 first 2: uptr@0\n\
+    base 2 automatic size 8 first 3: uptr@0\n\
+    block 0\n\
+    \x20 1:5 enter b0\n\
+    \x20 1:5 enter b1\n\
+    \x20 1:5 enter b2\n\
+    \x20 1:20 forget b0\n\
+    \x20 1:29 t0 = &b1+0\n\
+    \x20 1:31 t1 = &b0+0\n\
+    \x20 1:31 t1 = narrow t1 at 0 size 8\n\
+    \x20 1:29 store t0 = t1 ptr\n\
+    \x20 1:37 t0 = &b2+0\n\
+    \x20 1:40 t1 = &b0+0\n\
+    \x20 1:40 t1 = narrow t1 at 0 size 8\n\
+    \x20 1:42 t2 = 1 s32\n\
+    \x20 1:41 t1 = shift t1 + t2 * 4\n\
+    \x20 1:37 store t0 = t1 ptr\n\
+    \x20 1:5 jump\n\
+    \x20 -> 1\n\
+    block 1\n\
+    \x20 1:48 t0 = &b2+0\n\
+    \x20 1:48 t0 = load t0 ptr\n\
+    \x20 1:50 t1 = &b1+0\n\
+    \x20 1:50 t1 = load t1 ptr\n\
+    \x20 1:49 t0 = t0 - t1 / 4\n\
+    \x20 1:49 branch t0 s64\n\
+    \x20 -> 2 true\n\
+    \x20 -> 4 false\n\
+    block 2\n\
+    \x20 1:53 t0 = &b1+0\n\
+    \x20 1:53 t0 = load t0 ptr\n\
+    \x20 1:55 t1 = &b2+0\n\
+    \x20 1:55 t1 = load t1 ptr\n\
+    \x20 1:54 t0 = ptr t0 < t1\n\
+    \x20 1:54 branch t0 s32\n\
+    \x20 -> 3 true\n\
+    \x20 -> 4 false\n\
+    block 3\n\
+    \x20 1:57 t0 = &b1+0\n\
+    \x20 1:60 t1 = 1 s32\n\
+    \x20 1:57 t2 = load t0 ptr\n\
+    \x20 1:58 t1 = shift t2 + t1 * 4\n\
+    \x20 1:57 store t0 = t1 ptr\n\
+    \x20 1:5 jump\n\
+    \x20 -> 4\n\
+    block 4\n\
+    \x20 1:69 t0 = &b1+0\n\
+    \x20 1:69 t0 = load t0 ptr\n\
+    \x20 1:72 t1 = &b2+0\n\
+    \x20 1:72 t1 = load t1 ptr\n\
+    \x20 1:70 t0 = ptr t0 == t1\n\
+    \x20 1:5 leave b0\n\
+    \x20 1:5 leave b1\n\
+    \x20 1:5 leave b2\n\
+    \x20 1:62 stop\n\
+    block 5\n\
+    \x20 1:5 leave b0\n\
+    \x20 1:5 leave b1\n\
+    \x20 1:5 leave b2\n\
+    \x20 1:5 stop\n\
+";
+
 // Differences and relations of pointers, and a pointer that is moved; without a null constant a
 // condition on pointers has no test.
 #[test]
@@ -52,72 +118,8 @@ fn pointers(rt: HostRuntime) -> Result<(), Fail> {
     let unit = "\
         int main(void){int a[2];int*p=a;int*q=&a[1];if(q-p&&p<q)p+=1;return p==q;}\n\
     ";
-    let wanted = "\
-        temps 3, width 7\n\
-        base 0 automatic size 8 first 0: sint@0 sint@4\n\
-        base 1 automatic size 8 first 2: uptr@0\n\
-        base 2 automatic size 8 first 3: uptr@0\n\
-        block 0\n\
-        \x20 1:5 enter b0\n\
-        \x20 1:5 enter b1\n\
-        \x20 1:5 enter b2\n\
-        \x20 1:20 forget b0\n\
-        \x20 1:29 t0 = &b1+0\n\
-        \x20 1:31 t1 = &b0+0\n\
-        \x20 1:31 t1 = narrow t1 at 0 size 8\n\
-        \x20 1:29 store t0 = t1 ptr\n\
-        \x20 1:37 t0 = &b2+0\n\
-        \x20 1:40 t1 = &b0+0\n\
-        \x20 1:40 t1 = narrow t1 at 0 size 8\n\
-        \x20 1:42 t2 = 1 s32\n\
-        \x20 1:41 t1 = shift t1 + t2 * 4\n\
-        \x20 1:37 store t0 = t1 ptr\n\
-        \x20 1:5 jump\n\
-        \x20 -> 1\n\
-        block 1\n\
-        \x20 1:48 t0 = &b2+0\n\
-        \x20 1:48 t0 = load t0 ptr\n\
-        \x20 1:50 t1 = &b1+0\n\
-        \x20 1:50 t1 = load t1 ptr\n\
-        \x20 1:49 t0 = t0 - t1 / 4\n\
-        \x20 1:49 branch t0 s64\n\
-        \x20 -> 2 true\n\
-        \x20 -> 4 false\n\
-        block 2\n\
-        \x20 1:53 t0 = &b1+0\n\
-        \x20 1:53 t0 = load t0 ptr\n\
-        \x20 1:55 t1 = &b2+0\n\
-        \x20 1:55 t1 = load t1 ptr\n\
-        \x20 1:54 t0 = ptr t0 < t1\n\
-        \x20 1:54 branch t0 s32\n\
-        \x20 -> 3 true\n\
-        \x20 -> 4 false\n\
-        block 3\n\
-        \x20 1:57 t0 = &b1+0\n\
-        \x20 1:60 t1 = 1 s32\n\
-        \x20 1:57 t2 = load t0 ptr\n\
-        \x20 1:58 t1 = shift t2 + t1 * 4\n\
-        \x20 1:57 store t0 = t1 ptr\n\
-        \x20 1:5 jump\n\
-        \x20 -> 4\n\
-        block 4\n\
-        \x20 1:69 t0 = &b1+0\n\
-        \x20 1:69 t0 = load t0 ptr\n\
-        \x20 1:72 t1 = &b2+0\n\
-        \x20 1:72 t1 = load t1 ptr\n\
-        \x20 1:70 t0 = ptr t0 == t1\n\
-        \x20 1:5 leave b0\n\
-        \x20 1:5 leave b1\n\
-        \x20 1:5 leave b2\n\
-        \x20 1:62 stop\n\
-        block 5\n\
-        \x20 1:5 leave b0\n\
-        \x20 1:5 leave b1\n\
-        \x20 1:5 leave b2\n\
-        \x20 1:5 stop\n\
-    ";
     let made = dump(rt.alloc(), unit)?;
-    assert_eq!(rt; made.as_str(), wanted);
+    assert_eq!(rt; made.as_str(), POINTERS);
     Ok(())
 }
 

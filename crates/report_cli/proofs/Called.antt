@@ -1,5 +1,5 @@
 -- What is told of a unit is called for.
-use Rattle.std.proofs.Common.{◌≡◌, ◌≤◌, ◌⊎◌, ℕ, true, List, [], length, map, Option, refl, inl, inr, subst, sym}
+use Rattle.std.proofs.Common.{◌≡◌, ◌≤◌, ◌⊎◌, ℕ, true, List, [], length, map, Option, Result, Ok, Err, refl, inl, inr, subst, sym}
 use Rattle.cc_base.specs.declared.refusals.Refusal.{Refusal}
 use Rattle.cc_base.specs.declared.refusals.Refusal.TheVariants as refusal
 use Rattle.cc_base.specs.declared.refusals.Fault.{Fault}
@@ -26,12 +26,12 @@ use Rattle.report_cli.specs.Verdicts.{Tells, helped, versioned, words_refused, a
 use Rattle.report_cli.specs.Answering.{IsEarly, AnswersStop, AnswersOwn, AnswersJudged, AnswersMade}
 
 -- a refusal of a later stage, by its stage
-later_staged : (given : Gives) (m : Model) (names : List Bytes) (why : Fault) (at : Stage) → IsLaterRefusal given m names why → IsStaged given m names why at
-later_staged given m names why stage.Expansion h = tt
-later_staged given m names why stage.Numbers h = tt
-later_staged given m names why stage.Grammar h = h
-later_staged given m names why stage.Typing h = h
-later_staged given m names why stage.Counting h = h
+later_staged : (given : Gives) (m : Model) (names : List Bytes) (why : Fault) (u : Unit7) (at : Stage) → RefusesAt u m why at → IsLaterRefusal given m names why → IsStaged given m names why at
+later_staged given m names why u stage.Expansion r h = absurd r
+later_staged given m names why u stage.Numbers r h = inr h
+later_staged given m names why u stage.Grammar r h = h
+later_staged given m names why u stage.Typing r h = h
+later_staged given m names why u stage.Counting r h = h
 
 -- no refusal that comes from the files is of a later stage
 own_refusal : (u : Unit7) (m : Model) (why : Fault) (r : Refusal) → RefusesAt u m why (stage_of r) → IsOwnRefusal r
@@ -39,29 +39,29 @@ own_refusal u m why (refusal.FileTooLong count limit) h = absurd h
 own_refusal u m why (refusal.HeaderMissing name) h = absurd h
 own_refusal u m why _ h = tt
 
-early_staged : (given : Gives) (m : Model) (names : List Bytes) (why : Fault) (at : Stage) → IsEarly at → IsStaged given m names why at
-early_staged given m names why stage.Expansion h = tt
-early_staged given m names why stage.Numbers h = tt
-early_staged given m names why stage.Grammar h = absurd h
-early_staged given m names why stage.Typing h = absurd h
-early_staged given m names why stage.Counting h = absurd h
+early_staged : (given : Gives) (m : Model) (names : List Bytes) (why : Fault) (at : Stage) → IsEarly at → given names (Err (stop.Refused why)) → IsStaged given m names why at
+early_staged given m names why stage.Expansion h told = told
+early_staged given m names why stage.Numbers h told = inl told
+early_staged given m names why stage.Grammar h told = absurd h
+early_staged given m names why stage.Typing h told = absurd h
+early_staged given m names why stage.Counting h told = absurd h
 
-stopped_refusal : (given : Gives) (seen : Seen) (dirs : List Bytes) (m : Model) (unit : Bytes) (names : List Bytes) (f : Fault) → IsCaused seen dirs m names (stop.Refused f) → IsEarly (stage_of f.refusal) → IsRefusal given seen dirs m unit (file_name names unit f.place.file) f
-stopped_refusal given seen dirs m unit names f h e = record { names = names; named = refl; cause = h; staged = early_staged given m names f (stage_of f.refusal) e }
+stopped_refusal : (given : Gives) (seen : Seen) (dirs : List Bytes) (m : Model) (unit : Bytes) (names : List Bytes) (f : Fault) → IsCaused seen dirs m names (stop.Refused f) → IsEarly (stage_of f.refusal) → given names (Err (stop.Refused f)) → IsRefusal given seen dirs m unit (file_name names unit f.place.file) f
+stopped_refusal given seen dirs m unit names f h e told = record { names = names; named = refl; cause = h; staged = early_staged given m names f (stage_of f.refusal) e told }
 
 later_refusal : (given : Gives) (seen : Seen) (dirs : List Bytes) (m : Model) (u : Unit7) (unit : Bytes) (names : List Bytes) (f : Fault) → IsExpanded given names u → RefusesUnit u m f → IsRefusal given seen dirs m unit (file_name names unit f.place.file) f
 later_refusal given seen dirs m u unit names f expanded h = record {
   names = names;
   named = refl;
   cause = own_caused seen dirs m names (stop.Refused f) (own_refusal u m f f.refusal h);
-  staged = later_staged given m names f (stage_of f.refusal) (record { expanded = u; is_expanded = expanded; refuses = h });
+  staged = later_staged given m names f u (stage_of f.refusal) h (record { expanded = u; is_expanded = expanded; refuses = h });
 }
 
-pub stop_told : (order : Order) (seen : Seen) (c : CommandView) (m : Model) (names : List Bytes) (s : Stop) (status : ℕ) (text : Bytes) → IsCausedFrom c.unit seen c.dirs m names s → AnswersStop names c.unit s status text → Tells (AnswersUnit order seen c m) status text
-stop_told order seen c m names (stop.Refused f) status text h a = record { verdict = refused (file_name names c.unit f.place.file) f; called_for = stopped_refusal (FromFiles seen.files c.dirs m c.unit) seen c.dirs m c.unit names f h a.1; by_status = a.0.0; by_text = a.0.1 }
-stop_told order seen c m names stop.NotHeld status text h a = record { verdict = absent c.unit; called_for = (refl, h); by_status = a.0; by_text = a.1 }
-stop_told order seen c m names stop.ReadFault status text h a = absurd a
-stop_told order seen c m names stop.Memory status text h a = absurd a
+pub stop_told : (order : Order) (seen : Seen) (c : CommandView) (m : Model) (names : List Bytes) (s : Stop) (status : ℕ) (text : Bytes) → IsCausedFrom c.unit seen c.dirs m names s → FromFiles seen.files c.dirs m c.unit names (Err s) → AnswersStop names c.unit s status text → Tells (AnswersUnit order seen c m) status text
+stop_told order seen c m names (stop.Refused f) status text h told a = record { verdict = refused (file_name names c.unit f.place.file) f; called_for = stopped_refusal (FromFiles seen.files c.dirs m c.unit) seen c.dirs m c.unit names f h a.1 told; by_status = a.0.0; by_text = a.0.1 }
+stop_told order seen c m names stop.NotHeld status text h told a = record { verdict = absent c.unit; called_for = (refl, h); by_status = a.0; by_text = a.1 }
+stop_told order seen c m names stop.ReadFault status text h told a = absurd a
+stop_told order seen c m names stop.Memory status text h told a = absurd a
 
 own_told : (order : Order) (seen : Seen) (c : CommandView) (m : Model) (u : Unit7) (names : List Bytes) (status : ℕ) (text : Bytes) → IsExpanded (FromFiles seen.files c.dirs m c.unit) names u → AnswersOwn m u names c.unit status text → Tells (AnswersUnit order seen c m) status text
 own_told order seen c m u names status text expanded a = record { verdict = refused (file_name names c.unit a.why.place.file) a.why; called_for = later_refusal (FromFiles seen.files c.dirs m c.unit) seen c.dirs m u c.unit names a.why expanded a.refuses; by_status = a.answers.0; by_text = a.answers.1 }
@@ -99,37 +99,37 @@ loaded_told order seen c m u names status text expanded h = elim h [
   | inr a ↦ summary_made order seen c m u names status text expanded a
 ]
 
-pub stop_made : (order : Order) (seen : Seen) (c : CommandView) (m : Model) (names : List Bytes) (s : Stop) (status : ℕ) (text : Bytes) → IsCaused seen [] m names s → AnswersStop names c.unit s status text → Tells (AnswersLoad order seen c m) status text
-stop_made order seen c m names (stop.Refused f) status text h a = record { verdict = refused (file_name names c.unit f.place.file) f; called_for = stopped_refusal (FromBytes seen.files m c.unit (load_of c.seed c.count)) seen [] m c.unit names f h a.1; by_status = a.0.0; by_text = a.0.1 }
-stop_made order seen c m names stop.NotHeld status text h a = absurd h
-stop_made order seen c m names stop.ReadFault status text h a = absurd a
-stop_made order seen c m names stop.Memory status text h a = absurd a
+pub stop_made : (order : Order) (seen : Seen) (c : CommandView) (m : Model) (names : List Bytes) (s : Stop) (status : ℕ) (text : Bytes) → IsCaused seen [] m names s → FromBytes seen.files m c.unit (load_of c.seed c.count) names (Err s) → AnswersStop names c.unit s status text → Tells (AnswersLoad order seen c m) status text
+stop_made order seen c m names (stop.Refused f) status text h told a = record { verdict = refused (file_name names c.unit f.place.file) f; called_for = stopped_refusal (FromBytes seen.files m c.unit (load_of c.seed c.count)) seen [] m c.unit names f h a.1 told; by_status = a.0.0; by_text = a.0.1 }
+stop_made order seen c m names stop.NotHeld status text h told a = absurd h
+stop_made order seen c m names stop.ReadFault status text h told a = absurd a
+stop_made order seen c m names stop.Memory status text h told a = absurd a
 
 -- the same, with the names and the unit as the work has them
-pub stop_under : (order : Order) (seen : Seen) (c : CommandView) (m : Model) (names given : List Bytes) (unit : Bytes) (dirs : List Bytes) (s : Stop) (status : ℕ) (text : Bytes) → unit ≡ c.unit → dirs ≡ c.dirs → given ≡ names → IsCausedFrom unit seen dirs m names s → AnswersStop given unit s status text → Tells (AnswersUnit order seen c m) status text
-stop_under order seen c m names given unit dirs s status text same_unit same_dirs same_names h a =
+pub stop_under : (order : Order) (seen : Seen) (c : CommandView) (m : Model) (names given : List Bytes) (unit : Bytes) (dirs : List Bytes) (s : Stop) (status : ℕ) (text : Bytes) → unit ≡ c.unit → dirs ≡ c.dirs → given ≡ names → IsCausedFrom unit seen dirs m names s → FromFiles seen.files c.dirs m c.unit names (Err s) → AnswersStop given unit s status text → Tells (AnswersUnit order seen c m) status text
+stop_under order seen c m names given unit dirs s status text same_unit same_dirs same_names h told a =
     let cause = subst (λ u. IsCausedFrom u seen c.dirs m names s) same_unit (subst (λ d. IsCausedFrom unit seen d m names s) same_dirs h) in
     let answer = subst (λ u. AnswersStop names u s status text) same_unit (subst (λ n. AnswersStop n unit s status text) same_names a) in
-    stop_told order seen c m names s status text cause answer
+    stop_told order seen c m names s status text cause told answer
 
 pub loaded_under : (order : Order) (seen : Seen) (c : CommandView) (m : Model) (u : Unit7) (names : List Bytes) (unit : Bytes) (status : ℕ) (text : Bytes) → unit ≡ c.unit → IsExpanded (FromBytes seen.files m c.unit (load_of c.seed c.count)) names u → AnswersOwn m u names unit status text ⊎ AnswersMade order m u names unit status text → Tells (AnswersLoad order seen c m) status text
 loaded_under order seen c m u names unit status text same expanded h = loaded_told order seen c m u names status text expanded (subst (λ v. AnswersOwn m u names v status text ⊎ AnswersMade order m u names v status text) same h)
 
 -- the names and the tokens that an expansion gave
-pub names_expanded : {S : Type 0} (gives : Gives) (name : S → Bytes) (files given : List S) (u : Unit7) → given ≡ files → gives (map name files) u → is_distinct (map name files) ≡ true → length u.tokens ≤ 131072 → IsExpanded gives (map name given) u
-names_expanded gives name files given u same made distinct few = record { gives = subst (λ l. gives (map name l) u) (sym same) made; distinct = subst (λ l. is_distinct (map name l) ≡ true) (sym same) distinct; few = few }
+pub names_expanded : {S : Type 0} (gives : Gives) (name : S → Bytes) (files given : List S) (u : Unit7) → given ≡ files → gives (map name files) (Ok u) → is_distinct (map name files) ≡ true → length u.tokens ≤ 131072 → IsExpanded gives (map name given) u
+names_expanded gives name files given u same made distinct few = record { gives = subst (λ l. gives (map name l) (Ok u)) (sym same) made; distinct = subst (λ l. is_distinct (map name l) ≡ true) (sym same) distinct; few = few }
 
 -- what the files make, by the directories and the main file as the work has them
-pub made_from : (files : Option Files) (dirs given : List Bytes) (m : Model) (main unit : Bytes) (names : List Bytes) (u : Unit7) → given ≡ dirs → unit ≡ main → FromFiles files given m unit names u → FromFiles files dirs m main names u
-made_from files dirs given m main unit names u same_dirs same_unit h = subst (λ x. FromFiles files dirs m x names u) same_unit (subst (λ d. FromFiles files d m unit names u) same_dirs h)
+pub made_from : (files : Option Files) (dirs given : List Bytes) (m : Model) (main unit : Bytes) (names : List Bytes) (r : Result Unit7 Stop) → given ≡ dirs → unit ≡ main → FromFiles files given m unit names r → FromFiles files dirs m main names r
+made_from files dirs given m main unit names r same_dirs same_unit h = subst (λ x. FromFiles files dirs m x names r) same_unit (subst (λ d. FromFiles files d m unit names r) same_dirs h)
 
-pub made_of : (files : Option Files) (m : Model) (main unit bytes load : Bytes) (names : List Bytes) (u : Unit7) → unit ≡ main → bytes ≡ load → FromBytes files m unit bytes names u → FromBytes files m main load names u
-made_of files m main unit bytes load names u same_unit same_bytes h = subst (λ x. FromBytes files m x load names u) same_unit (subst (λ b. FromBytes files m unit b names u) same_bytes h)
+pub made_of : (files : Option Files) (m : Model) (main unit bytes load : Bytes) (names : List Bytes) (r : Result Unit7 Stop) → unit ≡ main → bytes ≡ load → FromBytes files m unit bytes names r → FromBytes files m main load names r
+made_of files m main unit bytes load names r same_unit same_bytes h = subst (λ x. FromBytes files m x load names r) same_unit (subst (λ b. FromBytes files m unit b names r) same_bytes h)
 
-pub stop_made_under : (order : Order) (seen : Seen) (c : CommandView) (m : Model) (names given : List Bytes) (unit : Bytes) (s : Stop) (status : ℕ) (text : Bytes) → unit ≡ c.unit → given ≡ names → IsCaused seen [] m names s → AnswersStop given unit s status text → Tells (AnswersLoad order seen c m) status text
-stop_made_under order seen c m names given unit s status text same_unit same_names h a =
+pub stop_made_under : (order : Order) (seen : Seen) (c : CommandView) (m : Model) (names given : List Bytes) (unit : Bytes) (s : Stop) (status : ℕ) (text : Bytes) → unit ≡ c.unit → given ≡ names → IsCaused seen [] m names s → FromBytes seen.files m c.unit (load_of c.seed c.count) names (Err s) → AnswersStop given unit s status text → Tells (AnswersLoad order seen c m) status text
+stop_made_under order seen c m names given unit s status text same_unit same_names h told a =
     let answer = subst (λ u. AnswersStop names u s status text) same_unit (subst (λ n. AnswersStop n unit s status text) same_names a) in
-    stop_made order seen c m names s status text h answer
+    stop_made order seen c m names s status text h told answer
 
 -- where there is no model
 pub model_refused_check : (order : Order) (seen : Seen) (c : CommandView) (status : ℕ) (text : Bytes) → Tells (RefusesModel seen c.model) status text → Tells (IsVerdict order seen (Check c)) status text

@@ -4,6 +4,8 @@ use Rattle.toml.specs.Parse.{parse_document}
 use Rattle.cc_base.specs.Outside.{Files, Holds, HoldsTooLong, Lacks, Rose, RoseBeyond}
 use Rattle.cc_base.specs.declared.diagnostics.Diag.{Diag}
 use Rattle.cc_base.specs.declared.refusals.Fault.{Fault}
+use Rattle.cc_base.specs.declared.refusals.Stop.{Stop}
+use Rattle.cc_base.specs.declared.refusals.Stop.TheVariants as stop
 use Rattle.c_layout.specs.Models.{model_named}
 use Rattle.c_layout.specs.ModelText.{model_in}
 use Rattle.c_layout.specs.declared.data_model.Model.{Model}
@@ -15,7 +17,7 @@ use Rattle.c_layout.specs.declared.unit_tokens.Unit7.{Unit7}
 use Rattle.c_preproc.specs.Names.{is_distinct}
 use Rattle.c_preproc.specs.Causes.{Seen, IsCausedBy}
 use Rattle.c_preproc.specs.Units.{unit, unit_from, world_of, sought}
-use Rattle.c_preproc.specs.Told.{unit_as}
+use Rattle.c_preproc.specs.Told.{unit_as, UnitFrom, UnitGives}
 use Rattle.report_texts.specs.LoadUnits.{load_of}
 use Rattle.command_words.specs.declared.commands.Format.{Format}
 use Rattle.command_words.specs.declared.commands.Format.TheVariants as format
@@ -131,21 +133,21 @@ RefusesModel seen model _ = ⊥
 abbrev pub file_name : List Bytes → Bytes → ℕ → Bytes
 file_name names unit file = unwrap_or (slice_get names file) unit
 
--- what an expansion gives: tokens, and the names of the files
+-- what an expansion comes to, tokens or a refusal, with the names of the files that were met
 abbrev pub Gives : Type 1
-Gives = List Bytes → Unit7 → Type 0
+Gives = List Bytes → Result Unit7 Stop → Type 0
 
 -- where the files are told, what they make of a unit from its main file on
 abbrev pub FromFiles : Option Files → List Bytes → Model → Bytes → Gives
-FromFiles files dirs m main names expanded = (held : Files) → files ≡ Some held → unit_from held dirs m main ≡ Some (Ok (unit_as names expanded))
+FromFiles files dirs m main names answer = (held : Files) → files ≡ Some held → UnitFrom (unit_from held dirs m main) names answer
 
 -- of a main file that was made
 abbrev pub FromBytes : Option Files → Model → Bytes → Bytes → Gives
-FromBytes files m main bytes names expanded = (held : Files) → files ≡ Some held → unit (world_of (sought held) [] m) main bytes ≡ Ok (unit_as names expanded)
+FromBytes files m main bytes names answer = (held : Files) → files ≡ Some held → UnitGives (unit (world_of (sought held) [] m) main bytes) (unit_as names) names answer
 
 -- the tokens that an expansion gave, and the names of its files
 pub record IsExpanded (given : Gives) (names : List Bytes) (expanded : Unit7) : Type 0 where
-  pub gives : given names expanded
+  pub gives : given names (Ok expanded)
   pub distinct : is_distinct names ≡ true
   pub few : length expanded.tokens ≤ 131072
 
@@ -163,10 +165,11 @@ pub record IsLaterRefusal (given : Gives) (m : Model) (names : List Bytes) (why 
   pub is_expanded : IsExpanded given names expanded
   pub refuses : RefusesUnit expanded m why
 
--- where a refusal comes from, by its stage; a number may be refused in a condition of a directive too
+-- where a refusal comes from, by its stage: the expansion came to it, or the work behind it; a number
+-- may be refused in a condition of a directive too
 abbrev pub IsStaged : Gives → Model → List Bytes → Fault → Stage → Type 0
-IsStaged given m names why stage.Expansion = Unit {0}
-IsStaged given m names why stage.Numbers = Unit {0}
+IsStaged given m names why stage.Expansion = given names (Err (stop.Refused why))
+IsStaged given m names why stage.Numbers = given names (Err (stop.Refused why)) ⊎ IsLaterRefusal given m names why
 IsStaged given m names why stage.Grammar = IsLaterRefusal given m names why
 IsStaged given m names why stage.Typing = IsLaterRefusal given m names why
 IsStaged given m names why stage.Counting = IsLaterRefusal given m names why
