@@ -1,31 +1,31 @@
 //! Expressions: each is typed after its parts, by the rule of its operator (6.5 of ISO/IEC
 //! 9899:2011).
-use crate::calls::{call, callee_named, note_callee};
-use crate::members::{arrow, member};
-use crate::primaries::{constant, literal, name};
-use crate::type_names::named_type;
+ghost use Rattle.std.specs.Prelude.{map};
+ghost use Rattle.c_layout.specs.Types.{view};
+ghost use Rattle.c_layout.specs.SyntaxTrees as syntax;
+ghost use Rattle.c_layout.specs.SyntaxTrees.{tree_of, trees, type_name_view};
+ghost use Rattle.type_scopes.specs.Answers.{Leads};
+ghost use Rattle.type_scopes.specs.States.{state};
+ghost use Rattle.binary_operators.specs.Operands.{operand_view};
+ghost use Rattle.expression_types.specs.Lengths.{length_view, lengths_view};
+ghost use Rattle.expression_types.specs.Expressions as spec;
+
+use crate::leaves::{first_argument, named, noted_callee};
+use crate::lengths::length_of;
 use binary_operators::{Operand, binary, parenthesized, subscript, term_of};
-use c_layout::{CType, CheckedTerm, Expr, StepTime, TypeName};
+use c_layout::{CType, Expr, StepTime, TypeName};
 use cc_base::{Place, Stop, Text};
 use operator_types::{
     assignment, cast, comma, conditional, logical, size_of_operand, size_of_type, step, unary,
 };
+use primary_types::{arrow, call, constant, literal, member, named_type};
 use type_scopes::{Context, type_fault};
-
-/// The length that a term is: an integer constant above 0.
-fn length_of(term: &CheckedTerm) -> Option<u64> {
-    if !matches!(&term.ctype, CType::Int(_)) {
-        return None;
-    }
-    match u64::try_from(term.constant?) {
-        Ok(count) if count > 0 => Some(count),
-        _ => None,
-    }
-}
 
 /// The length that an expression is: a constant above 0.
 #[cycle(expressions)]
-pub fn length(cx: &mut Context, e: &Expr) -> Result<Option<u64>, Stop> {
+pub fn length(cx: &mut Context, e: &Expr) -> Result<Option<u64>, Stop>
+    ensures { Leads length_view (spec.length (state cx.old) (tree_of e.now)) result (state cx.new) }
+{
     let operand = typed(cx, e)?;
     let term = term_of(cx.alloc, operand)?;
     let length = length_of(&term);
@@ -35,7 +35,9 @@ pub fn length(cx: &mut Context, e: &Expr) -> Result<Option<u64>, Stop> {
 
 /// The lengths of a type name's arrays.
 #[cycle(expressions)]
-fn lengths(cx: &mut Context, expressions: &[Expr]) -> Result<Vec<Option<u64>>, Stop> {
+fn lengths(cx: &mut Context, expressions: &[Expr]) -> Result<Vec<Option<u64>>, Stop>
+    ensures { Leads lengths_view (spec.lengths (state cx.old) (trees (map tree_of expressions.now))) result (state cx.new) }
+{
     let mut made = Vec::new(cx.alloc);
     for e in expressions {
         made.push(length(cx, e)?)?;
@@ -50,14 +52,18 @@ fn type_named(
     place: Place,
     named: &TypeName,
     expressions: &[Expr],
-) -> Result<CType, Stop> {
+) -> Result<CType, Stop>
+    ensures { Leads view (spec.type_named (state cx.old) place (type_name_view named.now) (trees (map tree_of expressions.now))) result (state cx.new) }
+{
     let lengths = lengths(cx, expressions)?;
     named_type(cx, place, named, lengths.as_slice())
 }
 
 /// The arguments of a call.
 #[cycle(expressions)]
-fn arguments(cx: &mut Context, expressions: &[Expr]) -> Result<Vec<Operand>, Stop> {
+fn arguments(cx: &mut Context, expressions: &[Expr]) -> Result<Vec<Operand>, Stop>
+    ensures { Leads (λ v. map operand_view v.items) (spec.operands (state cx.old) (trees (map tree_of expressions.now))) result (state cx.new) }
+{
     let mut made = Vec::new(cx.alloc);
     for e in expressions {
         made.push(typed(cx, e)?)?;
@@ -70,18 +76,22 @@ fn arguments(cx: &mut Context, expressions: &[Expr]) -> Result<Vec<Operand>, Sto
 fn called(
     cx: &mut Context,
     place: Place,
-    callee: &Text,
+    name: &Text,
     expressions: &[Expr],
-) -> Result<Operand, Stop> {
-    let callee = callee_named(cx, callee);
-    note_callee(cx, place, callee)?;
+) -> Result<Operand, Stop>
+    ensures { Leads operand_view (spec.typed (state cx.old) (syntax.Call place name.now (trees (map tree_of expressions.now)))) result (state cx.new) }
+{
+    let callee = noted_callee(cx, place, name)?;
     let arguments = arguments(cx, expressions)?;
-    call(cx, place, callee, expressions.first(), arguments)
+    let first = first_argument(expressions);
+    call(cx, place, callee, first, arguments)
 }
 
 /// `sizeof` of an expression, which is not evaluated.
 #[cycle(expressions)]
-fn sized(cx: &mut Context, place: Place, e: &Expr) -> Result<Operand, Stop> {
+fn sized(cx: &mut Context, place: Place, e: &Expr) -> Result<Operand, Stop>
+    ensures { Leads operand_view (spec.typed (state cx.old) (syntax.SizeofExpr place (tree_of e.now))) result (state cx.new) }
+{
     let outer = cx.unevaluated;
     cx.unevaluated = outer.saturating_add(1);
     let operand = typed(cx, e)?;
@@ -89,11 +99,13 @@ fn sized(cx: &mut Context, place: Place, e: &Expr) -> Result<Operand, Stop> {
     size_of_operand(cx, place, operand)
 }
 
-/// Primary and postfix expressions.
+/// Primary and postfix expressions alone.
 #[cycle(expressions)]
-fn postfix(cx: &mut Context, e: &Expr) -> Result<Operand, Stop> {
+fn postfix(cx: &mut Context, e: &Expr) -> Result<Operand, Stop>
+    ensures { Leads operand_view (spec.postfix (state cx.old) (tree_of e.now)) result (state cx.new) }
+{
     match e {
-        Expr::Name(at, text) => name(cx, *at, text),
+        Expr::Name(at, text) => named(cx, *at, text),
         Expr::Constant(at, value) => Ok(constant(cx, *at, value)?),
         Expr::Literal(at, bytes) => literal(cx, *at, bytes),
         Expr::Paren(_, inner) => Ok(parenthesized(typed(cx, inner)?)),
@@ -115,13 +127,24 @@ fn postfix(cx: &mut Context, e: &Expr) -> Result<Operand, Stop> {
             let operand = typed(cx, operand)?;
             step(cx, *at, *op, StepTime::Postfix, operand)
         }
-        _ => Err(type_fault(e.place())),
+        Expr::Prefix(at, _, _) => Err(type_fault(*at)),
+        Expr::Unary(at, _, _) => Err(type_fault(*at)),
+        Expr::SizeofExpr(at, _) => Err(type_fault(*at)),
+        Expr::SizeofType(at, _, _) => Err(type_fault(*at)),
+        Expr::Cast(at, _, _, _) => Err(type_fault(*at)),
+        Expr::Binary(at, _, _, _) => Err(type_fault(*at)),
+        Expr::Logical(at, _, _, _) => Err(type_fault(*at)),
+        Expr::Conditional(at, _, _, _) => Err(type_fault(*at)),
+        Expr::Assign(at, _, _, _) => Err(type_fault(*at)),
+        Expr::Comma(at, _, _) => Err(type_fault(*at)),
     }
 }
 
-/// Unary expressions and casts.
+/// These, unary expressions and casts.
 #[cycle(expressions)]
-fn prefixed(cx: &mut Context, e: &Expr) -> Result<Operand, Stop> {
+fn prefixed(cx: &mut Context, e: &Expr) -> Result<Operand, Stop>
+    ensures { Leads operand_view (spec.prefixed (state cx.old) (tree_of e.now)) result (state cx.new) }
+{
     match e {
         Expr::Prefix(at, op, operand) => {
             let operand = typed(cx, operand)?;
@@ -141,14 +164,28 @@ fn prefixed(cx: &mut Context, e: &Expr) -> Result<Operand, Stop> {
             let operand = typed(cx, operand)?;
             cast(cx, *at, named, operand)
         }
-        _ => postfix(cx, e),
+        Expr::Name(_, _) => postfix(cx, e),
+        Expr::Constant(_, _) => postfix(cx, e),
+        Expr::Literal(_, _) => postfix(cx, e),
+        Expr::Paren(_, _) => postfix(cx, e),
+        Expr::Subscript(_, _, _) => postfix(cx, e),
+        Expr::Call(_, _, _) => postfix(cx, e),
+        Expr::Member(_, _, _) => postfix(cx, e),
+        Expr::Arrow(_, _, _) => postfix(cx, e),
+        Expr::Postfix(_, _, _) => postfix(cx, e),
+        Expr::Binary(at, _, _, _) => Err(type_fault(*at)),
+        Expr::Logical(at, _, _, _) => Err(type_fault(*at)),
+        Expr::Conditional(at, _, _, _) => Err(type_fault(*at)),
+        Expr::Assign(at, _, _, _) => Err(type_fault(*at)),
+        Expr::Comma(at, _, _) => Err(type_fault(*at)),
     }
 }
 
-/// An expression with its type. A refusal is that of the first expression, in reading order, whose
-/// parts have types and which has none.
+/// These and operators between two operands.
 #[cycle(expressions)]
-pub fn typed(cx: &mut Context, e: &Expr) -> Result<Operand, Stop> {
+fn combined(cx: &mut Context, e: &Expr) -> Result<Operand, Stop>
+    ensures { Leads operand_view (spec.combined (state cx.old) (tree_of e.now)) result (state cx.new) }
+{
     match e {
         Expr::Binary(at, op, left, right) => {
             let left = typed(cx, left)?;
@@ -160,6 +197,33 @@ pub fn typed(cx: &mut Context, e: &Expr) -> Result<Operand, Stop> {
             let right = typed(cx, right)?;
             logical(cx, *at, *op, left, right)
         }
+        Expr::Name(_, _) => prefixed(cx, e),
+        Expr::Constant(_, _) => prefixed(cx, e),
+        Expr::Literal(_, _) => prefixed(cx, e),
+        Expr::Paren(_, _) => prefixed(cx, e),
+        Expr::Subscript(_, _, _) => prefixed(cx, e),
+        Expr::Call(_, _, _) => prefixed(cx, e),
+        Expr::Member(_, _, _) => prefixed(cx, e),
+        Expr::Arrow(_, _, _) => prefixed(cx, e),
+        Expr::Postfix(_, _, _) => prefixed(cx, e),
+        Expr::Prefix(_, _, _) => prefixed(cx, e),
+        Expr::Unary(_, _, _) => prefixed(cx, e),
+        Expr::SizeofExpr(_, _) => prefixed(cx, e),
+        Expr::SizeofType(_, _, _) => prefixed(cx, e),
+        Expr::Cast(_, _, _, _) => prefixed(cx, e),
+        Expr::Conditional(at, _, _, _) => Err(type_fault(*at)),
+        Expr::Assign(at, _, _, _) => Err(type_fault(*at)),
+        Expr::Comma(at, _, _) => Err(type_fault(*at)),
+    }
+}
+
+/// An expression with its type. A refusal is that of the first expression, in reading order, whose
+/// parts have types and which has none.
+#[cycle(expressions)]
+pub fn typed(cx: &mut Context, e: &Expr) -> Result<Operand, Stop>
+    ensures { Leads operand_view (spec.typed (state cx.old) (tree_of e.now)) result (state cx.new) }
+{
+    match e {
         Expr::Conditional(at, condition, first, second) => {
             let condition = typed(cx, condition)?;
             let first = typed(cx, first)?;
@@ -176,6 +240,21 @@ pub fn typed(cx: &mut Context, e: &Expr) -> Result<Operand, Stop> {
             let second = typed(cx, second)?;
             Ok(comma(cx, *at, first, second)?)
         }
-        _ => prefixed(cx, e),
+        Expr::Name(_, _) => combined(cx, e),
+        Expr::Constant(_, _) => combined(cx, e),
+        Expr::Literal(_, _) => combined(cx, e),
+        Expr::Paren(_, _) => combined(cx, e),
+        Expr::Subscript(_, _, _) => combined(cx, e),
+        Expr::Call(_, _, _) => combined(cx, e),
+        Expr::Member(_, _, _) => combined(cx, e),
+        Expr::Arrow(_, _, _) => combined(cx, e),
+        Expr::Postfix(_, _, _) => combined(cx, e),
+        Expr::Prefix(_, _, _) => combined(cx, e),
+        Expr::Unary(_, _, _) => combined(cx, e),
+        Expr::SizeofExpr(_, _) => combined(cx, e),
+        Expr::SizeofType(_, _, _) => combined(cx, e),
+        Expr::Cast(_, _, _, _) => combined(cx, e),
+        Expr::Binary(_, _, _, _) => combined(cx, e),
+        Expr::Logical(_, _, _, _) => combined(cx, e),
     }
 }

@@ -2,14 +2,11 @@
 //! checked tree, with each conversion explicit.
 #![tactic(auto)]
 
-mod calls;
 mod expressions;
-mod members;
-mod primaries;
-mod printf_formats;
-mod type_names;
+mod leaves;
+mod lengths;
 
 pub use binary_operators::{Form, Operand, assigned, integer_as, is_scalar, term_of, unused};
 pub use expressions::{length, typed};
 pub use operator_types::struct_source;
-pub use type_names::{Tagged, enumeration_tag, struct_tag, typedef_named};
+pub use primary_types::{Tagged, enumeration_tag, struct_tag, typedef_named};

@@ -1,0 +1,6 @@
+pub mod Lists
+pub mod Primaries
+pub mod Members
+pub mod PrintfFormats
+pub mod TypeNames
+pub mod Calls
