@@ -1,0 +1,6 @@
+pub mod ContextSteps
+pub mod Declarators
+pub mod StructBodies
+pub mod Enumerations
+pub mod Specifiers
+pub mod Parameters

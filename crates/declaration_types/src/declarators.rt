@@ -1,6 +1,14 @@
 //! Declarators (6.7.6 of ISO/IEC 9899:2011).
+ghost use Rattle.std.specs.Prelude.{◌≡◌, ◌++◌, IfOk};
+ghost use Rattle.c_layout.specs.Types.{view};
+ghost use Rattle.type_scopes.specs.Answers.{Gives};
+ghost use Rattle.type_scopes.specs.Known.{known};
+ghost use Rattle.type_scopes.specs.DeclaredTypes.{declared_view};
+ghost use Rattle.declaration_types.specs.Declarators as spec;
+ghost use Rattle.declaration_types.specs.Declarators.{steps_view};
+
 use c_layout::{ArraySuffix, CType, DeclaratorLayer};
-use cc_base::{Place, Stop};
+use cc_base::{Memory, Place, Stop};
 use expression_types::length;
 use type_scopes::{Context, DeclaredType, TypeStep, constant_needed, stepped, type_fault};
 
@@ -12,19 +20,48 @@ pub struct TypedSteps {
     pub are_constant: bool,
 }
 
+/// No step.
+fn no_steps(cx: &Context) -> TypedSteps
+    ensures { steps_view result ≡ spec.no_steps }
+{
+    TypedSteps {
+        steps: Vec::new(cx.alloc),
+        are_constant: true,
+    }
+}
+
+/// Adds the step of brackets whose length is a constant above 0, or not.
+fn add_length(made: &mut TypedSteps, length: Option<u64>) -> Result<(), Memory>
+    ensures { IfOk result (λ _. steps_view made.new ≡ spec.with_length (steps_view made.old) length) }
+{
+    match length {
+        Some(count) => made.steps.push(TypeStep::Array(count))?,
+        None => {
+            made.are_constant = false;
+            made.steps.push(TypeStep::Array(1))?;
+        }
+    }
+    Ok(())
+}
+
+/// Adds as many pointers as there are stars.
+#[tactic(auto, using(crate::proofs::Pointers::one_star))]
+pub fn add_pointers(steps: &mut Vec<TypeStep>, stars: usize) -> Result<(), Memory>
+    ensures { IfOk result (λ _. steps.new.items ≡ steps.old.items ++ spec.pointers stars) }
+{
+    for _star in 0..stars {
+        steps.push(TypeStep::Pointer)?;
+    }
+    Ok(())
+}
+
 /// The step of brackets.
 fn add_array(cx: &mut Context, array: &ArraySuffix, made: &mut TypedSteps) -> Result<(), Stop> {
     let count = match &array.length {
-        None => 0,
-        Some(e) => match length(cx, e)? {
-            Some(count) => count,
-            None => {
-                made.are_constant = false;
-                1
-            }
-        },
+        None => Some(0),
+        Some(e) => length(cx, e)?,
     };
-    made.steps.push(TypeStep::Array(count))?;
+    add_length(made, count)?;
     Ok(())
 }
 
@@ -33,18 +70,13 @@ fn add_layer(cx: &mut Context, layer: &DeclaratorLayer, made: &mut TypedSteps) -
     for array in &layer.arrays {
         add_array(cx, array, made)?;
     }
-    for _star in &layer.stars {
-        made.steps.push(TypeStep::Pointer)?;
-    }
+    add_pointers(&mut made.steps, layer.stars.len())?;
     Ok(())
 }
 
 /// The steps of a declarator's layers. Its lengths are typed in reading order.
 pub fn typed_steps(cx: &mut Context, layers: &[DeclaratorLayer]) -> Result<TypedSteps, Stop> {
-    let mut made = TypedSteps {
-        steps: Vec::new(cx.alloc),
-        are_constant: true,
-    };
+    let mut made = no_steps(cx);
     for layer in layers.iter().rev() {
         add_layer(cx, layer, &mut made)?;
     }
@@ -57,11 +89,46 @@ pub fn stepped_type(
     place: Place,
     base: CType,
     steps: &[TypeStep],
-) -> Result<CType, Stop> {
+) -> Result<CType, Stop>
+    ensures { Gives view (spec.stepped_type (known cx.now) place (view base) steps.now) result }
+{
     let pointer = cx.model.numbers.pointer;
     match stepped(cx.alloc, base, steps, &cx.types.structs, pointer)? {
         Some(made) => Ok(made),
         None => Err(type_fault(place)),
+    }
+}
+
+/// The type that constant steps give a name, or the refusal at its place.
+fn declared_with(
+    cx: &Context,
+    place: Place,
+    base: &DeclaredType,
+    steps: &[TypeStep],
+) -> Result<DeclaredType, Stop>
+    ensures { Gives declared_view (spec.declared_with (known cx.now) place (declared_view base.now) steps.now) result }
+{
+    if steps.is_empty() {
+        Ok(base.copy(cx.alloc)?)
+    } else {
+        let from = base.ctype.copy(cx.alloc)?;
+        Ok(DeclaredType::plain(stepped_type(cx, place, from, steps)?))
+    }
+}
+
+/// The type that steps give a name, or the refusal at its place.
+fn declared_by(
+    cx: &Context,
+    place: Place,
+    base: &DeclaredType,
+    made: &TypedSteps,
+) -> Result<DeclaredType, Stop>
+    ensures { Gives declared_view (spec.declared_by (known cx.now) place (declared_view base.now) (steps_view made.now)) result }
+{
+    if made.are_constant {
+        declared_with(cx, place, base, made.steps.as_slice())
+    } else {
+        Err(constant_needed(place))
     }
 }
 
@@ -72,17 +139,6 @@ pub fn declared_type(
     base: &DeclaredType,
     layers: &[DeclaratorLayer],
 ) -> Result<DeclaredType, Stop> {
-    let TypedSteps {
-        steps,
-        are_constant,
-    } = typed_steps(cx, layers)?;
-    if !are_constant {
-        return Err(constant_needed(place));
-    }
-    if steps.is_empty() {
-        return Ok(base.copy(cx.alloc)?);
-    }
-    let from = base.ctype.copy(cx.alloc)?;
-    let ctype = stepped_type(cx, place, from, steps.as_slice())?;
-    Ok(DeclaredType::plain(ctype))
+    let made = typed_steps(cx, layers)?;
+    declared_by(cx, place, base, &made)
 }

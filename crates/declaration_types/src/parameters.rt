@@ -1,11 +1,22 @@
 //! Parameters and function declarators (6.7.6.3 of ISO/IEC 9899:2011).
-use crate::declarators::{declared_type, stepped_type};
+ghost use Rattle.std.specs.Prelude.{◌≡◌, IfOk, map, option_map};
+ghost use Rattle.c_layout.specs.Types.{view};
+ghost use Rattle.c_layout.specs.DeclarationTrees.{name_view, declarator_view, parameter_view, parameters_view};
+ghost use Rattle.type_scopes.specs.Answers.{Gives, Leads};
+ghost use Rattle.type_scopes.specs.Known.{known};
+ghost use Rattle.type_scopes.specs.DeclaredTypes.{declared_view};
+ghost use Rattle.type_scopes.specs.States.{state};
+ghost use Rattle.declaration_types.specs.Parameters as spec;
+
+use crate::context_steps::declare_meaning;
+use crate::declarators::{add_pointers, declared_type, stepped_type};
 use crate::specifiers::specifiers_of;
 use crate::struct_bodies::is_stored;
-use c_layout::{CType, Declarator, FunctionDeclarator, Name, Parameter, Parameters};
-use cc_base::{Place, Stop};
+use binary_operators::is_void;
+use c_layout::{CType, Declarator, FunctionDeclarator, Name, Parameter, Parameters, Storage};
+use cc_base::{Memory, Place, Stop};
 use expression_types::is_scalar;
-use type_scopes::{Context, DeclaredType, Meaning, TypeStep, redeclared, type_fault};
+use type_scopes::{Context, DeclaredType, Meaning, redeclared, type_fault};
 
 /// A function's type, and whether each parameter has a name. The parameters are the first objects
 /// of the body at hand.
@@ -17,14 +28,40 @@ pub struct FunctionHead {
 }
 
 /// A parameter of array type is a pointer.
-fn adjusted(cx: &Context, declared: DeclaredType) -> Result<DeclaredType, Stop> {
+fn adjusted(declared: DeclaredType) -> DeclaredType
+    ensures { declared_view result ≡ spec.adjusted (declared_view declared) }
+{
     let DeclaredType { ctype, enumeration } = declared;
     match ctype {
-        CType::Array(element, _) => Ok(DeclaredType::plain(CType::Pointer(element))),
-        other => Ok(DeclaredType {
-            ctype: other,
+        CType::Array(element, _) => DeclaredType::plain(CType::Pointer(element)),
+        CType::Int(kind) => DeclaredType {
+            ctype: CType::Int(kind),
             enumeration,
-        }),
+        },
+        CType::Pointer(target) => DeclaredType {
+            ctype: CType::Pointer(target),
+            enumeration,
+        },
+        CType::Struct(number) => DeclaredType {
+            ctype: CType::Struct(number),
+            enumeration,
+        },
+        CType::Void => DeclaredType {
+            ctype: CType::Void,
+            enumeration,
+        },
+    }
+}
+
+/// The type of a parameter that is declared so, or the refusal at a place.
+fn as_parameter(place: Place, declared: DeclaredType) -> Result<DeclaredType, Stop>
+    ensures { Gives declared_view (spec.as_parameter place (declared_view declared)) result }
+{
+    let declared = adjusted(declared);
+    if is_scalar(&declared.ctype) {
+        Ok(declared)
+    } else {
+        Err(type_fault(place))
     }
 }
 
@@ -39,51 +76,114 @@ fn parameter_type(
         Some(declarator) => declared_type(cx, place, base, declarator.layers.as_slice())?,
         None => base.copy(cx.alloc)?,
     };
-    let declared = adjusted(cx, declared)?;
-    if is_scalar(&declared.ctype) {
-        Ok(declared)
-    } else {
-        Err(type_fault(place))
+    as_parameter(place, declared)
+}
+
+/// An object of the body with this number of its name.
+fn declared_local(
+    cx: &mut Context,
+    known: u32,
+    name: &Name,
+    declared: DeclaredType,
+) -> Result<(), Memory>
+    ensures { IfOk result (λ _. state cx.new ≡ spec.declared_local known (name_view name.now) (declared_view declared) (state cx.old)) }
+{
+    let text = name.text.copy(cx.alloc)?;
+    let number = cx.add_local(text, name.place, declared)?;
+    declare_meaning(cx, known, Meaning::Local(number))
+}
+
+/// Declares a parameter by the number of its name.
+fn parameter_by(
+    cx: &mut Context,
+    known: u32,
+    name: &Name,
+    declared: DeclaredType,
+) -> Result<(), Stop>
+    ensures { Leads (λ _. tt) (spec.parameter_by known (name_view name.now) (declared_view declared) (state cx.old)) result (state cx.new) }
+{
+    match cx.scopes.find_here(known) {
+        Some(_) => Err(redeclared(name.place)),
+        None => Ok(declared_local(cx, known, name, declared)?),
     }
 }
 
 /// Declares a parameter by its name.
-fn declare_parameter(cx: &mut Context, name: &Name, declared: DeclaredType) -> Result<(), Stop> {
+fn declare_parameter(cx: &mut Context, name: &Name, declared: DeclaredType) -> Result<(), Stop>
+    ensures { Leads (λ _. tt) (spec.declare_parameter (name_view name.now) (declared_view declared) (state cx.old)) result (state cx.new) }
+{
     let known = cx.name(&name.text)?;
-    if cx.scopes.find_here(known).is_some() {
-        return Err(redeclared(name.place));
+    parameter_by(cx, known, name, declared)
+}
+
+/// The name that a declarator declares.
+fn declarator_name(declarator: &Declarator) -> Option<&Name>
+    ensures { option_map (λ n. name_view n.now) result ≡ (declarator_view declarator.now).name }
+{
+    match &declarator.name {
+        Some(name) => Some(name),
+        None => None,
     }
-    let text = name.text.copy(cx.alloc)?;
-    let number = cx.add_local(text, name.place, declared)?;
-    cx.scopes.declare(known, Meaning::Local(number))?;
-    Ok(())
 }
 
 /// The name of a parameter, where it has one.
-fn parameter_name(parameter: &Parameter) -> Option<&Name> {
+fn parameter_name(parameter: &Parameter) -> Option<&Name>
+    ensures { option_map (λ n. name_view n.now) result ≡ spec.parameter_name (parameter_view parameter.now) }
+{
     match &parameter.declarator {
-        Some(declarator) => declarator.name.as_ref(),
+        Some(declarator) => declarator_name(declarator),
         None => None,
     }
+}
+
+/// Where a parameter is refused: at its name, or else at its first token.
+fn parameter_place(parameter: &Parameter) -> Place
+    ensures { result ≡ spec.parameter_place (parameter_view parameter.now) }
+{
+    match parameter_name(parameter) {
+        Some(name) => name.place,
+        None => parameter.place,
+    }
+}
+
+/// Declares a parameter whose type is known by its name, where it has one.
+fn named_parameter(
+    cx: &mut Context,
+    name: Option<&Name>,
+    declared: DeclaredType,
+) -> Result<(), Stop>
+    ensures { Leads (λ _. tt) (spec.named_parameter (option_map (λ n. name_view n.now) name.entry) (declared_view declared) (state cx.old)) result (state cx.new) }
+{
+    match name {
+        Some(name) => declare_parameter(cx, name, declared),
+        None => Ok(()),
+    }
+}
+
+/// Declares a parameter whose type is known; its type.
+fn finish_parameter(
+    cx: &mut Context,
+    place: Place,
+    storage: Option<Storage>,
+    name: Option<&Name>,
+    declared: DeclaredType,
+) -> Result<CType, Stop>
+    ensures { Leads view (spec.finish_parameter place storage (option_map (λ n. name_view n.now) name.entry) (declared_view declared) (state cx.old)) result (state cx.new) }
+{
+    if is_stored(storage) {
+        return Err(type_fault(place));
+    }
+    let ctype = declared.ctype.copy(cx.alloc)?;
+    named_parameter(cx, name, declared)?;
+    Ok(ctype)
 }
 
 /// Declares a parameter; its type.
 fn add_parameter(cx: &mut Context, parameter: &Parameter) -> Result<CType, Stop> {
     let base = specifiers_of(cx, parameter.place, parameter.words.as_slice(), false)?;
-    let name = parameter_name(parameter);
-    let place = match name {
-        Some(name) => name.place,
-        None => parameter.place,
-    };
+    let place = parameter_place(parameter);
     let declared = parameter_type(cx, place, &base.declared, parameter.declarator.as_ref())?;
-    if is_stored(base.storage) {
-        return Err(type_fault(place));
-    }
-    let ctype = declared.ctype.copy(cx.alloc)?;
-    if let Some(name) = name {
-        declare_parameter(cx, name, declared)?;
-    }
-    Ok(ctype)
+    finish_parameter(cx, place, base.storage, parameter_name(parameter), declared)
 }
 
 /// Declares parameters in order; their types.
@@ -95,12 +195,57 @@ fn add_parameters(cx: &mut Context, parameters: &[Parameter]) -> Result<Vec<CTyp
     Ok(made)
 }
 
-/// Whether each parameter has a name.
-fn are_named(parameters: &Parameters) -> bool {
-    match parameters {
-        Parameters::Empty | Parameters::Void => true,
-        Parameters::List(list) => list.iter().all(|p| parameter_name(p).is_some()),
+/// Whether each parameter of a list has a name.
+#[tactic(auto, unfolding(crate::specs::Parameters::each_named))]
+fn each_named(parameters: &[Parameter]) -> bool
+    ensures { result ≡ spec.each_named (map parameter_view parameters.now) }
+{
+    for i in 0..parameters.len() {
+        if parameter_name(&parameters[i]).is_none() {
+            return false;
+        }
     }
+    true
+}
+
+/// Whether each parameter has a name.
+fn are_named(parameters: &Parameters) -> bool
+    ensures { result ≡ spec.are_named (parameters_view parameters.now) }
+{
+    match parameters {
+        Parameters::Empty => true,
+        Parameters::Void => true,
+        Parameters::List(list) => each_named(list.as_slice()),
+    }
+}
+
+/// Whether a function may return a type: a scalar, or void.
+fn is_result(t: &CType) -> bool
+    ensures { result ≡ spec.is_result (view t.now) }
+{
+    if is_scalar(t) { true } else { is_void(t) }
+}
+
+/// The enumerated type that a function returns, whose declarator has so many stars.
+fn enumeration_of(base: &DeclaredType, stars: usize) -> Option<u32>
+    ensures { result ≡ spec.enumeration_of (declared_view base.now) stars }
+{
+    if stars == 0 { base.enumeration } else { None }
+}
+
+/// The type behind so many stars, or the refusal at a place.
+fn pointed_type(
+    cx: &Context,
+    place: Place,
+    base: &DeclaredType,
+    stars: usize,
+) -> Result<CType, Stop>
+    ensures { Gives view (spec.pointed_type (known cx.now) place (declared_view base.now) stars) result }
+{
+    let mut steps = Vec::new(cx.alloc);
+    add_pointers(&mut steps, stars)?;
+    let from = base.ctype.copy(cx.alloc)?;
+    stepped_type(cx, place, from, steps.as_slice())
 }
 
 /// The result of a function whose declarator has so many stars: a scalar, or void.
@@ -109,18 +254,26 @@ fn result_type(
     place: Place,
     base: &DeclaredType,
     stars: usize,
-) -> Result<DeclaredType, Stop> {
-    let mut steps = Vec::new(cx.alloc);
-    for _star in 0..stars {
-        steps.push(TypeStep::Pointer)?;
+) -> Result<DeclaredType, Stop>
+    ensures { Gives declared_view (spec.result_type (known cx.now) place (declared_view base.now) stars) result }
+{
+    let ctype = pointed_type(cx, place, base, stars)?;
+    if is_result(&ctype) {
+        Ok(DeclaredType {
+            ctype,
+            enumeration: enumeration_of(base, stars),
+        })
+    } else {
+        Err(type_fault(place))
     }
-    let from = base.ctype.copy(cx.alloc)?;
-    let ctype = stepped_type(cx, place, from, steps.as_slice())?;
-    if !is_scalar(&ctype) && !matches!(&ctype, CType::Void) {
-        return Err(type_fault(place));
-    }
-    let enumeration = if stars == 0 { base.enumeration } else { None };
-    Ok(DeclaredType { ctype, enumeration })
+}
+
+/// Begins a body without objects.
+fn without_locals(cx: &mut Context)
+    ensures { state cx.new ≡ spec.without_locals (state cx.old) }
+{
+    cx.body.locals = Vec::new(cx.alloc);
+    cx.body.enumerations = Vec::new(cx.alloc);
 }
 
 /// The type of a function, at whose name it is refused. Its parameters are declared in the
@@ -130,8 +283,7 @@ pub fn function_head(
     base: &DeclaredType,
     declarator: &FunctionDeclarator,
 ) -> Result<FunctionHead, Stop> {
-    cx.body.locals = Vec::new(cx.alloc);
-    cx.body.enumerations = Vec::new(cx.alloc);
+    without_locals(cx);
     let parameters = match &declarator.parameters {
         Parameters::Empty | Parameters::Void => Vec::new(cx.alloc),
         Parameters::List(list) => add_parameters(cx, list.as_slice())?,

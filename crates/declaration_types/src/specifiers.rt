@@ -1,4 +1,12 @@
 //! Declaration specifiers (6.7.1 to 6.7.3 of ISO/IEC 9899:2011).
+ghost use Rattle.std.specs.Prelude.{◌≡◌, MatchOption, true, false, option_map};
+ghost use Rattle.c_layout.specs.DeclarationTrees.{spec_tree};
+ghost use Rattle.type_scopes.specs.Answers.{Gives};
+ghost use Rattle.type_scopes.specs.Known.{known};
+ghost use Rattle.type_scopes.specs.DeclaredTypes.{declared_view};
+ghost use Rattle.declaration_types.specs.Specifiers as spec;
+ghost use Rattle.declaration_types.specs.Specifiers.{is_utf8, specified_view, reading_view};
+
 use crate::enumerations::enumeration;
 use crate::struct_bodies::{alone_tag, struct_body};
 use c_layout::{CType, SpecWord, Storage};
@@ -26,16 +34,52 @@ struct Reading {
     declares: bool,
 }
 
+impl Reading {
+    /// Nothing is read.
+    fn new() -> Reading
+        ensures { reading_view result ≡ spec.nothing_read }
+    {
+        Reading {
+            counts: WordCounts::new(),
+            named: None,
+            storage: None,
+            declares: false,
+        }
+    }
+
+    /// A `struct` or an `enum` of a type, and whether it declares something by itself.
+    fn name(&mut self, declared: DeclaredType, declares: bool)
+        ensures { reading_view self.new ≡ spec.with_named (reading_view self.old) (declared_view declared) declares }
+    {
+        self.named = Some(declared);
+        self.declares = declares;
+    }
+}
+
+/// Bytes as a text, if they are one.
+fn as_text(bytes: &[u8]) -> Option<&str>
+    ensures { MatchOption result (is_utf8 bytes.now ≡ false) (λ s. (s.now ≡ bytes.now) × (is_utf8 bytes.now ≡ true)) }
+{
+    match std::str::from_utf8(bytes) {
+        Ok(text) => Some(text),
+        Err(_) => None,
+    }
+}
+
 /// Whether the library has a function of this name.
-pub fn is_library_name(name: &Text) -> bool {
-    match std::str::from_utf8(name.as_bytes()) {
-        Ok(text) => signature(text).is_some(),
-        Err(_) => false,
+pub fn is_library_name(name: &Text) -> bool
+    ensures { result ≡ spec.is_library_name name.now }
+{
+    match as_text(name.as_bytes()) {
+        Some(text) => signature(text).is_some(),
+        None => false,
     }
 }
 
 /// An enumerated type is int.
-fn enumerated(cx: &Context, number: u32) -> DeclaredType {
+fn enumerated(cx: &Context, number: u32) -> DeclaredType
+    ensures { declared_view result ≡ spec.enumerated (known cx.now).numbers number }
+{
     DeclaredType {
         ctype: CType::Int(int_kind(&cx.model.numbers)),
         enumeration: Some(number),
@@ -74,11 +118,18 @@ fn enum_word(cx: &mut Context, word: &SpecWord) -> Result<u32, Stop> {
 }
 
 /// Whether a `struct` or an `enum` declares something by itself.
-fn word_declares(word: &SpecWord) -> bool {
+fn word_declares(word: &SpecWord) -> bool
+    ensures { result ≡ spec.word_declares (spec_tree word.now) }
+{
     match word {
-        SpecWord::Struct(_, tag, _) => tag.is_some(),
-        SpecWord::Enum(_, _, _) => true,
-        _ => false,
+        SpecWord::Struct(_, tag, None) => tag.is_some(),
+        SpecWord::Struct(_, tag, Some(_)) => tag.is_some(),
+        SpecWord::Enum(_, _, None) => true,
+        SpecWord::Enum(_, _, Some(_)) => true,
+        SpecWord::Storage(_, _) => false,
+        SpecWord::Qualifier(_) => false,
+        SpecWord::Type(_, _) => false,
+        SpecWord::Typedef(_) => false,
     }
 }
 
@@ -91,13 +142,14 @@ fn read(cx: &mut Context, word: &SpecWord, alone: bool, reading: &mut Reading) -
         SpecWord::Type(_, named) => reading.counts.add(*named),
         SpecWord::Struct(_, _, _) => {
             let number = struct_word(cx, word, alone)?;
-            reading.named = Some(DeclaredType::plain(CType::Struct(number)));
-            reading.declares = word_declares(word);
+            reading.name(
+                DeclaredType::plain(CType::Struct(number)),
+                word_declares(word),
+            );
         }
         SpecWord::Enum(_, _, _) => {
             let number = enum_word(cx, word)?;
-            reading.named = Some(enumerated(cx, number));
-            reading.declares = true;
+            reading.name(enumerated(cx, number), true);
         }
         SpecWord::Typedef(name) => reading.named = Some(typedef_named(cx, name)?),
     }
@@ -105,12 +157,47 @@ fn read(cx: &mut Context, word: &SpecWord, alone: bool, reading: &mut Reading) -
 }
 
 /// The type that counted words name, or the refusal at a place.
-fn counted(cx: &Context, place: Place, counts: WordCounts) -> Result<DeclaredType, Stop> {
+fn counted(cx: &Context, place: Place, counts: WordCounts) -> Result<DeclaredType, Stop>
+    ensures { Gives declared_view (spec.counted (known cx.now) place counts) result }
+{
     match counts.named(&cx.model.numbers) {
         Some(NamedKind::Void) => Ok(DeclaredType::plain(CType::Void)),
         Some(NamedKind::Integer(kind)) => Ok(DeclaredType::plain(CType::Int(kind))),
         None => Err(type_fault(place)),
     }
+}
+
+/// The type of a tag or a typedef name, or else that of the words.
+fn declared_of(
+    cx: &Context,
+    place: Place,
+    named: Option<DeclaredType>,
+    counts: WordCounts,
+) -> Result<DeclaredType, Stop>
+    ensures { Gives declared_view (spec.declared_of (known cx.now) place (option_map declared_view named) counts) result }
+{
+    match named {
+        Some(named) => Ok(named),
+        None => counted(cx, place, counts),
+    }
+}
+
+/// What specifiers say that were read.
+fn said(cx: &Context, place: Place, reading: Reading) -> Result<Specified, Stop>
+    ensures { Gives specified_view (spec.said (known cx.now) place (reading_view reading)) result }
+{
+    let Reading {
+        counts,
+        named,
+        storage,
+        declares,
+    } = reading;
+    let declared = declared_of(cx, place, named, counts)?;
+    Ok(Specified {
+        declared,
+        storage,
+        declares,
+    })
 }
 
 /// What specifiers say; `place` is that of the first one, and `alone` says that no declarator
@@ -122,29 +209,10 @@ pub fn specifiers_of(
     words: &[SpecWord],
     alone: bool,
 ) -> Result<Specified, Stop> {
-    let mut reading = Reading {
-        counts: WordCounts::new(),
-        named: None,
-        storage: None,
-        declares: false,
-    };
+    let mut reading = Reading::new();
     let is_alone = alone && words.len() == 1;
     for word in words {
         read(cx, word, is_alone, &mut reading)?;
     }
-    let Reading {
-        counts,
-        named,
-        storage,
-        declares,
-    } = reading;
-    let declared = match named {
-        Some(named) => named,
-        None => counted(cx, place, counts)?,
-    };
-    Ok(Specified {
-        declared,
-        storage,
-        declares,
-    })
+    said(cx, place, reading)
 }

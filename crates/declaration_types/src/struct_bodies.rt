@@ -1,4 +1,16 @@
 //! Structs with their members (6.7.2.1 of ISO/IEC 9899:2011).
+ghost use Rattle.std.specs.Prelude.{◌≡◌, IfOk, option_map, is_some};
+ghost use Rattle.c_layout.specs.Types.{view};
+ghost use Rattle.c_layout.specs.StructViews.{struct_view};
+ghost use Rattle.c_layout.specs.StructLayouts.{partial_view};
+ghost use Rattle.c_layout.specs.DeclarationTrees.{name_view};
+ghost use Rattle.type_scopes.specs.Answers.{Leads};
+ghost use Rattle.type_scopes.specs.Known.{known, size_of};
+ghost use Rattle.type_scopes.specs.DeclaredTypes.{declared_view};
+ghost use Rattle.type_scopes.specs.States.{state};
+ghost use Rattle.declaration_types.specs.StructBodies as spec;
+
+use crate::context_steps::{begin_body, complete, declare_struct, declare_tag, note_member};
 use crate::declarators::declared_type;
 use crate::specifiers::{Specified, specifiers_of};
 use c_layout::{Declarator, Member, Name, Storage, StructLayout, StructType};
@@ -6,18 +18,32 @@ use cc_base::{Memory, Place, Stop};
 use type_rules::size_if_complete;
 use type_scopes::{Context, DeclaredType, Tag, redeclared, type_fault};
 
-/// The struct of a tag that is declared in the innermost scope, or there from now on.
-pub fn alone_tag(cx: &mut Context, tag: &Name) -> Result<u32, Stop> {
-    let name = cx.name(&tag.text)?;
+/// A struct with a new tag in the innermost scope.
+fn new_tag(cx: &mut Context, name: u32) -> Result<u32, Memory>
+    ensures { IfOk result (λ n. (n, state cx.new) ≡ spec.new_tag name (state cx.old)) }
+{
+    let number = declare_struct(cx)?;
+    declare_tag(cx, name, Tag::Struct(number))?;
+    Ok(number)
+}
+
+/// The struct of a tag with this number of its name.
+fn alone_by(cx: &mut Context, at: Place, name: u32) -> Result<u32, Stop>
+    ensures { Leads (λ n. n) (spec.alone_by at name (state cx.old)) result (state cx.new) }
+{
     match cx.scopes.find_tag_here(name) {
         Some(Tag::Struct(number)) => Ok(number),
-        Some(Tag::Enumeration(_)) => Err(redeclared(tag.place)),
-        None => {
-            let number = cx.types.declare(cx.alloc)?;
-            cx.scopes.declare_tag(name, Tag::Struct(number))?;
-            Ok(number)
-        }
+        Some(Tag::Enumeration(_)) => Err(redeclared(at)),
+        None => Ok(new_tag(cx, name)?),
     }
+}
+
+/// The struct of a tag that is declared in the innermost scope, or there from now on.
+pub fn alone_tag(cx: &mut Context, tag: &Name) -> Result<u32, Stop>
+    ensures { Leads (λ n. n) (spec.alone_tag (name_view tag.now) (state cx.old)) result (state cx.new) }
+{
+    let name = cx.name(&tag.text)?;
+    alone_by(cx, tag.place, name)
 }
 
 /// Adds a member of a type to a struct's layout; whether it is complete.
@@ -26,7 +52,10 @@ fn laid_out(
     layout: &mut StructLayout,
     name: &Name,
     declared: DeclaredType,
-) -> Result<bool, Memory> {
+) -> Result<bool, Memory>
+    ensures complete { IfOk result (λ b. b ≡ is_some (size_of (known cx.now) (view declared.ctype))) }
+    ensures after { IfOk result (λ _. partial_view layout.new ≡ spec.laid_out (known cx.now) (partial_view layout.old) (name_view name.now).text (view declared.ctype)) }
+{
     let structs = &cx.types.structs;
     let model = &cx.model.numbers;
     if size_if_complete(&declared.ctype, structs, model.pointer).is_none() {
@@ -38,11 +67,73 @@ fn laid_out(
 }
 
 /// Whether a storage class is none that a member or a parameter may have.
-pub fn is_stored(storage: Option<Storage>) -> bool {
-    matches!(
-        storage,
-        Some(Storage::Typedef) | Some(Storage::Extern) | Some(Storage::Static)
-    )
+pub fn is_stored(storage: Option<Storage>) -> bool
+    ensures { result ≡ spec.is_stored storage }
+{
+    match storage {
+        Some(Storage::Typedef) => true,
+        Some(Storage::Extern) => true,
+        Some(Storage::Static) => true,
+        Some(Storage::Auto) => false,
+        Some(Storage::Register) => false,
+        None => false,
+    }
+}
+
+/// Names a member by the number of its name.
+fn named_by(
+    cx: &mut Context,
+    at: Place,
+    owner: u32,
+    name: u32,
+    field: u32,
+    enumeration: Option<u32>,
+) -> Result<(), Stop>
+    ensures { Leads (λ _. tt) (spec.named_by at owner name field enumeration (state cx.old)) result (state cx.new) }
+{
+    if cx.types.has_member(owner, name) {
+        Err(redeclared(at))
+    } else {
+        note_member(cx, owner, name, field, enumeration)?;
+        Ok(())
+    }
+}
+
+/// Names a member, the field with a number.
+fn name_member(
+    cx: &mut Context,
+    owner: u32,
+    name: &Name,
+    field: u32,
+    enumeration: Option<u32>,
+) -> Result<(), Stop>
+    ensures { Leads (λ _. tt) (spec.name_member owner (name_view name.now) field enumeration (state cx.old)) result (state cx.new) }
+{
+    let known = cx.name(&name.text)?;
+    named_by(cx, name.place, owner, known, field, enumeration)
+}
+
+/// Adds a member of a type, the field with a number.
+fn add_field(
+    cx: &mut Context,
+    owner: u32,
+    storage: Option<Storage>,
+    name: &Name,
+    declared: DeclaredType,
+    field: u32,
+    layout: &mut StructLayout,
+) -> Result<(), Stop>
+    ensures { Leads (λ _. tt) (spec.add_field owner storage (name_view name.now) (declared_view declared) field (partial_view layout.old) (state cx.old)) result (partial_view layout.new, state cx.new) }
+{
+    if is_stored(storage) {
+        return Err(type_fault(name.place));
+    }
+    let enumeration = declared.enumeration;
+    if laid_out(cx, layout, name, declared)? {
+        name_member(cx, owner, name, field, enumeration)
+    } else {
+        Err(type_fault(name.place))
+    }
 }
 
 /// Adds a member.
@@ -58,19 +149,7 @@ fn add_member(
         return Ok(());
     };
     let declared = declared_type(cx, name.place, &base.declared, declarator.layers.as_slice())?;
-    if is_stored(base.storage) {
-        return Err(type_fault(name.place));
-    }
-    let enumeration = declared.enumeration;
-    if !laid_out(cx, layout, name, declared)? {
-        return Err(type_fault(name.place));
-    }
-    let known = cx.name(&name.text)?;
-    if cx.types.has_member(owner, known) {
-        return Err(redeclared(name.place));
-    }
-    cx.types.note_member(owner, known, field, enumeration)?;
-    Ok(())
+    add_field(cx, owner, base.storage, name, declared, field, layout)
 }
 
 /// Adds the members of one declaration; how many members there are then.
@@ -93,10 +172,36 @@ fn add_members(
 }
 
 /// The struct that a body belongs to, and where it is refused.
-fn owner_of(cx: &mut Context, place: Place, tag: Option<&Name>) -> Result<(u32, Place), Stop> {
+fn owner_of(cx: &mut Context, place: Place, tag: Option<&Name>) -> Result<(u32, Place), Stop>
+    ensures { Leads (λ r. r) (spec.owner_of place (option_map (λ n. name_view n.now) tag.entry) (state cx.old)) result (state cx.new) }
+{
     match tag {
         Some(tag) => Ok((alone_tag(cx, tag)?, tag.place)),
-        None => Ok((cx.types.declare(cx.alloc)?, place)),
+        None => Ok((declare_struct(cx)?, place)),
+    }
+}
+
+/// Begins a body: whether one of its struct was met before, and the struct whose members are read.
+fn begun(cx: &mut Context, owner: u32) -> Result<(bool, u32), Memory>
+    ensures { IfOk result (λ r. (r, state cx.new) ≡ spec.begun owner (state cx.old)) }
+{
+    if begin_body(cx, owner)? {
+        Ok((true, declare_struct(cx)?))
+    } else {
+        Ok((false, owner))
+    }
+}
+
+/// Completes a struct whose members were read; one that is too large is refused.
+fn completed(cx: &mut Context, at: Place, owner: u32, made: Option<StructType>) -> Result<u32, Stop>
+    ensures { Leads (λ n. n) (spec.completed at owner (option_map struct_view made) (state cx.old)) result (state cx.new) }
+{
+    match made {
+        Some(made) => {
+            complete(cx, owner, made);
+            Ok(owner)
+        }
+        None => Err(type_fault(at)),
     }
 }
 
@@ -126,21 +231,10 @@ pub fn struct_body(
     members: &[Member],
 ) -> Result<u32, Stop> {
     let (owner, at) = owner_of(cx, place, tag)?;
-    let is_repeated = cx.types.begin_body(owner)?;
-    let number = if is_repeated {
-        cx.types.declare(cx.alloc)?
-    } else {
-        owner
-    };
+    let (is_repeated, number) = begun(cx, owner)?;
     let made = laid_out_body(cx, number, place, members)?;
     if is_repeated {
         return Err(redeclared(at));
     }
-    match made {
-        Some(made) => {
-            cx.types.complete(owner, made);
-            Ok(owner)
-        }
-        None => Err(type_fault(at)),
-    }
+    completed(cx, at, owner, made)
 }

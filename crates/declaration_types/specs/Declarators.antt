@@ -1,0 +1,46 @@
+-- The types that declarators make (6.7.6).
+use Rattle.std.specs.Prelude.{ℕ, ◌==◌, Bool, true, false, cond, List, [], ◌∷◌, ◌++◌, length, replicate, Option, Some, None, Ok, Err}
+use Rattle.cc_base.specs.declared.diagnostics.Place.{Place}
+use Rattle.c_layout.specs.Types.{Ty}
+use Rattle.type_scopes.specs.Known.{Known}
+use Rattle.type_scopes.specs.Refusals.{Ruled, constant_needed, or_type_fault}
+use Rattle.type_scopes.specs.DeclaredTypes.{DeclaredView, plain}
+use Rattle.type_scopes.specs.TypeSteps.{declarator_type}
+use Rattle.type_scopes.specs.declared.type_steps.TypeStep.{TypeStep}
+use Rattle.type_scopes.specs.declared.type_steps.TypeStep.TheVariants as step
+use Rattle.declaration_types.specs.declared.declarators.TypedSteps.{TypedSteps}
+
+-- the steps of a declarator from its name outwards, and whether each length that it gives is a constant above 0
+pub record StepsView : Type 0 where
+  pub steps : List TypeStep
+  pub are_constant : Bool
+
+abbrev pub steps_view : TypedSteps → StepsView
+steps_view s = record { steps = s.steps.items; are_constant = s.are_constant }
+
+abbrev pub no_steps : StepsView
+no_steps = record { steps = []; are_constant = true }
+
+-- brackets whose length is a constant above 0, or not
+abbrev pub with_length : StepsView → Option ℕ → StepsView
+with_length v (Some count) = record { steps = v.steps ++ step.Array count ∷ []; are_constant = v.are_constant }
+with_length v None = record { steps = v.steps ++ step.Array 1 ∷ []; are_constant = false }
+
+abbrev pub pointers : ℕ → List TypeStep
+pointers stars = replicate stars step.Pointer
+
+-- the type that steps make, or the refusal at a place
+abbrev pub stepped_type : Known → Place → Ty → List TypeStep → Ruled Ty
+stepped_type k at t steps = or_type_fault at (declarator_type k t steps)
+
+abbrev pub plain_by : Ruled Ty → Ruled DeclaredView
+plain_by (Ok t) = Ok (plain t)
+plain_by (Err f) = Err f
+
+-- a declarator that is its name alone keeps what the specifiers say of the type
+abbrev pub declared_with : Known → Place → DeclaredView → List TypeStep → Ruled DeclaredView
+declared_with k at d steps = cond (length steps == 0) (Ok d) (plain_by (stepped_type k at d.ctype steps))
+
+-- the type that a declarator gives its name
+abbrev pub declared_by : Known → Place → DeclaredView → StepsView → Ruled DeclaredView
+declared_by k at d v = cond v.are_constant (declared_with k at d v.steps) (constant_needed at)
