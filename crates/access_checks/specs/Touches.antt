@@ -56,23 +56,27 @@ module _ {I : Type 0} where
   places_within l n p offset size = of_range l n (range_met (n.bounds p.rel) (pos 0) ((length_above n p -ℤ pos offset) -ℤ pos size))
 
   -- into the bases that may be live, at those places
-  unfoldable pub touched_inside : LatticeOf I → IntegersOf I → List BaseInfo → List (Cell I) → Pointers I → ℕ → ℕ → Pointers I
-  touched_inside l n bases row p offset size = into_bases l n p (live_of l n bases row p.bases) (places_within l n p offset size)
+  abbrev pub touched_inside : LatticeOf I → IntegersOf I → Pointers I → Bases → ℕ → ℕ → Pointers I
+  touched_inside l n p live offset size = into_bases l n p live (places_within l n p offset size)
 
-  unfoldable pub touch_violations : LatticeOf I → IntegersOf I → List BaseInfo → List (Cell I) → Pointers I → ℕ → ℕ → Bool → Bases → Violations
-  touch_violations l n bases row p offset size write inside = record no_violations {
+  unfoldable pub touch_violations : LatticeOf I → IntegersOf I → List BaseInfo → List (Cell I) → Pointers I → ℕ → ℕ → Bool → Bases → Bases → Violations
+  touch_violations l n bases row p offset size write live inside = record no_violations {
     nullref = p.null || p.ended;
     accfree = any_freed l n bases row p.bases;
-    invptr = not (bases_empty (live_of l n bases row p.bases)) && leaves_bounds n p offset size;
+    invptr = not (bases_empty live) && leaves_bounds n p offset size;
     strmod = write && any_literal bases inside;
   }
 
   abbrev pub touched_rest : LatticeOf I → IntegersOf I → List BaseInfo → Bool → Pointers I → Pointers I
   touched_rest l n bases write inside = near_pointer l n (into_bases l n inside (kept_of bases write inside.bases) inside.rel)
 
+  -- the same, where the bases that may be live are known
+  abbrev pub touch_live : LatticeOf I → IntegersOf I → List BaseInfo → List (Cell I) → Pointers I → ℕ → ℕ → Bool → Bases → Touched I
+  touch_live l n bases row p offset size write live = record {
+    violations = touch_violations l n bases row p offset size write live (touched_inside l n p live offset size).bases;
+    rest = touched_rest l n bases write (touched_inside l n p live offset size);
+  }
+
   -- what the touch may violate, and the pointers that go on
   unfoldable pub touch : LatticeOf I → IntegersOf I → List BaseInfo → List (Cell I) → Pointers I → ℕ → ℕ → Bool → Touched I
-  touch l n bases row p offset size write = record {
-    violations = touch_violations l n bases row p offset size write (touched_inside l n bases row p offset size).bases;
-    rest = touched_rest l n bases write (touched_inside l n bases row p offset size);
-  }
+  touch l n bases row p offset size write = touch_live l n bases row p offset size write (live_of l n bases row p.bases)

@@ -146,24 +146,22 @@ fn kept_of(bases: &[BaseInfo], write: bool, set: Bases) -> Bases
 }
 
 /// The pointers into bases that may be live, at places where the bytes lie within the bounds.
-#[tactic(auto, unfolding(crate::specs::Touches::touched_inside))]
 fn touched_inside<I: IntDomain>(
-    bases: &[BaseInfo],
-    row: &[Cell<I>],
     at: Pointers<I>,
+    live: Bases,
     offset: u64,
     size: u64,
 ) -> Pointers<I>
     requires near { IsNearPointer I.numbers at }
     requires offset { offset ≤ longest }
     requires size { size ≤ longest }
-    ensures { result ≡ touched_inside I.lattice I.numbers bases.now row.now at offset size }
+    ensures { result ≡ touched_inside I.lattice I.numbers at live offset size }
 {
-    let live = live_of(bases, row, at.bases);
     into_bases(at, live, places_within(at, offset, size))
 }
 
-/// What a touch may violate, with the bases into which its bytes lie within the bounds.
+/// What a touch may violate, with the bases that may be live, and of them those into which its bytes
+/// lie within the bounds.
 #[tactic(auto, unfolding(crate::specs::Touches::touch_violations))]
 fn touch_violations<I: IntDomain>(
     bases: &[BaseInfo],
@@ -172,14 +170,14 @@ fn touch_violations<I: IntDomain>(
     offset: u64,
     size: u64,
     write: bool,
+    live: Bases,
     inside: Bases,
 ) -> Violations
     requires near { IsNearPointer I.numbers at }
     requires offset { offset ≤ longest }
     requires size { size ≤ longest }
-    ensures { result ≡ touch_violations I.lattice I.numbers bases.now row.now at offset size write inside }
+    ensures { result ≡ touch_violations I.lattice I.numbers bases.now row.now at offset size write live inside }
 {
-    let live = live_of(bases, row, at.bases);
     let mut found = Violations::none();
     found.nullref = at.null || at.ended;
     found.accfree = any_freed(bases, row, at.bases);
@@ -206,9 +204,10 @@ pub fn touch<I: IntDomain>(
     ensures near { IsNearPointer I.numbers result.rest }
     ensures value { result ≡ touch I.lattice I.numbers bases.now row.now at offset size write }
 {
-    let inside = touched_inside(bases, row, at, offset, size);
+    let live = live_of(bases, row, at.bases);
+    let inside = touched_inside(at, live, offset, size);
     Touched {
-        violations: touch_violations(bases, row, at, offset, size, write, inside.bases),
+        violations: touch_violations(bases, row, at, offset, size, write, live, inside.bases),
         rest: touched_rest(bases, write, inside),
     }
 }

@@ -66,21 +66,20 @@ fn absorb_row<V: Lattice>(row: &mut [V], with: &[V], rounding: bool, list: &Thre
 {
     let mut grew = false;
     for i in 0..row.len() {
-        grew |= absorb_cell(&mut row[i], with[i], rounding, list);
+        grew |= absorb_cell(&mut row[i], &with[i], rounding, list);
     }
     grew
 }
 
 // The same for two cells.
-fn absorb_cell<V: Lattice>(cell: &mut V, with: V, rounding: bool, list: &Thresholds) -> bool
-    ensures cell { cell.new ≡ absorbed V.lattice list.now rounding cell.old with }
-    ensures grew { result ≡ not (V.lattice.leq with cell.old) }
+fn absorb_cell<V: Lattice>(cell: &mut V, with: &V, rounding: bool, list: &Thresholds) -> bool
+    ensures cell { cell.new ≡ absorbed V.lattice list.now rounding cell.old with.now }
+    ensures grew { result ≡ not (V.lattice.leq with.now cell.old) }
 {
-    let had = *cell;
-    if with.leq(had) {
+    if (*with).leq(*cell) {
         return false;
     }
-    let joined = had.join(with);
+    let joined = (*cell).join(*with);
     *cell = if rounding { joined.round(list) } else { joined };
     true
 }

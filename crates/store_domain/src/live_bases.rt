@@ -69,14 +69,12 @@ pub fn has_base(set: Bases, number: usize) -> bool
     number < MOST_BASES && set.has(number as u16)
 }
 
-/// The set with the base of this number, if it is wanted.
-fn with_base_if(wanted: bool, number: usize, found: Bases) -> Bases
-    ensures { result ≡ with_base_if wanted number found }
+/// Adds the base of a number to a set, if it is wanted.
+fn add_if(wanted: bool, number: usize, found: &mut Bases)
+    ensures { found.new ≡ with_base_if wanted number found.old }
 {
     if wanted {
-        found.union(only_base(number))
-    } else {
-        found
+        *found = found.union(only_base(number));
     }
 }
 
@@ -86,7 +84,7 @@ pub fn single_bases(bases: &[BaseInfo]) -> Bases
 {
     let mut found = Bases::empty();
     for n in 0..bases.len() {
-        found = with_base_if(is_single(&bases[n]), n, found);
+        add_if(is_single(&bases[n]), n, &mut found);
     }
     found
 }
@@ -104,7 +102,7 @@ pub fn live_of<I: IntDomain>(bases: &[BaseInfo], row: &[Cell<I>], set: Bases) ->
 {
     let mut found = Bases::empty();
     for n in 0..bases.len() {
-        found = with_base_if(is_live_in(&bases[n], n, row, set), n, found);
+        add_if(is_live_in(&bases[n], n, row, set), n, &mut found);
     }
     found
 }
@@ -122,7 +120,7 @@ pub fn writable_of(bases: &[BaseInfo], set: Bases) -> Bases
 {
     let mut found = Bases::empty();
     for n in 0..bases.len() {
-        found = with_base_if(is_writable_in(&bases[n], n, set), n, found);
+        add_if(is_writable_in(&bases[n], n, set), n, &mut found);
     }
     found
 }

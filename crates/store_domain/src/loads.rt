@@ -1,8 +1,8 @@
 //! Loads.
 ghost use Rattle.std.specs.Prelude.{◌≡◌, ◌<◌};
-ghost use Rattle.cc_base.specs.IntegerDomains.{IsNear};
 ghost use Rattle.pointer_domain.specs.PointerTables.{IsNearPointer};
-ghost use Rattle.store_domain.specs.Loads.{reaches_class, joined_if, joined_leaf, load_leaves, load_class_cell, joined_other_leaf, load_other_leaves, read_class_cell, load_other_class_cells, load_padding, load_other_bytes, is_text, determinate_if, load_own, load_others, load_base, read_base_if, load_bases, labels_of, loaded, load};
+ghost use Rattle.store_domain.specs.RowPositions.{value_at};
+ghost use Rattle.store_domain.specs.Loads.{reaches_class, joined_leaf, load_leaves, load_class_cell, joined_other_leaf, load_other_leaves, read_class_cell, load_other_class_cells, load_padding, load_other_bytes, is_text, determinate_if, load_own, load_others, load_base, read_base_if, load_bases, labels_of, loaded, load};
 
 use crate::access_windows::{Window, window_of};
 use crate::cell_reads::{Access, as_read, byte_read, joined, whole_range};
@@ -84,26 +84,24 @@ fn load_bases<I: IntDomain>(
     let mut found = None;
     for n in 0..bases.len() {
         let wanted = is_live_in(&bases[n], n, row, set);
-        found = read_base(model, &bases[n], row, wanted, access, found);
+        read_base(model, &bases[n], row, wanted, access, &mut found);
     }
     found
 }
 
-/// What was found, joined with what the load gets from a base if it is wanted.
+/// Joins what was found with what the load gets from a base, if it is wanted.
 fn read_base<I: IntDomain>(
     model: &Model,
     base: &BaseInfo,
     row: &[Cell<I>],
     wanted: bool,
     access: Access,
-    found: Option<Value<I>>,
-) -> Option<Value<I>>
-    ensures { result ≡ read_base_if I.lattice I.numbers model.now row.now wanted access base.now found }
+    found: &mut Option<Value<I>>,
+)
+    ensures { found.new ≡ read_base_if I.lattice I.numbers model.now row.now wanted access base.now found.old }
 {
     if wanted {
-        joined(found, load_base(model, base, row, access))
-    } else {
-        found
+        *found = joined(*found, load_base(model, base, row, access));
     }
 }
 
@@ -158,36 +156,6 @@ fn load_others<I: IntDomain>(
     )
 }
 
-/// What was found, joined with one more value if it is wanted.
-fn joined_if<I: IntDomain>(
-    wanted: bool,
-    found: Option<Value<I>>,
-    value: Value<I>,
-) -> Option<Value<I>>
-    ensures { result ≡ joined_if I.lattice wanted found value }
-{
-    if wanted {
-        joined(found, Some(value))
-    } else {
-        found
-    }
-}
-
-/// The value at the position of a leaf, as the access reads it.
-fn read_leaf<I: IntDomain>(
-    model: &Model,
-    leaf: Leaf,
-    value: Value<I>,
-    access: Access,
-    found: Option<Value<I>>,
-) -> Option<Value<I>>
-    requires { IsNear (I.numbers.bounds value.num) }
-    ensures { result ≡ joined_leaf I.lattice I.numbers model.now access leaf value found }
-{
-    let read = as_read(model, value, access.class, leaf.signed, access.signed);
-    joined_if(is_selected(leaf, access.class, access.window), found, read)
-}
-
 /// The join of the leaves of the access's class that it reaches.
 #[tactic(auto, unfolding(crate::specs::Loads::load_leaves))]
 fn load_leaves<I: IntDomain>(
@@ -201,10 +169,28 @@ fn load_leaves<I: IntDomain>(
     let leaves = base.shape.cells.as_slice();
     let mut found = None;
     for at in 0..leaves.len() {
-        let value = value_at(row, leaf_position(base, at));
-        found = read_leaf(model, leaves[at], value, access, found);
+        let position = leaf_position(base, at);
+        read_leaf(model, leaves[at], row, position, access, &mut found);
     }
     found
+}
+
+/// Joins what was found with the value at the position of a leaf, if the access reaches it.
+fn read_leaf<I: IntDomain>(
+    model: &Model,
+    leaf: Leaf,
+    row: &[Cell<I>],
+    position: usize,
+    access: Access,
+    found: &mut Option<Value<I>>,
+)
+    ensures { found.new ≡ joined_leaf I.lattice I.numbers model.now access leaf (value_at I.lattice I.numbers row.now position) found.old }
+{
+    if is_selected(leaf, access.class, access.window) {
+        let value = value_at(row, position);
+        let read = as_read(model, value, access.class, leaf.signed, access.signed);
+        *found = joined(*found, Some(read));
+    }
 }
 
 /// Whether the access may begin at an offset of a heap base that is no offset of a leaf of its class.
@@ -246,23 +232,28 @@ fn load_other_leaves<I: IntDomain>(
     let leaves = base.shape.cells.as_slice();
     let mut found = None;
     for at in 0..leaves.len() {
-        let value = value_at(row, leaf_position(base, at));
-        found = read_other_leaf(model, leaves[at], value, access, found);
+        let position = leaf_position(base, at);
+        read_other_leaf(model, leaves[at], row, position, access, &mut found);
     }
     found
 }
 
+/// Joins what was found with a byte of a leaf of another class, if the access reaches it.
 fn read_other_leaf<I: IntDomain>(
     model: &Model,
     leaf: Leaf,
-    value: Value<I>,
+    row: &[Cell<I>],
+    position: usize,
     access: Access,
-    found: Option<Value<I>>,
-) -> Option<Value<I>>
-    ensures { result ≡ joined_other_leaf I.lattice I.numbers model.now access leaf value found }
+    found: &mut Option<Value<I>>,
+)
+    ensures { found.new ≡ joined_other_leaf I.lattice I.numbers model.now access leaf (value_at I.lattice I.numbers row.now position) found.old }
 {
-    let read = byte_read(model, value, leaf.class, access.signed);
-    joined_if(is_other(model, leaf, access.window), found, read)
+    if is_other(model, leaf, access.window) {
+        let value = value_at(row, position);
+        let read = byte_read(model, value, leaf.class, access.signed);
+        *found = joined(*found, Some(read));
+    }
 }
 
 /// What a character load gets from the class cells of other classes, or from bytes of no leaf.

@@ -232,7 +232,7 @@ fn store_all<I: IntDomain>(
     ensures row { row.new ≡ store_all I.lattice I.numbers model.now bases.now set write row.old }
 {
     for n in 0..bases.len() {
-        store_if(has_base(set, n), model, &bases[n], row, write);
+        store_if(has_base(set, n), model, &bases[n], row, &write);
     }
 }
 
@@ -243,14 +243,14 @@ fn store_if<I: IntDomain>(
     model: &Model,
     base: &BaseInfo,
     row: &mut [Cell<I>],
-    write: Write<I>,
+    write: &Write<I>,
 )
-    requires { IsNear (I.numbers.bounds write.value.num) }
+    requires { IsNear (I.numbers.bounds write.now.value.num) }
     ensures length { length row.new ≡ length row.old }
-    ensures row { row.new ≡ store_if I.lattice I.numbers model.now wanted write base.now row.old }
+    ensures row { row.new ≡ store_if I.lattice I.numbers model.now wanted write.now base.now row.old }
 {
     if wanted {
-        store_base(model, base, row, write);
+        store_base(model, base, row, *write);
     }
 }
 
