@@ -146,12 +146,7 @@ fn kept_of(bases: &[BaseInfo], write: bool, set: Bases) -> Bases
 }
 
 /// The pointers into bases that may be live, at places where the bytes lie within the bounds.
-fn touched_inside<I: IntDomain>(
-    at: Pointers<I>,
-    live: Bases,
-    offset: u64,
-    size: u64,
-) -> Pointers<I>
+fn touched_inside<I: IntDomain>(at: Pointers<I>, live: Bases, offset: u64, size: u64) -> Pointers<I>
     requires near { IsNearPointer I.numbers at }
     requires offset { offset ≤ longest }
     requires size { size ≤ longest }
