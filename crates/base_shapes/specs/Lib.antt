@@ -1,1 +1,2 @@
 pub mod HeapBases
+pub mod FirstZeros

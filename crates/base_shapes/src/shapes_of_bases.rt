@@ -5,8 +5,9 @@ ghost use Rattle.c_layout.specs.StructViews.{structs_view};
 ghost use Rattle.c_layout.specs.Leaves.{leaves_of};
 ghost use Rattle.template_works.specs.Pieces.{target_view};
 ghost use Rattle.base_shapes.specs.HeapBases as spec;
+ghost use Rattle.base_shapes.specs.FirstZeros.{object_shape, zeros_of};
 
-use crate::struct_zeros::push_zeros;
+use crate::struct_zeros::{is_character, push_zeros};
 use crate::whole_types::{is_sound, is_whole};
 use c_layout::{
     CType, Leaf, Leaves, Model, Shape, Structs, ZeroPart, ZeroParts, count_leaves, leaves,
@@ -39,6 +40,25 @@ fn leaves_of(
     }
 }
 
+/// The arrays of characters of a type that lie in no folded array.
+#[tactic(auto, unfolding(crate::specs::FirstZeros::zeros_of))]
+fn zeros_of(
+    alloc: Global,
+    t: &CType,
+    structs: &Structs,
+    model: &Model,
+) -> Result<Vec<ZeroPart>, AllocError>
+    ensures { IfOk result (λ v. v.items ≡ zeros_of (structs_view structs.now) model.now.pointer (view t.now)) }
+{
+    let mut zeros = Vec::new(alloc);
+    let depth = u32::try_from(structs.items.len())
+        .ok()
+        .and_then(|n| n.checked_add(1))
+        .ok_or(AllocError)?;
+    push_zeros(&mut zeros, depth, structs, model.pointer, t, 0)?;
+    Ok(zeros)
+}
+
 /// The shape of an object: its leaves, and a first-zero part for each of its arrays of characters that
 /// lies in no folded array.
 pub fn object_shape(
@@ -47,30 +67,15 @@ pub fn object_shape(
     structs: &Structs,
     model: &Model,
 ) -> Result<Shape, AllocError>
-    ensures cells { IfOk result (λ s. s.cells ≡ leaves_of (structs_view structs.now) model.now.pointer (view t.now)) }
-    ensures heap { IfOk result (λ s. s.heap ≡ false) }
+    ensures { IfOk result (λ s. s ≡ object_shape (structs_view structs.now) model.now.pointer (view t.now)) }
 {
     let cells = leaves_of(alloc, t, structs, model)?;
-    let depth = u32::try_from(structs.items.len()).ok().ok_or(AllocError)?;
-    let mut zeros = Vec::new(alloc);
-    push_zeros(&mut zeros, depth, structs, model.pointer as u64, t, 0)?;
+    let zeros = zeros_of(alloc, t, structs, model)?;
     Ok(Shape {
         cells: Leaves::from_vec(cells),
         zeros: ZeroParts::from_vec(zeros),
         heap: false,
     })
-}
-
-fn is_character(t: &CType) -> bool
-    ensures { result ≡ spec.is_character (view t.now) }
-{
-    match t {
-        CType::Int(kind) => kind.rank == 1,
-        CType::Pointer(_) => false,
-        CType::Array(_, _) => false,
-        CType::Struct(_) => false,
-        CType::Void => false,
-    }
 }
 
 /// Whether each leaf stands once.
