@@ -1,0 +1,4 @@
+pub mod FlowStates
+pub mod FlowActs
+pub mod FlowEdges
+pub mod FlowSteps

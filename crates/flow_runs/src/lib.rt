@@ -1,0 +1,2 @@
+//! Definitions alone: the machine of the control-flow program, which goes from block to block.
+#![tactic(auto)]

@@ -1,0 +1,15 @@
+pub mod Worlds
+pub mod ScalarBytes
+pub mod Touches
+pub mod Accesses
+pub mod StructCopies
+pub mod PointerEffects
+pub mod IntegerEffects
+pub mod ObjectEffects
+pub mod Tests
+pub mod LibraryChecks
+pub mod AllocationCalls
+pub mod MemoryCalls
+pub mod StringCalls
+pub mod CharacterCalls
+pub mod LibraryCalls

@@ -1,0 +1,9 @@
+pub mod Items
+pub mod TermItems
+pub mod ConditionItems
+pub mod StatementItems
+pub mod Scopes
+pub mod LabelSearch
+pub mod SourceStates
+pub mod SourceSteps
+pub mod StartStates

@@ -1,0 +1,2 @@
+//! Definitions alone: the machine of the source, which goes through a checked unit construct by construct.
+#![tactic(auto)]
