@@ -1,2 +1,5 @@
 pub mod Settling
 pub mod Slots
+pub mod SharedTurns
+pub mod Tables
+pub mod Preparing

@@ -1,7 +1,7 @@
 -- Which count of a unit is the first that passes its limit.
 use Rattle.std.specs.Prelude.{ℕ, ◌+◌, nat_le, cond, Option, Some, None}
 use Rattle.cc_base.specs.declared.limit_table.Count.{Count}
-use Rattle.cc_base.specs.declared.limit_table.Count.TheVariants.{Temps, Bases, Cells, Blocks, Instructions, Pool}
+use Rattle.cc_base.specs.declared.limit_table.Count.TheVariants.{Temps, Bases, Cells, Blocks, Instructions}
 use Rattle.cc_base.specs.declared.limit_table.Limits.{Limits}
 use Rattle.cc_base.specs.declared.refusals.Refusal.{Refusal}
 use Rattle.cc_base.specs.declared.refusals.Refusal.TheVariants as refusal

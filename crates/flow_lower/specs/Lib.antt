@@ -1,1 +1,5 @@
 pub mod MovedActs
+pub mod BaseTables
+pub mod InitialBytes
+pub mod Openings
+pub mod Lowerings

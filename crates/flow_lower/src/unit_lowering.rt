@@ -1,7 +1,13 @@
 //! Lowering: from a checked unit to its control-flow program.
-ghost use Rattle.std.specs.Prelude.{◌≡◌, ◌≤◌, IfErr, IfOk, Some, slice_get};
+ghost use Rattle.std.specs.Prelude.{◌≡◌, ◌≤◌, ◌+◌, IfErr, IfOk, Some, slice_get};
 ghost use Rattle.c_layout.specs.declared.checked_tree.checked_units.Function.{Function};
+ghost use Rattle.c_layout.specs.Types.{view};
+ghost use Rattle.c_layout.specs.CheckedUnits.{function_view, unit_view};
+ghost use Rattle.flow_counts.specs.Preparations.{templates_view};
 ghost use Rattle.flow_counts.specs.SizeRefusals.{limit_of, IsTooLarge};
+ghost use Rattle.flow_lower.specs.Openings.{program_view};
+ghost use Rattle.flow_lower.specs.Lowerings as spec;
+ghost use Rattle.flow_lower.specs.Lowerings.{flow_view, AreUnitCounts, IsLowering, Refuses};
 
 use crate::initial_objects::{copied_structs, initial_objects};
 use crate::opened_program::{OpenedProgram, opened};
@@ -15,37 +21,61 @@ use flow_program::{Flow, ParameterInput};
 use std::alloc::{AllocError, Global};
 
 /// The values of a pool of rows: for each block one row, and two more.
-fn pool(blocks: u64, width: u64) -> u64 {
+fn pool(blocks: u64, width: u64) -> u64
+    ensures { result ≡ spec.pool blocks width }
+{
     capped_product(capped_sum(blocks, 2), width)
 }
 
 /// The type of an entry's parameter, which is an integer.
-fn input_type(t: &CType) -> Result<IntType, AllocError> {
+fn input_type(t: &CType) -> Result<IntType, AllocError>
+    ensures { IfOk result (λ k. k ≡ spec.input_type (view t.now)) }
+{
     match t {
         CType::Int(kind) => Ok(*kind),
-        CType::Pointer(_) | CType::Array(_, _) | CType::Struct(_) | CType::Void => Err(AllocError),
+        CType::Pointer(_) => Err(AllocError),
+        CType::Array(_, _) => Err(AllocError),
+        CType::Struct(_) => Err(AllocError),
+        CType::Void => Err(AllocError),
+    }
+}
+
+fn input(entry: &Function, base: u32) -> Result<ParameterInput, AllocError>
+    ensures { IfOk result (λ i. i ≡ spec.input (function_view entry.now) base) }
+{
+    match entry.locals.get(base as usize) {
+        Some(local) => {
+            let kind = input_type(&local.ctype)?;
+            Ok(ParameterInput { base, kind })
+        }
+        None => Err(AllocError),
     }
 }
 
 /// The entry's parameters, whose bases are the first ones.
-fn inputs(alloc: Global, entry: &Function) -> Result<Vec<ParameterInput>, AllocError> {
+#[tactic(auto, using(crate::proofs::Lowered::next_input))]
+fn inputs(alloc: Global, entry: &Function) -> Result<Vec<ParameterInput>, AllocError>
+    ensures { IfOk result (λ v. v.items ≡ spec.inputs (function_view entry.now) entry.now.parameters) }
+{
     let mut list = Vec::new(alloc);
     for base in 0..entry.parameters {
-        let local = entry.locals.get(base as usize).ok_or(AllocError)?;
-        let kind = input_type(&local.ctype)?;
-        list.push(ParameterInput { base, kind })?;
+        let input = input(entry, base)?;
+        list.push(input)?;
     }
     Ok(list)
 }
 
 fn entry_of(unit: &Checked) -> Result<&Function, AllocError>
-    ensures { IfOk result (λ f. (e : Function) → slice_get unit.now.functions.items unit.now.entry ≡ Some e → f.now ≡ e) }
+    ensures found { IfOk result (λ f. slice_get (unit_view unit.now).functions unit.now.entry ≡ Some (function_view f.now)) }
+    ensures only { IfOk result (λ f. (e : Function) → slice_get unit.now.functions.items unit.now.entry ≡ Some e → f.now ≡ e) }
 {
     unit.functions.get(unit.entry as usize).ok_or(AllocError)
 }
 
 /// How many values a row has.
-fn row_width(made: &OpenedProgram, temps: u64) -> Result<u32, AllocError> {
+fn row_width(made: &OpenedProgram, temps: u64) -> Result<u32, AllocError>
+    ensures { IfOk result (λ n. n ≡ (program_view made.now).bases.width + temps) }
+{
     let temps = u32::try_from(temps).ok().ok_or(AllocError)?;
     made.bases.width.checked_add(temps).ok_or(AllocError)
 }
@@ -60,6 +90,7 @@ fn flow(
     ensures model { IfOk result (λ f. f.model ≡ unit.now.model) }
     ensures entry { IfOk result (λ f. f.entry ≡ entry.now.place) }
     ensures temps { IfOk result (λ f. f.temps ≡ counts.temps) }
+    ensures exact { IfOk result (λ f. flow_view f ≡ spec.lowered (unit_view unit.now) (function_view entry.now) (program_view made) counts.temps) }
 {
     let width = row_width(&made, counts.temps)?;
     let initial = initial_objects(alloc, unit, &made.bases)?;
@@ -83,7 +114,9 @@ fn flow(
 }
 
 /// The counts that are known before the program is made.
-fn counted(alloc: Global, unit: &Checked, found: &PreparedUnit) -> Result<UnitCounts, AllocError> {
+fn counted(alloc: Global, unit: &Checked, found: &PreparedUnit) -> Result<UnitCounts, AllocError>
+    ensures { IfOk result (λ c. AreUnitCounts (unit_view unit.now) (templates_view found.now.templates.items) found.now.counts.items c) }
+{
     let shared = shared_bases(alloc, unit, found.templates.as_slice())?;
     let counts = counts_at(found.counts.as_slice(), unit.entry)?;
     Ok(unit_counts(counts, shared))
@@ -96,6 +129,8 @@ pub fn lower(alloc: Global, unit: &Checked, limits: &Limits) -> Result<Flow, Sto
     ensures model { IfOk result (λ f. f.model ≡ unit.now.model) }
     ensures entry { IfOk result (λ f. (e : Function) → slice_get unit.now.functions.items unit.now.entry ≡ Some e → f.entry ≡ e.place) }
     ensures temps { IfOk result (λ f. f.temps ≤ limits.now.temps) }
+    ensures lowering { IfOk result (λ f. IsLowering (unit_view unit.now) limits.now (flow_view f)) }
+    ensures refusal { IfErr result (λ s. Refuses (unit_view unit.now) limits.now s) }
     ensures cause { IfErr result (λ s. (e : Function) → slice_get unit.now.functions.items unit.now.entry ≡ Some e → IsTooLarge limits.now e.place s) }
 {
     let entry = entry_of(unit)?;

@@ -1,0 +1,47 @@
+-- The first bytes of the objects of static storage and the literals of a unit.
+use Rattle.std.specs.Prelude.{ℕ, ◌+◌, List, [], ◌∷◌, ◌++◌, length, map, Option}
+use Rattle.c_layout.specs.Layout.{size_of_type}
+use Rattle.c_layout.specs.CheckedUnits.{StaticStoreView, static_store_view, StaticView, LiteralView, UnitView}
+use Rattle.c_layout.specs.declared.checked_tree.checked_units.StaticBase.{StaticBase}
+use Rattle.c_layout.specs.declared.checked_tree.checked_units.StaticBase.TheVariants as shared
+use Rattle.flow_program.specs.declared.programs.InitialObject.{InitialObject}
+use Rattle.flow_program.specs.declared.programs.InitialValue.{InitialValue}
+use Rattle.flow_program.specs.declared.programs.InitialValue.TheVariants as value
+use Rattle.flow_lower.specs.BaseTables.{TableView, known}
+
+-- all zero and then stores, or the characters of a literal
+pub data BytesView : Type 0 where
+  Stored : (stores : List StaticStoreView) → BytesView
+  Spelled : (text : List ℕ) → BytesView
+
+abbrev pub bytes : InitialValue → BytesView
+bytes (value.Stores stores) = Stored (map static_store_view stores.items)
+bytes (value.Literal text) = Spelled text
+
+pub record InitialView : Type 0 where
+  pub object : StaticBase
+  pub size : ℕ
+  pub base : Option ℕ
+  pub first : BytesView
+
+abbrev pub initial : InitialObject → InitialView
+initial o = record { object = o.object; size = o.size; base = o.base; first = bytes o.value }
+
+abbrev pub initial_object : UnitView → TableView → ℕ → StaticView → InitialView
+initial_object u b n o = record { object = shared.Object n; size = size_of_type u.structs u.model.pointer o.ctype; base = known b.objects n; first = Stored o.stores }
+
+-- a literal has a closing zero
+abbrev pub initial_literal : TableView → ℕ → LiteralView → InitialView
+initial_literal b n l = record { object = shared.Literal n; size = length l.bytes + 1; base = known b.literals n; first = Spelled l.bytes }
+
+abbrev pub objects_from : UnitView → TableView → ℕ → List StaticView → List InitialView
+objects_from u b n [] = []
+objects_from u b n (o ∷ os) = initial_object u b n o ∷ objects_from u b (n + 1) os
+
+abbrev pub literals_from : TableView → ℕ → List LiteralView → List InitialView
+literals_from b n [] = []
+literals_from b n (l ∷ ls) = initial_literal b n l ∷ literals_from b (n + 1) ls
+
+-- all objects of static storage and then all literals of a unit, in order
+abbrev pub initial_objects : UnitView → TableView → List InitialView
+initial_objects u b = objects_from u b 0 u.objects ++ literals_from b 0 u.literals
