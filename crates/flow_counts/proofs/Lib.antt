@@ -3,3 +3,4 @@ pub mod Slots
 pub mod SharedTurns
 pub mod Tables
 pub mod Preparing
+pub mod OneCount

@@ -1,6 +1,7 @@
 -- The functions that the entry reaches are settled and counted one after another.
 use Rattle.std.proofs.Common.{◌≡◌, ◌==◌, ◌<◌, ◌⊎◌, inl, inr, ℕ, zero, suc, Bool, true, false, cond, List, [], ◌∷◌, Option, Some, None, length, replicate, refl, ap, sym, subst, ◌∙◌}
 use Rattle.std.specs.List.{slice_get, slice_set}
+use Rattle.std.proofs.lemmas.List.{length-set, length-replicate}
 use Rattle.c_layout.specs.CheckedUnits.{FunctionView, UnitView}
 use Rattle.template_works.specs.Pieces.{PieceView, TemplateView}
 use Rattle.flow_templates.proofs.OneTemplate.{one_finish}
@@ -30,11 +31,11 @@ reaches_called u ts n m made (t, is, calls) = let r = made n t is in further n m
 pub none_made : (u : UnitView) (ts : List (Option TemplateView)) (count : ℕ) → ts ≡ replicate count None → AreMade u ts
 none_made u ts count none n t is = absurd (all_empty ts count n t none is)
 
-both_true : (b c : Bool) → cond b c false ≡ true → (b ≡ true) × (c ≡ true)
+pub both_true : (b c : Bool) → cond b c false ≡ true → (b ≡ true) × (c ≡ true)
 both_true true c is = (refl, is)
 both_true false c is = cc
 
-there_is : (o : Option (Option FunctionCounts)) → is_there o ≡ true → (c : FunctionCounts) × (o ≡ Some (Some c))
+pub there_is : (o : Option (Option FunctionCounts)) → is_there o ≡ true → (c : FunctionCounts) × (o ≡ Some (Some c))
 there_is None is = cc
 there_is (Some None) is = cc
 there_is (Some (Some c)) is = (c, refl)
@@ -67,8 +68,9 @@ are_counted_more table n c (p ∷ ps) all =
     ap (λ b. cond b (are_counted (slice_set table n (Some c)) ps) false) first ∙ are_counted_more table n c ps (both_true (is_counted table (called p)) (are_counted table ps) all).1
 
 -- nothing is settled at first
-pub none_settled : (u : UnitView) (ts : List (Option TemplateView)) (table : List (Option FunctionCounts)) (count : ℕ) → ts ≡ replicate count None → table ≡ replicate count None → AreSettled u ts table
-none_settled u ts table count none_t none_c = record {
+pub none_settled : (u : UnitView) (ts : List (Option TemplateView)) (table : List (Option FunctionCounts)) (count : ℕ) → count ≡ length u.functions → ts ≡ replicate count None → table ≡ replicate count None → AreSettled u ts table
+none_settled u ts table count all none_t none_c = record {
+  numbered = ap length none_t ∙ length-replicate count None ∙ all;
   are_settled = λ n s is. absurd (all_empty ts count n s none_t is);
   are_counts = λ n c is. absurd (all_empty table count n c none_c is);
   both = λ n c is. absurd (all_empty table count n c none_c is);
@@ -102,6 +104,7 @@ both_at n m s c d ts table within old (inr was) = let (r, is) = old m d was in s
 one_settled : (u : UnitView) (n : ℕ) (f : FunctionView) (t s : TemplateView) (c : FunctionCounts) (ts : List (Option TemplateView)) (table : List (Option FunctionCounts)) → n < length ts → IsSettled u n s → Closed u table n → Counts u n c → AreSettled u ts table
     → AreSettled u (slice_set ts n (Some s)) (slice_set table n (Some c))
 one_settled u n f t s c ts table within settles closes count old = record {
+  numbered = length-set ts n (Some s) ∙ old.numbered;
   are_settled = λ m r is. settled_at u n m s r ts settles old.are_settled (set_cases ts n m (Some s) (Some r) is);
   are_counts = λ m d is. counts_at u n m c d table count old.are_counts (set_cases table n m (Some c) (Some d) is);
   both = λ m d is. both_at n m s c d ts table within old.both (set_cases table n m (Some c) (Some d) is);
@@ -142,7 +145,10 @@ still_holds u n old new is h =
       settled = subst (λ ts. AreSettled u ts new.table) (sym is.templates) (subst (λ table. AreSettled u (slice_set old.templates n (Some is.settles)) table) (sym is.table) all);
     }
 
-one_template : (u : UnitView) (n : ℕ) (f g : FunctionView) (s t : TemplateView) → IsTemplateOf u n f s → IsTemplateOf u n g t → s ≡ t
+pub one_function : (u : UnitView) (n : ℕ) (f g : FunctionView) (s t : TemplateView) → IsTemplateOf u n f s → IsTemplateOf u n g t → f ≡ g
+one_function u n f g s t a b = same_function f g (slice_get u.functions n) a.stands b.stands
+
+pub one_template : (u : UnitView) (n : ℕ) (f g : FunctionView) (s t : TemplateView) → IsTemplateOf u n f s → IsTemplateOf u n g t → s ≡ t
 one_template u n f g s t a b =
     let same = same_function g f (slice_get u.functions n) b.stands a.stands in
     let c = subst (λ h. IsTemplateOf u n h t) same b in
@@ -166,4 +172,4 @@ all_there u ts table c h entry n begun = there_both u ts table u.entry h (c, ent
 all_there u ts table c h entry n (further k m f t reached is calls) = further_there u ts table k m f t h is calls (all_there u ts table c h entry k reached)
 
 pub all_prepared : (u : UnitView) (ts : List (Option TemplateView)) (table : List (Option FunctionCounts)) (c : FunctionCounts) → AreSettled u ts table → slice_get table u.entry ≡ Some (Some c) → IsPrepared u ts table
-all_prepared u ts table c h entry = record { are_settled = h.are_settled; are_counts = h.are_counts; all = all_there u ts table c h entry }
+all_prepared u ts table c h entry = record { numbered = h.numbered; are_settled = h.are_settled; are_counts = h.are_counts; all = all_there u ts table c h entry }

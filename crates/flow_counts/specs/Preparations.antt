@@ -1,6 +1,6 @@
 -- The functions that the entry reaches, and the templates and counts of each, from those of the functions
 -- that it calls.
-use Rattle.std.specs.Prelude.{◌≡◌, ℕ, Bool, true, false, cond, ◌==◌, List, [], ◌∷◌, map, slice_get, Option, Some, None}
+use Rattle.std.specs.Prelude.{◌≡◌, ℕ, Bool, true, false, cond, ◌==◌, List, [], ◌∷◌, length, map, slice_get, Option, Some, None}
 use Rattle.std.specs.Option.{option_map}
 use Rattle.c_layout.specs.CheckedUnits.{FunctionView, UnitView}
 use Rattle.template_works.specs.Pieces.{PieceView, Do, DoIfUsed, End, Mark, Call, TemplateView, template_view}
@@ -79,6 +79,7 @@ pub record IsSettled (u : UnitView) (n : ℕ) (s : TemplateView) : Type 0 where
 
 -- all functions that the entry reaches have their settled templates and their counts
 pub record IsPrepared (u : UnitView) (templates : List (Option TemplateView)) (table : List (Option FunctionCounts)) : Type 0 where
+  pub numbered : length templates ≡ length u.functions
   pub are_settled : (n : ℕ) (s : TemplateView) → slice_get templates n ≡ Some (Some s) → IsSettled u n s
   pub are_counts : AreCounts u table
   pub all : (n : ℕ) → Reaches u n → (s : TemplateView) × (c : FunctionCounts) × (slice_get templates n ≡ Some (Some s)) × (slice_get table n ≡ Some (Some c))

@@ -59,6 +59,7 @@ pub record IsSettling (u : UnitView) (n : ℕ) (old new : Progress) : Type 0 whe
 
 -- each function with counts has its settled template, and all that it calls has counts
 pub record AreSettled (u : UnitView) (templates : List (Option TemplateView)) (table : List (Option FunctionCounts)) : Type 0 where
+  pub numbered : length templates ≡ length u.functions
   pub are_settled : (n : ℕ) (s : TemplateView) → slice_get templates n ≡ Some (Some s) → IsSettled u n s
   pub are_counts : AreCounts u table
   pub both : (n : ℕ) (c : FunctionCounts) → slice_get table n ≡ Some (Some c) → (s : TemplateView) × (slice_get templates n ≡ Some (Some s))

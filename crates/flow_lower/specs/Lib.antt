@@ -3,3 +3,4 @@ pub mod BaseTables
 pub mod InitialBytes
 pub mod Openings
 pub mod Lowerings
+pub mod WellMade

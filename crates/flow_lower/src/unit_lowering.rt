@@ -2,12 +2,15 @@
 ghost use Rattle.std.specs.Prelude.{◌≡◌, ◌≤◌, ◌+◌, IfErr, IfOk, Some, slice_get};
 ghost use Rattle.c_layout.specs.declared.checked_tree.checked_units.Function.{Function};
 ghost use Rattle.c_layout.specs.Types.{view};
-ghost use Rattle.c_layout.specs.CheckedUnits.{function_view, unit_view};
+ghost use Rattle.cc_base.specs.declared.limit_table.Limits.{Limits};
+ghost use Rattle.cc_base.specs.declared.refusals.Fault.{Fault};
+ghost use Rattle.c_layout.specs.CheckedUnits.{UnitView, function_view, unit_view};
 ghost use Rattle.flow_counts.specs.Preparations.{templates_view};
 ghost use Rattle.flow_counts.specs.SizeRefusals.{limit_of, IsTooLarge};
 ghost use Rattle.flow_lower.specs.Openings.{program_view};
 ghost use Rattle.flow_lower.specs.Lowerings as spec;
-ghost use Rattle.flow_lower.specs.Lowerings.{flow_view, AreUnitCounts, IsLowering, Refuses};
+ghost use Rattle.flow_lower.specs.Lowerings.{FlowView, flow_view, AreUnitCounts, IsLowering, IsRefusal, Refuses};
+ghost use Rattle.flow_lower.specs.WellMade.{IsWellMade};
 
 use crate::initial_objects::{copied_structs, initial_objects};
 use crate::opened_program::{OpenedProgram, opened};
@@ -143,3 +146,15 @@ pub fn lower(alloc: Global, unit: &Checked, limits: &Limits) -> Result<Flow, Sto
     within(entry.place, Count::Pool, values, limits)?;
     Ok(flow(alloc, unit, entry, made, counts)?)
 }
+
+/// A unit has one program at most and one refusal at most, and where it has a program it is not refused.
+pub fn one_lowering()
+    ensures program { (u : UnitView) (limits : Limits) (f g : FlowView) → IsLowering u limits f → IsLowering u limits g → f ≡ g }
+    ensures refusal { (u : UnitView) (limits : Limits) (f g : Fault) → IsRefusal u limits f → IsRefusal u limits g → f ≡ g }
+    ensures apart { (u : UnitView) (limits : Limits) (f : FlowView) (g : Fault) → IsLowering u limits f → IsRefusal u limits g → ⊥ }
+{}
+
+/// What lowering makes is well formed in its bases, in the numbers of its edges and in its heads.
+pub fn well_made()
+    ensures { (u : UnitView) (limits : Limits) (f : FlowView) → IsLowering u limits f → IsWellMade f }
+{}
