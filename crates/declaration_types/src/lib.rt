@@ -8,6 +8,7 @@ mod declarators;
 mod enumerations;
 mod initializers;
 mod parameters;
+mod specifier_trees;
 mod specifiers;
 mod struct_bodies;
 
@@ -15,4 +16,5 @@ pub use declarators::{declared_type, typed_steps};
 pub use initializer_types::{Initialized, static_stores};
 pub use initializers::initializer_of;
 pub use parameters::{FunctionHead, function_head};
-pub use specifiers::{Specified, is_library_name, specifiers_of};
+pub use specifier_trees::specifiers_of;
+pub use specifiers::{Specified, is_library_name};
