@@ -1,5 +1,5 @@
 -- Function declarators with their parameters (6.7.6.3).
-use Rattle.std.specs.Prelude.{ℕ, Bool, false, List, [], ◌∷◌, map, length, Option, Some, None, Ok, Err}
+use Rattle.std.specs.Prelude.{Bool, false, List, [], ◌∷◌, map, length, Option, Some, None, Ok, Err}
 use Rattle.cc_base.specs.declared.diagnostics.Place.{Place}
 use Rattle.c_layout.specs.Types.{Ty, view}
 use Rattle.c_layout.specs.DeclarationTrees.{DeclaratorView, ParameterView, ParametersView, NoParameters, OnlyVoid, ParameterList, FunctionDeclaratorView, spec_trees}
