@@ -6,5 +6,3 @@ pub mod Specifiers
 pub mod SpecifierTrees
 pub mod Parameters
 pub mod FunctionHeads
-pub mod Initializers
-pub mod BracedLists

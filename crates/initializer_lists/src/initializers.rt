@@ -7,8 +7,8 @@ ghost use Rattle.type_scopes.specs.Answers.{Leads};
 ghost use Rattle.type_scopes.specs.States.{state};
 ghost use Rattle.initializer_types.specs.Literals as literals;
 ghost use Rattle.initializer_types.specs.Initialized.{initialized_view};
-ghost use Rattle.declaration_types.specs.Initializers as spec;
-ghost use Rattle.declaration_types.specs.Initializers.{made_view};
+ghost use Rattle.initializer_lists.specs.Initializers as spec;
+ghost use Rattle.initializer_lists.specs.Initializers.{made_view};
 
 use crate::braced_lists::fill;
 use c_layout::{CType, Expr, Initializer};

@@ -16,7 +16,7 @@ use Rattle.initializer_types.specs.Literals.{bare_literal, character_room, only_
 use Rattle.initializer_types.specs.ListStores.{FillingView, nothing}
 use Rattle.initializer_types.specs.Initialized.{InitializedView, initialized_view, by_operand, spelled, filled}
 use Rattle.initializer_types.specs.declared.object_initializers.Initialized.{Initialized}
-use Rattle.declaration_types.specs.BracedLists.{fill}
+use Rattle.initializer_lists.specs.BracedLists.{fill}
 
 -- what an initializer does, and the object's type with its length
 abbrev pub made_view : Initialized × CType → InitializedView × Ty

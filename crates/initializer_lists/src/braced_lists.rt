@@ -7,7 +7,7 @@ ghost use Rattle.type_scopes.specs.States.{state};
 ghost use Rattle.initializer_types.specs.Subobjects.{subobject_view, cursor_view};
 ghost use Rattle.initializer_types.specs.Literals as literals;
 ghost use Rattle.initializer_types.specs.ListStores.{filling_view};
-ghost use Rattle.declaration_types.specs.BracedLists as spec;
+ghost use Rattle.initializer_lists.specs.BracedLists as spec;
 
 use c_layout::{Expr, Initializer};
 use cc_base::{Memory, Place, Stop, Text};
