@@ -6,3 +6,4 @@ pub mod Specifiers
 pub mod SpecifierTrees
 pub mod Parameters
 pub mod FunctionHeads
+pub mod Initializers
