@@ -1,154 +1,89 @@
-//! Functions (6.7.6.3, 6.9.1 of ISO/IEC 9899:2011).
-use crate::body_flow::BodyFlow;
-use crate::label_numbers::add_labels;
-use crate::local_declarations::BlockParts;
-use crate::statements::items;
-use c_layout::{CType, Function, FunctionDeclarator, Name, SpecWord, Statement, Storage};
+//! Function definitions (6.9.1 of ISO/IEC 9899:2011).
+ghost use Rattle.std.specs.Prelude.{◌≡◌, map};
+ghost use Rattle.c_layout.specs.DeclarationTrees as syntax;
+ghost use Rattle.c_layout.specs.DeclarationTrees.{
+  name_view,
+  spec_tree,
+  function_declarator_view,
+  statement_trees,
+};
+ghost use Rattle.c_layout.specs.CheckedUnits.{function_view};
+ghost use Rattle.type_scopes.specs.Answers.{Leads};
+ghost use Rattle.type_scopes.specs.States.{state};
+ghost use Rattle.declaration_types.specs.Specifiers.{specified_view};
+ghost use Rattle.declaration_types.specs.FunctionHeads.{head_view};
+ghost use Rattle.declared_objects.specs.LocalObjects.{parts_view};
+ghost use Rattle.c_types.specs.FunctionDefinitions as spec;
+
+use c_layout::{Function, FunctionDeclarator, Name, SpecWord, Statement};
 use cc_base::{Place, Stop};
-use declaration_types::{FunctionHead, Specified, function_head, is_library_name, specifiers_of};
-use type_scopes::{Body, Context, DeclaredType, Meaning, Signature, redeclared, type_fault};
+use declaration_types::{FunctionHead, Specified, function_head, specifiers_of};
+use declared_objects::BlockParts;
+use file_declarations::{function_slot, is_typedef, judged_head, taken_body};
+use statement_rules::{BodyFlow, no_parts};
+use statement_types::{add_labels, items};
+use type_scopes::{Body, Context, type_fault};
 
-/// What a function's name meant before its declarator.
-#[derive(Clone, Copy)]
-enum NameBefore {
-    Nothing,
-    Function(u32),
-    Other,
-}
-
-/// What a function's name means so far.
-fn name_before(cx: &Context, known: u32) -> NameBefore {
-    match cx.scopes.find_here(known) {
-        None => NameBefore::Nothing,
-        Some(Meaning::Function(number)) => NameBefore::Function(number),
-        Some(_) => NameBefore::Other,
-    }
-}
-
-/// Declares a function whose type is not known yet; its number among those declared.
-fn new_function(cx: &mut Context, known: u32) -> Result<u32, Stop> {
-    let number = u32::try_from(cx.functions.len()).map_err(|_| Stop::Memory)?;
-    let defined = cx.definitions.function(known);
-    cx.functions.push(Signature {
-        result: DeclaredType::plain(CType::Void),
-        parameters: Vec::new(cx.alloc),
-        number: defined,
-        is_defined: false,
-    })?;
-    cx.scopes.declare(known, Meaning::Function(number))?;
-    Ok(number)
-}
-
-/// The number of a function's declaration, a new one where its name meant nothing.
-fn slot(cx: &mut Context, known: u32, before: NameBefore) -> Result<u32, Stop> {
-    match before {
-        NameBefore::Nothing => new_function(cx, known),
-        NameBefore::Function(number) => Ok(number),
-        NameBefore::Other => Ok(u32::MAX),
-    }
-}
-
-/// Gives a function its type, which has to be that of its earlier declarations.
-fn set_signature(
-    cx: &mut Context,
-    name: &Name,
-    number: u32,
-    before: NameBefore,
-    head: &FunctionHead,
-) -> Result<(), Stop> {
-    if is_library_name(&name.text) {
-        return Err(redeclared(name.place));
-    }
-    let declared = head.declared.copy(cx.alloc)?;
-    let parameters = type_scopes::copied_types(cx.alloc, head.parameters.as_slice())?;
-    let Some(function) = cx.functions.get_mut(number as usize) else {
-        return Err(redeclared(name.place));
+/// The body at hand is that of the function of a name.
+fn number_body(cx: &mut Context, known: u32)
+    ensures { state cx.new ≡ spec.with_number known (state cx.old) }
+{
+    let number = match cx.definitions.function(known) {
+        Some(number) => number,
+        None => 0,
     };
-    match before {
-        NameBefore::Nothing => {
-            function.result = declared;
-            function.parameters = parameters;
-            Ok(())
-        }
-        NameBefore::Function(_) => {
-            if !function.is_same(&declared.ctype, parameters.as_slice()) {
-                return Err(redeclared(name.place));
-            }
-            function.result = declared;
-            Ok(())
-        }
-        NameBefore::Other => Err(redeclared(name.place)),
-    }
+    cx.body.number = number;
 }
 
-/// A prototype: its parameters have a scope of their own.
-pub fn prototype(
+/// The head of a definition, in a scope of its own that stays open.
+fn defined_head(
     cx: &mut Context,
     base: &Specified,
     declarator: &FunctionDeclarator,
-) -> Result<(), Stop> {
-    let known = cx.name(&declarator.name.text)?;
-    let before = name_before(cx, known);
-    let number = slot(cx, known, before)?;
+) -> Result<FunctionHead, Stop>
+    ensures { Leads head_view (spec.defined_head (state cx.old) (specified_view base.now) (function_declarator_view declarator.now)) result (state cx.new) }
+{
+    let slot = function_slot(cx, &declarator.name)?;
     cx.scopes.open()?;
     let head = function_head(cx, &base.declared, declarator)?;
-    cx.scopes.close();
-    set_signature(cx, &declarator.name, number, before, &head)
+    judged_head(cx, &declarator.name, slot, &head)?;
+    number_body(cx, slot.known);
+    Ok(head)
 }
 
-/// Notes that a function is defined; whether it was before.
-fn meet_definition(cx: &mut Context, number: u32) -> bool {
-    match cx.functions.get_mut(number as usize) {
-        Some(function) => {
-            let before = function.is_defined;
-            function.is_defined = true;
-            before
-        }
-        None => false,
-    }
-}
-
-/// The parts of a body that is typed in the scope of its parameters.
+/// The parts of a body that is typed in the scope of its parameters, and how many labels it has.
 fn body_parts(
     cx: &mut Context,
-    head: FunctionHead,
+    head: &FunctionHead,
     list: &[Statement],
-) -> Result<(BlockParts, u32, DeclaredType), Stop> {
-    let FunctionHead { declared, .. } = head;
-    let mut flow = BodyFlow::new(cx.alloc, declared.ctype.copy(cx.alloc)?);
+) -> Result<(BlockParts, u32), Stop>
+    ensures { Leads (λ r. (parts_view r.0, r.1)) (spec.body_parts (head_view head.now) (statement_trees (map syntax.statement_tree list.now)) (state cx.old)) result (state cx.new) }
+{
+    let result_type = head.declared.ctype.copy(cx.alloc)?;
+    let mut flow = BodyFlow::new(cx.alloc, result_type);
     add_labels(cx, &mut flow, list)?;
-    let mut parts = BlockParts {
-        objects: Vec::new(cx.alloc),
-        statements: Vec::new(cx.alloc),
-    };
+    let mut parts = no_parts(cx.alloc);
     items(cx, &mut flow, list, &mut parts)?;
-    Ok((parts, flow.label_count(), declared))
+    Ok((parts, flow.label_count()))
 }
 
-/// The objects of the body at hand, which ends.
-fn taken_body(cx: &mut Context) -> Body {
-    let empty = Body {
-        number: 0,
-        locals: Vec::new(cx.alloc),
-        enumerations: Vec::new(cx.alloc),
-    };
-    std::mem::replace(&mut cx.body, empty)
-}
-
-/// The function with a body whose head has a type.
-fn with_body(
+/// A function of the parts of its body.
+fn function_of_parts(
     cx: &mut Context,
     name: &Name,
     head: FunctionHead,
-    list: &[Statement],
-) -> Result<Function, Stop> {
+    body: (BlockParts, u32),
+) -> Result<Function, Stop>
+    ensures { Leads function_view (spec.function_of_parts (name_view name.now) (head_view head) (parts_view body.0, body.1) (state cx.old)) result (state cx.new) }
+{
     let parameters = u32::try_from(head.parameters.len()).map_err(|_| Stop::Memory)?;
     let text = name.text.copy(cx.alloc)?;
-    let (parts, labels, declared) = body_parts(cx, head, list)?;
+    let (parts, labels) = body;
     let BlockParts {
         objects,
         statements,
     } = parts;
+    let FunctionHead { declared, .. } = head;
     let Body { locals, .. } = taken_body(cx);
     Ok(Function {
         name: text,
@@ -162,39 +97,32 @@ fn with_body(
     })
 }
 
-/// Judges the head of a definition at its name.
-fn judged_head(
+/// The function with a body whose head has a type.
+fn with_body(
     cx: &mut Context,
     name: &Name,
-    number: u32,
-    before: NameBefore,
-    head: &FunctionHead,
-) -> Result<(), Stop> {
-    set_signature(cx, name, number, before, head)?;
-    if meet_definition(cx, number) {
-        return Err(redeclared(name.place));
-    }
-    if head.are_named {
-        Ok(())
-    } else {
-        Err(type_fault(name.place))
-    }
+    list: &[Statement],
+    head: FunctionHead,
+) -> Result<Function, Stop>
+    ensures { Leads function_view (spec.with_body (name_view name.now) (statement_trees (map syntax.statement_tree list.now)) (head_view head) (state cx.old)) result (state cx.new) }
+{
+    let body = body_parts(cx, &head, list)?;
+    function_of_parts(cx, name, head, body)
 }
 
-/// The head of a definition, in a scope of its own that stays open.
-fn defined_head(
+/// A definition whose specifiers are read.
+fn defined(
     cx: &mut Context,
-    base: &Specified,
     declarator: &FunctionDeclarator,
-) -> Result<FunctionHead, Stop> {
-    let known = cx.name(&declarator.name.text)?;
-    let before = name_before(cx, known);
-    let number = slot(cx, known, before)?;
-    cx.scopes.open()?;
-    let head = function_head(cx, &base.declared, declarator)?;
-    judged_head(cx, &declarator.name, number, before, &head)?;
-    cx.body.number = cx.definitions.function(known).unwrap_or(0);
-    Ok(head)
+    list: &[Statement],
+    base: &Specified,
+) -> Result<Function, Stop>
+    ensures { Leads function_view (spec.defined (function_declarator_view declarator.now) (statement_trees (map syntax.statement_tree list.now)) (specified_view base.now) (state cx.old)) result (state cx.new) }
+{
+    let head = defined_head(cx, base, declarator)?;
+    let made = with_body(cx, &declarator.name, list, head)?;
+    cx.scopes.close();
+    Ok(made)
 }
 
 /// A function definition.
@@ -204,13 +132,12 @@ pub fn function_definition(
     words: &[SpecWord],
     declarator: &FunctionDeclarator,
     list: &[Statement],
-) -> Result<Function, Stop> {
+) -> Result<Function, Stop>
+    ensures { Leads function_view (spec.function_definition (state cx.old) place (map spec_tree words.now) (function_declarator_view declarator.now) (map syntax.statement_tree list.now)) result (state cx.new) }
+{
     let base = specifiers_of(cx, place, words, false)?;
-    if base.storage == Some(Storage::Typedef) {
+    if is_typedef(base.storage) {
         return Err(type_fault(declarator.name.place));
     }
-    let head = defined_head(cx, &base, declarator)?;
-    let made = with_body(cx, &declarator.name, head, list)?;
-    cx.scopes.close();
-    Ok(made)
+    defined(cx, declarator, list, &base)
 }

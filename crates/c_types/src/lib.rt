@@ -2,15 +2,9 @@
 //! tree, or the first refusal in reading order.
 #![tactic(auto)]
 
-mod body_flow;
-mod compound_statements;
-mod external_declarations;
 mod function_definitions;
-mod label_numbers;
-mod local_declarations;
-mod simple_statements;
-mod statements;
 mod unit_checks;
 mod unit_definitions;
+mod unit_entries;
 
 pub use unit_checks::check;

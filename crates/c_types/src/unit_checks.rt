@@ -1,23 +1,33 @@
 //! The check of a unit (6.9 of ISO/IEC 9899:2011).
-ghost use Rattle.std.specs.Prelude.{◌≡◌, ◌<◌, true, length, vec_len, IfOk, IfSome};
+ghost use Rattle.std.specs.Prelude.{◌≡◌, ◌<◌, true, [], map, length, vec_len, Some, IfOk};
 ghost use Rattle.c_layout.specs.Models.{is_model};
+ghost use Rattle.c_layout.specs.DeclarationTrees.{external_tree, unit_tree};
+ghost use Rattle.c_layout.specs.CheckedUnits.{function_view, unit_view};
+ghost use Rattle.type_scopes.specs.Answers.{Gives, Leads};
+ghost use Rattle.type_scopes.specs.States.{state};
+ghost use Rattle.declaration_types.specs.ContextSteps.{with_struct};
+ghost use Rattle.c_types.specs.UnitEntries.{entry_number};
+ghost use Rattle.c_types.specs.Streams as streams;
+ghost use Rattle.c_types.specs.UnitChecks as spec;
 
-use crate::external_declarations::external_declaration;
 use crate::function_definitions::function_definition;
 use crate::unit_definitions::add_definitions;
-use c_layout::{
-    CType, Checked, External, Function, Model, StaticBase, StaticStore, StaticValue, Tree7,
-};
-use cc_base::{Memory, Place, Refusal, Stop, Text};
+use crate::unit_entries::judged_unit;
+use c_layout::{Checked, External, Function, Model, Tree7};
+use cc_base::{Memory, Stop, Text};
+use declared_objects::finish_objects;
+use file_declarations::external_declaration;
 use std::alloc::Global;
-use type_scopes::{Context, DataModel, Tag, refused};
+use type_scopes::{Context, DataModel, Tag};
 
 /// Types one external declaration; its function goes to the others.
 fn external(
     cx: &mut Context,
     functions: &mut Vec<Function>,
     external: &External,
-) -> Result<(), Stop> {
+) -> Result<(), Stop>
+    ensures { Leads (λ _. map function_view functions.new.items) (spec.external (state cx.old) (map function_view functions.old.items) (external_tree external.now)) result (state cx.new) }
+{
     match external {
         External::Declaration(at, words, declarators) => {
             external_declaration(cx, *at, words.as_slice(), declarators.as_slice())
@@ -30,134 +40,50 @@ fn external(
     }
 }
 
-/// An array without a length in the whole unit has one element (6.9.2p2).
-fn completed(ctype: CType) -> CType {
-    match ctype {
-        CType::Array(element, 0) => CType::Array(element, 1),
-        other => other,
-    }
-}
-
-/// Gives each array of unknown length one element.
-fn complete_objects(cx: &mut Context) -> Result<(), Memory> {
-    for at in 0..cx.statics.len() {
-        if let Some(object) = cx.statics.get_mut(at) {
-            let ctype = std::mem::replace(&mut object.ctype, CType::Void);
-            object.ctype = completed(ctype);
-        }
-    }
-    Ok(())
-}
-
-/// The sizes of the objects of static storage.
-fn object_sizes(cx: &Context) -> Result<Vec<u64>, Memory> {
-    let mut sizes = Vec::new(cx.alloc);
-    for object in &cx.statics {
-        sizes.push(cx.size_of(&object.ctype).unwrap_or(0))?;
-    }
-    Ok(sizes)
-}
-
-/// A static value whose bound is that of an object whose length was not known.
-fn bounded(value: StaticValue, sizes: &[u64]) -> StaticValue {
-    match value {
-        StaticValue::Address(StaticBase::Object(number), offset, low, u64::MAX) => {
-            let high = sizes.get(number as usize).copied().unwrap_or(0);
-            StaticValue::Address(StaticBase::Object(number), offset, low, high)
-        }
-        other => other,
-    }
-}
-
-/// Bounds the addresses in an object's initializer.
-fn bound_stores(stores: &mut Vec<StaticStore>, sizes: &[u64]) {
-    for at in 0..stores.len() {
-        if let Some(StaticStore::Value(_, value)) = stores.get_mut(at) {
-            *value = bounded(*value, sizes);
-        }
-    }
-}
-
-/// Bounds the addresses in all static initializers.
-fn bound_objects(cx: &mut Context) -> Result<(), Memory> {
-    let sizes = object_sizes(cx)?;
-    for at in 0..cx.statics.len() {
-        if let Some(object) = cx.statics.get_mut(at) {
-            bound_stores(&mut object.stores, sizes.as_slice());
-        }
-    }
-    Ok(())
-}
-
-/// Whether each parameter of a function has an integer type.
-fn takes_integers(function: &Function) -> bool {
-    let count = function.parameters as usize;
-    function
-        .locals
-        .iter()
-        .take(count)
-        .all(|object| matches!(&object.ctype, CType::Int(_)))
-}
-
-/// The number of the entry, where it may be one (5.1.2.2.1 as narrowed by the profile).
-fn entry_number(functions: &[Function], entry: &str) -> Option<u32>
-    ensures { IfSome result (λ n. n < length functions.now) }
+/// Declares a struct of which nothing is known; its number.
+fn declare_struct(cx: &mut Context) -> Result<u32, Memory>
+    ensures number { IfOk result (λ n. n ≡ length (state cx.old).types.structs) }
+    ensures after { IfOk result (λ _. state cx.new ≡ with_struct (state cx.old)) }
 {
-    for at in 0..functions.len() {
-        let function = &functions[at];
-        if function.name.as_bytes() == entry.as_bytes() {
-            if takes_integers(function) {
-                return u32::try_from(at).ok();
-            }
-            return None;
-        }
-    }
-    None
-}
-
-/// The unit's first place.
-fn first_place() -> Place {
-    Place {
-        file: 0,
-        line: 1,
-        col: 1,
-    }
+    cx.types.declare(cx.alloc)
 }
 
 /// Declares the struct that a stream points to, which a header completes (7.21.1p2).
-fn declare_stream(cx: &mut Context) -> Result<(), Memory> {
+fn declare_stream(cx: &mut Context) -> Result<(), Memory>
+    ensures { IfOk result (λ _. state cx.new ≡ streams.with_stream (state cx.old)) }
+{
     let tag = Text::from_bytes(cx.alloc, b"__file")?;
     let name = cx.name(&tag)?;
-    let number = cx.types.declare(cx.alloc)?;
+    let number = declare_struct(cx)?;
     cx.scopes.declare_tag(name, Tag::Struct(number))?;
     cx.stream = number;
     Ok(())
 }
 
+/// Types external declarations in order; their functions go to the others.
+fn externals_of(
+    cx: &mut Context,
+    functions: &mut Vec<Function>,
+    externals: &[External],
+) -> Result<(), Stop>
+    ensures { Leads (λ _. map function_view functions.new.items) (spec.externals (state cx.old) (map function_view functions.old.items) (map external_tree externals.now)) result (state cx.new) }
+{
+    for next in externals {
+        external(cx, functions, next)?;
+    }
+    Ok(())
+}
+
 /// Types the whole tree; its functions.
-fn typed_unit(cx: &mut Context, tree: &Tree7) -> Result<Vec<Function>, Stop> {
+fn typed_unit(cx: &mut Context, tree: &Tree7) -> Result<Vec<Function>, Stop>
+    ensures { Leads (λ f. map function_view f.items) (spec.typed_unit (state cx.old) (unit_tree tree.now)) result (state cx.new) }
+{
     declare_stream(cx)?;
     add_definitions(cx, tree.externals.as_slice())?;
     let mut functions = Vec::new(cx.alloc);
-    for next in &tree.externals {
-        external(cx, &mut functions, next)?;
-    }
-    complete_objects(cx)?;
-    bound_objects(cx)?;
+    externals_of(cx, &mut functions, tree.externals.as_slice())?;
+    finish_objects(cx)?;
     Ok(functions)
-}
-
-/// The number of the entry, after the refusals that need the whole unit.
-fn judged_unit(cx: &Context, functions: &[Function], entry: &str) -> Result<u32, Stop>
-    ensures { IfOk result (λ n. n < length functions.now) }
-{
-    let Some(number) = entry_number(functions, entry) else {
-        return Err(refused(first_place(), Refusal::NoEntry));
-    };
-    match cx.calls.first_cycle(cx.alloc, functions.len())? {
-        Some(place) => Err(refused(place, Refusal::Recursion)),
-        None => Ok(number),
-    }
 }
 
 /// The checked tree of a unit, whose runs start at the function `entry`.
@@ -169,12 +95,14 @@ fn judged_unit(cx: &Context, functions: &[Function], entry: &str) -> Result<u32,
 /// cycle with the calls before it; or want of memory.
 pub fn check(alloc: Global, tree: &Tree7, model: &Model, entry: &str) -> Result<Checked, Stop>
     requires { is_model model.now ≡ true }
+    ensures checked { Gives unit_view (spec.check model.now entry.now (unit_tree tree.now)) result }
     ensures model { IfOk result (λ unit. unit.model ≡ model.now) }
     ensures entry { IfOk result (λ unit. unit.entry < vec_len unit.functions) }
+    ensures chosen { IfOk result (λ unit. entry_number (map function_view unit.functions.items) entry.now ≡ Some unit.entry) }
 {
     let mut cx = Context::new(alloc, DataModel::new(model));
     let functions = typed_unit(&mut cx, tree)?;
-    let entry = judged_unit(&cx, functions.as_slice(), entry)?;
+    let entry = judged_unit(alloc, &cx.calls, functions.as_slice(), entry)?;
     let Context {
         types,
         statics,

@@ -34,4 +34,6 @@ mod taint_rows;
 #[cfg(test)]
 mod text_rule_rows;
 #[cfg(test)]
+mod turn_rows;
+#[cfg(test)]
 mod typing_rows;

@@ -9,6 +9,10 @@ use Rattle.clap.specs.declared.builder.action.ArgAction.TheVariants.{Set, Append
 abbrev pub option_rule : List ℕ → List ℕ → Rule
 option_rule name default = record (new_rule name) { long = Some name; action = Some Set; defaults = default ∷ [] }
 
+-- an option that takes a value and has no default
+abbrev pub optional_rule : List ℕ → Rule
+optional_rule name = record (new_rule name) { long = Some name; action = Some Set }
+
 -- a word that must stand
 abbrev pub word_rule : List ℕ → Rule
 word_rule name = record (new_rule name) { required = true; action = Some Set }
@@ -28,7 +32,7 @@ abbrev pub with_options : App → App
 with_options a = with_rule (with_rule (with_rule a (option_rule (codes "model") (codes "lp64"))) (option_rule (codes "format") (codes "text"))) (option_rule (codes "entry") (codes "main"))
 
 abbrev pub with_numbers : App → App
-with_numbers a = with_rule (with_rule a (option_rule (codes "seed") (codes "1"))) (option_rule (codes "count") (codes "10"))
+with_numbers a = with_rule (with_rule (with_rule a (option_rule (codes "seed") (codes "1"))) (option_rule (codes "count") (codes "10"))) (optional_rule (codes "turns"))
 
 unfoldable pub command_app : App
 command_app = with_numbers (with_options (with_words bare_app))

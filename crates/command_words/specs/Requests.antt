@@ -1,6 +1,7 @@
 -- What the words of a command line ask for.
 use Rattle.std.specs.Prelude.{ℕ, ◌^◌, Bool, true, false, ◌&&◌, nat_lt, nat_le, nat_eq, List, [], ◌∷◌, length, map, Option, Some, None, codes, string_bytes, if◌then◌else◌, unwrap_or}
 use Rattle.std.specs.List.{list_all}
+use Rattle.std.specs.Option.{option_map}
 use Rattle.std.specs.Cmp.Lexicographic.{pointwise}
 use Rattle.std.specs.Str.Parse.{digits_value, without_leading_plus}
 use Rattle.std.specs.Char.{digit_value}
@@ -15,6 +16,7 @@ use Rattle.command_words.specs.declared.commands.Format.{Format}
 use Rattle.command_words.specs.declared.commands.Format.TheVariants as format
 use Rattle.command_words.specs.declared.commands.Request.{Request}
 use Rattle.command_words.specs.declared.commands.Request.TheVariants as request
+use Rattle.command_words.specs.declared.reading.OptionValues.{OptionValues}
 use Rattle.command_words.specs.CommandLine.{command_app}
 
 abbrev pub Bytes : Type 0
@@ -27,11 +29,12 @@ pub record CommandView : Type 0 where
   pub model : Bytes
   pub format : Format
   pub entry : Bytes
+  pub turns : Option ℕ
   pub seed : ℕ
   pub count : ℕ
 
 abbrev pub command_view : Command → CommandView
-command_view c = record { unit = string_bytes c.unit; dirs = map string_bytes c.dirs.items; model = string_bytes c.model; format = c.format; entry = string_bytes c.entry; seed = c.seed; count = c.count }
+command_view c = record { unit = string_bytes c.unit; dirs = map string_bytes c.dirs.items; model = string_bytes c.model; format = c.format; entry = string_bytes c.entry; turns = c.turns; seed = c.seed; count = c.count }
 
 pub data Asked : Type 0 where
   Help : Asked
@@ -77,23 +80,28 @@ text_in rows id = unwrap_or (first_of id rows) []
 abbrev pub texts_in : List Row → Bytes → List Bytes
 texts_in rows id = unwrap_or (all_of id rows) []
 
-abbrev pub command_in : List Row → Format → ℕ → ℕ → CommandView
-command_in rows form seed count = record { unit = text_in rows (codes "unit"); dirs = texts_in rows (codes "dirs"); model = text_in rows (codes "model"); format = form; entry = text_in rows (codes "entry"); seed = seed; count = count }
+abbrev pub command_in : List Row → OptionValues → CommandView
+command_in rows v = record { unit = text_in rows (codes "unit"); dirs = texts_in rows (codes "dirs"); model = text_in rows (codes "model"); format = v.format; entry = text_in rows (codes "entry"); turns = v.turns; seed = v.seed; count = v.count }
 
 abbrev pub verb_of : Bytes → CommandView → Asked
 verb_of verb c = if is_text verb (codes "check") then Check c else (if is_text verb (codes "load") then Load c else Refused)
 
--- the format, the seed and the count, where each is in its form
-abbrev pub values_of : Option Format → Option ℕ → Option ℕ → Option (Format × ℕ × ℕ)
-values_of (Some form) (Some seed) (Some count) = Some (form, seed, count)
-values_of _ _ _ = None
+-- the turns that are asked for, where an option asks for some; none where they are out of range
+abbrev pub turns_named : Option Bytes → Option (Option ℕ)
+turns_named None = Some None
+turns_named (Some text) = option_map Some (number_within text 0 64)
 
-abbrev pub values_in : List Row → Option (Format × ℕ × ℕ)
-values_in rows = values_of (format_named (text_in rows (codes "format"))) (number_within (text_in rows (codes "seed")) 0 2147483647) (number_within (text_in rows (codes "count")) 1 300)
+-- the values that are no plain texts, where each is in its form
+abbrev pub values_of : Option Format → Option (Option ℕ) → Option ℕ → Option ℕ → Option OptionValues
+values_of (Some form) (Some turns) (Some seed) (Some count) = Some (record { format = form; turns = turns; seed = seed; count = count })
+values_of _ _ _ _ = None
 
-abbrev pub asked_with : List Row → Option (Format × ℕ × ℕ) → Asked
+abbrev pub values_in : List Row → Option OptionValues
+values_in rows = values_of (format_named (text_in rows (codes "format"))) (turns_named (first_of (codes "turns") rows)) (number_within (text_in rows (codes "seed")) 0 2147483647) (number_within (text_in rows (codes "count")) 1 300)
+
+abbrev pub asked_with : List Row → Option OptionValues → Asked
 asked_with rows None = Refused
-asked_with rows (Some v) = verb_of (text_in rows (codes "verb")) (command_in rows v.0 v.1 v.2)
+asked_with rows (Some v) = verb_of (text_in rows (codes "verb")) (command_in rows v)
 
 -- what the values of the words and options ask for
 abbrev pub asked_in : List Row → Asked

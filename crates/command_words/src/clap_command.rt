@@ -2,7 +2,7 @@
 ghost use Rattle.std.specs.Prelude.{◌≡◌, false, IfOk};
 ghost use Rattle.clap.specs.Simple.{app_of};
 ghost use Rattle.clap.specs.Walk.{rule_of};
-ghost use Rattle.command_words.specs.CommandLine.{option_rule, word_rule, words_rule, with_words, with_options, with_numbers, command_app};
+ghost use Rattle.command_words.specs.CommandLine.{option_rule, optional_rule, word_rule, words_rule, with_words, with_options, with_numbers, command_app};
 
 use clap::{Arg, ArgAction, Command};
 use std::alloc::{AllocError, Global};
@@ -16,6 +16,14 @@ fn option<'a>(alloc: Global, name: &'a str, default: &'a str) -> Arg<'a>
         .long(name)
         .action(ArgAction::Set)
         .default_value(default)
+}
+
+/// An option that takes a value and has no default.
+fn optional<'a>(alloc: Global, name: &'a str) -> Arg<'a>
+    ensures rule { rule_of result ≡ optional_rule name.entry.now }
+    ensures local { result.global ≡ false }
+{
+    Arg::new(alloc, name).long(name).action(ArgAction::Set)
 }
 
 /// A word that must stand.
@@ -60,7 +68,8 @@ fn with_numbers<'a>(alloc: Global, command: Command<'a>) -> Result<Command<'a>, 
 {
     command
         .arg(option(alloc, "seed", "1"))?
-        .arg(option(alloc, "count", "10"))
+        .arg(option(alloc, "count", "10"))?
+        .arg(optional(alloc, "turns"))
 }
 
 /// The command line of the program, without the program's own name.

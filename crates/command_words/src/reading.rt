@@ -1,8 +1,8 @@
 //! Reading the words of a command line.
-ghost use Rattle.std.specs.Prelude.{◌≡◌, IfOk, map, string_bytes, codes};
+ghost use Rattle.std.specs.Prelude.{◌≡◌, IfOk, Some, map, string_bytes, codes};
 ghost use Rattle.clap.specs.Matches.{found_of};
-ghost use Rattle.clap.specs.Walk.{rows_of};
-ghost use Rattle.command_words.specs.Requests.{is_only, format_named, text_in, texts_in, command_in, command_view, values_in, asked_in, asked_by, is_memory_kind, asked, asked_of_command};
+ghost use Rattle.clap.specs.Walk.{rows_of, first_of};
+ghost use Rattle.command_words.specs.Requests.{is_only, format_named, turns_named, text_in, texts_in, command_in, command_view, values_in, asked_in, asked_by, is_memory_kind, asked, asked_of_command};
 ghost use Rattle.clap.specs.Values.{kind_of};
 
 use crate::clap_command::command;
@@ -45,6 +45,26 @@ fn format_of(text: &str) -> Option<Format>
     }
 }
 
+/// The turns that a number of an option asks for; None where it is out of range.
+fn turns_named(text: &str) -> Option<Option<u32>>
+    ensures { result ≡ turns_named (Some text.now) }
+{
+    match number_within(text, 0, 64) {
+        Some(turns) => Some(Some(turns)),
+        None => None,
+    }
+}
+
+/// The turns that are asked for, where an option asks for some.
+fn turns_of(matches: &ArgMatches) -> Option<Option<u32>>
+    ensures { result ≡ turns_named (first_of (codes "turns") (rows_of (found_of matches.now))) }
+{
+    match matches.get_str("turns") {
+        Some(text) => turns_named(text),
+        None => Some(None),
+    }
+}
+
 /// Copies of texts.
 fn copied(alloc: Global, names: &[&str]) -> Result<Vec<String>, AllocError>
     ensures { IfOk result (λ v. map string_bytes v.items ≡ map (λ s. s.now) names.now) }
@@ -66,24 +86,37 @@ fn dirs_of(alloc: Global, matches: &ArgMatches) -> Result<Vec<String>, AllocErro
     }
 }
 
+/// The values that are no plain texts.
+#[derive(Clone, Copy)]
+struct OptionValues {
+    format: Format,
+    turns: Option<u32>,
+    seed: u32,
+    count: u32,
+}
+
 /// The values that are no plain texts; None where one is out of form.
-fn checked_values(matches: &ArgMatches) -> Option<(Format, u32, u32)>
+fn checked_values(matches: &ArgMatches) -> Option<OptionValues>
     ensures { result ≡ values_in (rows_of (found_of matches.now)) }
 {
     let format = format_of(text_of(matches, "format"))?;
+    let turns = turns_of(matches)?;
     let seed = number_within(text_of(matches, "seed"), 0, 2_147_483_647)?;
     let count = number_within(text_of(matches, "count"), 1, 300)?;
-    Some((format, seed, count))
+    Some(OptionValues {
+        format,
+        turns,
+        seed,
+        count,
+    })
 }
 
 fn command_of(
     alloc: Global,
     matches: &ArgMatches,
-    format: Format,
-    seed: u32,
-    count: u32,
+    values: OptionValues,
 ) -> Result<Command, AllocError>
-    ensures { IfOk result (λ c. command_view c ≡ command_in (rows_of (found_of matches.now)) format seed count) }
+    ensures { IfOk result (λ c. command_view c ≡ command_in (rows_of (found_of matches.now)) values) }
 {
     let unit = String::from_str(alloc, text_of(matches, "unit"))?;
     let model = String::from_str(alloc, text_of(matches, "model"))?;
@@ -93,24 +126,25 @@ fn command_of(
         unit,
         dirs,
         model,
-        format,
+        format: values.format,
         entry,
-        seed,
-        count,
+        turns: values.turns,
+        seed: values.seed,
+        count: values.count,
     })
 }
 
 fn request_of(alloc: Global, matches: &ArgMatches) -> Result<Request, AllocError>
     ensures { IfOk result (λ r. asked_by r ≡ asked_in (rows_of (found_of matches.now))) }
 {
-    let Some((format, seed, count)) = checked_values(matches) else {
+    let Some(values) = checked_values(matches) else {
         return Ok(Request::Refused);
     };
     let verb = text_of(matches, "verb");
     if verb == "check" {
-        Ok(Request::Check(command_of(alloc, matches, format, seed, count)?))
+        Ok(Request::Check(command_of(alloc, matches, values)?))
     } else if verb == "load" {
-        Ok(Request::Load(command_of(alloc, matches, format, seed, count)?))
+        Ok(Request::Load(command_of(alloc, matches, values)?))
     } else {
         Ok(Request::Refused)
     }

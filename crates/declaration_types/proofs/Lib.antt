@@ -1,1 +1,3 @@
 pub mod Pointers
+pub mod Enumerators
+mod Rows

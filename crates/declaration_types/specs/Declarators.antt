@@ -2,12 +2,17 @@
 use Rattle.std.specs.Prelude.{ℕ, ◌==◌, Bool, true, false, cond, List, [], ◌∷◌, ◌++◌, length, replicate, Option, Some, None, Ok, Err}
 use Rattle.cc_base.specs.declared.diagnostics.Place.{Place}
 use Rattle.c_layout.specs.Types.{Ty}
+use Rattle.c_layout.specs.SyntaxTrees.{Tree}
+use Rattle.c_layout.specs.DeclarationTrees.{SuffixView, DeclaratorLayerView}
+use Rattle.type_scopes.specs.Answers.{after, kept}
 use Rattle.type_scopes.specs.Known.{Known}
 use Rattle.type_scopes.specs.Refusals.{Ruled, constant_needed, or_type_fault}
 use Rattle.type_scopes.specs.DeclaredTypes.{DeclaredView, plain}
+use Rattle.type_scopes.specs.States.{State}
 use Rattle.type_scopes.specs.TypeSteps.{declarator_type}
 use Rattle.type_scopes.specs.declared.type_steps.TypeStep.{TypeStep}
 use Rattle.type_scopes.specs.declared.type_steps.TypeStep.TheVariants as step
+use Rattle.expression_types.specs.Expressions as expressions
 use Rattle.declaration_types.specs.declared.declarators.TypedSteps.{TypedSteps}
 
 -- the steps of a declarator from its name outwards, and whether each length that it gives is a constant above 0
@@ -44,3 +49,44 @@ declared_with k at d steps = cond (length steps == 0) (Ok d) (plain_by (stepped_
 -- the type that a declarator gives its name
 abbrev pub declared_by : Known → Place → DeclaredView → StepsView → Ruled DeclaredView
 declared_by k at d v = cond v.are_constant (declared_with k at d v.steps) (constant_needed at)
+
+-- ---- the way down a declarator
+
+-- the length that brackets give; 0 stands for one that is not written
+abbrev pub suffix_length : State → Option Tree → Ruled (Option ℕ × State)
+suffix_length s None = Ok (Some 0, s)
+suffix_length s (Some e) = expressions.length s e
+
+abbrev pub lengthened : StepsView → Option ℕ → State → Ruled (StepsView × State)
+lengthened v length t = Ok (with_length v length, t)
+
+-- with the step of brackets
+abbrev pub with_array : State → StepsView → SuffixView → Ruled (StepsView × State)
+with_array s v a = after (suffix_length s a.length) (lengthened v)
+
+-- with those of several
+abbrev pub with_arrays : State → StepsView → List SuffixView → Ruled (StepsView × State)
+with_arrays s v [] = Ok (v, s)
+with_arrays s v (a ∷ more) = after (with_array s v a) (λ w t. with_arrays t w more)
+
+abbrev pub with_pointers : StepsView → ℕ → StepsView
+with_pointers v stars = record v { steps = v.steps ++ pointers stars }
+
+abbrev pub pointed : ℕ → StepsView → State → Ruled (StepsView × State)
+pointed stars v t = Ok (with_pointers v stars, t)
+
+-- with the steps of a layer: its brackets, and then its stars
+abbrev pub with_layer : State → StepsView → DeclaratorLayerView → Ruled (StepsView × State)
+with_layer s v l = after (with_arrays s v l.arrays) (pointed (length l.stars))
+
+-- the steps of layers: the last one is the innermost, and its lengths are the first to be typed
+abbrev pub typed_steps : State → List DeclaratorLayerView → Ruled (StepsView × State)
+typed_steps s [] = Ok (no_steps, s)
+typed_steps s (l ∷ inner) = after (typed_steps s inner) (λ v t. with_layer t v l)
+
+abbrev pub declared_in : Place → DeclaredView → StepsView → State → Ruled (DeclaredView × State)
+declared_in at d v t = kept t (declared_by t.known at d v)
+
+-- the type that a declarator gives its name, after its lengths were typed
+abbrev pub declared_type : State → Place → DeclaredView → List DeclaratorLayerView → Ruled (DeclaredView × State)
+declared_type s at d layers = after (typed_steps s layers) (declared_in at d)

@@ -1,11 +1,13 @@
 -- Enumerations (6.7.2.2).
-use Rattle.std.specs.Prelude.{ℕ, ℤ, pos, ◌+ℤ◌, int_lt, Bool, true, false, not, cond, List, [], ◌∷◌, ◌++◌, slice_set, is_none, Option, Some, None, Ok}
+use Rattle.std.specs.Prelude.{ℕ, ℤ, pos, negsuc, length, ◌+ℤ◌, int_lt, Bool, true, false, not, cond, List, [], ◌∷◌, ◌++◌, slice_set, is_none, Option, Some, None, Ok}
 use Rattle.cc_base.specs.declared.diagnostics.Place.{Place}
 use Rattle.c_layout.specs.CheckedTrees.{TermTree}
-use Rattle.c_layout.specs.DeclarationTrees.{NameView}
+use Rattle.c_layout.specs.SyntaxTrees.{Tree}
+use Rattle.c_layout.specs.DeclarationTrees.{NameView, EnumeratorView}
 use Rattle.type_rules.specs.IntegerKinds.{kind_of}
 use Rattle.type_rules.specs.ConstantFolding.{has_number}
 use Rattle.type_rules.specs.declared.integer_kinds.Rank.TheVariants as rank
+use Rattle.type_scopes.specs.Answers.{after}
 use Rattle.type_scopes.specs.Names.{number_in, found_here, found_tag_here}
 use Rattle.type_scopes.specs.Refusals.{Ruled, constant_needed, redeclared}
 use Rattle.type_scopes.specs.States.{State, with_name, with_constant}
@@ -13,6 +15,7 @@ use Rattle.type_scopes.specs.declared.meanings.Tag.{Tag}
 use Rattle.type_scopes.specs.declared.meanings.Tag.TheVariants as tag
 use Rattle.type_scopes.specs.declared.meanings.Meaning.TheVariants as meaning
 use Rattle.binary_operators.specs.Operands.{OperandView, term_of, term_type, term_constant, is_integer}
+use Rattle.expression_types.specs.Expressions.{typed, before}
 use Rattle.declaration_types.specs.Specifiers.{is_library_name}
 use Rattle.declaration_types.specs.ContextSteps.{with_tag, with_meaning}
 
@@ -64,3 +67,40 @@ with_enumeration s = record s { enumerations = s.enumerations ++ [] ∷ [] }
 -- the values of an enumeration
 abbrev pub with_values : State → ℕ → List ℤ → State
 with_values s number values = record s { enumerations = slice_set s.enumerations number values }
+
+-- ---- the way down an enumeration
+
+abbrev pub kept_value : OperandView → State → Ruled (Option ℤ × State)
+kept_value o s = Ok (constant_value o s)
+
+-- the value that an expression gives
+abbrev pub given : State → Tree → Ruled (Option ℤ × State)
+given s e = after (typed s e) kept_value
+
+-- the value of an enumeration constant behind another one
+abbrev pub enumerator_value : State → Option Tree → ℤ → Ruled (Option ℤ × State)
+enumerator_value s None last = Ok (next_value last, s)
+enumerator_value s (Some e) last = given s e
+
+-- an enumeration constant behind one of a value; its value
+abbrev pub declare_enumerator : State → EnumeratorView → ℤ → Ruled (ℤ × State)
+declare_enumerator s e last = after (enumerator_value s e.value last) (declare_value e.name)
+
+-- enumeration constants in order; their values
+abbrev pub enumerator_values : State → List EnumeratorView → ℤ → Ruled (List ℤ × State)
+enumerator_values s [] last = Ok ([], s)
+enumerator_values s (e ∷ es) last = after (declare_enumerator s e last) (λ n t. after (enumerator_values t es n) (before n))
+
+abbrev pub tagged : Option NameView → ℕ → State → Ruled (Unit {0} × State)
+tagged None number s = Ok (tt, s)
+tagged (Some t) number s = declare_tag t number s
+
+abbrev pub valued : ℕ → List ℤ → Unit {0} → State → Ruled (ℕ × State)
+valued number values u s = Ok (number, with_values s number values)
+
+abbrev pub enumerated_by : Option NameView → ℕ → List ℤ → State → Ruled (ℕ × State)
+enumerated_by tag number values s = after (tagged tag number s) (valued number values)
+
+-- an enumeration with a body: its constants are declared before its tag, and the first one without a value is 0; its number
+abbrev pub enumeration : State → Option NameView → List EnumeratorView → Ruled (ℕ × State)
+enumeration s tag es = after (enumerator_values (with_enumeration s) es (negsuc 0)) (enumerated_by tag (length s.enumerations))

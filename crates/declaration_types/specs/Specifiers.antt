@@ -3,8 +3,6 @@ use Rattle.std.specs.Prelude.{ℕ, nat_eq, Bool, true, false, cond, List, length
 use Rattle.std.specs.Str.Lossy.{utf8_valid_len}
 use Rattle.cc_base.specs.declared.diagnostics.Place.{Place}
 use Rattle.c_layout.specs.Types as ty
-use Rattle.c_layout.specs.DeclarationTrees as tree
-use Rattle.c_layout.specs.DeclarationTrees.{SpecTree}
 use Rattle.c_layout.specs.declared.data_model.Model.{Model}
 use Rattle.c_layout.specs.declared.syntax_tree.declarations.Storage.{Storage}
 use Rattle.lib_models.specs.Library.{function_named}
@@ -46,6 +44,10 @@ nothing_read = record { counts = no_words; named = None; storage = None; declare
 abbrev pub with_named : ReadingView → DeclaredView → Bool → ReadingView
 with_named r d declares = record r { named = Some d; declares = declares }
 
+-- a `struct`
+abbrev pub with_struct : ReadingView → ℕ → Bool → ReadingView
+with_struct r number declares = with_named r (plain (ty.Struct number)) declares
+
 -- whether bytes are a text
 abbrev pub is_utf8 : List ℕ → Bool
 is_utf8 bytes = nat_eq (utf8_valid_len bytes) (length bytes)
@@ -58,16 +60,9 @@ is_library_name name = cond (is_utf8 name) (is_some (function_named name)) false
 abbrev pub enumerated : Model → ℕ → DeclaredView
 enumerated m number = record { ctype = ty.Int (kind_of m rank.Int true); enumeration = Some number }
 
--- whether a `struct` or an `enum` declares something by itself
-abbrev pub word_declares : SpecTree → Bool
-word_declares (tree.StorageWord at word) = false
-word_declares (tree.Qualifier at) = false
-word_declares (tree.TypeOf at word) = false
-word_declares (tree.StructTag at tag) = is_some tag
-word_declares (tree.StructBody at tag members) = is_some tag
-word_declares (tree.EnumTag at tag) = true
-word_declares (tree.EnumBody at tag enumerators) = true
-word_declares (tree.TypedefName name) = false
+-- an `enum`, which declares something by itself
+abbrev pub with_enumeration : Model → ReadingView → ℕ → ReadingView
+with_enumeration m r number = with_named r (enumerated m number) true
 
 abbrev pub counted_as : Place → Option NamedKind → Ruled DeclaredView
 counted_as at None = type_fault at

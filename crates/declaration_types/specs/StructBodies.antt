@@ -1,12 +1,13 @@
 -- Structs with their members (6.7.2.1, 6.7.2.3).
-use Rattle.std.specs.Prelude.{ℕ, Bool, true, false, cond, List, length, Option, Some, None, Ok, Err}
+use Rattle.std.specs.Prelude.{ℕ, ◌+◌, Bool, true, false, cond, List, [], ◌∷◌, length, Option, Some, None, Ok, Err}
 use Rattle.cc_base.specs.declared.diagnostics.Place.{Place}
 use Rattle.c_layout.specs.Types.{Ty}
 use Rattle.c_layout.specs.StructViews.{StructView}
-use Rattle.c_layout.specs.StructLayouts.{Partial, added}
-use Rattle.c_layout.specs.DeclarationTrees.{NameView}
+use Rattle.c_layout.specs.StructLayouts.{Partial, added, finished}
+use Rattle.c_layout.specs.DeclarationTrees.{NameView, DeclaratorLayerView, DeclaratorView}
 use Rattle.c_layout.specs.declared.syntax_tree.declarations.Storage.{Storage}
 use Rattle.c_layout.specs.declared.syntax_tree.declarations.Storage.TheVariants as storage
+use Rattle.type_scopes.specs.Answers.{after}
 use Rattle.type_scopes.specs.Known.{Known, size_of}
 use Rattle.type_scopes.specs.Names.{number_in, found_tag_here}
 use Rattle.type_scopes.specs.Refusals.{Ruled, type_fault, redeclared}
@@ -15,6 +16,9 @@ use Rattle.type_scopes.specs.StructTables as types
 use Rattle.type_scopes.specs.States.{State, with_name}
 use Rattle.type_scopes.specs.declared.meanings.Tag.{Tag}
 use Rattle.type_scopes.specs.declared.meanings.Tag.TheVariants as tag
+use Rattle.declaration_types.specs.Declarators.{declared_type}
+use Rattle.declaration_types.specs.Specifiers.{SpecifiedView}
+use Rattle.declaration_types.specs.declared.struct_bodies.OpenBody.{OpenBody}
 use Rattle.declaration_types.specs.ContextSteps.{with_struct, with_tag, with_body, with_member, with_complete}
 
 -- ---- tags of structs
@@ -69,29 +73,54 @@ named_by at owner name field enumeration s = cond (types.has_member s.types owne
 abbrev pub name_member : ℕ → NameView → ℕ → Option ℕ → State → Ruled (Unit {0} × State)
 name_member owner n field enumeration s = named_by n.at owner (number_in s.scopes.names n.text) field enumeration (with_name s n.text)
 
-abbrev pub beside : Partial → Ruled (Unit {0} × State) → Ruled (Unit {0} × (Partial × State))
-beside p (Ok q) = Ok (q.0, (p, q.1))
+abbrev pub beside : Partial → Ruled (Unit {0} × State) → Ruled (Partial × State)
+beside p (Ok q) = Ok (p, q.1)
 beside p (Err f) = Err f
 
-abbrev pub field_by : ℕ → NameView → DeclaredView → ℕ → Partial → State → Option ℕ → Ruled (Unit {0} × (Partial × State))
+abbrev pub field_by : ℕ → NameView → DeclaredView → ℕ → Partial → State → Option ℕ → Ruled (Partial × State)
 field_by owner n d field p s None = type_fault n.at
 field_by owner n d field p s (Some size) = beside (added s.known.structs s.known.numbers.pointer p n.text d.ctype) (name_member owner n field d.enumeration s)
 
--- a member of a type, the field with this number
-abbrev pub add_field : ℕ → Option Storage → NameView → DeclaredView → ℕ → Partial → State → Ruled (Unit {0} × (Partial × State))
+-- a layout with a member of a type, the field with this number
+abbrev pub add_field : ℕ → Option Storage → NameView → DeclaredView → ℕ → Partial → State → Ruled (Partial × State)
 add_field owner stored n d field p s = cond (is_stored stored) (type_fault n.at) (field_by owner n d field p s (size_of s.known d.ctype))
+
+-- a declarator without a name declares no member
+abbrev pub add_named : ℕ → SpecifiedView → List DeclaratorLayerView → ℕ → Partial → State → Option NameView → Ruled (Partial × State)
+add_named owner base layers field p s None = Ok (p, s)
+add_named owner base layers field p s (Some n) = after (declared_type s n.at base.declared layers) (λ d t. add_field owner base.storage n d field p t)
+
+-- a member, the field with this number
+abbrev pub add_member : ℕ → SpecifiedView → DeclaratorView → ℕ → Partial → State → Ruled (Partial × State)
+add_member owner base d field p s = add_named owner base d.layers field p s d.name
+
+-- members of one declaration; how many members there are then
+abbrev pub declared_members : ℕ → SpecifiedView → List DeclaratorView → ℕ → Partial → State → Ruled ((ℕ × Partial) × State)
+declared_members owner base [] count p s = Ok ((count, p), s)
+declared_members owner base (d ∷ ds) count p s = after (add_member owner base d count p s) (λ q t. declared_members owner base ds (count + 1) q t)
 
 -- ---- bodies
 
-abbrev pub begun_by : Bool → ℕ → State → (Bool × ℕ) × State
-begun_by true owner s = ((true, length s.types.structs), with_struct s)
-begun_by false owner s = ((false, owner), s)
+abbrev pub begun_by : Bool → ℕ → Place → State → OpenBody × State
+begun_by true owner at s = (record { owner = owner; at = at; is_repeated = true; number = length s.types.structs }, with_struct s)
+begun_by false owner at s = (record { owner = owner; at = at; is_repeated = false; number = owner }, s)
 
--- whether a body of a struct was met before, and the struct whose members are read: those of a second body belong to another one
-abbrev pub begun : ℕ → State → (Bool × ℕ) × State
-begun owner s = begun_by (types.has_body s.types owner) owner (with_body s owner)
+-- a body of a struct: whether one was met before, and the struct whose members are read: those of a second body belong to another one
+abbrev pub begun : ℕ → Place → State → OpenBody × State
+begun owner at s = begun_by (types.has_body s.types owner) owner at (with_body s owner)
+
+abbrev pub begun_of : ℕ × Place → State → Ruled (OpenBody × State)
+begun_of o s = Ok (begun o.0 o.1 s)
+
+-- a body of the struct of a tag, or of a new one
+abbrev pub begun_body : State → Place → Option NameView → Ruled (OpenBody × State)
+begun_body s at tag = after (owner_of at tag s) begun_of
 
 -- a struct whose members were read; one that is too large is refused
 abbrev pub completed : Place → ℕ → Option StructView → State → Ruled (ℕ × State)
 completed at owner None s = type_fault at
 completed at owner (Some made) s = Ok (owner, with_complete s owner made)
+
+-- a body whose members were read; a second one is refused
+abbrev pub ended : OpenBody → Partial → State → Ruled (ℕ × State)
+ended b p s = cond b.is_repeated (redeclared b.at) (completed b.at b.owner (finished p) s)

@@ -1,9 +1,12 @@
 //! Declarators (6.7.6 of ISO/IEC 9899:2011).
-ghost use Rattle.std.specs.Prelude.{◌≡◌, ◌++◌, IfOk};
+ghost use Rattle.std.specs.Prelude.{◌≡◌, ◌++◌, IfOk, map};
 ghost use Rattle.c_layout.specs.Types.{view};
-ghost use Rattle.type_scopes.specs.Answers.{Gives};
+ghost use Rattle.c_layout.specs.DeclarationTrees.{suffix_view, declarator_layer_view};
+ghost use Rattle.type_scopes.specs.Answers.{Gives, Leads};
 ghost use Rattle.type_scopes.specs.Known.{known};
 ghost use Rattle.type_scopes.specs.DeclaredTypes.{declared_view};
+ghost use Rattle.type_scopes.specs.States.{state};
+ghost use Rattle.expression_types.specs.Lengths.{length_view};
 ghost use Rattle.declaration_types.specs.Declarators as spec;
 ghost use Rattle.declaration_types.specs.Declarators.{steps_view};
 
@@ -55,32 +58,56 @@ pub fn add_pointers(steps: &mut Vec<TypeStep>, stars: usize) -> Result<(), Memor
     Ok(())
 }
 
-/// The step of brackets.
-fn add_array(cx: &mut Context, array: &ArraySuffix, made: &mut TypedSteps) -> Result<(), Stop> {
-    let count = match &array.length {
-        None => Some(0),
-        Some(e) => length(cx, e)?,
-    };
+/// The length that brackets give; 0 stands for one that is not written.
+fn suffix_length(cx: &mut Context, array: &ArraySuffix) -> Result<Option<u64>, Stop>
+    ensures { Leads length_view (spec.suffix_length (state cx.old) (suffix_view array.now).length) result (state cx.new) }
+{
+    match &array.length {
+        None => Ok(Some(0)),
+        Some(e) => length(cx, e),
+    }
+}
+
+/// Adds the step of brackets.
+fn add_array(cx: &mut Context, array: &ArraySuffix, made: &mut TypedSteps) -> Result<(), Stop>
+    ensures { Leads (λ _. steps_view made.new) (spec.with_array (state cx.old) (steps_view made.old) (suffix_view array.now)) result (state cx.new) }
+{
+    let count = suffix_length(cx, array)?;
     add_length(made, count)?;
     Ok(())
 }
 
-/// The steps of one layer, from its brackets outwards.
-fn add_layer(cx: &mut Context, layer: &DeclaratorLayer, made: &mut TypedSteps) -> Result<(), Stop> {
-    for array in &layer.arrays {
+/// Adds the steps of brackets in order.
+fn add_arrays(cx: &mut Context, arrays: &[ArraySuffix], made: &mut TypedSteps) -> Result<(), Stop>
+    ensures { Leads (λ _. steps_view made.new) (spec.with_arrays (state cx.old) (steps_view made.old) (map suffix_view arrays.now)) result (state cx.new) }
+{
+    for array in arrays {
         add_array(cx, array, made)?;
     }
+    Ok(())
+}
+
+/// Adds the steps of one layer, from its brackets outwards.
+fn add_layer(cx: &mut Context, layer: &DeclaratorLayer, made: &mut TypedSteps) -> Result<(), Stop>
+    ensures { Leads (λ _. steps_view made.new) (spec.with_layer (state cx.old) (steps_view made.old) (declarator_layer_view layer.now)) result (state cx.new) }
+{
+    add_arrays(cx, layer.arrays.as_slice(), made)?;
     add_pointers(&mut made.steps, layer.stars.len())?;
     Ok(())
 }
 
 /// The steps of a declarator's layers. Its lengths are typed in reading order.
-pub fn typed_steps(cx: &mut Context, layers: &[DeclaratorLayer]) -> Result<TypedSteps, Stop> {
-    let mut made = no_steps(cx);
-    for layer in layers.iter().rev() {
-        add_layer(cx, layer, &mut made)?;
+pub fn typed_steps(cx: &mut Context, layers: &[DeclaratorLayer]) -> Result<TypedSteps, Stop>
+    ensures { Leads steps_view (spec.typed_steps (state cx.old) (map declarator_layer_view layers.now)) result (state cx.new) }
+{
+    match layers.split_first() {
+        None => Ok(no_steps(cx)),
+        Some((layer, inner)) => {
+            let mut made = typed_steps(cx, inner)?;
+            add_layer(cx, layer, &mut made)?;
+            Ok(made)
+        }
     }
-    Ok(made)
 }
 
 /// The type that steps make of another one, or the refusal at a place.
@@ -138,7 +165,9 @@ pub fn declared_type(
     place: Place,
     base: &DeclaredType,
     layers: &[DeclaratorLayer],
-) -> Result<DeclaredType, Stop> {
+) -> Result<DeclaredType, Stop>
+    ensures { Leads declared_view (spec.declared_type (state cx.old) place (declared_view base.now) (map declarator_layer_view layers.now)) result (state cx.new) }
+{
     let made = typed_steps(cx, layers)?;
     declared_by(cx, place, base, &made)
 }

@@ -1,7 +1,8 @@
 //! Enumerations (6.7.2.2 of ISO/IEC 9899:2011).
-ghost use Rattle.std.specs.Prelude.{◌≡◌, IfOk, length};
+ghost use Rattle.std.specs.Prelude.{◌≡◌, IfOk, [], ◌∷◌, ◌++◌, length, map, option_map};
 ghost use Rattle.c_layout.specs.CheckedTrees.{term_tree};
-ghost use Rattle.c_layout.specs.DeclarationTrees.{name_view};
+ghost use Rattle.c_layout.specs.SyntaxTrees.{tree_of};
+ghost use Rattle.c_layout.specs.DeclarationTrees.{name_view, enumerator_view};
 ghost use Rattle.type_scopes.specs.Answers.{Leads};
 ghost use Rattle.type_scopes.specs.States.{state};
 ghost use Rattle.binary_operators.specs.Operands.{operand_view};
@@ -57,7 +58,9 @@ fn constant_value(cx: &mut Context, operand: Operand) -> Result<Option<i128>, Me
 }
 
 /// The value that an expression gives an enumeration constant; None where it is no constant.
-fn given(cx: &mut Context, e: &Expr) -> Result<Option<i128>, Stop> {
+fn given(cx: &mut Context, e: &Expr) -> Result<Option<i128>, Stop>
+    ensures { Leads (λ v. v) (spec.given (state cx.old) (tree_of e.now)) result (state cx.new) }
+{
     let operand = typed(cx, e)?;
     Ok(constant_value(cx, operand)?)
 }
@@ -78,7 +81,9 @@ fn enumerator_value(
     cx: &mut Context,
     enumerator: &Enumerator,
     last: i128,
-) -> Result<Option<i128>, Stop> {
+) -> Result<Option<i128>, Stop>
+    ensures { Leads (λ v. v) (spec.enumerator_value (state cx.old) (enumerator_view enumerator.now).value last) result (state cx.new) }
+{
     match &enumerator.value {
         Some(e) => given(cx, e),
         None => Ok(next_value(last)),
@@ -133,7 +138,9 @@ fn declare_value(cx: &mut Context, name: &Name, value: Option<i128>) -> Result<i
 }
 
 /// Declares an enumeration constant; its value.
-fn declare_enumerator(cx: &mut Context, enumerator: &Enumerator, last: i128) -> Result<i128, Stop> {
+fn declare_enumerator(cx: &mut Context, enumerator: &Enumerator, last: i128) -> Result<i128, Stop>
+    ensures { Leads (λ n. n) (spec.declare_enumerator (state cx.old) (enumerator_view enumerator.now) last) result (state cx.new) }
+{
     let value = enumerator_value(cx, enumerator, last)?;
     declare_value(cx, &enumerator.name, value)
 }
@@ -157,22 +164,67 @@ fn keep_values(cx: &mut Context, number: u32, values: Vec<i128>)
     }
 }
 
+/// The values of enumeration constants so far, and that of the one before the next.
+#[derive(Drop)]
+struct Numbering {
+    last: i128,
+    values: Vec<i128>,
+}
+
+/// Declares an enumeration constant, and keeps its value.
+fn add_enumerator(
+    cx: &mut Context,
+    enumerator: &Enumerator,
+    numbering: &mut Numbering,
+) -> Result<(), Stop>
+    ensures value { Leads (λ _. numbering.new.last) (spec.declare_enumerator (state cx.old) (enumerator_view enumerator.now) numbering.old.last) result (state cx.new) }
+    ensures kept { IfOk result (λ _. numbering.new.values.items ≡ numbering.old.values.items ++ numbering.new.last ∷ []) }
+{
+    let value = declare_enumerator(cx, enumerator, numbering.last)?;
+    numbering.last = value;
+    numbering.values.push(value)?;
+    Ok(())
+}
+
+/// Declares enumeration constants in order, the first one behind a value; their values.
+fn enumerator_values(
+    cx: &mut Context,
+    enumerators: &[Enumerator],
+    before: i128,
+) -> Result<Vec<i128>, Stop>
+    ensures { Leads (λ v. v.items) (spec.enumerator_values (state cx.old) (map enumerator_view enumerators.now) before) result (state cx.new) }
+{
+    let mut numbering = Numbering {
+        last: before,
+        values: Vec::new(cx.alloc),
+    };
+    for enumerator in enumerators {
+        add_enumerator(cx, enumerator, &mut numbering)?;
+    }
+    Ok(numbering.values)
+}
+
+/// Declares the tag of an enumeration that has a body, where it has one.
+fn tagged(cx: &mut Context, tag: Option<&Name>, number: u32) -> Result<(), Stop>
+    ensures { Leads (λ _. tt) (spec.tagged (option_map (λ n. name_view n.now) tag.entry) number (state cx.old)) result (state cx.new) }
+{
+    match tag {
+        Some(tag) => declare_enumeration(cx, tag, number),
+        None => Ok(()),
+    }
+}
+
 /// An enumeration with a body; its number.
 pub fn enumeration(
     cx: &mut Context,
     tag: Option<&Name>,
     enumerators: &[Enumerator],
-) -> Result<u32, Stop> {
+) -> Result<u32, Stop>
+    ensures { Leads (λ n. n) (spec.enumeration (state cx.old) (option_map (λ n. name_view n.now) tag.entry) (map enumerator_view enumerators.now)) result (state cx.new) }
+{
     let number = new_enumeration(cx)?;
-    let mut values = Vec::new(cx.alloc);
-    let mut last = -1i128;
-    for enumerator in enumerators {
-        last = declare_enumerator(cx, enumerator, last)?;
-        values.push(last)?;
-    }
-    if let Some(tag) = tag {
-        declare_enumeration(cx, tag, number)?;
-    }
+    let values = enumerator_values(cx, enumerators, -1)?;
+    tagged(cx, tag, number)?;
     keep_values(cx, number, values);
     Ok(number)
 }

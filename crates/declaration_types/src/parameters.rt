@@ -1,16 +1,20 @@
 //! Parameters and function declarators (6.7.6.3 of ISO/IEC 9899:2011).
 ghost use Rattle.std.specs.Prelude.{◌≡◌, IfOk, map, option_map};
 ghost use Rattle.c_layout.specs.Types.{view};
-ghost use Rattle.c_layout.specs.DeclarationTrees.{name_view, declarator_view, parameter_view, parameters_view};
+ghost use Rattle.c_layout.specs.DeclarationTrees.{name_view, declarator_view, parameter_view, parameters_view, function_declarator_view};
 ghost use Rattle.type_scopes.specs.Answers.{Gives, Leads};
 ghost use Rattle.type_scopes.specs.Known.{known};
 ghost use Rattle.type_scopes.specs.DeclaredTypes.{declared_view};
 ghost use Rattle.type_scopes.specs.States.{state};
+ghost use Rattle.declaration_types.specs.Specifiers.{specified_view};
 ghost use Rattle.declaration_types.specs.Parameters as spec;
+ghost use Rattle.declaration_types.specs.FunctionHeads as head;
+ghost use Rattle.declaration_types.specs.FunctionHeads.{head_view};
 
 use crate::context_steps::declare_meaning;
 use crate::declarators::{add_pointers, declared_type, stepped_type};
-use crate::specifiers::specifiers_of;
+use crate::specifier_trees::specifiers_of;
+use crate::specifiers::Specified;
 use crate::struct_bodies::is_stored;
 use binary_operators::is_void;
 use c_layout::{CType, Declarator, FunctionDeclarator, Name, Parameter, Parameters, Storage};
@@ -71,12 +75,16 @@ fn parameter_type(
     place: Place,
     base: &DeclaredType,
     declarator: Option<&Declarator>,
-) -> Result<DeclaredType, Stop> {
-    let declared = match declarator {
-        Some(declarator) => declared_type(cx, place, base, declarator.layers.as_slice())?,
-        None => base.copy(cx.alloc)?,
-    };
-    as_parameter(place, declared)
+) -> Result<DeclaredType, Stop>
+    ensures { Leads declared_view (head.parameter_type (state cx.old) place (declared_view base.now) (option_map (λ d. declarator_view d.now) declarator.entry)) result (state cx.new) }
+{
+    match declarator {
+        Some(declarator) => {
+            let declared = declared_type(cx, place, base, declarator.layers.as_slice())?;
+            as_parameter(place, declared)
+        }
+        None => as_parameter(place, base.copy(cx.alloc)?),
+    }
 }
 
 /// An object of the body with this number of its name.
@@ -178,21 +186,47 @@ fn finish_parameter(
     Ok(ctype)
 }
 
-/// Declares a parameter; its type.
-fn add_parameter(cx: &mut Context, parameter: &Parameter) -> Result<CType, Stop> {
-    let base = specifiers_of(cx, parameter.place, parameter.words.as_slice(), false)?;
+/// A parameter whose specifiers were read; its type.
+fn specified_parameter(
+    cx: &mut Context,
+    parameter: &Parameter,
+    base: &Specified,
+) -> Result<CType, Stop>
+    ensures { Leads view (head.specified_parameter (parameter_view parameter.now) (specified_view base.now) (state cx.old)) result (state cx.new) }
+{
     let place = parameter_place(parameter);
     let declared = parameter_type(cx, place, &base.declared, parameter.declarator.as_ref())?;
     finish_parameter(cx, place, base.storage, parameter_name(parameter), declared)
 }
 
+/// Declares a parameter; its type.
+fn add_parameter(cx: &mut Context, parameter: &Parameter) -> Result<CType, Stop>
+    ensures { Leads view (head.add_parameter (state cx.old) (parameter_view parameter.now)) result (state cx.new) }
+{
+    let base = specifiers_of(cx, parameter.place, parameter.words.as_slice(), false)?;
+    specified_parameter(cx, parameter, &base)
+}
+
 /// Declares parameters in order; their types.
-fn add_parameters(cx: &mut Context, parameters: &[Parameter]) -> Result<Vec<CType>, Stop> {
+fn add_parameters(cx: &mut Context, parameters: &[Parameter]) -> Result<Vec<CType>, Stop>
+    ensures { Leads (λ v. map view v.items) (head.add_parameters (state cx.old) (map parameter_view parameters.now)) result (state cx.new) }
+{
     let mut made = Vec::new(cx.alloc);
     for parameter in parameters {
         made.push(add_parameter(cx, parameter)?)?;
     }
     Ok(made)
+}
+
+/// The types of the parameters between a function declarator's parentheses.
+fn parameters_of(cx: &mut Context, parameters: &Parameters) -> Result<Vec<CType>, Stop>
+    ensures { Leads (λ v. map view v.items) (head.parameters_of (state cx.old) (parameters_view parameters.now)) result (state cx.new) }
+{
+    match parameters {
+        Parameters::Empty => Ok(Vec::new(cx.alloc)),
+        Parameters::Void => Ok(Vec::new(cx.alloc)),
+        Parameters::List(list) => add_parameters(cx, list.as_slice()),
+    }
 }
 
 /// Whether each parameter of a list has a name.
@@ -276,18 +310,15 @@ fn without_locals(cx: &mut Context)
     cx.body.enumerations = Vec::new(cx.alloc);
 }
 
-/// The type of a function, at whose name it is refused. Its parameters are declared in the
-/// innermost scope, and are the first objects of a body without others.
-pub fn function_head(
-    cx: &mut Context,
+/// The type of a function whose parameters are known, at whose name it is refused.
+fn headed(
+    cx: &Context,
     base: &DeclaredType,
     declarator: &FunctionDeclarator,
-) -> Result<FunctionHead, Stop> {
-    without_locals(cx);
-    let parameters = match &declarator.parameters {
-        Parameters::Empty | Parameters::Void => Vec::new(cx.alloc),
-        Parameters::List(list) => add_parameters(cx, list.as_slice())?,
-    };
+    parameters: Vec<CType>,
+) -> Result<FunctionHead, Stop>
+    ensures { Gives head_view (head.head_by (known cx.now) (declared_view base.now) (function_declarator_view declarator.now) (map view parameters.items)) result }
+{
     let place = declarator.name.place;
     let declared = result_type(cx, place, base, declarator.stars.len())?;
     Ok(FunctionHead {
@@ -295,4 +326,18 @@ pub fn function_head(
         parameters,
         are_named: are_named(&declarator.parameters),
     })
+}
+
+/// The type of a function, at whose name it is refused. Its parameters are declared in the
+/// innermost scope, and are the first objects of a body without others.
+pub fn function_head(
+    cx: &mut Context,
+    base: &DeclaredType,
+    declarator: &FunctionDeclarator,
+) -> Result<FunctionHead, Stop>
+    ensures { Leads head_view (head.function_head (state cx.old) (declared_view base.now) (function_declarator_view declarator.now)) result (state cx.new) }
+{
+    without_locals(cx);
+    let parameters = parameters_of(cx, &declarator.parameters)?;
+    headed(cx, base, declarator, parameters)
 }

@@ -1,17 +1,13 @@
 //! Declaration specifiers (6.7.1 to 6.7.3 of ISO/IEC 9899:2011).
 ghost use Rattle.std.specs.Prelude.{◌≡◌, MatchOption, true, false, option_map};
-ghost use Rattle.c_layout.specs.DeclarationTrees.{spec_tree};
 ghost use Rattle.type_scopes.specs.Answers.{Gives};
 ghost use Rattle.type_scopes.specs.Known.{known};
 ghost use Rattle.type_scopes.specs.DeclaredTypes.{declared_view};
 ghost use Rattle.declaration_types.specs.Specifiers as spec;
 ghost use Rattle.declaration_types.specs.Specifiers.{is_utf8, specified_view, reading_view};
 
-use crate::enumerations::enumeration;
-use crate::struct_bodies::{alone_tag, struct_body};
-use c_layout::{CType, SpecWord, Storage};
+use c_layout::{CType, Storage};
 use cc_base::{Place, Stop, Text};
-use expression_types::{enumeration_tag, struct_tag, typedef_named};
 use lib_models::signature;
 use type_rules::{NamedKind, WordCounts, int_kind};
 use type_scopes::{Context, DeclaredType, type_fault};
@@ -27,16 +23,16 @@ pub struct Specified {
 
 /// What specifiers say as far as they are read.
 #[derive(Drop)]
-struct Reading {
-    counts: WordCounts,
-    named: Option<DeclaredType>,
-    storage: Option<Storage>,
-    declares: bool,
+pub struct Reading {
+    pub counts: WordCounts,
+    pub named: Option<DeclaredType>,
+    pub storage: Option<Storage>,
+    pub declares: bool,
 }
 
 impl Reading {
     /// Nothing is read.
-    fn new() -> Reading
+    pub fn new() -> Reading
         ensures { reading_view result ≡ spec.nothing_read }
     {
         Reading {
@@ -53,6 +49,20 @@ impl Reading {
     {
         self.named = Some(declared);
         self.declares = declares;
+    }
+
+    /// A `struct`, and whether it declares something by itself.
+    pub fn name_struct(&mut self, number: u32, declares: bool)
+        ensures { reading_view self.new ≡ spec.with_struct (reading_view self.old) number declares }
+    {
+        self.name(DeclaredType::plain(CType::Struct(number)), declares)
+    }
+
+    /// An `enum`, which declares something by itself.
+    pub fn name_enumeration(&mut self, cx: &Context, number: u32)
+        ensures { reading_view self.new ≡ spec.with_enumeration (known cx.now).numbers (reading_view self.old) number }
+    {
+        self.name(enumerated(cx, number), true)
     }
 }
 
@@ -86,76 +96,6 @@ fn enumerated(cx: &Context, number: u32) -> DeclaredType
     }
 }
 
-/// A `struct` among specifiers. `alone` says that nothing is declared but its tag.
-#[cycle(specifiers)]
-fn struct_word(cx: &mut Context, word: &SpecWord, alone: bool) -> Result<u32, Stop> {
-    match word {
-        SpecWord::Struct(at, tag, Some(members)) => {
-            struct_body(cx, *at, tag.as_ref(), members.as_slice())
-        }
-        SpecWord::Struct(_, Some(tag), None) => {
-            if alone {
-                alone_tag(cx, tag)
-            } else {
-                struct_tag(cx, tag)
-            }
-        }
-        SpecWord::Struct(at, None, None) => Err(type_fault(*at)),
-        _ => Ok(0),
-    }
-}
-
-/// An `enum` among specifiers.
-fn enum_word(cx: &mut Context, word: &SpecWord) -> Result<u32, Stop> {
-    match word {
-        SpecWord::Enum(_, tag, Some(enumerators)) => {
-            enumeration(cx, tag.as_ref(), enumerators.as_slice())
-        }
-        SpecWord::Enum(at, Some(tag), None) => enumeration_tag(cx, *at, tag),
-        SpecWord::Enum(at, None, None) => Err(type_fault(*at)),
-        _ => Ok(0),
-    }
-}
-
-/// Whether a `struct` or an `enum` declares something by itself.
-fn word_declares(word: &SpecWord) -> bool
-    ensures { result ≡ spec.word_declares (spec_tree word.now) }
-{
-    match word {
-        SpecWord::Struct(_, tag, None) => tag.is_some(),
-        SpecWord::Struct(_, tag, Some(_)) => tag.is_some(),
-        SpecWord::Enum(_, _, None) => true,
-        SpecWord::Enum(_, _, Some(_)) => true,
-        SpecWord::Storage(_, _) => false,
-        SpecWord::Qualifier(_) => false,
-        SpecWord::Type(_, _) => false,
-        SpecWord::Typedef(_) => false,
-    }
-}
-
-/// Reads one specifier.
-#[cycle(specifiers)]
-fn read(cx: &mut Context, word: &SpecWord, alone: bool, reading: &mut Reading) -> Result<(), Stop> {
-    match word {
-        SpecWord::Storage(_, storage) => reading.storage = Some(*storage),
-        SpecWord::Qualifier(_) => {}
-        SpecWord::Type(_, named) => reading.counts.add(*named),
-        SpecWord::Struct(_, _, _) => {
-            let number = struct_word(cx, word, alone)?;
-            reading.name(
-                DeclaredType::plain(CType::Struct(number)),
-                word_declares(word),
-            );
-        }
-        SpecWord::Enum(_, _, _) => {
-            let number = enum_word(cx, word)?;
-            reading.name(enumerated(cx, number), true);
-        }
-        SpecWord::Typedef(name) => reading.named = Some(typedef_named(cx, name)?),
-    }
-    Ok(())
-}
-
 /// The type that counted words name, or the refusal at a place.
 fn counted(cx: &Context, place: Place, counts: WordCounts) -> Result<DeclaredType, Stop>
     ensures { Gives declared_view (spec.counted (known cx.now) place counts) result }
@@ -183,7 +123,7 @@ fn declared_of(
 }
 
 /// What specifiers say that were read.
-fn said(cx: &Context, place: Place, reading: Reading) -> Result<Specified, Stop>
+pub fn said(cx: &Context, place: Place, reading: Reading) -> Result<Specified, Stop>
     ensures { Gives specified_view (spec.said (known cx.now) place (reading_view reading)) result }
 {
     let Reading {
@@ -198,21 +138,4 @@ fn said(cx: &Context, place: Place, reading: Reading) -> Result<Specified, Stop>
         storage,
         declares,
     })
-}
-
-/// What specifiers say; `place` is that of the first one, and `alone` says that no declarator
-/// follows them.
-#[cycle(specifiers)]
-pub fn specifiers_of(
-    cx: &mut Context,
-    place: Place,
-    words: &[SpecWord],
-    alone: bool,
-) -> Result<Specified, Stop> {
-    let mut reading = Reading::new();
-    let is_alone = alone && words.len() == 1;
-    for word in words {
-        read(cx, word, is_alone, &mut reading)?;
-    }
-    said(cx, place, reading)
 }

@@ -1,19 +1,20 @@
 //! Structs with their members (6.7.2.1 of ISO/IEC 9899:2011).
-ghost use Rattle.std.specs.Prelude.{◌≡◌, IfOk, option_map, is_some};
+ghost use Rattle.std.specs.Prelude.{◌≡◌, IfOk, map, option_map, is_some};
 ghost use Rattle.c_layout.specs.Types.{view};
 ghost use Rattle.c_layout.specs.StructViews.{struct_view};
 ghost use Rattle.c_layout.specs.StructLayouts.{partial_view};
-ghost use Rattle.c_layout.specs.DeclarationTrees.{name_view};
+ghost use Rattle.c_layout.specs.DeclarationTrees.{name_view, declarator_view};
 ghost use Rattle.type_scopes.specs.Answers.{Leads};
 ghost use Rattle.type_scopes.specs.Known.{known, size_of};
 ghost use Rattle.type_scopes.specs.DeclaredTypes.{declared_view};
 ghost use Rattle.type_scopes.specs.States.{state};
+ghost use Rattle.declaration_types.specs.Specifiers.{specified_view};
 ghost use Rattle.declaration_types.specs.StructBodies as spec;
 
 use crate::context_steps::{begin_body, complete, declare_struct, declare_tag, note_member};
 use crate::declarators::declared_type;
-use crate::specifiers::{Specified, specifiers_of};
-use c_layout::{Declarator, Member, Name, Storage, StructLayout, StructType};
+use crate::specifiers::Specified;
+use c_layout::{Declarator, Name, Storage, StructLayout, StructType};
 use cc_base::{Memory, Place, Stop};
 use type_rules::size_if_complete;
 use type_scopes::{Context, DeclaredType, Tag, redeclared, type_fault};
@@ -123,7 +124,7 @@ fn add_field(
     field: u32,
     layout: &mut StructLayout,
 ) -> Result<(), Stop>
-    ensures { Leads (λ _. tt) (spec.add_field owner storage (name_view name.now) (declared_view declared) field (partial_view layout.old) (state cx.old)) result (partial_view layout.new, state cx.new) }
+    ensures { Leads (λ _. partial_view layout.new) (spec.add_field owner storage (name_view name.now) (declared_view declared) field (partial_view layout.old) (state cx.old)) result (state cx.new) }
 {
     if is_stored(storage) {
         return Err(type_fault(name.place));
@@ -136,7 +137,7 @@ fn add_field(
     }
 }
 
-/// Adds a member.
+/// Adds a member, the field with a number.
 fn add_member(
     cx: &mut Context,
     owner: u32,
@@ -144,28 +145,33 @@ fn add_member(
     declarator: &Declarator,
     field: u32,
     layout: &mut StructLayout,
-) -> Result<(), Stop> {
-    let Some(name) = &declarator.name else {
-        return Ok(());
-    };
-    let declared = declared_type(cx, name.place, &base.declared, declarator.layers.as_slice())?;
-    add_field(cx, owner, base.storage, name, declared, field, layout)
+) -> Result<(), Stop>
+    ensures { Leads (λ _. partial_view layout.new) (spec.add_member owner (specified_view base.now) (declarator_view declarator.now) field (partial_view layout.old) (state cx.old)) result (state cx.new) }
+{
+    match &declarator.name {
+        Some(name) => {
+            let layers = declarator.layers.as_slice();
+            let declared = declared_type(cx, name.place, &base.declared, layers)?;
+            add_field(cx, owner, base.storage, name, declared, field, layout)
+        }
+        None => Ok(()),
+    }
 }
 
-/// Adds the members of one declaration; how many members there are then.
-#[cycle(specifiers)]
-fn add_members(
+/// Adds the members that declarators declare; how many members there are then.
+pub fn declared_members(
     cx: &mut Context,
     owner: u32,
-    place: Place,
-    member: &Member,
+    base: &Specified,
+    declarators: &[Declarator],
     fields: u32,
     layout: &mut StructLayout,
-) -> Result<u32, Stop> {
-    let base = specifiers_of(cx, place, member.words.as_slice(), false)?;
+) -> Result<u32, Stop>
+    ensures { Leads (λ n. (n, partial_view layout.new)) (spec.declared_members owner (specified_view base.now) (map declarator_view declarators.now) fields (partial_view layout.old) (state cx.old)) result (state cx.new) }
+{
     let mut count = fields;
-    for declarator in &member.declarators {
-        add_member(cx, owner, &base, declarator, count, layout)?;
+    for declarator in declarators {
+        add_member(cx, owner, base, declarator, count, layout)?;
         count = count.checked_add(1).ok_or(Memory)?;
     }
     Ok(count)
@@ -181,15 +187,44 @@ fn owner_of(cx: &mut Context, place: Place, tag: Option<&Name>) -> Result<(u32, 
     }
 }
 
-/// Begins a body: whether one of its struct was met before, and the struct whose members are read.
-fn begun(cx: &mut Context, owner: u32) -> Result<(bool, u32), Memory>
-    ensures { IfOk result (λ r. (r, state cx.new) ≡ spec.begun owner (state cx.old)) }
+/// A body that is read: the struct that it belongs to, where it is refused, whether another body of
+/// this struct was met before, and the struct whose members are read.
+#[derive(Clone, Copy)]
+pub struct OpenBody {
+    pub owner: u32,
+    pub at: Place,
+    pub is_repeated: bool,
+    pub number: u32,
+}
+
+/// Begins a body of a struct. The members of a second one belong to another struct.
+fn begun(cx: &mut Context, owner: u32, at: Place) -> Result<OpenBody, Memory>
+    ensures { IfOk result (λ b. (b, state cx.new) ≡ spec.begun owner at (state cx.old)) }
 {
     if begin_body(cx, owner)? {
-        Ok((true, declare_struct(cx)?))
+        let number = declare_struct(cx)?;
+        Ok(OpenBody {
+            owner,
+            at,
+            is_repeated: true,
+            number,
+        })
     } else {
-        Ok((false, owner))
+        Ok(OpenBody {
+            owner,
+            at,
+            is_repeated: false,
+            number: owner,
+        })
     }
+}
+
+/// Begins a body at its word.
+pub fn begun_body(cx: &mut Context, place: Place, tag: Option<&Name>) -> Result<OpenBody, Stop>
+    ensures { Leads (λ b. b) (spec.begun_body (state cx.old) place (option_map (λ n. name_view n.now) tag.entry)) result (state cx.new) }
+{
+    let (owner, at) = owner_of(cx, place, tag)?;
+    Ok(begun(cx, owner, at)?)
 }
 
 /// Completes a struct whose members were read; one that is too large is refused.
@@ -205,36 +240,13 @@ fn completed(cx: &mut Context, at: Place, owner: u32, made: Option<StructType>) 
     }
 }
 
-/// The members of a body, laid out; None where they are too large.
-#[cycle(specifiers)]
-fn laid_out_body(
-    cx: &mut Context,
-    owner: u32,
-    place: Place,
-    members: &[Member],
-) -> Result<Option<StructType>, Stop> {
-    let mut layout = StructLayout::new(cx.alloc);
-    let mut fields = 0u32;
-    for member in members {
-        fields = add_members(cx, owner, place, member, fields, &mut layout)?;
+/// Ends a body whose members were read: completes its struct. A second one is refused.
+pub fn ended(cx: &mut Context, begun: OpenBody, layout: StructLayout) -> Result<u32, Stop>
+    ensures { Leads (λ n. n) (spec.ended begun (partial_view layout) (state cx.old)) result (state cx.new) }
+{
+    if begun.is_repeated {
+        return Err(redeclared(begun.at));
     }
-    Ok(layout.finish()?)
-}
-
-/// A struct with a body, at its word; its number. A second body is typed as that of another struct
-/// before it is refused.
-#[cycle(specifiers)]
-pub fn struct_body(
-    cx: &mut Context,
-    place: Place,
-    tag: Option<&Name>,
-    members: &[Member],
-) -> Result<u32, Stop> {
-    let (owner, at) = owner_of(cx, place, tag)?;
-    let (is_repeated, number) = begun(cx, owner)?;
-    let made = laid_out_body(cx, number, place, members)?;
-    if is_repeated {
-        return Err(redeclared(at));
-    }
-    completed(cx, at, owner, made)
+    let made = layout.finish()?;
+    completed(cx, begun.at, begun.owner, made)
 }

@@ -1,5 +1,5 @@
 -- How much pieces add to a program.
-use Rattle.std.specs.Prelude.{ℕ, ◌+◌, ◌*◌, ◌^◌, Bool, true, false, cond, min}
+use Rattle.std.specs.Prelude.{ℕ, ◌+◌, ◌^◌, Bool, true, false, cond, min}
 use Rattle.flow_counts.specs.declared.function_counts.BlockExtent.{BlockExtent}
 use Rattle.flow_counts.specs.declared.function_counts.FunctionCounts.{FunctionCounts}
 

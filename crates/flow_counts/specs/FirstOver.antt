@@ -1,7 +1,7 @@
 -- Which count of a unit is the first that passes its limit.
-use Rattle.std.specs.Prelude.{ℕ, ◌+◌, nat_le, cond, Option, Some, None}
+use Rattle.std.specs.Prelude.{ℕ, ◌+◌, ◌*◌, nat_le, cond, Option, Some, None}
 use Rattle.cc_base.specs.declared.limit_table.Count.{Count}
-use Rattle.cc_base.specs.declared.limit_table.Count.TheVariants.{Temps, Bases, Cells, Blocks, Instructions, Pool}
+use Rattle.cc_base.specs.declared.limit_table.Count.TheVariants.{Temps, Bases, Cells, Blocks, Instructions}
 use Rattle.cc_base.specs.declared.limit_table.Limits.{Limits}
 use Rattle.cc_base.specs.declared.refusals.Refusal.{Refusal}
 use Rattle.cc_base.specs.declared.refusals.Refusal.TheVariants as refusal
@@ -35,3 +35,7 @@ refusal_in stop.Memory = refusal.Syntax
 -- the counts of the entry, with the bases that functions share
 abbrev pub unit_counts : FunctionCounts → BaseCount → UnitCounts
 unit_counts entry shared = record { temps = entry.temps; bases = capped (entry.bases + shared.bases); cells = capped (entry.cells + shared.cells); blocks = entry.from_empty.blocks; instructions = entry.from_empty.instructions }
+
+-- the values of a pool of rows: for each block one row, and two more
+abbrev pub pool : ℕ → ℕ → ℕ
+pool blocks width = capped (capped (blocks + 2) * width)

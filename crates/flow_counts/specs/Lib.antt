@@ -5,3 +5,6 @@ pub mod FirstOver
 pub mod BaseCounts
 pub mod FunctionTotals
 pub mod SettledTemplates
+pub mod SharedObjects
+pub mod Preparations
+pub mod PreparingSteps

@@ -1,9 +1,9 @@
 //! The counts of a unit's control-flow program, and their limits.
 ghost use Rattle.std.specs.Prelude.{◌≡◌, ◌≤◌, IfErr, IfOk, Some, None};
 ghost use Rattle.flow_counts.specs.SizeRefusals.{limit_of, IsTooLarge};
-ghost use Rattle.flow_counts.specs.FirstOver.{over, first_over, refusal_in, unit_counts};
+ghost use Rattle.flow_counts.specs.FirstOver.{over, first_over, refusal_in, unit_counts, pool};
 
-use crate::function_counts::{FunctionCounts, capped_sum};
+use crate::function_counts::{FunctionCounts, capped_product, capped_sum};
 use crate::object_counts::BaseCount;
 use cc_base::{Count, Fault, Limits, Place, Refusal, Stop};
 
@@ -42,6 +42,13 @@ fn limit(what: Count, limits: &Limits) -> u64
         Count::Instructions => limits.instructions,
         Count::Pool => limits.pool,
     }
+}
+
+/// The values of a pool of rows: for each block one row, and two more.
+pub fn pool_values(blocks: u64, width: u64) -> u64
+    ensures { result ≡ pool blocks width }
+{
+    capped_product(capped_sum(blocks, 2), width)
 }
 
 /// Refuses a count that passes its limit.

@@ -1,5 +1,5 @@
 //! What a function adds to a control-flow program, counted without making it.
-ghost use Rattle.std.specs.Prelude.{◌≡◌, ◌+◌, ◌*◌, cond, map, IfOk};
+ghost use Rattle.std.specs.Prelude.{◌≡◌, ◌+◌, ◌*◌, cond, map, IfOk, Some, slice_get};
 ghost use Rattle.template_works.specs.Acts.{act};
 ghost use Rattle.template_works.specs.Pieces.{piece_view};
 ghost use Rattle.flow_counts.specs.Extents.{capped, with_instruction, with_end, with_mark, added_by, with_call};
@@ -110,7 +110,8 @@ pub fn counts_at(
     table: &[Option<FunctionCounts>],
     function: u32,
 ) -> Result<FunctionCounts, AllocError>
-    ensures { IfOk result (λ c. c ≡ counted table.now function) }
+    ensures counts { IfOk result (λ c. c ≡ counted table.now function) }
+    ensures there { IfOk result (λ c. slice_get table.now function ≡ Some (Some c)) }
 {
     match table.get(function as usize) {
         Some(found) => match found {

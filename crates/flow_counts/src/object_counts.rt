@@ -103,7 +103,7 @@ pub struct BaseTally {
 }
 
 /// Whether an object was not noted before.
-fn is_new(noted: &[bool], number: usize) -> bool
+pub fn is_new(noted: &[bool], number: usize) -> bool
     ensures { result ≡ spec.is_new noted.now number }
 {
     match noted.get(number) {
@@ -113,7 +113,7 @@ fn is_new(noted: &[bool], number: usize) -> bool
 }
 
 /// Notes an object.
-fn note(noted: &mut Vec<bool>, number: usize)
+pub fn note(noted: &mut Vec<bool>, number: usize)
     ensures { noted.new.items ≡ slice_set noted.old.items number true }
 {
     if number < noted.len() {

@@ -1,1 +1,6 @@
 pub mod MovedActs
+pub mod BaseTables
+pub mod InitialBytes
+pub mod Openings
+pub mod Lowerings
+pub mod WellMade

@@ -134,12 +134,25 @@ impl Shifted {
         Ok(Operation::Spell(self.base, offset, room, text))
     }
 
-    /// An operation of a template, moved.
-    pub fn operation(self, alloc: Global, operation: &Operation) -> Result<Operation, AllocError>
+    /// An operation on an object, moved.
+    fn on_object(self, alloc: Global, operation: &Operation) -> Result<Operation, AllocError>
         ensures { IfOk result (λ o. act o ≡ spec.moved self.depth self.base (act operation.now)) }
     {
         match operation {
-            Operation::Constant(to, n, kind) => Ok(Operation::Constant(self.temp(*to), *n, *kind)),
+            Operation::Enter(_) => Ok(Operation::Enter(self.base)),
+            Operation::Leave(_) => Ok(Operation::Leave(self.base)),
+            Operation::Forget(_) => Ok(Operation::Forget(self.base)),
+            Operation::Clear(_) => Ok(Operation::Clear(self.base)),
+            Operation::Spell(_, offset, room, text) => self.spell(alloc, *offset, *room, text),
+            _ => Err(AllocError),
+        }
+    }
+
+    /// An operation on pointers and what they point to, moved.
+    fn on_pointers(self, operation: &Operation) -> Result<Operation, AllocError>
+        ensures { IfOk result (λ o. act o ≡ spec.moved self.depth self.base (act operation.now)) }
+    {
+        match operation {
             Operation::Address(to, _, offset) => Ok(Operation::Address(
                 self.temp(*to),
                 self.base,
@@ -161,23 +174,40 @@ impl Shifted {
             Operation::Narrow(to, from, offset, size) => {
                 Ok(Operation::Narrow(self.temp(*to), self.temp(*from), *offset, *size))
             }
+            _ => Err(AllocError),
+        }
+    }
+
+    /// An operation that computes with pointers, moved.
+    fn with_pointers(self, operation: &Operation) -> Result<Operation, AllocError>
+        ensures { IfOk result (λ o. act o ≡ spec.moved self.depth self.base (act operation.now)) }
+    {
+        match operation {
             Operation::Shift(to, from, by, size, backward) => {
-                Ok(Operation::Shift(
-                    self.temp(*to),
-                    self.temp(*from),
-                    self.amount(*by),
-                    *size,
-                    *backward,
-                ))
+                let (to, from, by) = (self.temp(*to), self.temp(*from), self.amount(*by));
+                Ok(Operation::Shift(to, from, by, *size, *backward))
             }
+            Operation::Difference(to, left, right, size) => {
+                let (to, left, right) = (self.temp(*to), self.temp(*left), self.temp(*right));
+                Ok(Operation::Difference(to, left, right, *size))
+            }
+            Operation::ComparePointers(to, rel, left, right) => {
+                let (to, left, right) = (self.temp(*to), self.temp(*left), self.temp(*right));
+                Ok(Operation::ComparePointers(to, *rel, left, right))
+            }
+            _ => Err(AllocError),
+        }
+    }
+
+    /// An operation on numbers, moved.
+    fn on_numbers(self, operation: &Operation) -> Result<Operation, AllocError>
+        ensures { IfOk result (λ o. act o ≡ spec.moved self.depth self.base (act operation.now)) }
+    {
+        match operation {
+            Operation::Constant(to, n, kind) => Ok(Operation::Constant(self.temp(*to), *n, *kind)),
             Operation::Binary(to, op, left, right, kind) => {
-                Ok(Operation::Binary(
-                    self.temp(*to),
-                    *op,
-                    self.temp(*left),
-                    self.amount(*right),
-                    *kind,
-                ))
+                let (to, left, right) = (self.temp(*to), self.temp(*left), self.amount(*right));
+                Ok(Operation::Binary(to, *op, left, right, *kind))
             }
             Operation::Unary(to, op, from, kind) => {
                 Ok(Operation::Unary(self.temp(*to), *op, self.temp(*from), *kind))
@@ -190,45 +220,62 @@ impl Shifted {
                 self.temp(*from),
                 *kind,
             )),
-            Operation::Difference(to, left, right, size) => {
-                Ok(Operation::Difference(
-                    self.temp(*to),
-                    self.temp(*left),
-                    self.temp(*right),
-                    *size,
-                ))
-            }
-            Operation::ComparePointers(to, rel, left, right) => {
-                Ok(Operation::ComparePointers(
-                    self.temp(*to),
-                    *rel,
-                    self.temp(*left),
-                    self.temp(*right),
-                ))
-            }
             Operation::Convert(to, from, old, new) => {
                 Ok(Operation::Convert(self.temp(*to), self.temp(*from), *old, *new))
             }
-            Operation::Library(to, function, arguments, base, size) => {
-                self.library(alloc, *to, *function, arguments.as_slice(), *base, *size)
-            }
-            Operation::Enter(_) => Ok(Operation::Enter(self.base)),
-            Operation::Leave(_) => Ok(Operation::Leave(self.base)),
-            Operation::Forget(_) => Ok(Operation::Forget(self.base)),
-            Operation::Clear(_) => Ok(Operation::Clear(self.base)),
-            Operation::Spell(_, offset, room, text) => self.spell(alloc, *offset, *room, text),
+            _ => Err(AllocError),
+        }
+    }
+
+    /// An operation that ends its block, moved.
+    fn at_end(self, operation: &Operation) -> Result<Operation, AllocError>
+        ensures { IfOk result (λ o. act o ≡ spec.moved self.depth self.base (act operation.now)) }
+    {
+        match operation {
             Operation::Jump => Ok(Operation::Jump),
             Operation::Branch(from, kind) => Ok(Operation::Branch(self.temp(*from), *kind)),
             Operation::Switch(from, kind) => Ok(Operation::Switch(self.temp(*from), *kind)),
             Operation::ReadLine(to, text, size, stream) => {
-                Ok(Operation::ReadLine(
-                    self.temp(*to),
-                    self.temp(*text),
-                    self.temp(*size),
-                    self.temp(*stream),
-                ))
+                let (to, text) = (self.temp(*to), self.temp(*text));
+                Ok(Operation::ReadLine(to, text, self.temp(*size), self.temp(*stream)))
             }
             Operation::Stop => Ok(Operation::Stop),
+            _ => Err(AllocError),
+        }
+    }
+
+    /// An operation of a template, moved.
+    pub fn operation(self, alloc: Global, operation: &Operation) -> Result<Operation, AllocError>
+        ensures { IfOk result (λ o. act o ≡ spec.moved self.depth self.base (act operation.now)) }
+    {
+        match operation {
+            Operation::Enter(_) => self.on_object(alloc, operation),
+            Operation::Leave(_) => self.on_object(alloc, operation),
+            Operation::Forget(_) => self.on_object(alloc, operation),
+            Operation::Clear(_) => self.on_object(alloc, operation),
+            Operation::Spell(_, _, _, _) => self.on_object(alloc, operation),
+            Operation::Address(_, _, _) => self.on_pointers(operation),
+            Operation::Load(_, _, _) => self.on_pointers(operation),
+            Operation::Store(_, _, _, _) => self.on_pointers(operation),
+            Operation::Copy(_, _, _) => self.on_pointers(operation),
+            Operation::Narrow(_, _, _, _) => self.on_pointers(operation),
+            Operation::Shift(_, _, _, _, _) => self.with_pointers(operation),
+            Operation::Difference(_, _, _, _) => self.with_pointers(operation),
+            Operation::ComparePointers(_, _, _, _) => self.with_pointers(operation),
+            Operation::Constant(_, _, _) => self.on_numbers(operation),
+            Operation::Binary(_, _, _, _, _) => self.on_numbers(operation),
+            Operation::Unary(_, _, _, _) => self.on_numbers(operation),
+            Operation::Compare(_, _, _, _) => self.on_numbers(operation),
+            Operation::Not(_, _, _) => self.on_numbers(operation),
+            Operation::Convert(_, _, _, _) => self.on_numbers(operation),
+            Operation::Library(to, function, arguments, base, size) => {
+                self.library(alloc, *to, *function, arguments.as_slice(), *base, *size)
+            }
+            Operation::Jump => self.at_end(operation),
+            Operation::Branch(_, _) => self.at_end(operation),
+            Operation::Switch(_, _) => self.at_end(operation),
+            Operation::ReadLine(_, _, _, _) => self.at_end(operation),
+            Operation::Stop => self.at_end(operation),
         }
     }
 

@@ -1,4 +1,17 @@
 //! The program with every call put in at its place.
+ghost use Rattle.std.specs.Prelude.{◌≡◌, ◌+◌, ◌++◌, ◌∷◌, ◌-◌, ◌^◌, cond, get_or, nat_le, IfOk, None, Some, length, map, replicate, reverse, slice_get, slice_set};
+ghost use Rattle.std.specs.Option.{option_map};
+ghost use Rattle.c_layout.specs.CheckedUnits.{function_view, unit_view};
+ghost use Rattle.template_works.specs.Acts as acts;
+ghost use Rattle.template_works.specs.Acts.{act, step};
+ghost use Rattle.template_works.specs.Pieces.{name_view, way, exit_view, exits_view, piece_view, template_view};
+ghost use Rattle.flow_lower.specs.MovedActs.{own_base};
+ghost use Rattle.flow_lower.specs.BaseTables.{table};
+ghost use Rattle.program_copies.specs.ProgramViews.{block, edge};
+ghost use Rattle.flow_lower.specs.Openings as spec;
+ghost use Rattle.flow_counts.specs.Preparations.{templates_view};
+ghost use Rattle.flow_lower.specs.Openings.{made, copy_view, placed, opened, opening};
+
 use crate::moved_operations::{Shifted, own_base};
 use crate::program_bases::BaseTable;
 use c_layout::{Checked, Function};
@@ -6,12 +19,13 @@ use cc_base::Place;
 use flow_program::{BasicBlock, CaseTest, Edge, EdgeKind, Instruction, Operation, Side, Test};
 use flow_templates::{BaseName, Exit, OwnCall, Piece, Template};
 use std::alloc::{AllocError, Global};
+use template_works::behind;
 
 /// A call that is put in: the function and its template, the number of the next piece, the first
 /// temporary, the number of the first label, the bases of the local objects, the place of the call and
 /// whether its value is used.
 #[derive(Drop)]
-struct CallCopy<'a, 't> {
+pub struct CallCopy<'a, 't> {
     function: &'a Function,
     template: &'t Template<'a>,
     at: usize,
@@ -24,11 +38,8 @@ struct CallCopy<'a, 't> {
 
 /// The program as far as it is made. Until the end edges lead to labels, whose blocks are then known.
 #[derive(Drop)]
-pub struct Opening<'a, 't> {
+pub struct Making {
     alloc: Global,
-    unit: &'a Checked,
-    templates: &'t [Option<Template<'a>>],
-    stack: Vec<CallCopy<'a, 't>>,
     /// The blocks that ended, and the instructions of the current one.
     blocks: Vec<BasicBlock>,
     ready: Vec<Instruction>,
@@ -46,106 +57,177 @@ pub struct OpenedProgram {
     pub bases: BaseTable,
 }
 
-fn name_at<'a>(template: &Template<'a>, number: u32) -> Result<BaseName<'a>, AllocError> {
-    match template.names.get(number as usize) {
+fn name_at<'a>(names: &[BaseName<'a>], number: u32) -> Result<BaseName<'a>, AllocError>
+    ensures { IfOk result (λ n. name_view n ≡ spec.name_at (map name_view names.now) number) }
+{
+    match names.get(number as usize) {
         Some(name) => Ok(*name),
         None => Err(AllocError),
     }
 }
 
 /// So many times None.
-fn all_none(alloc: Global, count: usize) -> Result<Vec<Option<u32>>, AllocError> {
-    let mut list = Vec::new(alloc);
-    for _ in 0..count {
-        list.push(None)?;
-    }
-    Ok(list)
+fn all_none(alloc: Global, count: usize) -> Result<Vec<Option<u32>>, AllocError>
+    ensures { IfOk result (λ v. v.items ≡ replicate count None) }
+{
+    Ok(vec![in alloc; None; count]?)
 }
 
-fn jump_instruction(place: Place) -> Instruction {
+fn sum(a: u32, b: u32) -> Result<u32, AllocError>
+    ensures { IfOk result (λ n. n ≡ a + b) }
+{
+    a.checked_add(b).ok_or(AllocError)
+}
+
+fn as_number(count: usize) -> Result<u32, AllocError>
+    ensures { IfOk result (λ n. n ≡ count) }
+{
+    u32::try_from(count).ok().ok_or(AllocError)
+}
+
+fn set(list: &mut Vec<u32>, at: u32, value: u32)
+    ensures { list.new.items ≡ slice_set list.old.items at value }
+{
+    if (at as usize) < list.len() {
+        list[at as usize] = value;
+    }
+}
+
+fn jump_instruction(place: Place) -> Instruction
+    ensures { step result ≡ spec.instruction place acts.Jump }
+{
     Instruction {
         place,
         operation: Operation::Jump,
     }
 }
 
-impl<'a, 't> Opening<'a, 't> {
+impl Making {
     /// The base that a name of a copy's template stands for.
-    fn base(&mut self, copy: &mut CallCopy<'a, 't>, number: u32) -> Result<u32, AllocError> {
-        let name = name_at(copy.template, number)?;
-        self.bases.base(self.alloc, self.unit, copy.function, &mut copy.locals, name)
+    fn base<'a, 't>(
+        &mut self,
+        unit: &Checked,
+        copy: &mut CallCopy<'a, 't>,
+        number: u32,
+    ) -> Result<u32, AllocError>
+        ensures number { IfOk result (λ n. n ≡ spec.base_number (unit_view unit.now) number (placed (made self.old) (copy_view copy.old))) }
+        ensures after { IfOk result (λ _. placed (made self.new) (copy_view copy.new) ≡ spec.with_base (unit_view unit.now) number (placed (made self.old) (copy_view copy.old))) }
+    {
+        let name = name_at(copy.template.names.as_slice(), number)?;
+        self.bases
+            .base(self.alloc, unit, copy.function, &mut copy.locals, name)
     }
 
-    /// How an operation of a copy's template is moved.
-    fn shifted(
+    /// The base that stands for the one that an operation names.
+    fn own_number<'a, 't>(
         &mut self,
+        unit: &Checked,
         copy: &mut CallCopy<'a, 't>,
-        operation: &Operation,
-    ) -> Result<Shifted, AllocError> {
-        let depth = copy.depth;
-        match own_base(operation) {
-            Some(number) => {
-                let base = self.base(copy, number)?;
-                Ok(Shifted { depth, base })
-            }
-            None => Ok(Shifted { depth, base: 0 }),
+        own: Option<u32>,
+    ) -> Result<u32, AllocError>
+        ensures number { IfOk result (λ n. n ≡ spec.own_number (unit_view unit.now) own (placed (made self.old) (copy_view copy.old))) }
+        ensures after { IfOk result (λ _. placed (made self.new) (copy_view copy.new) ≡ spec.with_own (unit_view unit.now) own (placed (made self.old) (copy_view copy.old))) }
+    {
+        match own {
+            Some(number) => self.base(unit, copy, number),
+            None => Ok(0),
         }
     }
 
+    fn push(&mut self, instruction: Instruction) -> Result<(), AllocError>
+        ensures { IfOk result (λ _. made self.new ≡ spec.with_ready (step instruction) (made self.old)) }
+    {
+        Ok(self.ready.push(instruction)?)
+    }
+
     /// Adds an instruction of a copy's template to the current block.
-    fn add(
+    fn add<'a, 't>(
         &mut self,
+        unit: &Checked,
         copy: &mut CallCopy<'a, 't>,
-        instruction: &Instruction,
+        operation: &Operation,
         place: Place,
-    ) -> Result<(), AllocError> {
-        let shifted = self.shifted(copy, &instruction.operation)?;
-        let operation = shifted.operation(self.alloc, &instruction.operation)?;
-        Ok(self.ready.push(Instruction { place, operation })?)
+    ) -> Result<(), AllocError>
+        ensures { IfOk result (λ _. placed (made self.new) (copy_view copy.new) ≡ spec.with_act (unit_view unit.now) place (act operation.now) (placed (made self.old) (copy_view copy.old))) }
+    {
+        let depth = copy.depth;
+        let base = self.own_number(unit, copy, own_base(operation))?;
+        let shifted = Shifted { depth, base };
+        let operation = shifted.operation(self.alloc, operation)?;
+        self.push(Instruction { place, operation })
     }
 
     /// Ends the current block; its edges begin at a number.
-    fn end_block(&mut self, first_edge: usize) -> Result<(), AllocError> {
+    fn end_block(&mut self, first_edge: usize) -> Result<(), AllocError>
+        ensures { IfOk result (λ _. made self.new ≡ spec.ended first_edge (made self.old)) }
+    {
         let all = self.edges.len();
         let count = all.checked_sub(first_edge).ok_or(AllocError)?;
         let instructions = std::mem::replace(&mut self.ready, Vec::new(self.alloc));
         self.blocks.push(BasicBlock {
             instructions,
-            first_edge: u32::try_from(first_edge).ok().ok_or(AllocError)?,
-            edges: u32::try_from(count).ok().ok_or(AllocError)?,
+            first_edge: as_number(first_edge)?,
+            edges: as_number(count)?,
             is_head: false,
         })?;
         Ok(())
     }
 
-    fn block_number(&self) -> Result<u32, AllocError> {
-        u32::try_from(self.blocks.len()).ok().ok_or(AllocError)
+    fn block_number(&self) -> Result<u32, AllocError>
+        ensures { IfOk result (λ n. n ≡ length (made self.now).blocks) }
+    {
+        as_number(self.blocks.len())
+    }
+
+    fn push_edge(&mut self, from: u32, to: u32, kind: EdgeKind) -> Result<(), AllocError>
+        ensures { IfOk result (λ _. made self.new ≡ spec.with_edge (spec.edge_to from to (way kind)) (made self.old)) }
+    {
+        Ok(self.edges.push(Edge { from, to, kind })?)
+    }
+
+    /// Ends the current block by a jump to a label.
+    fn jump(&mut self, label: u32, place: Place) -> Result<(), AllocError>
+        ensures { IfOk result (λ _. made self.new ≡ spec.jumped place label (made self.old)) }
+    {
+        let from = self.block_number()?;
+        let first_edge = self.edges.len();
+        self.push(jump_instruction(place))?;
+        self.push_edge(from, label, EdgeKind::Jump)?;
+        self.end_block(first_edge)
+    }
+
+    fn jump_if(&mut self, label: u32, place: Place) -> Result<(), AllocError>
+        ensures { IfOk result (λ _. made self.new ≡ spec.jumped_if place label (made self.old)) }
+    {
+        if self.ready.is_empty() {
+            Ok(())
+        } else {
+            self.jump(label, place)
+        }
     }
 
     /// Begins a block at a label.
-    fn mark(&mut self, label: u32, place: Place) -> Result<(), AllocError> {
-        if !self.ready.is_empty() {
-            let from = self.block_number()?;
-            let first_edge = self.edges.len();
-            self.ready.push(jump_instruction(place))?;
-            self.edges.push(Edge {
-                from,
-                to: label,
-                kind: EdgeKind::Jump,
-            })?;
-            self.end_block(first_edge)?;
-        }
+    fn mark(&mut self, label: u32, place: Place) -> Result<(), AllocError>
+        ensures { IfOk result (λ _. made self.new ≡ spec.marked place label (made self.old)) }
+    {
+        self.jump_if(label, place)?;
         let block = self.block_number()?;
-        if let Some(slot) = self.labels.get_mut(label as usize) {
-            *slot = block;
-        }
+        set(&mut self.labels, label, block);
         Ok(())
     }
 
-    fn side(&mut self, copy: &mut CallCopy<'a, 't>, side: Side) -> Result<Side, AllocError> {
+    fn side<'a, 't>(
+        &mut self,
+        unit: &Checked,
+        copy: &mut CallCopy<'a, 't>,
+        side: Side,
+    ) -> Result<Side, AllocError>
+        ensures side { IfOk result (λ s. s ≡ spec.side_moved (unit_view unit.now) side (placed (made self.old) (copy_view copy.old))) }
+        ensures after { IfOk result (λ _. placed (made self.new) (copy_view copy.new) ≡ spec.with_side (unit_view unit.now) side (placed (made self.old) (copy_view copy.old))) }
+    {
         match side {
             Side::Object(number, kind) => {
-                let base = self.base(copy, number)?;
+                let base = self.base(unit, copy, number)?;
                 Ok(Side::Object(base, kind))
             }
             Side::Number(n) => Ok(Side::Number(n)),
@@ -153,15 +235,19 @@ impl<'a, 't> Opening<'a, 't> {
         }
     }
 
-    fn test(
+    fn test<'a, 't>(
         &mut self,
+        unit: &Checked,
         copy: &mut CallCopy<'a, 't>,
         test: Option<Test>,
-    ) -> Result<Option<Test>, AllocError> {
+    ) -> Result<Option<Test>, AllocError>
+        ensures test { IfOk result (λ t. t ≡ spec.test_moved (unit_view unit.now) test (placed (made self.old) (copy_view copy.old))) }
+        ensures after { IfOk result (λ _. placed (made self.new) (copy_view copy.new) ≡ spec.with_test (unit_view unit.now) test (placed (made self.old) (copy_view copy.old))) }
+    {
         match test {
             Some(test) => {
-                let left = self.side(copy, test.left)?;
-                let right = self.side(copy, test.right)?;
+                let left = self.side(unit, copy, test.left)?;
+                let right = self.side(unit, copy, test.right)?;
                 Ok(Some(Test {
                     left,
                     rel: test.rel,
@@ -173,45 +259,63 @@ impl<'a, 't> Opening<'a, 't> {
         }
     }
 
-    fn case(
+    /// The base that is switched on.
+    fn object<'a, 't>(
         &mut self,
+        unit: &Checked,
         copy: &mut CallCopy<'a, 't>,
-        case: CaseTest,
-    ) -> Result<CaseTest, AllocError> {
-        let value = case.value;
-        match case.object {
+        object: Option<u32>,
+    ) -> Result<Option<u32>, AllocError>
+        ensures object { IfOk result (λ o. o ≡ spec.object_moved (unit_view unit.now) object (placed (made self.old) (copy_view copy.old))) }
+        ensures after { IfOk result (λ _. placed (made self.new) (copy_view copy.new) ≡ spec.with_own (unit_view unit.now) object (placed (made self.old) (copy_view copy.old))) }
+    {
+        match object {
             Some(number) => {
-                let base = self.base(copy, number)?;
-                Ok(CaseTest {
-                    value,
-                    object: Some(base),
-                })
+                let base = self.base(unit, copy, number)?;
+                Ok(Some(base))
             }
-            None => Ok(CaseTest {
-                value,
-                object: None,
-            }),
+            None => Ok(None),
         }
     }
 
-    /// What an edge of a copy's template knows.
-    fn edge_kind(
+    fn case<'a, 't>(
         &mut self,
+        unit: &Checked,
+        copy: &mut CallCopy<'a, 't>,
+        case: CaseTest,
+    ) -> Result<CaseTest, AllocError>
+        ensures case { IfOk result (λ c. c ≡ spec.case_moved (unit_view unit.now) case (placed (made self.old) (copy_view copy.old))) }
+        ensures after { IfOk result (λ _. placed (made self.new) (copy_view copy.new) ≡ spec.with_own (unit_view unit.now) case.object (placed (made self.old) (copy_view copy.old))) }
+    {
+        let object = self.object(unit, copy, case.object)?;
+        Ok(CaseTest {
+            value: case.value,
+            object,
+        })
+    }
+
+    /// What an edge of a copy's template knows.
+    fn edge_kind<'a, 't>(
+        &mut self,
+        unit: &Checked,
         copy: &mut CallCopy<'a, 't>,
         kind: &EdgeKind,
-    ) -> Result<EdgeKind, AllocError> {
+    ) -> Result<EdgeKind, AllocError>
+        ensures kind { IfOk result (λ k. way k ≡ spec.way_moved (unit_view unit.now) (way kind.now) (placed (made self.old) (copy_view copy.old))) }
+        ensures after { IfOk result (λ _. placed (made self.new) (copy_view copy.new) ≡ spec.with_way (unit_view unit.now) (way kind.now) (placed (made self.old) (copy_view copy.old))) }
+    {
         match kind {
             EdgeKind::Jump => Ok(EdgeKind::Jump),
             EdgeKind::When(truth, test, put) => {
-                let test = self.test(copy, *test)?;
                 let shifted = Shifted {
                     depth: copy.depth,
                     base: 0,
                 };
+                let test = self.test(unit, copy, *test)?;
                 Ok(EdgeKind::When(*truth, test, shifted.put(*put)))
             }
             EdgeKind::Case(case) => {
-                let case = self.case(copy, *case)?;
+                let case = self.case(unit, copy, *case)?;
                 Ok(EdgeKind::Case(case))
             }
             EdgeKind::Other(values) => {
@@ -223,147 +327,331 @@ impl<'a, 't> Opening<'a, 't> {
         }
     }
 
-    fn add_edge(
+    fn add_edge<'a, 't>(
         &mut self,
+        unit: &Checked,
         copy: &mut CallCopy<'a, 't>,
         from: u32,
         exit: &Exit,
-    ) -> Result<(), AllocError> {
-        let kind = self.edge_kind(copy, &exit.kind)?;
-        let to = exit.to.checked_add(copy.labels).ok_or(AllocError)?;
-        Ok(self.edges.push(Edge { from, to, kind })?)
+    ) -> Result<(), AllocError>
+        ensures { IfOk result (λ _. placed (made self.new) (copy_view copy.new) ≡ spec.with_exit (unit_view unit.now) from (exit_view exit.now) (placed (made self.old) (copy_view copy.old))) }
+    {
+        let to = sum(exit.to, copy.labels)?;
+        let kind = self.edge_kind(unit, copy, &exit.kind)?;
+        self.push_edge(from, to, kind)
+    }
+
+    fn add_edges<'a, 't>(
+        &mut self,
+        unit: &Checked,
+        copy: &mut CallCopy<'a, 't>,
+        from: u32,
+        exits: &[Exit],
+    ) -> Result<(), AllocError>
+        ensures { IfOk result (λ _. placed (made self.new) (copy_view copy.new) ≡ spec.with_exits (unit_view unit.now) from (exits_view exits.now) (placed (made self.old) (copy_view copy.old))) }
+    {
+        for exit in exits {
+            self.add_edge(unit, copy, from, exit)?;
+        }
+        Ok(())
     }
 
     /// Ends the current block with an instruction of a copy's template.
-    fn close(
+    fn close<'a, 't>(
         &mut self,
+        unit: &Checked,
         copy: &mut CallCopy<'a, 't>,
         instruction: &Instruction,
         exits: &[Exit],
-    ) -> Result<(), AllocError> {
+    ) -> Result<(), AllocError>
+        ensures { IfOk result (λ _. placed (made self.new) (copy_view copy.new) ≡ spec.closed (unit_view unit.now) (step instruction.now) (exits_view exits.now) (placed (made self.old) (copy_view copy.old))) }
+    {
         let from = self.block_number()?;
         let first_edge = self.edges.len();
-        self.add(copy, instruction, instruction.place)?;
-        for exit in exits {
-            self.add_edge(copy, from, exit)?;
-        }
+        self.add(unit, copy, &instruction.operation, instruction.place)?;
+        self.add_edges(unit, copy, from, exits)?;
         self.end_block(first_edge)
     }
 
+    /// Adds an instruction that is done where the call's value is used.
+    fn add_if_used<'a, 't>(
+        &mut self,
+        unit: &Checked,
+        copy: &mut CallCopy<'a, 't>,
+        operation: &Operation,
+    ) -> Result<(), AllocError>
+        ensures { IfOk result (λ _. placed (made self.new) (copy_view copy.new) ≡ spec.with_act_if_used (unit_view unit.now) (act operation.now) (placed (made self.old) (copy_view copy.old))) }
+    {
+        if copy.used {
+            let place = copy.place;
+            self.add(unit, copy, operation, place)
+        } else {
+            Ok(())
+        }
+    }
+
+    /// Begins a block at a label of a copy.
+    fn add_mark<'a, 't>(&mut self, copy: &CallCopy<'a, 't>, label: u32) -> Result<(), AllocError>
+        ensures { IfOk result (λ _. placed (made self.new) (copy_view copy.now) ≡ spec.with_mark label (placed (made self.old) (copy_view copy.now))) }
+    {
+        let label = sum(label, copy.labels)?;
+        self.mark(label, copy.place)
+    }
+
     /// Adds a piece that is no call.
-    fn add_piece(&mut self, copy: &mut CallCopy<'a, 't>, piece: &Piece) -> Result<(), AllocError> {
+    fn add_piece<'a, 't>(
+        &mut self,
+        unit: &Checked,
+        copy: &mut CallCopy<'a, 't>,
+        piece: &Piece,
+    ) -> Result<(), AllocError>
+        ensures { IfOk result (λ _. placed (made self.new) (copy_view copy.new) ≡ spec.with_piece (unit_view unit.now) (piece_view piece.now) (placed (made self.old) (copy_view copy.old))) }
+    {
         match piece {
-            Piece::Do(instruction) => self.add(copy, instruction, instruction.place),
-            Piece::DoIfUsed(instruction) => {
-                if copy.used {
-                    let place = copy.place;
-                    self.add(copy, instruction, place)
-                } else {
-                    Ok(())
-                }
+            Piece::Do(instruction) => {
+                self.add(unit, copy, &instruction.operation, instruction.place)
             }
-            Piece::End(instruction, exits) => self.close(copy, instruction, exits.as_slice()),
-            Piece::Mark(label) => {
-                let label = label.checked_add(copy.labels).ok_or(AllocError)?;
-                self.mark(label, copy.place)
+            Piece::DoIfUsed(instruction) => { self.add_if_used(unit, copy, &instruction.operation) }
+            Piece::End(instruction, exits) => {
+                self.close(unit, copy, instruction, exits.as_slice())
             }
+            Piece::Mark(label) => self.add_mark(copy, *label),
             Piece::Call(_) => Ok(()),
         }
     }
 
     /// Gives labels numbers; the first one.
-    fn new_labels(&mut self, count: u32) -> Result<u32, AllocError> {
-        let first = u32::try_from(self.labels.len()).ok().ok_or(AllocError)?;
-        for _ in 0..count {
-            self.labels.push(0)?;
-        }
+    fn new_labels(&mut self, count: u32) -> Result<u32, AllocError>
+        ensures first { IfOk result (λ n. n ≡ length (made self.old).labels) }
+        ensures after { IfOk result (λ _. made self.new ≡ spec.with_labels count (made self.old)) }
+    {
+        let first = as_number(self.labels.len())?;
+        let zeros = vec![in self.alloc; 0u32; count as usize]?;
+        self.labels.extend_from_slice(zeros.as_slice())?;
         Ok(first)
     }
+}
 
-    fn template(&self, function: u32) -> Result<&'t Template<'a>, AllocError> {
-        match self.templates.get(function as usize) {
-            Some(Some(found)) => Ok(found),
-            _ => Err(AllocError),
-        }
+/// The copies that are not finished, the innermost last, and the program as far as it is made.
+#[derive(Drop)]
+pub struct Opening<'a, 't> {
+    stack: Vec<CallCopy<'a, 't>>,
+    making: Making,
+}
+
+fn template_at<'a, 't>(
+    templates: &'t [Option<Template<'a>>],
+    function: u32,
+) -> Option<&'t Template<'a>>
+    ensures { option_map (λ t. template_view t.now) result ≡ spec.template_at (templates_view templates.now) function }
+{
+    match templates.get(function as usize) {
+        Some(found) => match found {
+            Some(template) => Some(template),
+            None => None,
+        },
+        None => None,
     }
+}
 
-    /// A copy of a function's pieces for a call.
-    fn new_copy(&mut self, call: OwnCall) -> Result<CallCopy<'a, 't>, AllocError> {
-        let template = self.template(call.function)?;
-        let function = self
-            .unit
-            .functions
-            .get(call.function as usize)
-            .ok_or(AllocError)?;
+/// A call in a copy: its first temporary is counted from that of the copy.
+fn inner<'a, 't>(call: OwnCall, caller: &CallCopy<'a, 't>) -> OwnCall
+    ensures { result ≡ spec.inner call (copy_view caller.now) }
+{
+    OwnCall {
+        place: call.place,
+        function: call.function,
+        depth: behind(call.depth, caller.depth),
+        used: call.used,
+    }
+}
+
+impl<'a, 't> Opening<'a, 't> {
+    /// Puts a copy of a function's pieces for a call on the stack.
+    #[tactic(auto, using(crate::proofs::Stacks::top))]
+    fn enter(
+        &mut self,
+        call: OwnCall,
+        function: &'a Function,
+        template: &'t Template<'a>,
+    ) -> Result<(), AllocError>
+        ensures { IfOk result (λ _. opening self.new ≡ spec.entered call (opening self.old).stack (opening self.old).program (Some (function_view function.now)) (Some (template_view template.now))) }
+    {
         let slots = function.locals.len().checked_add(1).ok_or(AllocError)?;
-        let labels = self.new_labels(template.labels)?;
-        Ok(CallCopy {
+        let locals = all_none(self.making.alloc, slots)?;
+        let labels = self.making.new_labels(template.labels)?;
+        self.stack.push(CallCopy {
             function,
             template,
             at: 0,
             depth: call.depth,
             labels,
-            locals: all_none(self.alloc, slots)?,
+            locals,
             place: call.place,
-            used: call.used,
-        })
-    }
-
-    /// Puts a copy for a call on the stack, above the copy that calls.
-    fn begin_call(&mut self, copy: CallCopy<'a, 't>, call: OwnCall) -> Result<(), AllocError> {
-        let inner = self.new_copy(OwnCall {
-            place: call.place,
-            function: call.function,
-            depth: call.depth.saturating_add(copy.depth),
             used: call.used,
         })?;
-        self.stack.push(copy)?;
-        Ok(self.stack.push(inner)?)
+        Ok(())
     }
 
-    /// Adds the pieces of a copy up to its next call or its end; the call.
-    fn run(&mut self, copy: &mut CallCopy<'a, 't>) -> Result<Option<OwnCall>, AllocError> {
-        let template = copy.template;
-        for at in copy.at..template.pieces.len() {
-            let piece = &template.pieces[at];
-            if let Piece::Call(call) = piece {
-                copy.at = at.saturating_add(1);
-                return Ok(Some(*call));
-            }
-            self.add_piece(copy, piece)?;
+    /// Begins a call: its copy comes on the stack.
+    fn begin(
+        &mut self,
+        unit: &'a Checked,
+        templates: &'t [Option<Template<'a>>],
+        call: OwnCall,
+    ) -> Result<(), AllocError>
+        ensures { IfOk result (λ _. opening self.new ≡ spec.with_call (unit_view unit.now) (templates_view templates.now) call (opening self.old).stack (opening self.old).program) }
+    {
+        match unit.functions.get(call.function as usize) {
+            Some(function) => match template_at(templates, call.function) {
+                Some(template) => self.enter(call, function, template),
+                None => Err(AllocError),
+            },
+            None => Err(AllocError),
         }
-        Ok(None)
+    }
+
+    /// Adds a piece that is no call, and puts its copy back.
+    #[tactic(auto, using(crate::proofs::Stacks::top))]
+    fn add(
+        &mut self,
+        unit: &'a Checked,
+        mut copy: CallCopy<'a, 't>,
+        piece: &Piece,
+    ) -> Result<(), AllocError>
+        ensures { IfOk result (λ _. opening self.new ≡ spec.back_in (opening self.old).stack (spec.with_piece (unit_view unit.now) (piece_view piece.now) (placed (opening self.old).program (copy_view copy.entry)))) }
+    {
+        self.making.add_piece(unit, &mut copy, piece)?;
+        Ok(self.stack.push(copy)?)
+    }
+
+    /// Puts a copy back, and a copy for a call in it on top.
+    #[tactic(auto, using(crate::proofs::Stacks::top))]
+    fn call(
+        &mut self,
+        unit: &'a Checked,
+        templates: &'t [Option<Template<'a>>],
+        copy: CallCopy<'a, 't>,
+        call: OwnCall,
+    ) -> Result<(), AllocError>
+        ensures { IfOk result (λ _. opening self.new ≡ spec.with_call (unit_view unit.now) (templates_view templates.now) (spec.inner call (copy_view copy.entry)) (copy_view copy.entry ∷ (opening self.old).stack) (opening self.old).program) }
+    {
+        let call = inner(call, &copy);
+        self.stack.push(copy)?;
+        self.begin(unit, templates, call)
+    }
+
+    /// Adds a piece of a copy.
+    fn turn(
+        &mut self,
+        unit: &'a Checked,
+        templates: &'t [Option<Template<'a>>],
+        copy: CallCopy<'a, 't>,
+        piece: &Piece,
+    ) -> Result<(), AllocError>
+        ensures { IfOk result (λ _. opening self.new ≡ spec.turn (unit_view unit.now) (templates_view templates.now) (piece_view piece.now) (copy_view copy.entry) (opening self.old).stack (opening self.old).program) }
+    {
+        match piece {
+            Piece::Do(_) => self.add(unit, copy, piece),
+            Piece::DoIfUsed(_) => self.add(unit, copy, piece),
+            Piece::End(_, _) => self.add(unit, copy, piece),
+            Piece::Mark(_) => self.add(unit, copy, piece),
+            Piece::Call(call) => self.call(unit, templates, copy, *call),
+        }
+    }
+
+    /// Adds the next piece of a copy; a copy without further pieces is finished.
+    #[tactic(auto, using(crate::proofs::Stacks::rest_at, crate::proofs::Stacks::rest_none))]
+    fn advance(
+        &mut self,
+        unit: &'a Checked,
+        templates: &'t [Option<Template<'a>>],
+        mut copy: CallCopy<'a, 't>,
+    ) -> Result<(), AllocError>
+        ensures { IfOk result (λ _. opening self.new ≡ spec.next (unit_view unit.now) (templates_view templates.now) (copy_view copy.entry) (opening self.old).stack (opening self.old).program) }
+    {
+        let template = copy.template;
+        match template.pieces.get(copy.at) {
+            Some(piece) => {
+                copy.at = copy.at.checked_add(1).ok_or(AllocError)?;
+                self.turn(unit, templates, copy, piece)
+            }
+            None => Ok(()),
+        }
     }
 
     /// Adds what is on the stack, and all calls that are put in there.
-    fn run_all(&mut self) -> Result<(), AllocError> {
-        for _ in 0..u64::MAX {
-            let Some(mut copy) = self.stack.pop() else {
-                break;
-            };
-            if let Some(call) = self.run(&mut copy)? {
-                self.begin_call(copy, call)?;
+    #[tactic(auto, using(crate::proofs::Stacks::top, crate::proofs::OpeningTurns::no_copy))]
+    fn run_all(
+        &mut self,
+        unit: &'a Checked,
+        templates: &'t [Option<Template<'a>>],
+    ) -> Result<(), AllocError>
+        ensures { IfOk result (λ _. (opening self.new).program ≡ spec.run (unit_view unit.now) (templates_view templates.now) (2 ^ 64 - 1) (opening self.old).stack (opening self.old).program) }
+    {
+        for _turn in 0..u64::MAX {
+            match self.stack.pop() {
+                Some(copy) => self.advance(unit, templates, copy)?,
+                None => return Ok(()),
             }
         }
         Ok(())
     }
 
-    /// The bases of the entry's parameters, which come first.
-    fn name_parameters(&mut self, copy: &mut CallCopy<'a, 't>) -> Result<(), AllocError> {
-        for number in 0..copy.function.parameters {
-            self.bases.base(
-                self.alloc,
-                self.unit,
-                copy.function,
-                &mut copy.locals,
-                BaseName::Local(number),
-            )?;
+    /// Names the parameters of the entry, whose bases come first, and opens the entry.
+    fn run_entry(
+        &mut self,
+        unit: &'a Checked,
+        templates: &'t [Option<Template<'a>>],
+    ) -> Result<(), AllocError>
+        ensures { IfOk result (λ _. (opening self.new).program ≡ spec.unresolved (unit_view unit.now) (templates_view templates.now) (opening self.old)) }
+    {
+        match self.stack.pop() {
+            Some(mut copy) => {
+                name_parameters(&mut self.making, unit, &mut copy)?;
+                self.stack.push(copy)?;
+                self.run_all(unit, templates)?;
+                Ok(())
+            }
+            None => Ok(()),
         }
-        Ok(())
     }
 }
 
-fn block_at(labels: &[u32], label: u32) -> u32 {
+/// The bases of the entry's parameters, which come first.
+#[tactic(auto, using(crate::proofs::OpeningTurns::next_parameter))]
+fn name_parameters<'a, 't>(
+    making: &mut Making,
+    unit: &Checked,
+    copy: &mut CallCopy<'a, 't>,
+) -> Result<(), AllocError>
+    ensures { IfOk result (λ _. placed (made making.new) (copy_view copy.new) ≡ spec.with_parameters (unit_view unit.now) (copy_view copy.old).function.parameters (placed (made making.old) (copy_view copy.old))) }
+{
+    for number in 0..copy.function.parameters {
+        name_local(making, unit, copy, number)?;
+    }
+    Ok(())
+}
+
+/// The base of a local object.
+fn name_local<'a, 't>(
+    making: &mut Making,
+    unit: &Checked,
+    copy: &mut CallCopy<'a, 't>,
+    number: u32,
+) -> Result<(), AllocError>
+    ensures { IfOk result (λ _. placed (made making.new) (copy_view copy.new) ≡ spec.with_local (unit_view unit.now) number (placed (made making.old) (copy_view copy.old))) }
+{
+    let name = BaseName::Local(number);
+    making
+        .bases
+        .base(making.alloc, unit, copy.function, &mut copy.locals, name)?;
+    Ok(())
+}
+
+fn block_at(labels: &[u32], label: u32) -> u32
+    ensures { result ≡ get_or labels.now label 0 }
+{
     match labels.get(label as usize) {
         Some(block) => *block,
         None => 0,
@@ -371,43 +659,114 @@ fn block_at(labels: &[u32], label: u32) -> u32 {
 }
 
 /// Lets each edge lead to a block in place of a label.
-fn resolved(edges: &mut Vec<Edge>, labels: &[u32]) {
-    for edge in edges.iter_mut() {
-        edge.to = block_at(labels, edge.to);
+fn resolved(alloc: Global, edges: Vec<Edge>, labels: &[u32]) -> Result<Vec<Edge>, AllocError>
+    ensures { IfOk result (λ v. map edge v.items ≡ spec.resolved labels.now (map edge edges.items)) }
+{
+    let mut out = Vec::new(alloc);
+    for edge in edges {
+        let to = block_at(labels, edge.to);
+        out.push(Edge {
+            from: edge.from,
+            to,
+            kind: edge.kind,
+        })?;
+    }
+    Ok(out)
+}
+
+/// Notes a head.
+#[tactic(auto, using(crate::proofs::Heads::no_head))]
+fn set_head(blocks: &mut Vec<BasicBlock>, number: u32)
+    ensures { map block blocks.new.items ≡ spec.head_set (map block blocks.old.items) number }
+{
+    if (number as usize) < blocks.len() {
+        blocks[number as usize].is_head = true;
+    }
+}
+
+fn note_head(blocks: &mut Vec<BasicBlock>, from: u32, to: u32)
+    ensures { map block blocks.new.items ≡ cond (nat_le to from) (spec.head_set (map block blocks.old.items) to) (map block blocks.old.items) }
+{
+    if to <= from {
+        set_head(blocks, to);
     }
 }
 
 /// Notes the heads: the blocks that an edge from the same or a later block leads to.
-fn note_heads(blocks: &mut Vec<BasicBlock>, edges: &[Edge]) {
+fn note_heads(blocks: &mut Vec<BasicBlock>, edges: &[Edge])
+    ensures { map block blocks.new.items ≡ spec.with_heads (map edge edges.now) (map block blocks.old.items) }
+{
     for edge in edges {
-        if edge.to <= edge.from {
-            if let Some(block) = blocks.get_mut(edge.to as usize) {
-                block.is_head = true;
-            }
-        }
+        note_head(blocks, edge.from, edge.to);
     }
 }
 
-fn new_opening<'a, 't>(
-    alloc: Global,
-    unit: &'a Checked,
-    templates: &'t [Option<Template<'a>>],
-) -> Result<Opening<'a, 't>, AllocError> {
-    let bases = BaseTable {
+fn no_bases(alloc: Global, unit: &Checked) -> Result<BaseTable, AllocError>
+    ensures { IfOk result (λ b. table b ≡ (spec.nothing_made (unit_view unit.now)).bases) }
+{
+    Ok(BaseTable {
         bases: Vec::new(alloc),
         width: 0,
         objects: all_none(alloc, unit.objects.len())?,
         literals: all_none(alloc, unit.literals.len())?,
-    };
-    Ok(Opening {
+    })
+}
+
+fn nothing_made(alloc: Global, unit: &Checked) -> Result<Making, AllocError>
+    ensures { IfOk result (λ m. made m ≡ spec.nothing_made (unit_view unit.now)) }
+{
+    Ok(Making {
         alloc,
-        unit,
-        templates,
-        stack: Vec::new(alloc),
         blocks: Vec::new(alloc),
         ready: Vec::new(alloc),
         edges: Vec::new(alloc),
         labels: Vec::new(alloc),
+        bases: no_bases(alloc, unit)?,
+    })
+}
+
+/// The entry's program, whose edges lead to labels.
+fn unresolved<'a>(
+    alloc: Global,
+    unit: &'a Checked,
+    templates: &[Option<Template<'a>>],
+    place: Place,
+) -> Result<Making, AllocError>
+    ensures { IfOk result (λ m. made m ≡ spec.whole (unit_view unit.now) (templates_view templates.now) place) }
+{
+    let mut opening = Opening {
+        stack: Vec::new(alloc),
+        making: nothing_made(alloc, unit)?,
+    };
+    let call = OwnCall {
+        place,
+        function: unit.entry,
+        depth: 0,
+        used: false,
+    };
+    opening.begin(unit, templates, call)?;
+    opening.run_entry(unit, templates)?;
+    let Opening { making, .. } = opening;
+    Ok(making)
+}
+
+/// The program whose edges lead to blocks.
+fn finished(making: Making) -> Result<OpenedProgram, AllocError>
+    ensures { IfOk result (λ p. spec.program_view p ≡ spec.finished (made making)) }
+{
+    let Making {
+        alloc,
+        mut blocks,
+        edges,
+        labels,
+        bases,
+        ..
+    } = making;
+    let edges = resolved(alloc, edges, labels.as_slice())?;
+    note_heads(&mut blocks, edges.as_slice());
+    Ok(OpenedProgram {
+        blocks,
+        edges,
         bases,
     })
 }
@@ -418,29 +777,8 @@ pub fn opened<'a>(
     unit: &'a Checked,
     templates: &[Option<Template<'a>>],
     place: Place,
-) -> Result<OpenedProgram, AllocError> {
-    let mut opening = new_opening(alloc, unit, templates)?;
-    let mut copy = opening.new_copy(OwnCall {
-        place,
-        function: unit.entry,
-        depth: 0,
-        used: false,
-    })?;
-    opening.name_parameters(&mut copy)?;
-    opening.stack.push(copy)?;
-    opening.run_all()?;
-    let Opening {
-        mut blocks,
-        mut edges,
-        labels,
-        bases,
-        ..
-    } = opening;
-    resolved(&mut edges, labels.as_slice());
-    note_heads(&mut blocks, edges.as_slice());
-    Ok(OpenedProgram {
-        blocks,
-        edges,
-        bases,
-    })
+) -> Result<OpenedProgram, AllocError>
+    ensures { IfOk result (λ p. spec.program_view p ≡ spec.program (unit_view unit.now) (templates_view templates.now) place) }
+{
+    finished(unresolved(alloc, unit, templates, place)?)
 }

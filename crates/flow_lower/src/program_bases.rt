@@ -1,7 +1,19 @@
 //! The bases of a control-flow program, in order of first naming.
+ghost use Rattle.std.specs.Prelude.{◌≡◌, ◌++◌, ◌-◌, ◌^◌, IfOk, Some, length, reverse, slice_get, slice_set, map};
+ghost use Rattle.c_layout.specs.Types.{view};
+ghost use Rattle.c_layout.specs.CheckedUnits.{function_view, unit_view, static_view, static_store_view, literal_view};
+ghost use Rattle.template_works.specs.Pieces.{name_view, target_view};
+ghost use Rattle.flow_counts.specs.SharedObjects.{all_pointed};
+ghost use Rattle.c_layout.specs.declared.checked_tree.checked_units.StaticBase.TheVariants as shared;
+ghost use Rattle.c_layout.specs.declared.shapes.BaseKind.TheVariants as kind;
+ghost use Rattle.flow_lower.specs.BaseTables as spec;
+ghost use Rattle.flow_lower.specs.BaseTables.{table, named};
+
 use base_shapes::{heap_shape, object_shape};
-use c_layout::{BaseInfo, BaseKind, CType, Checked, Function, Shape, StaticBase, StaticObject};
-use flow_counts::{literal_type, local_type, pointed_into, slot_of};
+use c_layout::{
+    BaseInfo, BaseKind, CType, Checked, Function, Shape, StaticBase, StaticStore, StringLiteral,
+};
+use flow_counts::{all_pointed, literal_type, local_type};
 use flow_program::type_bytes;
 use flow_templates::BaseName;
 use std::alloc::{AllocError, Global};
@@ -20,7 +32,9 @@ pub struct BaseTable {
 const CLASSES: usize = 6;
 
 /// How many values of a row a base has.
-fn width_of(shape: &Shape) -> Result<u32, AllocError> {
+fn width_of(shape: &Shape) -> Result<u32, AllocError>
+    ensures { IfOk result (λ n. n ≡ spec.width_of shape.now) }
+{
     let own = if shape.heap { CLASSES + 1 } else { 0 };
     let cells = shape.cells.as_slice().len();
     let zeros = shape.zeros.as_slice().len();
@@ -29,21 +43,28 @@ fn width_of(shape: &Shape) -> Result<u32, AllocError> {
     u32::try_from(all).ok().ok_or(AllocError)
 }
 
-fn known(table: &[Option<u32>], number: usize) -> Option<u32> {
-    match table.get(number) {
+pub fn known(list: &[Option<u32>], number: usize) -> Option<u32>
+    ensures { result ≡ spec.known list.now number }
+{
+    match list.get(number) {
         Some(found) => *found,
         None => None,
     }
 }
 
-fn note(table: &mut Vec<Option<u32>>, number: usize, base: u32) {
-    if let Some(slot) = table.get_mut(number) {
-        *slot = Some(base);
+fn note(list: &mut Vec<Option<u32>>, number: usize, base: u32)
+    ensures { list.new.items ≡ slice_set list.old.items number (Some base) }
+{
+    if number < list.len() {
+        list[number] = Some(base);
     }
 }
 
 impl BaseTable {
-    fn add(&mut self, kind: BaseKind, size: u64, shape: Shape) -> Result<u32, AllocError> {
+    fn add(&mut self, kind: BaseKind, size: u64, shape: Shape) -> Result<u32, AllocError>
+        ensures number { IfOk result (λ n. n ≡ length (table self.old).bases) }
+        ensures table { IfOk result (λ _. table self.new ≡ spec.added kind size shape (table self.old)) }
+    {
         let number = u32::try_from(self.bases.len()).ok().ok_or(AllocError)?;
         let first = self.width;
         self.width = first.checked_add(width_of(&shape)?).ok_or(AllocError)?;
@@ -62,7 +83,10 @@ impl BaseTable {
         unit: &Checked,
         kind: BaseKind,
         t: &CType,
-    ) -> Result<u32, AllocError> {
+    ) -> Result<u32, AllocError>
+        ensures number { IfOk result (λ n. n ≡ length (table self.old).bases) }
+        ensures table { IfOk result (λ _. table self.new ≡ spec.object_added (unit_view unit.now) kind (view t.now) (table self.old)) }
+    {
         let shape = object_shape(alloc, t, &unit.structs, &unit.model)?;
         let size = type_bytes(t, &unit.structs, unit.model.pointer)?;
         self.add(kind, size, shape)
@@ -74,7 +98,10 @@ impl BaseTable {
         alloc: Global,
         unit: &Checked,
         target: Option<&CType>,
-    ) -> Result<u32, AllocError> {
+    ) -> Result<u32, AllocError>
+        ensures number { IfOk result (λ n. n ≡ length (table self.old).bases) }
+        ensures table { IfOk result (λ _. table self.new ≡ spec.allocated (unit_view unit.now) (target_view target.entry) (table self.old)) }
+    {
         let newest = heap_shape(alloc, target, &unit.structs, &unit.model)?;
         let older = heap_shape(alloc, target, &unit.structs, &unit.model)?;
         let number = self.add(BaseKind::Newest, 0, newest)?;
@@ -90,29 +117,60 @@ impl BaseTable {
         function: &Function,
         locals: &mut Vec<Option<u32>>,
         slot: usize,
-    ) -> Result<u32, AllocError> {
-        if let Some(base) = known(locals.as_slice(), slot) {
-            return Ok(base);
+    ) -> Result<u32, AllocError>
+        ensures { IfOk result (λ n. named n (table self.new) locals.new.items ≡ spec.local (unit_view unit.now) (function_view function.now) slot locals.old.items (table self.old)) }
+    {
+        match known(locals.as_slice(), slot) {
+            Some(base) => Ok(base),
+            None => {
+                let t = local_type(function, slot);
+                let base = self.add_object(alloc, unit, BaseKind::Automatic, t)?;
+                note(locals, slot, base);
+                Ok(base)
+            }
         }
-        let t = local_type(function, slot);
-        let base = self.add_object(alloc, unit, BaseKind::Automatic, t)?;
-        note(locals, slot, base);
-        Ok(base)
     }
 
-    fn make_literal(
+    /// Makes the base of a literal that has none.
+    fn add_literal(
         &mut self,
         alloc: Global,
         unit: &Checked,
         number: u32,
-    ) -> Result<(), AllocError> {
-        if known(self.literals.as_slice(), number as usize).is_some() {
-            return Ok(());
-        }
-        let literal = unit.literals.get(number as usize).ok_or(AllocError)?;
+        literal: &StringLiteral,
+    ) -> Result<(), AllocError>
+        ensures { IfOk result (λ _. table self.new ≡ spec.literal_made (unit_view unit.now) number (table self.old) (Some (literal_view literal.now))) }
+    {
         let t = literal_type(alloc, unit, literal.bytes.as_bytes().len())?;
         let base = self.add_object(alloc, unit, BaseKind::Literal, &t)?;
         note(&mut self.literals, number as usize, base);
+        Ok(())
+    }
+
+    fn make_literal(&mut self, alloc: Global, unit: &Checked, number: u32) -> Result<(), AllocError>
+        ensures { IfOk result (λ _. table self.new ≡ spec.with_literal (unit_view unit.now) number (table self.old)) }
+    {
+        match known(self.literals.as_slice(), number as usize) {
+            Some(_) => Ok(()),
+            None => match unit.literals.get(number as usize) {
+                Some(literal) => self.add_literal(alloc, unit, number, literal),
+                None => Err(AllocError),
+            },
+        }
+    }
+
+    /// Makes the base of an object of static storage that has none.
+    fn add_static(
+        &mut self,
+        alloc: Global,
+        unit: &Checked,
+        number: u32,
+        t: &CType,
+    ) -> Result<(), AllocError>
+        ensures { IfOk result (λ _. table self.new ≡ spec.object_noted number (length (table self.old).bases) (spec.object_added (unit_view unit.now) kind.Static (view t.now) (table self.old))) }
+    {
+        let base = self.add_object(alloc, unit, BaseKind::Static, t)?;
+        note(&mut self.objects, number as usize, base);
         Ok(())
     }
 
@@ -124,47 +182,85 @@ impl BaseTable {
         unit: &Checked,
         stack: &mut Vec<StaticBase>,
         number: u32,
-    ) -> Result<(), AllocError> {
-        if known(self.objects.as_slice(), number as usize).is_some() {
-            return Ok(());
+    ) -> Result<(), AllocError>
+        ensures table { IfOk result (λ _. table self.new ≡ spec.with_object (unit_view unit.now) number (table self.old)) }
+        ensures stack { IfOk result (λ _. reverse stack.new.items ≡ spec.pointed (unit_view unit.now) number (table self.old) ++ reverse stack.old.items) }
+    {
+        match known(self.objects.as_slice(), number as usize) {
+            Some(_) => Ok(()),
+            None => match unit.objects.get(number as usize) {
+                Some(object) => {
+                    self.add_static(alloc, unit, number, &object.ctype)?;
+                    push_pointed(stack, alloc, object.stores.as_slice())
+                }
+                None => Err(AllocError),
+            },
         }
-        let object = unit.objects.get(number as usize).ok_or(AllocError)?;
-        let base = self.add_object(alloc, unit, BaseKind::Static, &object.ctype)?;
-        note(&mut self.objects, number as usize, base);
-        push_pointed(stack, object)
     }
 
-    /// Makes the bases of what is on the stack, and of all that it leads to.
-    fn make_shared(
+    /// Makes the base of an object or a literal, and leaves what it names on the stack.
+    fn make(
         &mut self,
         alloc: Global,
         unit: &Checked,
-        first: StaticBase,
-    ) -> Result<(), AllocError> {
-        let mut stack = Vec::new(alloc);
-        stack.push(first)?;
-        for _ in 0..u64::MAX {
-            let Some(base) = stack.pop() else {
-                break;
-            };
-            match base {
-                StaticBase::Object(number) => {
-                    self.make_object(alloc, unit, &mut stack, number)?;
-                }
-                StaticBase::Literal(number) => {
-                    self.make_literal(alloc, unit, number)?;
-                }
+        stack: &mut Vec<StaticBase>,
+        base: StaticBase,
+    ) -> Result<(), AllocError>
+        ensures table { IfOk result (λ _. table self.new ≡ spec.with_shared (unit_view unit.now) base (table self.old)) }
+        ensures stack { IfOk result (λ _. reverse stack.new.items ≡ spec.brought (unit_view unit.now) base (table self.old) ++ reverse stack.old.items) }
+    {
+        match base {
+            StaticBase::Object(number) => self.make_object(alloc, unit, stack, number),
+            StaticBase::Literal(number) => self.make_literal(alloc, unit, number),
+        }
+    }
+
+    /// Makes the bases of what is on the stack, and of all that it leads to.
+    #[tactic(auto, using(crate::proofs::Stacks::top, crate::proofs::SharedTurns::nothing_left))]
+    fn make_all(
+        &mut self,
+        alloc: Global,
+        unit: &Checked,
+        mut stack: Vec<StaticBase>,
+    ) -> Result<(), AllocError>
+        ensures { IfOk result (λ _. table self.new ≡ spec.with_all (unit_view unit.now) (2 ^ 64 - 1) (reverse stack.items) (table self.old)) }
+    {
+        for _turn in 0..u64::MAX {
+            match stack.pop() {
+                Some(base) => self.make(alloc, unit, &mut stack, base)?,
+                None => return Ok(()),
             }
         }
         Ok(())
     }
 
-    fn object(&mut self, alloc: Global, unit: &Checked, number: u32) -> Result<u32, AllocError> {
+    /// Makes the base of an object or a literal, and of all that it leads to.
+    fn make_shared(
+        &mut self,
+        alloc: Global,
+        unit: &Checked,
+        first: StaticBase,
+    ) -> Result<(), AllocError>
+        ensures { IfOk result (λ _. table self.new ≡ spec.with_pointed (unit_view unit.now) first (table self.old)) }
+    {
+        let mut stack = Vec::new(alloc);
+        stack.push(first)?;
+        self.make_all(alloc, unit, stack)?;
+        Ok(())
+    }
+
+    fn object(&mut self, alloc: Global, unit: &Checked, number: u32) -> Result<u32, AllocError>
+        ensures number { IfOk result (λ n. n ≡ spec.number_of (spec.known (table self.new).objects number)) }
+        ensures table { IfOk result (λ _. table self.new ≡ spec.with_pointed (unit_view unit.now) (shared.Object number) (table self.old)) }
+    {
         self.make_shared(alloc, unit, StaticBase::Object(number))?;
         known(self.objects.as_slice(), number as usize).ok_or(AllocError)
     }
 
-    fn literal(&mut self, alloc: Global, unit: &Checked, number: u32) -> Result<u32, AllocError> {
+    fn literal(&mut self, alloc: Global, unit: &Checked, number: u32) -> Result<u32, AllocError>
+        ensures number { IfOk result (λ n. n ≡ spec.number_of (spec.known (table self.new).literals number)) }
+        ensures table { IfOk result (λ _. table self.new ≡ spec.with_pointed (unit_view unit.now) (shared.Literal number) (table self.old)) }
+    {
         self.make_shared(alloc, unit, StaticBase::Literal(number))?;
         known(self.literals.as_slice(), number as usize).ok_or(AllocError)
     }
@@ -177,24 +273,41 @@ impl BaseTable {
         function: &Function,
         locals: &mut Vec<Option<u32>>,
         name: BaseName,
-    ) -> Result<u32, AllocError> {
+    ) -> Result<u32, AllocError>
+        ensures { IfOk result (λ n. named n (table self.new) locals.new.items ≡ spec.base (unit_view unit.now) (function_view function.now) (name_view name.entry) locals.old.items (table self.old)) }
+    {
         match name {
+            BaseName::Local(number) => self.local(alloc, unit, function, locals, number as usize),
+            BaseName::Outcome => {
+                self.local(alloc, unit, function, locals, function.locals.len())
+            }
             BaseName::Static(number) => self.object(alloc, unit, number),
             BaseName::Literal(number) => self.literal(alloc, unit, number),
             BaseName::Allocation(target) => self.allocation(alloc, unit, target),
-            _ => match slot_of(function, name) {
-                Some(slot) => self.local(alloc, unit, function, locals, slot),
-                None => Err(AllocError),
-            },
         }
     }
 }
 
-fn push_pointed(stack: &mut Vec<StaticBase>, object: &StaticObject) -> Result<(), AllocError> {
-    for store in object.stores.iter().rev() {
-        if let Some(base) = pointed_into(store) {
-            stack.push(base)?;
-        }
+/// Puts bases on the stack, the first one on top.
+#[tactic(auto, using(crate::proofs::Stacks::pushed))]
+fn schedule(stack: &mut Vec<StaticBase>, mut bases: Vec<StaticBase>) -> Result<(), AllocError>
+    ensures { IfOk result (λ _. stack.new.items ≡ stack.old.items ++ reverse bases.items) }
+{
+    while let Some(base) = bases.pop() {
+        stack.push(base)?;
     }
     Ok(())
+}
+
+/// Leaves what stores point into on the stack, the first one on top.
+#[tactic(auto, using(crate::proofs::Stacks::on_top))]
+fn push_pointed(
+    stack: &mut Vec<StaticBase>,
+    alloc: Global,
+    stores: &[StaticStore],
+) -> Result<(), AllocError>
+    ensures { IfOk result (λ _. reverse stack.new.items ≡ all_pointed (map static_store_view stores.now) ++ reverse stack.old.items) }
+{
+    let bases = all_pointed(alloc, stores)?;
+    schedule(stack, bases)
 }

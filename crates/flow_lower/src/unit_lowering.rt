@@ -1,51 +1,79 @@
 //! Lowering: from a checked unit to its control-flow program.
-ghost use Rattle.std.specs.Prelude.{◌≡◌, ◌≤◌, IfErr, IfOk, Some, slice_get};
+ghost use Rattle.std.specs.Prelude.{◌≡◌, ◌≤◌, ◌+◌, IfErr, IfOk, Some, slice_get};
 ghost use Rattle.c_layout.specs.declared.checked_tree.checked_units.Function.{Function};
+ghost use Rattle.c_layout.specs.Types.{view};
+ghost use Rattle.cc_base.specs.declared.limit_table.Limits.{Limits};
+ghost use Rattle.cc_base.specs.declared.refusals.Fault.{Fault};
+ghost use Rattle.c_layout.specs.CheckedUnits.{UnitView, function_view, unit_view};
+ghost use Rattle.flow_counts.specs.Preparations.{templates_view};
 ghost use Rattle.flow_counts.specs.SizeRefusals.{limit_of, IsTooLarge};
+ghost use Rattle.program_copies.specs.ProgramViews.{FlowView, flow_view};
+ghost use Rattle.flow_lower.specs.Openings.{program_view};
+ghost use Rattle.flow_lower.specs.Lowerings as spec;
+ghost use Rattle.flow_lower.specs.Lowerings.{AreUnitCounts, IsLowering, IsRefusal, Refuses};
+ghost use Rattle.flow_lower.specs.WellMade.{IsWellMade};
 
-use crate::initial_objects::{copied_structs, initial_objects};
+use crate::initial_objects::initial_objects;
 use crate::opened_program::{OpenedProgram, opened};
 use c_layout::{CType, Checked, Function};
 use cc_base::{Count, IntType, Limits, Stop};
 use flow_counts::{
-    PreparedUnit, UnitCounts, all_within, capped_product, capped_sum, counts_at, prepared,
-    shared_bases, unit_counts, within,
+    PreparedUnit, UnitCounts, all_within, counts_at, pool_values, prepared, shared_bases,
+    unit_counts, within,
 };
 use flow_program::{Flow, ParameterInput};
+use program_copies::struct_copies;
 use std::alloc::{AllocError, Global};
 
-/// The values of a pool of rows: for each block one row, and two more.
-fn pool(blocks: u64, width: u64) -> u64 {
-    capped_product(capped_sum(blocks, 2), width)
-}
-
 /// The type of an entry's parameter, which is an integer.
-fn input_type(t: &CType) -> Result<IntType, AllocError> {
+fn input_type(t: &CType) -> Result<IntType, AllocError>
+    ensures { IfOk result (λ k. k ≡ spec.input_type (view t.now)) }
+{
     match t {
         CType::Int(kind) => Ok(*kind),
-        CType::Pointer(_) | CType::Array(_, _) | CType::Struct(_) | CType::Void => Err(AllocError),
+        CType::Pointer(_) => Err(AllocError),
+        CType::Array(_, _) => Err(AllocError),
+        CType::Struct(_) => Err(AllocError),
+        CType::Void => Err(AllocError),
+    }
+}
+
+fn input(entry: &Function, base: u32) -> Result<ParameterInput, AllocError>
+    ensures { IfOk result (λ i. i ≡ spec.input (function_view entry.now) base) }
+{
+    match entry.locals.get(base as usize) {
+        Some(local) => {
+            let kind = input_type(&local.ctype)?;
+            Ok(ParameterInput { base, kind })
+        }
+        None => Err(AllocError),
     }
 }
 
 /// The entry's parameters, whose bases are the first ones.
-fn inputs(alloc: Global, entry: &Function) -> Result<Vec<ParameterInput>, AllocError> {
+#[tactic(auto, using(crate::proofs::Lowered::next_input))]
+fn inputs(alloc: Global, entry: &Function) -> Result<Vec<ParameterInput>, AllocError>
+    ensures { IfOk result (λ v. v.items ≡ spec.inputs (function_view entry.now) entry.now.parameters) }
+{
     let mut list = Vec::new(alloc);
     for base in 0..entry.parameters {
-        let local = entry.locals.get(base as usize).ok_or(AllocError)?;
-        let kind = input_type(&local.ctype)?;
-        list.push(ParameterInput { base, kind })?;
+        let input = input(entry, base)?;
+        list.push(input)?;
     }
     Ok(list)
 }
 
 fn entry_of(unit: &Checked) -> Result<&Function, AllocError>
-    ensures { IfOk result (λ f. (e : Function) → slice_get unit.now.functions.items unit.now.entry ≡ Some e → f.now ≡ e) }
+    ensures found { IfOk result (λ f. slice_get (unit_view unit.now).functions unit.now.entry ≡ Some (function_view f.now)) }
+    ensures only { IfOk result (λ f. (e : Function) → slice_get unit.now.functions.items unit.now.entry ≡ Some e → f.now ≡ e) }
 {
     unit.functions.get(unit.entry as usize).ok_or(AllocError)
 }
 
 /// How many values a row has.
-fn row_width(made: &OpenedProgram, temps: u64) -> Result<u32, AllocError> {
+fn row_width(made: &OpenedProgram, temps: u64) -> Result<u32, AllocError>
+    ensures { IfOk result (λ n. n ≡ (program_view made.now).bases.width + temps) }
+{
     let temps = u32::try_from(temps).ok().ok_or(AllocError)?;
     made.bases.width.checked_add(temps).ok_or(AllocError)
 }
@@ -60,6 +88,7 @@ fn flow(
     ensures model { IfOk result (λ f. f.model ≡ unit.now.model) }
     ensures entry { IfOk result (λ f. f.entry ≡ entry.now.place) }
     ensures temps { IfOk result (λ f. f.temps ≡ counts.temps) }
+    ensures exact { IfOk result (λ f. flow_view f ≡ spec.lowered (unit_view unit.now) (function_view entry.now) (program_view made) counts.temps) }
 {
     let width = row_width(&made, counts.temps)?;
     let initial = initial_objects(alloc, unit, &made.bases)?;
@@ -76,14 +105,16 @@ fn flow(
         initial,
         parameters: inputs(alloc, entry)?,
         entry: entry.place,
-        structs: copied_structs(alloc, &unit.structs)?,
+        structs: struct_copies(alloc, &unit.structs)?,
         width,
         model: unit.model,
     })
 }
 
 /// The counts that are known before the program is made.
-fn counted(alloc: Global, unit: &Checked, found: &PreparedUnit) -> Result<UnitCounts, AllocError> {
+fn counted(alloc: Global, unit: &Checked, found: &PreparedUnit) -> Result<UnitCounts, AllocError>
+    ensures { IfOk result (λ c. AreUnitCounts (unit_view unit.now) (templates_view found.now.templates.items) found.now.counts.items c) }
+{
     let shared = shared_bases(alloc, unit, found.templates.as_slice())?;
     let counts = counts_at(found.counts.as_slice(), unit.entry)?;
     Ok(unit_counts(counts, shared))
@@ -96,6 +127,8 @@ pub fn lower(alloc: Global, unit: &Checked, limits: &Limits) -> Result<Flow, Sto
     ensures model { IfOk result (λ f. f.model ≡ unit.now.model) }
     ensures entry { IfOk result (λ f. (e : Function) → slice_get unit.now.functions.items unit.now.entry ≡ Some e → f.entry ≡ e.place) }
     ensures temps { IfOk result (λ f. f.temps ≤ limits.now.temps) }
+    ensures lowering { IfOk result (λ f. IsLowering (unit_view unit.now) limits.now (flow_view f)) }
+    ensures refusal { IfErr result (λ s. Refuses (unit_view unit.now) limits.now s) }
     ensures cause { IfErr result (λ s. (e : Function) → slice_get unit.now.functions.items unit.now.entry ≡ Some e → IsTooLarge limits.now e.place s) }
 {
     let entry = entry_of(unit)?;
@@ -104,7 +137,19 @@ pub fn lower(alloc: Global, unit: &Checked, limits: &Limits) -> Result<Flow, Sto
     all_within(entry.place, counts, limits)?;
     let made = opened(alloc, unit, found.templates.as_slice(), entry.place)?;
     let width = row_width(&made, counts.temps)?;
-    let values = pool(counts.blocks, width as u64);
+    let values = pool_values(counts.blocks, width as u64);
     within(entry.place, Count::Pool, values, limits)?;
     Ok(flow(alloc, unit, entry, made, counts)?)
 }
+
+/// A unit has one program at most and one refusal at most, and where it has a program it is not refused.
+pub fn one_lowering()
+    ensures program { (u : UnitView) (limits : Limits) (f g : FlowView) → IsLowering u limits f → IsLowering u limits g → f ≡ g }
+    ensures refusal { (u : UnitView) (limits : Limits) (f g : Fault) → IsRefusal u limits f → IsRefusal u limits g → f ≡ g }
+    ensures apart { (u : UnitView) (limits : Limits) (f : FlowView) (g : Fault) → IsLowering u limits f → IsRefusal u limits g → ⊥ }
+{}
+
+/// What lowering makes is well formed in its bases, in the numbers of its edges and in its heads.
+pub fn well_made()
+    ensures { (u : UnitView) (limits : Limits) (f : FlowView) → IsLowering u limits f → IsWellMade f }
+{}

@@ -1,8 +1,8 @@
 -- Open aggregates, of which the code keeps the innermost last.
-use Rattle.std.proofs.Common.{◌≡◌, ◌<◌, ◌≤◌, ◌+◌, ℕ, zero, suc, Bool, true, false, List, [], ◌∷◌, ◌++◌, map, length, reverse, slice_get, Option, Some, None, is_some, option_map, refl, sym, ◌∙◌, ap, arith, rules}
-use Rattle.std.proofs.lemmas.List.{map-append, reverse-append, length-append, length-reverse, length-map}
+use Rattle.std.proofs.Common.{◌≡◌, ◌<◌, ◌≤◌, ℕ, Bool, true, false, List, [], ◌∷◌, ◌++◌, map, length, reverse, slice_get, Option, Some, None, is_some, option_map, refl, sym, ◌∙◌, ap, arith}
+use Rattle.std.proofs.lemmas.List.{map-append, reverse-append, length-reverse, length-map}
 use Rattle.type_scopes.specs.Known.{Known}
-use Rattle.initializer_types.specs.Subobjects.{SubobjectView, OpenView, subobject_view, open_view, behind, following, step, left_or, next_or, next, passed, around}
+use Rattle.initializer_types.specs.Subobjects.{SubobjectView, OpenView, subobject_view, open_view, behind, following, step, next_or, next, passed, around}
 use Rattle.initializer_types.specs.declared.subobjects.Subobject.{Subobject}
 use Rattle.initializer_types.specs.declared.subobjects.OpenAggregate.{OpenAggregate}
 

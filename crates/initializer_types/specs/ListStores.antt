@@ -1,5 +1,5 @@
 -- The stores of a list in braces (6.7.9p16 to p21).
-use Rattle.std.specs.Prelude.{◌≡◌, ℕ, Bool, true, false, cond, List, [], ◌∷◌, ◌++◌, map, Option, Some, None, is_some, Ok, Err}
+use Rattle.std.specs.Prelude.{ℕ, zero, suc, Bool, true, false, cond, List, [], ◌∷◌, ◌++◌, map, Option, Some, None, is_some, Ok, Err}
 use Rattle.cc_base.specs.declared.diagnostics.Place.{Place}
 use Rattle.cc_base.specs.declared.refusals.Fault.{Fault}
 use Rattle.cc_base.specs.declared.refusals.Refusal.TheVariants as refusal
@@ -83,8 +83,23 @@ takes_value o t = cond (is_scalar t) true (is_struct_operand o t)
 abbrev pub takes_text : Ty → Bool
 takes_text t = cond (is_scalar t) true (is_some (character_room t))
 
--- the next subobject of a type that is wanted; aggregates of other types are entered
-pub data Seeks (k : Known) (wanted : Ty → Bool) : List OpenView → Option SubobjectView × List OpenView → Type 0 where
-  Nowhere : (had after : List OpenView) → next k had ≡ (None, after) → Seeks k wanted had (None, after)
-  Here : (had after : List OpenView) (s : SubobjectView) → next k had ≡ (Some s, after) → wanted s.ctype ≡ true → Seeks k wanted had (Some s, after)
-  Inside : (had after : List OpenView) (s : SubobjectView) (r : Option SubobjectView × List OpenView) → next k had ≡ (Some s, after) → wanted s.ctype ≡ false → Seeks k wanted (entered s ∷ after) r → Seeks k wanted had r
+abbrev pub found_or : (Ty → Bool) → (List OpenView → Option SubobjectView × List OpenView) → Option SubobjectView → List OpenView → Option SubobjectView × List OpenView
+found_or wanted inside None left = (None, left)
+found_or wanted inside (Some s) left = cond (wanted s.ctype) (Some s, left) (inside (entered s ∷ left))
+
+-- the next subobject of a type that is wanted, and the aggregates behind it; those of other types are entered, so many
+-- of them at most
+unfoldable pub sought_within : ℕ → Known → (Ty → Bool) → List OpenView → Option SubobjectView × List OpenView
+sought_within zero k wanted had = (None, had)
+sought_within (suc n) k wanted had = found_or wanted (λ l. sought_within n k wanted l) (next k had).0 (next k had).1
+
+-- the same; that many aggregates stand in no type
+abbrev pub sought : Known → (Ty → Bool) → List OpenView → Option SubobjectView × List OpenView
+sought k wanted had = sought_within 4294967295 k wanted had
+
+abbrev pub stored_at : Known → Place → OperandView → FillingView → Option SubobjectView × List OpenView → List OpenView × FillingView
+stored_at k at o v found = (found.1, with_found k at o v found.0)
+
+-- a value in a list: it initializes the next subobject that it may initialize as a whole
+abbrev pub stored_next : Known → Place → OperandView → List OpenView → FillingView → List OpenView × FillingView
+stored_next k at o had v = stored_at k at o v (sought k (takes_value o) had)

@@ -1,9 +1,9 @@
 -- String literals as initializers of arrays of characters (6.7.9p14).
-use Rattle.std.specs.Prelude.{ℕ, ◌+◌, ◌==◌, Bool, cond, List, [], ◌∷◌, map, length, Option, Some, None}
+use Rattle.std.specs.Prelude.{ℕ, ◌+◌, ◌==◌, cond, List, length, Option, Some, None}
 use Rattle.c_layout.specs.Types.{Ty, Int, Array}
 use Rattle.c_layout.specs.SyntaxTrees.{Tree}
 use Rattle.c_layout.specs.SyntaxTrees as syntax
-use Rattle.c_layout.specs.DeclarationTrees.{InitializerTree, Single, Braces}
+use Rattle.c_layout.specs.DeclarationTrees.{InitializerTree, InitializerTrees, Single, Braces, NoInitializer, MoreInitializers}
 
 abbrev pub room_of : Ty → ℕ → Option ℕ
 room_of (Int k) count = cond (k.bytes == 1) (Some count) None
@@ -24,10 +24,10 @@ literal_item (Single e) = bare_literal e
 literal_item (Braces at items) = None
 
 -- the literal of a list with one literal
-abbrev pub only_literal : List InitializerTree → Option (List ℕ)
-only_literal [] = None
-only_literal (i ∷ []) = literal_item i
-only_literal (i ∷ j ∷ items) = None
+abbrev pub only_literal : InitializerTrees → Option (List ℕ)
+only_literal NoInitializer = None
+only_literal (MoreInitializers i NoInitializer) = literal_item i
+only_literal (MoreInitializers i (MoreInitializers j items)) = None
 
 -- the length of an array, if it has none that of its initializer
 abbrev pub length_or : ℕ → ℕ → ℕ

@@ -1,12 +1,12 @@
 //! The stores of a list in braces (6.7.9p16 to p21 of ISO/IEC 9899:2011).
-ghost use Rattle.std.specs.Prelude.{◌≡◌, IfOk, Option, option_map};
+ghost use Rattle.std.specs.Prelude.{◌≡◌, IfOk, option_map};
 ghost use Rattle.c_layout.specs.Types.{view};
 ghost use Rattle.c_layout.specs.CheckedTrees.{store_tree};
 ghost use Rattle.type_scopes.specs.Known.{known};
 ghost use Rattle.binary_operators.specs.Operands.{operand_view};
-ghost use Rattle.initializer_types.specs.Subobjects.{SubobjectView, subobject_view, cursor_view};
+ghost use Rattle.initializer_types.specs.Subobjects.{subobject_view, cursor_view};
 ghost use Rattle.initializer_types.specs.ListStores as spec;
-ghost use Rattle.initializer_types.specs.ListStores.{filling_view, Seeks};
+ghost use Rattle.initializer_types.specs.ListStores.{filling_view};
 
 use crate::literals::character_room;
 use crate::subobjects::{Cursor, Subobject};
@@ -169,7 +169,7 @@ fn takes_text(t: &CType) -> bool
 /// The subobject that a value initializes as a whole, found by going into aggregates; None where
 /// there is none.
 fn sought(cx: &Context, cursor: &mut Cursor, operand: &Operand) -> Result<Option<Subobject>, Memory>
-    ensures { IfOk result (λ s. Seeks (known cx.now) (spec.takes_value (operand_view operand.now)) (cursor_view cursor.old) (option_map subobject_view s, cursor_view cursor.new)) }
+    ensures { IfOk result (λ s. (option_map subobject_view s, cursor_view cursor.new) ≡ spec.sought (known cx.now) (spec.takes_value (operand_view operand.now)) (cursor_view cursor.old)) }
 {
     for _level in 0..u32::MAX {
         let Some(subobject) = cursor.next(cx)? else {
@@ -185,7 +185,7 @@ fn sought(cx: &Context, cursor: &mut Cursor, operand: &Operand) -> Result<Option
 
 /// The subobject that a literal initializes: an array of characters, or a scalar.
 pub fn sought_text(cx: &Context, cursor: &mut Cursor) -> Result<Option<Subobject>, Memory>
-    ensures { IfOk result (λ s. Seeks (known cx.now) spec.takes_text (cursor_view cursor.old) (option_map subobject_view s, cursor_view cursor.new)) }
+    ensures { IfOk result (λ s. (option_map subobject_view s, cursor_view cursor.new) ≡ spec.sought (known cx.now) spec.takes_text (cursor_view cursor.old)) }
 {
     for _level in 0..u32::MAX {
         let Some(subobject) = cursor.next(cx)? else {
@@ -243,7 +243,7 @@ pub fn store_next(
     operand: Operand,
     filling: &mut Filling,
 ) -> Result<(), Memory>
-    ensures { IfOk result (λ _. (s : Option SubobjectView) × Seeks (known cx.now) (spec.takes_value (operand_view operand)) (cursor_view cursor.old) (s, cursor_view cursor.new) × (filling_view filling.new ≡ spec.with_found (known cx.now) equals (operand_view operand) (filling_view filling.old) s)) }
+    ensures { IfOk result (λ _. (cursor_view cursor.new, filling_view filling.new) ≡ spec.stored_next (known cx.now) equals (operand_view operand) (cursor_view cursor.old) (filling_view filling.old)) }
 {
     let found = sought(cx, cursor, &operand)?;
     store_found(cx, equals, found, operand, filling)

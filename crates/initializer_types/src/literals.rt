@@ -2,7 +2,7 @@
 ghost use Rattle.std.specs.Prelude.{◌≡◌, IfOk, map, option_map};
 ghost use Rattle.c_layout.specs.Types.{view};
 ghost use Rattle.c_layout.specs.SyntaxTrees.{tree_of};
-ghost use Rattle.c_layout.specs.DeclarationTrees.{initializer_tree};
+ghost use Rattle.c_layout.specs.DeclarationTrees.{initializer_tree, initializer_trees};
 ghost use Rattle.initializer_types.specs.Literals as spec;
 
 use c_layout::{CType, Expr, Initializer};
@@ -56,7 +56,7 @@ fn literal_item(item: &Initializer) -> Option<&Text>
 
 /// The literal of a list with one literal.
 pub fn only_literal(items: &[Initializer]) -> Option<&Text>
-    ensures { option_map (λ t. t.now) result ≡ spec.only_literal (map initializer_tree items.now) }
+    ensures { option_map (λ t. t.now) result ≡ spec.only_literal (initializer_trees (map initializer_tree items.now)) }
 {
     match items {
         [] => None,

@@ -21,86 +21,86 @@ use Rattle.report_cli.specs.Choices.{IsChoice}
 use Rattle.report_cli.specs.Stages.{stage_of}
 use Rattle.report_cli.specs.declared.stages.Stage.{Stage}
 use Rattle.report_cli.specs.declared.stages.Stage.TheVariants as stage
-use Rattle.report_cli.specs.Judging.{Order, RefusesAt, RefusesUnit}
-use Rattle.report_cli.specs.Verdicts.{Tells, helped, versioned, words_refused, absent, refused, reported, summed, file_name, Gives, FromFiles, FromBytes, IsExpanded, IsLaterRefusal, IsStaged, IsRefusal, AnswersUnit, AnswersLoad, HasModel, RefusesModel, IsLater, IsVerdict}
+use Rattle.report_cli.specs.Judging.{Order, SettingView, RefusesAt, RefusesUnit}
+use Rattle.report_cli.specs.Verdicts.{Tells, helped, versioned, words_refused, absent, refused, reported, summed, file_name, Gives, FromFiles, FromBytes, IsExpanded, IsLaterRefusal, IsStaged, IsRefusal, check_setting, load_setting, AnswersUnit, AnswersLoad, HasModel, RefusesModel, IsLater, IsVerdict}
 use Rattle.report_cli.specs.Answering.{IsEarly, AnswersStop, AnswersOwn, AnswersJudged, AnswersMade}
 
 -- a refusal of a later stage, by its stage
-later_staged : (given : Gives) (m : Model) (names : List Bytes) (why : Fault) (u : Unit7) (at : Stage) → RefusesAt u m why at → IsLaterRefusal given m names why → IsStaged given m names why at
-later_staged given m names why u stage.Expansion r h = absurd r
-later_staged given m names why u stage.Numbers r h = inr h
-later_staged given m names why u stage.Grammar r h = h
-later_staged given m names why u stage.Typing r h = h
-later_staged given m names why u stage.Counting r h = h
+later_staged : (given : Gives) (g : SettingView) (names : List Bytes) (why : Fault) (u : Unit7) (at : Stage) → RefusesAt u g why at → IsLaterRefusal given g names why → IsStaged given g names why at
+later_staged given g names why u stage.Expansion r h = absurd r
+later_staged given g names why u stage.Numbers r h = inr h
+later_staged given g names why u stage.Grammar r h = h
+later_staged given g names why u stage.Typing r h = h
+later_staged given g names why u stage.Counting r h = h
 
 -- no refusal that comes from the files is of a later stage
-own_refusal : (u : Unit7) (m : Model) (why : Fault) (r : Refusal) → RefusesAt u m why (stage_of r) → IsOwnRefusal r
-own_refusal u m why (refusal.FileTooLong count limit) h = absurd h
-own_refusal u m why (refusal.HeaderMissing name) h = absurd h
-own_refusal u m why _ h = tt
+own_refusal : (u : Unit7) (g : SettingView) (why : Fault) (r : Refusal) → RefusesAt u g why (stage_of r) → IsOwnRefusal r
+own_refusal u g why (refusal.FileTooLong count limit) h = absurd h
+own_refusal u g why (refusal.HeaderMissing name) h = absurd h
+own_refusal u g why _ h = tt
 
-early_staged : (given : Gives) (m : Model) (names : List Bytes) (why : Fault) (at : Stage) → IsEarly at → given names (Err (stop.Refused why)) → IsStaged given m names why at
-early_staged given m names why stage.Expansion h told = told
-early_staged given m names why stage.Numbers h told = inl told
-early_staged given m names why stage.Grammar h told = absurd h
-early_staged given m names why stage.Typing h told = absurd h
-early_staged given m names why stage.Counting h told = absurd h
+early_staged : (given : Gives) (g : SettingView) (names : List Bytes) (why : Fault) (at : Stage) → IsEarly at → given names (Err (stop.Refused why)) → IsStaged given g names why at
+early_staged given g names why stage.Expansion h told = told
+early_staged given g names why stage.Numbers h told = inl told
+early_staged given g names why stage.Grammar h told = absurd h
+early_staged given g names why stage.Typing h told = absurd h
+early_staged given g names why stage.Counting h told = absurd h
 
-stopped_refusal : (given : Gives) (seen : Seen) (dirs : List Bytes) (m : Model) (unit : Bytes) (names : List Bytes) (f : Fault) → IsCaused seen dirs m names (stop.Refused f) → IsEarly (stage_of f.refusal) → given names (Err (stop.Refused f)) → IsRefusal given seen dirs m unit (file_name names unit f.place.file) f
-stopped_refusal given seen dirs m unit names f h e told = record { names = names; named = refl; cause = h; staged = early_staged given m names f (stage_of f.refusal) e told }
+stopped_refusal : (given : Gives) (seen : Seen) (dirs : List Bytes) (g : SettingView) (unit : Bytes) (names : List Bytes) (f : Fault) → IsCaused seen dirs g.model names (stop.Refused f) → IsEarly (stage_of f.refusal) → given names (Err (stop.Refused f)) → IsRefusal given seen dirs g unit (file_name names unit f.place.file) f
+stopped_refusal given seen dirs g unit names f h e told = record { names = names; named = refl; cause = h; staged = early_staged given g names f (stage_of f.refusal) e told }
 
-later_refusal : (given : Gives) (seen : Seen) (dirs : List Bytes) (m : Model) (u : Unit7) (unit : Bytes) (names : List Bytes) (f : Fault) → IsExpanded given names u → RefusesUnit u m f → IsRefusal given seen dirs m unit (file_name names unit f.place.file) f
-later_refusal given seen dirs m u unit names f expanded h = record {
+later_refusal : (given : Gives) (seen : Seen) (dirs : List Bytes) (g : SettingView) (u : Unit7) (unit : Bytes) (names : List Bytes) (f : Fault) → IsExpanded given names u → RefusesUnit u g f → IsRefusal given seen dirs g unit (file_name names unit f.place.file) f
+later_refusal given seen dirs g u unit names f expanded h = record {
   names = names;
   named = refl;
-  cause = own_caused seen dirs m names (stop.Refused f) (own_refusal u m f f.refusal h);
-  staged = later_staged given m names f u (stage_of f.refusal) h (record { expanded = u; is_expanded = expanded; refuses = h });
+  cause = own_caused seen dirs g.model names (stop.Refused f) (own_refusal u g f f.refusal h);
+  staged = later_staged given g names f u (stage_of f.refusal) h (record { expanded = u; is_expanded = expanded; refuses = h });
 }
 
 pub stop_told : (order : Order) (seen : Seen) (c : CommandView) (m : Model) (names : List Bytes) (s : Stop) (status : ℕ) (text : Bytes) → IsCausedFrom c.unit seen c.dirs m names s → FromFiles seen.files c.dirs m c.unit names (Err s) → AnswersStop names c.unit s status text → Tells (AnswersUnit order seen c m) status text
-stop_told order seen c m names (stop.Refused f) status text h told a = record { verdict = refused (file_name names c.unit f.place.file) f; called_for = stopped_refusal (FromFiles seen.files c.dirs m c.unit) seen c.dirs m c.unit names f h a.1 told; by_status = a.0.0; by_text = a.0.1 }
+stop_told order seen c m names (stop.Refused f) status text h told a = record { verdict = refused (file_name names c.unit f.place.file) f; called_for = stopped_refusal (FromFiles seen.files c.dirs m c.unit) seen c.dirs (check_setting c m) c.unit names f h a.1 told; by_status = a.0.0; by_text = a.0.1 }
 stop_told order seen c m names stop.NotHeld status text h told a = record { verdict = absent c.unit; called_for = (refl, h); by_status = a.0; by_text = a.1 }
 stop_told order seen c m names stop.ReadFault status text h told a = absurd a
 stop_told order seen c m names stop.Memory status text h told a = absurd a
 
-own_told : (order : Order) (seen : Seen) (c : CommandView) (m : Model) (u : Unit7) (names : List Bytes) (status : ℕ) (text : Bytes) → IsExpanded (FromFiles seen.files c.dirs m c.unit) names u → AnswersOwn m u names c.unit status text → Tells (AnswersUnit order seen c m) status text
-own_told order seen c m u names status text expanded a = record { verdict = refused (file_name names c.unit a.why.place.file) a.why; called_for = later_refusal (FromFiles seen.files c.dirs m c.unit) seen c.dirs m u c.unit names a.why expanded a.refuses; by_status = a.answers.0; by_text = a.answers.1 }
+own_told : (order : Order) (seen : Seen) (c : CommandView) (m : Model) (u : Unit7) (names : List Bytes) (status : ℕ) (text : Bytes) → IsExpanded (FromFiles seen.files c.dirs m c.unit) names u → AnswersOwn (check_setting c m) u names c.unit status text → Tells (AnswersUnit order seen c m) status text
+own_told order seen c m u names status text expanded a = record { verdict = refused (file_name names c.unit a.why.place.file) a.why; called_for = later_refusal (FromFiles seen.files c.dirs m c.unit) seen c.dirs (check_setting c m) u c.unit names a.why expanded a.refuses; by_status = a.answers.0; by_text = a.answers.1 }
 
-judged_told : (order : Order) (seen : Seen) (c : CommandView) (m : Model) (u : Unit7) (names : List Bytes) (status : ℕ) (text : Bytes) → IsExpanded (FromFiles seen.files c.dirs m c.unit) names u → AnswersJudged order m u c.format names c.unit status text → Tells (AnswersUnit order seen c m) status text
+judged_told : (order : Order) (seen : Seen) (c : CommandView) (m : Model) (u : Unit7) (names : List Bytes) (status : ℕ) (text : Bytes) → IsExpanded (FromFiles seen.files c.dirs m c.unit) names u → AnswersJudged order (check_setting c m) u c.format names c.unit status text → Tells (AnswersUnit order seen c m) status text
 judged_told order seen c m u names status text expanded a = record {
   verdict = reported c.format names c.unit a.answers.diags;
-  called_for = (refl, refl, record { expanded = u; is_expanded = expanded; pairs = a.pairs; judged = a.judged; listed = a.answers.listed });
+  called_for = (refl, refl, record { expanded = u; is_expanded = expanded; found = a.found; judged = a.judged; listed = a.answers.listed });
   by_status = a.answers.by_status;
   by_text = a.answers.by_text;
 }
 
 -- what is told of a unit that was expanded
-pub checked_told : (order : Order) (seen : Seen) (c : CommandView) (m : Model) (u : Unit7) (names : List Bytes) (status : ℕ) (text : Bytes) → IsExpanded (FromFiles seen.files c.dirs m c.unit) names u → AnswersOwn m u names c.unit status text ⊎ AnswersJudged order m u c.format names c.unit status text → Tells (AnswersUnit order seen c m) status text
+pub checked_told : (order : Order) (seen : Seen) (c : CommandView) (m : Model) (u : Unit7) (names : List Bytes) (status : ℕ) (text : Bytes) → IsExpanded (FromFiles seen.files c.dirs m c.unit) names u → AnswersOwn (check_setting c m) u names c.unit status text ⊎ AnswersJudged order (check_setting c m) u c.format names c.unit status text → Tells (AnswersUnit order seen c m) status text
 checked_told order seen c m u names status text expanded h = elim h [
   | inl a ↦ own_told order seen c m u names status text expanded a
   | inr a ↦ judged_told order seen c m u names status text expanded a
 ]
 
-own_made : (order : Order) (seen : Seen) (c : CommandView) (m : Model) (u : Unit7) (names : List Bytes) (status : ℕ) (text : Bytes) → IsExpanded (FromBytes seen.files m c.unit (load_of c.seed c.count)) names u → AnswersOwn m u names c.unit status text → Tells (AnswersLoad order seen c m) status text
-own_made order seen c m u names status text expanded a = record { verdict = refused (file_name names c.unit a.why.place.file) a.why; called_for = later_refusal (FromBytes seen.files m c.unit (load_of c.seed c.count)) seen [] m u c.unit names a.why expanded a.refuses; by_status = a.answers.0; by_text = a.answers.1 }
+own_made : (order : Order) (seen : Seen) (c : CommandView) (m : Model) (u : Unit7) (names : List Bytes) (status : ℕ) (text : Bytes) → IsExpanded (FromBytes seen.files m c.unit (load_of c.seed c.count)) names u → AnswersOwn (load_setting m) u names c.unit status text → Tells (AnswersLoad order seen c m) status text
+own_made order seen c m u names status text expanded a = record { verdict = refused (file_name names c.unit a.why.place.file) a.why; called_for = later_refusal (FromBytes seen.files m c.unit (load_of c.seed c.count)) seen [] (load_setting m) u c.unit names a.why expanded a.refuses; by_status = a.answers.0; by_text = a.answers.1 }
 
-summary_made : (order : Order) (seen : Seen) (c : CommandView) (m : Model) (u : Unit7) (names : List Bytes) (status : ℕ) (text : Bytes) → IsExpanded (FromBytes seen.files m c.unit (load_of c.seed c.count)) names u → AnswersMade order m u names c.unit status text → Tells (AnswersLoad order seen c m) status text
+summary_made : (order : Order) (seen : Seen) (c : CommandView) (m : Model) (u : Unit7) (names : List Bytes) (status : ℕ) (text : Bytes) → IsExpanded (FromBytes seen.files m c.unit (load_of c.seed c.count)) names u → AnswersMade order (load_setting m) u names c.unit status text → Tells (AnswersLoad order seen c m) status text
 summary_made order seen c m u names status text expanded a = record {
-  verdict = summed c.unit a.answers.bases a.answers.cells a.answers.diags;
-  called_for = (refl, names, record { expanded = u; is_expanded = expanded; pairs = a.pairs; judged = a.judged; listed = a.answers.listed });
+  verdict = summed c.unit a.found.bases a.found.cells a.answers.diags;
+  called_for = (refl, names, record { report = record { expanded = u; is_expanded = expanded; found = a.found; judged = a.judged; listed = a.answers.listed }; bases_of = refl; cells_of = refl });
   by_status = a.answers.by_status;
   by_text = a.answers.by_text;
 }
 
 -- what is told of a unit that was made
-pub loaded_told : (order : Order) (seen : Seen) (c : CommandView) (m : Model) (u : Unit7) (names : List Bytes) (status : ℕ) (text : Bytes) → IsExpanded (FromBytes seen.files m c.unit (load_of c.seed c.count)) names u → AnswersOwn m u names c.unit status text ⊎ AnswersMade order m u names c.unit status text → Tells (AnswersLoad order seen c m) status text
+pub loaded_told : (order : Order) (seen : Seen) (c : CommandView) (m : Model) (u : Unit7) (names : List Bytes) (status : ℕ) (text : Bytes) → IsExpanded (FromBytes seen.files m c.unit (load_of c.seed c.count)) names u → AnswersOwn (load_setting m) u names c.unit status text ⊎ AnswersMade order (load_setting m) u names c.unit status text → Tells (AnswersLoad order seen c m) status text
 loaded_told order seen c m u names status text expanded h = elim h [
   | inl a ↦ own_made order seen c m u names status text expanded a
   | inr a ↦ summary_made order seen c m u names status text expanded a
 ]
 
 pub stop_made : (order : Order) (seen : Seen) (c : CommandView) (m : Model) (names : List Bytes) (s : Stop) (status : ℕ) (text : Bytes) → IsCaused seen [] m names s → FromBytes seen.files m c.unit (load_of c.seed c.count) names (Err s) → AnswersStop names c.unit s status text → Tells (AnswersLoad order seen c m) status text
-stop_made order seen c m names (stop.Refused f) status text h told a = record { verdict = refused (file_name names c.unit f.place.file) f; called_for = stopped_refusal (FromBytes seen.files m c.unit (load_of c.seed c.count)) seen [] m c.unit names f h a.1 told; by_status = a.0.0; by_text = a.0.1 }
+stop_made order seen c m names (stop.Refused f) status text h told a = record { verdict = refused (file_name names c.unit f.place.file) f; called_for = stopped_refusal (FromBytes seen.files m c.unit (load_of c.seed c.count)) seen [] (load_setting m) c.unit names f h a.1 told; by_status = a.0.0; by_text = a.0.1 }
 stop_made order seen c m names stop.NotHeld status text h told a = absurd h
 stop_made order seen c m names stop.ReadFault status text h told a = absurd a
 stop_made order seen c m names stop.Memory status text h told a = absurd a
@@ -112,8 +112,8 @@ stop_under order seen c m names given unit dirs s status text same_unit same_dir
     let answer = subst (λ u. AnswersStop names u s status text) same_unit (subst (λ n. AnswersStop n unit s status text) same_names a) in
     stop_told order seen c m names s status text cause told answer
 
-pub loaded_under : (order : Order) (seen : Seen) (c : CommandView) (m : Model) (u : Unit7) (names : List Bytes) (unit : Bytes) (status : ℕ) (text : Bytes) → unit ≡ c.unit → IsExpanded (FromBytes seen.files m c.unit (load_of c.seed c.count)) names u → AnswersOwn m u names unit status text ⊎ AnswersMade order m u names unit status text → Tells (AnswersLoad order seen c m) status text
-loaded_under order seen c m u names unit status text same expanded h = loaded_told order seen c m u names status text expanded (subst (λ v. AnswersOwn m u names v status text ⊎ AnswersMade order m u names v status text) same h)
+pub loaded_under : (order : Order) (seen : Seen) (c : CommandView) (m : Model) (u : Unit7) (names : List Bytes) (unit : Bytes) (status : ℕ) (text : Bytes) → unit ≡ c.unit → IsExpanded (FromBytes seen.files m c.unit (load_of c.seed c.count)) names u → AnswersOwn (load_setting m) u names unit status text ⊎ AnswersMade order (load_setting m) u names unit status text → Tells (AnswersLoad order seen c m) status text
+loaded_under order seen c m u names unit status text same expanded h = loaded_told order seen c m u names status text expanded (subst (λ v. AnswersOwn (load_setting m) u names v status text ⊎ AnswersMade order (load_setting m) u names v status text) same h)
 
 -- the names and the tokens that an expansion gave
 pub names_expanded : {S : Type 0} (gives : Gives) (name : S → Bytes) (files given : List S) (u : Unit7) → given ≡ files → gives (map name files) (Ok u) → is_distinct (map name files) ≡ true → length u.tokens ≤ 131072 → IsExpanded gives (map name given) u

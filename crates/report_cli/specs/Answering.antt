@@ -4,7 +4,6 @@ use Rattle.cc_base.specs.declared.diagnostics.Diag.{Diag}
 use Rattle.cc_base.specs.declared.refusals.Fault.{Fault}
 use Rattle.cc_base.specs.declared.refusals.Stop.{Stop}
 use Rattle.cc_base.specs.declared.refusals.Stop.TheVariants as stop
-use Rattle.c_layout.specs.declared.data_model.Model.{Model}
 use Rattle.c_layout.specs.declared.unit_tokens.Unit7.{Unit7}
 use Rattle.command_words.specs.declared.commands.Format.{Format}
 use Rattle.report_texts.specs.Reports.{Bytes}
@@ -14,7 +13,7 @@ use Rattle.report_texts.specs.Summaries.{summary_of}
 use Rattle.report_cli.specs.Stages.{stage_of}
 use Rattle.report_cli.specs.declared.stages.Stage.{Stage}
 use Rattle.report_cli.specs.declared.stages.Stage.TheVariants as stage
-use Rattle.report_cli.specs.Judging.{Order, IsSetOf, in_files, IsJudged, RefusesUnit}
+use Rattle.report_cli.specs.Judging.{Order, IsSetOf, in_files, SettingView, Judgement, IsJudged, RefusesUnit}
 use Rattle.report_cli.specs.Verdicts.{file_name, report_status, report_in}
 
 -- the answer to a refusal
@@ -37,9 +36,9 @@ AnswersStop names unit stop.ReadFault status text = ⊥
 AnswersStop names unit stop.Memory status text = ⊥
 
 -- the answer to a refusal of a stage behind the expansion
-pub record AnswersOwn (m : Model) (expanded : Unit7) (names : List Bytes) (unit : Bytes) (status : ℕ) (text : Bytes) : Type 0 where
+pub record AnswersOwn (s : SettingView) (expanded : Unit7) (names : List Bytes) (unit : Bytes) (status : ℕ) (text : Bytes) : Type 0 where
   pub why : Fault
-  pub refuses : RefusesUnit expanded m why
+  pub refuses : RefusesUnit expanded s why
   pub answers : AnswersFault names unit why status text
 
 -- the answer to an accepted unit
@@ -50,22 +49,20 @@ pub record AnswersReport (order : Order) (pairs : List Diag) (form : Format) (na
   pub by_text : text ≡ report_in form names unit diags
 
 -- the answer to an accepted unit that was made
-pub record AnswersSummary (order : Order) (pairs : List Diag) (names : List Bytes) (unit : Bytes) (status : ℕ) (text : Bytes) : Type 0 where
+pub record AnswersSummary (order : Order) (j : Judgement) (names : List Bytes) (unit : Bytes) (status : ℕ) (text : Bytes) : Type 0 where
   pub diags : List Diag
-  pub bases : ℕ
-  pub cells : ℕ
-  pub listed : IsSetOf order (in_files (length names) pairs) diags
+  pub listed : IsSetOf order (in_files (length names) j.pairs) diags
   pub by_status : status ≡ report_status diags
-  pub by_text : text ≡ summary_of unit bases cells diags
+  pub by_text : text ≡ summary_of unit j.bases j.cells diags
 
 -- the answer to a unit that was expanded, in a form
-pub record AnswersJudged (order : Order) (m : Model) (expanded : Unit7) (form : Format) (names : List Bytes) (unit : Bytes) (status : ℕ) (text : Bytes) : Type 0 where
-  pub pairs : List Diag
-  pub judged : IsJudged order expanded m pairs
-  pub answers : AnswersReport order pairs form names unit status text
+pub record AnswersJudged (order : Order) (s : SettingView) (expanded : Unit7) (form : Format) (names : List Bytes) (unit : Bytes) (status : ℕ) (text : Bytes) : Type 0 where
+  pub found : Judgement
+  pub judged : IsJudged order expanded s found
+  pub answers : AnswersReport order found.pairs form names unit status text
 
 -- the answer to a unit that was made and expanded
-pub record AnswersMade (order : Order) (m : Model) (expanded : Unit7) (names : List Bytes) (unit : Bytes) (status : ℕ) (text : Bytes) : Type 0 where
-  pub pairs : List Diag
-  pub judged : IsJudged order expanded m pairs
-  pub answers : AnswersSummary order pairs names unit status text
+pub record AnswersMade (order : Order) (s : SettingView) (expanded : Unit7) (names : List Bytes) (unit : Bytes) (status : ℕ) (text : Bytes) : Type 0 where
+  pub found : Judgement
+  pub judged : IsJudged order expanded s found
+  pub answers : AnswersSummary order found names unit status text

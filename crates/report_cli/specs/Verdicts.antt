@@ -25,7 +25,7 @@ use Rattle.command_words.specs.Requests.{Asked, CommandView}
 use Rattle.command_words.specs.Requests as asked
 use Rattle.report_texts.specs.Reports.{Bytes, report_of}
 use Rattle.report_cli.specs.Stages.{stage_of}
-use Rattle.report_cli.specs.Judging.{Order, IsSetOf, in_files, IsJudged, RefusesUnit}
+use Rattle.report_cli.specs.Judging.{Order, IsSetOf, in_files, SettingView, judging, Judgement, IsJudged, RefusesUnit}
 use Rattle.report_cli.specs.declared.stages.Stage.{Stage}
 use Rattle.report_cli.specs.declared.stages.Stage.TheVariants as stage
 use Rattle.report_texts.specs.JsonReports.{json_of}
@@ -152,46 +152,60 @@ pub record IsExpanded (given : Gives) (names : List Bytes) (expanded : Unit7) : 
   pub few : length expanded.tokens ≤ 131072
 
 -- the diagnostics of an accepted unit: what was found in files of the list, in order and each once
-pub record IsReport (given : Gives) (order : Order) (m : Model) (names : List Bytes) (diags : List Diag) : Type 0 where
+pub record IsReport (given : Gives) (order : Order) (s : SettingView) (names : List Bytes) (diags : List Diag) : Type 0 where
   pub expanded : Unit7
   pub is_expanded : IsExpanded given names expanded
-  pub pairs : List Diag
-  pub judged : IsJudged order expanded m pairs
-  pub listed : IsSetOf order (in_files (length names) pairs) diags
+  pub found : Judgement
+  pub judged : IsJudged order expanded s found
+  pub listed : IsSetOf order (in_files (length names) found.pairs) diags
+
+-- the same, with how many bases and cells the program of the unit has
+pub record IsSummary (given : Gives) (order : Order) (s : SettingView) (names : List Bytes) (bases cells : ℕ) (diags : List Diag) : Type 0 where
+  pub report : IsReport given order s names diags
+  pub bases_of : bases ≡ report.found.bases
+  pub cells_of : cells ≡ report.found.cells
 
 -- a refusal of a later stage than the expansion is that of a unit that was expanded
-pub record IsLaterRefusal (given : Gives) (m : Model) (names : List Bytes) (why : Fault) : Type 0 where
+pub record IsLaterRefusal (given : Gives) (s : SettingView) (names : List Bytes) (why : Fault) : Type 0 where
   pub expanded : Unit7
   pub is_expanded : IsExpanded given names expanded
-  pub refuses : RefusesUnit expanded m why
+  pub refuses : RefusesUnit expanded s why
 
 -- where a refusal comes from, by its stage: the expansion came to it, or the work behind it; a number
 -- may be refused in a condition of a directive too
-abbrev pub IsStaged : Gives → Model → List Bytes → Fault → Stage → Type 0
-IsStaged given m names why stage.Expansion = given names (Err (stop.Refused why))
-IsStaged given m names why stage.Numbers = given names (Err (stop.Refused why)) ⊎ IsLaterRefusal given m names why
-IsStaged given m names why stage.Grammar = IsLaterRefusal given m names why
-IsStaged given m names why stage.Typing = IsLaterRefusal given m names why
-IsStaged given m names why stage.Counting = IsLaterRefusal given m names why
+abbrev pub IsStaged : Gives → SettingView → List Bytes → Fault → Stage → Type 0
+IsStaged given s names why stage.Expansion = given names (Err (stop.Refused why))
+IsStaged given s names why stage.Numbers = given names (Err (stop.Refused why)) ⊎ IsLaterRefusal given s names why
+IsStaged given s names why stage.Grammar = IsLaterRefusal given s names why
+IsStaged given s names why stage.Typing = IsLaterRefusal given s names why
+IsStaged given s names why stage.Counting = IsLaterRefusal given s names why
 
 -- the unit is refused in a file, by the cause of that refusal
-pub record IsRefusal (given : Gives) (seen : Seen) (dirs : List Bytes) (m : Model) (unit file : Bytes) (why : Fault) : Type 0 where
+pub record IsRefusal (given : Gives) (seen : Seen) (dirs : List Bytes) (s : SettingView) (unit file : Bytes) (why : Fault) : Type 0 where
   pub names : List Bytes
   pub named : file ≡ file_name names unit why.place.file
-  pub cause : IsCausedBy seen dirs m names why why.refusal
-  pub staged : IsStaged given m names why (stage_of why.refusal)
+  pub cause : IsCausedBy seen dirs s.model names why why.refusal
+  pub staged : IsStaged given s names why (stage_of why.refusal)
+
+-- how `check` judges a unit under a model
+abbrev pub check_setting : CommandView → Model → SettingView
+check_setting c m = judging m c.entry c.turns
+
+-- how `load` does
+abbrev pub load_setting : Model → SettingView
+load_setting m = judging m (codes "main") None
 
 -- what `check` tells of a unit under a model
 abbrev pub AnswersUnit : Order → Seen → CommandView → Model → Verdict → Type 0
 AnswersUnit order seen c m (absent name) = (name ≡ c.unit) × Lacks seen.files c.unit (Rose seen.faults seen.faults_now)
-AnswersUnit order seen c m (refused file why) = IsRefusal (FromFiles seen.files c.dirs m c.unit) seen c.dirs m c.unit file why
-AnswersUnit order seen c m (reported form names unit diags) = (form ≡ c.format) × (unit ≡ c.unit) × IsReport (FromFiles seen.files c.dirs m c.unit) order m names diags
+AnswersUnit order seen c m (refused file why) = IsRefusal (FromFiles seen.files c.dirs m c.unit) seen c.dirs (check_setting c m) c.unit file why
+AnswersUnit order seen c m (reported form names unit diags) = (form ≡ c.format) × (unit ≡ c.unit) × IsReport (FromFiles seen.files c.dirs m c.unit) order (check_setting c m) names diags
 AnswersUnit order seen c m _ = ⊥
 
 -- what `load` tells of the unit that it makes
 abbrev pub AnswersLoad : Order → Seen → CommandView → Model → Verdict → Type 0
-AnswersLoad order seen c m (refused file why) = IsRefusal (FromBytes seen.files m c.unit (load_of c.seed c.count)) seen [] m c.unit file why
-AnswersLoad order seen c m (summed unit bases cells diags) = (unit ≡ c.unit) × (names : List Bytes) × IsReport (FromBytes seen.files m c.unit (load_of c.seed c.count)) order m names diags
+AnswersLoad order seen c m (refused file why) = IsRefusal (FromBytes seen.files m c.unit (load_of c.seed c.count)) seen [] (load_setting m) c.unit file why
+AnswersLoad order seen c m (summed unit bases cells diags) = (unit ≡ c.unit) × (names : List Bytes) × IsSummary (FromBytes seen.files m c.unit (load_of c.seed c.count)) order (load_setting m) names bases cells diags
 AnswersLoad order seen c m _ = ⊥
 
 -- ---- the whole

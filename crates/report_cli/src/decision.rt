@@ -4,14 +4,14 @@ ghost use Rattle.cc_base.specs.Outside.{Rose};
 ghost use Rattle.c_layout.specs.Models.{is_model};
 ghost use Rattle.c_preproc.specs.Causes.{seen_of};
 ghost use Rattle.command_words.specs.Requests.{asked, command_view, Check, Load};
-ghost use Rattle.report_cli.specs.Judging.{order_of, in_files, IsSetOf, StopsUnit};
-ghost use Rattle.report_cli.specs.Verdicts.{file_name, report_status, report_in, Tells, AnswersUnit, AnswersLoad, RefusesModel, Under, IsVerdict};
+ghost use Rattle.report_cli.specs.Judging.{order_of, in_files, judging, judgement, setting_view, IsSetOf, StopsUnit};
+ghost use Rattle.report_cli.specs.Verdicts.{load_setting, file_name, report_status, report_in, Tells, AnswersUnit, AnswersLoad, RefusesModel, Under, IsVerdict};
 ghost use Rattle.report_cli.specs.Answering.{AnswersFault, AnswersStop, AnswersOwn, AnswersReport, AnswersSummary, AnswersJudged, AnswersMade};
 ghost use Rattle.cc_base.specs.declared.refusals.Stop.TheVariants as stops;
 
 use crate::model_choice::{ModelChoice, choose_model};
 use crate::stages::{Stage, stage_of};
-use crate::unit_answers::{Judged, judge_unit};
+use crate::unit_answers::{Judged, Setting, judge_unit};
 use c_layout::{Model, Unit7};
 use c_preproc::{expand, expand_bytes};
 use cc_base::{Diag, Fault, Memory, Stop, Tree};
@@ -77,12 +77,12 @@ fn stopped(
     files: &[String],
     unit: &str,
     expanded: &Unit7,
-    model: &Model,
+    setting: Setting,
     stop: Stop,
 ) -> Result<Answer, Halt>
-    requires { StopsUnit expanded.now model.now stop }
+    requires { StopsUnit expanded.now (setting_view setting) stop }
     ensures fault { IsErrOf result Halt.ReadFault → ⊥ }
-    ensures called { IfOk result (λ a. AnswersOwn model.now expanded.now (map string_bytes files.now) unit.now a.status a.text.items) }
+    ensures called { IfOk result (λ a. AnswersOwn (setting_view setting.entry) expanded.now (map string_bytes files.now) unit.now a.status a.text.items) }
 {
     match stop {
         Stop::Refused(fault) => refused(alloc, files, unit, &fault),
@@ -187,12 +187,17 @@ fn checked(
 ) -> Result<Answer, Halt>
     requires { is_model model.now ≡ true }
     ensures fault { IsErrOf result Halt.ReadFault → ⊥ }
-    ensures called { IfOk result (λ a. AnswersOwn model.now unit.now (map string_bytes files.now) (string_bytes command.now.unit) a.status a.text.items ⊎ AnswersJudged (order_of ⟦<Diag as Ord>⟧.cmp ⟦<Diag as PartialEq>⟧.eq) model.now unit.now command.now.format (map string_bytes files.now) (string_bytes command.now.unit) a.status a.text.items) }
+    ensures called { IfOk result (λ a. AnswersOwn (judging model.now (string_bytes command.now.entry) command.now.turns) unit.now (map string_bytes files.now) (string_bytes command.now.unit) a.status a.text.items ⊎ AnswersJudged (order_of ⟦<Diag as Ord>⟧.cmp ⟦<Diag as PartialEq>⟧.eq) (judging model.now (string_bytes command.now.entry) command.now.turns) unit.now command.now.format (map string_bytes files.now) (string_bytes command.now.unit) a.status a.text.items) }
 {
     let name = command.unit.as_str();
-    match judge_unit(alloc, unit, model, command.entry.as_str()) {
+    let setting = Setting {
+        model,
+        entry: command.entry.as_str(),
+        turns: command.turns,
+    };
+    match judge_unit(alloc, unit, setting) {
         Ok(judged) => reported(alloc, files, command.format, name, judged.diags.as_slice()),
-        Err(stop) => stopped(alloc, files, name, unit, model, stop),
+        Err(stop) => stopped(alloc, files, name, unit, setting, stop),
     }
 }
 
@@ -242,7 +247,7 @@ fn answer_check<T: Tree>(alloc: Global, command: &Command, tree: &mut T) -> Resu
 /// The summary on an accepted unit.
 fn summarised(alloc: Global, files: &[String], unit: &str, judged: &Judged) -> Result<Answer, Halt>
     ensures fault { IsErrOf result Halt.ReadFault → ⊥ }
-    ensures called { IfOk result (λ a. AnswersSummary (order_of ⟦<Diag as Ord>⟧.cmp ⟦<Diag as PartialEq>⟧.eq) judged.now.diags.items (map string_bytes files.now) unit.now a.status a.text.items) }
+    ensures called { IfOk result (λ a. AnswersSummary (order_of ⟦<Diag as Ord>⟧.cmp ⟦<Diag as PartialEq>⟧.eq) (judgement judged.now) (map string_bytes files.now) unit.now a.status a.text.items) }
 {
     let listed = listed(alloc, judged.diags.as_slice(), files.len())?;
     let text = summary(alloc, unit, judged.bases, judged.cells, listed.as_slice())?;
@@ -262,11 +267,16 @@ fn loaded(
 ) -> Result<Answer, Halt>
     requires { is_model model.now ≡ true }
     ensures fault { IsErrOf result Halt.ReadFault → ⊥ }
-    ensures called { IfOk result (λ a. AnswersOwn model.now unit.now (map string_bytes files.now) name.now a.status a.text.items ⊎ AnswersMade (order_of ⟦<Diag as Ord>⟧.cmp ⟦<Diag as PartialEq>⟧.eq) model.now unit.now (map string_bytes files.now) name.now a.status a.text.items) }
+    ensures called { IfOk result (λ a. AnswersOwn (load_setting model.now) unit.now (map string_bytes files.now) name.now a.status a.text.items ⊎ AnswersMade (order_of ⟦<Diag as Ord>⟧.cmp ⟦<Diag as PartialEq>⟧.eq) (load_setting model.now) unit.now (map string_bytes files.now) name.now a.status a.text.items) }
 {
-    match judge_unit(alloc, unit, model, "main") {
+    let setting = Setting {
+        model,
+        entry: "main",
+        turns: None,
+    };
+    match judge_unit(alloc, unit, setting) {
         Ok(judged) => summarised(alloc, files, name, &judged),
-        Err(stop) => stopped(alloc, files, name, unit, model, stop),
+        Err(stop) => stopped(alloc, files, name, unit, setting, stop),
     }
 }
 

@@ -18,6 +18,7 @@ Options:
   --model NAME_OR_FILE  lp64, ilp32, llp64, or a file with a data model [default: lp64]
   --format FORMAT       text or json [default: text]
   --entry NAME          the function at which runs start [default: main]
+  --turns K             0 to 64 turns of each loop analysed one by one, for check
   --seed N              0 to 2147483647, for load [default: 1]
   --count N             1 to 300, for load [default: 10]
 

@@ -6,7 +6,7 @@ use Rattle.cc_base.specs.declared.refusals.Refusal.{Refusal}
 use Rattle.cc_base.specs.declared.refusals.Stop.{Stop}
 use Rattle.cc_base.specs.declared.refusals.Stop.TheVariants as stop
 use Rattle.flow_counts.specs.Extents.{capped}
-use Rattle.flow_counts.specs.FirstOver.{over, or_else}
+use Rattle.flow_counts.specs.FirstOver.{over, or_else, pool}
 use Rattle.program_copies.specs.ProgramViews.{BlockView, FlowView}
 use Rattle.turn_split.specs.Turns.{copies}
 use Rattle.turn_split.specs.declared.split_counts.SplitCounts.{SplitCounts}
@@ -18,10 +18,6 @@ instructions_from n (b ∷ bs) = instructions_from (capped (n + length b.steps))
 
 abbrev pub instruction_count : List BlockView → ℕ
 instruction_count bs = instructions_from 0 bs
-
--- the values of a pool of rows: for each block one row, and two more
-abbrev pub pool : ℕ → ℕ → ℕ
-pool blocks width = capped (capped (blocks + 2) * width)
 
 abbrev pub block_count : ℕ → FlowView → ℕ
 block_count turns f = capped (copies turns * length f.blocks)

@@ -7,7 +7,7 @@ ghost use Rattle.program_copies.specs.ProgramViews.{block, flow_view};
 ghost use Rattle.turn_split.specs.SplitCounts as spec;
 
 use cc_base::{Count, Limits, Place, Stop};
-use flow_counts::{capped_product, capped_sum, within};
+use flow_counts::{capped_product, capped_sum, pool_values, within};
 use flow_program::{BasicBlock, Flow};
 
 /// The counts of a split program that differ from those of the program.
@@ -39,7 +39,7 @@ pub fn split_counts(flow: &Flow, turns: u32) -> SplitCounts
     SplitCounts {
         blocks,
         instructions: capped_product(copies, instruction_count(flow.blocks.as_slice())),
-        pool: capped_product(capped_sum(blocks, 2), flow.width as u64),
+        pool: pool_values(blocks, flow.width as u64),
     }
 }
 

@@ -1,4 +1,4 @@
-use Rattle.std.proofs.Common.{◌≡◌, map, drop}
+use Rattle.std.proofs.Common.{◌≡◌}
 use Rattle.template_works.specs.Pieces.{exits_view}
 use Rattle.flow_counts.specs.SettledTemplates.{names_of, renamed_exits}
 use Rattle.flow_counts.proofs.settled_templates.renamed_exits.Given as goal

@@ -1,4 +1,4 @@
-use Rattle.std.proofs.Common.{◌≡◌, map, drop}
+use Rattle.std.proofs.Common.{◌≡◌, map}
 use Rattle.template_works.specs.Pieces.{piece_view}
 use Rattle.flow_counts.specs.SettledTemplates.{names_of, settling, with_all, nothing_settled}
 use Rattle.flow_counts.proofs.settled_templates.settled_pieces.Given as goal

@@ -1,4 +1,21 @@
+use Rattle.std.proofs.Common.{refl, sym, subst}
+use Rattle.report_cli.specs.Judging.{IsTurned}
 use Rattle.report_cli.proofs.unit_answers.judge_unit.Goals as goal
+
+pub returns-in-None-clause-judged : goal.returns-in-None-clause-judged
+returns-in-None-clause-judged c = record {
+  tree = c.in_ok-tree.tree;
+  parsed = c.in_ok-tree.ensures.parsed;
+  checked = c.in_ok-checked.checked;
+  typed = c.in_ok-checked.ensures.typed;
+  flow = c.in_ok-flow.flow;
+  lowered = c.in_ok-flow.ensures.lowered;
+  analysed = c.in_ok-flow.flow;
+  turned = subst (λ t. IsTurned t c.in_ok-flow.flow c.in_ok-flow.flow) (sym c.in-None.is) refl;
+  found = c.in_ok-judge_program-in-None.ensures.found;
+  bases = c.in_ok-judge_program-in-None.ensures.bases;
+  cells = c.in_ok-judge_program-in-None.ensures.cells;
+}
 
 pub returns-clause-judged : goal.returns-clause-judged
 returns-clause-judged c = record {
@@ -8,5 +25,9 @@ returns-clause-judged c = record {
   typed = c.in_ok-checked.ensures.typed;
   flow = c.in_ok-flow.flow;
   lowered = c.in_ok-flow.ensures.lowered;
-  found = c.in_ok-judge_program.ensures;
+  analysed = c.in_ok-analysed-in-Some.analysed;
+  turned = c.in_ok-analysed-in-Some.ensures.turned;
+  found = c.in_ok-judge_program-in-Some.ensures.found;
+  bases = c.in_ok-judge_program-in-Some.ensures.bases;
+  cells = c.in_ok-judge_program-in-Some.ensures.cells;
 }

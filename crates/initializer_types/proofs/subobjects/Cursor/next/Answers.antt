@@ -1,4 +1,4 @@
-use Rattle.std.proofs.Common.{◌≡◌, ◌∙◌, sym, ap, length, arith}
+use Rattle.std.proofs.Common.{◌∙◌, sym, ap, length, arith}
 use Rattle.type_scopes.specs.Known.{known}
 use Rattle.initializer_types.specs.Subobjects.{cursor_view}
 use Rattle.initializer_types.proofs.Cursors.{found, ended, left}

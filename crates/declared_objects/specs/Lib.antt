@@ -1,0 +1,4 @@
+pub mod Changes
+pub mod LocalObjects
+pub mod FileObjects
+pub mod UnitObjects

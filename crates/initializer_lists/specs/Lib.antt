@@ -1,0 +1,2 @@
+pub mod BracedLists
+pub mod Initializers

@@ -1,0 +1,4 @@
+pub mod StaticInitializers
+pub mod LocalDeclarations
+pub mod Statements
+pub mod LabelNumbers
