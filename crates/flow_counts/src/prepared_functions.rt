@@ -349,7 +349,6 @@ fn settle_all<'a>(
 }
 
 /// The templates and counts of the functions that the entry reaches.
-
 pub fn prepared<'a>(alloc: Global, unit: &'a Checked) -> Result<PreparedUnit<'a>, AllocError>
     ensures { IfOk result (λ p. IsPrepared (unit_view unit.now) (templates_view p.templates.items) p.counts.items) }
 {

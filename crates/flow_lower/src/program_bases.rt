@@ -43,6 +43,7 @@ fn width_of(shape: &Shape) -> Result<u32, AllocError>
     u32::try_from(all).ok().ok_or(AllocError)
 }
 
+/// The base that a table of made bases has for an object, if it is made already.
 pub fn known(list: &[Option<u32>], number: usize) -> Option<u32>
     ensures { result ≡ spec.known list.now number }
 {
