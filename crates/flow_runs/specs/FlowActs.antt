@@ -9,6 +9,7 @@ use Rattle.flow_program.specs.declared.machine_instructions.Amount.TheVariants a
 use Rattle.value_domain.specs.LabelSets.{no_labels}
 use Rattle.machine_memory.specs.Bytes.{MachinePointer, into}
 use Rattle.machine_memory.specs.ValueMeaning.{Scalar, integer, pointer}
+use Rattle.machine_effects.specs.NumberedTables.{put_at}
 use Rattle.machine_effects.specs.Worlds.{World, Reply, goes, stops, behind}
 use Rattle.machine_effects.specs.Accesses.{load, store}
 use Rattle.machine_effects.specs.StructCopies.{copy_struct}
@@ -19,7 +20,7 @@ use Rattle.machine_effects.specs.LibraryCalls.{library}
 use Rattle.template_works.specs.Acts as act
 use Rattle.template_works.specs.Acts.{Act}
 use Rattle.program_copies.specs.ProgramViews.{FlowView}
-use Rattle.flow_runs.specs.FlowStates.{Standing, put_at, put, put_result, base_size, base_leaves}
+use Rattle.flow_runs.specs.FlowStates.{Standing, put, put_result, base_size, base_leaves}
 
 abbrev pub pointer_temp : Standing → ℕ → MachinePointer
 pointer_temp s t = pointer_in (s.temps t)

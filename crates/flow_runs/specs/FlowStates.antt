@@ -1,8 +1,9 @@
 -- Where a run of a control-flow program stands.
-use Rattle.std.specs.Prelude.{ℕ, ◌==◌, cond, List, [], Option, Some, None, slice_get}
+use Rattle.std.specs.Prelude.{ℕ, List, [], Option, Some, None, slice_get}
 use Rattle.c_layout.specs.declared.leaf_lists.Leaf.{Leaf}
 use Rattle.c_layout.specs.declared.shapes.BaseInfo.{BaseInfo}
 use Rattle.machine_memory.specs.ValueMeaning.{Scalar}
+use Rattle.machine_effects.specs.NumberedTables.{put_at}
 use Rattle.machine_effects.specs.Worlds.{World, Violation}
 use Rattle.program_copies.specs.ProgramViews.{FlowView}
 
@@ -14,9 +15,6 @@ pub record Standing : Type 0 where
   pub temps : ℕ → Scalar
   pub bases : ℕ → ℕ
   pub world : World
-
-abbrev pub put_at : {A : Type 0} → (ℕ → A) → ℕ → A → ℕ → A
-put_at f n x m = cond (m == n) x (f m)
 
 abbrev pub put : Standing → ℕ → Scalar → World → Standing
 put s to v w = record s { temps = put_at s.temps to v; world = w }

@@ -1,3 +1,4 @@
+pub mod NumberedTables
 pub mod Worlds
 pub mod ScalarBytes
 pub mod Touches

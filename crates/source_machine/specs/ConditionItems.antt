@@ -17,13 +17,14 @@ use Rattle.template_works.specs.declared.term_kinds.OperatorMeaning.{OperatorMea
 use Rattle.template_works.specs.declared.term_kinds.OperatorMeaning.TheVariants.{Number, Truth}
 use Rattle.condition_templates.specs.declared.branch_tests.NamedObject.{NamedObject}
 use Rattle.condition_templates.specs.Tests.{named, named_or_assigned, constant_of}
+use Rattle.term_templates.specs.Assignments.{keeps_old}
 use Rattle.machine_memory.specs.ValueMeaning.{integer}
 use Rattle.machine_effects.specs.PointerEffects.{difference, compare, truth}
 use Rattle.machine_effects.specs.IntegerEffects.{pointer_in, unary, negation, convert}
 use Rattle.term_templates.specs.Calls.{gives}
 use Rattle.source_machine.specs.Items.{NamedSide, NamedTest, Item, Value, Unused, Address, Do, Push, Drop, Choose, Invoke, items_of}
 use Rattle.source_machine.specs.Items as side
-use Rattle.source_machine.specs.TermItems.{one, two, constant, loading, narrowing, moving, operating, if_used, left_if, assignment, compound, compound_shift, keeps_old, step, pointer_step, arguments, argument_count, library_items}
+use Rattle.source_machine.specs.TermItems.{one, two, constant, loading, narrowing, moving, operating, if_used, left_if, assignment, compound, compound_shift, step, pointer_step, arguments, argument_count, library_items}
 use Rattle.c_layout.specs.Layout.{size_of_type}
 
 -- ---- tests

@@ -1,8 +1,8 @@
 -- Where a run of the source stands.
-use Rattle.std.specs.Prelude.{ℕ, ◌+◌, ◌==◌, Bool, cond, List, [], ◌++◌, length, take, drop, reverse, Option, Some, None, slice_get}
+use Rattle.std.specs.Prelude.{ℕ, ◌+◌, Bool, List, [], ◌++◌, length, take, drop, reverse, Option, Some, None, slice_get}
 use Rattle.cc_base.specs.declared.diagnostics.Place.{Place}
-use Rattle.c_layout.specs.Types.{Ty, Void}
-use Rattle.c_layout.specs.CheckedUnits.{LocalView, FunctionView, UnitView}
+use Rattle.c_layout.specs.Types.{Void}
+use Rattle.c_layout.specs.CheckedUnits.{FunctionView, UnitView}
 use Rattle.c_layout.specs.declared.checked_tree.checked_terms.ObjectRef.{ObjectRef}
 use Rattle.c_layout.specs.declared.checked_tree.checked_terms.ObjectRef.TheVariants.{Static, Local}
 use Rattle.machine_memory.specs.ValueMeaning.{Scalar}
@@ -42,14 +42,6 @@ function_at u n = function_in (slice_get u.functions n)
 abbrev pub result_object : FunctionView → ℕ
 result_object f = length f.locals
 
--- the type of an object of a function
-abbrev pub type_or : Option LocalView → Ty → Ty
-type_or None t = t
-type_or (Some l) t = l.ctype
-
-abbrev pub object_type : FunctionView → ℕ → Ty
-object_type f n = type_or (slice_get f.locals n) f.returns
-
 -- objects of static storage and then literals are the first instances
 abbrev pub literal_instance : UnitView → ℕ → ℕ
 literal_instance u n = length u.objects + n
@@ -57,9 +49,6 @@ literal_instance u n = length u.objects + n
 abbrev pub instance_of : (ℕ → ℕ) → ObjectRef → ℕ
 instance_of names (Static n) = n
 instance_of names (Local n) = names n
-
-abbrev pub put_at : (ℕ → ℕ) → ℕ → ℕ → ℕ → ℕ
-put_at f n x m = cond (m == n) x (f m)
 
 -- the newest values, the oldest of them first
 abbrev pub newest : ℕ → List Scalar → List Scalar

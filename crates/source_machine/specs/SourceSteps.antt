@@ -14,9 +14,10 @@ use Rattle.condition_templates.specs.declared.branch_tests.NamedObject.{NamedObj
 use Rattle.flow_program.specs.declared.machine_instructions.Scalar as declared
 use Rattle.flow_program.specs.declared.machine_instructions.Scalar.TheVariants as of
 use Rattle.template_works.specs.TermKinds.{is_void, scalar_of, opposite}
-use Rattle.flow_templates.specs.Functions.{numbers_from}
+use Rattle.flow_templates.specs.Functions.{numbers_from, local_type}
 use Rattle.machine_memory.specs.Bytes.{into}
 use Rattle.machine_memory.specs.ValueMeaning.{Scalar, pointer}
+use Rattle.machine_effects.specs.NumberedTables.{put_at}
 use Rattle.machine_effects.specs.Worlds.{World, Reply, goes, stops, Violation}
 use Rattle.machine_effects.specs.IntegerEffects.{number_in, is_false}
 use Rattle.machine_effects.specs.ObjectEffects.{next_instance, entered, left}
@@ -29,7 +30,7 @@ use Rattle.source_machine.specs.StatementItems.{of_statement, while_turn, do_tur
 use Rattle.source_machine.specs.Scopes.{jump, behind_loop, behind_turn, open_scopes, all_of}
 use Rattle.source_machine.specs.LabelSearch.{Sought, found, from_label, case_of}
 use Rattle.source_machine.specs.LabelSearch as sought
-use Rattle.source_machine.specs.SourceStates.{Frame, State, function_at, result_object, object_type, literal_instance, instance_of, put_at, newest, in_place}
+use Rattle.source_machine.specs.SourceStates.{Frame, State, function_at, result_object, literal_instance, instance_of, newest, in_place}
 
 -- what a turn leaves: a state, unless the run has stopped; the world; and the place of a step that counts
 pub record Turned : Type 0 where
@@ -69,7 +70,7 @@ static_type (Some o) = o.ctype
 
 abbrev pub type_of : UnitView → State → ObjectRef → Ty
 type_of u s (Static n) = static_type (slice_get u.objects n)
-type_of u s (Local n) = object_type (function_at u s.function) n
+type_of u s (Local n) = local_type (function_at u s.function) n
 
 -- a pointer to a byte of an object, into the whole of it
 abbrev pub object_pointer : UnitView → State → ObjectRef → ℕ → Scalar
@@ -87,7 +88,7 @@ outcome_pointer u s = object_pointer u s (Local (result_object (function_at u s.
 
 -- an object gets a fresh instance, which its name stands for from now on
 abbrev pub enter : UnitView → State → ℕ → State
-enter u s n = record s { names = put_at s.names n (next_instance s.world); world = entered u.model (leaves_of u.structs u.model.pointer (object_type (function_at u s.function) n)) (size_of u (object_type (function_at u s.function) n)) s.world }
+enter u s n = record s { names = put_at s.names n (next_instance s.world); world = entered u.model (leaves_of u.structs u.model.pointer (local_type (function_at u s.function) n)) (size_of u (local_type (function_at u s.function) n)) s.world }
 
 abbrev pub leave : State → ℕ → State
 leave s n = record s { world = left (s.names n) s.world }
@@ -151,7 +152,7 @@ with_result f objects = cond (is_void f.returns) objects (objects ++ result_obje
 
 -- each parameter takes its value
 abbrev pub take_argument : UnitView → Place → FunctionView → Scalar → ℕ → List Item
-take_argument u at f v n = item.Object at (Local n) 0 ∷ (item.Push v ∷ (item.Do at 2 (two (storing u (scalar_of (object_type f n)))) ∷ (item.Drop ∷ [])))
+take_argument u at f v n = item.Object at (Local n) 0 ∷ (item.Push v ∷ (item.Do at 2 (two (storing u (scalar_of (local_type f n)))) ∷ (item.Drop ∷ [])))
 
 abbrev pub take_arguments : UnitView → Place → FunctionView → List Scalar → ℕ → List Item
 take_arguments u at f [] n = []

@@ -14,7 +14,7 @@ use Rattle.c_layout.specs.declared.checked_tree.checked_units.StaticValue.{Stati
 use Rattle.c_layout.specs.declared.checked_tree.checked_units.StaticValue.TheVariants as static_value
 use Rattle.value_domain.specs.LabelSets.{no_labels, input_labels}
 use Rattle.template_works.specs.TermKinds.{integer_type}
-use Rattle.flow_templates.specs.Functions.{numbers_from}
+use Rattle.flow_templates.specs.Functions.{numbers_from, local_type}
 use Rattle.machine_memory.specs.Bytes.{null, into, Content, number, Byte}
 use Rattle.machine_memory.specs.Instances.{static, literal, automatic, Memory, Instance}
 use Rattle.machine_memory.specs.ValueMeaning.{Scalar, integer}
@@ -22,7 +22,7 @@ use Rattle.machine_effects.specs.Worlds.{World, Reply, goes, stops, behind, draw
 use Rattle.machine_effects.specs.ScalarBytes.{scalar_bytes, pointer_bytes, refilled}
 use Rattle.machine_effects.specs.ObjectEffects.{blank_bytes, fresh, all_of, characters}
 use Rattle.source_machine.specs.StatementItems.{body}
-use Rattle.source_machine.specs.SourceStates.{State, function_at, literal_instance, object_type}
+use Rattle.source_machine.specs.SourceStates.{State, function_at, literal_instance}
 use Rattle.source_machine.specs.SourceSteps.{SourceRun}
 
 abbrev pub base_instance : UnitView → StaticBase → ℕ
@@ -76,7 +76,7 @@ with_parameter u t v w = goes (record w { memory = w.memory ++ parameter_instanc
 
 abbrev pub with_parameters : UnitView → FunctionView → List ℕ → World → Reply World
 with_parameters u f [] w = goes w w
-with_parameters u f (n ∷ ns) w = behind (drawn_input (integer_type (object_type f n)) w) (λ v w. behind (with_parameter u (object_type f n) v w) (λ _ w. with_parameters u f ns w))
+with_parameters u f (n ∷ ns) w = behind (drawn_input (integer_type (local_type f n)) w) (λ v w. behind (with_parameter u (local_type f n) v w) (λ _ w. with_parameters u f ns w))
 
 -- parameters name the instances behind the objects and literals of the unit
 abbrev pub entry_names : UnitView → ℕ → ℕ

@@ -1,8 +1,7 @@
 -- The items of terms: operands from left to right, and then the operator.
 use Rattle.std.specs.Prelude.{ℕ, zero, suc, ◌+◌, pos, Bool, true, false, cond, List, [], ◌∷◌, ◌++◌, Option, Some, None}
+use Rattle.std.specs.Option.{option_map}
 use Rattle.cc_base.specs.declared.diagnostics.Place.{Place}
-use Rattle.cc_base.specs.declared.integer_operators.IntOp.{IntOp}
-use Rattle.cc_base.specs.declared.integer_operators.IntOp.TheVariants.{Add}
 use Rattle.cc_base.specs.declared.limit_table.IntType.{IntType}
 use Rattle.c_layout.specs.Types.{Ty, Int, same_kind}
 use Rattle.c_layout.specs.Layout.{size_of_type}
@@ -12,14 +11,13 @@ use Rattle.c_layout.specs.CheckedTrees.{TermTree, Typed, FormTree, TermTrees, Lv
 use Rattle.c_layout.specs.CheckedUnits.{UnitView}
 use Rattle.c_layout.specs.declared.library_functions.LibFn.{LibFn}
 use Rattle.c_layout.specs.declared.syntax_tree.expressions.StepOp.{StepOp}
-use Rattle.c_layout.specs.declared.checked_tree.checked_terms.StepTime.{StepTime}
-use Rattle.c_layout.specs.declared.checked_tree.checked_terms.StepTime.TheVariants.{Prefix, Postfix}
 use Rattle.flow_program.specs.declared.machine_instructions.Scalar.TheVariants as of
 use Rattle.flow_program.specs.declared.machine_instructions.Scalar as declared
 use Rattle.value_domain.specs.LabelSets.{no_labels}
 use Rattle.template_works.specs.TermKinds.{step_operator, is_backward, scalar_of, integer_type, lvalue_at, lvalue_type}
 use Rattle.template_works.specs.declared.term_kinds.OperatorMeaning.{OperatorMeaning}
 use Rattle.template_works.specs.declared.term_kinds.OperatorMeaning.TheVariants.{Number, Truth}
+use Rattle.term_templates.specs.Assignments.{number_operator}
 use Rattle.term_templates.specs.Calls.{gives}
 use Rattle.machine_memory.specs.Bytes.{MachinePointer}
 use Rattle.machine_memory.specs.ValueMeaning.{Scalar, integer, pointer}
@@ -116,10 +114,6 @@ assignment u l e = Address l ∷ (Value e ∷ (Do (lvalue_at l) 2 (two (storing 
 abbrev pub converted : Place → IntType → IntType → List Item
 converted at old new = cond (same_kind old new) [] (Do at 1 (one (convert (of.Int new))) ∷ [])
 
-abbrev pub number_operator : OperatorMeaning → IntOp
-number_operator (Number sign) = sign
-number_operator (Truth rel) = Add
-
 -- the address is formed once, then the right value is computed, then the old value is loaded
 abbrev pub sides : UnitView → LvalueTree → TermTree → declared.Scalar → List Item
 sides u l e kind = Address l ∷ (Value e ∷ (Do (lvalue_at l) 2 (loaded_over 1 (loading u kind)) ∷ []))
@@ -135,10 +129,6 @@ compound u at sign kind l e =
 
 abbrev pub compound_shift : UnitView → Place → Bool → ℕ → LvalueTree → TermTree → List Item
 compound_shift u at back size l e = sides u l e of.Pointer ++ (Do at 2 (two (λ count old w. shifting size back old count w)) ∷ (Do (lvalue_at l) 2 (two (storing u of.Pointer)) ∷ []))
-
-abbrev pub keeps_old : StepTime → Bool → Bool
-keeps_old Prefix used = false
-keeps_old Postfix used = used
 
 -- the old value of a postfix step that is used stays below the new one
 abbrev pub kept : Bool → List Item
@@ -176,9 +166,9 @@ abbrev pub argument_count : TermTrees → ℕ
 argument_count tree.End = 0
 argument_count (tree.More e rest) = argument_count rest + 1
 
+-- the size of what an allocation is for
 abbrev pub target_size : UnitView → Option Ty → Option ℕ
-target_size u None = None
-target_size u (Some t) = Some (size_of_type u.structs u.model.pointer t)
+target_size u target = option_map (size_of_type u.structs u.model.pointer) target
 
 abbrev pub results : Bool → Option Scalar → List Scalar
 results true v = or_zero v ∷ []
