@@ -9,3 +9,7 @@ pub mod WellMadeEdges
 pub mod WellMadeHeads
 pub mod WellMadeRuns
 mod OpeningRows
+pub mod PieceExtents
+pub mod CountedCalls
+pub mod CountedTurns
+pub mod CountedLowerings

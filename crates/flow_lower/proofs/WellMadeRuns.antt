@@ -114,7 +114,7 @@ sound_next : (u : UnitView) (ts : List (Option TemplateView)) (qs : List PieceVi
 sound_next u ts [] c stack m s = s
 sound_next u ts (q ∷ qs) c stack m s = sound_turn u ts q (o.with_rest qs c) stack m s
 
-sound_run : (u : UnitView) (ts : List (Option TemplateView)) (n : ℕ) (stack : List CopyView) (m : Made) → Sound m → Sound (o.run u ts n stack m)
+sound_run : (u : UnitView) (ts : List (Option TemplateView)) (n : ℕ) (stack : List CopyView) (m : Made) → Sound m → Sound (o.run u ts n stack m).program
 sound_run u ts zero stack m s = s
 sound_run u ts (suc n) [] m s = s
 sound_run u ts (suc n) (c ∷ stack) m s = sound_run u ts n (o.next u ts c stack m).stack (o.next u ts c stack m).program (sound_next u ts c.rest c stack m s)
@@ -126,7 +126,7 @@ sound_parameters u (suc n) p s =
     let before = sound_parameters u n p s in
     (before.0, named_stands u q.within.function (Local n) q.within.locals q.program.bases before.1)
 
-sound_entry : (u : UnitView) (ts : List (Option TemplateView)) (stack : List CopyView) (m : Made) → Sound m → Sound (o.entry_run u ts stack m)
+sound_entry : (u : UnitView) (ts : List (Option TemplateView)) (stack : List CopyView) (m : Made) → Sound m → Sound (o.entry_run u ts stack m).program
 sound_entry u ts [] m s = s
 sound_entry u ts (c ∷ stack) m s =
     let p = o.with_parameters u c.function.parameters (placed m c) in
@@ -135,7 +135,7 @@ sound_entry u ts (c ∷ stack) m s =
 sound_nothing : (u : UnitView) → Sound (o.nothing_made u)
 sound_nothing u = (record { leave = refl; plain = λ n. refl }, record { follow = tt; all = refl })
 
-sound_whole : (u : UnitView) (ts : List (Option TemplateView)) (at : Place) → Sound (o.whole u ts at)
+sound_whole : (u : UnitView) (ts : List (Option TemplateView)) (at : Place) → Sound (o.whole u ts at).program
 sound_whole u ts at =
     let c = o.with_call u ts (o.entry_call at u.entry) [] (o.nothing_made u) in
     sound_entry u ts c.stack c.program (sound_call u ts (o.entry_call at u.entry) [] (o.nothing_made u) (sound_nothing u))
@@ -152,7 +152,7 @@ made_well u f m temps s =
     }
 
 pub lowered_well : (u : UnitView) (f : FunctionView) (ts : List (Option TemplateView)) (at : Place) (temps : ℕ) → IsWellMade (lowered u f (o.program u ts at) temps)
-lowered_well u f ts at temps = made_well u f (o.whole u ts at) temps (sound_whole u ts at)
+lowered_well u f ts at temps = made_well u f (o.whole u ts at).program temps (sound_whole u ts at)
 
 pub lowering_well : (u : UnitView) (limits : Limits) (f : FlowView) → IsLowering u limits f → IsWellMade f
 lowering_well u limits f is = subst (λ g. IsWellMade g) (sym is.opens) (lowered_well u is.entry is.templates is.entry.at is.counts.temps)

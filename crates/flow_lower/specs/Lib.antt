@@ -4,3 +4,4 @@ pub mod InitialBytes
 pub mod Openings
 pub mod Lowerings
 pub mod WellMade
+pub mod AsCounted

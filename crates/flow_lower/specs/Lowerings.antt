@@ -20,7 +20,7 @@ use Rattle.flow_counts.specs.SharedObjects.{shared_bases}
 use Rattle.flow_counts.specs.declared.function_counts.FunctionCounts.{FunctionCounts}
 use Rattle.program_copies.specs.ProgramViews.{FlowView}
 use Rattle.flow_lower.specs.InitialBytes.{initial_objects}
-use Rattle.flow_lower.specs.Openings.{ProgramView, program}
+use Rattle.flow_lower.specs.Openings.{ProgramView, program, unfinished}
 
 -- the type of an entry's parameter, which is an integer
 abbrev pub input_type : Ty → IntType
@@ -70,16 +70,19 @@ pub record IsCounted (u : UnitView) (entry : FunctionView) (templates : List (Op
   pub is_prepared : IsPrepared u templates table
   pub are_counts : AreUnitCounts u templates table counts
 
--- a program is the entry's, with every call put in at its place; no count of the unit passes its limit
+-- a program is the entry's, with every call put in at its place and every copy finished; no count of the
+-- unit passes its limit
 pub record IsLowering (u : UnitView) (limits : Limits) (f : FlowView) : Type 0 where
   pub entry : FunctionView
   pub templates : List (Option TemplateView)
   pub counts : UnitCounts
   pub is_counted : IsCounted u entry templates counts
   pub fits : refusal_of u limits templates entry.at counts ≡ None
+  pub ends : unfinished u templates entry.at ≡ []
   pub opens : f ≡ lowered u entry (program u templates entry.at) counts.temps
 
--- a unit is refused at the name of its entry for the first of its counts that passes its limit
+-- a unit is refused at the name of its entry for the first of its counts that passes its limit; where the
+-- pool is looked at, every copy is finished
 pub record IsRefusal (u : UnitView) (limits : Limits) (f : Fault) : Type 0 where
   pub entry : FunctionView
   pub templates : List (Option TemplateView)
@@ -87,6 +90,7 @@ pub record IsRefusal (u : UnitView) (limits : Limits) (f : Fault) : Type 0 where
   pub is_counted : IsCounted u entry templates counts
   pub place : f.place ≡ entry.at
   pub passes : refusal_of u limits templates entry.at counts ≡ Some f.refusal
+  pub ends : first_over limits counts ≡ None → unfinished u templates entry.at ≡ []
 
 -- the answers besides a program: a refusal, and want of memory
 abbrev pub Refuses : UnitView → Limits → Stop → Type 0

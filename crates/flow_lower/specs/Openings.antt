@@ -278,9 +278,9 @@ abbrev pub next : UnitView → List (Option TemplateView) → CopyView → List 
 next u ts c stack m = next_piece u ts c.rest c stack m
 
 -- so many turns, until no copy is left
-abbrev pub run : UnitView → List (Option TemplateView) → ℕ → List CopyView → Made → Made
-run u ts zero stack m = m
-run u ts (suc n) [] m = m
+abbrev pub run : UnitView → List (Option TemplateView) → ℕ → List CopyView → Made → Opened
+run u ts zero stack m = opened stack m
+run u ts (suc n) [] m = opened [] m
 run u ts (suc n) (c ∷ stack) m = run u ts n (next u ts c stack m).stack (next u ts c stack m).program
 
 abbrev pub with_local : UnitView → ℕ → Placed → Placed
@@ -297,19 +297,23 @@ entry_call at f = record { place = at; function = f; depth = 0; used = false }
 abbrev pub nothing_made : UnitView → Made
 nothing_made u = record { blocks = []; ready = []; edges = []; labels = []; bases = record { bases = []; width = 0; objects = replicate (length u.objects) None; literals = replicate (length u.literals) None } }
 
-abbrev pub all_run : UnitView → List (Option TemplateView) → List CopyView → Placed → Made
+abbrev pub all_run : UnitView → List (Option TemplateView) → List CopyView → Placed → Opened
 all_run u ts stack p = run u ts (2 ^ 64 - 1) (p.within ∷ stack) p.program
 
-abbrev pub entry_run : UnitView → List (Option TemplateView) → List CopyView → Made → Made
-entry_run u ts [] m = m
+abbrev pub entry_run : UnitView → List (Option TemplateView) → List CopyView → Made → Opened
+entry_run u ts [] m = opened [] m
 entry_run u ts (c ∷ stack) m = all_run u ts stack (with_parameters u c.function.parameters (placed m c))
 
 -- all is opened, and edges lead to labels
-abbrev pub unresolved : UnitView → List (Option TemplateView) → Opened → Made
+abbrev pub unresolved : UnitView → List (Option TemplateView) → Opened → Opened
 unresolved u ts o = entry_run u ts o.stack o.program
 
-abbrev pub whole : UnitView → List (Option TemplateView) → Place → Made
+abbrev pub whole : UnitView → List (Option TemplateView) → Place → Opened
 whole u ts at = unresolved u ts (with_call u ts (entry_call at u.entry) [] (nothing_made u))
+
+-- the copies that are not finished when all turns are made
+abbrev pub unfinished : UnitView → List (Option TemplateView) → Place → List CopyView
+unfinished u ts at = (whole u ts at).stack
 
 -- each edge leads to a block in place of a label
 abbrev pub resolved_edge : List ℕ → EdgeView → EdgeView
@@ -348,4 +352,4 @@ finished m = record { blocks = with_heads (resolved m.labels m.edges) m.blocks; 
 
 -- the entry's program with every call put in at its place
 abbrev pub program : UnitView → List (Option TemplateView) → Place → ProgramView
-program u ts at = finished (whole u ts at)
+program u ts at = finished (whole u ts at).program

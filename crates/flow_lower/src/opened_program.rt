@@ -1,5 +1,5 @@
 //! The program with every call put in at its place.
-ghost use Rattle.std.specs.Prelude.{◌≡◌, ◌+◌, ◌++◌, ◌∷◌, ◌-◌, ◌^◌, cond, get_or, nat_le, IfOk, None, Some, length, map, replicate, reverse, slice_get, slice_set};
+ghost use Rattle.std.specs.Prelude.{◌≡◌, ◌+◌, ◌++◌, ◌∷◌, ◌-◌, ◌^◌, [], cond, get_or, nat_le, IfOk, None, Some, length, map, replicate, reverse, slice_get, slice_set};
 ghost use Rattle.std.specs.Option.{option_map};
 ghost use Rattle.c_layout.specs.CheckedUnits.{function_view, unit_view};
 ghost use Rattle.template_works.specs.Acts as acts;
@@ -580,14 +580,14 @@ impl<'a, 't> Opening<'a, 't> {
         }
     }
 
-    /// Adds what is on the stack, and all calls that are put in there.
+    /// Makes all turns, or those until no copy is left.
     #[tactic(auto, using(crate::proofs::Stacks::top, crate::proofs::OpeningTurns::no_copy))]
-    fn run_all(
+    fn run_turns(
         &mut self,
         unit: &'a Checked,
         templates: &'t [Option<Template<'a>>],
     ) -> Result<(), AllocError>
-        ensures { IfOk result (λ _. (opening self.new).program ≡ spec.run (unit_view unit.now) (templates_view templates.now) (2 ^ 64 - 1) (opening self.old).stack (opening self.old).program) }
+        ensures { IfOk result (λ _. opening self.new ≡ spec.run (unit_view unit.now) (templates_view templates.now) (2 ^ 64 - 1) (opening self.old).stack (opening self.old).program) }
     {
         for _turn in 0..u64::MAX {
             match self.stack.pop() {
@@ -598,13 +598,32 @@ impl<'a, 't> Opening<'a, 't> {
         Ok(())
     }
 
+    /// Adds what is on the stack, and all calls that are put in there. Where a copy is left when all turns
+    /// are made, nothing is answered.
+    fn run_all(
+        &mut self,
+        unit: &'a Checked,
+        templates: &'t [Option<Template<'a>>],
+    ) -> Result<(), AllocError>
+        ensures run { IfOk result (λ _. opening self.new ≡ spec.run (unit_view unit.now) (templates_view templates.now) (2 ^ 64 - 1) (opening self.old).stack (opening self.old).program) }
+        ensures ends { IfOk result (λ _. (opening self.new).stack ≡ []) }
+    {
+        self.run_turns(unit, templates)?;
+        if self.stack.is_empty() {
+            Ok(())
+        } else {
+            Err(AllocError)
+        }
+    }
+
     /// Names the parameters of the entry, whose bases come first, and opens the entry.
     fn run_entry(
         &mut self,
         unit: &'a Checked,
         templates: &'t [Option<Template<'a>>],
     ) -> Result<(), AllocError>
-        ensures { IfOk result (λ _. (opening self.new).program ≡ spec.unresolved (unit_view unit.now) (templates_view templates.now) (opening self.old)) }
+        ensures opened { IfOk result (λ _. opening self.new ≡ spec.unresolved (unit_view unit.now) (templates_view templates.now) (opening self.old)) }
+        ensures ends { IfOk result (λ _. (opening self.new).stack ≡ []) }
     {
         match self.stack.pop() {
             Some(mut copy) => {
@@ -732,7 +751,8 @@ fn unresolved<'a>(
     templates: &[Option<Template<'a>>],
     place: Place,
 ) -> Result<Making, AllocError>
-    ensures { IfOk result (λ m. made m ≡ spec.whole (unit_view unit.now) (templates_view templates.now) place) }
+    ensures program { IfOk result (λ m. made m ≡ (spec.whole (unit_view unit.now) (templates_view templates.now) place).program) }
+    ensures ends { IfOk result (λ _. spec.unfinished (unit_view unit.now) (templates_view templates.now) place ≡ []) }
 {
     let mut opening = Opening {
         stack: Vec::new(alloc),
@@ -778,7 +798,8 @@ pub fn opened<'a>(
     templates: &[Option<Template<'a>>],
     place: Place,
 ) -> Result<OpenedProgram, AllocError>
-    ensures { IfOk result (λ p. spec.program_view p ≡ spec.program (unit_view unit.now) (templates_view templates.now) place) }
+    ensures program { IfOk result (λ p. spec.program_view p ≡ spec.program (unit_view unit.now) (templates_view templates.now) place) }
+    ensures ends { IfOk result (λ _. spec.unfinished (unit_view unit.now) (templates_view templates.now) place ≡ []) }
 {
     finished(unresolved(alloc, unit, templates, place)?)
 }

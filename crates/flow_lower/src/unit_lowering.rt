@@ -12,6 +12,7 @@ ghost use Rattle.flow_lower.specs.Openings.{program_view};
 ghost use Rattle.flow_lower.specs.Lowerings as spec;
 ghost use Rattle.flow_lower.specs.Lowerings.{AreUnitCounts, IsLowering, IsRefusal, Refuses};
 ghost use Rattle.flow_lower.specs.WellMade.{IsWellMade};
+ghost use Rattle.flow_lower.specs.AsCounted.{IsAsCounted, IsWithin};
 
 use crate::initial_objects::initial_objects;
 use crate::opened_program::{OpenedProgram, opened};
@@ -152,4 +153,10 @@ pub fn one_lowering()
 /// What lowering makes is well formed in its bases, in the numbers of its edges and in its heads.
 pub fn well_made()
     ensures { (u : UnitView) (limits : Limits) (f : FlowView) → IsLowering u limits f → IsWellMade f }
+{}
+
+/// A program has just the blocks and the instructions that were counted before it was made.
+pub fn as_counted()
+    ensures counts { (u : UnitView) (limits : Limits) (f : FlowView) (is : IsLowering u limits f) → IsAsCounted is.counts f }
+    ensures within { (u : UnitView) (limits : Limits) (f : FlowView) (is : IsLowering u limits f) → IsWithin limits is.counts f }
 {}

@@ -4,7 +4,7 @@ use Rattle.flow_counts.specs.Preparations.{templates_view}
 use Rattle.flow_lower.specs.Openings.{copy_view, opening}
 use Rattle.flow_lower.proofs.Stacks.{top_view}
 use Rattle.flow_lower.proofs.OpeningTurns.{one_turn, no_turns}
-use Rattle.flow_lower.proofs.opened_program.Opening.run_all.Goals as goal
+use Rattle.flow_lower.proofs.opened_program.Opening.run_turns.Goals as goal
 
 pub loop-turn-preserved : goal.loop-turn-preserved
 loop-turn-preserved c =

@@ -1,0 +1,6 @@
+pub mod PieceLists
+pub mod PlainWorks
+pub mod PlainConditions
+pub mod PlainStatements
+pub mod TemplateOrder
+pub mod SettledOrder
