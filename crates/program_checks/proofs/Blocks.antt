@@ -1,10 +1,9 @@
 -- Blocks are well formed by marks that agree with the edges.
-use Rattle.std.proofs.Common.{◌≡◌, ℕ, ◌+◌, ◌<◌, ◌==◌, ◌&&◌, false, List, [], ◌∷◌, length, take, drop, refl, arith, ap, ◌∙◌}
-use Rattle.std.specs.List.{list_any}
+use Rattle.std.proofs.Common.{◌≡◌, ℕ, ◌+◌, ◌==◌, ◌&&◌, List, [], ◌∷◌, length, take, drop, refl, arith, ap, ◌∙◌}
 use Rattle.flow_program.specs.declared.basic_blocks.BasicBlock.{BasicBlock}
 use Rattle.flow_program.specs.declared.flow_edges.Edge.{Edge}
-use Rattle.flow_program.specs.WellFormed.{Names, goes_back, is_block, are_blocks}
-use Rattle.program_checks.specs.EnteredBlocks.{entered_blocks, is_entered}
+use Rattle.flow_program.specs.WellFormed.{Names, is_block, are_blocks}
+use Rattle.program_checks.specs.EnteredBlocks.{entered_blocks}
 use Rattle.program_checks.specs.NumberedBlocks.{is_marked_block, are_marked_blocks}
 use Rattle.program_checks.proofs.Heads.{entered_at}
 

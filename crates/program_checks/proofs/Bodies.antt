@@ -1,5 +1,5 @@
 -- An instruction that ends its block ends it only as the last one.
-use Rattle.std.proofs.Common.{◌≡◌, ℕ, ◌+◌, ◌<◌, Bool, true, false, List, [], ◌∷◌, length, get_or, drop, length-drop, refl, arith, ap, sym, ◌∙◌}
+use Rattle.std.proofs.Common.{◌≡◌, ℕ, ◌+◌, ◌<◌, true, false, List, [], ◌∷◌, length, get_or, drop, length-drop, refl, arith, ap, sym, ◌∙◌}
 use Rattle.std.proofs.lemmas.List.{at_drop_more}
 use Rattle.flow_program.specs.declared.machine_instructions.Instruction.{Instruction}
 use Rattle.flow_program.specs.declared.flow_edges.Edge.{Edge}

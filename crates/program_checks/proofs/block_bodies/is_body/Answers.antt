@@ -1,6 +1,6 @@
-use Rattle.std.proofs.Common.{◌≡◌, ◌<◌, ◌+◌, drop, false, length, arith}
+use Rattle.std.proofs.Common.{◌≡◌, ◌<◌, ◌+◌, false, length, arith}
 use Rattle.std.proofs.lemmas.Grind.{common_steps}
-use Rattle.flow_program.specs.WellFormed.{On, is_body, leads}
+use Rattle.flow_program.specs.WellFormed.{leads}
 use Rattle.program_checks.specs.Bodies.{is_on}
 use Rattle.program_checks.proofs.Bodies.{ends_between}
 use Rattle.program_checks.proofs.block_bodies.is_body.Goals as goal
