@@ -16,4 +16,4 @@ mod sample_program;
 mod value_ranges;
 mod well_formed_flows;
 
-pub use well_formed_flows::is_well_formed;
+pub use well_formed_flows::{is_well_formed, well_formed};

@@ -1,5 +1,5 @@
 //! Whether a whole program is well formed.
-ghost use Rattle.std.specs.Prelude.{◌≡◌, IfOk};
+ghost use Rattle.std.specs.Prelude.{◌≡◌, IfOk, true};
 ghost use Rattle.flow_program.specs.WellFormed as spec;
 
 use crate::base_tables::{are_initial_objects, are_parameters, are_placed, is_width};
@@ -31,4 +31,20 @@ pub fn is_well_formed(alloc: Global, flow: &Flow, limits: &Limits) -> Result<boo
     let within = is_within(flow, limits)?;
     let named = initial && (parameters && within);
     Ok(flow.blocks.len() > 0 && (blocks && (edges && (placed && (width && named)))))
+}
+
+/// The same program, where it is well formed within limits.
+///
+/// # Errors
+///
+/// Want of memory, to which a program that is not well formed comes too.
+pub fn well_formed(alloc: Global, flow: Flow, limits: &Limits) -> Result<Flow, AllocError>
+    ensures same { IfOk result (λ f. f ≡ flow) }
+    ensures well_formed { IfOk result (λ f. spec.is_well_formed limits.now f ≡ true) }
+{
+    if is_well_formed(alloc, &flow, limits)? {
+        Ok(flow)
+    } else {
+        Err(AllocError)
+    }
 }
