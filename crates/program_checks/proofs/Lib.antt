@@ -1,0 +1,4 @@
+pub mod KindReads
+pub mod Bodies
+pub mod Heads
+pub mod Blocks

@@ -1,0 +1,19 @@
+//! Whether a control-flow program is well formed, told in one pass over its parts.
+#![tactic(auto)]
+
+mod base_kinds;
+mod base_tables;
+mod block_bodies;
+#[cfg(test)]
+mod check_tests;
+mod edge_kinds;
+mod entered_blocks;
+mod numbered_blocks;
+mod operations;
+mod program_counts;
+#[cfg(test)]
+mod sample_program;
+mod value_ranges;
+mod well_formed_flows;
+
+pub use well_formed_flows::{is_well_formed, well_formed};
