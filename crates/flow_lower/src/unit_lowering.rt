@@ -1,10 +1,11 @@
 //! Lowering: from a checked unit to its control-flow program.
-ghost use Rattle.std.specs.Prelude.{◌≡◌, ◌≤◌, ◌+◌, IfErr, IfOk, Some, slice_get};
+ghost use Rattle.std.specs.Prelude.{◌≡◌, ◌≤◌, ◌+◌, IfErr, IfOk, Some, slice_get, true};
 ghost use Rattle.c_layout.specs.declared.checked_tree.checked_units.Function.{Function};
 ghost use Rattle.c_layout.specs.Types.{view};
 ghost use Rattle.cc_base.specs.declared.limit_table.Limits.{Limits};
 ghost use Rattle.cc_base.specs.declared.refusals.Fault.{Fault};
 ghost use Rattle.c_layout.specs.CheckedUnits.{UnitView, function_view, unit_view};
+ghost use Rattle.flow_program.specs.WellFormed.{is_well_formed};
 ghost use Rattle.flow_counts.specs.Preparations.{templates_view};
 ghost use Rattle.flow_counts.specs.SizeRefusals.{limit_of, IsTooLarge};
 ghost use Rattle.program_copies.specs.ProgramViews.{FlowView, flow_view};
@@ -22,6 +23,7 @@ use flow_counts::{
     unit_counts, within,
 };
 use flow_program::{Flow, ParameterInput};
+use program_checks::well_formed;
 use program_copies::struct_copies;
 use std::alloc::{AllocError, Global};
 
@@ -122,11 +124,14 @@ fn counted(alloc: Global, unit: &Checked, found: &PreparedUnit) -> Result<UnitCo
 
 /// The control-flow program of a checked unit: the entry with every call of a function of the unit put
 /// in at its place. It is refused where a count passes its limit; the counts are made first, from the
-/// functions that are called up to the entry, so that nothing is made of a unit that is too large.
+/// functions that are called up to the entry, so that nothing is made of a unit that is too large. What
+/// is made is looked at before it is given away: a program that is not well formed would come to want
+/// of memory.
 pub fn lower(alloc: Global, unit: &Checked, limits: &Limits) -> Result<Flow, Stop>
     ensures model { IfOk result (λ f. f.model ≡ unit.now.model) }
     ensures entry { IfOk result (λ f. (e : Function) → slice_get unit.now.functions.items unit.now.entry ≡ Some e → f.entry ≡ e.place) }
     ensures temps { IfOk result (λ f. f.temps ≤ limits.now.temps) }
+    ensures well_formed { IfOk result (λ f. is_well_formed limits.now f ≡ true) }
     ensures lowering { IfOk result (λ f. IsLowering (unit_view unit.now) limits.now (flow_view f)) }
     ensures refusal { IfErr result (λ s. Refuses (unit_view unit.now) limits.now s) }
     ensures cause { IfErr result (λ s. (e : Function) → slice_get unit.now.functions.items unit.now.entry ≡ Some e → IsTooLarge limits.now e.place s) }
@@ -139,7 +144,8 @@ pub fn lower(alloc: Global, unit: &Checked, limits: &Limits) -> Result<Flow, Sto
     let width = row_width(&made, counts.temps)?;
     let values = pool_values(counts.blocks, width as u64);
     within(entry.place, Count::Pool, values, limits)?;
-    Ok(flow(alloc, unit, entry, made, counts)?)
+    let made = flow(alloc, unit, entry, made, counts)?;
+    Ok(well_formed(alloc, made, limits)?)
 }
 
 /// A unit has one program at most and one refusal at most, and where it has a program it is not refused.

@@ -1,5 +1,6 @@
 //! Programs whose loops are unrolled to a bound.
-ghost use Rattle.std.specs.Prelude.{◌≡◌, IfErr, IfOk, None};
+ghost use Rattle.std.specs.Prelude.{◌≡◌, IfErr, IfOk, None, true};
+ghost use Rattle.flow_program.specs.WellFormed.{is_well_formed};
 ghost use Rattle.program_copies.specs.ProgramViews.{flow_view};
 ghost use Rattle.turn_split.specs.SplitCounts.{split_counts, first_over, Splits};
 ghost use Rattle.turn_split.specs.Turns as spec;
@@ -9,6 +10,7 @@ use crate::edge_copies::edge_copies;
 use crate::split_counts::{counts_within, split_counts};
 use cc_base::{Limits, Stop};
 use flow_program::Flow;
+use program_checks::well_formed;
 use program_copies::{base_copies, object_copies, struct_copies};
 use std::alloc::{AllocError, Global};
 
@@ -58,13 +60,16 @@ fn split_flow(alloc: Global, flow: &Flow, turns: u32) -> Result<Flow, AllocError
 /// # Errors
 ///
 /// `TooLarge` at the name of the entry where the blocks, the instructions or the pool of the split
-/// program pass their limits, the first in this order; want of memory.
+/// program pass their limits, the first in this order; want of memory, to which a program that is not
+/// well formed would come too.
 pub fn split(alloc: Global, flow: &Flow, turns: u32, limits: &Limits) -> Result<Flow, Stop>
     ensures split { IfOk result (λ f. flow_view f ≡ spec.split turns (flow_view flow.now)) }
+    ensures well_formed { IfOk result (λ f. is_well_formed limits.now f ≡ true) }
     ensures fits { IfOk result (λ _. first_over limits.now (split_counts turns (flow_view flow.now)) ≡ None) }
     ensures cause { IfErr result (Splits limits.now turns (flow_view flow.now)) }
 {
     let counts = split_counts(flow, turns);
     counts_within(flow.entry, counts, limits)?;
-    Ok(split_flow(alloc, flow, turns)?)
+    let made = split_flow(alloc, flow, turns)?;
+    Ok(well_formed(alloc, made, limits)?)
 }
