@@ -13,8 +13,8 @@ use pointer_domain::Pointers;
 use string_domain::FirstZero;
 use value_domain::{AllocState, Cell, Value};
 
-fn is_pointer_within<I: Bounded>(pointer: &Pointers<I>, list: &Thresholds) -> bool
-    ensures { result ≡ (pointer_lattice I.lattice).within list.now pointer.now }
+fn is_pointer_within<I: Bounded>(pointer: Pointers<I>, list: &Thresholds) -> bool
+    ensures { result ≡ (pointer_lattice I.lattice).within list.now pointer }
 {
     pointer.lo.is_within(list) && (pointer.rel.is_within(list) && pointer.len.is_within(list))
 }
@@ -22,7 +22,7 @@ fn is_pointer_within<I: Bounded>(pointer: &Pointers<I>, list: &Thresholds) -> bo
 fn is_value_within<I: Bounded>(value: &Value<I>, list: &Thresholds) -> bool
     ensures { result ≡ (value_lattice I.lattice).within list.now value.now }
 {
-    value.num.is_within(list) && is_pointer_within(&value.pointer, list)
+    value.num.is_within(list) && is_pointer_within(value.pointer, list)
 }
 
 fn is_own_value<I: Bounded>(cell: &Cell<I>, list: &Thresholds) -> bool
