@@ -4,11 +4,11 @@ use Rattle.cc_base.specs.Lattices.{LatticeOf}
 use Rattle.cc_base.specs.Rows.{row_rounded_if}
 use Rattle.cc_base.specs.Machine.{Machine}
 use Rattle.cc_base.specs.InductiveMap.{row_at, step, IsOwn}
-use Rattle.row_pool.specs.Pool.{Pool, row_of, with_mark, IsTaken, IsFree, IsWhole, free_count, SameBut}
-use Rattle.row_pool.specs.PoolLaws.{SameBut-whole, SameBut-trans, IsTaken-other, free_apart}
+use Rattle.row_pool.specs.Pool.{Pool, row_of, with_mark, with_taken, IsTaken, IsFree, IsWhole, free_count, SameBut}
+use Rattle.row_pool.specs.PoolLaws.{SameBut-whole, SameBut-trans, IsTaken-other, row_of-taken, length-with_taken, free_apart}
 use Rattle.row_pool.specs.declared.row_name.Row.{Row}
 use Rattle.fixpoint_engine.specs.SolverState.{State, arrive, arrived, advance, head_grows, grows_if}
-use Rattle.fixpoint_engine.specs.RowMap.{slot_row, slot_mark, is_vacant, rows_in, state_in, IsHeldBeside, Changed, SlotChanged}
+use Rattle.fixpoint_engine.specs.RowMap.{slot_row, slot_mark, slot_index, is_vacant, rows_in, state_in, IsHeldBeside, Changed, SlotChanged}
 use Rattle.fixpoint_engine.proofs.SlotLaws.{IsTaken-same_but, slot-new}
 use Rattle.fixpoint_engine.proofs.MapLaws.{row_at-rows_in, map-agree, slot_row-kept, same_state, map-changed, map-state}
 use Rattle.fixpoint_engine.proofs.SpareLaws.{advance-is, head_grows-is}
@@ -23,18 +23,24 @@ mark-back [] r free = refl
 mark-back (x ∷ marks) zero free = cc
 mark-back (x ∷ marks) (suc r) free = let rest : set (set marks r true) r false ≡ marks = mark-back marks r free in cc
 
-pub given-same_but : {C : Type 0} (p q : Pool C) (r : ℕ) → IsFree p r → SameBut (with_mark p r true) q r → SameBut p (with_mark q r false) r
-given-same_but p q r free k = record {
+pub given-same_but : {C : Type 0} (p q : Pool C) (r : ℕ) → IsWhole p → IsFree p r → SameBut (with_taken p r) q r → SameBut p (with_mark q r false) r
+given-same_but p q r whole free k = record {
   width = k.width;
   taken = ap (λ marks. set marks r false) k.taken ∙ mark-back p.taken r free;
-  cells = k.cells;
-  others = λ s ne t. k.others s ne (IsTaken-other p r s true ne t);
+  cells = omega (arith, length-with_taken p r, k.cells);
+  others = λ s ne t. k.others s ne (IsTaken-other p r s ne t) ∙ row_of-taken p r s whole t;
 }
 
--- the cells do not depend on the marks
-pub marked-row : {C : Type 0} (p q : Pool C) (r : ℕ) (slot : Option Row) → q ≡ with_mark p r true → slot_row q slot ≡ slot_row p slot
-marked-row p q r None e = refl
-marked-row p q r (Some row) e = ap (λ u. Some (row_of u row.index)) e
+-- the rows of a map do not depend on the marks
+pub given-rows : {C : Type 0} (p : Pool C) (r : ℕ) (slots : List (Option Row)) → rows_in (with_mark p r false) slots ≡ rows_in p slots
+given-rows p r [] = refl
+given-rows p r (None ∷ slots) = ap (λ rest. None ∷ rest) (given-rows p r slots)
+given-rows p r (Some row ∷ slots) = ap (λ rest. Some (row_of p row.index) ∷ rest) (given-rows p r slots)
+
+-- a row in use keeps its cells when another one is taken
+pub taken-row : {C : Type 0} (p q : Pool C) (r : ℕ) (slot : Option Row) → IsWhole p → ((i : ℕ) → slot_index slot ≡ Some i → IsTaken p i) → q ≡ with_taken p r → slot_row q slot ≡ slot_row p slot
+taken-row p q r None whole t e = refl
+taken-row p q r (Some row) whole t e = ap (λ u. Some (row_of u row.index)) e ∙ ap Some (row_of-taken p r row.index whole (t row.index refl))
 
 -- where a free row is written, the map and the row beside it are as before
 module _ {C : Type 0} (p q : Pool C) (slots : List (Option Row)) (spare r : ℕ) (h : IsHeldBeside p slots spare) (free : IsFree p r) (k : SameBut p q r) where
@@ -65,7 +71,7 @@ module _ {C : Type 0} (p q : Pool C) (slots : List (Option Row)) (spare r : ℕ)
       refl
 
 -- a row that was free becomes the row of a block that had none
-module _ {C : Type 0} (p q : Pool C) (slots : List (Option Row)) (b spare : ℕ) (row : Row) (lt : b < length slots) (at : slice_index_or slots b None ≡ None) (h : IsHeldBeside p slots spare) (free : IsFree p row.index) (k : SameBut (with_mark p row.index true) q row.index) where
+module _ {C : Type 0} (p q : Pool C) (slots : List (Option Row)) (b spare : ℕ) (row : Row) (lt : b < length slots) (at : slice_index_or slots b None ≡ None) (h : IsHeldBeside p slots spare) (free : IsFree p row.index) (k : SameBut (with_taken p row.index) q row.index) where
   settled : SlotChanged p None q (Some row)
   settled = slot-new p q row h.whole free k
 

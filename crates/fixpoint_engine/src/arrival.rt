@@ -2,7 +2,7 @@
 ghost use Rattle.std.specs.Prelude.{◌≡◌, ◌≢◌, ◌+◌, ◌<◌, ◌≤◌, ◌||◌, ℕ, true, length, count_by, Some, None};
 ghost use Rattle.cc_base.specs.Rows.{row_round, row_rounded_if};
 ghost use Rattle.cc_base.specs.InductiveMap.{row_at};
-ghost use Rattle.row_pool.specs.Pool.{row_of, with_mark, IsTaken, IsFree, IsWhole, free_count, SameBut};
+ghost use Rattle.row_pool.specs.Pool.{row_of, with_taken, IsTaken, IsFree, IsWhole, free_count, SameBut};
 ghost use Rattle.fixpoint_engine.specs.SolverState.{arrived, grows, arrive as arrive_of};
 ghost use Rattle.fixpoint_engine.specs.RowMap.{slot_row, slot_mark, slot_index, is_vacant, state_in, rows_in, IsHeldBeside, Changed, SlotChanged};
 
@@ -103,7 +103,7 @@ fn new_row<C: Lattice>(pool: &mut RowPool<C>, spare: &Row, rounding: bool, list:
     requires room { 0 < free_count pool.old }
     ensures free { IsFree pool.old result.index }
     ensures marked { result.marked ≡ true }
-    ensures same_but { SameBut (with_mark pool.old result.index true) pool.new result.index }
+    ensures same_but { SameBut (with_taken pool.old result.index) pool.new result.index }
     ensures row { row_of pool.new result.index ≡ row_rounded_if C.lattice list.now rounding (row_of pool.old spare.now.index) }
 {
     let mut row = take_row(pool);
@@ -117,10 +117,11 @@ fn new_row<C: Lattice>(pool: &mut RowPool<C>, spare: &Row, rounding: bool, list:
 pub(crate) fn take_row<C: Copy>(pool: &mut RowPool<C>) -> Row
     requires { 0 < free_count pool.old }
     ensures free { IsFree pool.old result.index }
-    ensures taken { pool.new ≡ with_mark pool.old result.index true }
+    ensures taken { pool.new ≡ with_taken pool.old result.index }
     ensures whole { IsWhole pool.new }
     ensures in_use { IsTaken pool.new result.index }
     ensures others { (s : ℕ) → IsTaken pool.old s → IsTaken pool.new s }
+    ensures kept { (s : ℕ) → IsTaken pool.old s → row_of pool.new s ≡ row_of pool.old s }
     ensures count { free_count pool.new + 1 ≡ free_count pool.old }
 {
     match pool.take() {

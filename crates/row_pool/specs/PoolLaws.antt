@@ -1,22 +1,79 @@
 -- What the calls of a pool leave as it is.
-use Rattle.std.proofs.Common.{◌≡◌, ◌≢◌, ◌+◌, ◌*◌, ◌<◌, ◌≤◌, ℕ, Bool, true, false, not, cond, List, ◌++◌, length, take, drop, get_or, Some, slice_get, slice_set, count_by, refl, sym, ap, arith, ◌∙◌, ⊎_elim, length-append, length-drop, length-take}
+use Rattle.std.proofs.Common.{◌≡◌, ◌≢◌, ◌+◌, ◌-◌, ◌*◌, ◌<◌, ◌≤◌, ℕ, max, replicate, subst, length-set, Bool, true, false, not, cond, List, ◌++◌, length, take, drop, get_or, Some, slice_get, slice_set, count_by, refl, sym, ap, arith, ◌∙◌, ⊎_elim, length-append, length-drop, length-take}
 use Rattle.std.proofs.Math.Nat.{mul-le-mul_left}
-use Rattle.std.proofs.lemmas.Bool.{cases_lt}
+use Rattle.std.proofs.lemmas.Bool.{cases_eq, cases_lt}
 use Rattle.std.proofs.lemmas.Grind.{common_steps}
 use Rattle.std.proofs.lemmas.Option.{gets}
-use Rattle.std.proofs.lemmas.List.{take_at, drop_at, take_all, drop-take, take-append-drop, drop-drop}
+use Rattle.std.proofs.lemmas.List.{take_at, drop_at, take_all, drop-take, take-append-drop, take-append-le, drop-drop, drop-set-lt, drop-replicate, length-replicate, get_or-drop, get_or-replicate}
 use Rattle.std.proofs.lemmas.Slice.{drop-put_mid, take-put_mid_below}
 use Rattle.std.proofs.lemmas.Int.{clamps}
 use Rattle.std.proofs.lemmas.List.Sums.{sum_by-set}
 use Rattle.std.proofs.lemmas.Option.{slice_get_within, get_or_from_slice_get}
-use Rattle.row_pool.specs.Pool.{Pool, row_of, with_row, with_mark, IsTaken, IsFree, IsWhole, SameBut}
+use Rattle.row_pool.specs.Pool.{Pool, row_of, with_row, with_mark, with_taken, IsTaken, IsFree, IsWhole, SameBut}
 
--- a row that is in use ends within the cells
-pub row_end : (taken : List Bool) (r width : ℕ) (b : Bool) (cells : ℕ) → slice_get taken r ≡ Some b → cells ≡ length taken * width → r * width + width ≤ cells
-row_end taken r width b cells h e =
+-- each row ends within the cells of all
+pub row_within : (taken : List Bool) (r width : ℕ) (b : Bool) → slice_get taken r ≡ Some b → r * width + width ≤ length taken * width
+row_within taken r width b h =
     let lt : r < length taken = slice_get_within taken r b h in
     let le : width * (r + 1) ≤ width * length taken = mul-le-mul_left width (omega arith) in
     omega (arith, le)
+
+-- a row in use is one of the rows that are stored, where those behind them are free
+pub stored_row : (taken : List Bool) (r stored : ℕ) → drop stored taken ≡ replicate (length taken - stored) false → slice_get taken r ≡ Some true → r < stored
+stored_row taken r stored e h =
+    ⊎_elim
+    (λ (lt : r < stored). lt)
+    (λ (ge : stored ≤ r).
+    let lt : r < length taken = slice_get_within taken r true h in
+    let at : get_or taken r false ≡ true = get_or_from_slice_get taken r true false h in
+    let place : stored + (r - stored) ≡ r = omega arith in
+    let behind : get_or (drop stored taken) (r - stored) false ≡ get_or taken r false = get_or-drop stored taken (r - stored) false ∙ ap (λ n. get_or taken n false) place in
+    let free : get_or (drop stored taken) (r - stored) false ≡ false = ap (λ marks. get_or marks (r - stored) false) e ∙ get_or-replicate (length taken - stored) (r - stored) false false (omega arith) in
+    let clash : true ≡ false = sym at ∙ (sym behind ∙ free) in
+    absurd (cc))
+    (cases_lt r stored)
+
+-- so it ends within the cells that are stored
+pub row_end : (taken : List Bool) (r width stored cells : ℕ) → drop stored taken ≡ replicate (length taken - stored) false → slice_get taken r ≡ Some true → cells ≡ stored * width → r * width + width ≤ cells
+row_end taken r width stored cells e h k =
+    let lt : r < stored = stored_row taken r stored e h in
+    let le : width * (r + 1) ≤ width * stored = mul-le-mul_left width (omega arith) in
+    omega (arith, le)
+
+-- a row that is given back leaves the rows behind the stored ones free
+pub stored_given : (taken : List Bool) (r stored : ℕ) → drop stored taken ≡ replicate (length taken - stored) false → slice_get taken r ≡ Some true → drop stored (slice_set taken r false) ≡ replicate (length (slice_set taken r false) - stored) false
+stored_given taken r stored e h =
+    drop-set-lt stored taken r false (stored_row taken r stored e h)
+    ∙ e
+    ∙ ap (λ n. replicate (n - stored) false) (sym (length-set taken r false))
+
+-- so does a row that is taken, with one row more stored where it was none of them
+pub stored_taken : (taken : List Bool) (r stored : ℕ) → drop stored taken ≡ replicate (length taken - stored) false → drop (max stored (r + 1)) (slice_set taken r true) ≡ replicate (length (slice_set taken r true) - max stored (r + 1)) false
+stored_taken taken r stored e =
+    let more : stored + (max stored (r + 1) - stored) ≡ max stored (r + 1) = omega (arith, clamps) in
+    drop-set-lt (max stored (r + 1)) taken r true (omega (arith, clamps))
+    ∙ ap (λ n. drop n taken) (sym more)
+    ∙ sym (drop-drop (max stored (r + 1) - stored) stored taken)
+    ∙ ap (drop (max stored (r + 1) - stored)) e
+    ∙ drop-replicate (max stored (r + 1) - stored) (length taken - stored) false
+    ∙ ap (λ n. replicate n false) (let same : length taken - stored - (max stored (r + 1) - stored) ≡ length taken - max stored (r + 1) = omega (arith, clamps) in same)
+    ∙ ap (λ n. replicate (n - max stored (r + 1)) false) (sym (length-set taken r true))
+
+-- the cells up to the end of a row that is taken, beside those that are stored
+pub stored_cells : (stored r width cells : ℕ) → cells ≡ stored * width → cells + (r * width + width - cells) ≡ max stored (r + 1) * width
+stored_cells stored r width cells k =
+    ⊎_elim
+    (λ (lt : r < stored).
+    let most : max stored (r + 1) ≡ stored = omega (arith, clamps) in
+    let le : width * (r + 1) ≤ width * stored = mul-le-mul_left width (omega arith) in
+    let all : cells + (r * width + width - cells) ≡ stored * width = omega (arith, le, k) in
+    all ∙ ap (λ n. n * width) (sym most))
+    (λ (ge : stored ≤ r).
+    let most : max stored (r + 1) ≡ r + 1 = omega (arith, clamps) in
+    let le : width * stored ≤ width * (r + 1) = mul-le-mul_left width (omega arith) in
+    let all : cells + (r * width + width - cells) ≡ (r + 1) * width = omega (arith, le, k) in
+    all ∙ ap (λ n. n * width) (sym most))
+    (cases_lt r stored)
 
 -- a mark that changes changes the count by one
 pub count_taken : (taken : List Bool) (r : ℕ) → slice_get taken r ≡ Some false → count_by not (slice_set taken r true) + 1 ≡ count_by not taken
@@ -52,12 +109,52 @@ row_above r s width ne h =
     let le : width * (r + 1) ≤ width * s = mul-le-mul_left width (omega arith) in omega (arith, le))
     (cases_lt s r)
 
--- a mark changes no cells, and other marks are as before
-pub IsTaken-other : {V : Type 0} (p : Pool V) (r s : ℕ) (b : Bool) → (s ≡ r → ⊥) → IsTaken p s → IsTaken (with_mark p r b) s
-IsTaken-other p r s b ne h = grind (arith, common_steps, gets)
+-- other marks are as before
+pub kept_mark : (taken : List Bool) (r s : ℕ) (b : Bool) → (s ≡ r → ⊥) → slice_get taken s ≡ Some true → slice_get (slice_set taken r b) s ≡ Some true
+kept_mark taken r s b ne h = grind (arith, common_steps, gets)
 
-pub IsTaken-same : {V : Type 0} (p : Pool V) (r : ℕ) → IsFree p r → IsTaken (with_mark p r true) r
+pub more_marks : (taken : List Bool) (r s : ℕ) → slice_get taken s ≡ Some true → slice_get (slice_set taken r true) s ≡ Some true
+more_marks taken r s h = ⊎_elim (λ (same : s ≡ r). grind (arith, common_steps, gets)) (λ (ne : s ≡ r → ⊥). kept_mark taken r s true ne h) (cases_eq s r)
+
+pub set_mark : (taken : List Bool) (r : ℕ) → slice_get taken r ≡ Some false → slice_get (slice_set taken r true) r ≡ Some true
+set_mark taken r h = grind (arith, common_steps, gets)
+
+pub IsTaken-other : {V : Type 0} (p : Pool V) (r s : ℕ) → (s ≡ r → ⊥) → IsTaken p s → IsTaken (with_taken p r) s
+IsTaken-other p r s ne h = grind (arith, common_steps, gets)
+
+pub IsTaken-same : {V : Type 0} (p : Pool V) (r : ℕ) → IsFree p r → IsTaken (with_taken p r) r
 IsTaken-same p r h = grind (arith, common_steps, gets)
+
+-- a mark that is taken off leaves only rows that were in use
+taken_before : (taken : List Bool) (r s : ℕ) → slice_get (slice_set taken r false) s ≡ Some true → slice_get taken s ≡ Some true
+taken_before taken r s h = grind (arith, common_steps, gets)
+
+-- a row in use is another one than the one that is taken now, or that one
+taken_other : (taken : List Bool) (r s : ℕ) → (s ≡ r → ⊥) → slice_get (slice_set taken r true) s ≡ Some true → slice_get taken s ≡ Some true
+taken_other taken r s ne h = grind (arith, common_steps, gets)
+
+-- the cells up to the end of a row that is taken are there
+pub length-with_taken : {V : Type 0} (p : Pool V) (r : ℕ) → length (with_taken p r).cells ≡ length p.cells + (r * p.width + p.width - length p.cells)
+length-with_taken p r = simp (length-append, length-replicate) refl
+
+pub IsWhole-given : {V : Type 0} (p : Pool V) (r : ℕ) → IsWhole p → IsWhole (with_mark p r false)
+IsWhole-given p r whole = λ s t. whole s (taken_before p.taken r s t)
+
+pub IsWhole-taken : {V : Type 0} (p : Pool V) (r : ℕ) → IsWhole p → IsWhole (with_taken p r)
+IsWhole-taken p r whole = λ s t.
+    let len = length-with_taken p r in
+    ⊎_elim
+    (λ (same : s ≡ r). subst (λ n. n * p.width + p.width ≤ length (with_taken p r).cells) (sym same) (omega (arith, len)))
+    (λ (ne : s ≡ r → ⊥). let before : s * p.width + p.width ≤ length p.cells = whole s (taken_other p.taken r s ne t) in omega (arith, len, before))
+    (cases_eq s r)
+
+-- the rows in use keep their cells when another one is taken
+pub row_of-taken : {V : Type 0} (p : Pool V) (r s : ℕ) → IsWhole p → IsTaken p s → row_of (with_taken p r) s ≡ row_of p s
+row_of-taken p r s whole t =
+    let end : s * p.width + p.width ≤ length p.cells = whole s t in
+    sym (drop-take (s * p.width) p.width (with_taken p r).cells)
+    ∙ ap (drop (s * p.width)) (take-append-le (s * p.width + p.width) p.cells _ end)
+    ∙ drop-take (s * p.width) p.width p.cells
 
 -- a row that is free is none of those in use
 pub free_apart : {V : Type 0} (p : Pool V) (r s : ℕ) → IsFree p r → IsTaken p s → s ≡ r → ⊥
@@ -89,14 +186,14 @@ row_before r s width lt = let le : width * (r + 1) ≤ width * s = mul-le-mul_le
 -- the cells after a write to a row of a pool
 cells_are : {V : Type 0} (p : Pool V) (r : ℕ) (ws : List V) → IsWhole p → IsTaken p r → length ws ≡ p.width → (with_row p r ws).cells ≡ written (r * p.width) p.cells ws
 cells_are p r ws whole taken e =
-    let end : r * p.width + p.width ≤ length p.cells = row_end p.taken r p.width true (length p.cells) taken whole in
+    let end : r * p.width + p.width ≤ length p.cells = whole r taken in
     let same : length (written (r * p.width) p.cells ws) ≡ length p.cells = length-written (r * p.width) p.cells ws (omega arith) in
     take_all (length p.cells) (written (r * p.width) p.cells ws) (omega arith)
 
 -- a row holds what was last written to it
 pub row_of-same : {V : Type 0} (p : Pool V) (r : ℕ) (ws : List V) → IsWhole p → IsTaken p r → length ws ≡ p.width → row_of (with_row p r ws) r ≡ ws
 row_of-same p r ws whole taken e =
-    let end : r * p.width + p.width ≤ length p.cells = row_end p.taken r p.width true (length p.cells) taken whole in
+    let end : r * p.width + p.width ≤ length p.cells = whole r taken in
     ap (λ cs. take p.width (drop (r * p.width) cs)) (cells_are p r ws whole taken e)
     ∙ sym (ap (λ k. take k (drop (r * p.width) (written (r * p.width) p.cells ws))) e)
     ∙ written_same (r * p.width) p.cells ws (omega arith)
@@ -104,7 +201,7 @@ row_of-same p r ws whole taken e =
 -- and a write to another row does not change it
 pub row_of-other : {V : Type 0} (p : Pool V) (r s : ℕ) (ws : List V) → IsWhole p → IsTaken p r → length ws ≡ p.width → (s ≡ r → ⊥) → row_of (with_row p r ws) s ≡ row_of p s
 row_of-other p r s ws whole taken e ne =
-    let end : r * p.width + p.width ≤ length p.cells = row_end p.taken r p.width true (length p.cells) taken whole in
+    let end : r * p.width + p.width ≤ length p.cells = whole r taken in
     ap (λ cs. take p.width (drop (s * p.width) cs)) (cells_are p r ws whole taken e)
     ∙ ⊎_elim
     (λ (lt : s < r).
@@ -120,16 +217,18 @@ row_of-other p r s ws whole taken e ne =
 -- a row has the pool's width
 pub length-row_of : {V : Type 0} (p : Pool V) (r : ℕ) → IsWhole p → IsTaken p r → length (row_of p r) ≡ p.width
 length-row_of p r whole taken =
-    let end : r * p.width + p.width ≤ length p.cells = row_end p.taken r p.width true (length p.cells) taken whole in
+    let end : r * p.width + p.width ≤ length p.cells = whole r taken in
     simp (length-take, length-drop) (omega (arith, clamps))
 
 pub SameBut-with_row : {V : Type 0} (p : Pool V) (r : ℕ) (ws : List V) → IsWhole p → IsTaken p r → length ws ≡ p.width → SameBut p (with_row p r ws) r
 SameBut-with_row p r ws whole taken e =
-    let end : r * p.width + p.width ≤ length p.cells = row_end p.taken r p.width true (length p.cells) taken whole in
+    let end : r * p.width + p.width ≤ length p.cells = whole r taken in
     record {
       width = refl;
       taken = refl;
-      cells = ap length (cells_are p r ws whole taken e) ∙ length-written (r * p.width) p.cells ws (omega arith);
+      cells =
+          let same : length (with_row p r ws).cells ≡ length p.cells = ap length (cells_are p r ws whole taken e) ∙ length-written (r * p.width) p.cells ws (omega arith) in
+          omega arith;
       others = λ s ne t. row_of-other p r s ws whole taken e ne;
     }
 
@@ -137,17 +236,21 @@ pub SameBut-trans : {V : Type 0} (p q u : Pool V) (r : ℕ) → SameBut p q r �
 SameBut-trans p q u r h k = record {
   width = k.width ∙ h.width;
   taken = k.taken ∙ h.taken;
-  cells = k.cells ∙ h.cells;
+  cells = omega (arith, h.cells, k.cells);
   others = λ s ne t.
       let t' : IsTaken q s = ap (λ ts. slice_get ts s) h.taken ∙ t in
       k.others s ne t' ∙ h.others s ne t;
 }
 
 pub SameBut-whole : {V : Type 0} (p q : Pool V) (r : ℕ) → SameBut p q r → IsWhole p → IsWhole q
-SameBut-whole p q r h whole = rw (h.cells, h.taken, h.width) whole
+SameBut-whole p q r h whole = λ s t.
+    let t' : IsTaken p s = ap (λ ts. slice_get ts s) (sym h.taken) ∙ t in
+    let end : s * p.width + p.width ≤ length p.cells = whole s t' in
+    let end' : s * q.width + q.width ≤ length p.cells = subst (λ w. s * w + w ≤ length p.cells) (sym h.width) end in
+    omega (arith, end', h.cells)
 
 pub SameBut-refl : {V : Type 0} (p : Pool V) (r : ℕ) → SameBut p p r
-SameBut-refl p r = record { width = refl; taken = refl; cells = refl; others = λ s ne t. refl }
+SameBut-refl p r = record { width = refl; taken = refl; cells = omega arith; others = λ s ne t. refl }
 
 -- a part that is copied to its own place
 pub copied_onto_itself : {V : Type 0} (cells : List V) (from to width : ℕ) → from ≡ to → cells ≡ take to cells ++ (take width (drop from cells) ++ drop (to + width) cells)

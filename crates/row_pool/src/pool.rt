@@ -1,50 +1,58 @@
 //! The pool of rows.
-ghost use Rattle.std.specs.Prelude.{◌≡◌, ◌≢◌, ◌+◌, ◌*◌, ◌<◌, ◌≤◌, ◌++◌, ◌^◌, ℕ, true, false, length, take, drop, slice_get, IfOk, IfSome, IfNone, count_by, not};
+ghost use Rattle.std.specs.Prelude.{◌≡◌, ◌≢◌, ◌+◌, ◌-◌, ◌*◌, ◌<◌, ◌≤◌, ◌++◌, ◌^◌, ℕ, true, false, length, take, drop, slice_get, IfOk, IfSome, IfNone, count_by, not, vec_capacity};
 ghost use Rattle.std.specs.Borrow.{sem};
 ghost use Rattle.std.proofs.Common.{replicate};
-ghost use Rattle.row_pool.specs.Pool.{Pool, row_of, with_row, with_mark, IsTaken, IsFree, IsWhole, free_count, fresh_pool};
+ghost use Rattle.row_pool.specs.Pool.{Pool, row_of, with_row, with_mark, with_taken, IsTaken, IsFree, IsWhole, free_count, fresh_pool};
 
 use crate::row_name::Row;
 use cc_base::Memory;
 use std::alloc::{AllocError, Global};
 use std::marker::Model;
 
-/// Rows of `width` cells each, in one block of memory that `new` reserves.
+/// Rows of `width` cells each, in one block of memory that `new` reserves. A row is filled when it is
+/// first in use, so that memory of rows that are never in use stays untouched.
 ///
-/// Contracts see the width, for each row whether it is in use, and the cells.
+/// Contracts see the width, for each row whether it is in use, the cells as far as rows have been in
+/// use, and what a row is filled with.
 #[derive(Drop)]
 pub struct RowPool<V: Copy> {
     pub(crate) width: u32,
     pub(crate) taken: Vec<bool>,
+    pub(crate) stored: u32,
     pub(crate) cells: Vec<V>,
+    pub(crate) fill: V,
 }
 
 impl<V: Copy> Model for RowPool<V> {
-    ghost use Rattle.std.specs.Prelude.{◌≡◌, ◌*◌, ◌<◌, ◌^◌, length};
+    ghost use Rattle.std.specs.Prelude.{◌≡◌, ◌-◌, ◌*◌, ◌<◌, ◌≤◌, ◌^◌, false, length, drop, vec_capacity};
+    ghost use Rattle.std.proofs.Common.{replicate};
     ghost use Rattle.row_pool.specs.Pool.{Pool, pool_code};
 
     ghost Value = { Pool V };
 
     ghost coded = { pool_code V.code };
 
-    ghost view = { λ p. record { width = p.width; taken = p.taken.items; cells = p.cells.items } };
+    ghost view = { λ p. record { width = p.width; taken = p.taken.items; cells = p.cells.items; fill = p.fill } };
 
-    ghost invariant = { λ p. (length p.cells.items ≡ length p.taken.items * p.width) × (length p.taken.items < 2 ^ 32) };
+    ghost invariant = { λ p. (length p.cells.items ≡ p.stored * p.width) × (drop p.stored p.taken.items ≡ replicate (length p.taken.items - p.stored) false) × (length p.taken.items * p.width ≤ vec_capacity p.cells) × (length p.taken.items < 2 ^ 32) };
 }
 
 impl<V: Copy> RowPool<V> {
     ghost use Rattle.row_pool.specs.Lending.{lends_row};
 
-    /// `rows` free rows of `width` cells, each cell `fill`. `Memory` where memory is short.
+    /// `rows` free rows of `width` cells, each cell `fill` when its row is first in use. `Memory` where
+    /// memory is short.
     pub fn new(alloc: Global, rows: u32, width: u32, fill: V) -> Result<RowPool<V>, Memory>
         ensures { IfOk result (λ pool. pool ≡ fresh_pool rows width fill) }
     {
         let taken = filled(alloc, rows as usize, false)?;
-        let cells = filled(alloc, rows as usize * width as usize, fill)?;
+        let cells = Vec::with_capacity(alloc, rows as usize * width as usize)?;
         Ok(RowPool {
             width,
             taken,
+            stored: 0,
             cells,
+            fill,
         })
     }
 
@@ -64,28 +72,32 @@ impl<V: Copy> RowPool<V> {
     }
 
     /// A row that was free, and from now on is in use. None exactly where no row is free. Its cells
-    /// are what they were.
+    /// are what they were, or what the pool's rows are filled with where it was never in use.
     #[tactic(auto, using(crate::specs::PoolLaws::count_taken))]
     pub fn take(&mut self) -> Option<Row>
         ensures none { IfNone result (self.new ≡ self.old × free_count self.old ≡ 0) }
         ensures free { IfSome result (λ row. IsFree self.old row.index) }
-        ensures taken { IfSome result (λ row. self.new ≡ with_mark self.old row.index true) }
+        ensures taken { IfSome result (λ row. self.new ≡ with_taken self.old row.index) }
         ensures in_use { IfSome result (λ row. IsTaken self.new row.index) }
         ensures others { IfSome result (λ row. (s : ℕ) → IsTaken self.old s → IsTaken self.new s) }
+        ensures kept { IfSome result (λ row. (s : ℕ) → IsTaken self.old s → row_of self.new s ≡ row_of self.old s) }
         ensures whole { IsWhole self.new }
         ensures unmarked { IfSome result (λ row. row.marked ≡ false) }
         ensures count { IfSome result (λ row. free_count self.new + 1 ≡ free_count self.old) }
     {
         let index = first_free(self.taken.as_slice())?;
+        let row = index as u32;
         self.taken[index] = true;
+        fill_up(&mut self.cells, end_of(row, self.width), self.fill);
+        self.stored = self.stored.max(row + 1);
         Some(Row {
-            index: index as u32,
+            index: row,
             marked: false,
         })
     }
 
     /// Gives a row back, which from now on is free.
-    #[tactic(auto, using(crate::specs::PoolLaws::count_given))]
+    #[tactic(auto, using(crate::specs::PoolLaws::count_given, crate::specs::PoolLaws::stored_given))]
     pub fn give(&mut self, row: Row)
         requires { IsTaken self.old row.index }
         ensures free { self.new ≡ with_mark self.old row.index false }
@@ -108,6 +120,7 @@ impl<V: Copy> RowPool<V> {
     }
 
     /// The cells of a row, to be written.
+    #[tactic(auto, using(crate::specs::PoolLaws::row_end))]
     pub fn row_mut(&mut self, at: &Row) -> &mut [V]
         requires { IsTaken self.old at.now.index }
         ensures* writes_back { sem 𝓛 (lends_row V.row self.entry at.now.index result) }
@@ -150,6 +163,27 @@ fn copy_part<V: Copy>(cells: &mut [V], from: usize, to: usize, width: usize)
     }
 }
 
+// Where a row ends.
+fn end_of(row: u32, width: u32) -> usize
+    ensures { result ≡ row * width + width }
+{
+    row as usize * width as usize + width as usize
+}
+
+// Adds a value up to a number of cells, for which there is room.
+fn fill_up<V: Copy>(cells: &mut Vec<V>, end: usize, fill: V)
+    requires { end ≤ vec_capacity cells.old }
+    ensures cells { cells.new.items ≡ cells.old.items ++ replicate (end - length cells.old.items) fill }
+    ensures room { vec_capacity cells.old ≤ vec_capacity cells.new }
+{
+    if cells.len() < end {
+        match cells.resize(end, fill) {
+            Ok(()) => {}
+            Err(_) => unreachable!(),
+        }
+    }
+}
+
 // `count` times the same value.
 fn filled<V: Copy>(alloc: Global, count: usize, fill: V) -> Result<Vec<V>, AllocError>
     ensures { IfOk result (λ all. all.items ≡ replicate count fill) }
@@ -175,6 +209,7 @@ fn count_free(taken: &[bool]) -> u32
 fn first_free(taken: &[bool]) -> Option<usize>
     ensures none { IfNone result (count_by not taken.now ≡ 0) }
     ensures free { IfSome result (λ i. slice_get taken.now i ≡ Some false) }
+    ensures below { IfSome result (λ i. i < length taken.now) }
 {
     for (index, is_taken) in taken.iter().enumerate() {
         if !*is_taken {

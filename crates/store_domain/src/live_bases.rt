@@ -1,6 +1,6 @@
 //! Which bases may be live, freed or one instance alone.
 ghost use Rattle.std.specs.Prelude.{◌≡◌};
-ghost use Rattle.store_domain.specs.LiveBases.{is_single_kind, is_literal_kind, only_base, has_base, with_base_if, single_bases, is_writable_in, writable_of, is_one_instance, may_be_live, may_be_freed, is_live_in, live_of, is_freed_or, any_freed};
+ghost use Rattle.store_domain.specs.LiveBases.{is_single_kind, is_literal_kind, only_base, has_base, with_base_if, single_bases, add_writable, writable_of, is_one_instance, may_be_live, may_be_freed, add_live, live_of, is_freed_or, any_freed};
 
 use crate::row_positions::{state_at, state_position};
 use c_layout::{BaseInfo, BaseKind};
@@ -89,11 +89,19 @@ pub fn single_bases(bases: &[BaseInfo]) -> Bases
     found
 }
 
-/// Whether the set has the base with this number, and it may be live.
-pub fn is_live_in<I: IntDomain>(base: &BaseInfo, number: usize, row: &[Cell<I>], set: Bases) -> bool
-    ensures { result ≡ is_live_in I.lattice I.numbers row.now set base.now number }
+/// Adds the base with this number, if the set has it and it may be live.
+fn add_live<I: IntDomain>(
+    base: &BaseInfo,
+    number: usize,
+    row: &[Cell<I>],
+    set: &Bases,
+    found: &mut Bases,
+)
+    ensures { found.new ≡ add_live I.lattice I.numbers row.now set.now base.now number found.old }
 {
-    has_base(set, number) && may_be_live(base, row)
+    if has_base(*set, number) {
+        add_if(may_be_live(base, row), number, found);
+    }
 }
 
 /// The bases of the set that may be live.
@@ -102,16 +110,18 @@ pub fn live_of<I: IntDomain>(bases: &[BaseInfo], row: &[Cell<I>], set: Bases) ->
 {
     let mut found = Bases::empty();
     for n in 0..bases.len() {
-        add_if(is_live_in(&bases[n], n, row, set), n, &mut found);
+        add_live(&bases[n], n, row, &set, &mut found);
     }
     found
 }
 
-/// Whether the set has the base with this number, and it is no literal.
-fn is_writable_in(base: &BaseInfo, number: usize, set: Bases) -> bool
-    ensures { result ≡ is_writable_in set base.now number }
+/// Adds the base with this number, if the set has it and it is no literal.
+fn add_writable(base: &BaseInfo, number: usize, set: &Bases, found: &mut Bases)
+    ensures { found.new ≡ add_writable set.now base.now number found.old }
 {
-    has_base(set, number) && !is_literal_kind(base.kind)
+    if has_base(*set, number) {
+        add_if(!is_literal_kind(base.kind), number, found);
+    }
 }
 
 /// The bases of the set that are no literals.
@@ -120,7 +130,7 @@ pub fn writable_of(bases: &[BaseInfo], set: Bases) -> Bases
 {
     let mut found = Bases::empty();
     for n in 0..bases.len() {
-        add_if(is_writable_in(&bases[n], n, set), n, &mut found);
+        add_writable(&bases[n], n, &set, &mut found);
     }
     found
 }

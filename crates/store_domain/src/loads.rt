@@ -2,14 +2,14 @@
 ghost use Rattle.std.specs.Prelude.{◌≡◌, ◌<◌};
 ghost use Rattle.pointer_domain.specs.PointerTables.{IsNearPointer};
 ghost use Rattle.store_domain.specs.RowPositions.{value_at};
-ghost use Rattle.store_domain.specs.Loads.{reaches_class, joined_leaf, load_leaves, load_class_cell, joined_other_leaf, load_other_leaves, read_class_cell, load_other_class_cells, load_padding, load_other_bytes, is_text, determinate_if, load_own, load_others, load_base, read_base_if, load_bases, labels_of, loaded, load};
+ghost use Rattle.store_domain.specs.Loads.{reaches_class, joined_leaf, load_leaves, load_class_cell, joined_other_leaf, load_other_leaves, read_class_cell, load_other_class_cells, load_padding, load_other_bytes, is_text, determinate_if, load_own, load_others, load_base, read_base, read_base_if, load_bases, labels_of, loaded, load};
 
 use crate::access_windows::{Window, window_of};
 use crate::cell_reads::{Access, as_read, byte_read, joined, whole_range};
 use crate::class_numbers::{class_at, class_number, is_pointer, same_class};
 use crate::first_zero_writes::{covering_part, is_determinate_before};
 use crate::leaf_selection::{has_stray, is_other, is_selected, meets_padding};
-use crate::live_bases::is_live_in;
+use crate::live_bases::{has_base, may_be_live};
 use crate::row_positions::{class_position, leaf_position, value_at, zero_at, zero_position};
 use crate::scalar_types::{bytes_of, kind_of};
 use c_layout::{BaseInfo, Class, Leaf, Model};
@@ -83,14 +83,31 @@ fn load_bases<I: IntDomain>(
 {
     let mut found = None;
     for n in 0..bases.len() {
-        let wanted = is_live_in(&bases[n], n, row, set);
-        read_base(model, &bases[n], row, wanted, access, &mut found);
+        read_base(model, &bases[n], n, row, &set, access, &mut found);
     }
     found
 }
 
-/// Joins what was found with what the load gets from a base, if it is wanted.
+/// Joins what was found with what the load gets from the base with this number, if the set has it and
+/// it may be live.
 fn read_base<I: IntDomain>(
+    model: &Model,
+    base: &BaseInfo,
+    number: usize,
+    row: &[Cell<I>],
+    set: &Bases,
+    access: Access,
+    found: &mut Option<Value<I>>,
+)
+    ensures { found.new ≡ read_base I.lattice I.numbers model.now row.now set.now access base.now number found.old }
+{
+    if has_base(*set, number) {
+        read_base_if(model, base, row, may_be_live(base, row), access, found);
+    }
+}
+
+/// Joins what was found with what the load gets from a base, if it is wanted.
+fn read_base_if<I: IntDomain>(
     model: &Model,
     base: &BaseInfo,
     row: &[Cell<I>],

@@ -1,7 +1,7 @@
 use Rattle.std.proofs.Common.{true, ap, ◌∙◌}
 use Rattle.cc_base.specs.Rows.{row_rounded_if}
 use Rattle.row_pool.specs.declared.row_name.Row.{Row}
-use Rattle.row_pool.specs.Pool.{with_mark}
+use Rattle.row_pool.specs.Pool.{with_taken}
 use Rattle.row_pool.specs.PoolLaws.{SameBut-trans}
 use Rattle.fixpoint_engine.proofs.SlotLaws.{copy-new}
 use Rattle.fixpoint_engine.proofs.arrival.new_row.Goals as goal
@@ -10,7 +10,7 @@ pub returns-clause-same_but : goal.returns-clause-same_but
 returns-clause-same_but g c =
     let copied = copy-new c.args.pool.now c.take_row-row.new.pool c.copy.new.self c.mark.new.self.index c.take_row-row.result.index c.args.spare.now.index
     c.take_row-row.ensures.taken (ap (λ (r : Row). r.index) c.mark.ensures) c.take_row-row.ensures.free c.requires.whole c.requires.spare c.copy.ensures in
-    SameBut-trans (with_mark c.args.pool.now c.mark.new.self.index true) c.copy.new.self c.round_if.new.pool c.mark.new.self.index copied.0 c.round_if.ensures.same_but
+    SameBut-trans (with_taken c.args.pool.now c.mark.new.self.index) c.copy.new.self c.round_if.new.pool c.mark.new.self.index copied.0 c.round_if.ensures.same_but
 
 pub returns-clause-row : goal.returns-clause-row
 returns-clause-row g c =

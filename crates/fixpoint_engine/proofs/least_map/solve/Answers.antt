@@ -1,10 +1,12 @@
-use Rattle.std.proofs.Common.{◌≡◌, ◌+◌, ◌≤◌, if◌then◌else◌, count_by, length, ap, subst, arith, ◌∙◌}
+use Rattle.std.proofs.Common.{◌≡◌, ◌+◌, ◌≤◌, if◌then◌else◌, count_by, length, ap, sym, subst, arith, ◌∙◌}
 use Rattle.std.proofs.lemmas.List.{length-replicate}
+use Rattle.cc_base.specs.InductiveMap.{IsInductive}
 use Rattle.row_pool.specs.Pool.{Pool, row_of}
 use Rattle.row_pool.specs.PoolLaws.{free_apart}
 use Rattle.fixpoint_engine.specs.Progress.{potential}
 use Rattle.fixpoint_engine.specs.RowMap.{rows_in, is_vacant, is_held}
 use Rattle.fixpoint_engine.proofs.Advance.{potential-bounded}
+use Rattle.fixpoint_engine.proofs.DiscoveryLaws.{given-rows}
 use Rattle.fixpoint_engine.proofs.SpareLaws.{Changed-trans}
 use Rattle.fixpoint_engine.proofs.StartLaws.{vacant_index, vacant_count, held_count, give-held, ticks_more, ticks_end}
 use Rattle.fixpoint_engine.proofs.least_map.solve.Goals as goal
@@ -23,6 +25,12 @@ loop-preserved g c = record {
       (subst (λ b. potential (g.S.System.machine c.args.system.now) (rows_in c.sweep.new.pool c.sweep.new.map) + (if b then 1 else 0) ≤ potential (g.S.System.machine c.args.system.now) (rows_in c.loop.pool c.loop.map)) c.loop-test.true c.sweep.ensures.falls)
       c.loop.invariant.ticks;
 }
+
+pub returns-clause-inductive : goal.returns-clause-inductive
+returns-clause-inductive g c =
+    subst (IsInductive g.S.Cell.Lattice.lattice (g.S.System.machine c.args.system.now))
+    (sym (ap (λ p. rows_in p c.sweep.new.map) c.give.ensures.free ∙ given-rows c.sweep.new.pool c.take_row-spare.result.index c.sweep.new.map))
+    (c.sweep.ensures.inductive c.loop-test.false)
 
 pub returns-clause-steps : goal.returns-clause-steps
 returns-clause-steps g c =
@@ -61,6 +69,6 @@ returns-clause-others g c = λ s t.
     let second = c.loop.invariant.changed.others s first.0 ne first.2 in
     let third = c.sweep.ensures.changed.others s second.0 ne second.2 in (
       c.give.ensures.others s ne third.0,
-      ap (λ (p : Pool g.row.S-Cell.Denot). row_of p s) c.give.ensures.free ∙ third.1 ∙ second.1 ∙ first.1 ∙ ap (λ (p : Pool g.row.S-Cell.Denot). row_of p s) c.take_row-spare.ensures.taken,
+      ap (λ (p : Pool g.row.S-Cell.Denot). row_of p s) c.give.ensures.free ∙ third.1 ∙ second.1 ∙ first.1 ∙ c.take_row-spare.ensures.kept s t,
       third.2,
     )
