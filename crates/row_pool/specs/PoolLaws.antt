@@ -11,13 +11,6 @@ use Rattle.std.proofs.lemmas.List.Sums.{sum_by-set}
 use Rattle.std.proofs.lemmas.Option.{slice_get_within, get_or_from_slice_get}
 use Rattle.row_pool.specs.Pool.{Pool, row_of, with_row, with_mark, with_taken, IsTaken, IsFree, IsWhole, SameBut}
 
--- each row ends within the cells of all
-pub row_within : (taken : List Bool) (r width : ℕ) (b : Bool) → slice_get taken r ≡ Some b → r * width + width ≤ length taken * width
-row_within taken r width b h =
-    let lt : r < length taken = slice_get_within taken r b h in
-    let le : width * (r + 1) ≤ width * length taken = mul-le-mul_left width (omega arith) in
-    omega (arith, le)
-
 -- a row in use is one of the rows that are stored, where those behind them are free
 pub stored_row : (taken : List Bool) (r stored : ℕ) → drop stored taken ≡ replicate (length taken - stored) false → slice_get taken r ≡ Some true → r < stored
 stored_row taken r stored e h =
@@ -125,20 +118,13 @@ IsTaken-other p r s ne h = grind (arith, common_steps, gets)
 pub IsTaken-same : {V : Type 0} (p : Pool V) (r : ℕ) → IsFree p r → IsTaken (with_taken p r) r
 IsTaken-same p r h = grind (arith, common_steps, gets)
 
--- a mark that is taken off leaves only rows that were in use
-taken_before : (taken : List Bool) (r s : ℕ) → slice_get (slice_set taken r false) s ≡ Some true → slice_get taken s ≡ Some true
-taken_before taken r s h = grind (arith, common_steps, gets)
-
--- a row in use is another one than the one that is taken now, or that one
+-- a row in use that is not the one that is taken now was in use before
 taken_other : (taken : List Bool) (r s : ℕ) → (s ≡ r → ⊥) → slice_get (slice_set taken r true) s ≡ Some true → slice_get taken s ≡ Some true
 taken_other taken r s ne h = grind (arith, common_steps, gets)
 
 -- the cells up to the end of a row that is taken are there
 pub length-with_taken : {V : Type 0} (p : Pool V) (r : ℕ) → length (with_taken p r).cells ≡ length p.cells + (r * p.width + p.width - length p.cells)
 length-with_taken p r = simp (length-append, length-replicate) refl
-
-pub IsWhole-given : {V : Type 0} (p : Pool V) (r : ℕ) → IsWhole p → IsWhole (with_mark p r false)
-IsWhole-given p r whole = λ s t. whole s (taken_before p.taken r s t)
 
 pub IsWhole-taken : {V : Type 0} (p : Pool V) (r : ℕ) → IsWhole p → IsWhole (with_taken p r)
 IsWhole-taken p r whole = λ s t.
