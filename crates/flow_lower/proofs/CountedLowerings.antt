@@ -12,20 +12,18 @@ use Rattle.template_works.specs.Acts.{Step}
 use Rattle.template_works.specs.Pieces.{TemplateView}
 use Rattle.flow_templates.specs.Functions.{IsTemplate}
 use Rattle.flow_counts.specs.declared.count_limits.UnitCounts.{UnitCounts}
-use Rattle.flow_counts.specs.declared.function_counts.BlockExtent.{BlockExtent}
 use Rattle.flow_counts.specs.declared.function_counts.FunctionCounts.{FunctionCounts}
 use Rattle.flow_counts.specs.Extents.{capped, with_call}
 use Rattle.flow_counts.specs.FirstOver.{over, or_else, first_over, pool}
 use Rattle.flow_counts.specs.SizeRefusals.{limit_of}
-use Rattle.flow_counts.specs.PieceCounts.{nothing, counts_of, counted, extent}
-use Rattle.flow_counts.specs.SettledTemplates.{settled}
-use Rattle.flow_counts.specs.Preparations.{Reaches, begun, IsPrepared}
+use Rattle.flow_counts.specs.PieceCounts.{nothing, counts_of, extent}
+use Rattle.flow_counts.specs.Preparations.{begun, IsPrepared}
 use Rattle.template_laws.specs.PieceOrder.{ends_block}
 use Rattle.template_laws.proofs.TemplateOrder.{entry_ends}
 use Rattle.template_laws.proofs.SettledOrder.{settled_ends}
 use Rattle.program_copies.specs.ProgramViews.{BlockView, EdgeView, FlowView}
 use Rattle.flow_lower.specs.Openings.{Made, Opened, is_none, nothing_made, whole, unfinished, head_set, head_if, with_heads, resolved, program}
-use Rattle.flow_lower.specs.Lowerings.{IsLowering, refusal_of}
+use Rattle.flow_lower.specs.Lowerings.{IsLowering}
 use Rattle.flow_lower.specs.AsCounted.{all_instructions, IsAsCounted, IsWithin}
 use Rattle.flow_lower.proofs.WellMadeHeads.{length_heads}
 use Rattle.flow_lower.proofs.PieceExtents.{IsCapped, capped_pieces, ends_empty}

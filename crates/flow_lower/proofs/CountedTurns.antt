@@ -1,7 +1,7 @@
 -- Every turn of an opening adds what was counted of its piece.
-use Rattle.std.proofs.Common.{◌≡◌, ◌≤◌, ℕ, zero, suc, ◌+◌, ◌-◌, ◌^◌, Bool, true, false, cond, min, List, [], ◌∷◌, ◌++◌, length, Option, Some, None, slice_get, refl, arith, ap, sym, subst, ◌∙◌, length-append}
+use Rattle.std.proofs.Common.{◌≡◌, ◌≤◌, ℕ, zero, suc, ◌+◌, ◌-◌, ◌^◌, Bool, true, false, cond, min, List, [], ◌∷◌, ◌++◌, length, Option, Some, None, refl, arith, ap, sym, subst, ◌∙◌, length-append}
 use Rattle.cc_base.specs.declared.diagnostics.Place.{Place}
-use Rattle.c_layout.specs.CheckedUnits.{FunctionView, UnitView}
+use Rattle.c_layout.specs.CheckedUnits.{UnitView}
 use Rattle.flow_program.specs.declared.flow_edges.Side.{Side}
 use Rattle.flow_program.specs.declared.flow_edges.Side.TheVariants as side
 use Rattle.flow_program.specs.declared.flow_edges.Test.{Test}
@@ -87,8 +87,8 @@ one_ready a ss s = let e = length-append ss (s ∷ []) in omega (arith, e)
 extent_ready : (s : Step) (m : Made) → extent_of (o.with_ready s m) ≡ with_instruction (extent_of m)
 extent_ready s m =
     same_extent (extent_of (o.with_ready s m)) (with_instruction (extent_of m)) refl
-        (ap capped (one_ready (all_instructions m.blocks) m.ready s) ∙ sym (capped_left (all_instructions m.blocks + length m.ready) 1))
-        (some_ready m.ready s)
+    (ap capped (one_ready (all_instructions m.blocks) m.ready s) ∙ sym (capped_left (all_instructions m.blocks + length m.ready) 1))
+    (some_ready m.ready s)
 
 all_more : (bs : List BlockView) (b : BlockView) → all_instructions (bs ++ b ∷ []) ≡ all_instructions bs + length b.steps
 all_more [] b = let e : length b.steps + 0 ≡ 0 + length b.steps = omega arith in e
@@ -102,9 +102,9 @@ extent_ended : (first : ℕ) (m : Made) → extent_of (o.ended first m) ≡ clos
 extent_ended first m =
     let b = o.ended_block m.ready first (length m.edges - first) in
     same_extent (extent_of (o.ended first m)) (closed_extent (extent_of m))
-        (ap capped (length-append m.blocks (b ∷ [])) ∙ sym (capped_left (length m.blocks) 1))
-        (ap capped (none_left (all_instructions m.blocks) (length m.ready) (all_instructions (m.blocks ++ b ∷ [])) (all_more m.blocks b)))
-        refl
+    (ap capped (length-append m.blocks (b ∷ [])) ∙ sym (capped_left (length m.blocks) 1))
+    (ap capped (none_left (all_instructions m.blocks) (length m.ready) (all_instructions (m.blocks ++ b ∷ [])) (all_more m.blocks b)))
+    refl
   where
     none_left : (a n k : ℕ) → k ≡ a + n → k + 0 ≡ a + n
     none_left a n k is = omega arith
