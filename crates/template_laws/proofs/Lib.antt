@@ -4,3 +4,5 @@ pub mod PlainConditions
 pub mod PlainStatements
 pub mod TemplateOrder
 pub mod SettledOrder
+pub mod NamedLists
+pub mod NamedWorks
