@@ -6,3 +6,7 @@ pub mod TemplateOrder
 pub mod SettledOrder
 pub mod NamedLists
 pub mod NamedWorks
+pub mod NamedConditions
+pub mod NamedStatements
+pub mod TemplateNames
+pub mod SettledNames
