@@ -86,6 +86,7 @@ pub record IsKnown (u : UnitView) (templates : List (Option TemplateView)) (tabl
   pub followed : AreFollowed template.pieces
   pub counts : FunctionCounts
   pub is_counted : slice_get table n ≡ Some (Some counts)
+  pub made : counts ≡ counts_from u n function plain table
   pub counted : CountsOf table template.pieces counts
 
 counts_of_settled : (u : UnitView) (n : ℕ) (f : FunctionView) (t s : TemplateView) (table : List (Option FunctionCounts)) (c : FunctionCounts) → c ≡ counts_from u n f t table → s ≡ settled table t → CountsOf table s.pieces c
@@ -116,6 +117,7 @@ known u templates table n prepared reached =
       followed = subst (λ r. AreFollowed r.pieces) (sym same) (settled_followed table x.template (template_followed u.structs u.model.pointer u.model.int x.function (n == u.entry) x.template x.is_template.is_template));
       counts = c;
       is_counted = is;
+      made = made;
       counted = counts_of_settled u n x.function x.template s table c made same;
     }
   where

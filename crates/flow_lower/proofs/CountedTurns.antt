@@ -178,9 +178,9 @@ abbrev pub AllReached : UnitView → List CopyView → Type 0
 AllReached u [] = Unit {0}
 AllReached u (c ∷ cs) = AllCalled (Reaches u) c.rest × AllReached u cs
 
-record Turned (u : UnitView) (table : List (Option FunctionCounts)) (e : BlockExtent) (x : Opened) : Type 0 where
-  counted : all_at_end table x ≡ e
-  reached : AllReached u x.stack
+pub record Turned (u : UnitView) (table : List (Option FunctionCounts)) (e : BlockExtent) (x : Opened) : Type 0 where
+  pub counted : all_at_end table x ≡ e
+  pub reached : AllReached u x.stack
 
 turned_back : (u : UnitView) (table : List (Option FunctionCounts)) (q : PieceView) (stack : List CopyView) (p r : Placed) → Adds table q p r → AllCalled (Reaches u) p.within.rest → AllReached u stack → Turned u table (at_end table stack (done_pieces table p.within.used p.within.rest (done_piece table p.within.used q (extent_of p.program)))) (o.back_in stack r)
 turned_back u table q stack p r a calls reached = record {
@@ -210,7 +210,7 @@ turned u ts table (Mark label) c stack m prepared one calls reached =
     turned_back u table (Mark label) stack (placed m c) (o.with_mark label (placed m c)) (record { extent = extent_marked c.at (label + c.labels) m; rest = refl; used = refl }) calls reached
 turned u ts table (Call call) c stack m prepared one calls reached = turned_call u ts table (o.inner call c) (c ∷ stack) m (known u ts table call.function prepared one) (calls, reached)
 
-turned_next : (u : UnitView) (ts : List (Option TemplateView)) (table : List (Option FunctionCounts)) (qs : List PieceView) (c : CopyView) (stack : List CopyView) (m : Made) → IsPrepared u ts table → AllCalled (Reaches u) qs → AllReached u stack
+pub turned_next : (u : UnitView) (ts : List (Option TemplateView)) (table : List (Option FunctionCounts)) (qs : List PieceView) (c : CopyView) (stack : List CopyView) (m : Made) → IsPrepared u ts table → AllCalled (Reaches u) qs → AllReached u stack
     → Turned u table (at_end table stack (done_pieces table c.used qs (extent_of m))) (o.next_piece u ts qs c stack m)
 turned_next u ts table [] c stack m prepared calls reached = record { counted = refl; reached = reached }
 turned_next u ts table (q ∷ qs) c stack m prepared (one, calls) reached = turned u ts table q (o.with_rest qs c) stack m prepared one calls reached

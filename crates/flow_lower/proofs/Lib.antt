@@ -13,3 +13,7 @@ pub mod PieceExtents
 pub mod CountedCalls
 pub mod CountedTurns
 pub mod CountedLowerings
+pub mod NotedSlots
+pub mod WeighedBases
+pub mod WeighedTurns
+pub mod WeighedCalls
