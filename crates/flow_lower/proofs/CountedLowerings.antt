@@ -108,11 +108,11 @@ as_counted u limits f is =
     }
 
 -- no count passes its limit
-first_none : (a b : Option Refusal) → or_else a b ≡ None → a ≡ None
+pub first_none : (a b : Option Refusal) → or_else a b ≡ None → a ≡ None
 first_none None b is = refl
 first_none (Some why) b is = cc
 
-then_none : (a b : Option Refusal) → or_else a b ≡ None → b ≡ None
+pub then_none : (a b : Option Refusal) → or_else a b ≡ None → b ≡ None
 then_none None b is = is
 then_none (Some why) b is = cc
 
@@ -127,7 +127,7 @@ at_most a b is = by_test (leb_tells a b)
     by_test (inl (yes_, le)) = le
     by_test (inr (no_, less)) = cc
 
-within : (limits : Limits) (what : Count) (count : ℕ) → over limits what count ≡ None → count ≤ limit_of what limits
+pub within : (limits : Limits) (what : Count) (count : ℕ) → over limits what count ≡ None → count ≤ limit_of what limits
 within limits what count is = at_most count (limit_of what limits) (not_over (nat_le count (limit_of what limits)) _ is)
 
 record Fits (limits : Limits) (counts : UnitCounts) : Type 0 where

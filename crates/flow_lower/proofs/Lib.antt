@@ -17,3 +17,6 @@ pub mod NotedSlots
 pub mod WeighedBases
 pub mod WeighedTurns
 pub mod WeighedCalls
+pub mod SharedVisits
+pub mod SharedMade
+pub mod CountedBases

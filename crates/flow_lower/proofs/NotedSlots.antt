@@ -39,7 +39,7 @@ abbrev pub after_slot : ℕ → List Bool → List Bool
 after_slot n noted = cond (is_new noted n) (slice_set noted n true) noted
 
 -- one more is noted
-within_set : (a : List Bool) (n : ℕ) → Within a (slice_set a n true)
+pub within_set : (a : List Bool) (n : ℕ) → Within a (slice_set a n true)
 within_set [] n = tt
 within_set (false ∷ as_) zero = within_same as_
 within_set (true ∷ as_) zero = within_same as_
@@ -54,7 +54,7 @@ within_after n a = by_new (is_new a n)
     by_new false = within_same a
 
 -- what is noted is not new
-not_new : (a b : List Bool) (n : ℕ) → Within a b → is_new a n ≡ false → is_new b n ≡ false
+pub not_new : (a b : List Bool) (n : ℕ) → Within a b → is_new a n ≡ false → is_new b n ≡ false
 not_new [] [] n w is = is
 not_new [] (b ∷ bs) n w is = absurd w
 not_new (a ∷ as_) [] n w is = absurd w
@@ -64,7 +64,7 @@ not_new (true ∷ as_) (true ∷ bs) zero w is = refl
 not_new (false ∷ as_) (b ∷ bs) (suc n) w is = not_new as_ bs n w is
 not_new (true ∷ as_) (true ∷ bs) (suc n) w is = not_new as_ bs n w is
 
-set_noted : (a : List Bool) (n : ℕ) → is_new (slice_set a n true) n ≡ false
+pub set_noted : (a : List Bool) (n : ℕ) → is_new (slice_set a n true) n ≡ false
 set_noted [] n = refl
 set_noted (b ∷ bs) zero = refl
 set_noted (b ∷ bs) (suc n) = set_noted bs n
@@ -77,7 +77,7 @@ after_noted n a = by_new (is_new a n) refl
     by_new false is = is
 
 -- a slot that is noted in the greater list may be noted in the smaller one
-set_within : (a b : List Bool) (n : ℕ) → Within a b → is_new b n ≡ false → Within (slice_set a n true) b
+pub set_within : (a b : List Bool) (n : ℕ) → Within a b → is_new b n ≡ false → Within (slice_set a n true) b
 set_within [] [] n w is = tt
 set_within [] (b ∷ bs) n w is = absurd w
 set_within (a ∷ as_) [] n w is = absurd w
@@ -108,7 +108,7 @@ within_weight object k (false ∷ as_) (b ∷ bs) w = let le = within_weight obj
 within_weight object k (true ∷ as_) (true ∷ bs) w = let le = within_weight object (suc k) as_ bs w in omega (arith, le)
 within_weight object k (true ∷ as_) (false ∷ bs) w = absurd w
 
-new_weight : (object : ℕ → ℕ) (k : ℕ) (a : List Bool) (n : ℕ) → is_new a n ≡ true → slots_weight object k (slice_set a n true) ≡ slots_weight object k a + object (k + n)
+pub new_weight : (object : ℕ → ℕ) (k : ℕ) (a : List Bool) (n : ℕ) → is_new a n ≡ true → slots_weight object k (slice_set a n true) ≡ slots_weight object k a + object (k + n)
 new_weight object k [] n is = cc
 new_weight object k (true ∷ bs) zero is = cc
 new_weight object k (false ∷ bs) zero is = let here : k + 0 ≡ k = omega arith in let same = ap object here in omega (arith, same)

@@ -67,7 +67,7 @@ has_base (Some n) = true
 abbrev pub noted : List (Option ℕ) → List Bool
 noted list = map has_base list
 
-abbrev first_of : Option (Option ℕ) → Bool
+abbrev pub first_of : Option (Option ℕ) → Bool
 first_of None = false
 first_of (Some None) = true
 first_of (Some (Some n)) = false

@@ -1,7 +1,3 @@
-use Rattle.flow_lower.proofs.WeighedCalls.{own_within}
-use Rattle.flow_lower.proofs.WeighedTurns.{turn_weight}
-use Rattle.flow_lower.proofs.WeighedBases.{names_base}
-use Rattle.flow_lower.proofs.NotedSlots.{adds_within}
 use Rattle.flow_lower.proofs.CountedLowerings.{as_counted, within_limits}
 use Rattle.flow_lower.proofs.unit_lowering.as_counted.Goals as goal
 
