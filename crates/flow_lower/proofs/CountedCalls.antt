@@ -1,11 +1,11 @@
 -- What is counted of the functions that a unit's entry reaches.
-use Rattle.std.proofs.Common.{◌≡◌, ◌==◌, ℕ, zero, suc, Bool, true, false, cond, List, [], ◌∷◌, ◌++◌, Option, Some, None, slice_get, refl, ap, sym, subst, ◌∙◌}
+use Rattle.std.proofs.Common.{◌≡◌, ◌==◌, ℕ, suc, Bool, true, false, cond, List, [], ◌∷◌, ◌++◌, Option, Some, slice_get, refl, ap, sym, subst, ◌∙◌}
 use Rattle.c_layout.specs.CheckedUnits.{FunctionView, UnitView}
 use Rattle.template_works.specs.Pieces.{PieceView, Do, DoIfUsed, End, Mark, Call, TemplateView}
 use Rattle.flow_counts.specs.declared.function_counts.FunctionCounts.{FunctionCounts}
-use Rattle.flow_counts.specs.PieceCounts.{counts_of, counted, extent, if_used}
+use Rattle.flow_counts.specs.PieceCounts.{extent, if_used}
 use Rattle.flow_counts.specs.SettledTemplates.{NamesView, SettlingView, adds_nothing, renamed, renamed_end, is_last, with_renamed, with_if, with_all, nothing_settled, renaming, settled}
-use Rattle.flow_counts.specs.Preparations.{IsTemplateOf, called, Calls, Reaches, begun, further, is_there, is_counted, are_counted, counts_from, Counts, counts, IsSettled, IsPrepared}
+use Rattle.flow_counts.specs.Preparations.{IsTemplateOf, Calls, Reaches, further, is_there, are_counted, counts_from, counts, IsSettled, IsPrepared}
 use Rattle.flow_counts.proofs.OneCount.{one_count, one_settled}
 use Rattle.template_laws.specs.PieceOrder.{AreFollowed}
 use Rattle.template_laws.proofs.TemplateOrder.{template_followed}
@@ -86,6 +86,7 @@ pub record IsKnown (u : UnitView) (templates : List (Option TemplateView)) (tabl
   pub followed : AreFollowed template.pieces
   pub counts : FunctionCounts
   pub is_counted : slice_get table n ≡ Some (Some counts)
+  pub made : counts ≡ counts_from u n function plain table
   pub counted : CountsOf table template.pieces counts
 
 counts_of_settled : (u : UnitView) (n : ℕ) (f : FunctionView) (t s : TemplateView) (table : List (Option FunctionCounts)) (c : FunctionCounts) → c ≡ counts_from u n f t table → s ≡ settled table t → CountsOf table s.pieces c
@@ -116,6 +117,7 @@ known u templates table n prepared reached =
       followed = subst (λ r. AreFollowed r.pieces) (sym same) (settled_followed table x.template (template_followed u.structs u.model.pointer u.model.int x.function (n == u.entry) x.template x.is_template.is_template));
       counts = c;
       is_counted = is;
+      made = made;
       counted = counts_of_settled u n x.function x.template s table c made same;
     }
   where

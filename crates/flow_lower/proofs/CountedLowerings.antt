@@ -12,20 +12,18 @@ use Rattle.template_works.specs.Acts.{Step}
 use Rattle.template_works.specs.Pieces.{TemplateView}
 use Rattle.flow_templates.specs.Functions.{IsTemplate}
 use Rattle.flow_counts.specs.declared.count_limits.UnitCounts.{UnitCounts}
-use Rattle.flow_counts.specs.declared.function_counts.BlockExtent.{BlockExtent}
 use Rattle.flow_counts.specs.declared.function_counts.FunctionCounts.{FunctionCounts}
 use Rattle.flow_counts.specs.Extents.{capped, with_call}
 use Rattle.flow_counts.specs.FirstOver.{over, or_else, first_over, pool}
 use Rattle.flow_counts.specs.SizeRefusals.{limit_of}
-use Rattle.flow_counts.specs.PieceCounts.{nothing, counts_of, counted, extent}
-use Rattle.flow_counts.specs.SettledTemplates.{settled}
-use Rattle.flow_counts.specs.Preparations.{Reaches, begun, IsPrepared}
+use Rattle.flow_counts.specs.PieceCounts.{nothing, counts_of, extent}
+use Rattle.flow_counts.specs.Preparations.{begun, IsPrepared}
 use Rattle.template_laws.specs.PieceOrder.{ends_block}
 use Rattle.template_laws.proofs.TemplateOrder.{entry_ends}
 use Rattle.template_laws.proofs.SettledOrder.{settled_ends}
 use Rattle.program_copies.specs.ProgramViews.{BlockView, EdgeView, FlowView}
 use Rattle.flow_lower.specs.Openings.{Made, Opened, is_none, nothing_made, whole, unfinished, head_set, head_if, with_heads, resolved, program}
-use Rattle.flow_lower.specs.Lowerings.{IsLowering, refusal_of}
+use Rattle.flow_lower.specs.Lowerings.{IsLowering}
 use Rattle.flow_lower.specs.AsCounted.{all_instructions, IsAsCounted, IsWithin}
 use Rattle.flow_lower.proofs.WellMadeHeads.{length_heads}
 use Rattle.flow_lower.proofs.PieceExtents.{IsCapped, capped_pieces, ends_empty}
@@ -110,11 +108,11 @@ as_counted u limits f is =
     }
 
 -- no count passes its limit
-first_none : (a b : Option Refusal) → or_else a b ≡ None → a ≡ None
+pub first_none : (a b : Option Refusal) → or_else a b ≡ None → a ≡ None
 first_none None b is = refl
 first_none (Some why) b is = cc
 
-then_none : (a b : Option Refusal) → or_else a b ≡ None → b ≡ None
+pub then_none : (a b : Option Refusal) → or_else a b ≡ None → b ≡ None
 then_none None b is = is
 then_none (Some why) b is = cc
 
@@ -129,7 +127,7 @@ at_most a b is = by_test (leb_tells a b)
     by_test (inl (yes_, le)) = le
     by_test (inr (no_, less)) = cc
 
-within : (limits : Limits) (what : Count) (count : ℕ) → over limits what count ≡ None → count ≤ limit_of what limits
+pub within : (limits : Limits) (what : Count) (count : ℕ) → over limits what count ≡ None → count ≤ limit_of what limits
 within limits what count is = at_most count (limit_of what limits) (not_over (nat_le count (limit_of what limits)) _ is)
 
 record Fits (limits : Limits) (counts : UnitCounts) : Type 0 where

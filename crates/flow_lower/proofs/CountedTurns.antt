@@ -1,7 +1,7 @@
 -- Every turn of an opening adds what was counted of its piece.
-use Rattle.std.proofs.Common.{◌≡◌, ◌≤◌, ℕ, zero, suc, ◌+◌, ◌-◌, ◌^◌, Bool, true, false, cond, min, List, [], ◌∷◌, ◌++◌, length, Option, Some, None, slice_get, refl, arith, ap, sym, subst, ◌∙◌, length-append}
+use Rattle.std.proofs.Common.{◌≡◌, ◌≤◌, ℕ, zero, suc, ◌+◌, ◌-◌, ◌^◌, Bool, true, false, cond, min, List, [], ◌∷◌, ◌++◌, length, Option, Some, None, refl, arith, ap, sym, subst, ◌∙◌, length-append}
 use Rattle.cc_base.specs.declared.diagnostics.Place.{Place}
-use Rattle.c_layout.specs.CheckedUnits.{FunctionView, UnitView}
+use Rattle.c_layout.specs.CheckedUnits.{UnitView}
 use Rattle.flow_program.specs.declared.flow_edges.Side.{Side}
 use Rattle.flow_program.specs.declared.flow_edges.Side.TheVariants as side
 use Rattle.flow_program.specs.declared.flow_edges.Test.{Test}
@@ -87,8 +87,8 @@ one_ready a ss s = let e = length-append ss (s ∷ []) in omega (arith, e)
 extent_ready : (s : Step) (m : Made) → extent_of (o.with_ready s m) ≡ with_instruction (extent_of m)
 extent_ready s m =
     same_extent (extent_of (o.with_ready s m)) (with_instruction (extent_of m)) refl
-        (ap capped (one_ready (all_instructions m.blocks) m.ready s) ∙ sym (capped_left (all_instructions m.blocks + length m.ready) 1))
-        (some_ready m.ready s)
+    (ap capped (one_ready (all_instructions m.blocks) m.ready s) ∙ sym (capped_left (all_instructions m.blocks + length m.ready) 1))
+    (some_ready m.ready s)
 
 all_more : (bs : List BlockView) (b : BlockView) → all_instructions (bs ++ b ∷ []) ≡ all_instructions bs + length b.steps
 all_more [] b = let e : length b.steps + 0 ≡ 0 + length b.steps = omega arith in e
@@ -102,9 +102,9 @@ extent_ended : (first : ℕ) (m : Made) → extent_of (o.ended first m) ≡ clos
 extent_ended first m =
     let b = o.ended_block m.ready first (length m.edges - first) in
     same_extent (extent_of (o.ended first m)) (closed_extent (extent_of m))
-        (ap capped (length-append m.blocks (b ∷ [])) ∙ sym (capped_left (length m.blocks) 1))
-        (ap capped (none_left (all_instructions m.blocks) (length m.ready) (all_instructions (m.blocks ++ b ∷ [])) (all_more m.blocks b)))
-        refl
+    (ap capped (length-append m.blocks (b ∷ [])) ∙ sym (capped_left (length m.blocks) 1))
+    (ap capped (none_left (all_instructions m.blocks) (length m.ready) (all_instructions (m.blocks ++ b ∷ [])) (all_more m.blocks b)))
+    refl
   where
     none_left : (a n k : ℕ) → k ≡ a + n → k + 0 ≡ a + n
     none_left a n k is = omega arith
@@ -178,9 +178,9 @@ abbrev pub AllReached : UnitView → List CopyView → Type 0
 AllReached u [] = Unit {0}
 AllReached u (c ∷ cs) = AllCalled (Reaches u) c.rest × AllReached u cs
 
-record Turned (u : UnitView) (table : List (Option FunctionCounts)) (e : BlockExtent) (x : Opened) : Type 0 where
-  counted : all_at_end table x ≡ e
-  reached : AllReached u x.stack
+pub record Turned (u : UnitView) (table : List (Option FunctionCounts)) (e : BlockExtent) (x : Opened) : Type 0 where
+  pub counted : all_at_end table x ≡ e
+  pub reached : AllReached u x.stack
 
 turned_back : (u : UnitView) (table : List (Option FunctionCounts)) (q : PieceView) (stack : List CopyView) (p r : Placed) → Adds table q p r → AllCalled (Reaches u) p.within.rest → AllReached u stack → Turned u table (at_end table stack (done_pieces table p.within.used p.within.rest (done_piece table p.within.used q (extent_of p.program)))) (o.back_in stack r)
 turned_back u table q stack p r a calls reached = record {
@@ -210,7 +210,7 @@ turned u ts table (Mark label) c stack m prepared one calls reached =
     turned_back u table (Mark label) stack (placed m c) (o.with_mark label (placed m c)) (record { extent = extent_marked c.at (label + c.labels) m; rest = refl; used = refl }) calls reached
 turned u ts table (Call call) c stack m prepared one calls reached = turned_call u ts table (o.inner call c) (c ∷ stack) m (known u ts table call.function prepared one) (calls, reached)
 
-turned_next : (u : UnitView) (ts : List (Option TemplateView)) (table : List (Option FunctionCounts)) (qs : List PieceView) (c : CopyView) (stack : List CopyView) (m : Made) → IsPrepared u ts table → AllCalled (Reaches u) qs → AllReached u stack
+pub turned_next : (u : UnitView) (ts : List (Option TemplateView)) (table : List (Option FunctionCounts)) (qs : List PieceView) (c : CopyView) (stack : List CopyView) (m : Made) → IsPrepared u ts table → AllCalled (Reaches u) qs → AllReached u stack
     → Turned u table (at_end table stack (done_pieces table c.used qs (extent_of m))) (o.next_piece u ts qs c stack m)
 turned_next u ts table [] c stack m prepared calls reached = record { counted = refl; reached = reached }
 turned_next u ts table (q ∷ qs) c stack m prepared (one, calls) reached = turned u ts table q (o.with_rest qs c) stack m prepared one calls reached

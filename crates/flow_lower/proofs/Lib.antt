@@ -13,3 +13,10 @@ pub mod PieceExtents
 pub mod CountedCalls
 pub mod CountedTurns
 pub mod CountedLowerings
+pub mod NotedSlots
+pub mod WeighedBases
+pub mod WeighedTurns
+pub mod WeighedCalls
+pub mod SharedVisits
+pub mod SharedMade
+pub mod CountedBases

@@ -74,9 +74,9 @@ joined_mark a b = ap (λ e. cond b.is_empty (joined a b) e) (joined_end a b) ∙
 joined_call : (c : FunctionCounts) (used : Bool) (a b : BlockExtent) → with_call (joined a b) c used ≡ joined a (with_call b c used)
 joined_call c used a b =
     same_extent (with_call (joined a b) c used) (joined a (with_call b c used))
-        (capped_in a.blocks b.blocks (added_by c b.is_empty).blocks)
-        (capped_in a.instructions b.instructions (capped ((added_by c b.is_empty).instructions + cond used c.if_used 0)))
-        refl
+    (capped_in a.blocks b.blocks (added_by c b.is_empty).blocks)
+    (capped_in a.instructions b.instructions (capped ((added_by c b.is_empty).instructions + cond used c.if_used 0)))
+    refl
 
 joined_piece : (table : List (Option FunctionCounts)) (p : PieceView) (a b : BlockExtent) → with_piece table p (joined a b) ≡ joined a (with_piece table p b)
 joined_piece table (Do s) a b = joined_instruction a b
@@ -110,8 +110,8 @@ more_piece table (Mark label) n e = ap (λ x. cond e.is_empty (with_more n e) x)
 more_piece table (Call c) n e =
     let k = counted table c.function in
     same_extent (with_call (with_more n e) k c.used) (with_more n (with_call e k c.used)) refl
-        (capped_out e.instructions n (capped ((added_by k e.is_empty).instructions + cond c.used k.if_used 0)))
-        refl
+    (capped_out e.instructions n (capped ((added_by k e.is_empty).instructions + cond c.used k.if_used 0)))
+    refl
 
 more_pieces : (table : List (Option FunctionCounts)) (ps : List PieceView) (n : ℕ) (e : BlockExtent) → with_pieces table ps (with_more n e) ≡ with_more n (with_pieces table ps e)
 more_pieces table [] n e = refl
@@ -224,18 +224,18 @@ done_call table ps c true e of followed is =
     used_pieces table ps e followed is
     ∙ ap (with_more (used_steps ps)) (from_nothing table ps e is)
     ∙ same_extent (with_more (used_steps ps) (joined e x)) (with_call e c true)
-        (ap (λ y. capped (e.blocks + y.blocks)) a)
-        (last_sum (10 ^ 18) e.instructions x.instructions (used_steps ps) ∙ ap (λ k. capped (e.instructions + capped (x.instructions + k))) (sym (used_count c ps of.if_used)) ∙ ap (λ y. capped (e.instructions + capped (y.instructions + c.if_used))) a)
-        (ap (λ y. y.is_empty) a)
+    (ap (λ y. capped (e.blocks + y.blocks)) a)
+    (last_sum (10 ^ 18) e.instructions x.instructions (used_steps ps) ∙ ap (λ k. capped (e.instructions + capped (x.instructions + k))) (sym (used_count c ps of.if_used)) ∙ ap (λ y. capped (e.instructions + capped (y.instructions + c.if_used))) a)
+    (ap (λ y. y.is_empty) a)
 done_call table ps c false e of followed is =
     let x = extent table ps e.is_empty in
     let a = sym (added table ps c e.is_empty of) in
     unused_pieces table ps e
     ∙ from_nothing table ps e is
     ∙ same_extent (joined e x) (with_call e c false)
-        (ap (λ y. capped (e.blocks + y.blocks)) a)
-        (no_more (10 ^ 18) e.instructions x.instructions ∙ ap (λ y. capped (e.instructions + capped (y.instructions + 0))) a)
-        (ap (λ y. y.is_empty) a)
+    (ap (λ y. capped (e.blocks + y.blocks)) a)
+    (no_more (10 ^ 18) e.instructions x.instructions ∙ ap (λ y. capped (e.instructions + capped (y.instructions + 0))) a)
+    (ap (λ y. y.is_empty) a)
   where
     no_more : (m a b : ℕ) → min (a + b) m ≡ min (a + min (b + 0) m) m
     no_more m a b = omega arith

@@ -42,9 +42,10 @@ added_stands what size s b p = record {
   all = ap (λ n. n + width_of s) p.all ∙ ap (λ n. all_values b.bases + n) (same_width s.heap (length s.cells) (length s.zeros)) ∙ sym (values_more b.bases (info what size b.width s));
 }
 
-local_stands : (u : UnitView) (f : FunctionView) (slot : ℕ) (locals : List (Option ℕ)) (b : TableView) (o : Option ℕ) → Stand b → Stand (local_or u f slot locals b o).after
-local_stands u f slot locals b (Some n) p = p
-local_stands u f slot locals b None p = added_stands _ _ _ b p
+local_stands : (u : UnitView) (f : FunctionView) (slot : ℕ) (locals : List (Option ℕ)) (b : TableView) (o : Option (Option ℕ)) → Stand b → Stand (local_or u f slot locals b o).after
+local_stands u f slot locals b None p = p
+local_stands u f slot locals b (Some (Some n)) p = p
+local_stands u f slot locals b (Some None) p = added_stands _ _ _ b p
 
 literal_made_stands : (u : UnitView) (n : ℕ) (b : TableView) (l : Option LiteralView) → Stand b → Stand (literal_made u n b l)
 literal_made_stands u n b None p = p
@@ -72,8 +73,8 @@ all_stand u (suc n) [] b p = p
 all_stand u (suc n) (x ∷ xs) b p = all_stand u n (brought u x b ++ xs) (with_shared u x b) (shared_stands u x b p)
 
 pub named_stands : (u : UnitView) (f : FunctionView) (n : NameView) (locals : List (Option ℕ)) (b : TableView) → Stand b → Stand (base u f n locals b).after
-named_stands u f (Local n) locals b p = local_stands u f n locals b (known locals n) p
-named_stands u f Outcome locals b p = local_stands u f (length f.locals) locals b (known locals (length f.locals)) p
+named_stands u f (Local n) locals b p = local_stands u f n locals b (slice_get locals n) p
+named_stands u f Outcome locals b p = local_stands u f (length f.locals) locals b (slice_get locals (length f.locals)) p
 named_stands u f (Static n) locals b p = all_stand u (2 ^ 64 - 1) (shared.Object n ∷ []) b p
 named_stands u f (Literal n) locals b p = all_stand u (2 ^ 64 - 1) (shared.Literal n ∷ []) b p
 named_stands u f (Allocation target) locals b p =

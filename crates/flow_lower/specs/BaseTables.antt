@@ -61,13 +61,15 @@ pub record Named : Type 0 where
 abbrev pub named : ℕ → TableView → List (Option ℕ) → Named
 named n b locals = record { number = n; after = b; locals = locals }
 
--- a local object, or the result behind them, has a base from its first naming on
-abbrev pub local_or : UnitView → FunctionView → ℕ → List (Option ℕ) → TableView → Option ℕ → Named
-local_or u f slot locals b (Some n) = named n b locals
-local_or u f slot locals b None = named (length b.bases) (object_added u kind.Automatic (local_type f slot) b) (slice_set locals slot (Some (length b.bases)))
+-- a local object, or the result behind them, has a base from its first naming on; what is not there has
+-- none
+abbrev pub local_or : UnitView → FunctionView → ℕ → List (Option ℕ) → TableView → Option (Option ℕ) → Named
+local_or u f slot locals b None = named 0 b locals
+local_or u f slot locals b (Some (Some n)) = named n b locals
+local_or u f slot locals b (Some None) = named (length b.bases) (object_added u kind.Automatic (local_type f slot) b) (slice_set locals slot (Some (length b.bases)))
 
 abbrev pub local : UnitView → FunctionView → ℕ → List (Option ℕ) → TableView → Named
-local u f slot locals b = local_or u f slot locals b (known locals slot)
+local u f slot locals b = local_or u f slot locals b (slice_get locals slot)
 
 abbrev pub object_noted : ℕ → ℕ → TableView → TableView
 object_noted n base b = record { bases = b.bases; width = b.width; objects = slice_set b.objects n (Some base); literals = b.literals }

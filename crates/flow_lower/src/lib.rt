@@ -7,4 +7,4 @@ mod opened_program;
 mod program_bases;
 mod unit_lowering;
 
-pub use unit_lowering::{as_counted, lower, one_lowering, well_made};
+pub use unit_lowering::{as_counted, lower, no_more_bases, one_lowering, well_made};

@@ -43,6 +43,16 @@ fn width_of(shape: &Shape) -> Result<u32, AllocError>
     u32::try_from(all).ok().ok_or(AllocError)
 }
 
+/// Which base a local object has.
+fn slot_at(list: &[Option<u32>], slot: usize) -> Result<Option<u32>, AllocError>
+    ensures { IfOk result (λ o. slice_get list.now slot ≡ Some o) }
+{
+    match list.get(slot) {
+        Some(found) => Ok(*found),
+        None => Err(AllocError),
+    }
+}
+
 /// The base that a table of made bases has for an object, if it is made already.
 pub fn known(list: &[Option<u32>], number: usize) -> Option<u32>
     ensures { result ≡ spec.known list.now number }
@@ -121,7 +131,7 @@ impl BaseTable {
     ) -> Result<u32, AllocError>
         ensures { IfOk result (λ n. named n (table self.new) locals.new.items ≡ spec.local (unit_view unit.now) (function_view function.now) slot locals.old.items (table self.old)) }
     {
-        match known(locals.as_slice(), slot) {
+        match slot_at(locals.as_slice(), slot)? {
             Some(base) => Ok(base),
             None => {
                 let t = local_type(function, slot);

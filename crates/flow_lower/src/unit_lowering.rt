@@ -1,5 +1,5 @@
 //! Lowering: from a checked unit to its control-flow program.
-ghost use Rattle.std.specs.Prelude.{◌≡◌, ◌≤◌, ◌+◌, IfErr, IfOk, Some, slice_get, true};
+ghost use Rattle.std.specs.Prelude.{◌≡◌, ◌≤◌, ◌<◌, ◌+◌, ◌^◌, IfErr, IfOk, Some, slice_get, true};
 ghost use Rattle.c_layout.specs.declared.checked_tree.checked_units.Function.{Function};
 ghost use Rattle.c_layout.specs.Types.{view};
 ghost use Rattle.cc_base.specs.declared.limit_table.Limits.{Limits};
@@ -13,7 +13,7 @@ ghost use Rattle.flow_lower.specs.Openings.{program_view};
 ghost use Rattle.flow_lower.specs.Lowerings as spec;
 ghost use Rattle.flow_lower.specs.Lowerings.{AreUnitCounts, IsLowering, IsRefusal, Refuses};
 ghost use Rattle.flow_lower.specs.WellMade.{IsWellMade};
-ghost use Rattle.flow_lower.specs.AsCounted.{IsAsCounted, IsWithin};
+ghost use Rattle.flow_lower.specs.AsCounted.{IsAsCounted, IsWithin, HasNoMore, HasFew, all_mentions};
 
 use crate::initial_objects::initial_objects;
 use crate::opened_program::{OpenedProgram, opened};
@@ -165,4 +165,11 @@ pub fn well_made()
 pub fn as_counted()
     ensures counts { (u : UnitView) (limits : Limits) (f : FlowView) (is : IsLowering u limits f) → IsAsCounted is.counts f }
     ensures within { (u : UnitView) (limits : Limits) (f : FlowView) (is : IsLowering u limits f) → IsWithin limits is.counts f }
+{}
+
+/// A program has no more bases and cells than were counted, where templates and initializers name less
+/// than 2^64 things, and for cells where each type has as many leaves as were recorded.
+pub fn no_more_bases()
+    ensures counts { (u : UnitView) (limits : Limits) (f : FlowView) (is : IsLowering u limits f) → all_mentions u is.templates < 2 ^ 64 → HasNoMore u is.counts f }
+    ensures within { (u : UnitView) (limits : Limits) (f : FlowView) (is : IsLowering u limits f) → all_mentions u is.templates < 2 ^ 64 → HasFew u limits f }
 {}

@@ -4,3 +4,9 @@ pub mod PlainConditions
 pub mod PlainStatements
 pub mod TemplateOrder
 pub mod SettledOrder
+pub mod NamedLists
+pub mod NamedWorks
+pub mod NamedConditions
+pub mod NamedStatements
+pub mod TemplateNames
+pub mod SettledNames

@@ -1,1 +1,2 @@
 pub mod PieceOrder
+pub mod NamedBases

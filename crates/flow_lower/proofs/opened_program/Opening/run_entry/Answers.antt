@@ -15,5 +15,5 @@ returns-in_ok-run_all-in-Some c =
     let is_stack = ap (λ xs. reverse (map copy_view xs)) c.in-Some.ensures.items ∙ top_view copy_view c.pop.new.self.items c.in-Some.copy in
     let pushed = ap (λ xs. reverse (map copy_view xs)) c.in_ok-push-in-Some.ensures.items ∙ top_view copy_view c.pop.new.self.items c.name_parameters.new.copy in
     let opened = run_from u ts (opening c.args.self.now) (copy_view c.in-Some.copy) rest p _ is_stack c.in_ok-name_parameters-in-Some.ensures
-      (c.in_ok-run_all-in-Some.ensures.run ∙ run_at u ts (2 ^ 64 - 1) (reverse (map copy_view c.push.new.self.items)) (p.within ∷ rest) p.program pushed) in
+    (c.in_ok-run_all-in-Some.ensures.run ∙ run_at u ts (2 ^ 64 - 1) (reverse (map copy_view c.push.new.self.items)) (p.within ∷ rest) p.program pushed) in
     record { opened = opened; ends = c.in_ok-run_all-in-Some.ensures.ends }
