@@ -8,6 +8,7 @@ pub mod WellMadeBases
 pub mod WellMadeEdges
 pub mod WellMadeHeads
 pub mod WellMadeRuns
+pub mod EdgesLead
 mod OpeningRows
 pub mod PieceExtents
 pub mod CountedCalls

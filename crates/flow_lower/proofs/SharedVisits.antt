@@ -129,12 +129,14 @@ visiting_on u roots x xs s v = record {
   where
     old : (y : StaticBase) (w : Visiting u roots s (y ∷ xs)) (m : ℕ) → slice_get s.objects m ≡ Some true → AllOf (Met (visited u y s) (brought u y s ++ xs)) (pointed_from (slice_get u.objects m))
     old y w m is = all_more (Met s (y ∷ xs)) (Met (visited u y s) (brought u y s ++ xs)) (pointed_from (slice_get u.objects m)) (met_on u y xs s) (w.named_met m is)
+
     fresh : (n m : ℕ) → m ≡ n → is_new s.objects n ≡ true → AllOf (Met (visited u (shared.Object n) s) (brought u (shared.Object n) s ++ xs)) (pointed_from (slice_get u.objects m))
     fresh n m same new =
         let named = pointed_from (slice_get u.objects n) in
         let now = Met (visited u (shared.Object n) s) (brought u (shared.Object n) s ++ xs) in
         let is_brought : brought u (shared.Object n) s ≡ reverse named = ap (λ b. cond b (reverse named) []) new in
         subst (λ k. AllOf now (pointed_from (slice_get u.objects k))) (sym same) (all_from now named (λ y is. inr (in_left y (brought u (shared.Object n) s) xs (subst (In y) (sym is_brought) (in_reverse y named is)))))
+
     of_object : (n : ℕ) (w : Visiting u roots s (shared.Object n ∷ xs)) (m : ℕ) (b : Bool) → is_new s.objects n ≡ b → slice_get (cond b (object_counted u n s) s).objects m ≡ Some true → AllOf (Met (visited u (shared.Object n) s) (brought u (shared.Object n) s ++ xs)) (pointed_from (slice_get u.objects m))
     of_object n w m true new is = by_case (noted_set s.objects n m is)
       where
@@ -142,9 +144,11 @@ visiting_on u roots x xs s v = record {
         by_case (inl same) = fresh n m same new
         by_case (inr there) = old (shared.Object n) w m there
     of_object n w m false new is = old (shared.Object n) w m is
+
     of_literal : (n : ℕ) (w : Visiting u roots s (shared.Literal n ∷ xs)) (m : ℕ) (b : Bool) → is_new s.literals n ≡ b → slice_get (cond b (literal_counted u n s) s).objects m ≡ Some true → AllOf (Met (visited u (shared.Literal n) s) (brought u (shared.Literal n) s ++ xs)) (pointed_from (slice_get u.objects m))
     of_literal n w m true new is = old (shared.Literal n) w m is
     of_literal n w m false new is = old (shared.Literal n) w m is
+
     named : (y : StaticBase) (w : Visiting u roots s (y ∷ xs)) (m : ℕ) → slice_get (visited u y s).objects m ≡ Some true → AllOf (Met (visited u y s) (brought u y s ++ xs)) (pointed_from (slice_get u.objects m))
     named (shared.Object n) w m is = of_object n w m (is_new s.objects n) refl is
     named (shared.Literal n) w m is = of_literal n w m (is_new s.literals n) refl is

@@ -105,8 +105,7 @@ module _ (u : UnitView) (w : Weights u) where
       (nothing_more _ _ (ap (λ k. cond k (object_of f slot) 0) old), sym (ap (λ k. cond k (slice_set (noted locals) slot true) (noted locals)) old))
   names_slot f slot locals b (Some None) is =
       let new = new_at locals slot ∙ ap first_of is in
-      let t = local_type f slot in
-      (
+      let t = local_type f slot in (
         own_more w.info b.bases _ ∙ ap (λ k. own_weight w.info b.bases + k) (w.weighs_object kind.Automatic (size_of_type u.structs u.model.pointer t) b.width t ∙ sym (ap (λ k. cond k (object_of f slot) 0) new)),
         noted_set locals slot (length b.bases) ∙ sym (ap (λ k. cond k (slice_set (noted locals) slot true) (noted locals)) new),
       )

@@ -266,8 +266,8 @@ module _ (u : UnitView) (w : Weights u) where
       let made = known_count ts table c.function k in
       let le = copied_weight table c (length m.labels) (named_parameters u c.function k.function) k.function k.template (known_named ts table c.function k) in
       subst (λ r. capped (whole_weight u w table (o.with_call u ts c stack m)) ≤ r) is
-          (subst (λ x. capped (whole_weight u w table x) ≤ capped (own_weight w.info m.bases.bases + (w.pick (bases_of (counted table c.function)) + copies_weight u w table stack))) (sym (entered ts table c stack m k))
-              (less (10 ^ 18) _ _ _ _ _ le made))
+      (subst (λ x. capped (whole_weight u w table x) ≤ capped (own_weight w.info m.bases.bases + (w.pick (bases_of (counted table c.function)) + copies_weight u w table stack))) (sym (entered ts table c stack m k))
+      (less (10 ^ 18) _ _ _ _ _ le made))
     where
       less : (m b r y p s : ℕ) → r ≤ y → p ≡ min y m → min (b + (r + s)) m ≤ min (b + (p + s)) m
       less m b r y p s le is = omega arith

@@ -235,7 +235,7 @@ module _ (u : UnitView) (w : Weights u) where
       let later = all_done_named p.within.used p.within.rest in
       let add = adds_all (object_of u w f) w.site (length f.locals) in
       let all : add (names_at names (ns ++ later)) (noted p.within.locals) ≡ add (names_at names ns) (noted p.within.locals) + add (names_at names later) (after_all (length f.locals) (names_at names ns) (noted p.within.locals)) =
-          ap (λ xs. add xs (noted p.within.locals)) (names_append names ns later) ∙ adds_append (object_of u w f) w.site (length f.locals) (names_at names ns) (names_at names later) (noted p.within.locals) in
+      ap (λ xs. add xs (noted p.within.locals)) (names_append names ns later) ∙ adds_append (object_of u w f) w.site (length f.locals) (names_at names ns) (names_at names later) (noted p.within.locals) in
       sum _ _ _ _ _ _ _ _ n.own (copy_after table f names (names_at names ns) p q n) all
     where
       sum : (q p x c y k s t : ℕ) → q ≡ p + x → c ≡ y + k → t ≡ x + y → q + (c + s) ≡ p + ((t + k) + s)

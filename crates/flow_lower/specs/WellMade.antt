@@ -29,6 +29,11 @@ head_at [] n = false
 head_at (b ∷ bs) zero = b.is_head
 head_at (b ∷ bs) (suc n) = head_at bs n
 
+-- each edge leads to one of so many blocks
+abbrev pub AllLead : ℕ → List EdgeView → Type 0
+AllLead count [] = Unit {0}
+AllLead count (e ∷ es) = (e.to < count) × AllLead count es
+
 -- bases follow each other in a row, and the temporaries stand behind them; edges are numbered by the
 -- blocks that they leave; a block is a head exactly where an edge from the same or a later block enters it
 pub record IsWellMade (f : FlowView) : Type 0 where

@@ -1,5 +1,5 @@
 //! Lowering: from a checked unit to its control-flow program.
-ghost use Rattle.std.specs.Prelude.{◌≡◌, ◌≤◌, ◌<◌, ◌+◌, ◌^◌, IfErr, IfOk, Some, slice_get, true};
+ghost use Rattle.std.specs.Prelude.{◌≡◌, ◌≤◌, ◌<◌, ◌+◌, ◌^◌, IfErr, IfOk, Some, length, slice_get, true};
 ghost use Rattle.c_layout.specs.declared.checked_tree.checked_units.Function.{Function};
 ghost use Rattle.c_layout.specs.Types.{view};
 ghost use Rattle.cc_base.specs.declared.limit_table.Limits.{Limits};
@@ -12,7 +12,7 @@ ghost use Rattle.program_copies.specs.ProgramViews.{FlowView, flow_view};
 ghost use Rattle.flow_lower.specs.Openings.{program_view};
 ghost use Rattle.flow_lower.specs.Lowerings as spec;
 ghost use Rattle.flow_lower.specs.Lowerings.{AreUnitCounts, IsLowering, IsRefusal, Refuses};
-ghost use Rattle.flow_lower.specs.WellMade.{IsWellMade};
+ghost use Rattle.flow_lower.specs.WellMade.{IsWellMade, AllLead};
 ghost use Rattle.flow_lower.specs.AsCounted.{IsAsCounted, IsWithin, HasNoMore, HasFew, all_mentions};
 
 use crate::initial_objects::initial_objects;
@@ -156,9 +156,10 @@ pub fn one_lowering()
     ensures apart { (u : UnitView) (limits : Limits) (f : FlowView) (g : Fault) → IsLowering u limits f → IsRefusal u limits g → ⊥ }
 {}
 
-/// What lowering makes is well formed in its bases, in the numbers of its edges and in its heads.
+/// What lowering makes is well formed in its bases, in its edges and in its heads.
 pub fn well_made()
-    ensures { (u : UnitView) (limits : Limits) (f : FlowView) → IsLowering u limits f → IsWellMade f }
+    ensures made { (u : UnitView) (limits : Limits) (f : FlowView) → IsLowering u limits f → IsWellMade f }
+    ensures lead { (u : UnitView) (limits : Limits) (f : FlowView) → IsLowering u limits f → AllLead (length f.blocks) f.edges }
 {}
 
 /// A program has just the blocks and the instructions that were counted before it was made.
