@@ -2,6 +2,7 @@ pub mod Stacks
 pub mod Heads
 pub mod SharedTurns
 pub mod OpeningTurns
+pub mod ExitTurns
 pub mod Lowered
 pub mod OneLowering
 pub mod WellMadeBases
