@@ -1,12 +1,14 @@
 -- The life of objects: entered, left, made indeterminate and cleared.
-use Rattle.std.specs.Prelude.{ℕ, pos, cond, nat_lt, Option, Some, None, List, map, slice_get}
+use Rattle.std.specs.Prelude.{◌≡◌, ℕ, Bool, true, false, pos, cond, nat_lt, ◌&&◌, Option, Some, None, List, map, slice_get, refl}
+use Rattle.std.proofs.Common.{ap}
 use Rattle.cc_base.specs.Lattices.{LatticeOf}
 use Rattle.cc_base.specs.IntegerDomains.{IntegersOf}
 use Rattle.c_layout.specs.declared.leaf_lists.Class.{Class}
 use Rattle.c_layout.specs.declared.leaf_lists.Leaf.{Leaf}
 use Rattle.c_layout.specs.declared.shapes.BaseInfo.{BaseInfo}
 use Rattle.pointer_domain.specs.declared.pointer_sets.Pointers.{Pointers}
-use Rattle.pointer_domain.specs.PointerTables.{ended_at}
+use Rattle.pointer_domain.specs.BaseSets.{bases_has}
+use Rattle.pointer_domain.specs.PointerTables.{ended_at, if_any_base}
 use Rattle.string_domain.specs.FirstZeros.{zero_lattice}
 use Rattle.value_domain.specs.declared.values.Value as values
 use Rattle.value_domain.specs.declared.row_cells.Cell.{Cell}
@@ -19,7 +21,7 @@ use Rattle.store_domain.specs.RowPositions.{leaf_position, value_count, put_valu
 use Rattle.store_domain.specs.ClassNumbers.{is_pointer}
 use Rattle.store_domain.specs.ByteWrites.{null_pointer}
 use Rattle.store_domain.specs.FirstZeroWrites.{set_zeros, no_zero, zero_first}
-use Rattle.store_domain.specs.LiveBases.{most_bases}
+use Rattle.store_domain.specs.LiveBases.{most_bases, has_base}
 
 module _ {I : Type 0} where
   abbrev pub set_cell : BaseInfo → values.Value I → ℕ → List (Cell I) → List (Cell I)
@@ -68,6 +70,27 @@ module _ {I : Type 0} where
   ended_cell l number (First f) = First f
   ended_cell l number (State s) = State s
   ended_cell l number Mixed = Mixed
+
+  -- whether the pointers of a cell may point into a base
+  abbrev pub holds_base : ℕ → Cell I → Bool
+  holds_base number Nothing = false
+  holds_base number (Value v) = has_base v.pointer.bases number
+  holds_base number (First f) = false
+  holds_base number (State s) = false
+  holds_base number Mixed = false
+
+  elsewhere : (p q : Pointers I) (a b : Bool) → (a && b) ≡ false → cond a (cond b q p) p ≡ p
+  elsewhere p q false b is = refl
+  elsewhere p q true false is = refl
+  elsewhere p q true true is = cc
+
+  -- a cell with no pointer into the base stays as it is
+  pub ended_elsewhere : (l : LatticeOf I) (number : ℕ) (c : Cell I) → holds_base number c ≡ false → ended_cell l number c ≡ c
+  ended_elsewhere l number Nothing is = refl
+  ended_elsewhere l number (Value v) is = ap (λ p. Value (record v { pointer = p })) (elsewhere v.pointer _ (nat_lt number most_bases) (bases_has v.pointer.bases number) is)
+  ended_elsewhere l number (First f) is = refl
+  ended_elsewhere l number (State s) is = refl
+  ended_elsewhere l number Mixed is = refl
 
   -- nothing is in the cells of the base, and the pointers into it have ended
   unfoldable pub leave_object : LatticeOf I → ℕ → BaseInfo → List (Cell I) → List (Cell I)

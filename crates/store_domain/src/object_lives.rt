@@ -1,11 +1,11 @@
 //! The life of objects: entered, left, made indeterminate and cleared.
 ghost use Rattle.std.specs.Prelude.{◌≡◌, length, map};
-ghost use Rattle.store_domain.specs.ObjectLives.{set_values, blank_object, forget, zero_value, clear_leaves, clear_object, clear, ended_pointer, ended_cell, leave_object, leave};
+ghost use Rattle.store_domain.specs.ObjectLives.{set_values, blank_object, forget, zero_value, clear_leaves, clear_object, clear, ended_pointer, ended_cell, holds_base, leave_object, leave};
 
 use crate::byte_writes::null_pointer;
 use crate::class_numbers::is_pointer;
 use crate::first_zero_writes::{no_zero, set_zeros, zero_first};
-use crate::live_bases::MOST_BASES;
+use crate::live_bases::{MOST_BASES, has_base};
 use crate::row_positions::{leaf_position, put_value, value_count};
 use c_layout::{BaseInfo, Class};
 use cc_base::{IntDomain, Lattice};
@@ -123,12 +123,32 @@ fn ended_pointer<I: IntDomain>(p: Pointers<I>, base: u32) -> Pointers<I>
     }
 }
 
+/// Whether the pointers of a cell may point into a base.
+fn holds_base<I: IntDomain>(cell: &Cell<I>, base: u32) -> bool
+    ensures { result ≡ holds_base base cell.now }
+{
+    match cell {
+        Cell::Value(v) => has_base(v.pointer.bases, base as usize),
+        Cell::Nothing | Cell::First(_) | Cell::State(_) | Cell::Mixed => false,
+    }
+}
+
+/// Ends the pointers of a cell into a base. Few cells have any, and the others are not written.
+#[tactic(auto, using(crate::specs::ObjectLives::ended_elsewhere))]
+fn end_in_place<I: IntDomain>(cell: &mut Cell<I>, base: u32)
+    ensures { cell.new ≡ ended_cell I.lattice base cell.old }
+{
+    if holds_base(cell, base) {
+        *cell = ended_cell(*cell, base);
+    }
+}
+
 fn end_pointers<I: IntDomain>(row: &mut [Cell<I>], base: u32)
     ensures length { length row.new ≡ length row.old }
     ensures row { row.new ≡ map (ended_cell I.lattice base) row.old }
 {
     for at in 0..row.len() {
-        row[at] = ended_cell(row[at], base);
+        end_in_place(&mut row[at], base);
     }
 }
 
