@@ -1,32 +1,29 @@
 -- A program that is lowered has no more bases and cells than were counted.
-use Rattle.std.proofs.Common.{◌≡◌, ◌≤◌, ◌<◌, ℕ, ◌+◌, ◌-◌, ◌^◌, true, false, cond, min, List, [], ◌∷◌, length, reverse, Option, None, refl, arith, ap, sym, subst, ◌∙◌}
+use Rattle.std.proofs.Common.{◌≡◌, ◌≤◌, ◌<◌, ℕ, ◌+◌, ◌-◌, ◌^◌, cond, min, List, [], ◌∷◌, length, reverse, None, refl, arith, ap, sym, subst, ◌∙◌}
 use Rattle.cc_base.specs.declared.limit_table.Count.TheVariants.{Temps, Bases, Cells, Blocks, Instructions, Pool}
 use Rattle.cc_base.specs.declared.limit_table.Limits.{Limits}
-use Rattle.c_layout.specs.Types.{Ty}
 use Rattle.c_layout.specs.StructLayouts.{leaf_count}
-use Rattle.c_layout.specs.Leaves.{leaves_of}
 use Rattle.c_layout.specs.CheckedUnits.{UnitView}
 use Rattle.c_layout.specs.declared.shapes.BaseInfo.{BaseInfo}
 use Rattle.c_layout.specs.declared.shapes.BaseKind.{BaseKind}
 use Rattle.c_layout.specs.declared.shapes.BaseKind.TheVariants as kind
 use Rattle.base_shapes.specs.HeapBases.{heap_leaves}
 use Rattle.flow_program.specs.WellFormed.{base_cells, all_cells}
-use Rattle.template_works.specs.Pieces.{TemplateView}
 use Rattle.flow_counts.specs.declared.count_limits.UnitCounts.{UnitCounts}
 use Rattle.flow_counts.specs.Extents.{capped}
 use Rattle.flow_counts.specs.BaseCounts.{bases_of}
-use Rattle.flow_counts.specs.FirstOver.{over, or_else, first_over, unit_counts, pool}
-use Rattle.flow_counts.specs.PieceCounts.{counts_of, counted}
+use Rattle.flow_counts.specs.FirstOver.{over, or_else, first_over, pool}
+use Rattle.flow_counts.specs.PieceCounts.{counts_of}
 use Rattle.flow_counts.specs.SharedObjects.{all_bases, all_visited, none_visited, shared_bases}
 use Rattle.program_copies.specs.ProgramViews.{FlowView}
 use Rattle.flow_lower.specs.Openings.{whole, program}
-use Rattle.flow_lower.specs.Lowerings.{IsLowering, refusal_of}
+use Rattle.flow_lower.specs.Lowerings.{IsLowering}
 use Rattle.flow_lower.specs.AsCounted.{all_mentions, AreRecorded, HasNoMore, HasFew}
 use Rattle.flow_lower.proofs.PieceExtents.{capped_left, capped_right}
 use Rattle.flow_lower.proofs.CountedLowerings.{first_none, then_none, within}
 use Rattle.flow_lower.proofs.WeighedBases.{Weights, is_own, own_weight, shared_weight}
 use Rattle.flow_lower.proofs.WeighedCalls.{own_within}
-use Rattle.flow_lower.proofs.SharedVisits.{noted_weight, all_counted, all_seen}
+use Rattle.flow_lower.proofs.SharedVisits.{all_counted, all_seen}
 use Rattle.flow_lower.proofs.SharedMade.{shared_within}
 
 -- each base as one

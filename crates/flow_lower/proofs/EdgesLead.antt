@@ -1,5 +1,5 @@
 -- Every edge of a program that is lowered leads to one of its blocks.
-use Rattle.std.proofs.Common.{◌≡◌, ◌==◌, ◌≤◌, ◌<◌, ℕ, zero, suc, ◌+◌, ◌-◌, ◌^◌, Bool, true, false, cond, List, [], ◌∷◌, ◌++◌, length, replicate, get_or, Option, Some, None, refl, arith, ap, sym, subst, ◌∙◌, length-append}
+use Rattle.std.proofs.Common.{◌≡◌, ◌==◌, ◌≤◌, ◌<◌, ℕ, zero, suc, ◌+◌, ◌-◌, ◌^◌, Bool, true, false, List, [], ◌∷◌, ◌++◌, length, replicate, get_or, Option, Some, None, refl, arith, ap, sym, subst, ◌∙◌, length-append}
 use Rattle.std.specs.List.{slice_get, slice_set}
 use Rattle.std.proofs.lemmas.Bool.{eq-eqb}
 use Rattle.cc_base.specs.declared.diagnostics.Place.{Place}
@@ -12,7 +12,7 @@ use Rattle.template_works.specs.Acts.{Act, Jump, Step}
 use Rattle.template_works.specs.Pieces.{Way, Always, When, Case, Other, NoLine, Line, ExitView, PieceView, Do, DoIfUsed, End, Mark, Call, TemplateView}
 use Rattle.template_works.specs.declared.template_pieces.OwnCall.{OwnCall}
 use Rattle.flow_counts.specs.declared.function_counts.FunctionCounts.{FunctionCounts}
-use Rattle.flow_counts.specs.Preparations.{Reaches, begun, IsPrepared}
+use Rattle.flow_counts.specs.Preparations.{begun, IsPrepared}
 use Rattle.flow_templates.specs.Functions.{IsTemplate}
 use Rattle.template_laws.specs.PieceOrder.{is_end, last_ends, ends_block}
 use Rattle.template_laws.proofs.TemplateOrder.{entry_ends}

@@ -1,9 +1,9 @@
 -- Local objects that are noted, each once, and what their bases weigh.
-use Rattle.std.proofs.Common.{◌≡◌, ◌≤◌, ◌<◌, ℕ, zero, suc, ◌+◌, Bool, true, false, not, cond, List, [], ◌∷◌, ◌++◌, length, Option, Some, None, refl, arith, ap, sym, subst, ◌∙◌}
+use Rattle.std.proofs.Common.{◌≡◌, ◌≤◌, ℕ, zero, suc, ◌+◌, Bool, true, false, cond, List, [], ◌∷◌, ◌++◌, Option, Some, refl, arith, ap, subst}
 use Rattle.std.specs.List.{slice_get, slice_set}
 use Rattle.c_layout.specs.Types.{Ty}
 use Rattle.template_works.specs.Pieces.{NameView, Local, Outcome, Static, Literal, Allocation}
-use Rattle.flow_counts.specs.BaseCounts.{is_first, is_new}
+use Rattle.flow_counts.specs.BaseCounts.{is_new}
 use Rattle.template_laws.specs.NamedBases.{site_weight, all_sites}
 
 -- what is noted in one list is so in the other

@@ -14,6 +14,7 @@ use Rattle.flow_counts.specs.Preparations.{IsPrepared}
 use Rattle.flow_counts.proofs.OneCount.{one_count, one_settled}
 use Rattle.flow_lower.specs.Openings.{program}
 use Rattle.program_copies.specs.ProgramViews.{FlowView}
+use Rattle.flow_lower.specs.AsCounted.{HasJust}
 use Rattle.flow_lower.specs.Lowerings.{lowered, refusal_of, IsCounted, IsLowering, IsRefusal}
 
 -- the same entries up to empty ones: where one list has one, so has the other
@@ -64,6 +65,12 @@ one_counting u f g ts ss c d a b =
       templates = same;
       counts = x.are_counts ∙ ap (λ e. unit_counts e (shared_bases u ts)) one ∙ ap (λ rs. unit_counts y.entry (shared_bases u rs)) same ∙ sym y.are_counts;
     }
+
+-- what is counted of a program in any way is counted of it in each
+pub just_counted : (u : UnitView) (limits : Limits) (f : FlowView) (entry : FunctionView) (templates : List (Option TemplateView)) (counts : UnitCounts)
+    → IsCounted u entry templates counts → HasJust counts f → (is : IsLowering u limits f) → HasJust is.counts f
+just_counted u limits f entry templates counts counted just is =
+    subst (λ c. HasJust c f) ((one_counting u entry is.entry templates is.templates counts is.counts counted is.is_counted).counts) just
 
 pub one_program : (u : UnitView) (limits : Limits) (f g : FlowView) → IsLowering u limits f → IsLowering u limits g → f ≡ g
 one_program u limits f g a b =

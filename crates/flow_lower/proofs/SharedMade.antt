@@ -1,8 +1,7 @@
 -- The bases of objects of static storage and of literals that a program has were all counted.
-use Rattle.std.proofs.Common.{◌≡◌, ◌≤◌, ◌<◌, ℕ, zero, suc, ◌+◌, ◌-◌, ◌^◌, Bool, true, false, cond, min, List, [], ◌∷◌, ◌++◌, length, map, reverse, replicate, Option, Some, None, refl, arith, ap, sym, subst, ◌∙◌}
-use Rattle.std.specs.List.{slice_get, slice_set}
+use Rattle.std.proofs.Common.{◌≡◌, ◌≤◌, ℕ, zero, suc, ◌+◌, ◌-◌, ◌^◌, Bool, true, false, cond, List, [], ◌∷◌, ◌++◌, length, replicate, Option, Some, None, refl, arith, ap, sym, subst, ◌∙◌}
+use Rattle.std.specs.List.{slice_get}
 use Rattle.cc_base.specs.declared.diagnostics.Place.{Place}
-use Rattle.c_layout.specs.Types.{Ty}
 use Rattle.c_layout.specs.Layout.{size_of_type}
 use Rattle.c_layout.specs.CheckedUnits.{FunctionView, StaticView, LiteralView, UnitView}
 use Rattle.c_layout.specs.declared.checked_tree.checked_units.StaticBase.{StaticBase}
@@ -13,12 +12,9 @@ use Rattle.base_shapes.specs.HeapBases.{heap_shape}
 use Rattle.flow_program.specs.declared.flow_edges.Side.{Side}
 use Rattle.flow_program.specs.declared.flow_edges.Side.TheVariants as side
 use Rattle.flow_program.specs.declared.flow_edges.Test.{Test}
-use Rattle.template_works.specs.Acts.{Act, Step}
 use Rattle.template_works.specs.Pieces.{NameView, Local, Outcome, Static, Literal, Allocation, Way, Always, When, Case, Other, NoLine, Line, ExitView, PieceView, Do, DoIfUsed, End, Mark, Call, TemplateView}
 use Rattle.template_works.specs.declared.template_pieces.OwnCall.{OwnCall}
-use Rattle.flow_counts.specs.Extents.{capped}
-use Rattle.flow_counts.specs.BaseCounts.{is_new}
-use Rattle.flow_counts.specs.SharedObjects.{literal_type, Sharing, pointed_from, name_base, bases_named, template_bases, all_bases}
+use Rattle.flow_counts.specs.SharedObjects.{literal_type, Sharing, bases_named, template_bases, all_bases}
 use Rattle.flow_lower.specs.MovedActs.{own_base}
 use Rattle.flow_lower.specs.BaseTables as bases
 use Rattle.flow_lower.specs.BaseTables.{TableView, info, added, found_in, known, local_or, literal_made, literal_or, object_made, object_or, with_shared, brought, with_all, base}
@@ -26,7 +22,7 @@ use Rattle.flow_lower.specs.Openings as o
 use Rattle.flow_lower.specs.Openings.{Made, CopyView, Placed, Opened, placed, is_none, name_at, joined, template_at}
 use Rattle.flow_lower.proofs.WellMadeEdges.{cond_keeps}
 use Rattle.flow_lower.proofs.NotedSlots.{Within, set_within, slots_weight, new_weight, within_weight}
-use Rattle.flow_lower.proofs.WeighedBases.{Weights, is_own, shared_weight, shared_more, has_base, noted, first_of, new_at, noted_set}
+use Rattle.flow_lower.proofs.WeighedBases.{Weights, is_own, shared_weight, shared_more, noted, first_of, new_at, noted_set}
 use Rattle.flow_lower.proofs.SharedVisits.{AllOf, Seen, all_append, object_weight, literal_weight, noted_weight, object_type_weight, literal_type_weight, past_none, IsVisited}
 
 within_length : (a b : List Bool) → Within a b → length a ≡ length b

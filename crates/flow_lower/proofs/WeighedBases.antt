@@ -1,6 +1,6 @@
 -- What the bases weigh that a name makes: those of a copy's own objects and of allocations, and those
 -- that copies share.
-use Rattle.std.proofs.Common.{◌≡◌, ◌≤◌, ℕ, zero, suc, ◌+◌, ◌-◌, ◌^◌, Bool, true, false, not, cond, List, [], ◌∷◌, ◌++◌, length, map, Option, Some, None, refl, arith, ap, sym, subst, ◌∙◌, append_assoc}
+use Rattle.std.proofs.Common.{◌≡◌, ℕ, zero, suc, ◌+◌, ◌-◌, ◌^◌, Bool, true, false, cond, List, [], ◌∷◌, ◌++◌, length, map, Option, Some, None, refl, arith, ap, sym, ◌∙◌}
 use Rattle.std.specs.List.{slice_get, slice_set}
 use Rattle.c_layout.specs.Types.{Ty}
 use Rattle.c_layout.specs.Layout.{size_of_type}
@@ -10,15 +10,14 @@ use Rattle.c_layout.specs.declared.checked_tree.checked_units.StaticBase.TheVari
 use Rattle.c_layout.specs.declared.shapes.BaseInfo.{BaseInfo}
 use Rattle.c_layout.specs.declared.shapes.BaseKind.{BaseKind}
 use Rattle.c_layout.specs.declared.shapes.BaseKind.TheVariants as kind
-use Rattle.c_layout.specs.declared.shapes.Shape.{Shape}
 use Rattle.base_shapes.specs.HeapBases.{heap_shape}
 use Rattle.base_shapes.specs.FirstZeros.{object_shape}
 use Rattle.template_works.specs.Pieces.{NameView, Local, Outcome, Static, Literal, Allocation}
 use Rattle.flow_templates.specs.Functions.{local_type}
 use Rattle.flow_counts.specs.declared.object_counts.BaseCount.{BaseCount}
 use Rattle.flow_counts.specs.Extents.{capped}
-use Rattle.flow_counts.specs.BaseCounts.{is_first, is_new, no_bases, both, object_base, allocation_bases}
-use Rattle.flow_lower.specs.BaseTables.{TableView, info, added, object_added, Named, local_or, known, literal_made, literal_or, object_made, object_or, with_shared, brought, with_all, base}
+use Rattle.flow_counts.specs.BaseCounts.{is_new, no_bases, both, object_base, allocation_bases}
+use Rattle.flow_lower.specs.BaseTables.{TableView, info, added, Named, local_or, known, literal_made, literal_or, object_made, object_or, with_shared, brought, with_all, base}
 use Rattle.flow_lower.proofs.NotedSlots.{after_slot, adds_slot, adds, after}
 
 -- how bases are weighed: each as one, or by its cells; and how their counts are

@@ -1,6 +1,6 @@
 -- No copy makes more bases than were counted.
-use Rattle.std.proofs.Common.{◌≡◌, ◌==◌, ◌≤◌, ◌<◌, ℕ, zero, suc, ◌+◌, ◌-◌, ◌^◌, Bool, true, false, cond, min, List, [], ◌∷◌, ◌++◌, length, map, replicate, get_or, Option, Some, None, refl, arith, ap, sym, subst, ◌∙◌}
-use Rattle.std.specs.List.{slice_get, slice_set}
+use Rattle.std.proofs.Common.{◌≡◌, ◌==◌, ◌≤◌, ◌<◌, ℕ, zero, suc, ◌+◌, ◌-◌, ◌^◌, Bool, true, false, cond, min, List, [], ◌∷◌, ◌++◌, length, replicate, Option, None, refl, arith, ap, sym, subst, ◌∙◌}
+use Rattle.std.specs.List.{slice_set}
 use Rattle.std.proofs.lemmas.Bool.{eq-eqb}
 use Rattle.cc_base.specs.declared.diagnostics.Place.{Place}
 use Rattle.c_layout.specs.Types.{Ty}
@@ -12,10 +12,9 @@ use Rattle.flow_counts.specs.declared.function_counts.FunctionCounts.{FunctionCo
 use Rattle.flow_counts.specs.declared.object_counts.BaseCount.{BaseCount}
 use Rattle.flow_counts.specs.Extents.{capped}
 use Rattle.flow_counts.specs.PieceCounts.{counts_of, counted}
-use Rattle.flow_counts.specs.BaseCounts.{Tally, is_new, both, no_bases, object_base, allocation_bases, with_more, with_noted, with_slot, with_name, with_slots, with_names, no_tally, own_bases, bases_of, called_bases, inner_bases}
-use Rattle.flow_counts.specs.SettledTemplates.{settled}
-use Rattle.flow_counts.specs.Preparations.{named_parameters, counts_from, Reaches, begun, IsPrepared}
-use Rattle.template_laws.specs.NamedBases.{named_by, named_on_exits, named_in, named_in_all, AllBelow, site_weight, all_sites, sites_named, AreNamed}
+use Rattle.flow_counts.specs.BaseCounts.{Tally, is_new, both, no_bases, object_base, allocation_bases, with_more, with_noted, with_slot, with_name, with_slots, with_names, no_tally, own_bases, bases_of, inner_bases}
+use Rattle.flow_counts.specs.Preparations.{named_parameters, Reaches, begun, IsPrepared}
+use Rattle.template_laws.specs.NamedBases.{named_in, named_in_all, AllBelow, site_weight, all_sites, sites_named, AreNamed}
 use Rattle.template_laws.proofs.NamedLists.{below_append, below_left, below_right, sites_append, named_append}
 use Rattle.template_laws.proofs.TemplateNames.{template_named}
 use Rattle.template_laws.proofs.SettledNames.{settled_named}
@@ -23,9 +22,9 @@ use Rattle.flow_lower.specs.Openings as o
 use Rattle.flow_lower.specs.Openings.{Made, CopyView, Placed, Opened, placed, opened, name_at}
 use Rattle.flow_lower.proofs.PieceExtents.{capped_left, capped_right}
 use Rattle.flow_lower.proofs.CountedCalls.{AllCalled, IsKnown, known}
-use Rattle.flow_lower.proofs.CountedTurns.{AllReached, Turned, turned_next}
+use Rattle.flow_lower.proofs.CountedTurns.{AllReached, turned_next}
 use Rattle.flow_lower.proofs.NotedSlots.{after_slot, adds_slot, adds, after, adds_all, after_all, adds_append, after_append, Has, AllHad, adds_within}
-use Rattle.flow_lower.proofs.WeighedBases.{Weights, own_weight, has_base, noted, object_of}
+use Rattle.flow_lower.proofs.WeighedBases.{Weights, own_weight, noted, object_of}
 use Rattle.flow_lower.proofs.WeighedTurns.{names_at, done_named, all_done_named, IsOf, Naming, none_named, both_named, one_named, calls_weight, rest_weight, copy_weight, copies_weight, whole_weight, copy_after, turn_weight}
 
 -- the parameters, by their numbers

@@ -1,7 +1,5 @@
 -- Every turn of an opening makes the bases that its piece names.
-use Rattle.std.proofs.Common.{◌≡◌, ◌≤◌, ℕ, zero, suc, ◌+◌, ◌-◌, ◌^◌, Bool, true, false, cond, min, List, [], ◌∷◌, ◌++◌, length, map, replicate, Option, Some, None, refl, arith, ap, sym, subst, ◌∙◌, append_assoc}
-use Rattle.std.specs.List.{slice_get}
-use Rattle.std.proofs.lemmas.List.{append-nil}
+use Rattle.std.proofs.Common.{◌≡◌, ℕ, ◌+◌, Bool, true, false, cond, List, [], ◌∷◌, ◌++◌, length, Option, Some, None, refl, arith, ap, sym, subst, ◌∙◌}
 use Rattle.cc_base.specs.declared.diagnostics.Place.{Place}
 use Rattle.c_layout.specs.CheckedUnits.{FunctionView, UnitView}
 use Rattle.flow_program.specs.declared.flow_edges.Side.{Side}
@@ -9,21 +7,18 @@ use Rattle.flow_program.specs.declared.flow_edges.Side.TheVariants as side
 use Rattle.flow_program.specs.declared.flow_edges.Test.{Test}
 use Rattle.template_works.specs.Acts as acts
 use Rattle.template_works.specs.Acts.{Act, Step}
-use Rattle.template_works.specs.Pieces.{NameView, Local, Way, Always, When, Case, Other, NoLine, Line, ExitView, PieceView, Do, DoIfUsed, End, Mark, Call, TemplateView}
-use Rattle.template_works.specs.declared.template_pieces.OwnCall.{OwnCall}
+use Rattle.template_works.specs.Pieces.{NameView, Way, Always, When, Case, Other, NoLine, Line, ExitView, PieceView, Do, DoIfUsed, End, Mark, Call, TemplateView}
 use Rattle.flow_counts.specs.declared.function_counts.FunctionCounts.{FunctionCounts}
-use Rattle.flow_counts.specs.Extents.{capped}
 use Rattle.flow_counts.specs.PieceCounts.{counted}
 use Rattle.flow_counts.specs.BaseCounts.{bases_of}
-use Rattle.flow_counts.specs.Preparations.{Reaches, IsPrepared}
 use Rattle.template_laws.specs.NamedBases.{maybe, named_by, named_in_side, named_in_test, named_on_way, named_on_exits}
 use Rattle.flow_lower.specs.MovedActs.{own_base}
 use Rattle.flow_lower.specs.BaseTables.{base}
 use Rattle.flow_lower.specs.Openings as o
 use Rattle.flow_lower.specs.Openings.{Made, CopyView, Placed, Opened, placed, opened, name_at, is_none}
-use Rattle.flow_lower.proofs.CountedCalls.{CalledIs, AllCalled}
-use Rattle.flow_lower.proofs.NotedSlots.{adds, after, adds_all, after_all, adds_append, after_append}
-use Rattle.flow_lower.proofs.WeighedBases.{Weights, own_weight, noted, object_of, Names, names_base}
+use Rattle.flow_lower.proofs.CountedCalls.{CalledIs}
+use Rattle.flow_lower.proofs.NotedSlots.{adds_all, after_all, adds_append, after_append}
+use Rattle.flow_lower.proofs.WeighedBases.{Weights, own_weight, noted, object_of, names_base}
 
 abbrev pub names_at : List NameView → List ℕ → List NameView
 names_at names [] = []

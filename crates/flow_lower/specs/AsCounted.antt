@@ -26,6 +26,11 @@ pub record IsWithin (limits : Limits) (counts : UnitCounts) (f : FlowView) : Typ
   pub blocks : limits.blocks < 10 ^ 18 → (length f.blocks ≡ counts.blocks) × (length f.blocks ≤ limits.blocks)
   pub instructions : limits.instructions < 10 ^ 18 → (all_instructions f.blocks ≡ counts.instructions) × (all_instructions f.blocks ≤ limits.instructions)
 
+-- a program has just the bases and the cells that were counted
+pub record HasJust (counts : UnitCounts) (f : FlowView) : Type 0 where
+  pub bases : length f.bases ≡ counts.bases
+  pub cells : all_cells f.bases ≡ counts.cells
+
 -- the stores of all initializers
 abbrev pub all_stores : List StaticView → ℕ
 all_stores [] = 0

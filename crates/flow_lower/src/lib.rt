@@ -1,6 +1,7 @@
 //! Lowering of a checked unit to its control-flow program.
 #![tactic(auto)]
 
+mod counted_bases;
 mod initial_objects;
 mod moved_operations;
 mod opened_program;

@@ -13,8 +13,9 @@ ghost use Rattle.flow_lower.specs.Openings.{program_view};
 ghost use Rattle.flow_lower.specs.Lowerings as spec;
 ghost use Rattle.flow_lower.specs.Lowerings.{AreUnitCounts, IsLowering, IsRefusal, Refuses};
 ghost use Rattle.flow_lower.specs.WellMade.{IsWellMade, AllLead};
-ghost use Rattle.flow_lower.specs.AsCounted.{IsAsCounted, IsWithin, HasNoMore, HasFew, all_mentions};
+ghost use Rattle.flow_lower.specs.AsCounted.{IsAsCounted, IsWithin, HasJust, HasNoMore, HasFew, all_mentions};
 
+use crate::counted_bases::with_counted_bases;
 use crate::initial_objects::initial_objects;
 use crate::opened_program::{OpenedProgram, opened};
 use c_layout::{CType, Checked, Function};
@@ -126,14 +127,15 @@ fn counted(alloc: Global, unit: &Checked, found: &PreparedUnit) -> Result<UnitCo
 /// The control-flow program of a checked unit: the entry with every call of a function of the unit put
 /// in at its place. It is refused where a count passes its limit; the counts are made first, from the
 /// functions that are called up to the entry, so that nothing is made of a unit that is too large. What
-/// is made is looked at before it is given away: a program that is not well formed would come to want
-/// of memory.
+/// is made is looked at before it is given away: a program that is not well formed, or that has other
+/// bases or cells than were counted, would come to want of memory.
 pub fn lower(alloc: Global, unit: &Checked, limits: &Limits) -> Result<Flow, Stop>
     ensures model { IfOk result (λ f. f.model ≡ unit.now.model) }
     ensures entry { IfOk result (λ f. (e : Function) → slice_get unit.now.functions.items unit.now.entry ≡ Some e → f.entry ≡ e.place) }
     ensures temps { IfOk result (λ f. f.temps ≤ limits.now.temps) }
     ensures well_formed { IfOk result (λ f. is_well_formed limits.now f ≡ true) }
     ensures lowering { IfOk result (λ f. IsLowering (unit_view unit.now) limits.now (flow_view f)) }
+    ensures counted { IfOk result (λ f. (is : IsLowering (unit_view unit.now) limits.now (flow_view f)) → HasJust is.counts (flow_view f)) }
     ensures refusal { IfErr result (λ s. Refuses (unit_view unit.now) limits.now s) }
     ensures cause { IfErr result (λ s. (e : Function) → slice_get unit.now.functions.items unit.now.entry ≡ Some e → IsTooLarge limits.now e.place s) }
 {
@@ -146,6 +148,7 @@ pub fn lower(alloc: Global, unit: &Checked, limits: &Limits) -> Result<Flow, Sto
     let values = pool_values(counts.blocks, width as u64);
     within(entry.place, Count::Pool, values, limits)?;
     let made = flow(alloc, unit, entry, made, counts)?;
+    let made = with_counted_bases(made, counts)?;
     Ok(well_formed(alloc, made, limits)?)
 }
 

@@ -16,4 +16,5 @@ mod sample_program;
 mod value_ranges;
 mod well_formed_flows;
 
+pub use base_tables::all_cells;
 pub use well_formed_flows::{is_well_formed, well_formed};

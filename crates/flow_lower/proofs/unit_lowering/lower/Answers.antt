@@ -1,0 +1,20 @@
+use Rattle.std.proofs.Common.{sym, subst}
+use Rattle.c_layout.specs.CheckedUnits.{function_view, unit_view}
+use Rattle.flow_counts.specs.Preparations.{templates_view}
+use Rattle.program_copies.specs.ProgramViews.{flow_view}
+use Rattle.flow_lower.specs.AsCounted.{HasJust}
+use Rattle.flow_lower.specs.Lowerings.{IsCounted}
+use Rattle.flow_lower.proofs.OneLowering.{just_counted}
+use Rattle.flow_lower.proofs.unit_lowering.lower.Goals as goal
+
+pub returns-clause-counted : goal.returns-clause-counted
+returns-clause-counted c =
+    let is_counted : IsCounted (unit_view c.args.unit.now) (function_view c.in_ok-entry.entry.now) (templates_view c.in_ok-found.found.templates.items) c.in_ok-counts.counts =
+    record {
+      table = c.in_ok-found.found.counts.items;
+      is_entry = c.in_ok-entry.ensures.found;
+      is_prepared = c.in_ok-found.ensures;
+      are_counts = c.in_ok-counts.ensures;
+    } in
+    let just = subst (λ f. HasJust c.in_ok-counts.counts (flow_view f)) (sym c.in_ok-well_formed.ensures.same) c.in_ok-made-3.ensures.counted in
+    just_counted (unit_view c.args.unit.now) c.args.limits.now (flow_view c.in_ok-well_formed.field-0) (function_view c.in_ok-entry.entry.now) (templates_view c.in_ok-found.found.templates.items) c.in_ok-counts.counts is_counted just
