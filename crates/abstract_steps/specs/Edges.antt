@@ -21,10 +21,10 @@ use Rattle.value_domain.specs.declared.row_cells.Cell.{Cell}
 use Rattle.value_domain.specs.LabelSets.{no_labels}
 use Rattle.value_domain.specs.ValueTables.{number_value, pointer_value, value_truth}
 use Rattle.store_domain.specs.ByteWrites.{null_pointer}
-use Rattle.access_checks.specs.Temporaries.{temp_value, put_temp}
+use Rattle.abstract_steps_checks.specs.Temporaries.{temp_value, put_temp}
 use Rattle.abstract_steps.specs.declared.branch_edges.LineCall.{LineCall}
 use Rattle.abstract_steps.specs.Refinements.{refine, refine_case}
-use Rattle.instruction_steps.specs.CallSteps.{write_line}
+use Rattle.abstract_steps_instructions.specs.CallSteps.{write_line}
 
 -- ---- the instruction that ends a block
 

@@ -37,7 +37,7 @@ use Rattle.store_domain.specs.FirstZeroWrites.{set_zeros}
 use Rattle.store_domain.specs.ObjectLives.{clear}
 use Rattle.store_domain.specs.Spelling.{spell}
 use Rattle.store_domain.specs.Stores.{store}
-use Rattle.value_steps.specs.Scalars.{class_of_kind}
+use Rattle.abstract_steps_values.specs.Scalars.{class_of_kind}
 
 -- ---- objects of static storage, and literals
 

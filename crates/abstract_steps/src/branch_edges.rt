@@ -4,10 +4,10 @@ ghost use Rattle.std.specs.Option.{option_copied};
 ghost use Rattle.abstract_steps.specs.Edges.{last_instruction, deciding_operand, deciding_temp, truth_can_be, can_be, put_kept, refine_if, behind_test, branch_edge, switched, includes, refine_object, case_edge, has_label, is_other_than, line_of, line_call, no_line_edge, line_edge, follow, edge};
 
 use crate::refinements::{refine, refine_case};
-use access_checks::{put_temp, temp_value};
+use abstract_steps_checks::{put_temp, temp_value};
+use abstract_steps_instructions::write_line;
 use cc_base::{IntDomain, Tri};
 use flow_program::{CaseTest, Edge, EdgeKind, Flow, Instruction, Operation, Test};
-use instruction_steps::write_line;
 use store_domain::null_pointer;
 use value_domain::{Cell, Labels, Value};
 

@@ -6,12 +6,12 @@ ghost use Rattle.value_domain.specs.Values.{value_lattice};
 ghost use Rattle.store_domain.specs.NearValues.{near_value};
 ghost use Rattle.abstract_steps.specs.Refinements.{object_position, number_side, side_value, mirrored, fits, refined_number, refined_labels, refined, met_number, common_labels, met, put_at, put_side, is_object, is_same_object, has_number, refine_one, refine_two, refine_sides, refine_values, refine_integers, only_null, not_null, tested_pointer, tested_value, refine_pointer, if_null, named_by, refine_named, refine, labelled_number, with_number, put_case, refine_value, refine_case_at, refine_case};
 
+use abstract_steps_values::is_sized;
 use cc_base::{IntDomain, IntType, Lattice, Rel, of_range, range_met};
 use flow_program::{Flow, Side, Test};
 use pointer_domain::{Bases, Pointers};
 use store_domain::{leaf_position, near_value, put_value, value_at};
 use value_domain::{Cell, Labels, Value, range_fits};
-use value_steps::is_sized;
 
 /// The position of the scalar at the start of a base.
 fn object_position(flow: &Flow, base: u32) -> Option<usize>

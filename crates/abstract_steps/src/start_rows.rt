@@ -2,6 +2,7 @@
 ghost use Rattle.std.specs.Prelude.{◌≡◌, true, false, Some, None, length, map};
 ghost use Rattle.abstract_steps.specs.StartRows.{no_value, empty_state, empty_base, empty_bases, empty_row, same_object, base_in, with_size, pointer_into, static_pointer, static_value, static_class, reached_row, store_static, start_store, store_behind, start_stores, start_value, start_object, object_behind, start_objects, put_parameter, start_parameter, start_parameters, start_row};
 
+use abstract_steps_values::{class_of_kind, is_sized};
 use c_layout::{BaseInfo, Class, StaticBase, StaticStore, StaticValue};
 use cc_base::{IntDomain, Lattice};
 use flow_program::{Flow, InitialObject, InitialValue, ParameterInput};
@@ -12,7 +13,6 @@ use store_domain::{
 };
 use string_domain::FirstZero;
 use value_domain::{AllocState, Cell, Labels, Value};
-use value_steps::{class_of_kind, is_sized};
 
 /// The cell with nothing in it.
 fn no_value<I: IntDomain>(_cell: Cell<I>) -> Cell<I>

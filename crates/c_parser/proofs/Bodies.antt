@@ -3,13 +3,13 @@ use Rattle.std.proofs.Common.{◌≡◌, ℕ, ◌+◌, ◌≤◌, Bool, true, fa
 use Rattle.cc_base.specs.declared.diagnostics.Place.{Place}
 use Rattle.c_layout.specs.SyntaxTrees.{Tree}
 use Rattle.c_layout.specs.DeclarationTrees.{NameView, LocalView, ForFirstView, StatementTree, statement_trees, Declaration, Label, Case, Default, Block, If, IfElse, Switch, While, Do, For}
-use Rattle.token_classes.specs.declared.terminals.Terminal.{Terminal}
-use Rattle.token_classes.specs.declared.terminals.Keyword.TheVariants as k
-use Rattle.token_classes.specs.declared.terminals.Punctuator.TheVariants as p
-use Rattle.expression_grammar.specs.Expressions.{height_of}
-use Rattle.expression_grammar.specs.Findings.{Found}
-use Rattle.expression_grammar.specs.Fronts.{first_symbol, first_place, IsSign, IsWord, IsName}
-use Rattle.declaration_grammar.specs.Findings.{FoundLocal}
+use Rattle.c_parser_tokens.specs.declared.terminals.Terminal.{Terminal}
+use Rattle.c_parser_tokens.specs.declared.terminals.Keyword.TheVariants as k
+use Rattle.c_parser_tokens.specs.declared.terminals.Punctuator.TheVariants as p
+use Rattle.c_parser_expressions.specs.Expressions.{height_of}
+use Rattle.c_parser_expressions.specs.Findings.{Found}
+use Rattle.c_parser_expressions.specs.Fronts.{first_symbol, first_place, IsSign, IsWord, IsName}
+use Rattle.c_parser_declarations.specs.Findings.{FoundLocal}
 use Rattle.c_parser.proofs.Jumps.{shut}
 use Rattle.c_parser.specs.Findings.{FoundCondition, FoundMaybe, FoundFirst, FoundStatement, FoundItem, FoundItems, FoundBraced, FoundBlock, is_else}
 use Rattle.c_parser.specs.Statements.{is_statement, is_open, DeriveStatement, DeriveStatements, statement_height, statements_height, maybe_height, first_height}

@@ -2,15 +2,15 @@
 use Rattle.std.proofs.Common.{◌≡◌, ℕ, ◌+◌, ◌≤◌, Bool, true, false, List, [], ◌∷◌, ◌++◌, max, refl, sym, subst, ap, ◌∙◌, arith}
 use Rattle.cc_base.specs.declared.diagnostics.Place.{Place}
 use Rattle.c_layout.specs.DeclarationTrees.{InitDeclaratorView, Object, Initialized, Prototype, FunctionDeclaratorView, SpecTree, spec_trees, StatementTree, statement_trees, ExternalTree, Declared, Defined}
-use Rattle.token_classes.specs.declared.terminals.Terminal.{Terminal}
-use Rattle.token_classes.specs.declared.terminals.Punctuator.TheVariants as p
-use Rattle.expression_grammar.specs.Fronts.{first_place, IsSign}
-use Rattle.declaration_grammar.specs.Declarations.{IsDeclared, IsInitialized, bare, name_of, init_height, function_height}
-use Rattle.declaration_grammar.specs.Findings.{FoundSpec, FoundBare, FoundTail}
-use Rattle.declaration_grammar.specs.Lists.{highest}
-use Rattle.declaration_grammar.specs.Specifiers.{IsSpec, spec_height}
-use Rattle.declaration_grammar.specs.StorageClasses.{is_typedef}
-use Rattle.declaration_grammar.proofs.InitDeclarators as lower
+use Rattle.c_parser_tokens.specs.declared.terminals.Terminal.{Terminal}
+use Rattle.c_parser_tokens.specs.declared.terminals.Punctuator.TheVariants as p
+use Rattle.c_parser_expressions.specs.Fronts.{first_place, IsSign}
+use Rattle.c_parser_declarations.specs.Declarations.{IsDeclared, IsInitialized, bare, name_of, init_height, function_height}
+use Rattle.c_parser_declarations.specs.Findings.{FoundSpec, FoundBare, FoundTail}
+use Rattle.c_parser_declarations.specs.Lists.{highest}
+use Rattle.c_parser_declarations.specs.Specifiers.{IsSpec, spec_height}
+use Rattle.c_parser_declarations.specs.StorageClasses.{is_typedef}
+use Rattle.c_parser_declarations.proofs.InitDeclarators as lower
 use Rattle.c_parser.specs.Externals.{with_name, with_declared, with_all, IsFileDeclarator, Further, IsExternal, external_height}
 use Rattle.c_parser.specs.Findings.{FoundBlock, FoundFurther, FoundLast, Begins, FoundBehind, FoundNamed, FoundExternal}
 use Rattle.c_parser.specs.Statements.{IsBlock}

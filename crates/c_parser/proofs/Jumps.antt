@@ -3,11 +3,11 @@ use Rattle.std.proofs.Common.{◌≡◌, ℕ, ◌+◌, ◌≤◌, true, false, L
 use Rattle.cc_base.specs.declared.diagnostics.Place.{Place}
 use Rattle.c_layout.specs.SyntaxTrees.{Tree}
 use Rattle.c_layout.specs.DeclarationTrees.{NameView, StatementTree, Expression, Goto, Continue, Break, Return}
-use Rattle.token_classes.specs.declared.terminals.Terminal.{Terminal}
-use Rattle.token_classes.specs.declared.terminals.Keyword.TheVariants as k
-use Rattle.token_classes.specs.declared.terminals.Punctuator.TheVariants as p
-use Rattle.expression_grammar.specs.Findings.{Found}
-use Rattle.expression_grammar.specs.Fronts.{first_place, IsSign, IsWord, IsName}
+use Rattle.c_parser_tokens.specs.declared.terminals.Terminal.{Terminal}
+use Rattle.c_parser_tokens.specs.declared.terminals.Keyword.TheVariants as k
+use Rattle.c_parser_tokens.specs.declared.terminals.Punctuator.TheVariants as p
+use Rattle.c_parser_expressions.specs.Findings.{Found}
+use Rattle.c_parser_expressions.specs.Fronts.{first_place, IsSign, IsWord, IsName}
 use Rattle.c_parser.specs.Findings.{FoundMaybe, FoundStatement}
 use Rattle.c_parser.specs.Statements.{is_statement, is_open, DeriveStatement, statement_height}
 

@@ -2,12 +2,12 @@
 use Rattle.std.proofs.Common.{◌≡◌, ℕ, List, Some, None, refl, sym, subst, arith}
 use Rattle.c_layout.specs.SyntaxTrees.{Tree}
 use Rattle.c_layout.specs.DeclarationTrees.{NoClause, Clause, Declares, LocalView}
-use Rattle.token_classes.specs.declared.terminals.Terminal.{Terminal}
-use Rattle.token_classes.specs.declared.terminals.Punctuator.{Punctuator}
-use Rattle.token_classes.specs.declared.terminals.Punctuator.TheVariants as p
-use Rattle.expression_grammar.specs.Findings.{Found}
-use Rattle.expression_grammar.specs.Fronts.{IsSign}
-use Rattle.declaration_grammar.specs.Findings.{FoundLocal}
+use Rattle.c_parser_tokens.specs.declared.terminals.Terminal.{Terminal}
+use Rattle.c_parser_tokens.specs.declared.terminals.Punctuator.{Punctuator}
+use Rattle.c_parser_tokens.specs.declared.terminals.Punctuator.TheVariants as p
+use Rattle.c_parser_expressions.specs.Findings.{Found}
+use Rattle.c_parser_expressions.specs.Fronts.{IsSign}
+use Rattle.c_parser_declarations.specs.Findings.{FoundLocal}
 use Rattle.c_parser.specs.Findings.{FoundCondition, FoundMaybe, FoundFirst}
 
 pub in_parentheses : {known : List (List ℕ)} {budget h : ℕ} {e v : Tree} {ts a b rest : List Terminal} →

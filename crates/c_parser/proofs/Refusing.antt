@@ -2,8 +2,8 @@
 use Rattle.std.proofs.Common.{◌≡◌, Result, Ok, Err, List, inl, subst, sym}
 use Rattle.cc_base.specs.declared.refusals.Fault.{Fault}
 use Rattle.cc_base.specs.declared.refusals.Stop.{Stop}
-use Rattle.token_classes.specs.Classes.{IsStop}
-use Rattle.token_classes.specs.declared.terminals.Terminal.{Terminal}
+use Rattle.c_parser_tokens.specs.Classes.{IsStop}
+use Rattle.c_parser_tokens.specs.declared.terminals.Terminal.{Terminal}
 use Rattle.c_parser.specs.Pieces.{StopsAtPiece}
 use Rattle.c_parser.specs.Refusals.{Refuses}
 

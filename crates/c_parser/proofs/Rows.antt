@@ -5,13 +5,13 @@ use Rattle.c_layout.specs.SyntaxTrees.{Tree, Name}
 use Rattle.c_layout.specs.DeclarationTrees.{NameView, InitDeclaratorView, Object, LocalView, StatementTree, Declaration, Label, Block, Expression, If, IfElse, While, Break, NoStatement, SpecTree, SpecTrees, StorageWord, Qualifier, TypeOf, StructTag, StructBody, EnumTag, EnumBody, TypedefName, NoWord, MoreWords, ExternalTree, Declared, Defined, spec_trees}
 use Rattle.c_layout.specs.declared.syntax_tree.declarations.Storage.TheVariants as storage
 use Rattle.c_layout.specs.declared.syntax_tree.declarations.TypeWord.TheVariants as type_word
-use Rattle.token_classes.specs.declared.terminals.Keyword.TheVariants as k
-use Rattle.token_classes.specs.declared.terminals.Punctuator.TheVariants as p
-use Rattle.token_classes.specs.declared.terminals.Symbol.TheVariants as symbol
-use Rattle.token_classes.specs.declared.terminals.Terminal.{Terminal}
-use Rattle.expression_grammar.specs.Fronts.{IsName}
-use Rattle.declaration_grammar.specs.Specifiers.{DeriveWord, IsSpec}
-use Rattle.declaration_grammar.proofs.Rows.{at, sign, word, name, sign_at, word_at, name_at}
+use Rattle.c_parser_tokens.specs.declared.terminals.Keyword.TheVariants as k
+use Rattle.c_parser_tokens.specs.declared.terminals.Punctuator.TheVariants as p
+use Rattle.c_parser_tokens.specs.declared.terminals.Symbol.TheVariants as symbol
+use Rattle.c_parser_tokens.specs.declared.terminals.Terminal.{Terminal}
+use Rattle.c_parser_expressions.specs.Fronts.{IsName}
+use Rattle.c_parser_declarations.specs.Specifiers.{DeriveWord, IsSpec}
+use Rattle.c_parser_declarations.proofs.Rows.{at, sign, word, name, sign_at, word_at, name_at}
 use Rattle.c_parser.specs.Externals.{in_force, IsExternal, external_height}
 use Rattle.c_parser.specs.Pieces.{piece_length}
 use Rattle.c_parser.specs.Statements.{Condition, DeriveStatement, statement_height}

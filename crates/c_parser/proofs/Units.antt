@@ -3,8 +3,8 @@ use Rattle.std.proofs.Common.{◌≡◌, ℕ, suc, ◌≤◌, List, [], ◌∷�
 use Rattle.cc_base.specs.declared.lexemes.Token.{Token}
 use Rattle.c_layout.specs.declared.data_model.Model.{Model}
 use Rattle.c_layout.specs.DeclarationTrees.{ExternalTree}
-use Rattle.token_classes.specs.Classes.{classified}
-use Rattle.token_classes.specs.declared.terminals.Terminal.{Terminal}
+use Rattle.c_parser_tokens.specs.Classes.{classified}
+use Rattle.c_parser_tokens.specs.declared.terminals.Terminal.{Terminal}
 use Rattle.c_parser.specs.Externals.{in_force, in_force_behind, IsExternal, IsPiece, ArePieces, IsUnit}
 use Rattle.c_parser.specs.Findings.{FoundExternal, FoundPieces}
 use Rattle.c_parser.specs.Pieces.{piece_length, left_behind}

@@ -3,14 +3,14 @@ use Rattle.std.specs.Prelude.{◌≡◌, ◌+◌, ◌≤◌, ℕ, Bool, true, fa
 use Rattle.cc_base.specs.declared.lexemes.Token.{Token}
 use Rattle.c_layout.specs.declared.data_model.Model.{Model}
 use Rattle.c_layout.specs.DeclarationTrees.{NameView, InitDeclaratorView, Prototype, ExternalTree, Declared, Defined, spec_trees, statement_trees}
-use Rattle.token_classes.specs.Classes.{classified}
-use Rattle.token_classes.specs.declared.terminals.Terminal.{Terminal}
-use Rattle.token_classes.specs.declared.terminals.Punctuator.TheVariants as p
-use Rattle.expression_grammar.specs.Fronts.{first_place, IsSign}
-use Rattle.declaration_grammar.specs.Declarations.{Initializes, IsFunction, name_of, init_height, function_height}
-use Rattle.declaration_grammar.specs.Lists.{highest}
-use Rattle.declaration_grammar.specs.Specifiers.{IsSpec, spec_height}
-use Rattle.declaration_grammar.specs.StorageClasses.{is_typedef}
+use Rattle.c_parser_tokens.specs.Classes.{classified}
+use Rattle.c_parser_tokens.specs.declared.terminals.Terminal.{Terminal}
+use Rattle.c_parser_tokens.specs.declared.terminals.Punctuator.TheVariants as p
+use Rattle.c_parser_expressions.specs.Fronts.{first_place, IsSign}
+use Rattle.c_parser_declarations.specs.Declarations.{Initializes, IsFunction, name_of, init_height, function_height}
+use Rattle.c_parser_declarations.specs.Lists.{highest}
+use Rattle.c_parser_declarations.specs.Specifiers.{IsSpec, spec_height}
+use Rattle.c_parser_declarations.specs.StorageClasses.{is_typedef}
 use Rattle.c_parser.specs.Pieces.{piece_length}
 use Rattle.c_parser.specs.Statements.{IsBlock, block_height}
 

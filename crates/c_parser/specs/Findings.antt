@@ -3,18 +3,18 @@ use Rattle.std.specs.Prelude.{◌≡◌, ◌≤◌, ℕ, Bool, true, false, List
 use Rattle.cc_base.specs.declared.diagnostics.Place.{Place}
 use Rattle.c_layout.specs.SyntaxTrees.{Tree}
 use Rattle.c_layout.specs.DeclarationTrees.{ForFirstView, StatementTree, statement_trees, SpecTree, spec_trees, InitDeclaratorView, ExternalTree}
-use Rattle.token_classes.specs.declared.terminals.Terminal.{Terminal}
-use Rattle.token_classes.specs.declared.terminals.Keyword.TheVariants as k
-use Rattle.token_classes.specs.declared.terminals.Punctuator.{Punctuator}
-use Rattle.token_classes.specs.declared.terminals.Punctuator.TheVariants as p
-use Rattle.token_classes.specs.declared.terminals.Symbol.{Symbol}
-use Rattle.token_classes.specs.declared.terminals.Symbol.TheVariants as symbol
-use Rattle.expression_grammar.specs.Expressions.{height_of}
-use Rattle.expression_grammar.specs.Fronts.{first_symbol, first_place, IsSign}
-use Rattle.declaration_grammar.specs.Declarations.{IsDeclared, bare, init_height}
-use Rattle.declaration_grammar.specs.Lists.{highest}
-use Rattle.declaration_grammar.specs.Specifiers.{IsSpec, spec_height}
-use Rattle.declaration_grammar.specs.StorageClasses.{is_typedef}
+use Rattle.c_parser_tokens.specs.declared.terminals.Terminal.{Terminal}
+use Rattle.c_parser_tokens.specs.declared.terminals.Keyword.TheVariants as k
+use Rattle.c_parser_tokens.specs.declared.terminals.Punctuator.{Punctuator}
+use Rattle.c_parser_tokens.specs.declared.terminals.Punctuator.TheVariants as p
+use Rattle.c_parser_tokens.specs.declared.terminals.Symbol.{Symbol}
+use Rattle.c_parser_tokens.specs.declared.terminals.Symbol.TheVariants as symbol
+use Rattle.c_parser_expressions.specs.Expressions.{height_of}
+use Rattle.c_parser_expressions.specs.Fronts.{first_symbol, first_place, IsSign}
+use Rattle.c_parser_declarations.specs.Declarations.{IsDeclared, bare, init_height}
+use Rattle.c_parser_declarations.specs.Lists.{highest}
+use Rattle.c_parser_declarations.specs.Specifiers.{IsSpec, spec_height}
+use Rattle.c_parser_declarations.specs.StorageClasses.{is_typedef}
 use Rattle.c_parser.specs.Externals.{with_declared, with_all, in_force, in_force_behind, Further, IsExternal, external_height, ArePieces}
 use Rattle.c_parser.specs.Statements.{Maybe, Condition, FirstClause, is_statement, is_open, DeriveStatement, DeriveStatements, maybe_height, first_height, statement_height, statements_height, IsBlock, block_height}
 

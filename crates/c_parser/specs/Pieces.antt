@@ -5,10 +5,10 @@ use Rattle.cc_base.specs.declared.refusals.Stop.{Stop}
 use Rattle.cc_base.specs.declared.refusals.Stop.TheVariants as stop
 use Rattle.cc_base.specs.declared.refusals.Refusal.TheVariants as refusal
 use Rattle.cc_base.specs.declared.diagnostics.Place.{Place}
-use Rattle.token_classes.specs.declared.terminals.Terminal.{Terminal}
-use Rattle.token_classes.specs.declared.terminals.Symbol.{Symbol}
-use Rattle.token_classes.specs.declared.terminals.Symbol.TheVariants as symbol
-use Rattle.token_classes.specs.declared.terminals.Punctuator.TheVariants as p
+use Rattle.c_parser_tokens.specs.declared.terminals.Terminal.{Terminal}
+use Rattle.c_parser_tokens.specs.declared.terminals.Symbol.{Symbol}
+use Rattle.c_parser_tokens.specs.declared.terminals.Symbol.TheVariants as symbol
+use Rattle.c_parser_tokens.specs.declared.terminals.Punctuator.TheVariants as p
 use Rattle.c_parser.specs.declared.pieces.Progress.{Progress}
 
 -- a piece that has had nothing

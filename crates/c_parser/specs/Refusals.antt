@@ -3,7 +3,7 @@ use Rattle.std.specs.Prelude.{◌≡◌, Result, Ok, Err, List, ◌⊎◌}
 use Rattle.cc_base.specs.declared.refusals.Fault.{Fault}
 use Rattle.cc_base.specs.declared.refusals.Stop.{Stop}
 use Rattle.cc_base.specs.declared.refusals.Stop.TheVariants as stop
-use Rattle.token_classes.specs.declared.terminals.Terminal.{Terminal}
+use Rattle.c_parser_tokens.specs.declared.terminals.Terminal.{Terminal}
 use Rattle.c_parser.specs.Pieces.{StopsAtPiece}
 
 -- a unit with a number of a bad form or a word that is left out is refused for that; every other one

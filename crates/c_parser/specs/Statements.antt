@@ -3,12 +3,12 @@
 use Rattle.std.specs.Prelude.{◌≡◌, ◌+◌, ℕ, Bool, true, false, max, List, Option, Some, None}
 use Rattle.c_layout.specs.SyntaxTrees.{Tree}
 use Rattle.c_layout.specs.DeclarationTrees.{ForFirstView, NoClause, Clause, Declares, StatementTree, StatementTrees, Declaration, Label, Case, Default, Block, Expression, If, IfElse, Switch, While, Do, For, Goto, Continue, Break, Return, NoStatement, MoreStatements}
-use Rattle.token_classes.specs.declared.terminals.Terminal.{Terminal}
-use Rattle.token_classes.specs.declared.terminals.Keyword.TheVariants as k
-use Rattle.token_classes.specs.declared.terminals.Punctuator.TheVariants as p
-use Rattle.expression_grammar.specs.Expressions.{Derives, height_of}
-use Rattle.expression_grammar.specs.Fronts.{first_place, IsSign, IsWord, IsName}
-use Rattle.declaration_grammar.specs.Declarations.{IsLocal, local_height}
+use Rattle.c_parser_tokens.specs.declared.terminals.Terminal.{Terminal}
+use Rattle.c_parser_tokens.specs.declared.terminals.Keyword.TheVariants as k
+use Rattle.c_parser_tokens.specs.declared.terminals.Punctuator.TheVariants as p
+use Rattle.c_parser_expressions.specs.Expressions.{Derives, height_of}
+use Rattle.c_parser_expressions.specs.Fronts.{first_place, IsSign, IsWord, IsName}
+use Rattle.c_parser_declarations.specs.Declarations.{IsLocal, local_height}
 
 -- an expression, or nothing
 abbrev pub Maybe : List (List ℕ) → Option Tree → List Terminal → List Terminal → Type 0

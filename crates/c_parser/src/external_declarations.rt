@@ -1,18 +1,18 @@
 //! External declarations (6.9).
 ghost use Rattle.std.specs.Prelude.{◌≡◌, ◌+◌, ◌≤◌, [], map, IfOk};
 ghost use Rattle.c_layout.specs.DeclarationTrees.{Declared, spec_tree, spec_trees, init_declarator_view, external_tree};
-ghost use Rattle.declaration_grammar.specs.Findings.{FoundSpec, FoundBare, FoundTail};
-ghost use Rattle.expression_grammar.specs.Fronts.{first_place};
+ghost use Rattle.c_parser_declarations.specs.Findings.{FoundSpec, FoundBare, FoundTail};
+ghost use Rattle.c_parser_expressions.specs.Fronts.{first_place};
 ghost use Rattle.c_parser.specs.Externals.{with_declared};
 ghost use Rattle.c_parser.specs.Findings.{FoundLast, FoundBehind, FoundNamed, FoundExternal};
 
 use crate::statements::block;
 use c_layout::{External, InitDeclarator, SpecWord};
+use c_parser_declarations::{file_declarator, initialized, is_typedef, named_by, specifiers};
+use c_parser_expressions::{Parsed, Reader, Scope, Trouble, inner, made};
+use c_parser_tokens::Punctuator;
 use cc_base::{Place, Text};
-use declaration_grammar::{file_declarator, initialized, is_typedef, named_by, specifiers};
-use expression_grammar::{Parsed, Reader, Scope, Trouble, inner, made};
 use std::alloc::{AllocError, Global};
-use token_classes::Punctuator;
 
 /// The first token and the specifiers of an external declaration.
 #[derive(Drop)]

@@ -8,8 +8,8 @@ use crate::statement_nodes::{
 };
 use crate::statement_parts::optional_expression;
 use c_layout::Statement;
-use expression_grammar::{Parsed, Reader, Scope, Trouble, expression, inner, made};
-use token_classes::{Keyword, Punctuator};
+use c_parser_expressions::{Parsed, Reader, Scope, Trouble, expression, inner, made};
+use c_parser_tokens::{Keyword, Punctuator};
 
 /// `goto`
 fn goto_statement(

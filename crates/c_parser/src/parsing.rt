@@ -4,15 +4,15 @@ ghost use Rattle.c_layout.specs.DeclarationTrees.{external_tree, unit_tree};
 ghost use Rattle.c_parser.specs.Externals.{in_force, IsPiece, ArePieces, IsUnit};
 ghost use Rattle.c_parser.specs.Pieces.{StopsAt, StopsAtPiece};
 ghost use Rattle.c_parser.specs.Refusals.{Refuses};
-ghost use Rattle.token_classes.specs.Classes.{classified};
+ghost use Rattle.c_parser_tokens.specs.Classes.{classified};
 
 use crate::external_declarations::external;
 use crate::pieces::piece_length;
 use c_layout::{External, Tree7, Unit7};
+use c_parser_expressions::{GREATEST_HEIGHT, Reader, Trouble};
+use c_parser_tokens::{Terminal, classify};
 use cc_base::{Fault, Place, Refusal, Stop, Text};
-use expression_grammar::{GREATEST_HEIGHT, Reader, Trouble};
 use std::alloc::Global;
-use token_classes::{Terminal, classify};
 
 /// The external declaration that a piece is.
 fn piece_tree(

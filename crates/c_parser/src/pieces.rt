@@ -2,7 +2,7 @@
 ghost use Rattle.std.specs.Prelude.{◌≡◌, ◌≤◌, ◌<◌, ◌+◌, length};
 ghost use Rattle.c_parser.specs.Pieces.{begun, behind_left_brace, behind_right_brace, behind, piece_length};
 
-use token_classes::{Punctuator, Symbol, Terminal};
+use c_parser_tokens::{Punctuator, Symbol, Terminal};
 
 /// What a piece has had so far.
 #[derive(Clone, Copy)]

@@ -6,9 +6,9 @@ ghost use Rattle.c_layout.specs.DeclarationTrees.{for_first_view};
 ghost use Rattle.c_parser.specs.Findings.{FoundCondition, FoundMaybe, FoundFirst};
 
 use c_layout::{Expr, ForFirst};
-use declaration_grammar::local_declaration;
-use expression_grammar::{Parsed, Reader, Scope, Trouble, expression};
-use token_classes::Punctuator;
+use c_parser_declarations::local_declaration;
+use c_parser_expressions::{Parsed, Reader, Scope, Trouble, expression};
+use c_parser_tokens::Punctuator;
 
 /// An expression outside of its box.
 fn unboxed(value: Box<Expr>) -> Expr

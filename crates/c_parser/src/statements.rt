@@ -2,7 +2,7 @@
 ghost use Rattle.std.specs.Prelude.{◌≡◌, map, IfOk};
 ghost use Rattle.c_layout.specs.DeclarationTrees.{statement_tree};
 ghost use Rattle.c_parser.specs.Findings.{FoundStatement, FoundItem, FoundBraced, FoundBlock, is_else};
-ghost use Rattle.expression_grammar.specs.Fronts.{first_symbol};
+ghost use Rattle.c_parser_expressions.specs.Fronts.{first_symbol};
 
 use crate::jump_statements::{plain_statement, value_statement};
 use crate::statement_nodes::{
@@ -11,9 +11,9 @@ use crate::statement_nodes::{
 };
 use crate::statement_parts::{condition, for_first, optional_expression};
 use c_layout::Statement;
-use declaration_grammar::local_declaration;
-use expression_grammar::{Parsed, Reader, Scope, Trouble, conditional, inner, made};
-use token_classes::{Keyword, Punctuator, Symbol};
+use c_parser_declarations::local_declaration;
+use c_parser_expressions::{Parsed, Reader, Scope, Trouble, conditional, inner, made};
+use c_parser_tokens::{Keyword, Punctuator, Symbol};
 
 /// A statement inside another one.
 #[cycle(statements)]

@@ -4,17 +4,17 @@ use Rattle.std.proofs.lemmas.Bool.Decides.{nat_tests}
 use Rattle.cc_base.specs.declared.diagnostics.Place.{Place}
 use Rattle.cc_base.specs.declared.refusals.Fault.{Fault}
 use Rattle.cc_base.specs.declared.refusals.Stop.{Stop}
-use Rattle.macro_expansion.specs.declared.lexeme.Lexeme.{Lexeme}
-use Rattle.macro_expansion.specs.Lexemes.{mark_of}
-use Rattle.directive_lines.specs.declared.conditional_groups.GroupState.{GroupState}
-use Rattle.directive_lines.specs.declared.conditional_groups.GroupState.TheVariants.{Outside}
-use Rattle.directive_lines.specs.declared.conditional_groups.Section.{Section}
-use Rattle.directive_lines.specs.declared.conditional_groups.Uneven.{Uneven}
-use Rattle.directive_lines.specs.declared.directive_names.Directive.{Directive}
-use Rattle.directive_lines.specs.declared.directive_names.Directive.TheVariants.{If, Ifdef, Ifndef, Elif, Else, Endif}
-use Rattle.directive_lines.specs.Directives.{is_conditional, is_include}
-use Rattle.directive_lines.specs.Groups.{is_skipped, is_waiting, state_behind, state_before_elif, first_state, with_state, else_fault, turned_else, end_fault, left}
-use Rattle.directive_lines.specs.OpenFiles.{Opened, opened_of, begins_directive, first_of, Cut, cut, with_front, cut_text, cut_line, cut_directive}
+use Rattle.c_preproc_macros.specs.declared.lexeme.Lexeme.{Lexeme}
+use Rattle.c_preproc_macros.specs.Lexemes.{mark_of}
+use Rattle.c_preproc_directives.specs.declared.conditional_groups.GroupState.{GroupState}
+use Rattle.c_preproc_directives.specs.declared.conditional_groups.GroupState.TheVariants.{Outside}
+use Rattle.c_preproc_directives.specs.declared.conditional_groups.Section.{Section}
+use Rattle.c_preproc_directives.specs.declared.conditional_groups.Uneven.{Uneven}
+use Rattle.c_preproc_directives.specs.declared.directive_names.Directive.{Directive}
+use Rattle.c_preproc_directives.specs.declared.directive_names.Directive.TheVariants.{If, Ifdef, Ifndef, Elif, Else, Endif}
+use Rattle.c_preproc_directives.specs.Directives.{is_conditional, is_include}
+use Rattle.c_preproc_directives.specs.Groups.{is_skipped, is_waiting, state_behind, state_before_elif, first_state, with_state, else_fault, turned_else, end_fault, left}
+use Rattle.c_preproc_directives.specs.OpenFiles.{Opened, opened_of, begins_directive, first_of, Cut, cut, with_front, cut_text, cut_line, cut_directive}
 use Rattle.c_preproc.specs.Known.{Known, Reading, Line, Decided, condition, entered_in, first_group, only_name, ifdef_named, begun_if, begun_ifdef, next_group, elif_behind, turned_elif, is_nil, if_even, else_turned, if_ended, with_top, conditional, plain, line_of, directive_at, with_known, text_lines, Asked, only_header, include_numbered, first_open}
 use Rattle.c_preproc.specs.declared.preprocessing.Step.{Step as StepOf}
 use Rattle.c_preproc.specs.declared.preprocessing.Step.TheVariants.{Ended, GoesOn, Includes}

@@ -19,18 +19,18 @@ use Rattle.c_tokens.specs.Cutting.{after, start, token_list, Bit, tokens_of, Lex
 use Rattle.c_tokens.specs.Cutting.Stuck.{nothing, many, bad}
 use Rattle.c_tokens.specs.FileTokens.{file_tokens, IsFileAnswer}
 use Rattle.c_tokens.proofs.Total.{answer_is}
-use Rattle.macro_expansion.specs.declared.lexeme.Mark.{Mark}
-use Rattle.macro_expansion.specs.declared.lexeme.Lexeme.{Lexeme}
-use Rattle.macro_expansion.specs.declared.lexeme.Lexeme.TheVariants.{Name, Painted, Open, Close, Comma, Other}
-use Rattle.macro_expansion.specs.Lexemes.{mark_of}
-use Rattle.macro_expansion.specs.Numbering.{number_in, with_text, mark_in, bracket, bracket_of, numbered, read_as, read_token}
-use Rattle.macro_expansion.specs.Places.{StandsBy}
-use Rattle.directive_lines.specs.declared.conditional_groups.Section.{Section}
-use Rattle.directive_lines.specs.Directives.{is_conditional, is_include}
-use Rattle.directive_lines.specs.Groups.{is_skipped}
-use Rattle.directive_lines.specs.OpenFiles.{Opened, first_of, cut_directive, read_tokens, opened_file}
+use Rattle.c_preproc_macros.specs.declared.lexeme.Mark.{Mark}
+use Rattle.c_preproc_macros.specs.declared.lexeme.Lexeme.{Lexeme}
+use Rattle.c_preproc_macros.specs.declared.lexeme.Lexeme.TheVariants.{Name, Painted, Open, Close, Comma, Other}
+use Rattle.c_preproc_macros.specs.Lexemes.{mark_of}
+use Rattle.c_preproc_macros.specs.Numbering.{number_in, with_text, mark_in, bracket, bracket_of, numbered, read_as, read_token}
+use Rattle.c_preproc_macros.specs.Places.{StandsBy}
+use Rattle.c_preproc_directives.specs.declared.conditional_groups.Section.{Section}
+use Rattle.c_preproc_directives.specs.Directives.{is_conditional, is_include}
+use Rattle.c_preproc_directives.specs.Groups.{is_skipped}
+use Rattle.c_preproc_directives.specs.OpenFiles.{Opened, first_of, cut_directive, read_tokens, opened_file}
 use Rattle.c_preproc.specs.Searching.{Found, built_in, searched_names}
-use Rattle.directive_conditions.specs.DefinedNames.{Named as NamedLine}
+use Rattle.c_preproc_conditions.specs.DefinedNames.{Named as NamedLine}
 use Rattle.c_preproc.specs.Known.{Known, Reading, Line, Asked, name_before, first_name, line_named, is_once, include_asks, conditional, plain, line_of, directive_at, text_lines, first_open}
 use Rattle.c_preproc.specs.Units.{World, Course, course, Refused, then, under, Sought, Opening, opened_by, Entered, entered, long_refused, included, includer_in, sought_from, include, Step, on_reading, on_known, step_into, directive, file_ended, step_at, step_by, step}
 use Rattle.c_preproc.specs.Units.Sought.{found, too_long, nothing}

@@ -10,41 +10,41 @@ use Rattle.cc_base.specs.declared.lexemes.Kind.{Kind}
 use Rattle.cc_base.specs.declared.lexemes.Kind.TheVariants as kind
 use Rattle.cc_base.specs.declared.lexemes.Token.{Token}
 use Rattle.cc_base.specs.declared.refusals.Fault.{Fault}
-use Rattle.macro_expansion.specs.declared.lexeme.Mark.{Mark}
-use Rattle.macro_expansion.specs.declared.lexeme.Lexeme.{Lexeme}
-use Rattle.macro_expansion.specs.declared.lexeme.Lexeme.TheVariants.{Name, Painted, Open, Close, Comma, Other}
-use Rattle.macro_expansion.specs.declared.trouble.Trouble.{Trouble}
-use Rattle.macro_expansion.specs.declared.trouble.Trouble.TheVariants as trouble
-use Rattle.macro_expansion.specs.Lexemes.{mark_of}
-use Rattle.macro_expansion.specs.Numbering.{token_in, text_at}
-use Rattle.macro_expansion.specs.Places.{StandsBy}
-use Rattle.macro_expansion.specs.Rules.{Defined, defined_in}
-use Rattle.macro_expansion.specs.States.{setting_in}
-use Rattle.macro_expansion.specs.Expanding.{Outcome, expansion}
-use Rattle.macro_expansion.specs.Expanding.Outcome.{done, refused}
-use Rattle.macro_expansion.proofs.Places.{PlacedIf, expansion-placed}
-use Rattle.directive_conditions.specs.declared.condition_symbols.Symbol.{Symbol}
-use Rattle.directive_conditions.specs.declared.condition_value.Number.{Number}
-use Rattle.directive_conditions.specs.declared.condition_value.Value.{Value}
-use Rattle.directive_conditions.specs.declared.defined_names.Digits.{Digits}
-use Rattle.directive_conditions.specs.declared.evaluation.ConditionFault.{ConditionFault}
-use Rattle.directive_conditions.specs.declared.evaluation.ConditionFault.TheVariants.{NumberForm, Malformed, Memory}
-use Rattle.directive_conditions.specs.ConditionValues.{is_zero}
-use Rattle.directive_conditions.specs.NumberForms.{integer_constant, character_constant}
-use Rattle.directive_conditions.specs.DefinedNames.{Named, closed_by, parenthesized, in_parentheses, named_by, named, digit, is_defined_word, is_defined, put_before, put_digit, replaced_by, replaced}
-use Rattle.directive_conditions.specs.Lines.{constant, other_symbol, symbol_in, before, symbols_in}
-use Rattle.directive_conditions.specs.Truth.{decided_if, truth, line_truth}
-use Rattle.directive_lines.specs.declared.conditional_groups.GroupState.{GroupState}
-use Rattle.directive_lines.specs.declared.conditional_groups.GroupState.TheVariants.{Outside}
-use Rattle.directive_lines.specs.declared.conditional_groups.Section.{Section}
-use Rattle.directive_lines.specs.declared.conditional_groups.Uneven.{Uneven}
-use Rattle.directive_lines.specs.declared.conditional_groups.Uneven.TheVariants.{Misplaced, Trailing}
-use Rattle.directive_lines.specs.declared.directive_names.Directive.{Directive}
-use Rattle.directive_lines.specs.declared.directive_names.Directive.TheVariants.{If, Ifdef, Ifndef, Elif, Else, Endif, Define, Undef, Error, Pragma}
-use Rattle.directive_lines.specs.Directives.{Header, header_name}
-use Rattle.directive_lines.specs.Definitions.{is_barred, is_spelled, may_be_defined, definition, same_definition}
-use Rattle.directive_lines.specs.Groups.{first_state, is_skipped, is_waiting, state_before_elif, state_behind, with_state, else_fault, turned_else, end_fault, left}
-use Rattle.directive_lines.specs.OpenFiles.{Opened, begins_directive, first_of, Cut, cut, with_front, cut_text, cut_line, cut_directive}
+use Rattle.c_preproc_macros.specs.declared.lexeme.Mark.{Mark}
+use Rattle.c_preproc_macros.specs.declared.lexeme.Lexeme.{Lexeme}
+use Rattle.c_preproc_macros.specs.declared.lexeme.Lexeme.TheVariants.{Name, Painted, Open, Close, Comma, Other}
+use Rattle.c_preproc_macros.specs.declared.trouble.Trouble.{Trouble}
+use Rattle.c_preproc_macros.specs.declared.trouble.Trouble.TheVariants as trouble
+use Rattle.c_preproc_macros.specs.Lexemes.{mark_of}
+use Rattle.c_preproc_macros.specs.Numbering.{token_in, text_at}
+use Rattle.c_preproc_macros.specs.Places.{StandsBy}
+use Rattle.c_preproc_macros.specs.Rules.{Defined, defined_in}
+use Rattle.c_preproc_macros.specs.States.{setting_in}
+use Rattle.c_preproc_macros.specs.Expanding.{Outcome, expansion}
+use Rattle.c_preproc_macros.specs.Expanding.Outcome.{done, refused}
+use Rattle.c_preproc_macros.proofs.Places.{PlacedIf, expansion-placed}
+use Rattle.c_preproc_conditions.specs.declared.condition_symbols.Symbol.{Symbol}
+use Rattle.c_preproc_conditions.specs.declared.condition_value.Number.{Number}
+use Rattle.c_preproc_conditions.specs.declared.condition_value.Value.{Value}
+use Rattle.c_preproc_conditions.specs.declared.defined_names.Digits.{Digits}
+use Rattle.c_preproc_conditions.specs.declared.evaluation.ConditionFault.{ConditionFault}
+use Rattle.c_preproc_conditions.specs.declared.evaluation.ConditionFault.TheVariants.{NumberForm, Malformed, Memory}
+use Rattle.c_preproc_conditions.specs.ConditionValues.{is_zero}
+use Rattle.c_preproc_conditions.specs.NumberForms.{integer_constant, character_constant}
+use Rattle.c_preproc_conditions.specs.DefinedNames.{Named, closed_by, parenthesized, in_parentheses, named_by, named, digit, is_defined_word, is_defined, put_before, put_digit, replaced_by, replaced}
+use Rattle.c_preproc_conditions.specs.Lines.{constant, other_symbol, symbol_in, before, symbols_in}
+use Rattle.c_preproc_conditions.specs.Truth.{decided_if, truth, line_truth}
+use Rattle.c_preproc_directives.specs.declared.conditional_groups.GroupState.{GroupState}
+use Rattle.c_preproc_directives.specs.declared.conditional_groups.GroupState.TheVariants.{Outside}
+use Rattle.c_preproc_directives.specs.declared.conditional_groups.Section.{Section}
+use Rattle.c_preproc_directives.specs.declared.conditional_groups.Uneven.{Uneven}
+use Rattle.c_preproc_directives.specs.declared.conditional_groups.Uneven.TheVariants.{Misplaced, Trailing}
+use Rattle.c_preproc_directives.specs.declared.directive_names.Directive.{Directive}
+use Rattle.c_preproc_directives.specs.declared.directive_names.Directive.TheVariants.{If, Ifdef, Ifndef, Elif, Else, Endif, Define, Undef, Error, Pragma}
+use Rattle.c_preproc_directives.specs.Directives.{Header, header_name}
+use Rattle.c_preproc_directives.specs.Definitions.{is_barred, is_spelled, may_be_defined, definition, same_definition}
+use Rattle.c_preproc_directives.specs.Groups.{first_state, is_skipped, is_waiting, state_before_elif, state_behind, with_state, else_fault, turned_else, end_fault, left}
+use Rattle.c_preproc_directives.specs.OpenFiles.{Opened, begins_directive, first_of, Cut, cut, with_front, cut_text, cut_line, cut_directive}
 use Rattle.c_preproc.specs.Known.{Known, Reading, Decided, Asked, trouble_fault, unclosed_fault, appended, expanded, text_read, condition_fault, truth_at, condition_expanded, condition_named, condition, only_name, entered_in, first_group, begun_if, ifdef_named, begun_ifdef, next_group, elif_behind, turned_elif, uneven_fault, if_even, else_turned, if_ended, with_top, conditional, define_beside, define_as, define_named, define, first_name, undefine_named, undefine, is_once, pragma_named, pragma, is_nil, plain, directive_at, with_known, text_taken, text_lines, asked, only_header, include_numbered, include_asks, first_open}
 use Rattle.c_preproc.specs.Placed.{is_in, all_in, Stand, SectionsIn, OpenIn, KnownIn}
 

@@ -1,7 +1,7 @@
 -- Lists of names without repeats.
 use Rattle.std.proofs.Common.{◌≡◌, ◌<◌, ◌+◌, ℕ, zero, suc, Bool, true, false, not, ◌&&◌, ◌||◌, cond, List, [], ◌∷◌, ◌++◌, map, length, get_or, slice_get, Some, None, refl, sym, ◌∙◌, ap, subst, drop, ◌≤◌, arith, nat_eq}
 use Rattle.std.specs.Cmp.Lexicographic.{pointwise, same_text, other_text}
-use Rattle.macro_expansion.specs.Numbering.{number_in, with_text}
+use Rattle.c_preproc_macros.specs.Numbering.{number_in, with_text}
 use Rattle.c_preproc.specs.Names.{is_among, is_distinct, position_from}
 use Rattle.c_preproc.proofs.Searches.{drop_at}
 

@@ -10,13 +10,13 @@ use Rattle.cc_base.specs.declared.refusals.Stop.TheVariants as stop
 use Rattle.c_layout.specs.declared.data_model.Model.{Model}
 use Rattle.c_tokens.specs.Cutting.{fault_of}
 use Rattle.c_tokens.specs.FileTokens.{file_tokens, Gives as TokensGiven}
-use Rattle.macro_expansion.specs.declared.lexeme.Lexeme.{Lexeme}
-use Rattle.macro_expansion.specs.Numbering.{number_in, with_text}
-use Rattle.directive_lines.specs.declared.directive_names.Directive.{Directive}
-use Rattle.directive_lines.specs.declared.open_files.OpenFile.{OpenFile}
-use Rattle.directive_lines.specs.Directives.{Header, is_conditional, is_include}
-use Rattle.directive_lines.specs.Groups.{is_skipped}
-use Rattle.directive_lines.specs.OpenFiles.{Opened, opened_of, opened_file, first_of, cut_directive}
+use Rattle.c_preproc_macros.specs.declared.lexeme.Lexeme.{Lexeme}
+use Rattle.c_preproc_macros.specs.Numbering.{number_in, with_text}
+use Rattle.c_preproc_directives.specs.declared.directive_names.Directive.{Directive}
+use Rattle.c_preproc_directives.specs.declared.open_files.OpenFile.{OpenFile}
+use Rattle.c_preproc_directives.specs.Directives.{Header, is_conditional, is_include}
+use Rattle.c_preproc_directives.specs.Groups.{is_skipped}
+use Rattle.c_preproc_directives.specs.OpenFiles.{Opened, opened_of, opened_file, first_of, cut_directive}
 use Rattle.c_preproc.specs.declared.found_file.FoundFile.{FoundFile}
 use Rattle.c_preproc.specs.Searching.{Found, found_of, searched_names, built_in}
 use Rattle.c_preproc.specs.Known.{Known, Reading, Line, Asked, Gives, start, is_once, include_asks, conditional, plain, line_of, directive_at, text_lines, first_open}

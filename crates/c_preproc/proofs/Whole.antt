@@ -10,8 +10,8 @@ use Rattle.cc_base.specs.declared.lexemes.Token.{Token}
 use Rattle.c_layout.specs.declared.data_model.Model.{Model}
 use Rattle.c_layout.specs.declared.unit_tokens.Unit7.{Unit7}
 use Rattle.c_tokens.specs.FileTokens.{file_tokens}
-use Rattle.macro_expansion.specs.Numbering.{number_in, with_text}
-use Rattle.directive_lines.specs.OpenFiles.{Opened}
+use Rattle.c_preproc_macros.specs.Numbering.{number_in, with_text}
+use Rattle.c_preproc_directives.specs.OpenFiles.{Opened}
 use Rattle.c_preproc.specs.Searching.{found_of}
 use Rattle.c_preproc.specs.Known.{Known, Gives, start}
 use Rattle.c_preproc.specs.Units.{World, world_of, Course, course, Refused, refused, then, under, sought, Opening, opening, opened_by, entered_as, entered, long_refused, file_read, read_if, Preprocessed, preprocessed, unit, main_read, unit_from}

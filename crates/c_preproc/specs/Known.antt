@@ -12,36 +12,36 @@ use Rattle.cc_base.specs.declared.refusals.Refusal.TheVariants as refusal
 use Rattle.cc_base.specs.declared.refusals.Stop.{Stop}
 use Rattle.cc_base.specs.declared.refusals.Stop.TheVariants as stop
 use Rattle.c_tokens.specs.Cutting.{fault_of}
-use Rattle.macro_expansion.specs.declared.lexeme.Mark.{Mark}
-use Rattle.macro_expansion.specs.declared.lexeme.Lexeme.{Lexeme}
-use Rattle.macro_expansion.specs.declared.lexeme.Lexeme.TheVariants.{Name, Other}
-use Rattle.macro_expansion.specs.declared.macro_table.Part.TheVariants.{Word}
-use Rattle.macro_expansion.specs.declared.trouble.Trouble.{Trouble}
-use Rattle.macro_expansion.specs.declared.trouble.Trouble.TheVariants as trouble
-use Rattle.macro_expansion.specs.Lexemes.{mark_of}
-use Rattle.macro_expansion.specs.Numbering.{texts_of, text_at, token_in}
-use Rattle.macro_expansion.specs.Rules.{Defined, macros_of, defined_in}
-use Rattle.macro_expansion.specs.Expanding.{Outcome, expansion}
-use Rattle.macro_expansion.specs.Expanding.Outcome.{done, refused}
-use Rattle.macro_expansion.specs.States.{setting_in}
-use Rattle.directive_conditions.specs.declared.defined_names.Digits.{Digits}
-use Rattle.directive_conditions.specs.declared.evaluation.ConditionFault.{ConditionFault}
-use Rattle.directive_conditions.specs.declared.evaluation.ConditionFault.TheVariants.{NumberForm, Malformed, Memory}
-use Rattle.directive_conditions.specs.DefinedNames.{Named, is_defined, replaced}
-use Rattle.directive_conditions.specs.Lines.{symbols_in}
-use Rattle.directive_conditions.specs.Truth.{line_truth}
-use Rattle.directive_lines.specs.declared.conditional_groups.GroupState.{GroupState}
-use Rattle.directive_lines.specs.declared.conditional_groups.GroupState.TheVariants.{Outside}
-use Rattle.directive_lines.specs.declared.conditional_groups.Section.{Section}
-use Rattle.directive_lines.specs.declared.conditional_groups.Uneven.{Uneven}
-use Rattle.directive_lines.specs.declared.conditional_groups.Uneven.TheVariants.{Misplaced, Trailing}
-use Rattle.directive_lines.specs.declared.directive_names.Directive.{Directive}
-use Rattle.directive_lines.specs.declared.directive_names.Directive.TheVariants.{If, Ifdef, Ifndef, Elif, Else, Endif, Define, Undef, Error, Pragma, Unknown}
-use Rattle.directive_lines.specs.Directives.{directive_named, Header, header_name}
-use Rattle.directive_lines.specs.Definitions.{is_barred, is_spelled, may_be_defined, definition, same_definition}
-use Rattle.directive_lines.specs.Groups.{first_state, state_behind, is_skipped, is_waiting, entered, state_before_elif, with_state, else_fault, turned_else, end_fault, left}
-use Rattle.directive_lines.specs.OpenFiles.{Opened, opened_of, begins_directive, first_of, cut_text}
-use Rattle.directive_lines.specs.declared.open_files.OpenFile.{OpenFile}
+use Rattle.c_preproc_macros.specs.declared.lexeme.Mark.{Mark}
+use Rattle.c_preproc_macros.specs.declared.lexeme.Lexeme.{Lexeme}
+use Rattle.c_preproc_macros.specs.declared.lexeme.Lexeme.TheVariants.{Name, Other}
+use Rattle.c_preproc_macros.specs.declared.macro_table.Part.TheVariants.{Word}
+use Rattle.c_preproc_macros.specs.declared.trouble.Trouble.{Trouble}
+use Rattle.c_preproc_macros.specs.declared.trouble.Trouble.TheVariants as trouble
+use Rattle.c_preproc_macros.specs.Lexemes.{mark_of}
+use Rattle.c_preproc_macros.specs.Numbering.{texts_of, text_at, token_in}
+use Rattle.c_preproc_macros.specs.Rules.{Defined, macros_of, defined_in}
+use Rattle.c_preproc_macros.specs.Expanding.{Outcome, expansion}
+use Rattle.c_preproc_macros.specs.Expanding.Outcome.{done, refused}
+use Rattle.c_preproc_macros.specs.States.{setting_in}
+use Rattle.c_preproc_conditions.specs.declared.defined_names.Digits.{Digits}
+use Rattle.c_preproc_conditions.specs.declared.evaluation.ConditionFault.{ConditionFault}
+use Rattle.c_preproc_conditions.specs.declared.evaluation.ConditionFault.TheVariants.{NumberForm, Malformed, Memory}
+use Rattle.c_preproc_conditions.specs.DefinedNames.{Named, is_defined, replaced}
+use Rattle.c_preproc_conditions.specs.Lines.{symbols_in}
+use Rattle.c_preproc_conditions.specs.Truth.{line_truth}
+use Rattle.c_preproc_directives.specs.declared.conditional_groups.GroupState.{GroupState}
+use Rattle.c_preproc_directives.specs.declared.conditional_groups.GroupState.TheVariants.{Outside}
+use Rattle.c_preproc_directives.specs.declared.conditional_groups.Section.{Section}
+use Rattle.c_preproc_directives.specs.declared.conditional_groups.Uneven.{Uneven}
+use Rattle.c_preproc_directives.specs.declared.conditional_groups.Uneven.TheVariants.{Misplaced, Trailing}
+use Rattle.c_preproc_directives.specs.declared.directive_names.Directive.{Directive}
+use Rattle.c_preproc_directives.specs.declared.directive_names.Directive.TheVariants.{If, Ifdef, Ifndef, Elif, Else, Endif, Define, Undef, Error, Pragma, Unknown}
+use Rattle.c_preproc_directives.specs.Directives.{directive_named, Header, header_name}
+use Rattle.c_preproc_directives.specs.Definitions.{is_barred, is_spelled, may_be_defined, definition, same_definition}
+use Rattle.c_preproc_directives.specs.Groups.{first_state, state_behind, is_skipped, is_waiting, entered, state_before_elif, with_state, else_fault, turned_else, end_fault, left}
+use Rattle.c_preproc_directives.specs.OpenFiles.{Opened, opened_of, begins_directive, first_of, cut_text}
+use Rattle.c_preproc_directives.specs.declared.open_files.OpenFile.{OpenFile}
 use Rattle.c_preproc.specs.declared.preprocessor_state.State.{State}
 use Rattle.c_preproc.specs.declared.preprocessing.Wanted.{Wanted}
 

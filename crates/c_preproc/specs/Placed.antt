@@ -6,10 +6,10 @@ use Rattle.cc_base.specs.declared.lexemes.Token.{Token}
 use Rattle.cc_base.specs.declared.refusals.Stop.{Stop}
 use Rattle.cc_base.specs.declared.refusals.Stop.TheVariants as stop
 use Rattle.c_layout.specs.declared.unit_tokens.Unit7.{Unit7}
-use Rattle.macro_expansion.specs.declared.lexeme.Lexeme.{Lexeme}
-use Rattle.macro_expansion.specs.Places.{StandsBy}
-use Rattle.directive_lines.specs.declared.conditional_groups.Section.{Section}
-use Rattle.directive_lines.specs.OpenFiles.{Opened}
+use Rattle.c_preproc_macros.specs.declared.lexeme.Lexeme.{Lexeme}
+use Rattle.c_preproc_macros.specs.Places.{StandsBy}
+use Rattle.c_preproc_directives.specs.declared.conditional_groups.Section.{Section}
+use Rattle.c_preproc_directives.specs.OpenFiles.{Opened}
 use Rattle.c_preproc.specs.Known.{Known}
 
 -- a place in one of so many files

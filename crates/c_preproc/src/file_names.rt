@@ -1,6 +1,6 @@
 //! The names of the files that were met.
 ghost use Rattle.std.specs.Prelude.{◌≡◌, ◌++◌, ◌∷◌, [], true, map, length, string_bytes, slice_get, Some, option_map, IfOk, false};
-ghost use Rattle.macro_expansion.specs.Numbering.{number_in, with_text};
+ghost use Rattle.c_preproc_macros.specs.Numbering.{number_in, with_text};
 ghost use Rattle.c_preproc.specs.Names.{is_among, is_distinct, position_from};
 
 use cc_base::Memory;

@@ -1,23 +1,23 @@
 //! What is known while a unit is preprocessed, and what its directives do to it.
 ghost use Rattle.std.specs.Prelude.{◌≡◌, ◌∷◌, [], Some, not, true, false, IfErr, IfOk, option_map};
-ghost use Rattle.macro_expansion.specs.Numbering.{texts_of};
-ghost use Rattle.directive_conditions.specs.DefinedNames.{named_of};
+ghost use Rattle.c_preproc_macros.specs.Numbering.{texts_of};
+ghost use Rattle.c_preproc_conditions.specs.DefinedNames.{named_of};
 ghost use Rattle.c_tokens.specs.Cutting.{fault_of};
 ghost use Rattle.c_preproc.specs.Causes.{IsOwn, IsOwnRefusal};
-ghost use Rattle.directive_lines.specs.OpenFiles.{opened_of};
+ghost use Rattle.c_preproc_directives.specs.OpenFiles.{opened_of};
 ghost use Rattle.c_preproc.specs.Known.{known_of, reading_of, Gives, start, trouble_fault, unclosed_fault, uneven_fault, condition_fault, appended, text_read, condition, decided, begun_if, begun_ifdef, turned_elif, else_turned, if_ended, define, undefine, pragma, is_once, name_of, only_name, name_before, first_name, is_nil, define_as, condition_expanded, IsConditionStop};
-ghost use Rattle.macro_expansion.specs.Expanding.{Outcome};
-ghost use Rattle.macro_expansion.specs.Rules.{defined_of};
+ghost use Rattle.c_preproc_macros.specs.Expanding.{Outcome};
+ghost use Rattle.c_preproc_macros.specs.Rules.{defined_of};
 
 use crate::unit_tokens::UnitTokens;
-use cc_base::{Fault, Kind, Memory, Place, Refusal, Stop};
-use directive_conditions::{ConditionFault, Digits, holds, replace_defined};
-use directive_lines::{
+use c_preproc_conditions::{ConditionFault, Digits, holds, replace_defined};
+use c_preproc_directives::{
     DefinitionFault, GroupState, OpenFile, Uneven, definition, may_be_defined, same_definition,
 };
-use macro_expansion::{
+use c_preproc_macros::{
     Expansion, Failure, Lexeme, Macro, Macros, Mark, Part, Refused, Spellings, Trouble, expand_list,
 };
+use cc_base::{Fault, Kind, Memory, Place, Refusal, Stop};
 use std::alloc::Global;
 
 /// What is known while a unit is preprocessed.

@@ -8,9 +8,9 @@ use Rattle.c_layout.specs.CheckedUnits.{LocalView, FunctionView}
 use Rattle.c_layout.specs.DeclarationTrees.{StorageWord, TypeOf}
 use Rattle.c_layout.specs.declared.syntax_tree.declarations.Storage.TheVariants as storage
 use Rattle.c_layout.specs.declared.syntax_tree.declarations.TypeWord.TheVariants as word
-use Rattle.type_rules.specs.IntegerKinds.{kind_of}
-use Rattle.type_rules.specs.declared.integer_kinds.Rank.TheVariants as rank
-use Rattle.type_scopes.specs.Refusals.{refused}
+use Rattle.c_types_rules.specs.IntegerKinds.{kind_of}
+use Rattle.c_types_rules.specs.declared.integer_kinds.Rank.TheVariants as rank
+use Rattle.c_types_scopes.specs.Refusals.{refused}
 use Rattle.c_types.specs.UnitDefinitions.{last_storage, storage_of, is_definition}
 use Rattle.c_types.specs.UnitEntries.{integers_from, entry_from, first_place, entry_number, judged}
 

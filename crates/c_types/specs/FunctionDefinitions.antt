@@ -4,23 +4,23 @@ use Rattle.cc_base.specs.declared.diagnostics.Place.{Place}
 use Rattle.c_layout.specs.DeclarationTrees as syntax
 use Rattle.c_layout.specs.DeclarationTrees.{NameView, SpecTree, StatementTrees, FunctionDeclaratorView, spec_trees, statement_trees}
 use Rattle.c_layout.specs.CheckedUnits.{FunctionView}
-use Rattle.type_scopes.specs.Definitions.{function_of}
-use Rattle.type_scopes.specs.Refusals.{Ruled, type_fault}
-use Rattle.type_scopes.specs.Answers.{after}
-use Rattle.type_scopes.specs.States.{State}
-use Rattle.declaration_types.specs.Specifiers.{SpecifiedView}
-use Rattle.declaration_types.specs.SpecifierTrees.{specifiers}
-use Rattle.declaration_types.specs.FunctionHeads.{HeadView, function_head}
-use Rattle.statement_rules.specs.BodyFlow.{no_flow, label_count}
-use Rattle.statement_rules.specs.Points.{Point, point}
-use Rattle.statement_types.specs.LabelNumbers.{with_all_labels}
-use Rattle.declared_objects.specs.LocalObjects.{PartsView}
-use Rattle.statement_rules.specs.StatementNodes.{no_parts}
-use Rattle.statement_types.specs.LocalDeclarations.{local_declaration}
-use Rattle.statement_types.specs.Statements.{items}
-use Rattle.file_declarations.specs.ExternalDeclarations.{is_typedef}
-use Rattle.file_declarations.specs.FunctionDeclarations.{in_scope, out_of_scope, function_slot, judged_head, without_body}
-use Rattle.file_declarations.specs.declared.function_declarations.FunctionSlot.{FunctionSlot}
+use Rattle.c_types_scopes.specs.Definitions.{function_of}
+use Rattle.c_types_scopes.specs.Refusals.{Ruled, type_fault}
+use Rattle.c_types_scopes.specs.Answers.{after}
+use Rattle.c_types_scopes.specs.States.{State}
+use Rattle.c_types_declarations.specs.Specifiers.{SpecifiedView}
+use Rattle.c_types_declarations.specs.SpecifierTrees.{specifiers}
+use Rattle.c_types_declarations.specs.FunctionHeads.{HeadView, function_head}
+use Rattle.c_types_statement_rules.specs.BodyFlow.{no_flow, label_count}
+use Rattle.c_types_statement_rules.specs.Points.{Point, point}
+use Rattle.c_types_statements.specs.LabelNumbers.{with_all_labels}
+use Rattle.c_types_objects.specs.LocalObjects.{PartsView}
+use Rattle.c_types_statement_rules.specs.StatementNodes.{no_parts}
+use Rattle.c_types_statements.specs.LocalDeclarations.{local_declaration}
+use Rattle.c_types_statements.specs.Statements.{items}
+use Rattle.c_types_file_scope.specs.ExternalDeclarations.{is_typedef}
+use Rattle.c_types_file_scope.specs.FunctionDeclarations.{in_scope, out_of_scope, function_slot, judged_head, without_body}
+use Rattle.c_types_file_scope.specs.declared.function_declarations.FunctionSlot.{FunctionSlot}
 
 -- ---- heads
 

@@ -1,9 +1,9 @@
 -- The struct that a stream points to, which a header completes (7.21.1p2).
 use Rattle.std.specs.Prelude.{ℕ, List, [], ◌∷◌, length}
-use Rattle.type_scopes.specs.Names.{number_in}
-use Rattle.type_scopes.specs.States.{State, with_name}
-use Rattle.type_scopes.specs.declared.meanings.Tag.TheVariants as tag
-use Rattle.declaration_types.specs.ContextSteps.{with_struct, with_tag}
+use Rattle.c_types_scopes.specs.Names.{number_in}
+use Rattle.c_types_scopes.specs.States.{State, with_name}
+use Rattle.c_types_scopes.specs.declared.meanings.Tag.TheVariants as tag
+use Rattle.c_types_declarations.specs.ContextSteps.{with_struct, with_tag}
 
 -- `__file`
 abbrev pub stream_tag : List ℕ

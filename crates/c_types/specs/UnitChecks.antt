@@ -4,14 +4,14 @@ use Rattle.std.specs.Prelude.{ℕ, List, [], ◌∷◌, ◌++◌, Ok, Err}
 use Rattle.c_layout.specs.DeclarationTrees.{ExternalTree, Declared, Defined}
 use Rattle.c_layout.specs.CheckedUnits.{FunctionView, UnitView}
 use Rattle.c_layout.specs.declared.data_model.Model.{Model}
-use Rattle.type_scopes.specs.Refusals.{Ruled}
-use Rattle.type_scopes.specs.Answers.{after}
-use Rattle.type_scopes.specs.States.{State, first_state}
+use Rattle.c_types_scopes.specs.Refusals.{Ruled}
+use Rattle.c_types_scopes.specs.Answers.{after}
+use Rattle.c_types_scopes.specs.States.{State, first_state}
 use Rattle.c_types.specs.Streams.{with_stream}
 use Rattle.c_types.specs.UnitDefinitions.{with_externals}
-use Rattle.declared_objects.specs.UnitObjects.{with_completed, with_bounded}
+use Rattle.c_types_objects.specs.UnitObjects.{with_completed, with_bounded}
 use Rattle.c_types.specs.UnitEntries.{judged}
-use Rattle.file_declarations.specs.ExternalDeclarations.{external_declaration}
+use Rattle.c_types_file_scope.specs.ExternalDeclarations.{external_declaration}
 use Rattle.c_types.specs.FunctionDefinitions.{function_definition}
 
 abbrev pub functions_kept : List FunctionView → Unit {0} → State → Ruled (List FunctionView × State)

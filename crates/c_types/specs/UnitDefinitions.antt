@@ -3,9 +3,9 @@ use Rattle.std.specs.Prelude.{Bool, true, false, List, [], ◌∷◌, cond, Opti
 use Rattle.c_layout.specs.DeclarationTrees.{NameView, SpecTree, StorageWord, Qualifier, TypeOf, StructTag, StructBody, EnumTag, EnumBody, TypedefName, InitDeclaratorView, Object, Initialized, Prototype, ExternalTree, Declared, Defined}
 use Rattle.c_layout.specs.declared.syntax_tree.declarations.Storage.{Storage}
 use Rattle.c_layout.specs.declared.syntax_tree.declarations.Storage.TheVariants as storage
-use Rattle.type_scopes.specs.Definitions as definitions
-use Rattle.type_scopes.specs.Names.{number_in}
-use Rattle.type_scopes.specs.States.{State, with_name}
+use Rattle.c_types_scopes.specs.Definitions as definitions
+use Rattle.c_types_scopes.specs.Names.{number_in}
+use Rattle.c_types_scopes.specs.States.{State, with_name}
 
 -- the storage class behind a word
 abbrev pub storage_word : SpecTree → Option Storage → Option Storage

@@ -5,10 +5,10 @@ use Rattle.cc_base.specs.declared.diagnostics.Place.{Place}
 use Rattle.cc_base.specs.declared.refusals.Refusal.TheVariants as refusal
 use Rattle.c_layout.specs.Types.{Ty, Int, Pointer, Array, Struct, Void}
 use Rattle.c_layout.specs.CheckedUnits.{LocalView, FunctionView}
-use Rattle.call_cycles.specs.CallCycles.{first_cycle}
-use Rattle.call_cycles.specs.declared.call_graph.Call.{Call}
-use Rattle.type_scopes.specs.Names.{narrowed}
-use Rattle.type_scopes.specs.Refusals.{Ruled, refused}
+use Rattle.c_types_cycles.specs.CallCycles.{first_cycle}
+use Rattle.c_types_cycles.specs.declared.call_graph.Call.{Call}
+use Rattle.c_types_scopes.specs.Names.{narrowed}
+use Rattle.c_types_scopes.specs.Refusals.{Ruled, refused}
 
 abbrev pub is_integer : Ty → Bool
 is_integer (Int k) = true

@@ -8,21 +8,21 @@ ghost use Rattle.c_layout.specs.DeclarationTrees.{
   statement_trees,
 };
 ghost use Rattle.c_layout.specs.CheckedUnits.{function_view};
-ghost use Rattle.type_scopes.specs.Answers.{Leads};
-ghost use Rattle.type_scopes.specs.States.{state};
-ghost use Rattle.declaration_types.specs.Specifiers.{specified_view};
-ghost use Rattle.declaration_types.specs.FunctionHeads.{head_view};
-ghost use Rattle.declared_objects.specs.LocalObjects.{parts_view};
+ghost use Rattle.c_types_scopes.specs.Answers.{Leads};
+ghost use Rattle.c_types_scopes.specs.States.{state};
+ghost use Rattle.c_types_declarations.specs.Specifiers.{specified_view};
+ghost use Rattle.c_types_declarations.specs.FunctionHeads.{head_view};
+ghost use Rattle.c_types_objects.specs.LocalObjects.{parts_view};
 ghost use Rattle.c_types.specs.FunctionDefinitions as spec;
 
 use c_layout::{Function, FunctionDeclarator, Name, SpecWord, Statement};
+use c_types_declarations::{FunctionHead, Specified, function_head, specifiers_of};
+use c_types_file_scope::{function_slot, is_typedef, judged_head, taken_body};
+use c_types_objects::BlockParts;
+use c_types_scopes::{Body, Context, type_fault};
+use c_types_statement_rules::{BodyFlow, no_parts};
+use c_types_statements::{add_labels, items};
 use cc_base::{Place, Stop};
-use declaration_types::{FunctionHead, Specified, function_head, specifiers_of};
-use declared_objects::BlockParts;
-use file_declarations::{function_slot, is_typedef, judged_head, taken_body};
-use statement_rules::{BodyFlow, no_parts};
-use statement_types::{add_labels, items};
-use type_scopes::{Body, Context, type_fault};
 
 /// The body at hand is that of the function of a name.
 fn number_body(cx: &mut Context, known: u32)

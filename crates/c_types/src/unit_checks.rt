@@ -3,9 +3,9 @@ ghost use Rattle.std.specs.Prelude.{◌≡◌, ◌<◌, true, [], map, length, v
 ghost use Rattle.c_layout.specs.Models.{is_model};
 ghost use Rattle.c_layout.specs.DeclarationTrees.{external_tree, unit_tree};
 ghost use Rattle.c_layout.specs.CheckedUnits.{function_view, unit_view};
-ghost use Rattle.type_scopes.specs.Answers.{Gives, Leads};
-ghost use Rattle.type_scopes.specs.States.{state};
-ghost use Rattle.declaration_types.specs.ContextSteps.{with_struct};
+ghost use Rattle.c_types_scopes.specs.Answers.{Gives, Leads};
+ghost use Rattle.c_types_scopes.specs.States.{state};
+ghost use Rattle.c_types_declarations.specs.ContextSteps.{with_struct};
 ghost use Rattle.c_types.specs.UnitEntries.{entry_number};
 ghost use Rattle.c_types.specs.Streams as streams;
 ghost use Rattle.c_types.specs.UnitChecks as spec;
@@ -14,11 +14,11 @@ use crate::function_definitions::function_definition;
 use crate::unit_definitions::add_definitions;
 use crate::unit_entries::judged_unit;
 use c_layout::{Checked, External, Function, Model, Tree7};
+use c_types_file_scope::external_declaration;
+use c_types_objects::finish_objects;
+use c_types_scopes::{Context, DataModel, Tag};
 use cc_base::{Memory, Stop, Text};
-use declared_objects::finish_objects;
-use file_declarations::external_declaration;
 use std::alloc::Global;
-use type_scopes::{Context, DataModel, Tag};
 
 /// Types one external declaration; its function goes to the others.
 fn external(

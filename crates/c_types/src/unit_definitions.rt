@@ -6,12 +6,12 @@ ghost use Rattle.c_layout.specs.DeclarationTrees.{
   init_declarator_view,
   external_tree,
 };
-ghost use Rattle.type_scopes.specs.States.{state};
+ghost use Rattle.c_types_scopes.specs.States.{state};
 ghost use Rattle.c_types.specs.UnitDefinitions as spec;
 
 use c_layout::{External, InitDeclarator, Name, SpecWord, Storage};
+use c_types_scopes::Context;
 use cc_base::Memory;
-use type_scopes::Context;
 
 /// The storage class behind a word.
 fn storage_word(word: &SpecWord, found: Option<Storage>) -> Option<Storage>

@@ -3,15 +3,15 @@
 ghost use Rattle.std.specs.Prelude.{◌≡◌, ◌<◌, length, map, Some, IfOk, IfSome};
 ghost use Rattle.c_layout.specs.Types.{view};
 ghost use Rattle.c_layout.specs.CheckedUnits.{local_view, function_view};
-ghost use Rattle.call_cycles.specs.CallCycles.{first_cycle};
-ghost use Rattle.type_scopes.specs.Answers.{Gives};
+ghost use Rattle.c_types_cycles.specs.CallCycles.{first_cycle};
+ghost use Rattle.c_types_scopes.specs.Answers.{Gives};
 ghost use Rattle.c_types.specs.UnitEntries as spec;
 
 use c_layout::{CType, Function, LocalObject};
-use call_cycles::CallGraph;
+use c_types_cycles::CallGraph;
+use c_types_scopes::refused;
 use cc_base::{Place, Refusal, Stop};
 use std::alloc::Global;
-use type_scopes::refused;
 
 /// Whether a type is an integer's.
 fn is_integer(t: &CType) -> bool

@@ -3,7 +3,7 @@ use Rattle.std.proofs.Common.{◌≡◌, ◌&&◌, ◌<◌, ◌^◌, true, lengt
 use Rattle.std.proofs.lemmas.Bool.{ltb-true}
 use Rattle.cc_base.specs.RowLaws.{and_left, and_right}
 use Rattle.flow_program.specs.declared.programs.Flow.{Flow}
-use Rattle.flow_system.specs.SystemChecks.{is_system, is_few}
+use Rattle.abstract_steps_system.specs.SystemChecks.{is_system, is_few}
 
 pub few_blocks : (flow : Flow) → is_system flow ≡ true → length flow.blocks.items < 2 ^ 31
 few_blocks flow h =

@@ -3,13 +3,13 @@ ghost use Rattle.std.specs.Prelude.{◌≡◌, ◌+◌, ◌<◌, ◌≤◌, true
 ghost use Rattle.std.proofs.Common.{replicate};
 ghost use Rattle.std.specs.List.Sorted.{IsStrictlySortedBy};
 ghost use Rattle.row_pool.specs.Pool.{free_count};
-ghost use Rattle.flow_system.specs.SystemChecks.{is_system};
+ghost use Rattle.abstract_steps_system.specs.SystemChecks.{is_system};
 ghost use Rattle.flow_analysis.specs.Analyses.{IsAnalysis};
 
+use abstract_steps_system::{FlowSystem, is_system, system};
 use cc_base::{Diag, Lattice, Memory, Steps, System, Thresholds};
 use fixpoint_engine::{drop_map, new_map, release, solve};
 use flow_program::Flow;
-use flow_system::{FlowSystem, is_system, system};
 use interval_domain::Interval;
 use row_pool::{Row, RowPool};
 use rule_checks::diagnose;

@@ -7,15 +7,15 @@ use Rattle.c_layout.specs.CheckedUnits.{UnitView}
 use Rattle.c_layout.specs.declared.shapes.BaseInfo.{BaseInfo}
 use Rattle.c_layout.specs.declared.shapes.BaseKind.{BaseKind}
 use Rattle.c_layout.specs.declared.shapes.BaseKind.TheVariants as kind
-use Rattle.base_shapes.specs.HeapBases.{heap_leaves}
+use Rattle.flow_lower_shapes.specs.HeapBases.{heap_leaves}
 use Rattle.flow_program.specs.WellFormed.{base_cells, all_cells}
-use Rattle.flow_counts.specs.declared.count_limits.UnitCounts.{UnitCounts}
-use Rattle.flow_counts.specs.Extents.{capped}
-use Rattle.flow_counts.specs.BaseCounts.{bases_of}
-use Rattle.flow_counts.specs.FirstOver.{over, or_else, first_over, pool}
-use Rattle.flow_counts.specs.PieceCounts.{counts_of}
-use Rattle.flow_counts.specs.SharedObjects.{all_bases, all_visited, none_visited, shared_bases}
-use Rattle.program_copies.specs.ProgramViews.{FlowView}
+use Rattle.flow_lower_counts.specs.declared.count_limits.UnitCounts.{UnitCounts}
+use Rattle.flow_lower_counts.specs.Extents.{capped}
+use Rattle.flow_lower_counts.specs.BaseCounts.{bases_of}
+use Rattle.flow_lower_counts.specs.FirstOver.{over, or_else, first_over, pool}
+use Rattle.flow_lower_counts.specs.PieceCounts.{counts_of}
+use Rattle.flow_lower_counts.specs.SharedObjects.{all_bases, all_visited, none_visited, shared_bases}
+use Rattle.flow_program_views.specs.ProgramViews.{FlowView}
 use Rattle.flow_lower.specs.Openings.{whole, program}
 use Rattle.flow_lower.specs.Lowerings.{IsLowering}
 use Rattle.flow_lower.specs.AsCounted.{all_mentions, AreRecorded, HasNoMore, HasFew}

@@ -1,15 +1,15 @@
 -- What is counted of the functions that a unit's entry reaches.
 use Rattle.std.proofs.Common.{◌≡◌, ◌==◌, ℕ, suc, Bool, true, false, cond, List, [], ◌∷◌, ◌++◌, Option, Some, slice_get, refl, ap, sym, subst, ◌∙◌}
 use Rattle.c_layout.specs.CheckedUnits.{FunctionView, UnitView}
-use Rattle.template_works.specs.Pieces.{PieceView, Do, DoIfUsed, End, Mark, Call, TemplateView}
-use Rattle.flow_counts.specs.declared.function_counts.FunctionCounts.{FunctionCounts}
-use Rattle.flow_counts.specs.PieceCounts.{extent, if_used}
-use Rattle.flow_counts.specs.SettledTemplates.{NamesView, SettlingView, adds_nothing, renamed, renamed_end, is_last, with_renamed, with_if, with_all, nothing_settled, renaming, settled}
-use Rattle.flow_counts.specs.Preparations.{IsTemplateOf, Calls, Reaches, further, is_there, are_counted, counts_from, counts, IsSettled, IsPrepared}
-use Rattle.flow_counts.proofs.OneCount.{one_count, one_settled}
-use Rattle.template_laws.specs.PieceOrder.{AreFollowed}
-use Rattle.template_laws.proofs.TemplateOrder.{template_followed}
-use Rattle.template_laws.proofs.SettledOrder.{settled_followed}
+use Rattle.flow_lower_tasks.specs.Pieces.{PieceView, Do, DoIfUsed, End, Mark, Call, TemplateView}
+use Rattle.flow_lower_counts.specs.declared.function_counts.FunctionCounts.{FunctionCounts}
+use Rattle.flow_lower_counts.specs.PieceCounts.{extent, if_used}
+use Rattle.flow_lower_counts.specs.SettledTemplates.{NamesView, SettlingView, adds_nothing, renamed, renamed_end, is_last, with_renamed, with_if, with_all, nothing_settled, renaming, settled}
+use Rattle.flow_lower_counts.specs.Preparations.{IsTemplateOf, Calls, Reaches, further, is_there, are_counted, counts_from, counts, IsSettled, IsPrepared}
+use Rattle.flow_lower_counts.proofs.OneCount.{one_count, one_settled}
+use Rattle.flow_lower_laws.specs.PieceOrder.{AreFollowed}
+use Rattle.flow_lower_laws.proofs.TemplateOrder.{template_followed}
+use Rattle.flow_lower_laws.proofs.SettledOrder.{settled_followed}
 use Rattle.flow_lower.specs.Openings.{joined, template_at}
 use Rattle.flow_lower.proofs.PieceExtents.{CountsOf}
 

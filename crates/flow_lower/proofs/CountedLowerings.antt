@@ -8,20 +8,20 @@ use Rattle.cc_base.specs.declared.limit_table.Count.TheVariants.{Temps, Bases, C
 use Rattle.cc_base.specs.declared.limit_table.Limits.{Limits}
 use Rattle.cc_base.specs.declared.refusals.Refusal.{Refusal}
 use Rattle.c_layout.specs.CheckedUnits.{UnitView}
-use Rattle.template_works.specs.Acts.{Step}
-use Rattle.template_works.specs.Pieces.{TemplateView}
-use Rattle.flow_templates.specs.Functions.{IsTemplate}
-use Rattle.flow_counts.specs.declared.count_limits.UnitCounts.{UnitCounts}
-use Rattle.flow_counts.specs.declared.function_counts.FunctionCounts.{FunctionCounts}
-use Rattle.flow_counts.specs.Extents.{capped, with_call}
-use Rattle.flow_counts.specs.FirstOver.{over, or_else, first_over, pool}
-use Rattle.flow_counts.specs.SizeRefusals.{limit_of}
-use Rattle.flow_counts.specs.PieceCounts.{nothing, counts_of, extent}
-use Rattle.flow_counts.specs.Preparations.{begun, IsPrepared}
-use Rattle.template_laws.specs.PieceOrder.{ends_block}
-use Rattle.template_laws.proofs.TemplateOrder.{entry_ends}
-use Rattle.template_laws.proofs.SettledOrder.{settled_ends}
-use Rattle.program_copies.specs.ProgramViews.{BlockView, EdgeView, FlowView}
+use Rattle.flow_lower_tasks.specs.Acts.{Step}
+use Rattle.flow_lower_tasks.specs.Pieces.{TemplateView}
+use Rattle.flow_lower_functions.specs.Functions.{IsTemplate}
+use Rattle.flow_lower_counts.specs.declared.count_limits.UnitCounts.{UnitCounts}
+use Rattle.flow_lower_counts.specs.declared.function_counts.FunctionCounts.{FunctionCounts}
+use Rattle.flow_lower_counts.specs.Extents.{capped, with_call}
+use Rattle.flow_lower_counts.specs.FirstOver.{over, or_else, first_over, pool}
+use Rattle.flow_lower_counts.specs.SizeRefusals.{limit_of}
+use Rattle.flow_lower_counts.specs.PieceCounts.{nothing, counts_of, extent}
+use Rattle.flow_lower_counts.specs.Preparations.{begun, IsPrepared}
+use Rattle.flow_lower_laws.specs.PieceOrder.{ends_block}
+use Rattle.flow_lower_laws.proofs.TemplateOrder.{entry_ends}
+use Rattle.flow_lower_laws.proofs.SettledOrder.{settled_ends}
+use Rattle.flow_program_views.specs.ProgramViews.{BlockView, EdgeView, FlowView}
 use Rattle.flow_lower.specs.Openings.{Made, Opened, is_none, nothing_made, whole, unfinished, head_set, head_if, with_heads, resolved, program}
 use Rattle.flow_lower.specs.Lowerings.{IsLowering}
 use Rattle.flow_lower.specs.AsCounted.{all_instructions, IsAsCounted, IsWithin}

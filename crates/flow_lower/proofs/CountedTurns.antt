@@ -5,15 +5,15 @@ use Rattle.c_layout.specs.CheckedUnits.{UnitView}
 use Rattle.flow_program.specs.declared.flow_edges.Side.{Side}
 use Rattle.flow_program.specs.declared.flow_edges.Side.TheVariants as side
 use Rattle.flow_program.specs.declared.flow_edges.Test.{Test}
-use Rattle.template_works.specs.Acts.{Act, Jump, Step}
-use Rattle.template_works.specs.Pieces.{Way, Always, When, Case, Other, NoLine, Line, ExitView, PieceView, Do, DoIfUsed, End, Mark, Call, TemplateView}
-use Rattle.template_works.specs.declared.template_pieces.OwnCall.{OwnCall}
-use Rattle.flow_counts.specs.declared.function_counts.BlockExtent.{BlockExtent}
-use Rattle.flow_counts.specs.declared.function_counts.FunctionCounts.{FunctionCounts}
-use Rattle.flow_counts.specs.Extents.{capped, with_instruction, with_end, with_mark, with_call}
-use Rattle.flow_counts.specs.PieceCounts.{counts_of, counted}
-use Rattle.flow_counts.specs.Preparations.{Reaches, IsPrepared}
-use Rattle.program_copies.specs.ProgramViews.{BlockView}
+use Rattle.flow_lower_tasks.specs.Acts.{Act, Jump, Step}
+use Rattle.flow_lower_tasks.specs.Pieces.{Way, Always, When, Case, Other, NoLine, Line, ExitView, PieceView, Do, DoIfUsed, End, Mark, Call, TemplateView}
+use Rattle.flow_lower_tasks.specs.declared.template_pieces.OwnCall.{OwnCall}
+use Rattle.flow_lower_counts.specs.declared.function_counts.BlockExtent.{BlockExtent}
+use Rattle.flow_lower_counts.specs.declared.function_counts.FunctionCounts.{FunctionCounts}
+use Rattle.flow_lower_counts.specs.Extents.{capped, with_instruction, with_end, with_mark, with_call}
+use Rattle.flow_lower_counts.specs.PieceCounts.{counts_of, counted}
+use Rattle.flow_lower_counts.specs.Preparations.{Reaches, IsPrepared}
+use Rattle.flow_program_views.specs.ProgramViews.{BlockView}
 use Rattle.flow_lower.specs.MovedActs.{own_base}
 use Rattle.flow_lower.specs.Openings as o
 use Rattle.flow_lower.specs.Openings.{Made, CopyView, Placed, Opened, placed, opened, is_none}

@@ -8,16 +8,16 @@ use Rattle.c_layout.specs.CheckedUnits.{FunctionView, UnitView}
 use Rattle.flow_program.specs.declared.flow_edges.Side.{Side}
 use Rattle.flow_program.specs.declared.flow_edges.Side.TheVariants as side
 use Rattle.flow_program.specs.declared.flow_edges.Test.{Test}
-use Rattle.template_works.specs.Acts.{Act, Jump, Step}
-use Rattle.template_works.specs.Pieces.{Way, Always, When, Case, Other, NoLine, Line, ExitView, PieceView, Do, DoIfUsed, End, Mark, Call, TemplateView}
-use Rattle.template_works.specs.declared.template_pieces.OwnCall.{OwnCall}
-use Rattle.flow_counts.specs.declared.function_counts.FunctionCounts.{FunctionCounts}
-use Rattle.flow_counts.specs.Preparations.{begun, IsPrepared}
-use Rattle.flow_templates.specs.Functions.{IsTemplate}
-use Rattle.template_laws.specs.PieceOrder.{is_end, last_ends, ends_block}
-use Rattle.template_laws.proofs.TemplateOrder.{entry_ends}
-use Rattle.template_laws.proofs.SettledOrder.{settled_ends}
-use Rattle.program_copies.specs.ProgramViews.{EdgeView, FlowView}
+use Rattle.flow_lower_tasks.specs.Acts.{Act, Jump, Step}
+use Rattle.flow_lower_tasks.specs.Pieces.{Way, Always, When, Case, Other, NoLine, Line, ExitView, PieceView, Do, DoIfUsed, End, Mark, Call, TemplateView}
+use Rattle.flow_lower_tasks.specs.declared.template_pieces.OwnCall.{OwnCall}
+use Rattle.flow_lower_counts.specs.declared.function_counts.FunctionCounts.{FunctionCounts}
+use Rattle.flow_lower_counts.specs.Preparations.{begun, IsPrepared}
+use Rattle.flow_lower_functions.specs.Functions.{IsTemplate}
+use Rattle.flow_lower_laws.specs.PieceOrder.{is_end, last_ends, ends_block}
+use Rattle.flow_lower_laws.proofs.TemplateOrder.{entry_ends}
+use Rattle.flow_lower_laws.proofs.SettledOrder.{settled_ends}
+use Rattle.flow_program_views.specs.ProgramViews.{EdgeView, FlowView}
 use Rattle.flow_lower.specs.MovedActs.{own_base}
 use Rattle.flow_lower.specs.Openings as o
 use Rattle.flow_lower.specs.Openings.{Made, CopyView, Placed, Opened, placed, is_none}

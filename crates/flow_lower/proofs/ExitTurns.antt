@@ -1,8 +1,8 @@
 -- The edges of a block are added one after another.
 use Rattle.std.proofs.Common.{◌≡◌, ◌<◌, ◌+◌, ℕ, zero, suc, List, [], ◌∷◌, drop, get_or, length, map, arith, ap, sym, ◌∙◌}
 use Rattle.c_layout.specs.CheckedUnits.{UnitView}
-use Rattle.template_works.specs.Pieces.{exit_view}
-use Rattle.template_works.specs.declared.template_pieces.Exit.{Exit}
+use Rattle.flow_lower_tasks.specs.Pieces.{exit_view}
+use Rattle.flow_lower_tasks.specs.declared.template_pieces.Exit.{Exit}
 use Rattle.flow_lower.specs.Openings.{Placed, with_exit, with_exits}
 
 rest_suc : {A B : Type 0} (view : A → B) (xs : List A) (n : ℕ) (x : A) → n < length xs → x ≡ get_or xs n x → map view (drop n xs) ≡ view x ∷ map view (drop (suc n) xs)

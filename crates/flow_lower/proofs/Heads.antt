@@ -3,7 +3,7 @@ use Rattle.std.proofs.Common.{◌≡◌, ℕ, zero, suc, ◌≤◌, true, List, 
 use Rattle.std.specs.List.{slice_get, slice_set}
 use Rattle.flow_program.specs.declared.basic_blocks.BasicBlock.{BasicBlock}
 use Rattle.flow_lower.specs.Openings.{head_set}
-use Rattle.program_copies.specs.ProgramViews.{block}
+use Rattle.flow_program_views.specs.ProgramViews.{block}
 
 abbrev pub noted : BasicBlock → BasicBlock
 noted b = record b { is_head = true }

@@ -6,11 +6,11 @@ use Rattle.cc_base.specs.declared.refusals.Refusal.{Refusal}
 use Rattle.cc_base.specs.declared.refusals.Stop.{Stop}
 use Rattle.cc_base.specs.declared.refusals.Stop.TheVariants as stop
 use Rattle.c_layout.specs.CheckedUnits.{FunctionView, UnitView}
-use Rattle.template_works.specs.Pieces.{TemplateView}
-use Rattle.flow_counts.specs.declared.count_limits.UnitCounts.{UnitCounts}
-use Rattle.flow_counts.specs.SizeRefusals.{IsTooLarge}
-use Rattle.flow_counts.specs.FirstOver.{over, or_else, first_over, refusal_in, pool}
-use Rattle.program_copies.specs.ProgramViews.{FlowView}
+use Rattle.flow_lower_tasks.specs.Pieces.{TemplateView}
+use Rattle.flow_lower_counts.specs.declared.count_limits.UnitCounts.{UnitCounts}
+use Rattle.flow_lower_counts.specs.SizeRefusals.{IsTooLarge}
+use Rattle.flow_lower_counts.specs.FirstOver.{over, or_else, first_over, refusal_in, pool}
+use Rattle.flow_program_views.specs.ProgramViews.{FlowView}
 use Rattle.flow_lower.specs.Openings.{ProgramView, program, unfinished}
 use Rattle.flow_lower.specs.Lowerings.{inputs, input, lowered, refusal_of, IsCounted, IsLowering, Refuses}
 

@@ -2,9 +2,9 @@
 use Rattle.std.proofs.Common.{◌≡◌, ◌≤◌, ℕ, zero, suc, ◌+◌, Bool, true, false, cond, List, [], ◌∷◌, ◌++◌, Option, Some, refl, arith, ap, subst}
 use Rattle.std.specs.List.{slice_get, slice_set}
 use Rattle.c_layout.specs.Types.{Ty}
-use Rattle.template_works.specs.Pieces.{NameView, Local, Outcome, Static, Literal, Allocation}
-use Rattle.flow_counts.specs.BaseCounts.{is_new}
-use Rattle.template_laws.specs.NamedBases.{site_weight, all_sites}
+use Rattle.flow_lower_tasks.specs.Pieces.{NameView, Local, Outcome, Static, Literal, Allocation}
+use Rattle.flow_lower_counts.specs.BaseCounts.{is_new}
+use Rattle.flow_lower_laws.specs.NamedBases.{site_weight, all_sites}
 
 -- what is noted in one list is so in the other
 abbrev pub Within : List Bool → List Bool → Type 0

@@ -5,15 +5,15 @@ use Rattle.cc_base.specs.declared.limit_table.Limits.{Limits}
 use Rattle.cc_base.specs.declared.refusals.Fault.{Fault}
 use Rattle.cc_base.specs.declared.refusals.Refusal.{Refusal}
 use Rattle.c_layout.specs.CheckedUnits.{FunctionView, UnitView}
-use Rattle.template_works.specs.Pieces.{TemplateView}
-use Rattle.flow_counts.specs.declared.count_limits.UnitCounts.{UnitCounts}
-use Rattle.flow_counts.specs.declared.function_counts.FunctionCounts.{FunctionCounts}
-use Rattle.flow_counts.specs.FirstOver.{unit_counts}
-use Rattle.flow_counts.specs.SharedObjects.{shared_bases}
-use Rattle.flow_counts.specs.Preparations.{IsPrepared}
-use Rattle.flow_counts.proofs.OneCount.{one_count, one_settled}
+use Rattle.flow_lower_tasks.specs.Pieces.{TemplateView}
+use Rattle.flow_lower_counts.specs.declared.count_limits.UnitCounts.{UnitCounts}
+use Rattle.flow_lower_counts.specs.declared.function_counts.FunctionCounts.{FunctionCounts}
+use Rattle.flow_lower_counts.specs.FirstOver.{unit_counts}
+use Rattle.flow_lower_counts.specs.SharedObjects.{shared_bases}
+use Rattle.flow_lower_counts.specs.Preparations.{IsPrepared}
+use Rattle.flow_lower_counts.proofs.OneCount.{one_count, one_settled}
 use Rattle.flow_lower.specs.Openings.{program}
-use Rattle.program_copies.specs.ProgramViews.{FlowView}
+use Rattle.flow_program_views.specs.ProgramViews.{FlowView}
 use Rattle.flow_lower.specs.AsCounted.{HasJust}
 use Rattle.flow_lower.specs.Lowerings.{lowered, refusal_of, IsCounted, IsLowering, IsRefusal}
 

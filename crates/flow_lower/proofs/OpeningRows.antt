@@ -9,11 +9,11 @@ use Rattle.c_layout.specs.declared.data_model.Model.{Model}
 use Rattle.c_layout.specs.declared.shapes.BaseInfo.{BaseInfo}
 use Rattle.c_layout.specs.declared.shapes.BaseKind.{BaseKind}
 use Rattle.c_layout.specs.declared.shapes.BaseKind.TheVariants as kind
-use Rattle.template_works.specs.Acts.{Act, Enter, Leave, Jump, Stop, Step}
-use Rattle.template_works.specs.Pieces.{Local, Static, Allocation, Always, Do, End, Mark, Call, TemplateView}
-use Rattle.template_works.specs.declared.template_pieces.OwnCall.{OwnCall}
+use Rattle.flow_lower_tasks.specs.Acts.{Act, Enter, Leave, Jump, Stop, Step}
+use Rattle.flow_lower_tasks.specs.Pieces.{Local, Static, Allocation, Always, Do, End, Mark, Call, TemplateView}
+use Rattle.flow_lower_tasks.specs.declared.template_pieces.OwnCall.{OwnCall}
 use Rattle.flow_lower.specs.BaseTables.{TableView, base}
-use Rattle.program_copies.specs.ProgramViews.{BlockView}
+use Rattle.flow_program_views.specs.ProgramViews.{BlockView}
 use Rattle.flow_lower.specs.Openings.{edge_to, nothing_made, program}
 
 abbrev int_type : Ty

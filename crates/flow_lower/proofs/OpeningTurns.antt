@@ -1,7 +1,7 @@
 -- Pieces are added one after another, until no copy is left.
 use Rattle.std.proofs.Common.{◌≡◌, ◌<◌, ◌≤◌, ◌-◌, ◌+◌, ℕ, List, [], ◌∷◌, Option, refl, zero, suc, arith, ap, sym, ◌∙◌}
 use Rattle.c_layout.specs.CheckedUnits.{UnitView}
-use Rattle.template_works.specs.Pieces.{TemplateView}
+use Rattle.flow_lower_tasks.specs.Pieces.{TemplateView}
 use Rattle.flow_lower.specs.Openings.{CopyView, Made, Placed, placed, Opened, next, opened, run, with_local, with_parameters, all_run, entry_run, unresolved}
 
 pub no_copy : (u : UnitView) (ts : List (Option TemplateView)) (n : ℕ) (m : Made) → run u ts n [] m ≡ opened [] m

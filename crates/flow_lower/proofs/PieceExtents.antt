@@ -1,11 +1,11 @@
 -- What pieces add, from any point on.
 use Rattle.std.proofs.Common.{◌≡◌, ℕ, ◌+◌, ◌≤◌, ◌^◌, Bool, true, false, cond, min, List, [], ◌∷◌, Option, refl, arith, ap, sym, ◌∙◌}
-use Rattle.template_works.specs.Pieces.{PieceView, Do, DoIfUsed, End, Mark, Call}
-use Rattle.flow_counts.specs.declared.function_counts.BlockExtent.{BlockExtent}
-use Rattle.flow_counts.specs.declared.function_counts.FunctionCounts.{FunctionCounts}
-use Rattle.flow_counts.specs.Extents.{capped, with_instruction, with_end, with_mark, added_by, with_call}
-use Rattle.flow_counts.specs.PieceCounts.{nothing, counted, with_piece, with_pieces, extent, if_used_by, if_used}
-use Rattle.template_laws.specs.PieceOrder.{GoesOn, AreFollowed, is_end, last_ends}
+use Rattle.flow_lower_tasks.specs.Pieces.{PieceView, Do, DoIfUsed, End, Mark, Call}
+use Rattle.flow_lower_counts.specs.declared.function_counts.BlockExtent.{BlockExtent}
+use Rattle.flow_lower_counts.specs.declared.function_counts.FunctionCounts.{FunctionCounts}
+use Rattle.flow_lower_counts.specs.Extents.{capped, with_instruction, with_end, with_mark, added_by, with_call}
+use Rattle.flow_lower_counts.specs.PieceCounts.{nothing, counted, with_piece, with_pieces, extent, if_used_by, if_used}
+use Rattle.flow_lower_laws.specs.PieceOrder.{GoesOn, AreFollowed, is_end, last_ends}
 
 pub same_extent : (a b : BlockExtent) → a.blocks ≡ b.blocks → a.instructions ≡ b.instructions → a.is_empty ≡ b.is_empty → a ≡ b
 same_extent a b p q r = λ i. record { blocks = p i; instructions = q i; is_empty = r i }

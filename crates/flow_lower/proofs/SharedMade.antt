@@ -8,13 +8,13 @@ use Rattle.c_layout.specs.declared.checked_tree.checked_units.StaticBase.{Static
 use Rattle.c_layout.specs.declared.checked_tree.checked_units.StaticBase.TheVariants as shared
 use Rattle.c_layout.specs.declared.shapes.BaseInfo.{BaseInfo}
 use Rattle.c_layout.specs.declared.shapes.BaseKind.TheVariants as kind
-use Rattle.base_shapes.specs.HeapBases.{heap_shape}
+use Rattle.flow_lower_shapes.specs.HeapBases.{heap_shape}
 use Rattle.flow_program.specs.declared.flow_edges.Side.{Side}
 use Rattle.flow_program.specs.declared.flow_edges.Side.TheVariants as side
 use Rattle.flow_program.specs.declared.flow_edges.Test.{Test}
-use Rattle.template_works.specs.Pieces.{NameView, Local, Outcome, Static, Literal, Allocation, Way, Always, When, Case, Other, NoLine, Line, ExitView, PieceView, Do, DoIfUsed, End, Mark, Call, TemplateView}
-use Rattle.template_works.specs.declared.template_pieces.OwnCall.{OwnCall}
-use Rattle.flow_counts.specs.SharedObjects.{literal_type, Sharing, bases_named, template_bases, all_bases}
+use Rattle.flow_lower_tasks.specs.Pieces.{NameView, Local, Outcome, Static, Literal, Allocation, Way, Always, When, Case, Other, NoLine, Line, ExitView, PieceView, Do, DoIfUsed, End, Mark, Call, TemplateView}
+use Rattle.flow_lower_tasks.specs.declared.template_pieces.OwnCall.{OwnCall}
+use Rattle.flow_lower_counts.specs.SharedObjects.{literal_type, Sharing, bases_named, template_bases, all_bases}
 use Rattle.flow_lower.specs.MovedActs.{own_base}
 use Rattle.flow_lower.specs.BaseTables as bases
 use Rattle.flow_lower.specs.BaseTables.{TableView, info, added, found_in, known, local_or, literal_made, literal_or, object_made, object_or, with_shared, brought, with_all, base}

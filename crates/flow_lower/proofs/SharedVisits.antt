@@ -6,10 +6,10 @@ use Rattle.c_layout.specs.Types.{Ty}
 use Rattle.c_layout.specs.CheckedUnits.{StaticStoreView, StaticView, LiteralView, UnitView}
 use Rattle.c_layout.specs.declared.checked_tree.checked_units.StaticBase.{StaticBase}
 use Rattle.c_layout.specs.declared.checked_tree.checked_units.StaticBase.TheVariants as shared
-use Rattle.template_works.specs.Pieces.{NameView, TemplateView}
-use Rattle.flow_counts.specs.Extents.{capped}
-use Rattle.flow_counts.specs.BaseCounts.{is_first, is_new}
-use Rattle.flow_counts.specs.SharedObjects.{literal_type, pointed_into, before_all, all_pointed, Sharing, object_count, literal_count, object_counted, literal_counted, visited, pointed_from, brought, all_visited, name_base, bases_named, template_bases, all_bases, none_visited, shared_bases}
+use Rattle.flow_lower_tasks.specs.Pieces.{NameView, TemplateView}
+use Rattle.flow_lower_counts.specs.Extents.{capped}
+use Rattle.flow_lower_counts.specs.BaseCounts.{is_first, is_new}
+use Rattle.flow_lower_counts.specs.SharedObjects.{literal_type, pointed_into, before_all, all_pointed, Sharing, object_count, literal_count, object_counted, literal_counted, visited, pointed_from, brought, all_visited, name_base, bases_named, template_bases, all_bases, none_visited, shared_bases}
 use Rattle.flow_lower.specs.AsCounted.{all_stores, names_of, all_names, all_mentions}
 use Rattle.flow_lower.proofs.PieceExtents.{capped_left}
 use Rattle.flow_lower.proofs.NotedSlots.{Within, within_same, within_set, not_new, set_noted, slots_weight, new_weight}

@@ -10,13 +10,13 @@ use Rattle.c_layout.specs.declared.checked_tree.checked_units.StaticBase.TheVari
 use Rattle.c_layout.specs.declared.shapes.BaseInfo.{BaseInfo}
 use Rattle.c_layout.specs.declared.shapes.BaseKind.{BaseKind}
 use Rattle.c_layout.specs.declared.shapes.BaseKind.TheVariants as kind
-use Rattle.base_shapes.specs.HeapBases.{heap_shape}
-use Rattle.base_shapes.specs.FirstZeros.{object_shape}
-use Rattle.template_works.specs.Pieces.{NameView, Local, Outcome, Static, Literal, Allocation}
-use Rattle.flow_templates.specs.Functions.{local_type}
-use Rattle.flow_counts.specs.declared.object_counts.BaseCount.{BaseCount}
-use Rattle.flow_counts.specs.Extents.{capped}
-use Rattle.flow_counts.specs.BaseCounts.{is_new, no_bases, both, object_base, allocation_bases}
+use Rattle.flow_lower_shapes.specs.HeapBases.{heap_shape}
+use Rattle.flow_lower_shapes.specs.FirstZeros.{object_shape}
+use Rattle.flow_lower_tasks.specs.Pieces.{NameView, Local, Outcome, Static, Literal, Allocation}
+use Rattle.flow_lower_functions.specs.Functions.{local_type}
+use Rattle.flow_lower_counts.specs.declared.object_counts.BaseCount.{BaseCount}
+use Rattle.flow_lower_counts.specs.Extents.{capped}
+use Rattle.flow_lower_counts.specs.BaseCounts.{is_new, no_bases, both, object_base, allocation_bases}
 use Rattle.flow_lower.specs.BaseTables.{TableView, info, added, Named, local_or, known, literal_made, literal_or, object_made, object_or, with_shared, brought, with_all, base}
 use Rattle.flow_lower.proofs.NotedSlots.{after_slot, adds_slot, adds, after}
 

@@ -5,19 +5,19 @@ use Rattle.std.proofs.lemmas.Bool.{eq-eqb}
 use Rattle.cc_base.specs.declared.diagnostics.Place.{Place}
 use Rattle.c_layout.specs.Types.{Ty}
 use Rattle.c_layout.specs.CheckedUnits.{FunctionView, UnitView}
-use Rattle.template_works.specs.Pieces.{NameView, Local, Outcome, Static, Literal, Allocation, PieceView, Do, DoIfUsed, End, Mark, Call, TemplateView}
-use Rattle.template_works.specs.declared.template_pieces.OwnCall.{OwnCall}
-use Rattle.flow_templates.specs.Functions.{local_type}
-use Rattle.flow_counts.specs.declared.function_counts.FunctionCounts.{FunctionCounts}
-use Rattle.flow_counts.specs.declared.object_counts.BaseCount.{BaseCount}
-use Rattle.flow_counts.specs.Extents.{capped}
-use Rattle.flow_counts.specs.PieceCounts.{counts_of, counted}
-use Rattle.flow_counts.specs.BaseCounts.{Tally, is_new, both, no_bases, object_base, allocation_bases, with_more, with_noted, with_slot, with_name, with_slots, with_names, no_tally, own_bases, bases_of, inner_bases}
-use Rattle.flow_counts.specs.Preparations.{named_parameters, Reaches, begun, IsPrepared}
-use Rattle.template_laws.specs.NamedBases.{named_in, named_in_all, AllBelow, site_weight, all_sites, sites_named, AreNamed}
-use Rattle.template_laws.proofs.NamedLists.{below_append, below_left, below_right, sites_append, named_append}
-use Rattle.template_laws.proofs.TemplateNames.{template_named}
-use Rattle.template_laws.proofs.SettledNames.{settled_named}
+use Rattle.flow_lower_tasks.specs.Pieces.{NameView, Local, Outcome, Static, Literal, Allocation, PieceView, Do, DoIfUsed, End, Mark, Call, TemplateView}
+use Rattle.flow_lower_tasks.specs.declared.template_pieces.OwnCall.{OwnCall}
+use Rattle.flow_lower_functions.specs.Functions.{local_type}
+use Rattle.flow_lower_counts.specs.declared.function_counts.FunctionCounts.{FunctionCounts}
+use Rattle.flow_lower_counts.specs.declared.object_counts.BaseCount.{BaseCount}
+use Rattle.flow_lower_counts.specs.Extents.{capped}
+use Rattle.flow_lower_counts.specs.PieceCounts.{counts_of, counted}
+use Rattle.flow_lower_counts.specs.BaseCounts.{Tally, is_new, both, no_bases, object_base, allocation_bases, with_more, with_noted, with_slot, with_name, with_slots, with_names, no_tally, own_bases, bases_of, inner_bases}
+use Rattle.flow_lower_counts.specs.Preparations.{named_parameters, Reaches, begun, IsPrepared}
+use Rattle.flow_lower_laws.specs.NamedBases.{named_in, named_in_all, AllBelow, site_weight, all_sites, sites_named, AreNamed}
+use Rattle.flow_lower_laws.proofs.NamedLists.{below_append, below_left, below_right, sites_append, named_append}
+use Rattle.flow_lower_laws.proofs.TemplateNames.{template_named}
+use Rattle.flow_lower_laws.proofs.SettledNames.{settled_named}
 use Rattle.flow_lower.specs.Openings as o
 use Rattle.flow_lower.specs.Openings.{Made, CopyView, Placed, Opened, placed, opened, name_at}
 use Rattle.flow_lower.proofs.PieceExtents.{capped_left, capped_right}

@@ -4,12 +4,12 @@ use Rattle.c_layout.specs.CheckedUnits.{FunctionView, StaticView, LiteralView, U
 use Rattle.c_layout.specs.declared.checked_tree.checked_units.StaticBase.{StaticBase}
 use Rattle.c_layout.specs.declared.checked_tree.checked_units.StaticBase.TheVariants as shared
 use Rattle.c_layout.specs.declared.shapes.BaseInfo.{BaseInfo}
-use Rattle.base_shapes.specs.HeapBases.{heap_shape}
+use Rattle.flow_lower_shapes.specs.HeapBases.{heap_shape}
 use Rattle.c_layout.specs.declared.shapes.BaseKind.{BaseKind}
 use Rattle.c_layout.specs.declared.shapes.BaseKind.TheVariants as kind
 use Rattle.c_layout.specs.declared.shapes.Shape.{Shape}
 use Rattle.flow_program.specs.WellFormed.{base_values, all_values}
-use Rattle.template_works.specs.Pieces.{NameView, Local, Outcome, Static, Literal, Allocation}
+use Rattle.flow_lower_tasks.specs.Pieces.{NameView, Local, Outcome, Static, Literal, Allocation}
 use Rattle.flow_lower.specs.BaseTables.{TableView, width_of, info, added, local_or, known, literal_made, literal_or, object_made, object_or, with_shared, brought, with_all, base}
 use Rattle.flow_lower.specs.WellMade.{Follow}
 

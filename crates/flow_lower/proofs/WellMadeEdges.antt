@@ -1,8 +1,8 @@
 -- The edges of a program are numbered by the blocks that they leave.
 use Rattle.std.proofs.Common.{◌≡◌, ℕ, zero, suc, ◌+◌, ◌-◌, Bool, true, false, cond, List, [], ◌∷◌, ◌++◌, length, refl, arith, ap, sym, subst, ◌∙◌, append_assoc, length-append}
 use Rattle.std.proofs.lemmas.List.{map-append, length-map}
-use Rattle.template_works.specs.Acts.{Step}
-use Rattle.program_copies.specs.ProgramViews.{BlockView, EdgeView}
+use Rattle.flow_lower_tasks.specs.Acts.{Step}
+use Rattle.flow_program_views.specs.ProgramViews.{BlockView, EdgeView}
 use Rattle.flow_lower.specs.Openings.{ended_block, resolved_edge, resolved, head_set, head_if, with_heads}
 use Rattle.flow_lower.specs.WellMade.{AllFrom, Leave, head_at}
 

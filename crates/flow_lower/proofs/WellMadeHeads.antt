@@ -2,7 +2,7 @@
 use Rattle.std.proofs.Common.{◌≡◌, ◌≢◌, ◌<◌, ◌≤◌, ◌==◌, ◌⊎◌, inl, inr, ℕ, zero, suc, Bool, true, false, cond, ◌&&◌, ◌||◌, nat_le, List, [], ◌∷◌, length, refl, arith, ap, sym, ◌∙◌}
 use Rattle.std.specs.List.{list_any}
 use Rattle.std.proofs.lemmas.Bool.Decides.{eqb_tells, leb_tells}
-use Rattle.program_copies.specs.ProgramViews.{BlockView, EdgeView}
+use Rattle.flow_program_views.specs.ProgramViews.{BlockView, EdgeView}
 use Rattle.flow_lower.specs.Openings.{head_set, head_if, with_heads}
 use Rattle.flow_lower.specs.WellMade.{goes_back, head_at}
 

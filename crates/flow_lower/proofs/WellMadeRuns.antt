@@ -7,13 +7,13 @@ use Rattle.c_layout.specs.CheckedUnits.{FunctionView, UnitView}
 use Rattle.flow_program.specs.declared.flow_edges.Side.{Side}
 use Rattle.flow_program.specs.declared.flow_edges.Side.TheVariants as side
 use Rattle.flow_program.specs.declared.flow_edges.Test.{Test}
-use Rattle.template_works.specs.Acts.{Act, Jump, Step}
-use Rattle.template_works.specs.Pieces.{Local, Way, Always, When, Case, Other, NoLine, Line, ExitView, PieceView, Do, DoIfUsed, End, Mark, Call, TemplateView}
-use Rattle.template_works.specs.declared.template_pieces.OwnCall.{OwnCall}
+use Rattle.flow_lower_tasks.specs.Acts.{Act, Jump, Step}
+use Rattle.flow_lower_tasks.specs.Pieces.{Local, Way, Always, When, Case, Other, NoLine, Line, ExitView, PieceView, Do, DoIfUsed, End, Mark, Call, TemplateView}
+use Rattle.flow_lower_tasks.specs.declared.template_pieces.OwnCall.{OwnCall}
 use Rattle.flow_lower.specs.MovedActs.{own_base}
 use Rattle.flow_lower.specs.Openings as o
 use Rattle.flow_lower.specs.Openings.{Made, CopyView, Placed, Opened, is_none, placed, name_at}
-use Rattle.program_copies.specs.ProgramViews.{FlowView}
+use Rattle.flow_program_views.specs.ProgramViews.{FlowView}
 use Rattle.flow_lower.specs.Lowerings.{lowered, IsLowering}
 use Rattle.flow_lower.specs.WellMade.{goes_back, IsWellMade}
 use Rattle.flow_lower.proofs.WellMadeBases.{Stand, named_stands}

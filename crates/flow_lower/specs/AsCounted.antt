@@ -6,10 +6,10 @@ use Rattle.c_layout.specs.Leaves.{leaves_of}
 use Rattle.c_layout.specs.StructLayouts.{leaf_count}
 use Rattle.c_layout.specs.CheckedUnits.{StaticView, UnitView}
 use Rattle.flow_program.specs.WellFormed.{all_cells}
-use Rattle.template_works.specs.Pieces.{TemplateView}
-use Rattle.flow_counts.specs.Extents.{capped}
-use Rattle.flow_counts.specs.declared.count_limits.UnitCounts.{UnitCounts}
-use Rattle.program_copies.specs.ProgramViews.{BlockView, FlowView}
+use Rattle.flow_lower_tasks.specs.Pieces.{TemplateView}
+use Rattle.flow_lower_counts.specs.Extents.{capped}
+use Rattle.flow_lower_counts.specs.declared.count_limits.UnitCounts.{UnitCounts}
+use Rattle.flow_program_views.specs.ProgramViews.{BlockView, FlowView}
 
 -- how many instructions blocks have
 abbrev pub all_instructions : List BlockView → ℕ

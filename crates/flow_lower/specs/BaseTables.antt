@@ -9,11 +9,11 @@ use Rattle.c_layout.specs.declared.shapes.BaseInfo.{BaseInfo}
 use Rattle.c_layout.specs.declared.shapes.BaseKind.{BaseKind}
 use Rattle.c_layout.specs.declared.shapes.BaseKind.TheVariants as kind
 use Rattle.c_layout.specs.declared.shapes.Shape.{Shape}
-use Rattle.base_shapes.specs.HeapBases.{heap_shape}
-use Rattle.base_shapes.specs.FirstZeros.{object_shape}
-use Rattle.template_works.specs.Pieces.{NameView, Local, Outcome, Static, Literal, Allocation}
-use Rattle.flow_templates.specs.Functions.{local_type}
-use Rattle.flow_counts.specs.SharedObjects.{literal_type, all_pointed}
+use Rattle.flow_lower_shapes.specs.HeapBases.{heap_shape}
+use Rattle.flow_lower_shapes.specs.FirstZeros.{object_shape}
+use Rattle.flow_lower_tasks.specs.Pieces.{NameView, Local, Outcome, Static, Literal, Allocation}
+use Rattle.flow_lower_functions.specs.Functions.{local_type}
+use Rattle.flow_lower_counts.specs.SharedObjects.{literal_type, all_pointed}
 use Rattle.flow_lower.specs.declared.program_bases.BaseTable.{BaseTable}
 
 -- the bases so far, how many values a row has so far, and which bases the objects of static storage and

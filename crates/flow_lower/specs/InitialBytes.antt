@@ -3,7 +3,7 @@ use Rattle.std.specs.Prelude.{ℕ, ◌+◌, List, [], ◌∷◌, ◌++◌, lengt
 use Rattle.c_layout.specs.Layout.{size_of_type}
 use Rattle.c_layout.specs.CheckedUnits.{StaticView, LiteralView, UnitView}
 use Rattle.c_layout.specs.declared.checked_tree.checked_units.StaticBase.TheVariants as shared
-use Rattle.program_copies.specs.ProgramViews.{Stored, Spelled, InitialView}
+use Rattle.flow_program_views.specs.ProgramViews.{Stored, Spelled, InitialView}
 use Rattle.flow_lower.specs.BaseTables.{TableView, known}
 
 abbrev pub initial_object : UnitView → TableView → ℕ → StaticView → InitialView

@@ -11,14 +11,14 @@ use Rattle.cc_base.specs.declared.refusals.Stop.TheVariants as stop
 use Rattle.c_layout.specs.Types.{Ty, Int, Pointer, Array, Struct, Void}
 use Rattle.c_layout.specs.CheckedUnits.{FunctionView, UnitView}
 use Rattle.flow_program.specs.declared.programs.ParameterInput.{ParameterInput}
-use Rattle.template_works.specs.Pieces.{TemplateView}
-use Rattle.flow_templates.specs.Functions.{local_type}
-use Rattle.flow_counts.specs.declared.count_limits.UnitCounts.{UnitCounts}
-use Rattle.flow_counts.specs.FirstOver.{over, or_else, first_over, unit_counts, pool}
-use Rattle.flow_counts.specs.Preparations.{IsPrepared}
-use Rattle.flow_counts.specs.SharedObjects.{shared_bases}
-use Rattle.flow_counts.specs.declared.function_counts.FunctionCounts.{FunctionCounts}
-use Rattle.program_copies.specs.ProgramViews.{FlowView}
+use Rattle.flow_lower_tasks.specs.Pieces.{TemplateView}
+use Rattle.flow_lower_functions.specs.Functions.{local_type}
+use Rattle.flow_lower_counts.specs.declared.count_limits.UnitCounts.{UnitCounts}
+use Rattle.flow_lower_counts.specs.FirstOver.{over, or_else, first_over, unit_counts, pool}
+use Rattle.flow_lower_counts.specs.Preparations.{IsPrepared}
+use Rattle.flow_lower_counts.specs.SharedObjects.{shared_bases}
+use Rattle.flow_lower_counts.specs.declared.function_counts.FunctionCounts.{FunctionCounts}
+use Rattle.flow_program_views.specs.ProgramViews.{FlowView}
 use Rattle.flow_lower.specs.InitialBytes.{initial_objects}
 use Rattle.flow_lower.specs.Openings.{ProgramView, program, unfinished}
 

@@ -5,9 +5,9 @@ use Rattle.std.specs.Option.{option_map}
 use Rattle.c_layout.specs.declared.library_functions.LibFn.{LibFn}
 use Rattle.flow_program.specs.declared.machine_instructions.Amount.{Amount}
 use Rattle.flow_program.specs.declared.machine_instructions.Amount.TheVariants as amount
-use Rattle.template_works.specs.Acts as acts
-use Rattle.template_works.specs.Acts.{Act}
-use Rattle.template_works.specs.Works.{behind}
+use Rattle.flow_lower_tasks.specs.Acts as acts
+use Rattle.flow_lower_tasks.specs.Acts.{Act}
+use Rattle.flow_lower_tasks.specs.Works.{behind}
 
 -- the temporary that stands as far behind the call's first one
 abbrev pub temp : ℕ → ℕ → ℕ

@@ -7,11 +7,11 @@ use Rattle.flow_program.specs.declared.flow_edges.CaseTest.{CaseTest}
 use Rattle.flow_program.specs.declared.flow_edges.Side.{Side}
 use Rattle.flow_program.specs.declared.flow_edges.Side.TheVariants as side
 use Rattle.flow_program.specs.declared.flow_edges.Test.{Test}
-use Rattle.template_works.specs.Acts.{Act, Jump, Step, step}
-use Rattle.template_works.specs.Pieces.{NameView, Local, Outcome, name_view, Way, Always, When, Case, Other, NoLine, Line, ExitView, PieceView, Do, DoIfUsed, End, Mark, Call, piece_view, TemplateView}
-use Rattle.template_works.specs.declared.template_pieces.OwnCall.{OwnCall}
-use Rattle.template_works.specs.Works.{behind}
-use Rattle.program_copies.specs.ProgramViews.{BlockView, block, EdgeView, edge}
+use Rattle.flow_lower_tasks.specs.Acts.{Act, Jump, Step, step}
+use Rattle.flow_lower_tasks.specs.Pieces.{NameView, Local, Outcome, name_view, Way, Always, When, Case, Other, NoLine, Line, ExitView, PieceView, Do, DoIfUsed, End, Mark, Call, piece_view, TemplateView}
+use Rattle.flow_lower_tasks.specs.declared.template_pieces.OwnCall.{OwnCall}
+use Rattle.flow_lower_tasks.specs.Works.{behind}
+use Rattle.flow_program_views.specs.ProgramViews.{BlockView, block, EdgeView, edge}
 use Rattle.flow_lower.specs.MovedActs.{own_base, put_moved, moved}
 use Rattle.flow_lower.specs.BaseTables.{TableView, table, Named, base}
 use Rattle.flow_lower.specs.declared.opened_program.CallCopy.{CallCopy}

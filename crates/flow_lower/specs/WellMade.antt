@@ -3,7 +3,7 @@ use Rattle.std.specs.Prelude.{◌≡◌, ◌<◌, ℕ, zero, suc, ◌+◌, Bool,
 use Rattle.std.specs.List.{list_any}
 use Rattle.c_layout.specs.declared.shapes.BaseInfo.{BaseInfo}
 use Rattle.flow_program.specs.WellFormed.{base_values, all_values}
-use Rattle.program_copies.specs.ProgramViews.{BlockView, EdgeView, FlowView}
+use Rattle.flow_program_views.specs.ProgramViews.{BlockView, EdgeView, FlowView}
 
 -- the values of bases follow each other in a row
 abbrev pub Follow : ℕ → List BaseInfo → Type 0

@@ -1,11 +1,11 @@
 //! The bases and cells of a program, beside those that were counted before it was made.
 ghost use Rattle.std.specs.Prelude.{◌≡◌, IfOk};
-ghost use Rattle.program_copies.specs.ProgramViews.{flow_view};
+ghost use Rattle.flow_program_views.specs.ProgramViews.{flow_view};
 ghost use Rattle.flow_lower.specs.AsCounted.{HasJust};
 
-use flow_counts::UnitCounts;
+use flow_lower_counts::UnitCounts;
 use flow_program::Flow;
-use program_checks::all_cells;
+use flow_program_checks::all_cells;
 use std::alloc::AllocError;
 
 /// The same program, where it has just the bases and the cells that were counted.

@@ -3,12 +3,12 @@ ghost use Rattle.std.specs.Prelude.{◌≡◌, ◌++◌, IfOk, map};
 ghost use Rattle.c_layout.specs.CheckedUnits.{unit_view, static_view, literal_view};
 ghost use Rattle.flow_lower.specs.BaseTables.{table};
 ghost use Rattle.flow_lower.specs.InitialBytes as spec;
-ghost use Rattle.program_copies.specs.ProgramViews.{initial};
+ghost use Rattle.flow_program_views.specs.ProgramViews.{initial};
 
 use crate::program_bases::{BaseTable, known};
 use c_layout::{Checked, StaticBase, StaticObject, StringLiteral};
 use flow_program::{InitialObject, InitialValue, type_bytes};
-use program_copies::store_copies;
+use flow_program_views::store_copies;
 use std::alloc::{AllocError, Global};
 
 fn number(at: usize) -> Result<u32, AllocError>

@@ -1,14 +1,14 @@
 //! Operations put in at a call: their temporaries are counted from the call's first one.
 ghost use Rattle.std.specs.Prelude.{◌≡◌, IfOk, map};
 ghost use Rattle.std.specs.Option.{option_map};
-ghost use Rattle.template_works.specs.Acts.{act};
+ghost use Rattle.flow_lower_tasks.specs.Acts.{act};
 ghost use Rattle.flow_lower.specs.MovedActs as spec;
 
 use c_layout::LibFn;
 use cc_base::Text;
+use flow_lower_tasks::behind;
 use flow_program::{Amount, Operation};
 use std::alloc::{AllocError, Global};
-use template_works::behind;
 
 /// The number of the template's base that an operation names.
 pub fn own_base(operation: &Operation) -> Option<u32>

@@ -2,24 +2,24 @@
 ghost use Rattle.std.specs.Prelude.{◌≡◌, ◌+◌, ◌++◌, ◌∷◌, ◌-◌, ◌^◌, [], cond, get_or, nat_le, IfOk, None, Some, length, map, replicate, reverse, slice_get, slice_set};
 ghost use Rattle.std.specs.Option.{option_map};
 ghost use Rattle.c_layout.specs.CheckedUnits.{function_view, unit_view};
-ghost use Rattle.template_works.specs.Acts as acts;
-ghost use Rattle.template_works.specs.Acts.{act, step};
-ghost use Rattle.template_works.specs.Pieces.{name_view, way, exit_view, exits_view, piece_view, template_view};
+ghost use Rattle.flow_lower_tasks.specs.Acts as acts;
+ghost use Rattle.flow_lower_tasks.specs.Acts.{act, step};
+ghost use Rattle.flow_lower_tasks.specs.Pieces.{name_view, way, exit_view, exits_view, piece_view, template_view};
 ghost use Rattle.flow_lower.specs.MovedActs.{own_base};
 ghost use Rattle.flow_lower.specs.BaseTables.{table};
-ghost use Rattle.program_copies.specs.ProgramViews.{block, edge};
+ghost use Rattle.flow_program_views.specs.ProgramViews.{block, edge};
 ghost use Rattle.flow_lower.specs.Openings as spec;
-ghost use Rattle.flow_counts.specs.Preparations.{templates_view};
+ghost use Rattle.flow_lower_counts.specs.Preparations.{templates_view};
 ghost use Rattle.flow_lower.specs.Openings.{made, copy_view, placed, opened, opening};
 
 use crate::moved_operations::{Shifted, own_base};
 use crate::program_bases::BaseTable;
 use c_layout::{Checked, Function};
 use cc_base::Place;
+use flow_lower_functions::{BaseName, Exit, OwnCall, Piece, Template};
+use flow_lower_tasks::behind;
 use flow_program::{BasicBlock, CaseTest, Edge, EdgeKind, Instruction, Operation, Side, Test};
-use flow_templates::{BaseName, Exit, OwnCall, Piece, Template};
 use std::alloc::{AllocError, Global};
-use template_works::behind;
 
 /// A call that is put in: the function and its template, the number of the next piece, the first
 /// temporary, the number of the first label, the bases of the local objects, the place of the call and

@@ -2,20 +2,20 @@
 ghost use Rattle.std.specs.Prelude.{◌≡◌, ◌++◌, ◌-◌, ◌^◌, IfOk, Some, length, reverse, slice_get, slice_set, map};
 ghost use Rattle.c_layout.specs.Types.{view};
 ghost use Rattle.c_layout.specs.CheckedUnits.{function_view, unit_view, static_view, static_store_view, literal_view};
-ghost use Rattle.template_works.specs.Pieces.{name_view, target_view};
-ghost use Rattle.flow_counts.specs.SharedObjects.{all_pointed};
+ghost use Rattle.flow_lower_tasks.specs.Pieces.{name_view, target_view};
+ghost use Rattle.flow_lower_counts.specs.SharedObjects.{all_pointed};
 ghost use Rattle.c_layout.specs.declared.checked_tree.checked_units.StaticBase.TheVariants as shared;
 ghost use Rattle.c_layout.specs.declared.shapes.BaseKind.TheVariants as kind;
 ghost use Rattle.flow_lower.specs.BaseTables as spec;
 ghost use Rattle.flow_lower.specs.BaseTables.{table, named};
 
-use base_shapes::{heap_shape, object_shape};
 use c_layout::{
     BaseInfo, BaseKind, CType, Checked, Function, Shape, StaticBase, StaticStore, StringLiteral,
 };
-use flow_counts::{all_pointed, literal_type, local_type};
+use flow_lower_counts::{all_pointed, literal_type, local_type};
+use flow_lower_functions::BaseName;
+use flow_lower_shapes::{heap_shape, object_shape};
 use flow_program::type_bytes;
-use flow_templates::BaseName;
 use std::alloc::{AllocError, Global};
 
 /// The bases so far, how many values a row has so far, and the bases of objects of static storage and

@@ -6,9 +6,9 @@ ghost use Rattle.cc_base.specs.declared.limit_table.Limits.{Limits};
 ghost use Rattle.cc_base.specs.declared.refusals.Fault.{Fault};
 ghost use Rattle.c_layout.specs.CheckedUnits.{UnitView, function_view, unit_view};
 ghost use Rattle.flow_program.specs.WellFormed.{is_well_formed};
-ghost use Rattle.flow_counts.specs.Preparations.{templates_view};
-ghost use Rattle.flow_counts.specs.SizeRefusals.{limit_of, IsTooLarge};
-ghost use Rattle.program_copies.specs.ProgramViews.{FlowView, flow_view};
+ghost use Rattle.flow_lower_counts.specs.Preparations.{templates_view};
+ghost use Rattle.flow_lower_counts.specs.SizeRefusals.{limit_of, IsTooLarge};
+ghost use Rattle.flow_program_views.specs.ProgramViews.{FlowView, flow_view};
 ghost use Rattle.flow_lower.specs.Openings.{program_view};
 ghost use Rattle.flow_lower.specs.Lowerings as spec;
 ghost use Rattle.flow_lower.specs.Lowerings.{AreUnitCounts, IsLowering, IsRefusal, Refuses};
@@ -20,13 +20,13 @@ use crate::initial_objects::initial_objects;
 use crate::opened_program::{OpenedProgram, opened};
 use c_layout::{CType, Checked, Function};
 use cc_base::{Count, IntType, Limits, Stop};
-use flow_counts::{
+use flow_lower_counts::{
     PreparedUnit, UnitCounts, all_within, counts_at, pool_values, prepared, shared_bases,
     unit_counts, within,
 };
 use flow_program::{Flow, ParameterInput};
-use program_checks::well_formed;
-use program_copies::struct_copies;
+use flow_program_checks::well_formed;
+use flow_program_views::structure_copies;
 use std::alloc::{AllocError, Global};
 
 /// The type of an entry's parameter, which is an integer.
@@ -109,7 +109,7 @@ fn flow(
         initial,
         parameters: inputs(alloc, entry)?,
         entry: entry.place,
-        structs: struct_copies(alloc, &unit.structs)?,
+        structs: structure_copies(alloc, &unit.structs)?,
         width,
         model: unit.model,
     })

@@ -11,10 +11,10 @@ use Rattle.c_layout.specs.declared.unit_tokens.Unit7.{Unit7}
 use Rattle.c_preproc.specs.Names.{is_distinct}
 use Rattle.c_preproc.specs.Causes.{Seen, seen_of, IsCaused, IsCausedFrom, IsOwnRefusal}
 use Rattle.c_preproc.proofs.Own.{own_caused}
-use Rattle.command_words.specs.Requests.{CommandView, Asked, Help, Version, Check, Load, Refused}
-use Rattle.report_texts.specs.Reports.{Bytes}
-use Rattle.report_texts.specs.LoadUnits.{load_of}
-use Rattle.report_texts.specs.FixedTexts.{help_text, version_text, words_refused_text}
+use Rattle.report_cli_words.specs.Requests.{CommandView, Asked, Help, Version, Check, Load, Refused}
+use Rattle.report_cli_texts.specs.Reports.{Bytes}
+use Rattle.report_cli_texts.specs.LoadUnits.{load_of}
+use Rattle.report_cli_texts.specs.FixedTexts.{help_text, version_text, words_refused_text}
 use Rattle.report_cli.specs.declared.model_choice.ModelChoice.{ModelChoice}
 use Rattle.report_cli.specs.declared.model_choice.ModelChoice.TheVariants.{Chosen}
 use Rattle.report_cli.specs.Choices.{IsChoice}

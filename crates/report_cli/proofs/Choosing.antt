@@ -8,9 +8,9 @@ use Rattle.c_layout.specs.declared.data_model.Model.{Model}
 use Rattle.c_layout.specs.declared.model_file.ModelFault.{ModelFault}
 use Rattle.c_layout.specs.declared.model_file.ModelFault.TheVariants as fault
 use Rattle.c_preproc.specs.Causes.{Seen}
-use Rattle.report_texts.specs.Reports.{Bytes}
-use Rattle.report_texts.specs.FixedTexts.{no_file_text, too_long_text}
-use Rattle.report_texts.specs.declared.answers.Answer.{Answer}
+use Rattle.report_cli_texts.specs.Reports.{Bytes}
+use Rattle.report_cli_texts.specs.FixedTexts.{no_file_text, too_long_text}
+use Rattle.report_cli_texts.specs.declared.answers.Answer.{Answer}
 use Rattle.report_cli.specs.Verdicts.{absent, too_long, no_model, ReadsModel, reason_of}
 use Rattle.report_cli.specs.Choices.{IsChosen, IsRefusedWith, IsChoiceBy, IsChoiceOf, IsChoice}
 use Rattle.report_cli.specs.declared.model_choice.ModelChoice.{ModelChoice}

@@ -8,13 +8,13 @@ use Rattle.cc_base.specs.declared.refusals.Stop.TheVariants as stop
 use Rattle.c_layout.specs.declared.unit_tokens.Unit7.{Unit7}
 use Rattle.c_layout.specs.declared.syntax_tree.declarations.Tree7.{Tree7}
 use Rattle.c_layout.specs.declared.checked_tree.checked_units.Checked.{Checked}
-use Rattle.type_scopes.specs.Answers.{Gives}
+use Rattle.c_types_scopes.specs.Answers.{Gives}
 use Rattle.c_layout.specs.CheckedUnits.{unit_view}
 use Rattle.c_layout.specs.DeclarationTrees.{unit_tree}
 use Rattle.c_types.specs.UnitChecks.{check}
 use Rattle.flow_lower.specs.Lowerings.{Refuses}
 use Rattle.flow_program.specs.declared.programs.Flow.{Flow}
-use Rattle.program_copies.specs.ProgramViews.{flow_view}
+use Rattle.flow_program_views.specs.ProgramViews.{flow_view}
 use Rattle.turn_split.specs.SplitCounts.{Splits}
 use Rattle.report_cli.specs.Stages.{stage_of, same_stage, stop_at}
 use Rattle.report_cli.specs.declared.stages.Stage.{Stage}

@@ -1,8 +1,8 @@
 -- What a call of the program came to.
 use Rattle.std.proofs.Common.{ℕ, refl}
 use Rattle.c_preproc.specs.Causes.{Seen}
-use Rattle.command_words.specs.Requests.{Asked}
-use Rattle.report_texts.specs.Reports.{Bytes}
+use Rattle.report_cli_words.specs.Requests.{Asked}
+use Rattle.report_cli_texts.specs.Reports.{Bytes}
 use Rattle.report_cli.specs.Verdicts.{Tells, IsVerdict}
 use Rattle.report_cli.specs.Judging.{Order}
 use Rattle.report_cli.specs.Outcomes.{Took, PutOnce, PutFailed, told, write_fault, Answers}

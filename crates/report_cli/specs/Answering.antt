@@ -5,11 +5,11 @@ use Rattle.cc_base.specs.declared.refusals.Fault.{Fault}
 use Rattle.cc_base.specs.declared.refusals.Stop.{Stop}
 use Rattle.cc_base.specs.declared.refusals.Stop.TheVariants as stop
 use Rattle.c_layout.specs.declared.unit_tokens.Unit7.{Unit7}
-use Rattle.command_words.specs.declared.commands.Format.{Format}
-use Rattle.report_texts.specs.Reports.{Bytes}
-use Rattle.report_texts.specs.Refusals.{refusal_line, refusal_status}
-use Rattle.report_texts.specs.FixedTexts.{no_file_text}
-use Rattle.report_texts.specs.Summaries.{summary_of}
+use Rattle.report_cli_words.specs.declared.commands.Format.{Format}
+use Rattle.report_cli_texts.specs.Reports.{Bytes}
+use Rattle.report_cli_texts.specs.Refusals.{refusal_line, refusal_status}
+use Rattle.report_cli_texts.specs.FixedTexts.{no_file_text}
+use Rattle.report_cli_texts.specs.Summaries.{summary_of}
 use Rattle.report_cli.specs.Stages.{stage_of}
 use Rattle.report_cli.specs.declared.stages.Stage.{Stage}
 use Rattle.report_cli.specs.declared.stages.Stage.TheVariants as stage

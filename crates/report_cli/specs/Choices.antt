@@ -5,8 +5,8 @@ use Rattle.c_layout.specs.declared.data_model.Model.{Model}
 use Rattle.c_layout.specs.declared.model_file.ModelFault.{ModelFault}
 use Rattle.c_layout.specs.declared.model_file.ModelFault.TheVariants as fault
 use Rattle.c_preproc.specs.Causes.{Seen}
-use Rattle.report_texts.specs.Reports.{Bytes}
-use Rattle.report_texts.specs.FixedTexts.{no_model_text}
+use Rattle.report_cli_texts.specs.Reports.{Bytes}
+use Rattle.report_cli_texts.specs.FixedTexts.{no_model_text}
 use Rattle.report_cli.specs.Verdicts.{Tells, HasModel, IsModelText, RefusesModel, reason_of}
 use Rattle.report_cli.specs.declared.model_choice.ModelChoice.{ModelChoice}
 use Rattle.report_cli.specs.declared.model_choice.ModelChoice.TheVariants.{Chosen, Refused}

@@ -14,7 +14,7 @@ use Rattle.c_layout.specs.DeclarationTrees.{unit_tree}
 use Rattle.c_layout.specs.declared.unit_tokens.Unit7.{Unit7}
 use Rattle.c_layout.specs.declared.syntax_tree.declarations.Tree7.{Tree7}
 use Rattle.c_layout.specs.declared.checked_tree.checked_units.Checked.{Checked}
-use Rattle.token_classes.specs.Classes.{classified}
+use Rattle.c_parser_tokens.specs.Classes.{classified}
 use Rattle.c_parser.specs.Externals.{IsUnit}
 use Rattle.c_parser.specs.Refusals.{Refuses}
 use Rattle.c_types.specs.UnitChecks.{check}
@@ -26,10 +26,10 @@ use Rattle.flow_program.specs.StructNumbers.{flow_numbers}
 use Rattle.flow_lower.specs.Lowerings as lowering
 use Rattle.flow_lower.specs.Lowerings.{IsLowering}
 use Rattle.flow_analysis.specs.Analyses.{IsAnalysis}
-use Rattle.program_copies.specs.ProgramViews.{flow_view}
+use Rattle.flow_program_views.specs.ProgramViews.{flow_view}
 use Rattle.turn_split.specs.SplitCounts.{Splits}
 use Rattle.turn_split.specs.Turns.{split}
-use Rattle.flow_counts.specs.Extents.{capped}
+use Rattle.flow_lower_counts.specs.Extents.{capped}
 use Rattle.flow_program.specs.WellFormed.{base_cells}
 use Rattle.c_layout.specs.declared.shapes.BaseInfo.{BaseInfo}
 use Rattle.report_cli.specs.declared.unit_answers.Judged.{Judged}

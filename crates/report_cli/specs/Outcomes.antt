@@ -2,8 +2,8 @@
 use Rattle.std.specs.Prelude.{◌≡◌, ℕ, Option}
 use Rattle.cc_base.specs.Outside.{Rose, Appends, AppendsPrefix, next_count}
 use Rattle.c_preproc.specs.Causes.{Seen}
-use Rattle.command_words.specs.Requests.{Asked}
-use Rattle.report_texts.specs.Reports.{Bytes}
+use Rattle.report_cli_words.specs.Requests.{Asked}
+use Rattle.report_cli_texts.specs.Reports.{Bytes}
 use Rattle.report_cli.specs.Judging.{Order}
 use Rattle.report_cli.specs.Verdicts.{Tells, IsVerdict}
 

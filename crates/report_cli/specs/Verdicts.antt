@@ -18,20 +18,20 @@ use Rattle.c_preproc.specs.Names.{is_distinct}
 use Rattle.c_preproc.specs.Causes.{Seen, IsCausedBy}
 use Rattle.c_preproc.specs.Units.{unit, unit_from, world_of, sought}
 use Rattle.c_preproc.specs.Told.{unit_as, UnitFrom, UnitGives}
-use Rattle.report_texts.specs.LoadUnits.{load_of}
-use Rattle.command_words.specs.declared.commands.Format.{Format}
-use Rattle.command_words.specs.declared.commands.Format.TheVariants as format
-use Rattle.command_words.specs.Requests.{Asked, CommandView}
-use Rattle.command_words.specs.Requests as asked
-use Rattle.report_texts.specs.Reports.{Bytes, report_of}
+use Rattle.report_cli_texts.specs.LoadUnits.{load_of}
+use Rattle.report_cli_words.specs.declared.commands.Format.{Format}
+use Rattle.report_cli_words.specs.declared.commands.Format.TheVariants as format
+use Rattle.report_cli_words.specs.Requests.{Asked, CommandView}
+use Rattle.report_cli_words.specs.Requests as asked
+use Rattle.report_cli_texts.specs.Reports.{Bytes, report_of}
 use Rattle.report_cli.specs.Stages.{stage_of}
 use Rattle.report_cli.specs.Judging.{Order, IsSetOf, in_files, SettingView, judging, Judgement, IsJudged, RefusesUnit}
 use Rattle.report_cli.specs.declared.stages.Stage.{Stage}
 use Rattle.report_cli.specs.declared.stages.Stage.TheVariants as stage
-use Rattle.report_texts.specs.JsonReports.{json_of}
-use Rattle.report_texts.specs.Summaries.{summary_of}
-use Rattle.report_texts.specs.Refusals.{refusal_line, refusal_status}
-use Rattle.report_texts.specs.FixedTexts.{help_text, version_text, words_refused_text, no_file_text, too_long_text, no_model_text}
+use Rattle.report_cli_texts.specs.JsonReports.{json_of}
+use Rattle.report_cli_texts.specs.Summaries.{summary_of}
+use Rattle.report_cli_texts.specs.Refusals.{refusal_line, refusal_status}
+use Rattle.report_cli_texts.specs.FixedTexts.{help_text, version_text, words_refused_text, no_file_text, too_long_text, no_model_text}
 
 -- one for each kind of answer that has a text
 pub data Verdict : Type 0 where

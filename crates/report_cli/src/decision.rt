@@ -3,7 +3,7 @@ ghost use Rattle.std.specs.Prelude.{◌≡◌, ◌≤◌, ◌<◌, ◌⊎◌, Al
 ghost use Rattle.cc_base.specs.Outside.{Rose};
 ghost use Rattle.c_layout.specs.Models.{is_model};
 ghost use Rattle.c_preproc.specs.Causes.{seen_of};
-ghost use Rattle.command_words.specs.Requests.{asked, command_view, Check, Load};
+ghost use Rattle.report_cli_words.specs.Requests.{asked, command_view, Check, Load};
 ghost use Rattle.report_cli.specs.Judging.{order_of, in_files, judging, judgement, setting_view, IsSetOf, StopsUnit};
 ghost use Rattle.report_cli.specs.Verdicts.{load_setting, file_name, report_status, report_in, Tells, AnswersUnit, AnswersLoad, RefusesModel, Under, IsVerdict};
 ghost use Rattle.report_cli.specs.Answering.{AnswersFault, AnswersStop, AnswersOwn, AnswersReport, AnswersSummary, AnswersJudged, AnswersMade};
@@ -15,11 +15,11 @@ use crate::unit_answers::{Judged, Setting, judge_unit};
 use c_layout::{Model, Unit7};
 use c_preproc::{expand, expand_bytes};
 use cc_base::{Diag, Fault, Memory, Stop, Tree};
-use command_words::{Command, Format, Request, read_words};
-use report_texts::{
+use report_cli_texts::{
     Answer, help, load_unit, no_file, refusal_answer, report_json, report_text, summary, version,
     words_refused,
 };
+use report_cli_words::{Command, Format, Request, read_words};
 use std::alloc::{AllocError, Global};
 use syntax_rules::ordered;
 

@@ -8,4 +8,4 @@ mod stages;
 mod unit_answers;
 
 pub use program::run;
-pub use report_texts::{load_unit, report_json, report_text};
+pub use report_cli_texts::{load_unit, report_json, report_text};

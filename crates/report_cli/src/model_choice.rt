@@ -9,7 +9,7 @@ ghost use Rattle.report_cli.specs.Choices.{IsChosen, IsRefusedWith, IsChoiceBy, 
 use crate::decision::Halt;
 use c_layout::{Key, Model, ModelFault, by_name, from_toml};
 use cc_base::{Tree, TreeFault};
-use report_texts::{Answer, file_too_long, no_file, no_model};
+use report_cli_texts::{Answer, file_too_long, no_file, no_model};
 use std::alloc::Global;
 
 /// A model, or the answer where there is none.

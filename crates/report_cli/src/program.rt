@@ -1,7 +1,7 @@
 //! The program: from words to a status.
 ghost use Rattle.std.specs.Prelude.{◌≡◌, ◌≤◌, map, string_bytes};
 ghost use Rattle.c_preproc.specs.Causes.{seen_of};
-ghost use Rattle.command_words.specs.Requests.{asked};
+ghost use Rattle.report_cli_words.specs.Requests.{asked};
 ghost use Rattle.report_cli.specs.Judging.{order_of};
 ghost use Rattle.report_cli.specs.Outcomes.{took, Answers};
 

@@ -10,10 +10,10 @@ use Rattle.flow_program.specs.declared.programs.Flow.{Flow}
 use Rattle.flow_program.specs.declared.basic_blocks.BasicBlock.{BasicBlock}
 use Rattle.flow_program.specs.declared.machine_instructions.Instruction.{Instruction}
 use Rattle.value_domain.specs.declared.row_cells.Cell.{Cell}
-use Rattle.access_checks.specs.declared.violation_sets.Violations.{Violations}
-use Rattle.access_checks.specs.ViolationSets.{violates}
-use Rattle.instruction_steps.specs.Steps.{operate}
-use Rattle.instruction_steps.specs.StepViolations.{operation_violations, violations_at}
+use Rattle.abstract_steps_checks.specs.declared.violation_sets.Violations.{Violations}
+use Rattle.abstract_steps_checks.specs.ViolationSets.{violates}
+use Rattle.abstract_steps_instructions.specs.Steps.{operate}
+use Rattle.abstract_steps_instructions.specs.StepViolations.{operation_violations, violations_at}
 
 -- the rules on runs, in the order of their tags
 abbrev pub run_rules : List Rule

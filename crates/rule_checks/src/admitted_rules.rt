@@ -2,9 +2,9 @@
 ghost use Rattle.std.specs.Prelude.{◌≡◌};
 ghost use Rattle.rule_checks.specs.AdmittedRules.{admits};
 
+use abstract_steps_instructions::violations_at;
 use cc_base::{IntDomain, Rule};
 use flow_program::Flow;
-use instruction_steps::violations_at;
 use value_domain::Cell;
 
 /// Whether an instruction of a block may break the rule in the row before it. The three rules on the

@@ -4,10 +4,10 @@ ghost use Rattle.std.specs.List.Sorted.{IsStrictlySortedBy};
 ghost use Rattle.cc_base.specs.declared.diagnostics.Diag.{Diag};
 ghost use Rattle.rule_checks.specs.AdmittedRules.{with_pair, pairs_among, pairs_of, reached_row, pairs_at, row_behind, instruction_pairs, instructions_of, block_pairs};
 
-use access_checks::Violations;
+use abstract_steps_checks::Violations;
+use abstract_steps_instructions::{operate, operation_violations};
 use cc_base::{Diag, IntDomain, Place, Rule};
 use flow_program::{Flow, Instruction};
-use instruction_steps::{operate, operation_violations};
 use std::alloc::AllocError;
 use syntax_rules::ordered;
 use value_domain::Cell;

@@ -1,7 +1,7 @@
 -- Worked rows: a loop of one block, unrolled.
 use Rattle.std.specs.Prelude.{◌≡◌, refl, ℕ, Bool, true, false, [], ◌∷◌}
-use Rattle.template_works.specs.Pieces.{Always}
-use Rattle.program_copies.specs.ProgramViews.{BlockView, EdgeView}
+use Rattle.flow_lower_tasks.specs.Pieces.{Always}
+use Rattle.flow_program_views.specs.ProgramViews.{BlockView, EdgeView}
 use Rattle.turn_split.specs.Turns.{edges_below, blocks_below}
 use Rattle.turn_split.specs.declared.turn_splits.Turns.{Turns}
 

@@ -5,9 +5,9 @@ use Rattle.cc_base.specs.declared.limit_table.Limits.{Limits}
 use Rattle.cc_base.specs.declared.refusals.Refusal.{Refusal}
 use Rattle.cc_base.specs.declared.refusals.Stop.{Stop}
 use Rattle.cc_base.specs.declared.refusals.Stop.TheVariants as stop
-use Rattle.flow_counts.specs.Extents.{capped}
-use Rattle.flow_counts.specs.FirstOver.{over, or_else, pool}
-use Rattle.program_copies.specs.ProgramViews.{BlockView, FlowView}
+use Rattle.flow_lower_counts.specs.Extents.{capped}
+use Rattle.flow_lower_counts.specs.FirstOver.{over, or_else, pool}
+use Rattle.flow_program_views.specs.ProgramViews.{BlockView, FlowView}
 use Rattle.turn_split.specs.Turns.{copies}
 use Rattle.turn_split.specs.declared.split_counts.SplitCounts.{SplitCounts}
 

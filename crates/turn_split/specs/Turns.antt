@@ -1,7 +1,7 @@
 -- A program whose loops are unrolled to a bound: so many copies of each block, ordered by copy and then
 -- by block; an edge that goes back leads to the next copy, and in the last copy stays there.
 use Rattle.std.specs.Prelude.{ℕ, zero, suc, ◌+◌, ◌*◌, Bool, false, cond, nat_lt, ◌==◌, List, [], ◌++◌, length, map}
-use Rattle.program_copies.specs.ProgramViews.{BlockView, EdgeView, FlowView}
+use Rattle.flow_program_views.specs.ProgramViews.{BlockView, EdgeView, FlowView}
 use Rattle.turn_split.specs.declared.turn_splits.Turns.{Turns}
 
 abbrev pub copies : ℕ → ℕ

@@ -1,11 +1,11 @@
 //! Copies of blocks.
 ghost use Rattle.std.specs.Prelude.{◌≡◌, ◌++◌, IfOk, map, length};
-ghost use Rattle.program_copies.specs.ProgramViews.{block};
+ghost use Rattle.flow_program_views.specs.ProgramViews.{block};
 ghost use Rattle.turn_split.specs.Turns as spec;
 
 use crate::turn_splits::Turns;
 use flow_program::BasicBlock;
-use program_copies::instruction_copies;
+use flow_program_views::instruction_copies;
 use std::alloc::{AllocError, Global};
 
 /// A block in a copy whose edges begin at a number; only the last copy has heads.

@@ -1,11 +1,11 @@
 //! Copies of edges.
 ghost use Rattle.std.specs.Prelude.{◌≡◌, ◌++◌, IfOk, map};
-ghost use Rattle.program_copies.specs.ProgramViews.{edge};
+ghost use Rattle.flow_program_views.specs.ProgramViews.{edge};
 ghost use Rattle.turn_split.specs.Turns as spec;
 
 use crate::turn_splits::Turns;
 use flow_program::Edge;
-use program_copies::kind_copy;
+use flow_program_views::kind_copy;
 use std::alloc::{AllocError, Global};
 
 /// The copy to which an edge of a copy leads: the next one, where it goes back and there is one.

@@ -1,13 +1,13 @@
 //! What a split program has, counted without making it.
 ghost use Rattle.std.specs.Prelude.{◌≡◌, ◌+◌, IfErr, IfOk, None, Some, map, length};
-ghost use Rattle.flow_counts.specs.Extents.{capped};
-ghost use Rattle.flow_counts.specs.FirstOver.{refusal_in};
-ghost use Rattle.flow_counts.specs.SizeRefusals.{IsTooLarge};
-ghost use Rattle.program_copies.specs.ProgramViews.{block, flow_view};
+ghost use Rattle.flow_lower_counts.specs.Extents.{capped};
+ghost use Rattle.flow_lower_counts.specs.FirstOver.{refusal_in};
+ghost use Rattle.flow_lower_counts.specs.SizeRefusals.{IsTooLarge};
+ghost use Rattle.flow_program_views.specs.ProgramViews.{block, flow_view};
 ghost use Rattle.turn_split.specs.SplitCounts as spec;
 
 use cc_base::{Count, Limits, Place, Stop};
-use flow_counts::{capped_product, capped_sum, pool_values, within};
+use flow_lower_counts::{capped_product, capped_sum, pool_values, within};
 use flow_program::{BasicBlock, Flow};
 
 /// The counts of a split program that differ from those of the program.

@@ -1,7 +1,7 @@
 //! Programs whose loops are unrolled to a bound.
 ghost use Rattle.std.specs.Prelude.{◌≡◌, IfErr, IfOk, None, true};
 ghost use Rattle.flow_program.specs.WellFormed.{is_well_formed};
-ghost use Rattle.program_copies.specs.ProgramViews.{flow_view};
+ghost use Rattle.flow_program_views.specs.ProgramViews.{flow_view};
 ghost use Rattle.turn_split.specs.SplitCounts.{split_counts, first_over, Splits};
 ghost use Rattle.turn_split.specs.Turns as spec;
 
@@ -10,8 +10,8 @@ use crate::edge_copies::edge_copies;
 use crate::split_counts::{counts_within, split_counts};
 use cc_base::{Limits, Stop};
 use flow_program::Flow;
-use program_checks::well_formed;
-use program_copies::{base_copies, object_copies, struct_copies};
+use flow_program_checks::well_formed;
+use flow_program_views::{base_copies, object_copies, structure_copies};
 use std::alloc::{AllocError, Global};
 
 /// How many copies there are, the number of the last one, and how many blocks and edges each has.
@@ -47,7 +47,7 @@ fn split_flow(alloc: Global, flow: &Flow, turns: u32) -> Result<Flow, AllocError
         initial: object_copies(alloc, flow.initial.as_slice())?,
         parameters: Vec::from_slice(alloc, flow.parameters.as_slice())?,
         entry: flow.entry,
-        structs: struct_copies(alloc, &flow.structs)?,
+        structs: structure_copies(alloc, &flow.structs)?,
         width: flow.width,
         model: flow.model,
     })

@@ -1,6 +1,6 @@
 use Rattle.std.proofs.Common.{[], map}
 use Rattle.c_layout.specs.DeclarationTrees.{spec_tree, init_declarator_view}
-use Rattle.declaration_grammar.proofs.Listing.{map_snoc}
+use Rattle.c_parser_declarations.proofs.Listing.{map_snoc}
 use Rattle.c_parser.proofs.Declaring.{declared}
 use Rattle.c_parser.proofs.external_declarations.declaration.Goals as goal
 

@@ -1,5 +1,5 @@
 use Rattle.c_layout.specs.DeclarationTrees.{init_declarator_view}
-use Rattle.declaration_grammar.proofs.Listing.{map_snoc}
+use Rattle.c_parser_declarations.proofs.Listing.{map_snoc}
 use Rattle.c_parser.proofs.Declaring.{one_further}
 use Rattle.c_parser.proofs.external_declarations.further_declarators.Goals as goal
 

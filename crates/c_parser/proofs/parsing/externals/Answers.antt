@@ -1,5 +1,5 @@
 use Rattle.c_layout.specs.DeclarationTrees.{external_tree}
-use Rattle.declaration_grammar.proofs.Listing.{map_snoc}
+use Rattle.c_parser_declarations.proofs.Listing.{map_snoc}
 use Rattle.c_parser.proofs.Units.{cut_more, piece_more}
 use Rattle.c_parser.proofs.parsing.externals.Goals as goal
 

@@ -3,7 +3,7 @@ use Rattle.std.proofs.Common.{map, sym}
 use Rattle.c_layout.specs.DeclarationTrees.{name_view, for_first_view, statement_tree}
 use Rattle.c_layout.specs.SyntaxTrees.{tree_of}
 use Rattle.c_parser.proofs.Bodies as bodies
-use Rattle.declaration_grammar.proofs.Listing.{map_snoc}
+use Rattle.c_parser_declarations.proofs.Listing.{map_snoc}
 use Rattle.c_parser.proofs.statements.+statements.Goals as goal
 
 pub label_statement-returns : goal.label_statement-returns

@@ -1,5 +1,5 @@
 use Rattle.std.proofs.Common.{map, string_bytes, nat_lt, sym, ◌∙◌}
-use Rattle.directive_lines.specs.OpenFiles.{opened_of}
+use Rattle.c_preproc_directives.specs.OpenFiles.{opened_of}
 use Rattle.c_preproc.specs.Known.{known_of, line_of}
 use Rattle.c_preproc.specs.Units.{world_of, course}
 use Rattle.c_preproc.specs.Units.Sought.{nothing}

@@ -1,6 +1,6 @@
 use Rattle.std.proofs.Common.{sym, ◌∙◌, ap}
-use Rattle.macro_expansion.specs.Numbering.{number_in, with_text}
-use Rattle.directive_lines.specs.OpenFiles.{opened_of}
+use Rattle.c_preproc_macros.specs.Numbering.{number_in, with_text}
+use Rattle.c_preproc_directives.specs.OpenFiles.{opened_of}
 use Rattle.c_preproc.specs.Known.{known_of}
 use Rattle.c_preproc.specs.Reading.{found_as}
 use Rattle.c_preproc.specs.Units.{opening, Entered}

@@ -1,6 +1,6 @@
 use Rattle.std.proofs.Common.{map, string_bytes, length, nat_lt, ◌+◌, sym, ◌∙◌, ap}
 use Rattle.std.proofs.lemmas.List.{length-map}
-use Rattle.directive_lines.specs.OpenFiles.{opened_of}
+use Rattle.c_preproc_directives.specs.OpenFiles.{opened_of}
 use Rattle.c_preproc.specs.declared.preprocessing.Step.{Step}
 use Rattle.c_preproc.specs.Known.{known_of}
 use Rattle.c_preproc.specs.Units.{world_of, course, Course}

@@ -1,6 +1,6 @@
 use Rattle.std.proofs.Common.{◌≡◌, Some, length, map, string_bytes}
 use Rattle.cc_base.specs.Outside.{Files}
-use Rattle.directive_lines.specs.OpenFiles.{opened_of}
+use Rattle.c_preproc_directives.specs.OpenFiles.{opened_of}
 use Rattle.c_preproc.specs.Causes.{Went}
 use Rattle.c_preproc.specs.Known.{known_of}
 use Rattle.c_preproc.specs.Units.{world_of, sought, course, file_read}

@@ -1,5 +1,5 @@
 use Rattle.std.proofs.Common.{◌≡◌, true, length, sym, subst}
-use Rattle.directive_lines.specs.OpenFiles.{opened_of}
+use Rattle.c_preproc_directives.specs.OpenFiles.{opened_of}
 use Rattle.c_preproc.specs.Known.{known_of}
 use Rattle.c_preproc.specs.Units.{Opening}
 use Rattle.c_preproc.specs.Placed.{all_in}

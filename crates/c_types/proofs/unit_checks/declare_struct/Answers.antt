@@ -1,7 +1,7 @@
 use Rattle.std.proofs.Common.{ap}
 use Rattle.std.proofs.lemmas.Result.{IfOk-weaker}
-use Rattle.type_scopes.specs.States.{state}
-use Rattle.declaration_types.specs.ContextSteps.{with_types}
+use Rattle.c_types_scopes.specs.States.{state}
+use Rattle.c_types_declarations.specs.ContextSteps.{with_types}
 use Rattle.c_types.proofs.unit_checks.declare_struct.Goals as goal
 
 pub returns-clause-after : goal.returns-clause-after

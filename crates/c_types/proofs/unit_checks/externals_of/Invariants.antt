@@ -1,7 +1,7 @@
 use Rattle.std.proofs.Common.{◌≡◌, map, drop}
 use Rattle.c_layout.specs.DeclarationTrees.{external_tree}
 use Rattle.c_layout.specs.CheckedUnits.{function_view}
-use Rattle.type_scopes.specs.States.{state}
+use Rattle.c_types_scopes.specs.States.{state}
 use Rattle.c_types.specs.UnitChecks.{externals}
 use Rattle.c_types.proofs.unit_checks.externals_of.Given as goal
 

@@ -1,6 +1,6 @@
 use Rattle.std.proofs.Common.{◌≡◌, map, drop}
 use Rattle.c_layout.specs.DeclarationTrees.{external_tree}
-use Rattle.type_scopes.specs.States.{state}
+use Rattle.c_types_scopes.specs.States.{state}
 use Rattle.c_types.specs.UnitDefinitions.{with_externals}
 use Rattle.c_types.proofs.unit_definitions.add_definitions.Given as goal
 

@@ -2,7 +2,7 @@ use Rattle.std.proofs.Common.{◌≡◌, ◌++◌, map, drop}
 use Rattle.c_layout.specs.CheckedUnits.{unit_view, static_view}
 use Rattle.flow_lower.specs.BaseTables.{table}
 use Rattle.flow_lower.specs.InitialBytes.{objects_from}
-use Rattle.program_copies.specs.ProgramViews.{initial}
+use Rattle.flow_program_views.specs.ProgramViews.{initial}
 use Rattle.flow_lower.proofs.initial_objects.push_objects.Given as goal
 
 abbrev pub invariant-loop-at : goal.invariant-loop-at

@@ -1,6 +1,6 @@
 use Rattle.std.proofs.Common.{◌≡◌, map, drop}
 use Rattle.flow_lower.specs.Openings.{with_heads}
-use Rattle.program_copies.specs.ProgramViews.{block, edge}
+use Rattle.flow_program_views.specs.ProgramViews.{block, edge}
 use Rattle.flow_lower.proofs.opened_program.note_heads.Given as goal
 
 abbrev pub invariant-loop-edge : goal.invariant-loop-edge

@@ -1,6 +1,6 @@
 use Rattle.std.proofs.Common.{◌≡◌, map}
 use Rattle.flow_lower.specs.Openings.{resolved}
-use Rattle.program_copies.specs.ProgramViews.{edge}
+use Rattle.flow_program_views.specs.ProgramViews.{edge}
 use Rattle.flow_lower.proofs.opened_program.resolved.Given as goal
 
 abbrev pub invariant-loop-edge : goal.invariant-loop-edge

@@ -1,7 +1,7 @@
 use Rattle.std.proofs.Common.{sym, subst}
 use Rattle.c_layout.specs.CheckedUnits.{function_view, unit_view}
-use Rattle.flow_counts.specs.Preparations.{templates_view}
-use Rattle.program_copies.specs.ProgramViews.{flow_view}
+use Rattle.flow_lower_counts.specs.Preparations.{templates_view}
+use Rattle.flow_program_views.specs.ProgramViews.{flow_view}
 use Rattle.flow_lower.specs.AsCounted.{HasJust}
 use Rattle.flow_lower.specs.Lowerings.{IsCounted}
 use Rattle.flow_lower.proofs.OneLowering.{just_counted}

@@ -1,5 +1,5 @@
 use Rattle.std.proofs.lemmas.Result.{IfOk-weaker}
-use Rattle.command_words.specs.Requests.{command_view}
+use Rattle.report_cli_words.specs.Requests.{command_view}
 use Rattle.report_cli.proofs.Called.{check_chosen}
 use Rattle.report_cli.proofs.decision.answer_check.Goals as goal
 

@@ -1,6 +1,6 @@
 use Rattle.std.proofs.Common.{Ok, Err, ap, map, string_bytes}
 use Rattle.std.proofs.lemmas.Result.{IfOk-weaker}
-use Rattle.command_words.specs.Requests.{command_view}
+use Rattle.report_cli_words.specs.Requests.{command_view}
 use Rattle.report_cli.proofs.Called.{checked_told, names_expanded, made_from, stop_under}
 use Rattle.report_cli.specs.Verdicts.{FromFiles}
 use Rattle.report_cli.proofs.decision.check_under.Goals as goal

@@ -1,5 +1,5 @@
 use Rattle.std.proofs.Common.{◌∙◌, ap, sym, map, string_bytes}
-use Rattle.command_words.specs.Requests.{asked, asked_by}
+use Rattle.report_cli_words.specs.Requests.{asked, asked_by}
 use Rattle.report_cli.proofs.Called.{helped_told, versioned_told, words_told}
 use Rattle.report_cli.proofs.decision.decide.Goals as goal
 

@@ -1,9 +1,9 @@
 use Rattle.std.proofs.Common.{Ok, Err, ap, map, string_bytes, ◌∙◌}
 use Rattle.std.proofs.lemmas.Result.{IfOk-weaker}
-use Rattle.command_words.specs.Requests.{command_view}
+use Rattle.report_cli_words.specs.Requests.{command_view}
 use Rattle.report_cli.proofs.Called.{names_expanded, made_of, loaded_under, stop_made_under}
 use Rattle.report_cli.specs.Verdicts.{FromBytes}
-use Rattle.report_texts.specs.LoadUnits.{load_of}
+use Rattle.report_cli_texts.specs.LoadUnits.{load_of}
 use Rattle.report_cli.proofs.decision.load_under.Goals as goal
 
 pub returns-in-Ok-clause-called : goal.returns-in-Ok-clause-called

@@ -1,6 +1,6 @@
 use Rattle.std.proofs.Common.{◌∙◌, ap, map, string_bytes, subst, length}
 use Rattle.report_cli.specs.Judging.{IsSetOf, in_files}
-use Rattle.report_texts.specs.Summaries.{summary_of}
+use Rattle.report_cli_texts.specs.Summaries.{summary_of}
 use Rattle.report_cli.specs.Verdicts.{report_status}
 use Rattle.report_cli.proofs.Placing.{set_in}
 use Rattle.report_cli.proofs.decision.summarised.Goals as goal

@@ -1,5 +1,5 @@
 use Rattle.std.proofs.Common.{◌≡◌, ◌++◌, map, drop}
-use Rattle.program_copies.specs.ProgramViews.{block}
+use Rattle.flow_program_views.specs.ProgramViews.{block}
 use Rattle.turn_split.specs.Turns as spec
 use Rattle.turn_split.proofs.block_copies.add_copy.Given as goal
 

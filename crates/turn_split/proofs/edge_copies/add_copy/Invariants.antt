@@ -1,5 +1,5 @@
 use Rattle.std.proofs.Common.{◌≡◌, ◌++◌, map, drop}
-use Rattle.program_copies.specs.ProgramViews.{edge}
+use Rattle.flow_program_views.specs.ProgramViews.{edge}
 use Rattle.turn_split.specs.Turns as spec
 use Rattle.turn_split.proofs.edge_copies.add_copy.Given as goal
 

@@ -1,5 +1,5 @@
 use Rattle.std.proofs.Common.{◌≡◌, map, drop}
-use Rattle.program_copies.specs.ProgramViews.{block}
+use Rattle.flow_program_views.specs.ProgramViews.{block}
 use Rattle.turn_split.specs.SplitCounts as spec
 use Rattle.turn_split.proofs.split_counts.instruction_count.Given as goal
 

@@ -1,6 +1,6 @@
 use Rattle.std.proofs.Common.{◌≡◌, drop}
 use Rattle.c_layout.specs.CheckedUnits.{unit_view}
-use Rattle.template_works.specs.Pieces.{exits_view}
+use Rattle.flow_lower_tasks.specs.Pieces.{exits_view}
 use Rattle.flow_lower.specs.Openings.{made, copy_view, placed, with_exits}
 use Rattle.flow_lower.proofs.opened_program.Making.add_edges.Given as goal
 

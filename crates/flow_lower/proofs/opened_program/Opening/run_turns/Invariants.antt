@@ -1,6 +1,6 @@
 use Rattle.std.proofs.Common.{◌≡◌, ◌-◌, ◌^◌}
 use Rattle.c_layout.specs.CheckedUnits.{unit_view}
-use Rattle.flow_counts.specs.Preparations.{templates_view}
+use Rattle.flow_lower_counts.specs.Preparations.{templates_view}
 use Rattle.flow_lower.specs.Openings.{opening, run}
 use Rattle.flow_lower.proofs.opened_program.Opening.run_turns.Given as goal
 

@@ -1,0 +1,210 @@
+//! Input, output and the end of the run (7.21 and 7.22.4 of ISO/IEC 9899:2011).
+ghost use Rattle.std.specs.Prelude.{◌≡◌};
+ghost use Rattle.abstract_steps_library.specs.Calls.{call_view};
+ghost use Rattle.abstract_steps_library.specs.Outputs.{plan_getchar, plan_putchar, pointer_trail, scan_trail, plan_puts, is_pointer, pointer_trail_if, scan_trail_if, pointer_trails, scan_trails, plan_printf, plan_strlen, plan_strcmp, argument_at, scan_at, given_trail, scanned_trail, length_of, strlen_of};
+ghost use Rattle.pointer_domain.specs.PointerTables.{IsNearPointer};
+ghost use Rattle.cc_base.specs.IntegerDomains.{IsNear};
+
+use crate::call_arguments::{Call, argument_value, string_violations};
+use crate::call_plans::{Effect, Plan, Trail, harmless, planned};
+use abstract_steps_checks::{Argument, Scanned, Violations, check_argument, scan};
+use c_layout::{Class, Model};
+use cc_base::{IntDomain, between_or_bottom, of_range, range_met};
+use store_domain::kind_of;
+use value_domain::{Cell, Labels, Value};
+
+/// `getchar`: a character or -1, with the labels of input.
+pub fn plan_getchar<I: IntDomain>(model: &Model) -> Plan<I>
+    ensures { result ≡ plan_getchar I.lattice I.numbers model.now }
+{
+    let labels = Labels::input(kind_of(model, Class::Int, true));
+    harmless(Effect::Result(Value::of_number(between_or_bottom(-1, 255), labels)))
+}
+
+/// `putchar`: the character as unsigned char, with its labels.
+pub fn plan_putchar<I: IntDomain>(model: &Model, c: Value<I>) -> Plan<I>
+    requires { IsNear (I.numbers.bounds c.num) }
+    ensures { result ≡ plan_putchar I.lattice I.numbers model.now c }
+{
+    let kind = kind_of(model, Class::Char, false);
+    let num = c.num.convert(kind);
+    if num.bounds().is_none() {
+        return harmless(Effect::Unreached);
+    }
+    harmless(Effect::Result(Value::of_number(num, c.labels)))
+}
+
+/// An argument that is a pointer, and what of it goes on.
+pub fn argument_at<I: IntDomain>(call: Call, row: &[Cell<I>], at: usize) -> Argument<I>
+    ensures near { IsNearPointer I.numbers result.rest }
+    ensures value { result ≡ argument_at I.lattice I.numbers (call_view call.entry) row.now at }
+{
+    let bases = call.flow.bases.as_slice();
+    check_argument(bases, row, argument_value(call, row, at).pointer)
+}
+
+/// The scan of a string argument that was checked.
+pub fn scan_at<I: IntDomain>(call: Call, row: &[Cell<I>], given: Argument<I>) -> Scanned<I>
+    requires { IsNearPointer I.numbers given.rest }
+    ensures near { IsNear (I.numbers.bounds result.length) }
+    ensures value { result ≡ scan_at I.lattice I.numbers (call_view call.entry) row.now given }
+{
+    scan(call.flow.bases.as_slice(), row, given.rest)
+}
+
+/// The trail behind the check of a pointer argument.
+pub fn given_trail<I: IntDomain>(trail: Trail, given: Argument<I>) -> Trail
+    ensures { result ≡ given_trail trail given }
+{
+    trail.check(given.violations, !given.rest.bases.is_empty())
+}
+
+/// The trail behind the scan of a string.
+pub fn scanned_trail<I: IntDomain>(trail: Trail, found: Scanned<I>) -> Trail
+    ensures { result ≡ scanned_trail trail found }
+{
+    trail.check(string_violations(found.unknown), !found.bases.is_empty())
+}
+
+fn pointer_trail<I: IntDomain>(call: Call, row: &[Cell<I>], at: usize, trail: Trail) -> Trail
+    ensures { result ≡ pointer_trail I.lattice I.numbers (call_view call.entry) row.now at trail }
+{
+    given_trail(trail, argument_at(call, row, at))
+}
+
+fn scan_trail<I: IntDomain>(call: Call, row: &[Cell<I>], at: usize, trail: Trail) -> Trail
+    ensures { result ≡ scan_trail I.lattice I.numbers (call_view call.entry) row.now at trail }
+{
+    let given = argument_at(call, row, at);
+    scanned_trail(trail, scan_at(call, row, given))
+}
+
+/// `puts`.
+#[tactic(auto, unfolding(crate::specs::Outputs::plan_puts))]
+pub fn plan_puts<I: IntDomain>(call: Call, row: &[Cell<I>]) -> Plan<I>
+    ensures { result ≡ plan_puts I.lattice I.numbers (call_view call.entry) row.now }
+{
+    let trail = pointer_trail(call, row, 0, Trail::start(Violations::none()));
+    let trail = scan_trail(call, row, 0, trail);
+    planned(
+        trail,
+        Effect::Result(Value::of_number(I::one(0), Labels::none())),
+    )
+}
+
+/// Whether the argument is a pointer: an integer has a number.
+fn is_pointer<I: IntDomain>(call: Call, row: &[Cell<I>], at: usize) -> bool
+    ensures { result ≡ is_pointer I.lattice I.numbers (call_view call.entry) row.now at }
+{
+    argument_value(call, row, at).num.bounds().is_none()
+}
+
+/// The trail behind the checks of the arguments that are pointers, behind a format.
+#[tactic(auto, using(crate::proofs::Trails::pointer_trails_next))]
+fn pointer_trails<I: IntDomain>(call: Call, row: &[Cell<I>], count: usize, trail: Trail) -> Trail
+    ensures { result ≡ pointer_trails I.lattice I.numbers (call_view call.entry) row.now count trail }
+{
+    let mut checked = trail;
+    for at in 0..count {
+        checked = pointer_trail_if(call, row, at.saturating_add(1), checked);
+    }
+    checked
+}
+
+fn pointer_trail_if<I: IntDomain>(call: Call, row: &[Cell<I>], at: usize, trail: Trail) -> Trail
+    ensures { result ≡ pointer_trail_if I.lattice I.numbers (call_view call.entry) row.now at trail }
+{
+    if is_pointer(call, row, at) {
+        pointer_trail(call, row, at, trail)
+    } else {
+        trail
+    }
+}
+
+/// The trail behind the scans of the arguments that are pointers, behind a format.
+#[tactic(auto, using(crate::proofs::Trails::scan_trails_next))]
+fn scan_trails<I: IntDomain>(call: Call, row: &[Cell<I>], count: usize, trail: Trail) -> Trail
+    ensures { result ≡ scan_trails I.lattice I.numbers (call_view call.entry) row.now count trail }
+{
+    let mut checked = trail;
+    for at in 0..count {
+        checked = scan_trail_if(call, row, at.saturating_add(1), checked);
+    }
+    checked
+}
+
+fn scan_trail_if<I: IntDomain>(call: Call, row: &[Cell<I>], at: usize, trail: Trail) -> Trail
+    ensures { result ≡ scan_trail_if I.lattice I.numbers (call_view call.entry) row.now at trail }
+{
+    if is_pointer(call, row, at) {
+        scan_trail(call, row, at, trail)
+    } else {
+        trail
+    }
+}
+
+/// `printf`: its format is a literal; each argument that is a pointer is a string.
+#[tactic(auto, unfolding(crate::specs::Outputs::plan_printf))]
+pub fn plan_printf<I: IntDomain>(call: Call, row: &[Cell<I>]) -> Plan<I>
+    ensures { result ≡ plan_printf I.lattice I.numbers (call_view call.entry) row.now }
+{
+    let count = call.arguments.len().saturating_sub(1);
+    let trail = pointer_trails(call, row, count, Trail::start(Violations::none()));
+    let trail = scan_trails(call, row, count, trail);
+    let most = kind_of(&call.flow.model, Class::Int, true).greatest();
+    planned(
+        trail,
+        Effect::Result(Value::of_number(between_or_bottom(0, most), Labels::none())),
+    )
+}
+
+/// The length of a string, in the range of size_t.
+fn length_of<I: IntDomain>(model: &Model, found: Scanned<I>) -> I
+    ensures { result ≡ length_of I.lattice I.numbers model.now found }
+{
+    let most = kind_of(model, Class::Pointer, false).greatest();
+    of_range(range_met(found.length.bounds(), 0, most))
+}
+
+fn strlen_of<I: IntDomain>(given: Argument<I>, found: Scanned<I>, length: I) -> Plan<I>
+    ensures { result ≡ strlen_of I.lattice I.numbers given found length }
+{
+    let trail = Trail::start(given.violations);
+    let trail = trail.check(Violations::none(), !given.rest.bases.is_empty());
+    let trail = trail.check(string_violations(found.unknown), length.bounds().is_some());
+    planned(
+        trail,
+        Effect::Result(Value::of_number(length, Labels::none())),
+    )
+}
+
+/// `strlen`: the length, in the range of size_t, without labels.
+#[tactic(auto, unfolding(crate::specs::Outputs::plan_strlen))]
+pub fn plan_strlen<I: IntDomain>(call: Call, row: &[Cell<I>]) -> Plan<I>
+    ensures { result ≡ plan_strlen I.lattice I.numbers (call_view call.entry) row.now }
+{
+    let given = argument_at(call, row, 0);
+    let found = scan_at(call, row, given);
+    strlen_of(given, found, length_of(&call.flow.model, found))
+}
+
+/// `strcmp`: -1, 0 or 1.
+#[tactic(auto, unfolding(crate::specs::Outputs::plan_strcmp))]
+pub fn plan_strcmp<I: IntDomain>(call: Call, row: &[Cell<I>]) -> Plan<I>
+    ensures { result ≡ plan_strcmp I.lattice I.numbers (call_view call.entry) row.now }
+{
+    let bases = call.flow.bases.as_slice();
+    let left = check_argument(bases, row, argument_value(call, row, 0).pointer);
+    let right = check_argument(bases, row, argument_value(call, row, 1).pointer);
+    let trail = Trail::start(left.violations);
+    let trail = trail.check(Violations::none(), !left.rest.bases.is_empty());
+    let trail = trail.check(right.violations, !right.rest.bases.is_empty());
+    let first = scan(bases, row, left.rest);
+    let second = scan(bases, row, right.rest);
+    let trail = trail.check(string_violations(first.unknown), !first.bases.is_empty());
+    let trail = trail.check(string_violations(second.unknown), !second.bases.is_empty());
+    planned(
+        trail,
+        Effect::Result(Value::of_number(between_or_bottom(-1, 1), Labels::none())),
+    )
+}

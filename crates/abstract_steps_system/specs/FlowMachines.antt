@@ -1,0 +1,59 @@
+-- The system of a control-flow program: what a solver needs to know of it.
+use Rattle.std.specs.Prelude.{ℕ, zero, suc, ℤ, ◌*◌, Bool, false, List, [], ◌∷◌, length, replicate, Option, Some, None, slice_get, slice_index_or}
+use Rattle.cc_base.specs.Lattices.{LatticeOf}
+use Rattle.cc_base.specs.IntegerDomains.{IntegersOf}
+use Rattle.cc_base.specs.Machine.{Machine}
+use Rattle.flow_program.specs.declared.programs.Flow.{Flow}
+use Rattle.flow_program.specs.declared.basic_blocks.BasicBlock.{BasicBlock}
+use Rattle.flow_program.specs.declared.flow_edges.Edge.{Edge}
+use Rattle.flow_program.specs.declared.flow_edges.EdgeKind.TheVariants.{Jump}
+use Rattle.value_domain.specs.declared.row_cells.Cell.{Cell}
+use Rattle.value_domain.specs.declared.row_cells.Cell.TheVariants.{Nothing}
+use Rattle.value_domain.specs.Cells.{cell_height}
+use Rattle.abstract_steps.specs.StartRows.{start_row}
+use Rattle.abstract_steps_system.specs.FittedRows.{row_fit, reached_fit, is_own_row, row_room}
+use Rattle.abstract_steps_system.specs.BlockPasses.{edge_end}
+
+abbrev pub no_edge : Edge
+no_edge = record { from = 0; to = 0; kind = Jump }
+
+abbrev pub edge_at : List Edge → ℕ → Edge
+edge_at edges number = slice_index_or edges number no_edge
+
+abbrev pub head_in : Option BasicBlock → Bool
+head_in None = false
+head_in (Some block) = block.is_head
+
+abbrev pub is_head_at : List BasicBlock → ℕ → Bool
+is_head_at blocks number = head_in (slice_get blocks number)
+
+module _ {I : Type 0} where
+  -- a program whose static initializers have no place starts with nothing
+  abbrev pub known_start : ℕ → Option (List (Cell I)) → List (Cell I)
+  known_start width None = replicate width Nothing
+  known_start width (Some row) = row
+
+  -- the row of the entry
+  unfoldable pub start_of : LatticeOf I → IntegersOf I → Flow → List ℤ → List (Cell I)
+  start_of l n flow list = row_fit l list flow.bases.items flow.width (known_start flow.width (start_row l n flow (replicate flow.width Nothing)))
+
+  -- what an edge makes of the row of the block that it leaves
+  unfoldable pub through : LatticeOf I → IntegersOf I → Flow → List ℤ → ℕ → List (Cell I) → Option (List (Cell I))
+  through l n flow list number row = reached_fit l list flow.bases.items flow.width (edge_end l n flow (edge_at flow.edges.items number).from number row)
+
+  abbrev pub flow_machine : LatticeOf I → IntegersOf I → Flow → List ℤ → Machine (Cell I)
+  flow_machine l n flow list = record {
+    blocks = length flow.blocks.items;
+    width = flow.width;
+    edges = length flow.edges.items;
+    source = λ number. (edge_at flow.edges.items number).from;
+    target = λ number. (edge_at flow.edges.items number).to;
+    head = is_head_at flow.blocks.items;
+    start = start_of l n flow list;
+    through = through l n flow list;
+    own = is_own_row l list flow.bases.items flow.width;
+    attained = is_own_row l list flow.bases.items flow.width;
+    list = list;
+    room = row_room l list flow.width;
+    height = flow.width * cell_height l (length list);
+  }

@@ -1,0 +1,126 @@
+//! Control-flow programs as systems of flow equations.
+ghost use Rattle.std.specs.Prelude.{◌≡◌, ◌<◌, true, false, Some, None, length, replicate};
+ghost use Rattle.value_domain.specs.declared.row_cells.Cell.TheVariants.{Nothing};
+ghost use Rattle.abstract_steps.specs.StartRows.{start_row};
+ghost use Rattle.abstract_steps_system.specs.FlowMachines.{flow_machine, known_start, start_of, through};
+ghost use Rattle.abstract_steps_system.specs.SystemChecks.{is_system};
+ghost use Rattle.abstract_steps_system.specs.FlowLaws.{flow-laws};
+
+use crate::block_passes::pass_edge;
+use crate::bounded_numbers::Bounded;
+use crate::fitted_rows::{fill_row, fit_row};
+use crate::system_checks::is_head_at;
+use abstract_steps::start_row;
+use cc_base::{Steps, System, Thresholds};
+use flow_program::Flow;
+use std::marker::PhantomData;
+use std::sync::ledger::Ledger;
+use value_domain::Cell;
+
+/// The system of a control-flow program: its blocks, edges and heads, rows as long as those of the
+/// program, and the numbers of a list to which rows are rounded at heads.
+#[derive(Drop)]
+pub struct FlowSystem<'a, I: Bounded> {
+    flow: &'a Flow,
+    list: &'a Thresholds,
+    numbers: PhantomData<I>,
+}
+
+/// The system of a program whose rows are rounded to the numbers of a list.
+pub fn system<'a, I: Bounded>(flow: &'a Flow, list: &'a Thresholds) -> FlowSystem<'a, I>
+    ensures flow { result.flow.now ≡ flow.now }
+    ensures list { result.list.now ≡ list.now }
+{
+    FlowSystem {
+        flow,
+        list,
+        numbers: PhantomData,
+    }
+}
+
+/// Makes `row` the row of the entry; where a static initializer has no place, no cell has anything.
+fn begin_known<I: Bounded>(flow: &Flow, row: &mut [Cell<I>])
+    requires { length row.old ≡ flow.now.width }
+    ensures length { length row.new ≡ length row.old }
+    ensures row { row.new ≡ known_start flow.now.width (start_row I.lattice I.numbers flow.now (replicate flow.now.width Nothing)) }
+{
+    fill_row(row, Cell::Nothing);
+    if !start_row(flow, row) {
+        fill_row(row, Cell::Nothing);
+    }
+}
+
+/// Makes `row` the row of the entry, fitted to the ends of the list.
+#[tactic(auto, unfolding(crate::specs::FlowMachines::start_of))]
+fn begin<I: Bounded>(flow: &Flow, list: &Thresholds, row: &mut [Cell<I>])
+    requires { length row.old ≡ flow.now.width }
+    ensures { row.new ≡ start_of I.lattice I.numbers flow.now list.now }
+{
+    begin_known(flow, row);
+    fit_row(flow.bases.as_slice(), row, list);
+}
+
+/// Makes of the row of the block that an edge leaves the row behind the edge, fitted to the ends of
+/// the list; false where no run takes the edge.
+#[tactic(auto, unfolding(crate::specs::FlowMachines::through))]
+fn go_through<I: Bounded>(flow: &Flow, list: &Thresholds, number: u32, row: &mut [Cell<I>]) -> bool
+    requires edge { number < length flow.now.edges.items }
+    requires width { length row.old ≡ flow.now.width }
+    ensures reached { result ≡ true → through I.lattice I.numbers flow.now list.now number row.old ≡ Some row.new }
+    ensures unreached { result ≡ false → through I.lattice I.numbers flow.now list.now number row.old ≡ None }
+{
+    let from = flow.edges[number as usize].from;
+    if pass_edge(flow, row, from, number) {
+        fit_row(flow.bases.as_slice(), row, list);
+        true
+    } else {
+        false
+    }
+}
+
+impl<'a, I: Bounded> System for FlowSystem<'a, I> {
+    type Cell = Cell<I>;
+
+    ghost machine = { λ s. flow_machine I.lattice I.numbers s.flow.now s.list.now };
+
+    ghost valid = { λ s. is_system s.flow.now ≡ true };
+
+    ghost lawful = { λ s valid. flow-laws I.lattice I.numbers I.order I.heights s.flow.now s.list.now valid };
+
+    fn blocks(&self) -> u32 {
+        self.flow.blocks.len() as u32
+    }
+
+    fn width(&self) -> u32 {
+        self.flow.width
+    }
+
+    fn edges(&self) -> u32 {
+        self.flow.edges.len() as u32
+    }
+
+    fn edge_from(&self, edge: u32) -> u32 {
+        self.flow.edges[edge as usize].from
+    }
+
+    fn edge_to(&self, edge: u32) -> u32 {
+        self.flow.edges[edge as usize].to
+    }
+
+    fn is_head(&self, block: u32) -> bool {
+        is_head_at(self.flow.blocks.as_slice(), block)
+    }
+
+    fn start(&self, row: &mut [Cell<I>]) {
+        begin(self.flow, self.list, row);
+    }
+
+    fn flow<L: Ledger>(&self, edge: u32, row: &mut [Cell<I>], steps: &mut Steps<L>) -> bool {
+        steps.tick();
+        go_through(self.flow, self.list, edge, row)
+    }
+
+    fn thresholds(&self) -> &Thresholds {
+        self.list
+    }
+}

@@ -1,0 +1,8 @@
+use Rattle.std.proofs.Common.{map}
+use Rattle.c_layout.specs.DeclarationTrees.{enumerator_view}
+use Rattle.c_parser_declarations.specs.Findings.{FoundItems}
+use Rattle.c_parser_declarations.specs.Specifiers.{IsEnumerator, enumerator_height}
+use Rattle.c_parser_declarations.proofs.enumerations.enumerators.Given as goal
+
+abbrev pub invariant-loop-turn : goal.invariant-loop-turn
+invariant-loop-turn l = FoundItems (IsEnumerator l.scope.typedefs.now) enumerator_height l.budget (map enumerator_view l.found.items) l.height l.fn.reader l.reader

@@ -1,0 +1,13 @@
+use Rattle.std.proofs.Common.{◌+◌, ◌*◌, map}
+use Rattle.c_layout.specs.DeclarationTrees.{initializer_tree}
+use Rattle.c_parser_declarations.specs.Findings.{FoundSome}
+use Rattle.c_parser_declarations.proofs.initializers.+initializers.Given as goal
+
+abbrev pub decreases-initializer : goal.decreases-initializer
+decreases-initializer l = 4 * l.budget + 0
+
+abbrev pub decreases-initializer_list : goal.decreases-initializer_list
+decreases-initializer_list l = 4 * l.budget + 1
+
+abbrev pub invariant-initializer_list-loop-turn : goal.invariant-initializer_list-loop-turn
+invariant-initializer_list-loop-turn l = FoundSome l.scope.typedefs.now l.budget (map initializer_tree l.found.items) l.height l.fn.reader l.reader

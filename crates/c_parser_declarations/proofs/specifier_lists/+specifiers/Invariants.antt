@@ -1,0 +1,25 @@
+use Rattle.std.proofs.Common.{◌+◌, ◌*◌, map}
+use Rattle.c_layout.specs.DeclarationTrees.{spec_tree, member_tree}
+use Rattle.c_parser_declarations.specs.Findings.{FoundWords, FoundChain}
+use Rattle.c_parser_declarations.proofs.specifier_lists.+specifiers.Given as goal
+
+abbrev pub decreases-specifiers : goal.decreases-specifiers
+decreases-specifiers l = 4 * l.budget + 2
+
+abbrev pub decreases-specifier : goal.decreases-specifier
+decreases-specifier l = 4 * l.budget + 1
+
+abbrev pub decreases-structure : goal.decreases-structure
+decreases-structure l = 4 * l.budget + 0
+
+abbrev pub decreases-members : goal.decreases-members
+decreases-members l = 4 * l.budget + 3
+
+abbrev pub decreases-member : goal.decreases-member
+decreases-member l = 4 * l.budget + 0
+
+abbrev pub invariant-specifiers-loop-turn : goal.invariant-specifiers-loop-turn
+invariant-specifiers-loop-turn l = FoundWords l.scope.typedefs.now l.budget (map spec_tree l.words.items) l.counts l.height l.fn.reader l.reader
+
+abbrev pub invariant-members-loop-turn : goal.invariant-members-loop-turn
+invariant-members-loop-turn l = FoundChain l.scope.typedefs.now l.budget (map member_tree l.found.items) l.height l.fn.reader l.reader

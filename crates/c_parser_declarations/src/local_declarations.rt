@@ -1,0 +1,160 @@
+//! Declarations in blocks (6.7, 6.8.2).
+ghost use Rattle.std.specs.Prelude.{◌≡◌, true, map, IfOk};
+ghost use Rattle.std.specs.List.{list_all};
+ghost use Rattle.c_layout.specs.DeclarationTrees.{spec_tree, spec_trees, declarator_view, init_declarator_view, local_view};
+ghost use Rattle.c_parser_declarations.specs.Declarations.{is_local_class, is_local_word, IsLocalDeclarator, local_init_height};
+ghost use Rattle.c_parser_declarations.specs.Findings.{FoundSpec, FoundListed, FoundLocalTail, FoundLocalDeclarator, FoundLocalDeclarators, FoundLocal};
+
+use crate::declarators::declarator;
+use crate::initializers::assigned;
+use crate::specifier_lists::specifiers;
+use c_layout::{Declarator, InitDeclarator, Local, SpecWord, Storage};
+use c_parser_expressions::{Parsed, Reader, Scope, Trouble, inner, made};
+use c_parser_tokens::Punctuator;
+
+/// Whether a storage class may stand in a block.
+fn is_local_class(class: Storage) -> bool
+    ensures { result ≡ is_local_class class }
+{
+    !matches!(class, Storage::Typedef | Storage::Extern)
+}
+
+/// Whether a word may stand in a block: no `typedef`, no `extern`, and no body.
+fn is_local_word(word: &SpecWord) -> bool
+    ensures { result ≡ is_local_word (spec_tree word.now) }
+{
+    match word {
+        SpecWord::Storage(_, class) => is_local_class(*class),
+        SpecWord::Struct(_, _, Some(_)) => false,
+        SpecWord::Enum(_, _, Some(_)) => false,
+        SpecWord::Struct(_, _, None) | SpecWord::Enum(_, _, None) => true,
+        SpecWord::Qualifier(_) | SpecWord::Type(_, _) | SpecWord::Typedef(_) => true,
+    }
+}
+
+/// Whether each of these words may stand in a block.
+fn each_local(words: &[SpecWord]) -> bool
+    ensures { result ≡ list_all (λ word. is_local_word (spec_tree word)) words.now }
+{
+    words.iter().all(|word| is_local_word(word))
+}
+
+/// Whether all words may stand in a block.
+#[tactic(auto, using(crate::proofs::Among::local_all))]
+fn are_local(words: &[SpecWord]) -> bool
+    ensures { result ≡ list_all is_local_word (map spec_tree words.now) }
+{
+    each_local(words)
+}
+
+/// The specifiers of a declaration in a block.
+fn local_specifiers(
+    scope: Scope<'_>,
+    reader: &mut Reader<'_>,
+    budget: u32,
+) -> Result<Parsed<Vec<SpecWord>>, Trouble>
+    ensures found { IfOk result (λ n. FoundSpec scope.entry.typedefs.now budget (spec_trees (map spec_tree n.tree.items)) n.height reader.old reader.new) }
+    ensures local { IfOk result (λ n. list_all is_local_word (map spec_tree n.tree.items) ≡ true) }
+{
+    let words = specifiers(scope, reader, budget)?;
+    if !are_local(words.tree.as_slice()) {
+        return Err(Trouble::Syntax);
+    }
+    Ok(words)
+}
+
+/// A declarator with the initializer that follows its `=`, if one does.
+fn with_initializer(
+    scope: Scope<'_>,
+    reader: &mut Reader<'_>,
+    declared: Parsed<Declarator>,
+    budget: u32,
+) -> Result<Parsed<InitDeclarator>, Trouble>
+    ensures { IfOk result (λ n. FoundLocalTail scope.entry.typedefs.now budget (declarator_view declared.tree) declared.height (init_declarator_view n.tree) n.height reader.old reader.new) }
+{
+    if !reader.is_at(Punctuator::Assign) {
+        let tree = InitDeclarator::Object(declared.tree);
+        return Ok(Parsed {
+            tree,
+            height: declared.height,
+        });
+    }
+    let found = assigned(scope, reader, declared, budget)?;
+    Ok(found)
+}
+
+/// A declarator of an object, with its initializer.
+fn local_declarator(
+    scope: Scope<'_>,
+    reader: &mut Reader<'_>,
+    budget: u32,
+) -> Result<Parsed<InitDeclarator>, Trouble>
+    ensures { IfOk result (λ n. FoundLocalDeclarator scope.entry.typedefs.now budget (init_declarator_view n.tree) n.height reader.old reader.new) }
+{
+    let declared = declarator(scope, reader, budget)?;
+    let found = with_initializer(scope, reader, declared, budget)?;
+    Ok(found)
+}
+
+/// One declarator or more, with a comma between any two.
+fn some_declarators(
+    scope: Scope<'_>,
+    reader: &mut Reader<'_>,
+    budget: u32,
+) -> Result<Parsed<Vec<InitDeclarator>>, Trouble>
+    ensures { IfOk result (λ n. FoundListed (IsLocalDeclarator scope.entry.typedefs.now) local_init_height budget (map init_declarator_view n.tree.items) n.height reader.old reader.new) }
+{
+    let mut found = Vec::new(scope.alloc);
+    let mut height = 0u32;
+    for _turn in 0..reader.left() {
+        let next = local_declarator(scope, reader, budget)?;
+        height = height.max(next.height);
+        found.push(next.tree)?;
+        if !reader.accept(Punctuator::Comma) {
+            let tree = found;
+            return Ok(Parsed { tree, height });
+        }
+    }
+    Err(Trouble::Syntax)
+}
+
+/// The declarators of a declaration in a block, with the `;`.
+fn local_declarators(
+    scope: Scope<'_>,
+    reader: &mut Reader<'_>,
+    budget: u32,
+) -> Result<Parsed<Vec<InitDeclarator>>, Trouble>
+    ensures { IfOk result (λ n. FoundLocalDeclarators scope.entry.typedefs.now budget (map init_declarator_view n.tree.items) n.height reader.old reader.new) }
+{
+    if reader.accept(Punctuator::Semicolon) {
+        let tree = Vec::new(scope.alloc);
+        return Ok(Parsed { tree, height: 0 });
+    }
+    let found = some_declarators(scope, reader, budget)?;
+    reader.expect(Punctuator::Semicolon)?;
+    Ok(found)
+}
+
+/// A declaration in a block or in a `for`, with its `;`.
+///
+/// # Errors
+///
+/// `Syntax` where none of a height of at most `budget` stands next, or want of memory.
+pub fn local_declaration(
+    scope: Scope<'_>,
+    reader: &mut Reader<'_>,
+    budget: u32,
+) -> Result<Parsed<Local>, Trouble>
+    ensures { IfOk result (λ n. FoundLocal scope.entry.typedefs.now budget (local_view n.tree) n.height reader.old reader.new) }
+{
+    let place = reader.place();
+    let words = local_specifiers(scope, reader, inner(budget)?)?;
+    let declared = local_declarators(scope, reader, inner(budget)?)?;
+    let height = made(budget, words.height.max(declared.height))?;
+    let tree = Local {
+        place,
+        words: words.tree,
+        declarators: declared.tree,
+    };
+    Ok(Parsed { tree, height })
+}

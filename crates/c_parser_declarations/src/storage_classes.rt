@@ -1,0 +1,56 @@
+//! Storage classes (6.7.1).
+ghost use Rattle.std.specs.Prelude.{◌≡◌, map};
+ghost use Rattle.std.specs.List.{list_any};
+ghost use Rattle.c_layout.specs.DeclarationTrees.{spec_tree};
+ghost use Rattle.c_parser_declarations.specs.StorageClasses.{storage_class, is_typedef_class, is_typedef_word, is_typedef};
+
+use c_layout::{SpecWord, Storage};
+use c_parser_tokens::Keyword;
+
+/// The storage class that a keyword is.
+pub fn storage_class(word: Keyword) -> Option<Storage>
+    ensures { result ≡ storage_class word }
+{
+    match word {
+        Keyword::Typedef => Some(Storage::Typedef),
+        Keyword::Extern => Some(Storage::Extern),
+        Keyword::Static => Some(Storage::Static),
+        Keyword::Auto => Some(Storage::Auto),
+        Keyword::Register => Some(Storage::Register),
+        _ => None,
+    }
+}
+
+/// Whether a storage class is `typedef`.
+fn is_typedef_class(class: Storage) -> bool
+    ensures { result ≡ is_typedef_class class }
+{
+    matches!(class, Storage::Typedef)
+}
+
+/// Whether a word of specifiers is `typedef`.
+fn is_typedef_word(word: &SpecWord) -> bool
+    ensures { result ≡ is_typedef_word (spec_tree word.now) }
+{
+    match word {
+        SpecWord::Storage(_, class) => is_typedef_class(*class),
+        SpecWord::Struct(_, _, None) | SpecWord::Struct(_, _, Some(_)) => false,
+        SpecWord::Enum(_, _, None) | SpecWord::Enum(_, _, Some(_)) => false,
+        SpecWord::Qualifier(_) | SpecWord::Type(_, _) | SpecWord::Typedef(_) => false,
+    }
+}
+
+/// Whether one of these words is `typedef`.
+fn any_typedef(words: &[SpecWord]) -> bool
+    ensures { result ≡ list_any (λ word. is_typedef_word (spec_tree word)) words.now }
+{
+    words.iter().any(|word| is_typedef_word(word))
+}
+
+/// Whether `typedef` stands among specifiers, so that their declarators give typedef names.
+#[tactic(auto, using(crate::proofs::Among::typedef_among))]
+pub fn is_typedef(words: &[SpecWord]) -> bool
+    ensures { result ≡ is_typedef (map spec_tree words.now) }
+{
+    any_typedef(words)
+}

@@ -1,0 +1,69 @@
+//! The stars of declarators (6.7.6.1).
+ghost use Rattle.std.specs.Prelude.{◌≡◌, IfOk};
+ghost use Rattle.c_parser_expressions.specs.Fronts.{first_symbol};
+ghost use Rattle.c_parser_expressions.specs.TypeNames.{is_pointer_qualifier, Qualifiers, IsStar, Stars, is_one_star};
+
+use crate::heights::Trouble;
+use crate::terminal_reader::Reader;
+use c_parser_tokens::{Keyword, Punctuator, Symbol};
+use std::alloc::Global;
+
+/// Whether `const` or `restrict` stands next.
+fn is_at_qualifier(reader: &Reader<'_>) -> bool
+    ensures { result ≡ is_pointer_qualifier (first_symbol reader.now) }
+{
+    match reader.peek() {
+        Symbol::Keyword(word) => matches!(word, Keyword::Const | Keyword::Restrict),
+        _ => false,
+    }
+}
+
+/// How many of `const` and `restrict` stand next. More than a `u32` can count are want of memory.
+fn qualifiers(reader: &mut Reader<'_>) -> Result<u32, Trouble>
+    ensures { IfOk result (λ n. Qualifiers n reader.old reader.new) }
+{
+    let mut count = 0u32;
+    for _turn in 0..reader.left() {
+        if !is_at_qualifier(reader) {
+            return Ok(count);
+        }
+        reader.take();
+        let Some(next) = count.checked_add(1) else {
+            return Err(Trouble::Memory);
+        };
+        count = next;
+    }
+    Ok(count)
+}
+
+/// A star, with the number of qualifiers behind it.
+fn star(reader: &mut Reader<'_>) -> Result<u32, Trouble>
+    ensures { IfOk result (λ n. IsStar n reader.old reader.new) }
+{
+    reader.expect(Punctuator::Star)?;
+    qualifiers(reader)
+}
+
+/// The stars that stand next, each with the number of qualifiers behind it.
+pub fn stars(alloc: Global, reader: &mut Reader<'_>) -> Result<Vec<u32>, Trouble>
+    ensures { IfOk result (λ v. Stars v.items reader.old reader.new) }
+{
+    let mut found = Vec::new(alloc);
+    for _turn in 0..reader.left() {
+        if !reader.is_at(Punctuator::Star) {
+            return Ok(found);
+        }
+        found.push(star(reader)?)?;
+    }
+    Ok(found)
+}
+
+/// Whether one star stands there, without qualifiers.
+pub fn is_one_star(stars: &[u32]) -> bool
+    ensures { result ≡ is_one_star stars.now }
+{
+    match stars {
+        [qualifiers] => *qualifiers == 0,
+        _ => false,
+    }
+}

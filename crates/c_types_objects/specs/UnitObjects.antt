@@ -1,0 +1,68 @@
+-- What becomes of the objects of static storage at the end of a unit (6.9.2p2).
+use Rattle.std.specs.Prelude.{ℕ, ◌==◌, cond, List, map, slice_get, Option, Some, None}
+use Rattle.c_layout.specs.Types.{Ty, Int, Pointer, Array, Struct, Void}
+use Rattle.c_layout.specs.CheckedUnits.{StaticView, StaticStoreView, SetValue, SetText}
+use Rattle.c_layout.specs.declared.checked_tree.checked_units.StaticValue.{StaticValue}
+use Rattle.c_layout.specs.declared.checked_tree.checked_units.StaticValue.TheVariants as value
+use Rattle.c_layout.specs.declared.checked_tree.checked_units.StaticBase.{StaticBase}
+use Rattle.c_layout.specs.declared.checked_tree.checked_units.StaticBase.TheVariants as base
+use Rattle.c_types_scopes.specs.Known.{Known, size_of}
+use Rattle.c_types_scopes.specs.States.{State}
+
+-- ---- lengths that are not known
+
+abbrev pub completed_count : ℕ → ℕ
+completed_count count = cond (count == 0) 1 count
+
+-- an array without a length in the whole unit has one element
+abbrev pub completed : Ty → Ty
+completed (Int k) = Int k
+completed (Pointer t) = Pointer t
+completed (Array t count) = Array t (completed_count count)
+completed (Struct number) = Struct number
+completed Void = Void
+
+abbrev pub completed_object : StaticView → StaticView
+completed_object o = record o { ctype = completed o.ctype }
+
+abbrev pub with_statics : State → List StaticView → State
+with_statics s statics = record s { statics = statics }
+
+abbrev pub with_completed : State → State
+with_completed s = with_statics s (map completed_object s.statics)
+
+-- ---- bounds of addresses
+
+abbrev pub or_0 : Option ℕ → ℕ
+or_0 None = 0
+or_0 (Some n) = n
+
+abbrev pub object_size : Known → StaticView → ℕ
+object_size k o = or_0 (size_of k o.ctype)
+
+-- the sizes of the objects of static storage
+abbrev pub object_sizes : State → List ℕ
+object_sizes s = map (object_size s.known) s.statics
+
+-- the greatest number stands for the size of an object whose length was not known
+abbrev pub bound_of : List ℕ → ℕ → ℕ → ℕ
+bound_of sizes number high = cond (high == 18446744073709551615) (or_0 (slice_get sizes number)) high
+
+abbrev pub bounded_base : List ℕ → StaticBase → ℕ → ℕ → ℕ → StaticValue
+bounded_base sizes (base.Object number) offset low high = value.Address (base.Object number) offset low (bound_of sizes number high)
+bounded_base sizes (base.Literal number) offset low high = value.Address (base.Literal number) offset low high
+
+abbrev pub bounded : List ℕ → StaticValue → StaticValue
+bounded sizes (value.Number n kind) = value.Number n kind
+bounded sizes value.Null = value.Null
+bounded sizes (value.Address b offset low high) = bounded_base sizes b offset low high
+
+abbrev pub bounded_store : List ℕ → StaticStoreView → StaticStoreView
+bounded_store sizes (SetValue offset v) = SetValue offset (bounded sizes v)
+bounded_store sizes (SetText offset room text) = SetText offset room text
+
+abbrev pub bounded_object : List ℕ → StaticView → StaticView
+bounded_object sizes o = record o { stores = map (bounded_store sizes) o.stores }
+
+abbrev pub with_bounded : State → State
+with_bounded s = with_statics s (map (bounded_object (object_sizes s)) s.statics)

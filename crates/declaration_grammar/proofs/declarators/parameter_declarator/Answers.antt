@@ -1,5 +1,0 @@
-use Rattle.declaration_grammar.proofs.Layers.{declared}
-use Rattle.declaration_grammar.proofs.declarators.parameter_declarator.Goals as goal
-
-pub returns : goal.returns
-returns c = declared c.in_ok-parts.ensures c.declarator_of-whole.ensures.tree c.declarator_of-whole.ensures.height

@@ -1,6 +1,0 @@
-use Rattle.std.proofs.Common.{◌≡◌, ◌++◌, ◌-◌}
-use Rattle.declaration_types.specs.Declarators.{pointers}
-use Rattle.declaration_types.proofs.declarators.add_pointers.Given as goal
-
-abbrev pub invariant-loop-star : goal.invariant-loop-star
-invariant-loop-star l = l.steps.items ++ pointers (l.stars - l._star) ≡ l.initial.steps.items ++ pointers l.stars

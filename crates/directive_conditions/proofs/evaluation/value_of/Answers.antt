@@ -1,5 +1,0 @@
-use Rattle.directive_conditions.proofs.Evaluating.{evaluates}
-use Rattle.directive_conditions.proofs.evaluation.value_of.Goals as goal
-
-pub returns-clause-derives : goal.returns-clause-derives
-returns-clause-derives c = evaluates c.args.symbols.now c.run.result c.run.ensures

@@ -1,6 +1,0 @@
-use Rattle.std.proofs.Common.{◌≡◌, ◌+◌, drop}
-use Rattle.directive_conditions.specs.NumberForms.{digit_count}
-use Rattle.directive_conditions.proofs.number_forms.digit_count.Given as goal
-
-abbrev pub invariant-loop-at : goal.invariant-loop-at
-invariant-loop-at l = l.at + digit_count l.base (drop l.at l.text) ≡ digit_count l.base l.text

@@ -1,6 +1,0 @@
-use Rattle.std.proofs.Common.{◌≡◌, drop}
-use Rattle.directive_conditions.specs.NumberForms.{magnitude_after, magnitude}
-use Rattle.directive_conditions.proofs.number_forms.magnitude.Given as goal
-
-abbrev pub invariant-loop-at : goal.invariant-loop-at
-invariant-loop-at l = magnitude_after l.base l.total (drop l.at l.digits) ≡ magnitude l.base l.digits

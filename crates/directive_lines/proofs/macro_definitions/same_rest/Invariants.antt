@@ -1,6 +1,0 @@
-use Rattle.std.proofs.Common.{◌≡◌, drop}
-use Rattle.directive_lines.specs.Definitions.{same_rest}
-use Rattle.directive_lines.proofs.macro_definitions.same_rest.Given as goal
-
-abbrev pub invariant-loop-a : goal.invariant-loop-a
-invariant-loop-a l = same_rest (drop l.a-index l.x) l.others ≡ same_rest l.x l.y

@@ -1,5 +1,0 @@
-use Rattle.expression_grammar.specs.TypeNames.{Qualifiers}
-use Rattle.expression_grammar.proofs.pointer_stars.qualifiers.Given as goal
-
-abbrev pub invariant-loop-turn : goal.invariant-loop-turn
-invariant-loop-turn l = Qualifiers l.count l.fn.reader l.reader

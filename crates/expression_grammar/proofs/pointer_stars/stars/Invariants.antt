@@ -1,5 +1,0 @@
-use Rattle.expression_grammar.specs.TypeNames.{Stars}
-use Rattle.expression_grammar.proofs.pointer_stars.stars.Given as goal
-
-abbrev pub invariant-loop-turn : goal.invariant-loop-turn
-invariant-loop-turn l = Stars l.found.items l.fn.reader l.reader

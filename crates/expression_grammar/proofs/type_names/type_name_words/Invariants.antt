@@ -1,7 +1,0 @@
-use Rattle.std.proofs.Common.{◌≡◌}
-use Rattle.expression_grammar.specs.Spans.{Chain}
-use Rattle.expression_grammar.specs.TypeNames.{IsTypeNameWord, counts_of}
-use Rattle.expression_grammar.proofs.type_names.type_name_words.Given as goal
-
-abbrev pub invariant-loop-turn : goal.invariant-loop-turn
-invariant-loop-turn l = Chain (IsTypeNameWord l.scope.typedefs.now) l.words.items l.fn.reader l.reader × (l.counts ≡ counts_of l.words.items)

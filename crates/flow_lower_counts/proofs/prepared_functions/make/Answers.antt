@@ -1,0 +1,14 @@
+use Rattle.std.proofs.Common.{map, ap, ◌∙◌, Some}
+use Rattle.std.proofs.lemmas.List.{map-set}
+use Rattle.std.specs.Option.{option_map}
+use Rattle.c_layout.specs.CheckedUnits.{function_view}
+use Rattle.flow_lower_tasks.specs.Pieces.{template_view}
+use Rattle.flow_lower_counts.proofs.prepared_functions.make.Goals as goal
+
+pub returns : goal.returns
+returns c = record {
+  function = function_view c.in_ok-function.function.now;
+  template = template_view c.in_ok-made.made;
+  is_template = record { stands = c.in_ok-function.ensures; is_template = c.in_ok-made.ensures };
+  comes = ap (λ ts. map (option_map template_view) ts) c.in_ok-put.ensures.items ∙ map-set (option_map template_view) c.args.templates.now.items c.args.number (Some c.in_ok-made.made);
+}

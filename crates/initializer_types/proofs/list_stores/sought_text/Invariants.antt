@@ -1,8 +1,0 @@
-use Rattle.std.proofs.Common.{◌≡◌, ◌-◌}
-use Rattle.type_scopes.specs.Known.{known}
-use Rattle.initializer_types.specs.Subobjects.{cursor_view}
-use Rattle.initializer_types.specs.ListStores.{sought_within, takes_text}
-use Rattle.initializer_types.proofs.list_stores.sought_text.Given as goal
-
-abbrev pub invariant-loop-level : goal.invariant-loop-level
-invariant-loop-level l = sought_within (4294967295 - l._level) (known l.cx) takes_text (cursor_view l.cursor) ≡ sought_within 4294967295 (known l.cx) takes_text (cursor_view l.fn.cursor)

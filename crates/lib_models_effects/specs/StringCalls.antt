@@ -1,0 +1,77 @@
+-- Functions on strings (7.24.2.3 to 7.24.6.3).
+use Rattle.std.specs.Prelude.{ℕ, ◌+◌, ◌-◌, ℤ, pos, negsuc, cond, nat_lt, min, List, ◌∷◌, ◌++◌, take, replicate, ◌==◌}
+use Rattle.value_domain.specs.LabelSets.{no_labels}
+use Rattle.lib_models_memory.specs.Bytes.{Content, indeterminate, number, part}
+use Rattle.lib_models_memory.specs.ValueMeaning.{Scalar, integer, pointer}
+use Rattle.lib_models_effects.specs.Worlds.{World, Reply, goes, stops, behind}
+use Rattle.lib_models_effects.specs.ScalarBytes.{contents}
+use Rattle.lib_models_effects.specs.StructCopies.{overlap}
+use Rattle.lib_models_effects.specs.LibraryChecks.{Reach, argument, pointer_at, size_at, with_size, reached, bytes_from, string_length, length_within, fitting, writable}
+use Rattle.lib_models_effects.specs.MemoryCalls.{with_contents}
+
+abbrev pub plain : ℤ → Scalar
+plain n = integer n no_labels
+
+abbrev pub strlen : List Scalar → World → Reply Scalar
+strlen arguments w = behind (reached (pointer_at arguments 0) w) (λ s w. behind (string_length s w) (λ n w. goes (plain (pos n)) w))
+
+-- text is written where it does not overlap what was read
+abbrev pub written : Reach → ℕ → Reach → ℕ → List Content → Scalar → World → Reply Scalar
+written to size from room text result w = cond (overlap to.spot size from.spot room) (stops w) (goes result (with_contents w to text))
+
+abbrev pub strcpy : List Scalar → World → Reply Scalar
+strcpy arguments w =
+    behind (reached (pointer_at arguments 0) w) (λ to w.
+    behind (reached (pointer_at arguments 1) w) (λ from w.
+    behind (string_length from w) (λ n w.
+    behind (fitting (n + 1) to w) (λ _ w.
+    behind (writable (n + 1) to w) (λ _ w.
+    written to (n + 1) from (n + 1) (contents (bytes_from w from (n + 1))) (pointer (pointer_at arguments 0)) w)))))
+
+-- so many characters, and zeros behind them
+abbrev pub padded : List Content → ℕ → ℕ → List Content
+padded text characters size = take characters text ++ replicate (size - characters) (number 0 no_labels)
+
+abbrev pub strncpy : List Scalar → World → Reply Scalar
+strncpy arguments w =
+    behind (reached (pointer_at arguments 0) (with_size w (argument arguments 2))) (λ to w.
+    behind (reached (pointer_at arguments 1) w) (λ from w.
+    behind (length_within (size_at arguments 2) from w) (λ n w.
+    behind (fitting (size_at arguments 2) to w) (λ _ w.
+    behind (writable (size_at arguments 2) to w) (λ _ w.
+    cond (size_at arguments 2 == 0) (goes (pointer (pointer_at arguments 0)) w)
+    (written to (size_at arguments 2) from (min (size_at arguments 2) (n + 1)) (padded (contents (bytes_from w from n)) n (size_at arguments 2)) (pointer (pointer_at arguments 0)) w))))))
+
+abbrev pub further : Reach → ℕ → Reach
+further r n = record { spot = record { instance = r.spot.instance; offset = r.spot.offset + n }; room = r.room - n }
+
+abbrev pub strcat : List Scalar → World → Reply Scalar
+strcat arguments w =
+    behind (reached (pointer_at arguments 0) w) (λ to w.
+    behind (reached (pointer_at arguments 1) w) (λ from w.
+    behind (string_length to w) (λ m w.
+    behind (string_length from w) (λ n w.
+    behind (fitting ((m + n) + 1) to w) (λ _ w.
+    behind (writable ((m + n) + 1) to w) (λ _ w.
+    written (further to m) (n + 1) from (n + 1) (contents (bytes_from w from (n + 1))) (pointer (pointer_at arguments 0)) w))))))
+
+abbrev pub character_of : Content → ℕ
+character_of (number n labels) = n
+character_of indeterminate = 0
+character_of (part p k) = 0
+
+abbrev pub order_of : ℕ → ℕ → ℤ → ℤ
+order_of a b same = cond (nat_lt a b) (negsuc 0) (cond (nat_lt b a) (pos 1) same)
+
+-- the first bytes that differ decide
+abbrev pub order_in : List Content → List Content → ℤ
+order_in (c ∷ cs) (d ∷ ds) = order_of (character_of c) (character_of d) (order_in cs ds)
+order_in cs ds = pos 0
+
+abbrev pub strcmp : List Scalar → World → Reply Scalar
+strcmp arguments w =
+    behind (reached (pointer_at arguments 0) w) (λ a w.
+    behind (reached (pointer_at arguments 1) w) (λ b w.
+    behind (string_length a w) (λ m w.
+    behind (string_length b w) (λ n w.
+    goes (plain (order_in (contents (bytes_from w a (m + 1))) (contents (bytes_from w b (n + 1))))) w))))

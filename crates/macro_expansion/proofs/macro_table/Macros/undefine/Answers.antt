@@ -1,6 +1,0 @@
-use Rattle.std.proofs.Common.{◌∙◌, ap, map}
-use Rattle.macro_expansion.proofs.Tables.{entry_of, map-swap_remove_entry}
-use Rattle.macro_expansion.proofs.macro_table.Macros.undefine.Goals as goal
-
-pub returns-clause-macros : goal.returns-clause-macros
-returns-clause-macros c = ap (map entry_of) c.swap_remove.ensures.entries ∙ map-swap_remove_entry c.args.self.now.table.entries c.args.name

@@ -1,6 +1,0 @@
-use Rattle.std.proofs.Common.{◌≡◌, drop}
-use Rattle.macro_expansion.specs.Pending.{next_open}
-use Rattle.macro_expansion.proofs.pending_list.Pending.next_is_open.Given as goal
-
-abbrev pub invariant-loop-i : goal.invariant-loop-i
-invariant-loop-i l = next_open l.self.items.items ≡ next_open (drop l.i l.self.items.items)

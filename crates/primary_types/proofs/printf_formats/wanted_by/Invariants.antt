@@ -1,7 +1,0 @@
-use Rattle.std.proofs.Common.{◌≡◌, ◌-◌, length}
-use Rattle.primary_types.specs.PrintfFormats.{wanted_within, wanted_by}
-use Rattle.primary_types.proofs.Formats.{with_all}
-use Rattle.primary_types.proofs.printf_formats.wanted_by.Given as goal
-
-abbrev pub invariant-loop-turn : goal.invariant-loop-turn
-invariant-loop-turn l = with_all l.found.items (wanted_within (length l.format - l._turn) l.rest) ≡ wanted_by l.format

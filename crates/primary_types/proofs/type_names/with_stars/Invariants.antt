@@ -1,6 +1,0 @@
-use Rattle.std.proofs.Common.{◌≡◌, drop}
-use Rattle.primary_types.specs.TypeNames.{with_stars}
-use Rattle.primary_types.proofs.type_names.with_stars.Given as goal
-
-abbrev pub invariant-loop-star : goal.invariant-loop-star
-invariant-loop-star l = with_stars l.steps.items (drop l._star-index l.stars) ≡ with_stars l.fn.steps.items l.stars

@@ -1,7 +1,0 @@
-use Rattle.primary_types.proofs.type_names.word_type.Goals as goal
-
-pub returns-in-Struct : goal.returns-in-Struct
-returns-in-Struct c = rw c.in-Struct.is c.struct_word.ensures
-
-pub returns-in-Enum : goal.returns-in-Enum
-returns-in-Enum c = rw c.in-Enum.is c.enumeration_word.ensures

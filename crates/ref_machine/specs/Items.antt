@@ -1,0 +1,79 @@
+-- What a function still has to do: a list of items, the next one first.
+use Rattle.std.specs.Prelude.{ℕ, Bool, List, [], ◌∷◌, Option}
+use Rattle.cc_base.specs.declared.diagnostics.Place.{Place}
+use Rattle.cc_base.specs.declared.integer_operators.Rel.{Rel}
+use Rattle.cc_base.specs.declared.limit_table.IntType.{IntType}
+use Rattle.c_layout.specs.CheckedTrees.{TermTree, LvalueTree, StatementTree}
+use Rattle.c_layout.specs.declared.checked_tree.checked_terms.ObjectRef.{ObjectRef}
+use Rattle.c_layout.specs.declared.checked_tree.checked_statements.CaseLabel.{CaseLabel}
+use Rattle.flow_lower_conditions.specs.declared.branch_tests.NamedObject.{NamedObject}
+use Rattle.lib_models_memory.specs.ValueMeaning.{Scalar}
+use Rattle.lib_models_effects.specs.Worlds.{World, Reply}
+
+-- a side of a test: a named object, or a constant
+pub data NamedSide : Type 0 where
+  named : (object : NamedObject) → NamedSide
+  number : NamedSide
+
+-- a relation of two integers in their common type
+pub record NamedTest : Type 0 where
+  pub left : NamedSide
+  pub rel : Rel
+  pub right : NamedSide
+  pub common : IntType
+
+mutual
+  pub data Item : Type 0 where
+    -- the value of a term is pushed, or only what it does is done
+    Value : (term : TermTree) → Item
+    Unused : (term : TermTree) → Item
+    -- the pointer to an lvalue is pushed
+    Address : (lvalue : LvalueTree) → Item
+    -- a step takes so many values, given oldest first, and gives others
+    Do : (at : Place) (count : ℕ) (effect : List Scalar → World → Reply (List Scalar)) → Item
+    -- a value more, that no step computes
+    Push : (value : Scalar) → Item
+    -- the newest value again, or no longer
+    Again : Item
+    Drop : Item
+    -- a pointer to a byte of a named object, of a literal or of the result is pushed
+    Object : (at : Place) (object : ObjectRef) (offset : ℕ) → Item
+    Literal : (at : Place) (index : ℕ) → Item
+    Outcome : (at : Place) → Item
+    -- something is done to a local object
+    OnObject : (at : Place) (local : ℕ) (effect : ℕ → World → World) → Item
+    -- the items of a condition, by whether the newest value is 0
+    Choose : (at : Place) (test : Option NamedTest) (held failed : Items) → Item
+    Statement : (statement : StatementTree) → Item
+    -- the next turn of a loop, by its condition
+    WhileTurn : (condition : TermTree) (body : StatementTree) → Item
+    DoTurn : (body : StatementTree) (condition : TermTree) → Item
+    ForTurn : (condition step : Option TermTree) (body : StatementTree) → Item
+    -- here a turn of a loop ends, or a loop or a switch
+    TurnEnd : Item
+    LoopEnd : Item
+    -- the newest value selects a label of a switch's body
+    Select : (at : Place) (object : Option NamedObject) (labels : List CaseLabel) (body : StatementTree) → Item
+    -- local objects begin to live, or end, one after the other; the result is the object behind all locals
+    Enters : (locals : List ℕ) → Item
+    Leaves : (locals : List ℕ) → Item
+    -- jumps
+    GoTo : (label : ℕ) → Item
+    BreakOut : Item
+    NextTurn : Item
+    -- the function is left; the run ends where it is the entry
+    Finish : Item
+    -- a function is called with the newest values
+    Invoke : (at : Place) (function : ℕ) (count : ℕ) (used : Bool) → Item
+
+  pub data Items : Type 0 where
+    Nothing : Items
+    First : (item : Item) (rest : Items) → Items
+
+abbrev pub items_of : List Item → Items
+items_of [] = Nothing
+items_of (item ∷ items) = First item (items_of items)
+
+abbrev pub listed : Items → List Item
+listed Nothing = []
+listed (First item items) = item ∷ listed items

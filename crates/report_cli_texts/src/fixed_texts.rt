@@ -1,0 +1,86 @@
+//! The texts of the command line itself.
+ghost use Rattle.std.specs.Prelude.{◌≡◌, IfOk};
+ghost use Rattle.report_cli_texts.specs.FixedTexts.{help_text, version_text, words_refused_text, no_file_text, too_long_text, no_model_text};
+
+use crate::answers::Answer;
+use std::alloc::{AllocError, Global};
+
+/// What `--help` prints.
+const HELP: &str = "ccheck: a static analyser for C
+
+Usage: ccheck VERB UNIT [DIR]... [OPTIONS]
+
+Verbs:
+  check   analyse UNIT, with headers searched in each DIR, and print what it may violate
+  load    make a unit from --seed and --count, analyse it as UNIT, and print a summary
+
+Options:
+  --model NAME_OR_FILE  lp64, ilp32, llp64, or a file with a data model [default: lp64]
+  --format FORMAT       text or json [default: text]
+  --entry NAME          the function at which runs start [default: main]
+  --turns K             0 to 64 turns of each loop analysed one by one, for check
+  --seed N              0 to 2147483647, for load [default: 1]
+  --count N             1 to 300, for load [default: 10]
+
+Status: 0 no diagnostic, 1 diagnostics, 2 the unit is refused, 3 the words or the model are refused,
+4 no such file, 5 a read failed, 6 a write failed, 7 out of memory, 8 a limit is passed
+";
+
+fn fixed(alloc: Global, status: u8, text: &str) -> Result<Answer, AllocError>
+    ensures status { IfOk result (λ a. a.status ≡ status) }
+    ensures text { IfOk result (λ a. a.text.items ≡ text.now) }
+{
+    let text = Vec::from_slice(alloc, text.as_bytes())?;
+    Ok(Answer { status, text })
+}
+
+/// The text of `--help`.
+pub fn help(alloc: Global) -> Result<Answer, AllocError>
+    ensures status { IfOk result (λ a. a.status ≡ 0) }
+    ensures text { IfOk result (λ a. a.text.items ≡ help_text) }
+{
+    fixed(alloc, 0, HELP)
+}
+
+/// The text of `--version`.
+pub fn version(alloc: Global) -> Result<Answer, AllocError>
+    ensures status { IfOk result (λ a. a.status ≡ 0) }
+    ensures text { IfOk result (λ a. a.text.items ≡ version_text) }
+{
+    fixed(alloc, 0, "ccheck 0.1.0\n")
+}
+
+/// Refused words.
+pub fn words_refused(alloc: Global) -> Result<Answer, AllocError>
+    ensures status { IfOk result (λ a. a.status ≡ 3) }
+    ensures text { IfOk result (λ a. a.text.items ≡ words_refused_text) }
+{
+    fixed(alloc, 3, "ccheck: words refused\n")
+}
+
+/// A file that is not held.
+pub fn no_file(alloc: Global, name: &str) -> Result<Answer, AllocError>
+    ensures status { IfOk result (λ a. a.status ≡ 4) }
+    ensures text { IfOk result (λ a. a.text.items ≡ no_file_text name.now) }
+{
+    let line = format!(in alloc; "ccheck: no file {name}\n")?;
+    fixed(alloc, 4, line.as_str())
+}
+
+/// A file that is too long.
+pub fn file_too_long(alloc: Global, name: &str) -> Result<Answer, AllocError>
+    ensures status { IfOk result (λ a. a.status ≡ 8) }
+    ensures text { IfOk result (λ a. a.text.items ≡ too_long_text name.now) }
+{
+    let line = format!(in alloc; "{name}:1:1: limit: FileTooLong 1048577/1048576\n")?;
+    fixed(alloc, 8, line.as_str())
+}
+
+/// A model file that gives no model.
+pub fn no_model(alloc: Global, name: &str, reason: &str) -> Result<Answer, AllocError>
+    ensures status { IfOk result (λ a. a.status ≡ 3) }
+    ensures text { IfOk result (λ a. a.text.items ≡ no_model_text name.now reason.now) }
+{
+    let line = format!(in alloc; "ccheck: {name}: {reason}\n")?;
+    fixed(alloc, 3, line.as_str())
+}

@@ -1,7 +1,0 @@
-use Rattle.std.proofs.Common.{◌≡◌, drop}
-use Rattle.template_works.specs.Plans.{plan}
-use Rattle.statement_templates.specs.ScopeJumps.{all_left}
-use Rattle.statement_templates.proofs.scope_jumps.push_leaves.Given as goal
-
-abbrev pub invariant-loop-object : goal.invariant-loop-object
-invariant-loop-object l = all_left l.place (drop l.object-index l.objects) (plan l.builder) ≡ all_left l.place l.objects (plan l.initial.builder)

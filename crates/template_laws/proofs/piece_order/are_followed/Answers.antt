@@ -1,9 +1,0 @@
-use Rattle.template_laws.proofs.TemplateOrder.{template_followed}
-use Rattle.template_laws.proofs.SettledOrder.{settled_followed}
-use Rattle.template_laws.proofs.piece_order.are_followed.Goals as goal
-
-pub returns : goal.returns
-returns c = record {
-  template = λ structs pointer int_bytes f is_entry t is. template_followed structs pointer int_bytes f is_entry t is;
-  settled = λ table t followed. settled_followed table t followed;
-}

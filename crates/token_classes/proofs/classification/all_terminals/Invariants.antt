@@ -1,6 +1,0 @@
-use Rattle.std.proofs.Common.{◌≡◌, [], drop}
-use Rattle.token_classes.specs.Classes.{terminals_after}
-use Rattle.token_classes.proofs.classification.all_terminals.Given as goal
-
-abbrev pub invariant-loop-at : goal.invariant-loop-at
-invariant-loop-at l = terminals_after l.unit.model l.terminals (drop l.at l.tokens) ≡ terminals_after l.unit.model [] l.tokens
