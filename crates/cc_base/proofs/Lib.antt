@@ -1,2 +1,5 @@
 pub mod Names
 pub mod Filling
+mod Sorting
+mod DiagnosticOrder
+mod RuleOrder

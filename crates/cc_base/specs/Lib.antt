@@ -7,6 +7,7 @@ pub mod MemoryTree
 pub mod Outside
 pub mod Rows
 pub mod Machine
+pub mod DiagnosticOrder
 pub mod InductiveMap
 pub mod RowLaws
 pub mod IntegerTypes

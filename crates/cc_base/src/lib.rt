@@ -17,6 +17,7 @@ mod outside;
 #[cfg(test)]
 mod outside_tests;
 mod refusals;
+mod sorted_lists;
 mod standard_sink;
 mod step_counter;
 mod system_files;
@@ -40,6 +41,7 @@ pub use number_ranges::{
 };
 pub use outside::{LONGEST_FILE, Sink, SinkFailed, Tree, TreeFault};
 pub use refusals::{Fault, Memory, Refusal, Stop};
+pub use sorted_lists::{ordered, ordered_diagnostics};
 pub use standard_sink::StdSink;
 pub use step_counter::Steps;
 pub use system_files::FileTree;

@@ -1,7 +1,5 @@
 //! The rules that the instructions of a block may break.
-ghost use Rattle.std.specs.Prelude.{◌≡◌, ◌++◌, true, IfOk, Any, Contains, []};
-ghost use Rattle.std.specs.List.Sorted.{IsStrictlySortedBy};
-ghost use Rattle.cc_base.specs.declared.diagnostics.Diag.{Diag};
+ghost use Rattle.std.specs.Prelude.{◌≡◌, ◌++◌, IfOk, []};
 ghost use Rattle.rule_checks.specs.AdmittedRules.{with_pair, pairs_among, pairs_of, reached_row, pairs_at, row_behind, instruction_pairs, instructions_of, block_pairs};
 
 use abstract_steps_checks::Violations;
@@ -9,7 +7,6 @@ use abstract_steps_instructions::{operate, operation_violations};
 use cc_base::{Diag, IntDomain, Place, Rule};
 use flow_program::{Flow, Instruction};
 use std::alloc::AllocError;
-use syntax_rules::ordered;
 use value_domain::Cell;
 
 /// The rules on runs, in the order of their tags.
@@ -152,13 +149,4 @@ pub fn diagnose_block<I: IntDomain>(
     ensures { IfOk result (λ _. out.new.items ≡ out.old.items ++ block_pairs I.lattice I.numbers flow.now block row.old) }
 {
     diagnose_instructions(out, flow, row, instructions_of(flow, block))
-}
-
-/// The pairs of place and rule in order, each once.
-pub fn sorted_diagnoses(found: Vec<Diag>) -> Vec<Diag>
-    ensures ascending { IsStrictlySortedBy ⟦<Diag as Ord>⟧.cmp result.items }
-    ensures kept { (d : Diag) → Contains found.items d → Any (λ e. ⟦<Diag as PartialEq>⟧.eq d e ≡ true) result.items }
-    ensures made { (d : Diag) → Contains result.items d → Contains found.items d }
-{
-    ordered(found)
 }

@@ -1,13 +1,12 @@
 //! The rules that a program may break, over a map of its rows.
-ghost use Rattle.std.specs.Prelude.{◌≡◌, ◌++◌, ℕ, Some, true, IfOk, Any, Contains};
-ghost use Rattle.std.specs.List.Sorted.{IsStrictlySortedBy};
-ghost use Rattle.cc_base.specs.declared.diagnostics.Diag.{Diag};
+ghost use Rattle.std.specs.Prelude.{◌≡◌, ◌++◌, ℕ, Some, IfOk};
+ghost use Rattle.cc_base.specs.DiagnosticOrder.{IsOrderedSet};
 ghost use Rattle.row_pool.specs.Pool.{row_of, IsTaken};
 ghost use Rattle.fixpoint_engine.specs.RowMap.{IsHeld, slot_index, slot_row, rows_in};
 ghost use Rattle.rule_checks.specs.AdmittedRules.{entry_pairs, map_pairs};
 
-use crate::block_diagnoses::{diagnose_block, sorted_diagnoses};
-use cc_base::{Diag, IntDomain, Memory};
+use crate::block_diagnoses::diagnose_block;
+use cc_base::{Diag, IntDomain, Memory, ordered_diagnostics};
 use flow_program::Flow;
 use row_pool::{Row, RowPool};
 use std::alloc::{AllocError, Global};
@@ -81,9 +80,7 @@ pub fn diagnose<I: IntDomain>(
     map: &[Option<Row>],
 ) -> Result<Vec<Diag>, Memory>
     requires { IsHeld pool.now map.now }
-    ensures ascending { IfOk result (λ found. IsStrictlySortedBy ⟦<Diag as Ord>⟧.cmp found.items) }
-    ensures kept { IfOk result (λ found. (d : Diag) → Contains (map_pairs I.lattice I.numbers flow.now (rows_in pool.now map.now)) d → Any (λ e. ⟦<Diag as PartialEq>⟧.eq d e ≡ true) found.items) }
-    ensures made { IfOk result (λ found. (d : Diag) → Contains found.items d → Contains (map_pairs I.lattice I.numbers flow.now (rows_in pool.now map.now)) d) }
+    ensures { IfOk result (λ found. IsOrderedSet (map_pairs I.lattice I.numbers flow.now (rows_in pool.now map.now)) found.items) }
 {
-    Ok(sorted_diagnoses(diagnose_map(alloc, flow, pool, map)?))
+    Ok(ordered_diagnostics(diagnose_map(alloc, flow, pool, map)?))
 }

@@ -1,7 +1,6 @@
 //! The three syntactic rules: what they find in a checked unit (docs/rules.md).
 #![tactic(auto)]
 
-mod diagnostic_lists;
 #[cfg(test)]
 mod row_tests;
 mod statement_places;
@@ -9,5 +8,4 @@ mod switches;
 mod syntactic_rules;
 mod term_places;
 
-pub use diagnostic_lists::ordered;
 pub use syntactic_rules::syntactic;

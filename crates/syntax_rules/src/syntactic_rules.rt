@@ -1,14 +1,13 @@
 //! What the syntactic rules find in a unit.
-ghost use Rattle.std.specs.Prelude.{◌≡◌, true, IfOk, Any, Contains};
-ghost use Rattle.std.specs.List.Sorted.{IsStrictlySortedBy};
-ghost use Rattle.cc_base.specs.declared.diagnostics.Diag.{Diag};
+ghost use Rattle.std.specs.Prelude.{◌≡◌, IfOk};
+ghost use Rattle.cc_base.specs.DiagnosticOrder.{IsOrderedSet};
 ghost use Rattle.syntax_rules.specs.StatementPlaces.{unit_places};
 
-use crate::diagnostic_lists::ordered;
+
 use crate::statement_places::add_statements;
 use crate::term_places::add_terms;
 use c_layout::Checked;
-use cc_base::{Diag, Memory};
+use cc_base::{Diag, Memory, ordered_diagnostics};
 use std::alloc::{AllocError, Global};
 
 /// What the bodies of the functions have, and what the expressions have that no run evaluates.
@@ -29,9 +28,7 @@ fn all_places(alloc: Global, unit: &Checked) -> Result<Vec<Diag>, AllocError>
 ///
 /// Want of memory.
 pub fn syntactic(alloc: Global, unit: &Checked) -> Result<Vec<Diag>, Memory>
-    ensures ascending { IfOk result (λ found. IsStrictlySortedBy ⟦<Diag as Ord>⟧.cmp found.items) }
-    ensures kept { IfOk result (λ found. (d : Diag) → Contains (unit_places unit.now) d → Any (λ e. ⟦<Diag as PartialEq>⟧.eq d e ≡ true) found.items) }
-    ensures made { IfOk result (λ found. (d : Diag) → Contains found.items d → Contains (unit_places unit.now) d) }
+    ensures { IfOk result (λ found. IsOrderedSet (unit_places unit.now) found.items) }
 {
-    Ok(ordered(all_places(alloc, unit)?))
+    Ok(ordered_diagnostics(all_places(alloc, unit)?))
 }

@@ -1,5 +1,6 @@
-use Rattle.std.proofs.Common.{Contains, subst}
+use Rattle.std.proofs.Common.{subst}
+use Rattle.cc_base.specs.DiagnosticOrder.{IsOrderedSet}
 use Rattle.syntax_rules.proofs.syntactic_rules.syntactic.Goals as goal
 
-pub returns-clause-made : goal.returns-clause-made
-returns-clause-made c = λ d h. subst (λ l. Contains l d) c.in_ok-all_places.ensures (c.ordered.ensures.made d h)
+pub returns : goal.returns
+returns c = subst (λ l. IsOrderedSet l c.ordered_diagnostics.result.items) c.in_ok-all_places.ensures c.ordered_diagnostics.ensures

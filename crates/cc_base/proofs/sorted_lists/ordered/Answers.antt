@@ -1,5 +1,5 @@
-use Rattle.syntax_rules.proofs.Sorting.{ordered_ascends, ordered_kept, ordered_made}
-use Rattle.syntax_rules.proofs.diagnostic_lists.ordered.Goals as goal
+use Rattle.cc_base.proofs.Sorting.{ordered_ascends, ordered_kept, ordered_made}
+use Rattle.cc_base.proofs.sorted_lists.ordered.Goals as goal
 
 pub returns-clause-ascending : goal.returns-clause-ascending
 returns-clause-ascending g c = ordered_ascends g.T.PartialEq.eq g.T.Ord.cmp g.met.T.Ord.total g.met.T.Ord.matches_eq _ _ c.sort_unstable.ensures.sorted c.dedup.ensures.filtered
