@@ -6,5 +6,5 @@ mod block_diagnoses;
 mod map_diagnoses;
 
 pub use admitted_rules::admits;
-pub use block_diagnoses::{diagnose_block, sorted_diagnoses};
+pub use block_diagnoses::diagnose_block;
 pub use map_diagnoses::diagnose;

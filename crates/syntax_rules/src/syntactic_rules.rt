@@ -3,7 +3,6 @@ ghost use Rattle.std.specs.Prelude.{◌≡◌, IfOk};
 ghost use Rattle.cc_base.specs.DiagnosticOrder.{IsOrderedSet};
 ghost use Rattle.syntax_rules.specs.StatementPlaces.{unit_places};
 
-
 use crate::statement_places::add_statements;
 use crate::term_places::add_terms;
 use c_layout::Checked;
