@@ -1,5 +1,5 @@
 -- Searching goes along the names.
-use Rattle.std.proofs.Common.{◌≡◌, ◌≤◌, ◌+◌, inl, inr, ℕ, zero, suc, ◌<◌, List, [], ◌∷◌, Option, Some, None, Result, Ok, Err, IfErr, map, drop, length, string_bytes, get_or, refl, sym, ◌∙◌, ap, subst, arith}
+use Rattle.std.proofs.Common.{◌≡◌, ◌≤◌, ◌+◌, inl, inr, ℕ, Bool, zero, suc, ◌<◌, List, [], ◌∷◌, Option, Some, None, Result, Ok, Err, IfErr, map, drop, length, string_bytes, get_or, refl, sym, ◌∙◌, ap, subst, arith}
 use Rattle.cc_base.specs.Outside.{Files, Holds, Lacks, Rose, RoseBeyond, HoldsTooLong}
 use Rattle.cc_base.specs.declared.refusals.Stop.{Stop}
 use Rattle.cc_base.specs.declared.refusals.Stop.TheVariants as stop
@@ -9,8 +9,10 @@ use Rattle.cc_base.specs.declared.refusals.Fault.{Fault}
 use Rattle.c_layout.specs.declared.data_model.Model.{Model}
 use Rattle.c_preproc.specs.Searching.{Found, found_of, LackAll, FirstHeld, Searches, built_in, searched_names}
 use Rattle.c_preproc.specs.declared.found_file.FoundFile.{FoundFile}
+use Rattle.c_preproc.specs.Units.{Sought}
+use Rattle.c_preproc.specs.Told.{SearchGives}
 use Rattle.c_preproc.specs.Reading.{found_as, ReadAnswers, SearchAnswers}
-use Rattle.c_preproc.specs.Causes.{Seen, seen_of, IsMissing, IsCausedBy, IsCaused, IsCausedFrom, Went}
+use Rattle.c_preproc.specs.Causes.{Seen, seen_of, including, IsMissing, IsCausedBy, IsCaused, IsCausedFrom, Went}
 
 pub rose_earlier : (a b c : ℕ) → a ≤ b → Rose b c → Rose a c
 rose_earlier a b c h r = omega arith
@@ -93,8 +95,9 @@ caused_by_earlier : (f0 f1 f2 : Option Files) (a0 a1 a2 b0 b1 b2 : ℕ) (dirs : 
 caused_by_earlier f0 f1 f2 a0 a1 a2 b0 b1 b2 dirs model names f (refusal.FileTooLong count limit) w c =
     (c.0, c.1, c.2, c.3, c.4, c.5, too_long_earlier f0 f1 b0 b1 b2 c.0 w.same w.taken_rises c.6)
 caused_by_earlier f0 f1 f2 a0 a1 a2 b0 b1 b2 dirs model names f (refusal.HeaderMissing name) w c = record {
-  includer = c.includer;
-  lacked = lack_all_earlier f0 a0 a1 a2 (searched_names c.includer dirs name) w.faults_rise (subst (λ v. LackAll v a1 a2 (searched_names c.includer dirs name)) w.same c.lacked);
+  quoted = c.quoted;
+  file = c.file;
+  lacked = lack_all_earlier f0 a0 a1 a2 (searched_names (including names c.file c.quoted) dirs name) w.faults_rise (subst (λ v. LackAll v a1 a2 (searched_names (including names c.file c.quoted) dirs name)) w.same c.lacked);
   no_built_in = c.no_built_in;
 }
 caused_by_earlier f0 f1 f2 a0 a1 a2 b0 b1 b2 dirs model names f why w c = c
@@ -138,15 +141,18 @@ missed_here text f0 f1 f2 a0 a1 a2 b0 b1 b2 dirs names xs k x n model o l h e t 
     (subst (λ v. Lacks f1 v (Rose a1 a2)) t (subst (λ v. ReadAnswers (seen_of f1 a1 a2 b1 b2) dirs n model names (Ok v)) i r))
 
 -- a header that is not found is missing
-pub missing_is : {A : Type 0} (text : A → List ℕ) (f0 f1 : Option Files) (a0 a1 b0 b1 : ℕ) (dirs : List (List ℕ)) (model : Model) (names : List (List ℕ)) (listed xs : List A) (one two three own : List ℕ) (includer : Option (List ℕ)) (o : Option FoundFile)
+pub missing_is : {A : Type 0} (text : A → List ℕ) (f0 f1 : Option Files) (a0 a1 b0 b1 : ℕ) (dirs : List (List ℕ)) (model : Model) (names : List (List ℕ)) (listed xs : List A) (one two three own : List ℕ) (includer : Option (List ℕ)) (before : List (List ℕ)) (file : ℕ) (quoted : Bool) (o : Option FoundFile)
+    → includer ≡ including before file quoted → names ≡ before
     → listed ≡ xs → map text xs ≡ searched_names includer dirs one → one ≡ own → two ≡ own → three ≡ own
-    → SearchAnswers (seen_of f0 a0 a1 b0 b1) dirs (map text listed) two model names (Ok o) → o ≡ None → IsMissing (seen_of f0 a0 a1 b0 b1) dirs model three
-missing_is text f0 f1 a0 a1 b0 b1 dirs model names listed xs one two three own includer o e h i j k s n =
+    → SearchAnswers (seen_of f0 a0 a1 b0 b1) dirs (map text listed) two model names (Ok o) → o ≡ None → IsMissing (seen_of f0 a0 a1 b0 b1) dirs model names three
+missing_is text f0 f1 a0 a1 b0 b1 dirs model names listed xs one two three own includer before file quoted o from same e h i j k s n =
     let t : SearchAnswers (seen_of f0 a0 a1 b0 b1) dirs (map text listed) two model names (Ok None) = subst (λ v. SearchAnswers (seen_of f0 a0 a1 b0 b1) dirs (map text listed) two model names (Ok v)) n s in
     let list : map text listed ≡ searched_names includer dirs three = ap (map text) e ∙ (h ∙ ap (λ v. searched_names includer dirs v) (i ∙ sym k)) in
+    let beside_it : includer ≡ including names file quoted = from ∙ ap (λ v. including v file quoted) (sym same) in
     record {
-      includer = includer;
-      lacked = subst (λ v. LackAll f0 a0 a1 v) list t.0;
+      quoted = quoted;
+      file = file;
+      lacked = subst (λ v. LackAll f0 a0 a1 v) (list ∙ ap (λ v. searched_names v dirs three) beside_it) t.0;
       no_built_in = subst (λ v. built_in v model ≡ None) (j ∙ sym k) t.1;
     }
 
@@ -162,3 +168,7 @@ pub if_caused_from : {A : Type 0} (r : Result A Stop) (main : List ℕ) (f0 f1 f
 if_caused_from (Ok x) main f0 f1 f2 a0 a1 a2 b0 b1 b2 dirs model names e h k c = tt
 if_caused_from (Err s) main f0 f1 f2 a0 a1 a2 b0 b1 b2 dirs model names e h k c = caused_from main (seen_of f0 a0 a2 b0 b2) dirs model names s
     (caused_earlier f0 f1 f2 a0 a1 a2 b0 b1 b2 dirs model names s (record { same = e; faults_rise = h; taken_rises = k }) c)
+
+-- a search that finds nothing leaves the list of files as it was
+pub names_kept : (s : Sought) (before now : List (List ℕ)) (o : Option FoundFile) → SearchGives s before now (Ok o) → o ≡ None → now ≡ before
+names_kept s before now o g n = (subst (λ v. SearchGives s before now (Ok v)) n g).1

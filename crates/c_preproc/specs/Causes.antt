@@ -1,5 +1,5 @@
 -- When the answers of the reading of a unit come.
-use Rattle.std.specs.Prelude.{◌≡◌, ◌≤◌, ℕ, List, Option, Some, None, slice_get}
+use Rattle.std.specs.Prelude.{◌≡◌, ◌≤◌, ℕ, Bool, cond, List, Option, Some, None, slice_get}
 use Rattle.cc_base.specs.Outside.{Files, Lacks, Rose, RoseBeyond, HoldsTooLong}
 use Rattle.cc_base.specs.declared.refusals.Refusal.{Refusal}
 use Rattle.cc_base.specs.declared.refusals.Refusal.TheVariants as refusal
@@ -24,16 +24,21 @@ seen_of files faults faults_now taken taken_now = record { files = files; faults
 abbrev pub IsTooLong : Seen → List ℕ → Type 0
 IsTooLong seen name = HoldsTooLong 1048576 seen.files name (RoseBeyond 1048576 seen.taken seen.taken_now)
 
--- a header that was searched, beside some including file or in the directories alone, and not found
-pub record IsMissing (seen : Seen) (dirs : List (List ℕ)) (model : Model) (name : List ℕ) : Type 0 where
-  pub includer : Option (List ℕ)
-  pub lacked : LackAll seen.files seen.faults seen.faults_now (searched_names includer dirs name)
+-- the including file, beside which a name in quotes is searched first: a file of the list
+abbrev pub including : List (List ℕ) → ℕ → Bool → Option (List ℕ)
+including names file quoted = cond quoted (slice_get names file) None
+
+-- a header that was searched, in quotes or not, from some file of the list, and not found
+pub record IsMissing (seen : Seen) (dirs : List (List ℕ)) (model : Model) (names : List (List ℕ)) (name : List ℕ) : Type 0 where
+  pub quoted : Bool
+  pub file : ℕ
+  pub lacked : LackAll seen.files seen.faults seen.faults_now (searched_names (including names file quoted) dirs name)
   pub no_built_in : built_in name model ≡ None
 
 -- the cause of a refusal that comes from the files
 abbrev pub IsCausedBy : Seen → List (List ℕ) → Model → List (List ℕ) → Fault → Refusal → Type 0
 IsCausedBy seen dirs model names f (refusal.FileTooLong count limit) = (name : List ℕ) × (slice_get names f.place.file ≡ Some name) × (f.place.line ≡ 1) × (f.place.col ≡ 1) × (count ≡ 1048577) × (limit ≡ 1048576) × IsTooLong seen name
-IsCausedBy seen dirs model names f (refusal.HeaderMissing name) = IsMissing seen dirs model name
+IsCausedBy seen dirs model names f (refusal.HeaderMissing name) = IsMissing seen dirs model names name
 IsCausedBy seen dirs model names f why = Unit {0}
 
 -- the cause of each answer of a reading whose main file is there

@@ -161,7 +161,7 @@ fn include<T: Tree>(
 /// The refusal of a header that no file and no built-in header is.
 fn missing(alloc: Global, name: &str, place: Place) -> Stop
     ensures stop { IsMissingStop place name.now result }
-    ensures cause { (seen : Seen) (dirs : List (List ℕ)) (model : Model) (names : List (List ℕ)) → IsMissing seen dirs model name.now → IsCaused seen dirs model names result }
+    ensures cause { (seen : Seen) (dirs : List (List ℕ)) (model : Model) (names : List (List ℕ)) → IsMissing seen dirs model names name.now → IsCaused seen dirs model names result }
 {
     match Text::from_bytes(alloc, name.as_bytes()) {
         Ok(text) => refused(place, Refusal::HeaderMissing(text)),

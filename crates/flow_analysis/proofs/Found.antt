@@ -1,6 +1,7 @@
 -- What a map of the system admits is an analysis of its program.
-use Rattle.std.specs.Prelude.{◌≡◌, ℤ, Bool, true, List, Option, Any, Contains, Result, Ok, Err, IfOk}
+use Rattle.std.specs.Prelude.{◌≡◌, ℤ, List, Option, Result, Ok, Err, IfOk}
 use Rattle.std.proofs.Common.{subst}
+use Rattle.cc_base.specs.DiagnosticOrder.{IsOrderedSet}
 use Rattle.cc_base.specs.Machine.{IsMonotone}
 use Rattle.cc_base.specs.InductiveMap.{IsInductive, IsLeast}
 use Rattle.cc_base.specs.declared.diagnostics.Diag.{Diag}
@@ -18,6 +19,6 @@ pub solved_as : (flow flow' : Flow) (list list' : List ℤ) (rows : List (Option
 solved_as flow flow' list list' rows e f i l =
     subst (λ z. IsSolved flow' z rows) f (subst (λ z. IsSolved z list rows) e (record { inductive = i; least = l }))
 
-pub analysed : {V E : Type 0} (items : V → List Diag) (same : Diag → Diag → Bool) (flow : Flow) (list : List ℤ) (rows : List (Option (List (Cell Interval)))) → IsSolved flow list rows → (result : Result V E) → IfOk result (λ v. (d : Diag) → Contains (admitted_pairs flow rows) d → Any (λ e. same d e ≡ true) (items v)) → IfOk result (λ v. (d : Diag) → Contains (items v) d → Contains (admitted_pairs flow rows) d) → IfOk result (λ v. IsAnalysis same flow list (items v))
-analysed items same flow list rows s (Ok v) k m = record { rows = rows; inductive = s.inductive; least = s.least; kept = k; made = m }
-analysed items same flow list rows s (Err e) k m = tt
+pub analysed : {V E : Type 0} (items : V → List Diag) (flow : Flow) (list : List ℤ) (rows : List (Option (List (Cell Interval)))) → IsSolved flow list rows → (result : Result V E) → IfOk result (λ v. IsOrderedSet (admitted_pairs flow rows) (items v)) → IfOk result (λ v. IsAnalysis flow list (items v))
+analysed items flow list rows s (Ok v) h = record { rows = rows; inductive = s.inductive; least = s.least; admitted = h }
+analysed items flow list rows s (Err e) h = tt

@@ -1,5 +1,6 @@
 -- What the analysis of a control-flow program finds.
-use Rattle.std.specs.Prelude.{◌≡◌, ℤ, Bool, true, List, Option, Any, Contains}
+use Rattle.std.specs.Prelude.{◌≡◌, ℤ, List, Option}
+use Rattle.cc_base.specs.DiagnosticOrder.{IsOrderedSet}
 use Rattle.cc_base.specs.Lattices.{LatticeOf}
 use Rattle.cc_base.specs.Machine.{Machine, IsMonotone}
 use Rattle.cc_base.specs.InductiveMap.{IsInductive, IsLeast}
@@ -25,11 +26,10 @@ machine_of flow list = flow_machine interval_lattice interval_numbers flow list
 abbrev pub admitted_pairs : Flow → List (Option (List (Cell Interval))) → List Diag
 admitted_pairs flow rows = map_pairs interval_lattice interval_numbers flow rows
 
--- the diagnostics are, by what makes two of them the same, those that some inductive map of the program admits, the least one where each
--- edge makes more of more
-pub record IsAnalysis (same : Diag → Diag → Bool) (flow : Flow) (list : List ℤ) (found : List Diag) : Type 0 where
+-- the diagnostics are those that some inductive map of the program admits, in order and each once; the least one where each edge makes
+-- more of more
+pub record IsAnalysis (flow : Flow) (list : List ℤ) (found : List Diag) : Type 0 where
   pub rows : List (Option (List (Cell Interval)))
   pub inductive : IsInductive row_lattice (machine_of flow list) rows
   pub least : IsMonotone row_lattice (machine_of flow list) → IsLeast row_lattice (machine_of flow list) rows
-  pub kept : (d : Diag) → Contains (admitted_pairs flow rows) d → Any (λ e. same d e ≡ true) found
-  pub made : (d : Diag) → Contains found d → Contains (admitted_pairs flow rows) d
+  pub admitted : IsOrderedSet (admitted_pairs flow rows) found

@@ -1,7 +1,6 @@
 //! The rules that a program may break.
 ghost use Rattle.std.specs.Prelude.{◌≡◌, ◌+◌, ◌<◌, ◌≤◌, true, length, None, IfOk};
 ghost use Rattle.std.proofs.Common.{replicate};
-ghost use Rattle.std.specs.List.Sorted.{IsStrictlySortedBy};
 ghost use Rattle.row_pool.specs.Pool.{free_count};
 ghost use Rattle.abstract_steps_system.specs.SystemChecks.{is_system};
 ghost use Rattle.flow_analysis.specs.Analyses.{IsAnalysis};
@@ -32,8 +31,7 @@ fn found_by<L: Ledger>(
     requires vacant { map.old ≡ replicate (length flow.now.blocks.items) None }
     requires room { length flow.now.blocks.items + 2 ≤ free_count pool.old }
     ensures vacant { map.new ≡ replicate (length map.old) None }
-    ensures ascending { IfOk result (λ found. IsStrictlySortedBy ⟦<Diag as Ord>⟧.cmp found.items) }
-    ensures found { IfOk result (λ found. IsAnalysis ⟦<Diag as PartialEq>⟧.eq flow.now list.now found.items) }
+    ensures found { IfOk result (λ found. IsAnalysis flow.now list.now found.items) }
 {
     let equations: FlowSystem<Interval> = system(flow, list);
     solve(&equations, pool, map, steps);
@@ -54,8 +52,7 @@ fn found_in<L: Ledger>(
     requires name { blank.name ≡ L.name }
     requires parts { blank.parts ≡ L.parts }
     requires some { 0 < blank.parts }
-    ensures ascending { IfOk result (λ found. IsStrictlySortedBy ⟦<Diag as Ord>⟧.cmp found.items) }
-    ensures found { IfOk result (λ found. IsAnalysis ⟦<Diag as PartialEq>⟧.eq flow.now list.now found.items) }
+    ensures found { IfOk result (λ found. IsAnalysis flow.now list.now found.items) }
 {
     let blocks = flow.blocks.len() as u32;
     let mut pool = RowPool::new(alloc, blocks + 2, flow.width, Cell::bottom())?;
@@ -73,8 +70,7 @@ fn found_in<L: Ledger>(
 ///
 /// Want of memory, and a program whose blocks and edges make no system.
 pub fn analyse(alloc: Global, flow: &Flow, list: &Thresholds) -> Result<Vec<Diag>, Memory>
-    ensures ascending { IfOk result (λ found. IsStrictlySortedBy ⟦<Diag as Ord>⟧.cmp found.items) }
-    ensures found { IfOk result (λ found. IsAnalysis ⟦<Diag as PartialEq>⟧.eq flow.now list.now found.items) }
+    ensures found { IfOk result (λ found. IsAnalysis flow.now list.now found.items) }
 {
     if is_system(flow) {
         found_in::<Brand>(alloc, flow, list, Blank::new(1))

@@ -1,5 +1,4 @@
 pub mod Telling
 pub mod Choosing
 pub mod Called
-pub mod Placing
 pub mod Staging

@@ -1,20 +1,21 @@
 -- What the parts of the decision answer.
-use Rattle.std.specs.Prelude.{◌≡◌, ◌⊎◌, ℕ, List, length}
+use Rattle.std.specs.Prelude.{◌≡◌, ◌⊎◌, ℕ, List}
+use Rattle.cc_base.specs.DiagnosticOrder.{IsOrderedSet}
 use Rattle.cc_base.specs.declared.diagnostics.Diag.{Diag}
 use Rattle.cc_base.specs.declared.refusals.Fault.{Fault}
 use Rattle.cc_base.specs.declared.refusals.Stop.{Stop}
 use Rattle.cc_base.specs.declared.refusals.Stop.TheVariants as stop
 use Rattle.c_layout.specs.declared.unit_tokens.Unit7.{Unit7}
 use Rattle.report_cli_words.specs.declared.commands.Format.{Format}
-use Rattle.report_cli_texts.specs.Reports.{Bytes}
+use Rattle.report_cli_texts.specs.Reports.{Bytes, file_name}
 use Rattle.report_cli_texts.specs.Refusals.{refusal_line, refusal_status}
 use Rattle.report_cli_texts.specs.FixedTexts.{no_file_text}
 use Rattle.report_cli_texts.specs.Summaries.{summary_of}
 use Rattle.report_cli.specs.Stages.{stage_of}
 use Rattle.report_cli.specs.declared.stages.Stage.{Stage}
 use Rattle.report_cli.specs.declared.stages.Stage.TheVariants as stage
-use Rattle.report_cli.specs.Judging.{Order, IsSetOf, in_files, SettingView, Judgement, IsJudged, RefusesUnit}
-use Rattle.report_cli.specs.Verdicts.{file_name, report_status, report_in}
+use Rattle.report_cli.specs.Judging.{SettingView, Judgement, IsJudged, RefusesUnit}
+use Rattle.report_cli.specs.Verdicts.{report_status, report_in}
 
 -- the answer to a refusal
 abbrev pub AnswersFault : List Bytes → Bytes → Fault → ℕ → Bytes → Type 0
@@ -42,27 +43,27 @@ pub record AnswersOwn (s : SettingView) (expanded : Unit7) (names : List Bytes) 
   pub answers : AnswersFault names unit why status text
 
 -- the answer to an accepted unit
-pub record AnswersReport (order : Order) (pairs : List Diag) (form : Format) (names : List Bytes) (unit : Bytes) (status : ℕ) (text : Bytes) : Type 0 where
+pub record AnswersReport (pairs : List Diag) (form : Format) (names : List Bytes) (unit : Bytes) (status : ℕ) (text : Bytes) : Type 0 where
   pub diags : List Diag
-  pub listed : IsSetOf order (in_files (length names) pairs) diags
+  pub listed : IsOrderedSet pairs diags
   pub by_status : status ≡ report_status diags
   pub by_text : text ≡ report_in form names unit diags
 
 -- the answer to an accepted unit that was made
-pub record AnswersSummary (order : Order) (j : Judgement) (names : List Bytes) (unit : Bytes) (status : ℕ) (text : Bytes) : Type 0 where
+pub record AnswersSummary (j : Judgement) (unit : Bytes) (status : ℕ) (text : Bytes) : Type 0 where
   pub diags : List Diag
-  pub listed : IsSetOf order (in_files (length names) j.pairs) diags
+  pub listed : IsOrderedSet j.pairs diags
   pub by_status : status ≡ report_status diags
   pub by_text : text ≡ summary_of unit j.bases j.cells diags
 
 -- the answer to a unit that was expanded, in a form
-pub record AnswersJudged (order : Order) (s : SettingView) (expanded : Unit7) (form : Format) (names : List Bytes) (unit : Bytes) (status : ℕ) (text : Bytes) : Type 0 where
+pub record AnswersJudged (s : SettingView) (expanded : Unit7) (form : Format) (names : List Bytes) (unit : Bytes) (status : ℕ) (text : Bytes) : Type 0 where
   pub found : Judgement
-  pub judged : IsJudged order expanded s found
-  pub answers : AnswersReport order found.pairs form names unit status text
+  pub judged : IsJudged expanded s found
+  pub answers : AnswersReport found.pairs form names unit status text
 
 -- the answer to a unit that was made and expanded
-pub record AnswersMade (order : Order) (s : SettingView) (expanded : Unit7) (names : List Bytes) (unit : Bytes) (status : ℕ) (text : Bytes) : Type 0 where
+pub record AnswersMade (s : SettingView) (expanded : Unit7) (unit : Bytes) (status : ℕ) (text : Bytes) : Type 0 where
   pub found : Judgement
-  pub judged : IsJudged order expanded s found
-  pub answers : AnswersSummary order found names unit status text
+  pub judged : IsJudged expanded s found
+  pub answers : AnswersSummary found unit status text

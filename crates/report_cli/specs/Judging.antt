@@ -1,8 +1,6 @@
 -- What a unit that was expanded comes to: the work behind the expansion, layer by layer, as far as the layers have clauses.
-use Rattle.std.specs.Prelude.{◌≡◌, ◌+◌, ◌++◌, ◌⊎◌, ℕ, ℤ, Bool, true, List, [], ◌∷◌, length, nat_lt, Any, Contains, Option, Some, None, Ok, Err}
-use Rattle.std.specs.List.{filter}
-use Rattle.std.specs.List.Sorted.{IsStrictlySortedBy}
-use Rattle.std.specs.declared.cmp.Ordering.{Ordering}
+use Rattle.std.specs.Prelude.{◌≡◌, ◌+◌, ◌++◌, ◌⊎◌, ℕ, ℤ, true, List, [], ◌∷◌, length, Option, Some, None, Ok, Err}
+use Rattle.cc_base.specs.DiagnosticOrder.{IsOrderedSet}
 use Rattle.cc_base.specs.Standard.{standard_limits}
 use Rattle.cc_base.specs.declared.diagnostics.Diag.{Diag}
 use Rattle.cc_base.specs.declared.refusals.Fault.{Fault}
@@ -30,30 +28,13 @@ use Rattle.flow_program_views.specs.ProgramViews.{flow_view}
 use Rattle.turn_split.specs.SplitCounts.{Splits}
 use Rattle.turn_split.specs.Turns.{split}
 use Rattle.flow_lower_counts.specs.Extents.{capped}
-use Rattle.flow_program.specs.WellFormed.{base_cells}
+use Rattle.flow_program.specs.WellFormed.{base_cells, is_well_formed}
 use Rattle.c_layout.specs.declared.shapes.BaseInfo.{BaseInfo}
 use Rattle.report_cli.specs.declared.unit_answers.Judged.{Judged}
 use Rattle.report_cli.specs.declared.unit_answers.Setting.{Setting}
 use Rattle.report_cli.specs.Stages.{stage_of}
 use Rattle.report_cli.specs.declared.stages.Stage.{Stage}
 use Rattle.report_cli.specs.declared.stages.Stage.TheVariants as stage
-
--- how diagnostics are compared: their order, and which are the same
-pub record Order : Type 0 where
-  pub compare : Diag → Diag → Ordering
-  pub same : Diag → Diag → Bool
-
-abbrev pub order_of : (Diag → Diag → Ordering) → (Diag → Diag → Bool) → Order
-order_of compare same = record { compare = compare; same = same }
-
--- a list has what another one has, in order and each once
-pub record IsSetOf (order : Order) (pairs : List Diag) (diags : List Diag) : Type 0 where
-  pub ascending : IsStrictlySortedBy order.compare diags
-  pub kept : (d : Diag) → Contains pairs d → Any (λ e. order.same d e ≡ true) diags
-  pub made : (d : Diag) → Contains diags d → Contains pairs d
-
-abbrev pub in_files : ℕ → List Diag → List Diag
-in_files count = filter (λ d. nat_lt d.place.file count)
 
 -- how a unit is judged: under a model, from an entry on, and with so many turns of its loops unrolled
 -- where some are asked for
@@ -89,13 +70,13 @@ IsTurned (Some turns) flow analysed = flow_view analysed ≡ split turns (flow_v
 
 -- what the syntactic rules find in a checked unit, and behind it what the analysis finds in the program
 -- that is analysed, with bounds rounded to the thresholds of the unit's program
-pub record IsFound (order : Order) (checked : Checked) (flow analysed : Flow) (pairs : List Diag) : Type 0 where
+pub record IsFound (checked : Checked) (flow analysed : Flow) (pairs : List Diag) : Type 0 where
   pub texts : List Diag
-  pub by_texts : IsSetOf order (unit_places checked) texts
+  pub by_texts : IsOrderedSet (unit_places checked) texts
   pub list : List ℤ
   pub thresholds : AreThresholds (limits_of flow.model) (flow_numbers flow) list
   pub runs : List Diag
-  pub by_runs : IsAnalysis order.same analysed list runs
+  pub by_runs : IsAnalysis analysed list runs
   pub both : pairs ≡ texts ++ runs
 
 -- what is told of an accepted unit: pairs of place and rule, and how many bases and cells its program has
@@ -116,7 +97,7 @@ abbrev pub cell_count : Flow → ℕ
 cell_count flow = cells_from 0 flow.bases.items
 
 -- an accepted unit: its checked unit, its program, the program that is analysed, and what is found
-pub record IsJudged (order : Order) (unit : Unit7) (s : SettingView) (j : Judgement) : Type 0 where
+pub record IsJudged (unit : Unit7) (s : SettingView) (j : Judgement) : Type 0 where
   pub tree : Tree7
   pub parsed : IsParsed unit tree
   pub checked : Checked
@@ -125,7 +106,8 @@ pub record IsJudged (order : Order) (unit : Unit7) (s : SettingView) (j : Judgem
   pub lowered : IsLowered checked flow
   pub analysed : Flow
   pub turned : IsTurned s.turns flow analysed
-  pub found : IsFound order checked flow analysed j.pairs
+  pub well_formed : is_well_formed standard_limits analysed ≡ true
+  pub found : IsFound checked flow analysed j.pairs
   pub bases : j.bases ≡ length flow.bases.items
   pub cells : j.cells ≡ cell_count flow
 

@@ -4,7 +4,6 @@ use Rattle.cc_base.specs.Outside.{Rose, Appends, AppendsPrefix, next_count}
 use Rattle.c_preproc.specs.Causes.{Seen}
 use Rattle.report_cli_words.specs.Requests.{Asked}
 use Rattle.report_cli_texts.specs.Reports.{Bytes}
-use Rattle.report_cli.specs.Judging.{Order}
 use Rattle.report_cli.specs.Verdicts.{Tells, IsVerdict}
 
 -- the sink before and after the call
@@ -46,17 +45,17 @@ status_at no_memory = 7
 
 -- what happened: a text that is called for was put whole, a read failed, the write of such a text failed,
 -- or memory ran out
-abbrev pub Happened : Order → Seen → Asked → Took → Outcome → Type 0
-Happened order seen asked sink (told status text) = Tells (IsVerdict order seen asked) status text × PutOnce sink text
-Happened order seen asked sink read_fault = Rose seen.faults seen.faults_now × PutNothing sink
-Happened order seen asked sink (write_fault status text) = Tells (IsVerdict order seen asked) status text × PutFailed sink text
-Happened order seen asked sink no_memory = PutNothing sink
+abbrev pub Happened : Seen → Asked → Took → Outcome → Type 0
+Happened seen asked sink (told status text) = Tells (IsVerdict seen asked) status text × PutOnce sink text
+Happened seen asked sink read_fault = Rose seen.faults seen.faults_now × PutNothing sink
+Happened seen asked sink (write_fault status text) = Tells (IsVerdict seen asked) status text × PutFailed sink text
+Happened seen asked sink no_memory = PutNothing sink
 
 -- every answer of the program with what happened
-pub record Answers (order : Order) (seen : Seen) (asked : Asked) (sink : Took) (status : ℕ) : Type 0 where
+pub record Answers (seen : Seen) (asked : Asked) (sink : Took) (status : ℕ) : Type 0 where
   pub outcome : Outcome
   pub by_status : status ≡ status_at outcome
-  pub happened : Happened order seen asked sink outcome
+  pub happened : Happened seen asked sink outcome
 
 abbrev pub took : Option Bytes → Option Bytes → ℕ → ℕ → ℕ → ℕ → Took
 took written written_now faults faults_now calls calls_now = record { written = written; written_now = written_now; faults = faults; faults_now = faults_now; calls = calls; calls_now = calls_now }

@@ -1,7 +1,8 @@
 -- What words and files call for, and what the program tells then.
-use Rattle.std.specs.Prelude.{◌≡◌, ◌≤◌, ◌⊎◌, ℕ, true, List, [], ◌∷◌, length, Option, Some, None, Result, Ok, Err, codes, slice_get, unwrap_or, IsUtf8}
+use Rattle.std.specs.Prelude.{◌≡◌, ◌≤◌, ◌⊎◌, ℕ, true, List, [], ◌∷◌, length, Option, Some, None, Result, Ok, Err, codes, IsUtf8}
 use Rattle.toml.specs.Parse.{parse_document}
 use Rattle.cc_base.specs.Outside.{Files, Holds, HoldsTooLong, Lacks, Rose, RoseBeyond}
+use Rattle.cc_base.specs.DiagnosticOrder.{IsOrderedSet}
 use Rattle.cc_base.specs.declared.diagnostics.Diag.{Diag}
 use Rattle.cc_base.specs.declared.refusals.Fault.{Fault}
 use Rattle.cc_base.specs.declared.refusals.Stop.{Stop}
@@ -23,9 +24,9 @@ use Rattle.report_cli_words.specs.declared.commands.Format.{Format}
 use Rattle.report_cli_words.specs.declared.commands.Format.TheVariants as format
 use Rattle.report_cli_words.specs.Requests.{Asked, CommandView}
 use Rattle.report_cli_words.specs.Requests as asked
-use Rattle.report_cli_texts.specs.Reports.{Bytes, report_of}
+use Rattle.report_cli_texts.specs.Reports.{Bytes, file_name, report_of}
 use Rattle.report_cli.specs.Stages.{stage_of}
-use Rattle.report_cli.specs.Judging.{Order, IsSetOf, in_files, SettingView, judging, Judgement, IsJudged, RefusesUnit}
+use Rattle.report_cli.specs.Judging.{SettingView, judging, Judgement, IsJudged, RefusesUnit}
 use Rattle.report_cli.specs.declared.stages.Stage.{Stage}
 use Rattle.report_cli.specs.declared.stages.Stage.TheVariants as stage
 use Rattle.report_cli_texts.specs.JsonReports.{json_of}
@@ -129,10 +130,6 @@ RefusesModel seen model _ = ⊥
 
 -- ---- the unit
 
--- a file of the list, or the unit where the list has none
-abbrev pub file_name : List Bytes → Bytes → ℕ → Bytes
-file_name names unit file = unwrap_or (slice_get names file) unit
-
 -- what an expansion comes to, tokens or a refusal, with the names of the files that were met
 abbrev pub Gives : Type 1
 Gives = List Bytes → Result Unit7 Stop → Type 0
@@ -145,30 +142,31 @@ FromFiles files dirs m main names answer = (held : Files) → files ≡ Some hel
 abbrev pub FromBytes : Option Files → Model → Bytes → Bytes → Gives
 FromBytes files m main bytes names answer = (held : Files) → files ≡ Some held → UnitGives (unit (world_of (sought held) [] m) main bytes) (unit_as names) names answer
 
--- the tokens that an expansion gave, and the names of its files
-pub record IsExpanded (given : Gives) (names : List Bytes) (expanded : Unit7) : Type 0 where
+-- the tokens that an expansion gave under a model, and the names of its files
+pub record IsExpanded (given : Gives) (m : Model) (names : List Bytes) (expanded : Unit7) : Type 0 where
+  pub model : expanded.model ≡ m
   pub gives : given names (Ok expanded)
   pub distinct : is_distinct names ≡ true
   pub few : length expanded.tokens ≤ 131072
 
--- the diagnostics of an accepted unit: what was found in files of the list, in order and each once
-pub record IsReport (given : Gives) (order : Order) (s : SettingView) (names : List Bytes) (diags : List Diag) : Type 0 where
+-- the diagnostics of an accepted unit: what was found, in order and each once
+pub record IsReport (given : Gives) (s : SettingView) (names : List Bytes) (diags : List Diag) : Type 0 where
   pub expanded : Unit7
-  pub is_expanded : IsExpanded given names expanded
+  pub is_expanded : IsExpanded given s.model names expanded
   pub found : Judgement
-  pub judged : IsJudged order expanded s found
-  pub listed : IsSetOf order (in_files (length names) found.pairs) diags
+  pub judged : IsJudged expanded s found
+  pub listed : IsOrderedSet found.pairs diags
 
 -- the same, with how many bases and cells the program of the unit has
-pub record IsSummary (given : Gives) (order : Order) (s : SettingView) (names : List Bytes) (bases cells : ℕ) (diags : List Diag) : Type 0 where
-  pub report : IsReport given order s names diags
+pub record IsSummary (given : Gives) (s : SettingView) (names : List Bytes) (bases cells : ℕ) (diags : List Diag) : Type 0 where
+  pub report : IsReport given s names diags
   pub bases_of : bases ≡ report.found.bases
   pub cells_of : cells ≡ report.found.cells
 
 -- a refusal of a later stage than the expansion is that of a unit that was expanded
 pub record IsLaterRefusal (given : Gives) (s : SettingView) (names : List Bytes) (why : Fault) : Type 0 where
   pub expanded : Unit7
-  pub is_expanded : IsExpanded given names expanded
+  pub is_expanded : IsExpanded given s.model names expanded
   pub refuses : RefusesUnit expanded s why
 
 -- where a refusal comes from, by its stage: the expansion came to it, or the work behind it; a number
@@ -196,17 +194,17 @@ abbrev pub load_setting : Model → SettingView
 load_setting m = judging m (codes "main") None
 
 -- what `check` tells of a unit under a model
-abbrev pub AnswersUnit : Order → Seen → CommandView → Model → Verdict → Type 0
-AnswersUnit order seen c m (absent name) = (name ≡ c.unit) × Lacks seen.files c.unit (Rose seen.faults seen.faults_now)
-AnswersUnit order seen c m (refused file why) = IsRefusal (FromFiles seen.files c.dirs m c.unit) seen c.dirs (check_setting c m) c.unit file why
-AnswersUnit order seen c m (reported form names unit diags) = (form ≡ c.format) × (unit ≡ c.unit) × IsReport (FromFiles seen.files c.dirs m c.unit) order (check_setting c m) names diags
-AnswersUnit order seen c m _ = ⊥
+abbrev pub AnswersUnit : Seen → CommandView → Model → Verdict → Type 0
+AnswersUnit seen c m (absent name) = (name ≡ c.unit) × Lacks seen.files c.unit (Rose seen.faults seen.faults_now)
+AnswersUnit seen c m (refused file why) = IsRefusal (FromFiles seen.files c.dirs m c.unit) seen c.dirs (check_setting c m) c.unit file why
+AnswersUnit seen c m (reported form names unit diags) = (form ≡ c.format) × (unit ≡ c.unit) × IsReport (FromFiles seen.files c.dirs m c.unit) (check_setting c m) names diags
+AnswersUnit seen c m _ = ⊥
 
 -- what `load` tells of the unit that it makes
-abbrev pub AnswersLoad : Order → Seen → CommandView → Model → Verdict → Type 0
-AnswersLoad order seen c m (refused file why) = IsRefusal (FromBytes seen.files m c.unit (load_of c.seed c.count)) seen [] (load_setting m) c.unit file why
-AnswersLoad order seen c m (summed unit bases cells diags) = (unit ≡ c.unit) × (names : List Bytes) × IsSummary (FromBytes seen.files m c.unit (load_of c.seed c.count)) order (load_setting m) names bases cells diags
-AnswersLoad order seen c m _ = ⊥
+abbrev pub AnswersLoad : Seen → CommandView → Model → Verdict → Type 0
+AnswersLoad seen c m (refused file why) = IsRefusal (FromBytes seen.files m c.unit (load_of c.seed c.count)) seen [] (load_setting m) c.unit file why
+AnswersLoad seen c m (summed unit bases cells diags) = (unit ≡ c.unit) × (names : List Bytes) × IsSummary (FromBytes seen.files m c.unit (load_of c.seed c.count)) (load_setting m) names bases cells diags
+AnswersLoad seen c m _ = ⊥
 
 -- ---- the whole
 
@@ -226,9 +224,9 @@ pub record Under (seen : Seen) (model : Bytes) (P : Seen → Model → Type 0) :
   pub is_later : IsLater seen later
   pub answered : P later chosen
 
-abbrev pub IsVerdict : Order → Seen → Asked → Verdict → Type 0
-IsVerdict order seen asked.Help v = v ≡ helped
-IsVerdict order seen asked.Version v = v ≡ versioned
-IsVerdict order seen asked.Refused v = v ≡ words_refused
-IsVerdict order seen (asked.Check c) v = RefusesModel seen c.model v ⊎ Under seen c.model (λ later m. AnswersUnit order later c m v)
-IsVerdict order seen (asked.Load c) v = RefusesModel seen c.model v ⊎ Under seen c.model (λ later m. AnswersLoad order later c m v)
+abbrev pub IsVerdict : Seen → Asked → Verdict → Type 0
+IsVerdict seen asked.Help v = v ≡ helped
+IsVerdict seen asked.Version v = v ≡ versioned
+IsVerdict seen asked.Refused v = v ≡ words_refused
+IsVerdict seen (asked.Check c) v = RefusesModel seen c.model v ⊎ Under seen c.model (λ later m. AnswersUnit later c m v)
+IsVerdict seen (asked.Load c) v = RefusesModel seen c.model v ⊎ Under seen c.model (λ later m. AnswersLoad later c m v)

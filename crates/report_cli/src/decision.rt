@@ -1,11 +1,11 @@
 //! What the words and the files call for.
-ghost use Rattle.std.specs.Prelude.{◌≡◌, ◌≤◌, ◌<◌, ◌⊎◌, All, IfOk, IsErrOf, true, map, string_bytes, length};
+ghost use Rattle.std.specs.Prelude.{◌≡◌, ◌≤◌, ◌⊎◌, IfOk, IsErrOf, true, map, string_bytes};
 ghost use Rattle.cc_base.specs.Outside.{Rose};
 ghost use Rattle.c_layout.specs.Models.{is_model};
 ghost use Rattle.c_preproc.specs.Causes.{seen_of};
 ghost use Rattle.report_cli_words.specs.Requests.{asked, command_view, Check, Load};
-ghost use Rattle.report_cli.specs.Judging.{order_of, in_files, judging, judgement, setting_view, IsSetOf, StopsUnit};
-ghost use Rattle.report_cli.specs.Verdicts.{load_setting, file_name, report_status, report_in, Tells, AnswersUnit, AnswersLoad, RefusesModel, Under, IsVerdict};
+ghost use Rattle.report_cli.specs.Judging.{judging, judgement, setting_view, StopsUnit};
+ghost use Rattle.report_cli.specs.Verdicts.{load_setting, report_status, report_in, Tells, AnswersUnit, AnswersLoad, RefusesModel, Under, IsVerdict};
 ghost use Rattle.report_cli.specs.Answering.{AnswersFault, AnswersStop, AnswersOwn, AnswersReport, AnswersSummary, AnswersJudged, AnswersMade};
 ghost use Rattle.cc_base.specs.declared.refusals.Stop.TheVariants as stops;
 
@@ -14,14 +14,13 @@ use crate::stages::{Stage, stage_of};
 use crate::unit_answers::{Judged, Setting, judge_unit};
 use c_layout::{Model, Unit7};
 use c_preproc::{expand, expand_bytes};
-use cc_base::{Diag, Fault, Memory, Stop, Tree};
+use cc_base::{Diag, Fault, Memory, Stop, Tree, ordered_diagnostics};
 use report_cli_texts::{
-    Answer, help, load_unit, no_file, refusal_answer, report_json, report_text, summary, version,
-    words_refused,
+    Answer, file_name, help, load_unit, no_file, refusal_answer, report_json, report_text, summary,
+    version, words_refused,
 };
 use report_cli_words::{Command, Format, Request, read_words};
 use std::alloc::{AllocError, Global};
-use syntax_rules::ordered;
 
 /// What ends the work without a text.
 #[derive(Clone, Copy, PartialEq, Eq)]
@@ -49,16 +48,6 @@ impl From<Memory> for Halt {
 
     fn from(_error: Memory) -> Halt {
         Halt::Memory
-    }
-}
-
-/// The name of a file of the unit; the unit's own where the list has none.
-fn file_name<'a>(files: &'a [String], unit: &'a str, file: u32) -> &'a str
-    ensures { result.now ≡ file_name (map string_bytes files.now) unit.now file }
-{
-    match files.get(file as usize) {
-        Some(name) => name.as_str(),
-        None => unit,
     }
 }
 
@@ -109,28 +98,6 @@ fn not_expanded(alloc: Global, files: &[String], unit: &str, stop: Stop) -> Resu
     }
 }
 
-/// The diagnostics whose files are in the list.
-fn placed(alloc: Global, diags: &[Diag], count: usize) -> Result<Vec<Diag>, AllocError>
-    ensures placed { IfOk result (λ v. All (λ d. d.place.file < count) v.items) }
-    ensures kept { IfOk result (λ v. v.items ≡ in_files count diags.now) }
-{
-    let mut kept = Vec::new(alloc);
-    for at in 0..diags.len() {
-        if (diags[at].place.file as usize) < count {
-            kept.push(diags[at])?;
-        }
-    }
-    Ok(kept)
-}
-
-/// The diagnostics whose files are in the list, in order, each once.
-fn listed(alloc: Global, diags: &[Diag], count: usize) -> Result<Vec<Diag>, AllocError>
-    ensures placed { IfOk result (λ v. All (λ d. d.place.file < count) v.items) }
-    ensures set { IfOk result (λ v. IsSetOf (order_of ⟦<Diag as Ord>⟧.cmp ⟦<Diag as PartialEq>⟧.eq) (in_files count diags.now) v.items) }
-{
-    Ok(ordered(placed(alloc, diags, count)?))
-}
-
 /// 1 where there is a diagnostic.
 fn status_for(diags: &[Diag]) -> u8
     ensures { result ≡ report_status diags.now }
@@ -149,7 +116,6 @@ fn report(
     unit: &str,
     diags: &[Diag],
 ) -> Result<Vec<u8>, Memory>
-    requires { All (λ d. d.place.file < length files.now) diags.now }
     ensures { IfOk result (λ b. b.items ≡ report_in format (map string_bytes files.now) unit.now diags.now) }
 {
     match format {
@@ -164,12 +130,12 @@ fn reported(
     files: &[String],
     format: Format,
     unit: &str,
-    diags: &[Diag],
+    diags: Vec<Diag>,
 ) -> Result<Answer, Halt>
     ensures fault { IsErrOf result Halt.ReadFault → ⊥ }
-    ensures called { IfOk result (λ a. AnswersReport (order_of ⟦<Diag as Ord>⟧.cmp ⟦<Diag as PartialEq>⟧.eq) diags.now format (map string_bytes files.now) unit.now a.status a.text.items) }
+    ensures called { IfOk result (λ a. AnswersReport diags.items format (map string_bytes files.now) unit.now a.status a.text.items) }
 {
-    let listed = listed(alloc, diags, files.len())?;
+    let listed = ordered_diagnostics(diags);
     let text = report(alloc, format, files, unit, listed.as_slice())?;
     Ok(Answer {
         status: status_for(listed.as_slice()),
@@ -187,7 +153,7 @@ fn checked(
 ) -> Result<Answer, Halt>
     requires { is_model model.now ≡ true }
     ensures fault { IsErrOf result Halt.ReadFault → ⊥ }
-    ensures called { IfOk result (λ a. AnswersOwn (judging model.now (string_bytes command.now.entry) command.now.turns) unit.now (map string_bytes files.now) (string_bytes command.now.unit) a.status a.text.items ⊎ AnswersJudged (order_of ⟦<Diag as Ord>⟧.cmp ⟦<Diag as PartialEq>⟧.eq) (judging model.now (string_bytes command.now.entry) command.now.turns) unit.now command.now.format (map string_bytes files.now) (string_bytes command.now.unit) a.status a.text.items) }
+    ensures called { IfOk result (λ a. AnswersOwn (judging model.now (string_bytes command.now.entry) command.now.turns) unit.now (map string_bytes files.now) (string_bytes command.now.unit) a.status a.text.items ⊎ AnswersJudged (judging model.now (string_bytes command.now.entry) command.now.turns) unit.now command.now.format (map string_bytes files.now) (string_bytes command.now.unit) a.status a.text.items) }
 {
     let name = command.unit.as_str();
     let setting = Setting {
@@ -196,7 +162,7 @@ fn checked(
         turns: command.turns,
     };
     match judge_unit(alloc, unit, setting) {
-        Ok(judged) => reported(alloc, files, command.format, name, judged.diags.as_slice()),
+        Ok(judged) => reported(alloc, files, command.format, name, judged.diags),
         Err(stop) => stopped(alloc, files, name, unit, setting, stop),
     }
 }
@@ -210,7 +176,7 @@ fn check_under<T: Tree>(
 ) -> Result<Answer, Halt>
     requires { is_model model.now ≡ true }
     ensures fault { IsErrOf result Halt.ReadFault → Rose (T.faults tree.old) (T.faults tree.new) }
-    ensures called { IfOk result (λ a. Tells (AnswersUnit (order_of ⟦<Diag as Ord>⟧.cmp ⟦<Diag as PartialEq>⟧.eq) (seen_of (T.files tree.old) (T.faults tree.old) (T.faults tree.new) (T.taken tree.old) (T.taken tree.new)) (command_view command.now) model.now) a.status a.text.items) }
+    ensures called { IfOk result (λ a. Tells (AnswersUnit (seen_of (T.files tree.old) (T.faults tree.old) (T.faults tree.new) (T.taken tree.old) (T.taken tree.new)) (command_view command.now) model.now) a.status a.text.items) }
     ensures files { T.files tree.new ≡ T.files tree.old }
     ensures faults { T.faults tree.old ≤ T.faults tree.new }
     ensures taken { T.taken tree.old ≤ T.taken tree.new }
@@ -233,7 +199,7 @@ fn check_under<T: Tree>(
 /// The answer to `check`.
 fn answer_check<T: Tree>(alloc: Global, command: &Command, tree: &mut T) -> Result<Answer, Halt>
     ensures fault { IsErrOf result Halt.ReadFault → Rose (T.faults tree.old) (T.faults tree.new) }
-    ensures called { IfOk result (λ a. Tells (IsVerdict (order_of ⟦<Diag as Ord>⟧.cmp ⟦<Diag as PartialEq>⟧.eq) (seen_of (T.files tree.old) (T.faults tree.old) (T.faults tree.new) (T.taken tree.old) (T.taken tree.new)) (Check (command_view command.now))) a.status a.text.items) }
+    ensures called { IfOk result (λ a. Tells (IsVerdict (seen_of (T.files tree.old) (T.faults tree.old) (T.faults tree.new) (T.taken tree.old) (T.taken tree.new)) (Check (command_view command.now))) a.status a.text.items) }
     ensures files { T.files tree.new ≡ T.files tree.old }
     ensures faults { T.faults tree.old ≤ T.faults tree.new }
     ensures taken { T.taken tree.old ≤ T.taken tree.new }
@@ -245,12 +211,14 @@ fn answer_check<T: Tree>(alloc: Global, command: &Command, tree: &mut T) -> Resu
 }
 
 /// The summary on an accepted unit.
-fn summarised(alloc: Global, files: &[String], unit: &str, judged: &Judged) -> Result<Answer, Halt>
+fn summarised(alloc: Global, unit: &str, judged: Judged) -> Result<Answer, Halt>
     ensures fault { IsErrOf result Halt.ReadFault → ⊥ }
-    ensures called { IfOk result (λ a. AnswersSummary (order_of ⟦<Diag as Ord>⟧.cmp ⟦<Diag as PartialEq>⟧.eq) (judgement judged.now) (map string_bytes files.now) unit.now a.status a.text.items) }
+    ensures called { IfOk result (λ a. AnswersSummary (judgement judged) unit.now a.status a.text.items) }
 {
-    let listed = listed(alloc, judged.diags.as_slice(), files.len())?;
-    let text = summary(alloc, unit, judged.bases, judged.cells, listed.as_slice())?;
+    let bases = judged.bases;
+    let cells = judged.cells;
+    let listed = ordered_diagnostics(judged.diags);
+    let text = summary(alloc, unit, bases, cells, listed.as_slice())?;
     Ok(Answer {
         status: status_for(listed.as_slice()),
         text,
@@ -267,7 +235,7 @@ fn loaded(
 ) -> Result<Answer, Halt>
     requires { is_model model.now ≡ true }
     ensures fault { IsErrOf result Halt.ReadFault → ⊥ }
-    ensures called { IfOk result (λ a. AnswersOwn (load_setting model.now) unit.now (map string_bytes files.now) name.now a.status a.text.items ⊎ AnswersMade (order_of ⟦<Diag as Ord>⟧.cmp ⟦<Diag as PartialEq>⟧.eq) (load_setting model.now) unit.now (map string_bytes files.now) name.now a.status a.text.items) }
+    ensures called { IfOk result (λ a. AnswersOwn (load_setting model.now) unit.now (map string_bytes files.now) name.now a.status a.text.items ⊎ AnswersMade (load_setting model.now) unit.now name.now a.status a.text.items) }
 {
     let setting = Setting {
         model,
@@ -275,7 +243,7 @@ fn loaded(
         turns: None,
     };
     match judge_unit(alloc, unit, setting) {
-        Ok(judged) => summarised(alloc, files, name, &judged),
+        Ok(judged) => summarised(alloc, name, judged),
         Err(stop) => stopped(alloc, files, name, unit, setting, stop),
     }
 }
@@ -289,7 +257,7 @@ fn load_under<T: Tree>(
 ) -> Result<Answer, Halt>
     requires { is_model model.now ≡ true }
     ensures fault { IsErrOf result Halt.ReadFault → Rose (T.faults tree.old) (T.faults tree.new) }
-    ensures called { IfOk result (λ a. Tells (AnswersLoad (order_of ⟦<Diag as Ord>⟧.cmp ⟦<Diag as PartialEq>⟧.eq) (seen_of (T.files tree.old) (T.faults tree.old) (T.faults tree.new) (T.taken tree.old) (T.taken tree.new)) (command_view command.now) model.now) a.status a.text.items) }
+    ensures called { IfOk result (λ a. Tells (AnswersLoad (seen_of (T.files tree.old) (T.faults tree.old) (T.faults tree.new) (T.taken tree.old) (T.taken tree.new)) (command_view command.now) model.now) a.status a.text.items) }
     ensures files { T.files tree.new ≡ T.files tree.old }
     ensures faults { T.faults tree.old ≤ T.faults tree.new }
     ensures taken { T.taken tree.old ≤ T.taken tree.new }
@@ -309,7 +277,7 @@ fn load_under<T: Tree>(
 /// The answer to `load`.
 fn answer_load<T: Tree>(alloc: Global, command: &Command, tree: &mut T) -> Result<Answer, Halt>
     ensures fault { IsErrOf result Halt.ReadFault → Rose (T.faults tree.old) (T.faults tree.new) }
-    ensures called { IfOk result (λ a. Tells (IsVerdict (order_of ⟦<Diag as Ord>⟧.cmp ⟦<Diag as PartialEq>⟧.eq) (seen_of (T.files tree.old) (T.faults tree.old) (T.faults tree.new) (T.taken tree.old) (T.taken tree.new)) (Load (command_view command.now))) a.status a.text.items) }
+    ensures called { IfOk result (λ a. Tells (IsVerdict (seen_of (T.files tree.old) (T.faults tree.old) (T.faults tree.new) (T.taken tree.old) (T.taken tree.new)) (Load (command_view command.now))) a.status a.text.items) }
     ensures files { T.files tree.new ≡ T.files tree.old }
     ensures faults { T.faults tree.old ≤ T.faults tree.new }
     ensures taken { T.taken tree.old ≤ T.taken tree.new }
@@ -323,7 +291,7 @@ fn answer_load<T: Tree>(alloc: Global, command: &Command, tree: &mut T) -> Resul
 /// What the words and the tree call for. On a read fault the tree's faults rose.
 pub(crate) fn decide<T: Tree>(alloc: Global, words: &[String], tree: &mut T) -> Result<Answer, Halt>
     ensures fault { IsErrOf result Halt.ReadFault → Rose (T.faults tree.old) (T.faults tree.new) }
-    ensures called { IfOk result (λ a. Tells (IsVerdict (order_of ⟦<Diag as Ord>⟧.cmp ⟦<Diag as PartialEq>⟧.eq) (seen_of (T.files tree.old) (T.faults tree.old) (T.faults tree.new) (T.taken tree.old) (T.taken tree.new)) (asked (map string_bytes words.now))) a.status a.text.items) }
+    ensures called { IfOk result (λ a. Tells (IsVerdict (seen_of (T.files tree.old) (T.faults tree.old) (T.faults tree.new) (T.taken tree.old) (T.taken tree.new)) (asked (map string_bytes words.now))) a.status a.text.items) }
     ensures files { T.files tree.new ≡ T.files tree.old }
     ensures faults { T.faults tree.old ≤ T.faults tree.new }
     ensures taken { T.taken tree.old ≤ T.taken tree.new }

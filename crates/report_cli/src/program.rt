@@ -23,7 +23,7 @@ use std::alloc::Global;
 /// | 7 | want of memory; nothing is put |
 /// | 8 | a limit is passed |
 pub fn run<T: Tree, S: Sink>(alloc: Global, words: &[String], tree: &mut T, out: &mut S) -> u8
-    ensures answer { Answers (order_of ⟦<Diag as Ord>⟧.cmp ⟦<Diag as PartialEq>⟧.eq) (seen_of (T.files tree.old) (T.faults tree.old) (T.faults tree.new) (T.taken tree.old) (T.taken tree.new)) (asked (map string_bytes words.now)) (took (S.written out.old) (S.written out.new) (S.faults out.old) (S.faults out.new) (S.calls out.old) (S.calls out.new)) result }
+    ensures answer { Answers (seen_of (T.files tree.old) (T.faults tree.old) (T.faults tree.new) (T.taken tree.old) (T.taken tree.new)) (asked (map string_bytes words.now)) (took (S.written out.old) (S.written out.new) (S.faults out.old) (S.faults out.new) (S.calls out.old) (S.calls out.new)) result }
     ensures files { T.files tree.new ≡ T.files tree.old }
     ensures read_faults { T.faults tree.old ≤ T.faults tree.new }
     ensures write_faults { S.faults out.old ≤ S.faults out.new }

@@ -1,8 +1,9 @@
 //! What a unit that was expanded comes to.
 ghost use Rattle.std.specs.Prelude.{◌≡◌, ◌++◌, IfErr, IfOk, Some, true, length};
 ghost use Rattle.c_layout.specs.Models.{is_model};
-ghost use Rattle.flow_program.specs.WellFormed.{base_cells};
-ghost use Rattle.report_cli.specs.Judging.{order_of, setting_view, judgement, cells_from, cell_count, IsParsed, IsTyped, IsLowered, IsTurned, IsJudged, IsFound, StopsUnit};
+ghost use Rattle.flow_program.specs.WellFormed.{base_cells, is_well_formed};
+ghost use Rattle.cc_base.specs.Standard.{standard_limits};
+ghost use Rattle.report_cli.specs.Judging.{setting_view, judgement, cells_from, cell_count, IsParsed, IsTyped, IsLowered, IsTurned, IsJudged, IsFound, StopsUnit};
 
 use crate::stages::{Stage, stop_at};
 use c_layout::{BaseInfo, Checked, Model, Tree7, Unit7};
@@ -71,7 +72,7 @@ fn judge_program(
     analysed: &Flow,
 ) -> Result<Judged, Memory>
     requires { is_model flow.now.model ≡ true }
-    ensures found { IfOk result (λ j. IsFound (order_of ⟦<Diag as Ord>⟧.cmp ⟦<Diag as PartialEq>⟧.eq) checked.now flow.now analysed.now j.diags.items) }
+    ensures found { IfOk result (λ j. IsFound checked.now flow.now analysed.now j.diags.items) }
     ensures bases { IfOk result (λ j. j.bases ≡ length flow.now.bases.items) }
     ensures cells { IfOk result (λ j. j.cells ≡ cell_count flow.now) }
 {
@@ -117,6 +118,7 @@ fn lowered(
     requires parsed { IsParsed unit.now tree.now }
     requires typed { IsTyped (setting_view setting) tree.now checked.now }
     ensures lowered { IfOk result (IsLowered checked.now) }
+    ensures well_formed { IfOk result (λ f. is_well_formed standard_limits f ≡ true) }
     ensures stops { IfErr result (StopsUnit unit.now (setting_view setting.entry)) }
 {
     match lower(alloc, checked, &Limits::standard()) {
@@ -140,6 +142,7 @@ fn turned(
     requires lowered { IsLowered checked.now flow.now }
     requires turns { setting.turns ≡ Some turns }
     ensures turned { IfOk result (IsTurned setting.entry.turns flow.now) }
+    ensures well_formed { IfOk result (λ f. is_well_formed standard_limits f ≡ true) }
     ensures stops { IfErr result (StopsUnit unit.now (setting_view setting.entry)) }
 {
     match split(alloc, flow, turns, &Limits::standard()) {
@@ -151,7 +154,7 @@ fn turned(
 /// Parses, checks, lowers and analyses a unit.
 pub fn judge_unit(alloc: Global, unit: &Unit7, setting: Setting) -> Result<Judged, Stop>
     requires { is_model setting.model.now ≡ true }
-    ensures judged { IfOk result (λ j. IsJudged (order_of ⟦<Diag as Ord>⟧.cmp ⟦<Diag as PartialEq>⟧.eq) unit.now (setting_view setting.entry) (judgement j)) }
+    ensures judged { IfOk result (λ j. IsJudged unit.now (setting_view setting.entry) (judgement j)) }
     ensures stops { IfErr result (StopsUnit unit.now (setting_view setting.entry)) }
 {
     let tree = parsed(alloc, unit, setting)?;

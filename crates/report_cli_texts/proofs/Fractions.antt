@@ -6,9 +6,9 @@ use Rattle.serde_json.specs.Written.{has_float, items_have_float}
 use Rattle.report_cli_texts.specs.Reports.{Bytes}
 use Rattle.report_cli_texts.specs.JsonReports.{diagnostics_data, report_data}
 
-items_are_whole : (names : List Bytes) (ds : List Diag) → items_have_float (items_of (diagnostics_data names ds)) ≡ false
-items_are_whole names [] = refl
-items_are_whole names (d ∷ ds) = items_are_whole names ds
+items_are_whole : (names : List Bytes) (unit : Bytes) (ds : List Diag) → items_have_float (items_of (diagnostics_data names unit ds)) ≡ false
+items_are_whole names unit [] = refl
+items_are_whole names unit (d ∷ ds) = items_are_whole names unit ds
 
-pub report_is_whole : (names : List Bytes) (unit : Bytes) (ds : List Diag) → has_float (report_data unit (diagnostics_data names ds)) ≡ false
-report_is_whole names unit ds = rw (items_are_whole names ds) refl
+pub report_is_whole : (names : List Bytes) (unit : Bytes) (ds : List Diag) → has_float (report_data unit (diagnostics_data names unit ds)) ≡ false
+report_is_whole names unit ds = rw (items_are_whole names unit ds) refl

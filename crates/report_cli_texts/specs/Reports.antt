@@ -1,5 +1,5 @@
 -- The text of a report: a line for each diagnostic, and their number.
-use Rattle.std.specs.Prelude.{ℕ, List, [], ◌∷◌, ◌++◌, length, codes, get_or}
+use Rattle.std.specs.Prelude.{ℕ, List, [], ◌∷◌, ◌++◌, length, codes, slice_get, unwrap_or}
 use Rattle.std.specs.Fmt.{decimal}
 use Rattle.cc_base.specs.declared.diagnostics.Diag.{Diag}
 use Rattle.cc_base.specs.Rules.{tag_of, text_of}
@@ -12,13 +12,17 @@ abbrev pub line_of : Bytes → Diag → Bytes
 line_of file d =
     file ++ (codes ":" ++ (decimal d.place.line ++ (codes ":" ++ (decimal d.place.col ++ (codes ": " ++ (tag_of d.rule ++ (codes ": " ++ (text_of d.rule ++ codes "\n"))))))))
 
-abbrev pub lines_of : List Bytes → List Diag → Bytes
-lines_of names [] = []
-lines_of names (d ∷ ds) = line_of (get_or names d.place.file []) d ++ lines_of names ds
+-- a file of the list, or the unit where the list has none
+abbrev pub file_name : List Bytes → Bytes → ℕ → Bytes
+file_name names unit file = unwrap_or (slice_get names file) unit
+
+abbrev pub lines_of : List Bytes → Bytes → List Diag → Bytes
+lines_of names unit [] = []
+lines_of names unit (d ∷ ds) = line_of (file_name names unit d.place.file) d ++ lines_of names unit ds
 
 -- N diagnostics in UNIT
 abbrev pub last_line : ℕ → Bytes → Bytes
 last_line count unit = decimal count ++ (codes " diagnostics in " ++ (unit ++ codes "\n"))
 
 abbrev pub report_of : List Bytes → Bytes → List Diag → Bytes
-report_of names unit diags = lines_of names diags ++ last_line (length diags) unit
+report_of names unit diags = lines_of names unit diags ++ last_line (length diags) unit

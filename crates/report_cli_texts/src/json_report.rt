@@ -1,9 +1,10 @@
 //! The report as JSON.
-ghost use Rattle.std.specs.Prelude.{◌≡◌, ◌<◌, ◌++◌, false, All, IfOk, length, map, string_bytes, codes};
+ghost use Rattle.std.specs.Prelude.{◌≡◌, ◌++◌, false, IfOk, map, string_bytes, codes};
 ghost use Rattle.serde_json.specs.View.{view};
 ghost use Rattle.serde_json.specs.Written.{compact_text, has_float};
 ghost use Rattle.report_cli_texts.specs.JsonReports.{diagnostic_data, diagnostics_data, report_data, json_of};
 
+use crate::text_report::file_name;
 use cc_base::{Diag, Memory};
 use serde_json::{Value, json};
 use std::alloc::{AllocError, Global};
@@ -23,15 +24,16 @@ fn diagnostic_value(alloc: Global, file: &str, diag: &Diag) -> Result<Value, All
 fn diagnostic_values(
     alloc: Global,
     files: &[String],
+    unit: &str,
     diags: &[Diag],
 ) -> Result<Vec<Value>, AllocError>
-    requires { All (λ d. d.place.file < length files.now) diags.now }
-    ensures { IfOk result (λ v. map view v.items ≡ diagnostics_data (map string_bytes files.now) diags.now) }
+    ensures { IfOk result (λ v. map view v.items ≡ diagnostics_data (map string_bytes files.now) unit.now diags.now) }
 {
     let mut values = Vec::new(alloc);
     for at in 0..diags.len() {
         let diag = &diags[at];
-        let value = diagnostic_value(alloc, files[diag.place.file as usize].as_str(), diag)?;
+        let file = file_name(files, unit, diag.place.file);
+        let value = diagnostic_value(alloc, file, diag)?;
         values.push(value)?;
     }
     Ok(values)
@@ -51,10 +53,9 @@ fn report_value(
     unit: &str,
     diags: &[Diag],
 ) -> Result<Value, AllocError>
-    requires { All (λ d. d.place.file < length files.now) diags.now }
-    ensures { IfOk result (λ v. view v ≡ report_data unit.now (diagnostics_data (map string_bytes files.now) diags.now)) }
+    ensures { IfOk result (λ v. view v ≡ report_data unit.now (diagnostics_data (map string_bytes files.now) unit.now diags.now)) }
 {
-    let values = diagnostic_values(alloc, files, diags)?;
+    let values = diagnostic_values(alloc, files, unit, diags)?;
     report_object(alloc, unit, values)
 }
 
@@ -71,14 +72,14 @@ fn line_of(alloc: Global, value: &Value) -> Result<Vec<u8>, AllocError>
 
 /// The report on a unit as one line of JSON: an object with the list `diagnostics`, in the order
 /// given, and the name `unit`. Each diagnostic is an object of `column`, `file`, `line`, `rule` and
-/// `text`. Each diagnostic's file is an index into `files`.
+/// `text`. Each diagnostic's file is an index into `files`; one that is none stands under the
+/// unit's own name.
 pub fn report_json(
     alloc: Global,
     files: &[String],
     unit: &str,
     diags: &[Diag],
 ) -> Result<Vec<u8>, Memory>
-    requires { All (λ d. d.place.file < length files.now) diags.now }
     ensures { IfOk result (λ b. b.items ≡ json_of (map string_bytes files.now) unit.now diags.now) }
 {
     let report = report_value(alloc, files, unit, diags)?;

@@ -17,4 +17,4 @@ pub use load_summary::summary;
 pub use loaded_units::load_unit;
 pub use refusal_lines::refusal_answer;
 pub use refusal_words::{count_word, word_of};
-pub use text_report::report_text;
+pub use text_report::{file_name, report_text};

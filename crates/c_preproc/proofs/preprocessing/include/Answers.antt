@@ -5,7 +5,7 @@ use Rattle.c_preproc.specs.Units.Sought.{nothing}
 use Rattle.c_preproc.specs.Told.{opened_if}
 use Rattle.c_preproc.proofs.Told.{find_by, find_by_is}
 use Rattle.c_preproc.proofs.Steps.{include_not_asked, sought_is, include_not_found, include_missing, include_entered}
-use Rattle.c_preproc.proofs.Searches.{missing_is}
+use Rattle.c_preproc.proofs.Searches.{missing_is, names_kept}
 use Rattle.c_preproc.proofs.preprocessing.include.Goals as goal
 
 pub returns-in-Err-search-clause-cause : goal.returns-in-Err-search-clause-cause
@@ -13,8 +13,8 @@ returns-in-Err-search-clause-cause g c = c.in-Err-search.ensures.answer (map str
 
 pub returns-in-None-clause-cause : goal.returns-in-None-clause-cause
 returns-in-None-clause-cause g c = c.missing.ensures.cause _ _ _ _
-    (missing_is string_bytes (g.T.Tree.files c.args.tree.now) (g.T.Tree.files c.search.new.tree) _ _ _ _ (map string_bytes c.args.dirs.now) c.args.model.now c.search.new.files _ _ _ _ _ _ _ c.in-Ok-search.held
-    c.as_slice.ensures.value c.in_ok-searched.ensures c.as_str.ensures.value c.as_str-2.ensures.value c.as_str-in-None.ensures.value
+    (missing_is string_bytes (g.T.Tree.files c.args.tree.now) (g.T.Tree.files c.search.new.tree) _ _ _ _ (map string_bytes c.args.dirs.now) c.args.model.now c.search.new.files _ _ _ _ _ _ _ c.args.files.now c.args.top _ c.in-Ok-search.held
+    c.includer_of-includer.ensures (names_kept _ _ _ c.in-Ok-search.held c.in-Ok-search.ensures.seeks.gives c.in-None.is) c.as_slice.ensures.value c.in_ok-searched.ensures c.as_str.ensures.value c.as_str-2.ensures.value c.as_str-in-None.ensures.value
     (c.in-Ok-search.ensures.answer (map string_bytes c.args.dirs.now)) c.in-None.is)
 
 pub returns-in-Err-clause-reads : goal.returns-in-Err-clause-reads

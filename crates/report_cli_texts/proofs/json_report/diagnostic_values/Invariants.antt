@@ -4,4 +4,4 @@ use Rattle.report_cli_texts.specs.JsonReports.{diagnostics_data}
 use Rattle.report_cli_texts.proofs.json_report.diagnostic_values.Given as goal
 
 abbrev pub invariant-loop-at : goal.invariant-loop-at
-invariant-loop-at l = map view l.values.items ++ diagnostics_data (map string_bytes l.files) (drop l.at l.diags) ≡ diagnostics_data (map string_bytes l.files) l.diags
+invariant-loop-at l = map view l.values.items ++ diagnostics_data (map string_bytes l.files) l.unit (drop l.at l.diags) ≡ diagnostics_data (map string_bytes l.files) l.unit l.diags
