@@ -6,8 +6,12 @@ ghost use Rattle.c_preproc_macros.specs.Machine.{at_of, deepened, left_frames, l
 
 use crate::lexeme::Lexeme;
 use cc_base::{Memory, Place};
+use smallvec::SmallVec;
 use std::alloc::Global;
 use std::collections::VecDeque;
+
+/// The arguments of a call, which nearly always has few.
+pub type Arguments = SmallVec<Vec<Lexeme>, 4>;
 
 /// A call of a function-like macro whose arguments are being read.
 #[derive(Drop)]
@@ -19,7 +23,7 @@ pub struct Call {
     /// What was made before the call.
     pub outer: Vec<Lexeme>,
     /// The arguments before this one, expanded.
-    pub finished: Vec<Vec<Lexeme>>,
+    pub finished: Arguments,
 }
 
 /// What is under way.

@@ -10,7 +10,7 @@ ghost use Rattle.c_preproc_macros.specs.Places.{StandsBy, IfPlaced};
 ghost use Rattle.std.specs.List.{All};
 ghost use Rattle.cc_base.specs.declared.diagnostics.Place.{Place};
 
-use crate::levels::{Call, Level, Levels};
+use crate::levels::{Arguments, Call, Level, Levels};
 use crate::lexeme::{Lexeme, Mark};
 use crate::macro_table::{Macro, Macros, Part};
 use crate::pending_list::{Item, Pending};
@@ -315,7 +315,7 @@ impl Machine {
             name,
             depth: 0,
             outer,
-            finished: Vec::new(alloc),
+            finished: Arguments::new(alloc),
         }))?;
         Ok(())
     }
