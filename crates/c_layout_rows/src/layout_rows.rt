@@ -2,7 +2,7 @@
 //! machine whose model is lp64.
 ghost use Rattle.std.specs.Prelude.{◌<◌, ◌≤◌};
 
-use crate::{CType, Key, Model, ModelFault, StructLayout, Structs, by_name, from_toml, leaves};
+use c_layout::{CType, Key, Model, ModelFault, StructLayout, Structs, by_name, from_toml, leaves};
 use cc_base::{IntType, Text};
 use std::alloc::Global;
 use std::test::Fail;

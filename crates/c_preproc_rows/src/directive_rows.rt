@@ -1,8 +1,8 @@
 //! Units and what the standard makes of them.
 ghost use Rattle.std.specs.Prelude.{◌≡◌, true};
 
-use crate::expand;
 use c_layout::{Model, Unit7};
+use c_preproc::expand;
 use cc_base::{Fault, MemTree, Refusal, Stop, Tokens};
 use std::alloc::Global;
 use std::fmt::Write;

@@ -1,5 +1,5 @@
 //! Real files and a real writer, which no contract speaks of.
-use crate::{FileTree, MemSink, MemTree, Sink, StdSink, Tree, TreeFault};
+use cc_base::{FileTree, MemSink, MemTree, Sink, StdSink, Tree, TreeFault};
 use std::test::Fail;
 use std::{fs, io};
 

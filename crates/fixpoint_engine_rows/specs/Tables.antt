@@ -2,7 +2,7 @@
 use Rattle.std.specs.Prelude.{◌≡◌, ◌+◌, ◌<◌, ◌≤◌, ℕ, ℤ, Bool, true, false, not, ◌&&◌, ◌||◌, nat_le, nat_lt, min, List, [], ◌∷◌, length, Option, Some, None, if◌then◌else◌, slice_index_or}
 use Rattle.std.specs.List.{list_all}
 use Rattle.cc_base.specs.Machine.{Machine}
-use Rattle.fixpoint_engine.specs.Levels.{rungs_above}
+use Rattle.fixpoint_engine_rows.specs.Levels.{rungs_above}
 
 -- an edge that is taken by numbers from `least` on, cuts them to `cap` and adds `plus`
 pub record Passage : Type 0 where

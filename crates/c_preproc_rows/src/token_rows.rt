@@ -1,5 +1,5 @@
 //! Files and what the standard makes of them.
-use crate::lex;
+use c_tokens::lex;
 use cc_base::{Kind, Refusal, Stop, Tokens};
 use std::alloc::Global;
 use std::fmt::Write;

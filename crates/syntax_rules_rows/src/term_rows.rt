@@ -1,5 +1,4 @@
 //! Units that were checked by hand, and what the rules find in them.
-use crate::syntactic;
 use c_layout::{
     BinaryOp, CType, CaseLabel, Checked, CheckedStatement, CheckedTerm, ConversionKind, Function,
     Lvalue, LvalueForm, Model, ObjectRef, Structs, TermForm,
@@ -8,6 +7,7 @@ use cc_base::{Place, Text};
 use std::alloc::Global;
 use std::fmt::Write;
 use std::test::Fail;
+use syntax_rules::syntactic;
 
 const LP64: Model = Model {
     short: 2,

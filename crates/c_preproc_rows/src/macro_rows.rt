@@ -1,6 +1,6 @@
 //! Examples of 6.10.3.5 with the results that the standard gives, refusals with their places, and
 //! calls in one another.
-use crate::{
+use c_preproc_macros::{
     Expansion, Failure, Lexeme, Macro, Macros, Mark, Part, Spellings, Trouble, expand_list,
 };
 use cc_base::{Kind, Place};

@@ -5,8 +5,9 @@ ghost use Rattle.cc_base.specs.IntegerTypes.{is_size};
 ghost use Rattle.cc_base.specs.IntegerDomains.{IsNear};
 ghost use Rattle.interval_domain.specs.Spans.{interval_bounds};
 
-use crate::intervals::{Interval, between_or_empty};
+use crate::pointer_rows;
 use cc_base::{IntDomain, IntOp, IntType, Rel, Tri, UnOp};
+use interval_domain::Interval;
 
 /// An operation, two numbers and what C gives, where it gives a number.
 type Row = (IntOp, i128, i128, Option<i128>);
@@ -328,10 +329,7 @@ const UNSIGNED_CHAR: IntType = IntType {
 fn given(lo: i128, hi: i128) -> Interval
     ensures { IsNear (interval_bounds result) }
 {
-    if lo < -0x1_0000_0000_0000_0000 || hi > 0x1_0000_0000_0000_0000 {
-        return Interval::Bottom;
-    }
-    between_or_empty(lo, hi)
+    pointer_rows::given(lo, hi)
 }
 
 fn kind(bytes: u8, signed: bool) -> IntType

@@ -1,9 +1,9 @@
 //! A well-formed program, and one for each fault that a program may have.
 use crate::sample_program::{allocation, edge, instruction, int, sample};
-use crate::well_formed_flows::is_well_formed;
 use c_layout::BaseKind;
 use cc_base::{IntOp, IntType, Limits, Rel, Text};
 use flow_program::{Amount, CaseTest, EdgeKind, Flow, Operation, Scalar, Side, Test};
+use flow_program_checks::is_well_formed;
 use std::alloc::{AllocError, Global};
 use std::test::Fail;
 

@@ -4,7 +4,7 @@ use Rattle.std.proofs.lemmas.Bool.{leb-true, le-leb}
 use Rattle.std.proofs.lemmas.Bool.Decides.{nat_tests}
 use Rattle.std.proofs.Math.Nat.{le-max_left, le-max_right, max-le}
 use Rattle.cc_base.specs.Lattices.{OrderLaws, RoundLaws, HeightLaws}
-use Rattle.fixpoint_engine.specs.Levels.{level_lattice, rung_above, rungs_above}
+use Rattle.fixpoint_engine_rows.specs.Levels.{level_lattice, rung_above, rungs_above}
 
 not_le : (a b : ℕ) → leb a b ≡ false → b < a
 not_le a b h = grind (arith, nat_tests)

@@ -2,7 +2,7 @@
 ghost use Rattle.std.specs.Prelude.{ℕ};
 ghost use Rattle.row_pool.specs.Pool.{IsTaken};
 
-use crate::pool::RowPool;
+use row_pool::RowPool;
 use std::test::Fail;
 
 // Whether no row can be taken.

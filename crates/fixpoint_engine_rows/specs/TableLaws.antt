@@ -8,9 +8,9 @@ use Rattle.std.specs.List.{list_all}
 use Rattle.cc_base.specs.Rows.{row_leq, row_join, row_round, reached_leq}
 use Rattle.cc_base.specs.RowLaws.{by_test, and_left, and_right, and_both}
 use Rattle.cc_base.specs.Machine.{MachineLaws, IsMonotone, IsRounded}
-use Rattle.fixpoint_engine.specs.Levels.{level_lattice, rung_above}
-use Rattle.fixpoint_engine.specs.LevelLaws.{rung-within, rung-falls, rungs-bounded}
-use Rattle.fixpoint_engine.specs.Tables.{Passage, Table, passage_at, pass, is_level, row_rungs, table_machine, IsPassage, IsFit, is_passage, is_ordered, is_fit}
+use Rattle.fixpoint_engine_rows.specs.Levels.{level_lattice, rung_above}
+use Rattle.fixpoint_engine_rows.specs.LevelLaws.{rung-within, rung-falls, rungs-bounded}
+use Rattle.fixpoint_engine_rows.specs.Tables.{Passage, Table, passage_at, pass, is_level, row_rungs, table_machine, IsPassage, IsFit, is_passage, is_ordered, is_fit}
 
 level-width : (r : List ℕ) → is_level r ≡ true → length r ≡ 1
 level-width [] h = cc

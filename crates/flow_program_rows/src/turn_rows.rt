@@ -1,10 +1,10 @@
 //! A loop of one block, unrolled, and refused for its size.
-use crate::turn_splits::split;
 use c_layout::{Structs, by_name};
 use cc_base::{Limits, Place, Stop};
 use flow_program::{BasicBlock, Edge, EdgeKind, Flow, Instruction, Operation};
 use std::alloc::{AllocError, Global};
 use std::test::Fail;
+use turn_split::split;
 
 fn place() -> Place {
     Place {

@@ -1,15 +1,15 @@
 //! Small systems: rows of one number, an upper bound, and edges that cut and raise it.
 ghost use Rattle.std.specs.Prelude.{◌≡◌, ◌<◌, ◌≤◌, ◌+◌, ℕ, true, false, length, Some, None, IfOk, cond, map};
-ghost use Rattle.fixpoint_engine.specs.Levels.{level_lattice, rung_above};
-ghost use Rattle.fixpoint_engine.specs.LevelLaws.{level_order, level_rounding, level_heights};
-ghost use Rattle.fixpoint_engine.specs.Tables.{Table, table_machine, pass, is_level, is_fit, IsFit};
-ghost use Rattle.fixpoint_engine.specs.TableLaws.{table-laws};
+ghost use Rattle.fixpoint_engine_rows.specs.Levels.{level_lattice, rung_above};
+ghost use Rattle.fixpoint_engine_rows.specs.LevelLaws.{level_order, level_rounding, level_heights};
+ghost use Rattle.fixpoint_engine_rows.specs.Tables.{Table, table_machine, pass, is_level, is_fit, IsFit};
+ghost use Rattle.fixpoint_engine_rows.specs.TableLaws.{table-laws};
 ghost use Rattle.fixpoint_engine.specs.RowMap.{slot_index};
 ghost use Rattle.row_pool.specs.Pool.{IsTaken, free_count};
 ghost use Rattle.std.proofs.Common.{replicate};
 
-use crate::{drop_map, new_map, release, solve};
 use cc_base::{Lattice, Memory, Steps, System, Thresholds};
+use fixpoint_engine::{drop_map, new_map, release, solve};
 use row_pool::{Row, RowPool};
 use std::alloc::Global;
 use std::marker::{Brand, Model};
@@ -83,7 +83,7 @@ struct Passage {
 }
 
 impl Model for Passage {
-    ghost use Rattle.fixpoint_engine.specs.Tables.{Passage as Entry};
+    ghost use Rattle.fixpoint_engine_rows.specs.Tables.{Passage as Entry};
 
     ghost Value = { Entry };
 
@@ -100,7 +100,7 @@ struct TableSystem {
 }
 
 impl Model for TableSystem {
-    ghost use Rattle.fixpoint_engine.specs.Tables.{Table};
+    ghost use Rattle.fixpoint_engine_rows.specs.Tables.{Table};
 
     ghost Value = { Table };
 

@@ -1,0 +1,9 @@
+//! Rows of tokens, of macros and of whole units after preprocessing, as tests.
+#![tactic(auto)]
+
+#[cfg(test)]
+mod directive_rows;
+#[cfg(test)]
+mod macro_rows;
+#[cfg(test)]
+mod token_rows;
