@@ -3,6 +3,7 @@ use c_tokens::lex;
 use cc_base::{Kind, Refusal, Stop, Tokens};
 use std::alloc::Global;
 use std::fmt::Write;
+use std::process::Abort;
 use std::test::Fail;
 
 fn letter(kind: Kind) -> char {
@@ -58,73 +59,60 @@ fn answer(alloc: Global, bytes: &[u8]) -> Result<String, Fail> {
     }
 }
 
-fn is(alloc: Global, bytes: &[u8], wanted: &str) -> Result<bool, Fail> {
-    let found = answer(alloc, bytes)?;
-    Ok(found.as_str() == wanted)
+/// Bytes of a file, and its tokens or why and where it is refused.
+type Row = (&'static [u8], &'static str);
+
+/// Fails unless each file is answered so.
+fn expect_all(rt: &impl Abort, alloc: Global, rows: &[Row]) -> Result<(), Fail> {
+    for (bytes, wanted) in rows {
+        let found = answer(alloc, bytes)?;
+        assert!(rt; found.as_str() == *wanted, "{wanted}: {found}");
+    }
+    Ok(())
 }
+
+const PIECES: [Row; 7] = [
+    (b"a+++b", "n1:1^ a p1:2 ++ p1:4 + n1:5 b "),
+    (
+        b"x = 0x1E+1.5.;",
+        "n1:1^ x p1:3_ = i1:5_ 0x1E+1.5. p1:14 ; ",
+    ),
+    (
+        b"a<<=b>>c..",
+        "n1:1^ a p1:2 <<= n1:5 b p1:6 >> n1:8 c p1:9 . p1:10 . ",
+    ),
+    (b"\"/*\"'\\''//c\nb", "s1:1^ \"/*\" c1:5 '\\'' n2:1^_ b "),
+    (b"a/* b\n */ c", "n1:1^ a n2:5_ c "),
+    (
+        b"#include <a.h>x\n#include \"b\"\n",
+        "p1:1^ # n1:2 include h1:10_ <a.h> n1:15 x p2:1^_ # n2:2 include h2:10_ \"b\" ",
+    ),
+    (b"a <b> \"\"", "n1:1^ a p1:3_ < n1:4 b p1:5 > s1:7_ \"\" "),
+];
 
 #[test]
 fn cuts_longest_pieces(rt: HostRuntime) -> Result<(), Fail> {
-    let alloc = rt.alloc();
-    assert!(rt; is(alloc, b"a+++b", "n1:1^ a p1:2 ++ p1:4 + n1:5 b ")?);
-    assert!(rt;
-        is(
-            alloc,
-            b"x = 0x1E+1.5.;",
-            "n1:1^ x p1:3_ = i1:5_ 0x1E+1.5. p1:14 ; "
-        )?
-    );
-    assert!(rt;
-        is(
-            alloc,
-            b"a<<=b>>c..",
-            "n1:1^ a p1:2 <<= n1:5 b p1:6 >> n1:8 c p1:9 . p1:10 . "
-        )?
-    );
-    assert!(rt;
-        is(
-            alloc,
-            b"\"/*\"'\\''//c\nb",
-            "s1:1^ \"/*\" c1:5 '\\'' n2:1^_ b "
-        )?
-    );
-    assert!(rt; is(alloc, b"a/* b\n */ c", "n1:1^ a n2:5_ c ")?);
-    assert!(rt;
-        is(
-            alloc,
-            b"#include <a.h>x\n#include \"b\"\n",
-            "p1:1^ # n1:2 include h1:10_ <a.h> n1:15 x p2:1^_ # n2:2 include h2:10_ \"b\" "
-        )?
-    );
-    assert!(rt;
-        is(
-            alloc,
-            b"a <b> \"\"",
-            "n1:1^ a p1:3_ < n1:4 b p1:5 > s1:7_ \"\" "
-        )?
-    );
-    Ok(())
+    expect_all(&rt, rt.alloc(), &PIECES)
 }
+
+const PLACES: [Row; 11] = [
+    (
+        b"int ma\\\nin;\r\nx\\\r\ny z",
+        "n1:1^ int n1:5_ main p2:3 ; n3:1^_ xy n4:3_ z ",
+    ),
+    (b"\\\n a", "n2:2^_ a "),
+    (b"int x; /* a", "OpenComment 1:8"),
+    (b"int x=@;", "BadByte 1:7"),
+    (b"/* \x01 */a", "BadByte 1:4"),
+    (b"/* \x01 ", "OpenComment 1:1"),
+    (b"x=\"a\x01;", "OpenLiteral 1:3"),
+    (b"'\x80'", "BadByte 1:2"),
+    (b"\"\x80\"//\x80", "s1:1^ ? "),
+    (b"a\rb", "BadByte 1:2"),
+    (b"\"a\\", "OpenLiteral 1:1"),
+];
 
 #[test]
 fn splices_and_places(rt: HostRuntime) -> Result<(), Fail> {
-    let alloc = rt.alloc();
-    assert!(rt;
-        is(
-            alloc,
-            b"int ma\\\nin;\r\nx\\\r\ny z",
-            "n1:1^ int n1:5_ main p2:3 ; n3:1^_ xy n4:3_ z "
-        )?
-    );
-    assert!(rt; is(alloc, b"\\\n a", "n2:2^_ a ")?);
-    assert!(rt; is(alloc, b"int x; /* a", "OpenComment 1:8")?);
-    assert!(rt; is(alloc, b"int x=@;", "BadByte 1:7")?);
-    assert!(rt; is(alloc, b"/* \x01 */a", "BadByte 1:4")?);
-    assert!(rt; is(alloc, b"/* \x01 ", "OpenComment 1:1")?);
-    assert!(rt; is(alloc, b"x=\"a\x01;", "OpenLiteral 1:3")?);
-    assert!(rt; is(alloc, b"'\x80'", "BadByte 1:2")?);
-    assert!(rt; is(alloc, b"\"\x80\"//\x80", "s1:1^ ? ")?);
-    assert!(rt; is(alloc, b"a\rb", "BadByte 1:2")?);
-    assert!(rt; is(alloc, b"\"a\\", "OpenLiteral 1:1")?);
-    Ok(())
+    expect_all(&rt, rt.alloc(), &PLACES)
 }

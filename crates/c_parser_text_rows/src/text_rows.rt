@@ -8,6 +8,7 @@ use c_preproc::expand;
 use cc_base::{Fault, MemTree, Refusal, Stop};
 use std::alloc::Global;
 use std::fmt::Write;
+use std::process::Abort;
 use std::test::Fail;
 
 /// The model of many 64-bit systems.
@@ -76,24 +77,36 @@ fn answer(alloc: Global, text: &[u8]) -> Result<String, Fail> {
     }
 }
 
+/// Fails unless a text is answered so.
+fn expect(rt: &impl Abort, alloc: Global, text: &[u8], wanted: &str) -> Result<(), Fail> {
+    let found = answer(alloc, text)?;
+    let length = text.len();
+    assert!(rt;
+        found.as_str() == wanted,
+        "a text of {length} bytes: {found}"
+    );
+    Ok(())
+}
+
+/// Texts, and how each is answered.
+const ROWS: [(&str, &str); 8] = [
+    (
+        "int main(void){return 0}\n\nfloat x;",
+        "3:1 Unsupported float",
+    ),
+    ("int main(void){return 0;", "1:1 Syntax"),
+    ("int x; /* a", "1:8 OpenComment"),
+    ("int x=@;", "1:7 BadByte"),
+    ("#include <math.h>", "1:1 HeaderMissing math.h"),
+    ("int main(void){return 09;}", "1:23 NumberForm"),
+    ("int main(void){return 0;}", "ok"),
+    ("", "ok"),
+];
+
 #[test]
 fn refusals(rt: HostRuntime) -> Result<(), Fail> {
-    let alloc = rt.alloc();
-    for (text, wanted) in [
-        (
-            "int main(void){return 0}\n\nfloat x;",
-            "3:1 Unsupported float",
-        ),
-        ("int main(void){return 0;", "1:1 Syntax"),
-        ("int x; /* a", "1:8 OpenComment"),
-        ("int x=@;", "1:7 BadByte"),
-        ("#include <math.h>", "1:1 HeaderMissing math.h"),
-        ("int main(void){return 09;}", "1:23 NumberForm"),
-        ("int main(void){return 0;}", "ok"),
-        ("", "ok"),
-    ] {
-        let found = answer(alloc, text.as_bytes())?;
-        assert!(rt; found.as_str() == wanted, "{text}: {found}");
+    for (text, wanted) in &ROWS {
+        expect(&rt, rt.alloc(), text.as_bytes(), wanted)?;
     }
     Ok(())
 }
@@ -115,11 +128,9 @@ fn nested(alloc: Global, pairs: usize) -> Result<String, Fail> {
 #[test]
 fn nested_parentheses(rt: HostRuntime) -> Result<(), Fail> {
     let alloc = rt.alloc();
-    for (pairs, wanted) in [(253, "ok"), (254, "1:1 Syntax"), (30000, "1:1 Syntax")] {
-        let found = answer(alloc, nested(alloc, pairs)?.as_bytes())?;
-        assert!(rt; found.as_str() == wanted, "{pairs}: {found}");
-    }
-    Ok(())
+    expect(&rt, alloc, nested(alloc, 253)?.as_bytes(), "ok")?;
+    expect(&rt, alloc, nested(alloc, 254)?.as_bytes(), "1:1 Syntax")?;
+    expect(&rt, alloc, nested(alloc, 30000)?.as_bytes(), "1:1 Syntax")
 }
 
 /// A header with a guard, a macro and a struct.
@@ -189,18 +200,27 @@ fn is_due(length: usize, found: &str) -> bool {
     found != "no refusal"
 }
 
+/// Fails unless the prefix is answered as it is due.
+fn expect_due(rt: &impl Abort, alloc: Global, prefix: &[u8]) -> Result<(), Fail> {
+    let found = answer(alloc, prefix)?;
+    let length = prefix.len();
+    assert!(rt; is_due(length, found.as_str()), "{length}: {found}");
+    Ok(())
+}
+
 #[test]
 fn prefixes(rt: HostRuntime) -> Result<(), Fail> {
-    let alloc = rt.alloc();
     let bytes = UNIT.as_bytes();
-    let most = bytes.len().saturating_sub(1);
-    for length in 0..most {
-        let found = answer(alloc, bytes.split_at(length).0)?;
-        assert!(rt; is_due(length, found.as_str()), "{length}: {found}");
-    }
-    for text in [bytes.split_at(most).0, bytes] {
-        let found = answer(alloc, text)?;
-        assert!(rt; found.as_str() == "ok", "{found}");
+    for length in 0..bytes.len().saturating_sub(1) {
+        expect_due(&rt, rt.alloc(), bytes.split_at(length).0)?;
     }
     Ok(())
+}
+
+#[test]
+fn whole_units(rt: HostRuntime) -> Result<(), Fail> {
+    let bytes = UNIT.as_bytes();
+    let most = bytes.len().saturating_sub(1);
+    expect(&rt, rt.alloc(), bytes.split_at(most).0, "ok")?;
+    expect(&rt, rt.alloc(), bytes, "ok")
 }
