@@ -3,8 +3,6 @@
 
 mod checked_tree;
 mod data_model;
-#[cfg(test)]
-mod layout_tests;
 mod leaf_lists;
 mod leaf_making;
 mod library_functions;

@@ -117,9 +117,6 @@ pub local_item : {known : List (List ℕ)} {budget h : ℕ} {s : StatementTree} 
 local_item {known} {budget} {h} {s} l {ts} {rest} found s-is =
     subst (λ (w : StatementTree). FoundItem known budget w h ts rest) (sym s-is) (record { derives = found.derives; height = found.height; within = found.within })
 
-pub no_item : (known : List (List ℕ)) (budget : ℕ) (ts : List Terminal) → FoundItems known budget [] 0 ts ts
-no_item known budget ts = record { derive = refl; height = refl; within = omega arith }
-
 items_more : (ss : List StatementTree) (s : StatementTree) (known : List (List ℕ)) (ts a b : List Terminal) →
     DeriveStatements (statement_trees ss) known ts a → DeriveStatement s known a b → DeriveStatements (statement_trees (ss ++ (s ∷ []))) known ts b
 items_more [] s known ts a b d one = (b, subst (λ (start : List Terminal). DeriveStatement s known start b) d one, refl)
@@ -137,9 +134,6 @@ one_item {known} {budget} {g} {h} {j} {ss} {vs} {s} {ts} {a} {rest} so one vs-is
       height = rw (items_high ss s, h-is, so.height, one.height);
       within = omega (arith, h-is, so.within, one.within);
     })
-
-pub braced : {known : List (List ℕ)} {budget h : ℕ} {ss : List StatementTree} {ts a rest : List Terminal} → FoundItems known budget ss h ts a → IsSign p.RightBrace a rest → FoundBraced known budget ss h ts rest
-braced {known} {budget} {h} {ss} {ts} {a} {rest} found closes = record { last = a; derive = found.derive; closes = closes; height = found.height; within = found.within }
 
 pub whole_block : {known : List (List ℕ)} {budget b g h : ℕ} (ss : List StatementTree) {ts a rest : List Terminal} →
     IsSign p.LeftBrace ts a → FoundBraced known b ss g a rest → h ≡ g + 1 → h ≤ budget → FoundBlock known budget ss h ts rest

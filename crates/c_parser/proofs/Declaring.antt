@@ -58,13 +58,6 @@ append_one : (before more : List InitDeclaratorView) (d : InitDeclaratorView) �
 append_one [] more d = refl
 append_one (e ∷ es) more d = ap (λ (ds : List InitDeclaratorView). e ∷ ds) (append_one es more d)
 
-append_none : (before : List InitDeclaratorView) → before ≡ before ++ []
-append_none [] = refl
-append_none (e ∷ es) = ap (λ (ds : List InitDeclaratorView). e ∷ ds) (append_none es)
-
-pub none_further : (gives : Bool) (known : List (List ℕ)) (budget : ℕ) (before : List InitDeclaratorView) (ts : List Terminal) → FoundFurther gives known known budget before before 0 ts ts
-none_further gives known budget before ts = record { more = []; all_is = append_none before; derive = refl; names = refl; height = refl; within = omega arith }
-
 pub one_further : {gives : Bool} {known inside behind : List (List ℕ)} {budget g h j low : ℕ} {before all next : List InitDeclaratorView} {d first : InitDeclaratorView} {ts a b c rest : List Terminal} →
     FoundFurther gives known inside budget before all g ts a → IsSign p.Comma a b → FoundBare inside budget first low b c → behind ≡ with_declared gives inside first →
     FoundTail behind budget first low d j c rest → next ≡ all ++ (d ∷ []) → h ≡ max g j → FoundFurther gives known behind budget before next h ts rest
@@ -81,10 +74,6 @@ one_further {gives} {known} {inside} {behind} {budget} {g} {h} {j} {low} {before
       height = h-is ∙ (ap (λ (n : ℕ). max n j) so.height ∙ (ap (λ (n : ℕ). max (highest init_height so.more) n) high ∙ sym (high_more so.more d)));
       within = omega (arith, h-is, so.within, low-enough);
     }
-
-pub last_further : {gives : Bool} {known behind : List (List ℕ)} {budget h : ℕ} {before all : List InitDeclaratorView} {ts a rest : List Terminal} →
-    FoundFurther gives known behind budget before all h ts a → IsSign p.Semicolon a rest → FoundLast gives known behind budget before all h ts rest
-last_further {gives} {known} {behind} {budget} {h} {before} {all} {ts} {a} {rest} so ends = record { last = a; further = so; ends = ends }
 
 -- ---- external declarations
 
@@ -148,14 +137,3 @@ pub whole : {known behind : List (List ℕ)} {budget c g h : ℕ} {at : Place} (
     at ≡ first_place ts → FoundSpec known c (spec_trees words) g ts a → FoundNamed known behind budget at words g e h a rest → FoundExternal known behind budget e h ts rest
 whole {known} {behind} {budget} {c} {g} {h} {at} words {e} {ts} {a} {rest} place spec found =
     record { derives = found.goes ts place spec.derives; names = found.names ts place spec.derives; height = found.height spec.height; within = found.within }
-
-pub nameless : {known : List (List ℕ)} {budget c g h : ℕ} {at : Place} (words : List SpecTree) {e : ExternalTree} {ts a rest : List Terminal} →
-    at ≡ first_place ts → FoundSpec known c (spec_trees words) g ts a → IsSign p.Semicolon a rest → e ≡ Declared at words [] → h ≡ g + 1 → h ≤ budget → FoundExternal known known budget e h ts rest
-nameless {known} {budget} {c} {g} {h} {at} words {e} {ts} {a} {rest} place spec ends e-is h-is within =
-    let parts : max (spec_height (spec_trees words)) 0 ≡ spec_height (spec_trees words) = omega arith in
-    rw e-is (record {
-      derives = (place, a, a, spec.derives, refl, ends);
-      names = refl;
-      height = h-is ∙ (ap (λ (n : ℕ). n + 1) spec.height ∙ ap (λ (n : ℕ). n + 1) (sym parts));
-      within = within;
-    })

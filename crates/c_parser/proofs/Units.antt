@@ -9,14 +9,6 @@ use Rattle.c_parser.specs.Externals.{in_force, in_force_behind, IsExternal, IsPi
 use Rattle.c_parser.specs.Findings.{FoundExternal, FoundPieces}
 use Rattle.c_parser.specs.Pieces.{piece_length, left_behind}
 
-nothing_left : (ts : List Terminal) → length ts ≡ 0 → ts ≡ []
-nothing_left [] e = refl
-nothing_left (t ∷ ts) e = absurd cc
-
-pub one_piece : {known behind : List (List ℕ)} {h n : ℕ} {e : ExternalTree} {ts rest : List Terminal} → FoundExternal known behind 256 e h ts rest → n ≡ length rest → n ≡ 0 → IsPiece known e ts
-one_piece {known} {behind} {h} {n} {e} {ts} {rest} found n-is none =
-    record { derives = subst (λ (at : List Terminal). IsExternal known e ts at) (nothing_left rest (sym n-is ∙ none)) found.derives; height = subst (λ (m : ℕ). m ≤ 256) found.height found.within }
-
 -- ---- all pieces
 
 pieces_more : (es : List ExternalTree) (e : ExternalTree) (known : List (List ℕ)) (ts rest : List Terminal) →
@@ -46,6 +38,3 @@ pub cut_more : {X : Type 0} (xs next : List X) (x : X) (ts rest after : List Ter
 cut_more {X} xs next x ts rest after so next-is after-is =
     ap (λ (ys : List X). left_behind (length ys) ts) next-is
     ∙ (ap (λ (n : ℕ). left_behind n ts) (length_more xs x) ∙ (ap (λ (at : List Terminal). drop (piece_length at) at) so ∙ sym after-is))
-
-pub whole_unit : {m : Model} {tokens : List Token} {es : List ExternalTree} (ts : List Terminal) → classified m tokens ≡ Ok ts → ArePieces es [] ts [] → IsUnit m tokens es
-whole_unit {m} {tokens} {es} ts classes pieces = record { terminals = ts; classes = classes; pieces = pieces }

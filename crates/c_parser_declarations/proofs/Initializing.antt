@@ -24,9 +24,6 @@ in_braces {known} {budget} {b} {g} {h} {i} {at} {items} {ts} {a} {rest} place op
       within = within;
     })
 
-pub none_read : (known : List (List ℕ)) (budget : ℕ) (ts : List Terminal) → FoundSome known budget [] 0 ts ts
-none_read known budget ts = record { parts = []; each = refl; trailed = refl; height = refl; within = omega arith }
-
 each_more : (is : List InitializerTree) (i : InitializerTree) (known : List (List ℕ)) (spans : List Span) (a c : List Terminal) →
     DeriveItems (initializer_trees is) known spans → DeriveInitializer i known a c → DeriveItems (initializer_trees (is ++ (i ∷ []))) known (spans ++ (record { from = a; to = c } ∷ []))
 each_more [] i known spans a c d one = subst (λ (ss : List Span). DeriveItems (initializer_trees (i ∷ [])) known (ss ++ (record { from = a; to = c } ∷ []))) (sym d) (record { from = a; to = c }, [], refl, one, refl)

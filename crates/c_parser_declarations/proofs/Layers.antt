@@ -42,9 +42,6 @@ climbed_more : (before : ℕ) (xs : List SuffixView) (s : SuffixView) → climbe
 climbed_more before [] s = refl
 climbed_more before (x ∷ xs) s = climbed_more (max before (length_height x.length) + 1) xs s
 
-pub no_suffix : (known : List (List ℕ)) (inside : ℕ) (ts : List Terminal) → FoundSuffixes known inside [] inside inside ts ts
-no_suffix known inside ts = record { derive = refl; level_is = refl; steps_is = refl }
-
 pub suffix_more : {known : List (List ℕ)} {inside : ℕ} {xs ys : List SuffixView} {s : SuffixView} {f g k f' g' : ℕ} {ts a rest : List Terminal} →
     FoundSuffixes known inside xs f g ts a → FoundSuffix known s k a rest → ys ≡ xs ++ (s ∷ []) → f' ≡ max f k → g' ≡ max g k + 1 → FoundSuffixes known inside ys f' g' ts rest
 suffix_more {known} {inside} {xs} {ys} {s} {f} {g} {k} {f'} {g'} {ts} {a} {rest} so one ys-is f-is g-is =

@@ -3,7 +3,6 @@ pub mod InitDeclarators
 pub mod Initializing
 pub mod Layers
 pub mod Listing
-pub mod ParameterLists
 pub mod Rows
 pub mod Specifying
 pub mod Words

@@ -25,9 +25,6 @@ highest_more height (y ∷ ys) x = let inner : highest height (ys ++ (x ∷ []))
 pub map_snoc : {X Y : Type 0} (f : X → Y) (xs ys : List X) (x : X) → ys ≡ xs ++ (x ∷ []) → map f ys ≡ map f xs ++ (f x ∷ [])
 map_snoc f xs ys x e = ap (map f) e ∙ map-append f xs (x ∷ [])
 
-pub no_items : {X : Type 0} (Item : X → List Terminal → List Terminal → Type 0) (height : X → ℕ) (budget : ℕ) (ts : List Terminal) → FoundItems Item height budget [] 0 ts ts
-no_items Item height budget ts = record { derive = refl; high_is = refl; within = omega arith }
-
 tall : {X : Type 0} (height : X → ℕ) (xs : List X) (x : X) (g h k : ℕ) → g ≡ highest height xs → k ≡ height x → h ≡ max g k → h ≡ highest height (xs ++ (x ∷ []))
 tall height xs x g h k g-is k-is h-is = rw (highest_more height xs x, h-is, g-is, k-is)
 

@@ -36,9 +36,6 @@ high_more : (ws : List SpecTree) (w : SpecTree) → words_height (spec_trees (ws
 high_more [] w = omega arith
 high_more (v ∷ vs) w = let inner : words_height (spec_trees (vs ++ (w ∷ []))) ≡ max (words_height (spec_trees vs)) (word_height w) = high_more vs w in omega (arith, inner)
 
-pub no_word : (known : List (List ℕ)) (budget : ℕ) (ts : List Terminal) → FoundWords known budget [] no_words 0 ts ts
-no_word known budget ts = record { derive = refl; counts_is = refl; high_is = refl; within = omega arith }
-
 pub one_word : {known : List (List ℕ)} {budget g h k : ℕ} {ws vs : List SpecTree} {w : SpecTree} {c d : SpecifierCounts} {ts a rest : List Terminal} →
     FoundWords known budget ws c g ts a → FoundWord known budget w k a rest → d ≡ counted c w → vs ≡ ws ++ (w ∷ []) → h ≡ max g k → FoundWords known budget vs d h ts rest
 one_word {known} {budget} {g} {h} {k} {ws} {vs} {w} {c} {d} {ts} {a} {rest} so one d-is vs-is h-is =
@@ -86,9 +83,6 @@ members_high (v ∷ vs) m = let inner : members_height (member_trees (vs ++ (m �
 some_member : (ms : List MemberTree) (m : MemberTree) → has_member (member_trees (ms ++ (m ∷ []))) ≡ true
 some_member [] m = refl
 some_member (v ∷ vs) m = refl
-
-pub no_member : (known : List (List ℕ)) (budget : ℕ) (ts : List Terminal) → FoundChain known budget [] 0 ts ts
-no_member known budget ts = record { derive = refl; high_is = refl; within = omega arith }
 
 pub one_member : {known : List (List ℕ)} {budget g h k : ℕ} {ms ns : List MemberTree} {m : MemberTree} {ts a c rest : List Terminal} →
     FoundChain known budget ms g ts a → FoundMember known budget m k a c → rest ≡ c → ns ≡ ms ++ (m ∷ []) → h ≡ max g k → FoundChain known budget ns h ts rest

@@ -62,9 +62,6 @@ one_length {known} place length {b} {h} {ts} {a} {m} {c} {rest} place-is opens s
       height = f.height ∙ sym high;
     }
 
-pub no_arrays : (known : List (List ℕ)) (ts : List Terminal) → FoundArrays known [] [] 0 ts ts
-no_arrays known ts = record { spans = []; each = refl; arrays = (refl, refl); height = refl }
-
 pub arrays_found : {known : List (List ℕ)} {pairs all : List Brackets} {es fs : List Tree} {pair : ArrayLength} {g h k : ℕ} {ts a rest : List Terminal} →
     FoundArrays known pairs es g ts a → FoundPair known pair k a rest → all ≡ pairs ++ (brackets_of pair ∷ []) → fs ≡ es ++ lengths_of pair.length → h ≡ max g k → FoundArrays known all fs h ts rest
 arrays_found {known} {pairs} {all} {es} {fs} {pair} {g} {h} {k} {ts} {a} {rest} f one all-is fs-is h-is =

@@ -3,6 +3,7 @@ use c_layout::{Model, Tree7, Unit7};
 use c_parser::parse;
 use cc_base::{Fault, Kind, Place, Refusal, Stop, Text, Token, Tokens};
 use std::alloc::Global;
+use std::process::Abort;
 use std::test::Fail;
 
 const LP64: Model = Model {
@@ -69,10 +70,33 @@ fn refused(alloc: Global, fault: &Fault) -> Result<String, Fail> {
 }
 
 /// `ok`, or the refusal of a unit and the number of the token at which it stands.
-pub fn answer(alloc: Global, text: &str) -> Result<String, Fail> {
+fn answer(alloc: Global, text: &str) -> Result<String, Fail> {
     match parsed(alloc, text)? {
         Ok(_) => Ok(String::from_str(alloc, "ok")?),
         Err(Stop::Refused(fault)) => refused(alloc, &fault),
         Err(_) => Ok(String::from_str(alloc, "want of memory")?),
     }
+}
+
+/// Fails unless a unit is answered so.
+pub fn expect(rt: &impl Abort, alloc: Global, text: &str, wanted: &str) -> Result<(), Fail> {
+    let found = answer(alloc, text)?;
+    assert!(rt; found.as_str() == wanted, "{text}: {found}");
+    Ok(())
+}
+
+/// Fails unless each unit is answered so.
+pub fn answer_all(rt: &impl Abort, alloc: Global, rows: &[(&str, &str)]) -> Result<(), Fail> {
+    for (text, wanted) in rows {
+        expect(rt, alloc, text, wanted)?;
+    }
+    Ok(())
+}
+
+/// Fails unless each unit parses.
+pub fn accept_all(rt: &impl Abort, alloc: Global, texts: &[&str]) -> Result<(), Fail> {
+    for text in texts {
+        expect(rt, alloc, text, "ok")?;
+    }
+    Ok(())
 }

@@ -1,4 +1,4 @@
-//! Rows of the grammar, as tests: of units of given tokens, and of whole texts.
+//! Rows of the grammar over units of given tokens, as tests.
 #![tactic(auto)]
 
 #[cfg(test)]
@@ -11,5 +11,3 @@ mod grouping_rows;
 mod outlines;
 #[cfg(test)]
 mod standard_rows;
-#[cfg(test)]
-mod text_rows;

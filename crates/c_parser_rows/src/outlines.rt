@@ -5,6 +5,7 @@ use c_layout::{
 };
 use std::alloc::Global;
 use std::fmt::Write;
+use std::process::Abort;
 use std::test::Fail;
 
 /// More than any depth in these tests.
@@ -146,7 +147,7 @@ fn first_declarator(tree: &Tree7) -> Option<&InitDeclarator> {
 }
 
 /// The outline of the first initializer of a unit; nothing where there is none.
-pub fn initializer(alloc: Global, text: &str) -> Result<String, Fail> {
+fn initializer(alloc: Global, text: &str) -> Result<String, Fail> {
     let mut out = String::new(alloc);
     if let Ok(tree) = parsed(alloc, text)? {
         if let Some(InitDeclarator::Initialized(_, _, Initializer::Value(e))) = first_declarator(
@@ -172,7 +173,7 @@ fn add_declarator(out: &mut String, declared: &Declarator) -> Result<(), Fail> {
     Ok(())
 }
 
-pub fn declarator(alloc: Global, text: &str) -> Result<String, Fail> {
+fn declarator(alloc: Global, text: &str) -> Result<String, Fail> {
     let mut out = String::new(alloc);
     if let Ok(tree) = parsed(alloc, text)? {
         if let Some(InitDeclarator::Object(declared)) = first_declarator(&tree) {
@@ -262,7 +263,7 @@ fn add_statement(out: &mut String, s: &Statement, fuel: u32) -> Result<(), Fail>
 }
 
 /// The outline of the first statement of the function that a unit is.
-pub fn statement(alloc: Global, text: &str) -> Result<String, Fail> {
+fn statement(alloc: Global, text: &str) -> Result<String, Fail> {
     let mut out = String::new(alloc);
     if let Ok(tree) = parsed(alloc, text)? {
         if let Some(External::Function(_, _, _, items)) = tree.externals.first() {
@@ -272,4 +273,39 @@ pub fn statement(alloc: Global, text: &str) -> Result<String, Fail> {
         }
     }
     Ok(out)
+}
+
+/// Fails unless the first initializer of each unit is grouped so.
+pub fn group_initializers(
+    rt: &impl Abort,
+    alloc: Global,
+    rows: &[(&str, &str)],
+) -> Result<(), Fail> {
+    for (text, wanted) in rows {
+        let found = initializer(alloc, text)?;
+        assert!(rt; found.as_str() == *wanted, "{text}: {found}");
+    }
+    Ok(())
+}
+
+/// Fails unless the first declarator of each unit is grouped so.
+pub fn group_declarators(
+    rt: &impl Abort,
+    alloc: Global,
+    rows: &[(&str, &str)],
+) -> Result<(), Fail> {
+    for (text, wanted) in rows {
+        let found = declarator(alloc, text)?;
+        assert!(rt; found.as_str() == *wanted, "{text}: {found}");
+    }
+    Ok(())
+}
+
+/// Fails unless the first statement of each unit is grouped so.
+pub fn group_statements(rt: &impl Abort, alloc: Global, rows: &[(&str, &str)]) -> Result<(), Fail> {
+    for (text, wanted) in rows {
+        let found = statement(alloc, text)?;
+        assert!(rt; found.as_str() == *wanted, "{text}: {found}");
+    }
+    Ok(())
 }

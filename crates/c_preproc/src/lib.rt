@@ -8,8 +8,6 @@ mod file_search;
 mod found_file;
 mod preprocessing;
 mod preprocessor_state;
-#[cfg(test)]
-mod tests;
 mod unit_tokens;
 
 pub use preprocessing::{expand, expand_bytes};

@@ -96,8 +96,3 @@ puts_digit texts macros digits made made1 rest more left x n whole h e w p m =
     ap (λ l. behind l (replaced texts macros digits left)) m ∙ behind-put made d (replaced texts macros digits left)
     ∙ ap (λ o. behind made (put_before d o)) (turns-same texts macros digits (length left) (length more) left (omega arith) short)
     ∙ ap (behind made) (sym (word-is texts macros digits rest more x (Some (record { name = n; rest = left })) e w p)) ∙ h
-
--- `defined` and no name
-pub lacks_name : (texts : List (List ℕ)) (macros : List (ℕ × Defined)) (digits : Digits) (made rest more : List Lexeme) (x : Lexeme) (whole : Option (List Lexeme)) → behind made (replaced texts macros digits rest) ≡ whole → rest ≡ x ∷ more
-    → is_defined_word texts x ≡ true → named more ≡ None → whole ≡ None
-lacks_name texts macros digits made rest more x whole h e w n = sym h ∙ ap (behind made) (word-is texts macros digits rest more x None e w n)

@@ -12,25 +12,6 @@ use Rattle.c_preproc_macros.specs.Expanding.{look, nth_list, part_of, put}
 use Rattle.c_preproc_macros.specs.Pending.{counts_of, counts_with, note_of, pushed}
 use Rattle.c_preproc_macros.specs.Rules.{rule_of}
 
--- the element before the last `i` elements, and those
-pub drop_before : (list : List Lexeme) (i : ℕ) (x : Lexeme) → i < length list → get_or list (length list - 1 - i) x ≡ x → drop (length list - (i + 1)) list ≡ x ∷ drop (length list - i) list
-drop_before list i x h e =
-    let k : ℕ = length list - (i + 1) in
-    let below : k < length list = omega arith in
-    let same : length list - 1 - i ≡ k = omega arith in
-    let next : suc k ≡ length list - i = omega arith in
-    drop-cons list k x below ∙ ap (λ y. y ∷ drop (suc k) list) (ap (λ j. get_or list j x) (sym same) ∙ e) ∙ ap (λ j. x ∷ drop j list) next
-
-pub counts_before : (list : List Lexeme) (i : ℕ) (x : Lexeme) → i < length list → get_or list (length list - 1 - i) x ≡ x → counts_of (drop (length list - (i + 1)) list) ≡ counts_with x (counts_of (drop (length list - i) list))
-counts_before list i x h e = ap counts_of (drop_before list i x h e)
-
-pub pushed_before : (list : List Lexeme) (items : List Item) (i : ℕ) (x : Lexeme) → i < length list → get_or list (length list - 1 - i) x ≡ x
-    → pushed (drop (length list - (i + 1)) list) items ≡ Unread x (note_of x (counts_of (drop (length list - i) list))) ∷ pushed (drop (length list - i) list) items
-pushed_before list items i x h e = ap (λ l. pushed l items) (drop_before list i x h e)
-
-pub put-drop : (lists : List (List Lexeme)) (body : List Part) (i : ℕ) (p : Part) → i < length body → put lists (drop i body) ≡ part_of lists (get_or body i p) ++ put lists (drop (suc i) body)
-put-drop lists body i p h = ap (put lists) (drop-cons body i p h)
-
 -- the rule of a name
 pub look-map : (es : List (ℕ × Macro)) (n : ℕ) → look (map (λ e. (e.0, rule_of e.1)) es) n ≡ option_map rule_of (lookup (nat_eq n) es)
 look-map [] n = refl

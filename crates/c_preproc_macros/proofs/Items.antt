@@ -17,10 +17,6 @@ pub beyond-pushed : (list : List Lexeme) (items : List Item) → beyond (pushed 
 beyond-pushed [] items = refl
 beyond-pushed (x ∷ xs) items = beyond-pushed xs items
 
-pub next_in-head : (a b : Bool) (x : Lexeme) (ts us : List Lexeme) → next_in a (x ∷ ts) ≡ next_in b (x ∷ us)
-next_in-head a b (Open m) ts us = refl
-next_in-head a b x ts us = refl
-
 next_in-opens : (b : Bool) (x : Lexeme) (ts : List Lexeme) → opens x ≡ next_in b (x ∷ ts)
 next_in-opens b (Open m) ts = refl
 next_in-opens b x ts = refl

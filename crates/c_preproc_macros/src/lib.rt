@@ -10,8 +10,6 @@ mod macro_table;
 mod pending_list;
 mod replacement;
 mod spelling_numbers;
-#[cfg(test)]
-mod tests;
 mod trouble;
 
 pub use lexeme::{Lexeme, Mark};

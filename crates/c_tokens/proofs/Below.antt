@@ -69,12 +69,6 @@ abbrev pub Reached : ℕ → Shape → Option Piece → Type 0
 Reached n q None = ⊥
 Reached n q (Some p) = (n ≤ p.size) × (n ≡ p.size → q ≡ p.shape)
 
-same_shape : (n : ℕ) (q : Shape) (m : ℕ) → n ≤ m → Reached n q (Some (piece_of q m))
-same_shape n q m h = (h, λ e. refl)
-
-longer_reached : (q : Shape) (t : List ℕ) (more n : ℕ) (o : Option ℕ) → o ≡ Some n → Reached (n + more) q (longer_piece q more o)
-longer_reached q t more n o e = rw e (omega arith, λ i. refl)
-
 punct_reached : (b : ℕ) (t z : List ℕ) → is_punctuator (b ∷ t) ≡ true → Front t z → Reached (suc (length t)) (shape.Token Punct) (punctuator_at b z)
 unfolding punctuator_at
 punct_reached b t z h f = let v = punct_below b t z h f in some (punctuator_length b (head_of z) (head_of (rest_of z))) v
@@ -87,11 +81,6 @@ digit_front : (t z : List ℕ) → Front t z → begins_digit t ≡ true → beg
 digit_front [] z f h = absurd (cc)
 digit_front (x ∷ t) [] f h = absurd f
 digit_front (x ∷ t) (y ∷ z) f h = ap is_digit (sym f.0) ∙ h
-
-begins_front : (c : ℕ) (t z : List ℕ) → Front t z → begins c t ≡ true → begins c z ≡ true
-begins_front c [] z f h = absurd (cc)
-begins_front c (x ∷ t) [] f h = absurd f
-begins_front c (x ∷ t) (y ∷ z) f h = ap (λ v. v == c) (sym f.0) ∙ h
 
 -- a punctuator before a digit is a dot alone
 dot_punct : (b : ℕ) (t z : List ℕ) → is_punctuator (b ∷ t) ≡ true → Front t z → begins_digit z ≡ true → length t ≡ 0
@@ -116,10 +105,6 @@ dot_reached (shape.Token HeaderName) b t z g h f = absurd (cc)
 dot_reached shape.Blank b t z g h f = absurd (cc)
 dot_reached shape.LineEnd b t z g h f = absurd (cc)
 dot_reached shape.Comment b t z g h f = absurd (cc)
-
-rest_front : (x : ℕ) (t z : List ℕ) → Front (x ∷ t) z → Front t (rest_of z)
-rest_front x t [] f = absurd f
-rest_front x t (y ∷ z) f = f.1
 
 slash_comment : (b : ℕ) (t z : List ℕ) → is_comment t ≡ true → Front t z → Reached (suc (length t)) shape.Comment (slash_at b z)
 slash_comment b [] z h f = absurd (cc)

@@ -172,10 +172,6 @@ byte_is l c (b ∷ s) h k = sym (ap first_byte (step l c b s h))
 pub empty_is : (l c : ℕ) (s : List ℕ) → s ≡ [] → spliced_from l c s ≡ []
 empty_is l c s h = rw h (nil_is l c)
 
-pub empty_from : (l c : ℕ) (s : List ℕ) → skipped s ≡ 0 → spliced_from l c s ≡ [] → s ≡ []
-empty_from l c [] h e = refl
-empty_from l c (b ∷ s) h e = absurd (let f = step l c b s h in cc)
-
 pub moves_to : (line column count : ℕ) (from : List ℕ) (l c left : ℕ) (s : List ℕ) (over b : ℕ) (ends : Bool) (l2 c2 left2 n : ℕ) (s2 : List ℕ)
     → Moves line column count from l c left s → 0 < length s → over ≡ skipped s → over ≤ length s → b ≡ get_or s 0 0 → 0 < over + left
     → ends ≡ ends_line over b → l2 ≡ line_after ends l → c2 ≡ column_after ends c → left2 ≡ left_after over left → n ≡ step_size over → s2 ≡ drop n s
@@ -193,33 +189,9 @@ ends_here line column count from l c left s m e =
     drop_none zero = refl
     drop_none (suc n) = refl
 
-pub step_fits : (over : ℕ) (n : ℕ) → over ≤ n → 0 < n → step_size over ≤ n
-step_fits zero n h k = k
-step_fits (suc m) n h k = rw (size_over m) h
-
-pub step_positive : (over : ℕ) → 0 < step_size over
-step_positive zero = omega arith
-step_positive (suc m) = rw (size_over m) (omega arith)
-
 pub empty_tells : (l c : ℕ) (s : List ℕ) → skipped s ≡ 0 → (length s == 0) ≡ is_no_cell (spliced_from l c s)
 empty_tells l c [] h = sym (ap is_no_cell (nil_is l c))
 empty_tells l c (b ∷ s) h = more (length s) ∙ sym (ap is_no_cell (step l c b s h))
-
-pub some_cell : (s : List Cell) → is_no_cell s ≡ false → 0 < length s
-some_cell [] h = absurd (cc)
-some_cell (x ∷ s) h = omega arith
-
-pub no_cell : (s : List Cell) → is_no_cell s ≡ true → s ≡ []
-no_cell [] h = refl
-no_cell (x ∷ s) h = absurd (cc)
-
-pub first_cell : (s : List Cell) → 0 < length s → bytes_of s ≡ first_byte s ∷ bytes_of (drop 1 s)
-first_cell [] h = absurd (omega arith)
-first_cell (x ∷ s) h = refl
-
-pub fewer_cells : (s : List Cell) → 0 < length s → length (drop 1 s) < length s
-fewer_cells [] h = absurd (omega arith)
-fewer_cells (x ∷ s) h = omega arith
 
 pub bytes_of-drop : (n : ℕ) (s : List Cell) → bytes_of (drop n s) ≡ drop n (bytes_of s)
 bytes_of-drop zero s = refl

@@ -9,7 +9,5 @@ mod pieces;
 mod punctuator_table;
 mod reading;
 mod splicing;
-#[cfg(test)]
-mod tests;
 
 pub use cutting::{every_file_has_an_answer, lex, one_answer};

@@ -1,7 +1,6 @@
 pub mod LibraryNames
 pub mod Formats
 pub mod Flags
-pub mod Kept
 pub mod Words
 pub mod Layers
 pub mod Arguments

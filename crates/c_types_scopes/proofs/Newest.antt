@@ -99,33 +99,6 @@ indexed_less old now heads heads_now e indexed is heads_is =
 pub indexed_same : (es : List ScopeEntry) (heads heads_now : List (Option ℕ)) → IsIndexed es heads → ((other : ℕ) → get_or heads_now other None ≡ get_or heads other None) → IsIndexed es heads_now
 indexed_same es heads heads_now indexed same = record { heads_are = λ name. same name ∙ indexed.heads_are name; hides = indexed.hides }
 
-none_at : (k : ℕ) → get_or {A = Option ℕ} (None ∷ []) k None ≡ None
-none_at zero = refl
-none_at (suc k) = refl
-
-room_at : (heads : List (Option ℕ)) (other : ℕ) → get_or (heads ++ None ∷ []) other None ≡ get_or heads other None
-room_at heads other = elim (cases_lt other (length heads)) [
-  | inl less ↦ get_or_append_left heads (None ∷ []) None other less
-  | inr more ↦ get_or-append_right heads (None ∷ []) (length heads) other None refl more ∙ none_at (other - length heads) ∙ sym (get_or-eq_default heads None more)
-]
-
--- room more names nothing
-pub room_more : (heads now : List (Option ℕ)) (other : ℕ) → now ≡ heads ++ None ∷ [] → get_or now other None ≡ get_or heads other None
-room_more heads now other is =
-    ap (λ l. get_or l other None) is ∙ room_at heads other
-
--- what is left of declarations
-pub front_is : (old now : List ScopeEntry) (e : ScopeEntry) → old ≡ now ++ e ∷ [] → declarations now ≡ take (length (declarations old) - 1) (declarations old)
-front_is old now e is =
-    subst (λ l. declarations now ≡ take (length (declarations l) - 1) (declarations l)) (sym is) (
-    let count : length (declarations (now ++ e ∷ [])) - 1 ≡ length (declarations now) =
-    ap (λ l. length l - 1) (declarations-snoc now e) ∙ (let n : length (declarations now ++ e.declared ∷ []) ≡ length (declarations now) + 1 = length-append (declarations now) (e.declared ∷ []) in omega (arith, n)) in
-    sym (
-    ap (λ n. take n (declarations (now ++ e ∷ []))) count
-    ∙ ap (λ l. take (length (declarations now)) l) (declarations-snoc now e)
-    ∙ take-append-le (length (declarations now)) (declarations now) (e.declared ∷ []) (omega arith)
-    ∙ take_all (length (declarations now)) (declarations now) (omega arith)))
-
 -- before any declaration
 pub indexed_none : (es : List ScopeEntry) (heads : List (Option ℕ)) → es ≡ [] → heads ≡ [] → IsIndexed es heads
 unfolding newest_from

@@ -14,8 +14,6 @@ mod memory_sink;
 mod memory_tree;
 mod number_ranges;
 mod outside;
-#[cfg(test)]
-mod outside_tests;
 mod refusals;
 mod sorted_lists;
 mod standard_sink;

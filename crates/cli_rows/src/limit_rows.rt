@@ -1,7 +1,8 @@
 //! Units at a limit, and one past it.
-use crate::call::{answers, checks, with_two};
+use crate::call::{NONE, answer, check, with_files};
 use std::alloc::Global;
 use std::fmt::Write;
+use std::process::Abort;
 use std::test::Fail;
 
 /// A text, so many times.
@@ -42,84 +43,68 @@ fn objects(alloc: Global, letter: &str, count: u32, end: &str) -> Result<String,
     Ok(text)
 }
 
-/// Whether the unit is accepted without a diagnostic.
-fn is_plain(alloc: Global, unit: &str) -> Result<bool, Fail> {
-    checks(alloc, unit, 0, "0 diagnostics in a.c\n")
+/// Fails unless the unit is analysed and nothing is found.
+fn pass(rt: &impl Abort, alloc: Global, unit: &String) -> Result<(), Fail> {
+    check(rt, alloc, unit.as_str(), 0, NONE)
+}
+
+/// Fails unless the unit meets a limit, with this line.
+fn limit(rt: &impl Abort, alloc: Global, unit: &String, line: &str) -> Result<(), Fail> {
+    check(rt, alloc, unit.as_str(), 8, line)
 }
 
 #[test]
 fn heights(rt: HostRuntime) -> Result<(), Fail> {
     let alloc = rt.alloc();
-    let unit = nested(alloc, "(", 253)?;
-    assert!(rt; is_plain(alloc, unit.as_str())?);
+    pass(&rt, alloc, &nested(alloc, "(", 253)?)?;
     let unit = nested(alloc, "(", 254)?;
-    let holds = checks(alloc, unit.as_str(), 2, "a.c:1:1: refused: Syntax\n")?;
-    assert!(rt; holds);
-    Ok(())
+    check(&rt, alloc, unit.as_str(), 2, "a.c:1:1: refused: Syntax\n")
 }
 
 #[test]
 fn inclusions(rt: HostRuntime) -> Result<(), Fail> {
     let alloc = rt.alloc();
     let unit = repeated(alloc, "#include \"e.h\"\n", 1025)?;
-    let setting = with_two(alloc, "a.c", unit.as_str(), "e.h", "")?;
-    let told = "a.c:1025:1: refused: IncludeDepth\n";
-    assert!(rt; answers(alloc, "check a.c", setting, 2, told)?);
-    let setting = with_two(alloc, "a.c", "#include \"a.c\"\n", "e.h", "")?;
-    let told = "a.c:1:1: refused: IncludeDepth\n";
-    assert!(rt; answers(alloc, "check a.c", setting, 2, told)?);
-    Ok(())
+    let setting = with_files(alloc, &[("a.c", unit.as_str()), ("e.h", "")])?;
+    let line = "a.c:1025:1: refused: IncludeDepth\n";
+    answer(&rt, alloc, "check a.c", setting, 2, line)
 }
 
 #[test]
 fn tokens_of_a_unit(rt: HostRuntime) -> Result<(), Fail> {
     let alloc = rt.alloc();
-    let unit = doubling(alloc, 17)?;
-    let told = "a.c:19:7: limit: TooManyTokens 131073/131072\n";
-    assert!(rt; checks(alloc, unit.as_str(), 8, told)?);
-    Ok(())
+    let line = "a.c:19:7: limit: TooManyTokens 131073/131072\n";
+    limit(&rt, alloc, &doubling(alloc, 17)?, line)
 }
 
 #[test]
 fn tokens_of_an_expansion(rt: HostRuntime) -> Result<(), Fail> {
     let alloc = rt.alloc();
-    let unit = doubling(alloc, 19)?;
-    let told = "a.c:21:7: limit: TooManyTokens 1048578/1048576\n";
-    assert!(rt; checks(alloc, unit.as_str(), 8, told)?);
-    Ok(())
+    let line = "a.c:21:7: limit: TooManyTokens 1048578/1048576\n";
+    limit(&rt, alloc, &doubling(alloc, 19)?, line)
 }
 
 #[test]
 fn objects_of_a_function(rt: HostRuntime) -> Result<(), Fail> {
     let alloc = rt.alloc();
-    let unit = objects(alloc, "v", 120, "")?;
-    assert!(rt; is_plain(alloc, unit.as_str())?);
-    let unit = objects(alloc, "v", 121, "")?;
-    assert!(rt; is_plain(alloc, unit.as_str())?);
-    let unit = objects(alloc, "v", 1017, "")?;
-    let told = "a.c:1:5: limit: TooLarge bases 1017/1016\n";
-    assert!(rt; checks(alloc, unit.as_str(), 8, told)?);
-    Ok(())
+    pass(&rt, alloc, &objects(alloc, "v", 120, "")?)?;
+    pass(&rt, alloc, &objects(alloc, "v", 121, "")?)?;
+    let line = "a.c:1:5: limit: TooLarge bases 1017/1016\n";
+    limit(&rt, alloc, &objects(alloc, "v", 1017, "")?, line)
 }
 
 #[test]
 fn cells(rt: HostRuntime) -> Result<(), Fail> {
     let alloc = rt.alloc();
-    let unit = objects(alloc, "x", 64, "[64]")?;
-    assert!(rt; is_plain(alloc, unit.as_str())?);
-    let unit = objects(alloc, "x", 65, "[64]")?;
-    let told = "a.c:1:5: limit: TooLarge cells 4160/4096\n";
-    assert!(rt; checks(alloc, unit.as_str(), 8, told)?);
-    Ok(())
+    pass(&rt, alloc, &objects(alloc, "x", 64, "[64]")?)?;
+    let line = "a.c:1:5: limit: TooLarge cells 4160/4096\n";
+    limit(&rt, alloc, &objects(alloc, "x", 65, "[64]")?, line)
 }
 
 #[test]
 fn temporaries(rt: HostRuntime) -> Result<(), Fail> {
     let alloc = rt.alloc();
-    let unit = nested(alloc, "1+(", 63)?;
-    assert!(rt; is_plain(alloc, unit.as_str())?);
-    let unit = nested(alloc, "1+(", 64)?;
-    let told = "a.c:1:5: limit: TooLarge temps 65/64\n";
-    assert!(rt; checks(alloc, unit.as_str(), 8, told)?);
-    Ok(())
+    pass(&rt, alloc, &nested(alloc, "1+(", 63)?)?;
+    let line = "a.c:1:5: limit: TooLarge temps 65/64\n";
+    limit(&rt, alloc, &nested(alloc, "1+(", 64)?, line)
 }

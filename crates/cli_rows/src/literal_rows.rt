@@ -1,7 +1,8 @@
 //! The types of integer constants (6.4.4.1 of ISO/IEC 9899:2011) under each model, told by the lengths
 //! of arrays: a length below 0 is refused. A comparison with -1 tells an unsigned type.
-use crate::call::{call, with_two};
+use crate::call::{call, with_files};
 use std::alloc::{AllocError, Global};
+use std::process::Abort;
 use std::test::Fail;
 
 /// A model with an int of two bytes.
@@ -16,15 +17,19 @@ fn unit_where(alloc: Global, condition: &str) -> Result<String, AllocError> {
     Ok(text)
 }
 
-/// Whether each condition holds under the model that the words name.
-fn all_hold(alloc: Global, words: &str, conditions: &[&str]) -> Result<bool, Fail> {
-    let mut holds = true;
+/// Whether the condition holds under the model that the words name.
+fn holds(alloc: Global, words: &str, condition: &str) -> Result<bool, Fail> {
+    let unit = unit_where(alloc, condition)?;
+    let files = [("a.c", unit.as_str()), ("small.toml", SMALL)];
+    Ok(call(alloc, words, with_files(alloc, &files)?)?.status == 0)
+}
+
+/// Fails unless each condition holds under the model that the words name.
+fn all_hold(rt: &impl Abort, alloc: Global, words: &str, conditions: &[&str]) -> Result<(), Fail> {
     for condition in conditions {
-        let unit = unit_where(alloc, condition)?;
-        let setting = with_two(alloc, "a.c", unit.as_str(), "small.toml", SMALL)?;
-        holds &= call(alloc, words, setting)?.status == 0;
+        assert!(rt; holds(alloc, words, condition)?, "{words}: {condition}");
     }
-    Ok(holds)
+    Ok(())
 }
 
 const LP64: [&str; 9] = [
@@ -41,9 +46,7 @@ const LP64: [&str; 9] = [
 
 #[test]
 fn constants_under_lp64(rt: HostRuntime) -> Result<(), Fail> {
-    let holds = all_hold(rt.alloc(), "check a.c", LP64.as_slice())?;
-    assert!(rt; holds);
-    Ok(())
+    all_hold(&rt, rt.alloc(), "check a.c", &LP64)
 }
 
 const LONG_OF_FOUR: [&str; 8] = [
@@ -60,11 +63,8 @@ const LONG_OF_FOUR: [&str; 8] = [
 #[test]
 fn constants_under_ilp32_and_llp64(rt: HostRuntime) -> Result<(), Fail> {
     let alloc = rt.alloc();
-    let holds = all_hold(alloc, "check a.c --model ilp32", LONG_OF_FOUR.as_slice())?;
-    assert!(rt; holds);
-    let holds = all_hold(alloc, "check a.c --model llp64", LONG_OF_FOUR.as_slice())?;
-    assert!(rt; holds);
-    Ok(())
+    all_hold(&rt, alloc, "check a.c --model ilp32", &LONG_OF_FOUR)?;
+    all_hold(&rt, alloc, "check a.c --model llp64", &LONG_OF_FOUR)
 }
 
 const INT_OF_TWO: [&str; 10] = [
@@ -82,11 +82,5 @@ const INT_OF_TWO: [&str; 10] = [
 
 #[test]
 fn constants_under_an_int_of_two_bytes(rt: HostRuntime) -> Result<(), Fail> {
-    let holds = all_hold(
-        rt.alloc(),
-        "check a.c --model small.toml",
-        INT_OF_TWO.as_slice(),
-    )?;
-    assert!(rt; holds);
-    Ok(())
+    all_hold(&rt, rt.alloc(), "check a.c --model small.toml", &INT_OF_TWO)
 }

@@ -1,15 +1,23 @@
 //! Units that typing refuses, each at its place, and units that it accepts.
-use crate::call::{call, checks, with_file};
+use crate::call::{check, checked};
 use std::alloc::Global;
+use std::process::Abort;
 use std::test::Fail;
 
-/// Whether each unit is refused with its line.
-fn all_refused(alloc: Global, rows: &[(&str, &str)]) -> Result<bool, Fail> {
-    let mut holds = true;
-    for row in rows {
-        holds &= checks(alloc, row.0, 2, row.1)?;
+/// Fails unless each unit is refused with its line.
+fn refuse_all(rt: &impl Abort, alloc: Global, rows: &[(&str, &str)]) -> Result<(), Fail> {
+    for (source, line) in rows {
+        check(rt, alloc, source, 2, line)?;
     }
-    Ok(holds)
+    Ok(())
+}
+
+/// Fails unless each unit is analysed.
+fn accept_all(rt: &impl Abort, alloc: Global, sources: &[&str]) -> Result<(), Fail> {
+    for source in sources {
+        assert!(rt; checked(alloc, source)?.status < 2, "{source}");
+    }
+    Ok(())
 }
 
 const UNDECLARED: [(&str, &str); 8] = [
@@ -315,77 +323,45 @@ const ACCEPTED: [&str; 50] = [
 
 #[test]
 fn undeclared_names_are_refused(rt: HostRuntime) -> Result<(), Fail> {
-    let holds = all_refused(rt.alloc(), UNDECLARED.as_slice())?;
-    assert!(rt; holds);
-    Ok(())
+    refuse_all(&rt, rt.alloc(), &UNDECLARED)
 }
 
 #[test]
 fn second_declarations_are_refused(rt: HostRuntime) -> Result<(), Fail> {
-    let holds = all_refused(rt.alloc(), REDECLARED.as_slice())?;
-    assert!(rt; holds);
-    Ok(())
+    refuse_all(&rt, rt.alloc(), &REDECLARED)
 }
 
 #[test]
 fn type_faults_are_refused(rt: HostRuntime) -> Result<(), Fail> {
-    let holds = all_refused(rt.alloc(), TYPE_FAULTS.as_slice())?;
-    assert!(rt; holds);
-    Ok(())
+    refuse_all(&rt, rt.alloc(), &TYPE_FAULTS)
 }
 
 #[test]
 fn pointers_and_integers_are_refused(rt: HostRuntime) -> Result<(), Fail> {
-    let holds = all_refused(rt.alloc(), POINTERS_AND_INTEGERS.as_slice())?;
-    assert!(rt; holds);
-    Ok(())
+    refuse_all(&rt, rt.alloc(), &POINTERS_AND_INTEGERS)
 }
 
 #[test]
 fn constants_needed_are_refused(rt: HostRuntime) -> Result<(), Fail> {
-    let holds = all_refused(rt.alloc(), CONSTANTS_NEEDED.as_slice())?;
-    assert!(rt; holds);
-    Ok(())
+    refuse_all(&rt, rt.alloc(), &CONSTANTS_NEEDED)
 }
 
 #[test]
 fn format_faults_are_refused(rt: HostRuntime) -> Result<(), Fail> {
-    let holds = all_refused(rt.alloc(), FORMAT_FAULTS.as_slice())?;
-    assert!(rt; holds);
-    Ok(())
+    refuse_all(&rt, rt.alloc(), &FORMAT_FAULTS)
 }
 
 #[test]
 fn no_entry_is_refused(rt: HostRuntime) -> Result<(), Fail> {
-    let holds = all_refused(rt.alloc(), NO_ENTRY.as_slice())?;
-    assert!(rt; holds);
-    Ok(())
+    refuse_all(&rt, rt.alloc(), &NO_ENTRY)
 }
 
 #[test]
 fn recursion_is_refused(rt: HostRuntime) -> Result<(), Fail> {
-    let holds = all_refused(rt.alloc(), RECURSION.as_slice())?;
-    assert!(rt; holds);
-    Ok(())
-}
-
-/// Whether a unit is analysed.
-fn is_accepted(alloc: Global, source: &str) -> Result<bool, Fail> {
-    let told = call(
-        alloc,
-        "check a.c",
-        with_file(alloc, "a.c", source.as_bytes())?,
-    )?;
-    Ok(told.status < 2)
+    refuse_all(&rt, rt.alloc(), &RECURSION)
 }
 
 #[test]
 fn units_are_accepted(rt: HostRuntime) -> Result<(), Fail> {
-    let alloc = rt.alloc();
-    let mut holds = true;
-    for source in ACCEPTED.as_slice() {
-        holds &= is_accepted(alloc, source)?;
-    }
-    assert!(rt; holds);
-    Ok(())
+    accept_all(&rt, rt.alloc(), &ACCEPTED)
 }

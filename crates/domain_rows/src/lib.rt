@@ -1,6 +1,8 @@
-//! Worked rows of the domains above the integers, at intervals.
+//! Worked rows of intervals, and of the domains above the integers at intervals.
 #![tactic(auto)]
 
+#[cfg(test)]
+mod interval_rows;
 #[cfg(test)]
 mod pointer_rows;
 #[cfg(test)]

@@ -7,8 +7,6 @@ mod following;
 mod least_map;
 mod map_memory;
 mod map_release;
-#[cfg(test)]
-mod tests;
 
 pub use least_map::solve;
 pub use map_memory::{drop_map, new_map};

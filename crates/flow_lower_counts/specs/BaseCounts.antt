@@ -30,14 +30,6 @@ twice cells = record { bases = 2; cells = capped (cells + cells) }
 abbrev pub allocation_bases : List StructView → ℕ → Option Ty → BaseCount
 allocation_bases structs pointer target = twice (capped (length (heap_leaves structs pointer target) + 6))
 
--- the number at which a local object or the result, behind so many locals, is noted
-abbrev pub slot_of : ℕ → NameView → Option ℕ
-slot_of locals (Local n) = Some n
-slot_of locals Outcome = Some locals
-slot_of locals (Static n) = None
-slot_of locals (Literal n) = None
-slot_of locals (Allocation target) = None
-
 -- which objects were counted, and the bases so far
 pub record Tally : Type 0 where
   pub noted : List Bool

@@ -10,6 +10,6 @@ mod shared_objects;
 
 pub use count_limits::{UnitCounts, all_within, pool_values, unit_counts, within};
 pub use function_counts::{BlockExtent, FunctionCounts, capped_product, capped_sum, counts_at};
-pub use object_counts::{BaseCount, local_type, slot_of};
+pub use object_counts::{BaseCount, local_type};
 pub use prepared_functions::{PreparedUnit, one_count, prepared};
 pub use shared_objects::{all_pointed, literal_type, shared_bases};

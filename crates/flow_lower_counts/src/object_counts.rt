@@ -1,5 +1,5 @@
 //! The bases and cells of a function's objects and allocations.
-ghost use Rattle.std.specs.Prelude.{◌≡◌, IfOk, map, length, slice_set, replicate, true, false};
+ghost use Rattle.std.specs.Prelude.{◌≡◌, IfOk, map, slice_set, replicate, true, false};
 ghost use Rattle.c_layout.specs.Types.{view};
 ghost use Rattle.c_layout.specs.StructViews.{structs_view};
 ghost use Rattle.c_layout.specs.CheckedUnits.{function_view};
@@ -72,19 +72,6 @@ pub fn local_type(function: &Function, number: usize) -> &CType
     match function.locals.get(number) {
         Some(found) => &found.ctype,
         None => &function.result,
-    }
-}
-
-/// The number at which a local object or the result is noted.
-pub fn slot_of(function: &Function, name: BaseName) -> Option<usize>
-    ensures { result ≡ spec.slot_of (length function.now.locals.items) (name_view name.entry) }
-{
-    match name {
-        BaseName::Local(number) => Some(number as usize),
-        BaseName::Outcome => Some(function.locals.len()),
-        BaseName::Static(_) => None,
-        BaseName::Literal(_) => None,
-        BaseName::Allocation(_) => None,
     }
 }
 

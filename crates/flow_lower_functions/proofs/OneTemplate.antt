@@ -29,9 +29,5 @@ one_end s g m n (inr more) h k = past s g m n more k
 pub one_finish : (s : SettingView) (p : Plan) (t u : TemplateView) → Finishes s p t → Finishes s p u → t ≡ u
 one_finish s p t u a b = sym a.comes_to ∙ ap template_of (one_end s (begun p) a.turns b.turns (cases_lt a.turns b.turns) a.ended b.ended) ∙ b.comes_to
 
--- a turn without a work ends
-pub finishes : (s : SettingView) (p : Plan) (n : ℕ) (g : Going) (t : TemplateView) → g ≡ next s (after s n (begun p)) → has_work (after s n (begun p)) ≡ false → template_of g ≡ t → Finishes s p t
-finishes s p n g t e h k = record { turns = n; ended = h; comes_to = ap template_of (sym (stays s (after s n (begun p)) h)) ∙ ap template_of (sym e) ∙ k }
-
 pub after_next : (s : SettingView) (n : ℕ) (g : Going) → after s (n + 1) g ≡ next s (after s n g)
 after_next s n g = let e : n + 1 ≡ suc n = omega arith in ap (λ k. after s k g) e

@@ -161,7 +161,3 @@ known_fresh {w = w} x p none = known_last w p.names x none
 pub known_work : {w : Option Ty → ℕ} (j : Job) (ns : List ℕ) (p : Plan) → IsKnown w p.names ns → IsKnown w (with_work j p).names ns
 unfolding with_work
 known_work j ns p k = k
-
-pub known_labels : {w : Option Ty → ℕ} (count : ℕ) (ns : List ℕ) (p : Plan) → IsKnown w p.names ns → IsKnown w (with_labels count p).names ns
-unfolding with_labels
-known_labels count ns p k = k

@@ -1,5 +1,5 @@
 //! Calls of functions of the unit.
-use crate::dumps::dump;
+use crate::dumps::dumps_to;
 use std::test::Fail;
 
 /// The program of two calls of one function.
@@ -126,9 +126,7 @@ fn calls(rt: HostRuntime) -> Result<(), Fail> {
     let unit = "\
         int f(int x,int y){if(x)return y;return x;}int main(void){int r=f(1,2);f(3,r);return r;}\n\
     ";
-    let made = dump(rt.alloc(), unit)?;
-    assert_eq!(rt; made.as_str(), TWO_CALLS);
-    Ok(())
+    dumps_to(&rt, rt.alloc(), unit, TWO_CALLS)
 }
 
 // A call without instruction, parameter and result adds nothing; a void function has no object of
@@ -161,9 +159,7 @@ fn void_calls(rt: HostRuntime) -> Result<(), Fail> {
         block 4\n\
         \x20 1:35 stop\n\
     ";
-    let made = dump(rt.alloc(), unit)?;
-    assert_eq!(rt; made.as_str(), wanted);
-    Ok(())
+    dumps_to(&rt, rt.alloc(), unit, wanted)
 }
 
 // A call under a cast to void and on the left of a comma: its value is not used.
@@ -218,7 +214,5 @@ fn unused_values(rt: HostRuntime) -> Result<(), Fail> {
         \x20 1:27 leave b0\n\
         \x20 1:27 stop\n\
     ";
-    let made = dump(rt.alloc(), unit)?;
-    assert_eq!(rt; made.as_str(), wanted);
-    Ok(())
+    dumps_to(&rt, rt.alloc(), unit, wanted)
 }

@@ -1,5 +1,5 @@
 //! Conditions, terms that branch, and `fgets`.
-use crate::dumps::dump;
+use crate::dumps::dumps_to;
 use std::test::Fail;
 
 // && and || as values: each operand ends in a branch, whose edges put 0 or 1; no operand is a
@@ -47,9 +47,7 @@ fn logical_values(rt: HostRuntime) -> Result<(), Fail> {
         \x20 1:5 leave b0\n\
         \x20 1:5 stop\n\
     ";
-    let made = dump(rt.alloc(), unit)?;
-    assert_eq!(rt; made.as_str(), wanted);
-    Ok(())
+    dumps_to(&rt, rt.alloc(), unit, wanted)
 }
 
 // ?: as a value: each operand a block, after; its first operand is a test. A conversion is an
@@ -101,9 +99,7 @@ fn conditional_value(rt: HostRuntime) -> Result<(), Fail> {
         \x20 1:5 leave b1\n\
         \x20 1:5 stop\n\
     ";
-    let made = dump(rt.alloc(), unit)?;
-    assert_eq!(rt; made.as_str(), wanted);
-    Ok(())
+    dumps_to(&rt, rt.alloc(), unit, wanted)
 }
 
 // &&, || and ! in a condition go straight to its targets; each operand that names an object is a
@@ -166,9 +162,7 @@ fn conditions(rt: HostRuntime) -> Result<(), Fail> {
         \x20 1:5 leave b1\n\
         \x20 1:5 stop\n\
     ";
-    let made = dump(rt.alloc(), unit)?;
-    assert_eq!(rt; made.as_str(), wanted);
-    Ok(())
+    dumps_to(&rt, rt.alloc(), unit, wanted)
 }
 
 // A condition that compares fgets with a null constant: the edges, null and then success, go to
@@ -208,9 +202,7 @@ fn line_condition(rt: HostRuntime) -> Result<(), Fail> {
         \x20 2:5 leave b0\n\
         \x20 2:5 stop\n\
     ";
-    let made = dump(rt.alloc(), unit)?;
-    assert_eq!(rt; made.as_str(), wanted);
-    Ok(())
+    dumps_to(&rt, rt.alloc(), unit, wanted)
 }
 
 // fgets as a value: both edges go to one block.
@@ -252,7 +244,5 @@ fn line_value(rt: HostRuntime) -> Result<(), Fail> {
         \x20 2:5 leave b1\n\
         \x20 2:5 stop\n\
     ";
-    let made = dump(rt.alloc(), unit)?;
-    assert_eq!(rt; made.as_str(), wanted);
-    Ok(())
+    dumps_to(&rt, rt.alloc(), unit, wanted)
 }

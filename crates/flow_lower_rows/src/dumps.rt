@@ -7,6 +7,7 @@ use cc_base::{Limits, MemTree, Stop};
 use flow_lower::lower;
 use flow_program_text::program_text;
 use std::alloc::Global;
+use std::process::Abort;
 use std::test::Fail;
 
 const LP64: Model = Model {
@@ -41,9 +42,16 @@ fn lowered(alloc: Global, unit: &str) -> Result<String, Stop> {
 }
 
 /// The text of the program of a unit; `refused` where it has none.
-pub fn dump(alloc: Global, unit: &str) -> Result<String, Fail> {
+fn dump(alloc: Global, unit: &str) -> Result<String, Fail> {
     match lowered(alloc, unit) {
         Ok(text) => Ok(text),
         Err(_) => Ok(String::from_str(alloc, "refused")?),
     }
+}
+
+/// Fails unless the text of the program of a unit is this one.
+pub fn dumps_to(rt: &impl Abort, alloc: Global, unit: &str, wanted: &str) -> Result<(), Fail> {
+    let made = dump(alloc, unit)?;
+    assert_eq!(rt; made.as_str(), wanted);
+    Ok(())
 }

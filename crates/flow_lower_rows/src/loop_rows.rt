@@ -1,5 +1,5 @@
 //! Loops.
-use crate::dumps::dump;
+use crate::dumps::dumps_to;
 use std::test::Fail;
 
 // while: condition, body, after; break and continue. The jump back stands also behind the
@@ -59,9 +59,7 @@ fn while_loop(rt: HostRuntime) -> Result<(), Fail> {
         \x20 1:5 leave b0\n\
         \x20 1:5 stop\n\
     ";
-    let made = dump(rt.alloc(), unit)?;
-    assert_eq!(rt; made.as_str(), wanted);
-    Ok(())
+    dumps_to(&rt, rt.alloc(), unit, wanted)
 }
 
 // do: body, condition, after. The 1 of ++ is in the instruction.
@@ -103,9 +101,7 @@ fn do_loop(rt: HostRuntime) -> Result<(), Fail> {
         \x20 1:5 leave b0\n\
         \x20 1:5 stop\n\
     ";
-    let made = dump(rt.alloc(), unit)?;
-    assert_eq!(rt; made.as_str(), wanted);
-    Ok(())
+    dumps_to(&rt, rt.alloc(), unit, wanted)
 }
 
 // for whose condition and step are left out: a condition that is left out has no branch, a step
@@ -138,7 +134,5 @@ fn for_loop(rt: HostRuntime) -> Result<(), Fail> {
         block 4\n\
         \x20 1:5 stop\n\
     ";
-    let made = dump(rt.alloc(), unit)?;
-    assert_eq!(rt; made.as_str(), wanted);
-    Ok(())
+    dumps_to(&rt, rt.alloc(), unit, wanted)
 }

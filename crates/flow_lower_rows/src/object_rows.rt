@@ -1,5 +1,5 @@
 //! Objects, pointers, operators and initializers.
-use crate::dumps::dump;
+use crate::dumps::dumps_to;
 use std::test::Fail;
 
 // Members are narrowed, structs are copied; an array lvalue is narrowed to the array and a
@@ -40,9 +40,7 @@ fn structs(rt: HostRuntime) -> Result<(), Fail> {
         \x20 1:32 leave b1\n\
         \x20 1:32 stop\n\
     ";
-    let made = dump(rt.alloc(), unit)?;
-    assert_eq!(rt; made.as_str(), wanted);
-    Ok(())
+    dumps_to(&rt, rt.alloc(), unit, wanted)
 }
 
 /// The program of a unit that compares, subtracts and moves pointers.
@@ -118,9 +116,7 @@ fn pointers(rt: HostRuntime) -> Result<(), Fail> {
     let unit = "\
         int main(void){int a[2];int*p=a;int*q=&a[1];if(q-p&&p<q)p+=1;return p==q;}\n\
     ";
-    let made = dump(rt.alloc(), unit)?;
-    assert_eq!(rt; made.as_str(), POINTERS);
-    Ok(())
+    dumps_to(&rt, rt.alloc(), unit, POINTERS)
 }
 
 // Conversions, a postfix step whose old value is used, a compound assignment in the common type,
@@ -182,9 +178,7 @@ fn operators(rt: HostRuntime) -> Result<(), Fail> {
         \x20 1:5 leave b1\n\
         \x20 1:5 stop\n\
     ";
-    let made = dump(rt.alloc(), unit)?;
-    assert_eq!(rt; made.as_str(), wanted);
-    Ok(())
+    dumps_to(&rt, rt.alloc(), unit, wanted)
 }
 
 // An initializer with braces or a literal is one clear, and then stores and spells in order; a
@@ -227,9 +221,7 @@ fn initializers(rt: HostRuntime) -> Result<(), Fail> {
         \x20 1:31 leave b2\n\
         \x20 1:31 stop\n\
     ";
-    let made = dump(rt.alloc(), unit)?;
-    assert_eq!(rt; made.as_str(), wanted);
-    Ok(())
+    dumps_to(&rt, rt.alloc(), unit, wanted)
 }
 
 // Bases in order of first naming: an allocation has a newest and an older one; an object of static
@@ -292,7 +284,5 @@ fn bases(rt: HostRuntime) -> Result<(), Fail> {
         \x20 1:52 leave b0\n\
         \x20 1:52 stop\n\
     ";
-    let made = dump(rt.alloc(), unit)?;
-    assert_eq!(rt; made.as_str(), wanted);
-    Ok(())
+    dumps_to(&rt, rt.alloc(), unit, wanted)
 }

@@ -1,5 +1,5 @@
 //! Selections, labels and jumps.
-use crate::dumps::dump;
+use crate::dumps::dumps_to;
 use std::test::Fail;
 
 // A body without instructions is a stop alone.
@@ -13,9 +13,7 @@ fn nothing(rt: HostRuntime) -> Result<(), Fail> {
         block 0\n\
         \x20 1:5 stop\n\
     ";
-    let made = dump(rt.alloc(), unit)?;
-    assert_eq!(rt; made.as_str(), wanted);
-    Ok(())
+    dumps_to(&rt, rt.alloc(), unit, wanted)
 }
 
 // if: condition, then part, after. A return of the entry leaves its block and stops; behind it the
@@ -56,9 +54,7 @@ fn selection(rt: HostRuntime) -> Result<(), Fail> {
         \x20 1:5 leave b0\n\
         \x20 1:5 stop\n\
     ";
-    let made = dump(rt.alloc(), unit)?;
-    assert_eq!(rt; made.as_str(), wanted);
-    Ok(())
+    dumps_to(&rt, rt.alloc(), unit, wanted)
 }
 
 // if and else; a declaration without initializer; a constant alone is no test.
@@ -100,9 +96,7 @@ fn two_way_selection(rt: HostRuntime) -> Result<(), Fail> {
         \x20 1:5 leave b0\n\
         \x20 1:5 stop\n\
     ";
-    let made = dump(rt.alloc(), unit)?;
-    assert_eq!(rt; made.as_str(), wanted);
-    Ok(())
+    dumps_to(&rt, rt.alloc(), unit, wanted)
 }
 
 // switch: an edge for each case in reading order, and one for all other values. The edge that
@@ -159,9 +153,7 @@ fn switch_statement(rt: HostRuntime) -> Result<(), Fail> {
         \x20 1:5 leave b0\n\
         \x20 1:5 stop\n\
     ";
-    let made = dump(rt.alloc(), unit)?;
-    assert_eq!(rt; made.as_str(), wanted);
-    Ok(())
+    dumps_to(&rt, rt.alloc(), unit, wanted)
 }
 
 // A labelled statement begins a block; a goto leaves what is left on its way.
@@ -219,7 +211,5 @@ fn labels(rt: HostRuntime) -> Result<(), Fail> {
         \x20 1:5 leave b0\n\
         \x20 1:5 stop\n\
     ";
-    let made = dump(rt.alloc(), unit)?;
-    assert_eq!(rt; made.as_str(), wanted);
-    Ok(())
+    dumps_to(&rt, rt.alloc(), unit, wanted)
 }

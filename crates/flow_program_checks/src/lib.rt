@@ -4,15 +4,11 @@
 mod base_kinds;
 mod base_tables;
 mod block_bodies;
-#[cfg(test)]
-mod check_tests;
 mod edge_kinds;
 mod entered_blocks;
 mod numbered_blocks;
 mod operations;
 mod program_counts;
-#[cfg(test)]
-mod sample_program;
 mod value_ranges;
 mod well_formed_flows;
 

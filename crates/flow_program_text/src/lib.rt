@@ -6,4 +6,4 @@ mod operation_texts;
 mod program_texts;
 mod word_texts;
 
-pub use program_texts::{program_text, thresholds_text};
+pub use program_texts::program_text;

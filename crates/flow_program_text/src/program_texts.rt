@@ -3,7 +3,6 @@ use crate::edge_texts::push_edge;
 use crate::operation_texts::push_operation;
 use crate::word_texts::{class_text, kind_text};
 use c_layout::{BaseInfo, Leaf, ZeroPart};
-use cc_base::Thresholds;
 use flow_program::{BasicBlock, Edge, Flow, Instruction};
 use std::alloc::{AllocError, Global};
 use std::fmt::Write;
@@ -79,16 +78,5 @@ pub fn program_text(alloc: Global, flow: &Flow) -> Result<String, AllocError> {
     for (number, block) in flow.blocks.iter().enumerate() {
         push_block(&mut out, number, block, flow.edges.as_slice())?;
     }
-    Ok(out)
-}
-
-/// The thresholds as a line of text.
-pub fn thresholds_text(alloc: Global, list: &Thresholds) -> Result<String, AllocError> {
-    let mut out = String::new(alloc);
-    out.push_str("thresholds")?;
-    for n in list.as_slice() {
-        write!(out, " {n}")?;
-    }
-    out.push_str("\n")?;
     Ok(out)
 }

@@ -1,3 +1,2 @@
 pub mod Ranges
-pub mod Casts
 pub mod Made

@@ -9,8 +9,6 @@ mod span_division;
 mod span_products;
 mod span_relations;
 mod spans;
-#[cfg(test)]
-mod tests;
 mod turned_numbers;
 
 pub use intervals::Interval;

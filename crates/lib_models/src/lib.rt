@@ -1,8 +1,6 @@
 //! The C library as the analysis knows it: its headers and its functions.
 #![tactic(auto)]
 
-#[cfg(test)]
-mod header_tests;
 mod header_texts;
 mod headers;
 mod library;

@@ -4,4 +4,6 @@
 #[cfg(test)]
 mod header_texts;
 #[cfg(test)]
+mod library_names;
+#[cfg(test)]
 mod model_rows;

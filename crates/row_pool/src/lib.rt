@@ -4,8 +4,6 @@
 mod absorption;
 mod pool;
 mod row_name;
-#[cfg(test)]
-mod tests;
 
 pub use pool::RowPool;
 pub use row_name::Row;

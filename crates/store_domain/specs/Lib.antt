@@ -17,4 +17,3 @@ pub mod Spelling
 pub mod Freeing
 pub mod Allocations
 pub mod RowLengths
-pub mod StructZeros

@@ -4,7 +4,6 @@
 
 mod access_windows;
 mod allocation;
-mod base_shapes;
 mod byte_writes;
 mod cell_reads;
 mod cell_writes;
@@ -20,11 +19,9 @@ mod row_positions;
 mod scalar_types;
 mod spelling;
 mod stores;
-mod struct_zeros;
 
 pub use access_windows::{Window, access_range, added_ranges, window_of, window_within};
 pub use allocation::{Fresh, renew};
-pub use base_shapes::shape;
 pub use byte_writes::{byte_written, labelled_null, null_pointer};
 pub use cell_reads::{Access, as_read, byte_read, joined, whole_range};
 pub use cell_writes::write_value;

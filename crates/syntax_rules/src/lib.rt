@@ -1,8 +1,6 @@
 //! The three syntactic rules: what they find in a checked unit (docs/rules.md).
 #![tactic(auto)]
 
-#[cfg(test)]
-mod row_tests;
 mod statement_places;
 mod switches;
 mod syntactic_rules;

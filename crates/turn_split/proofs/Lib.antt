@@ -1,2 +1,1 @@
-pub mod Copies
 mod Rows

@@ -5,8 +5,6 @@
 mod block_copies;
 mod edge_copies;
 mod split_counts;
-#[cfg(test)]
-mod split_tests;
 mod turn_splits;
 
 pub use turn_splits::split;

@@ -1,0 +1,4 @@
+pub mod Levels
+pub mod LevelLaws
+pub mod Tables
+pub mod TableLaws

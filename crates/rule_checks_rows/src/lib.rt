@@ -1,0 +1,5 @@
+//! Rows of what an instruction makes of a row, and of the rules that it may break, as tests.
+#![tactic(auto)]
+
+#[cfg(test)]
+mod division_rows;
