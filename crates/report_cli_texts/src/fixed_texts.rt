@@ -11,19 +11,50 @@ const HELP: &str = "ccheck: a static analyser for C
 Usage: ccheck VERB UNIT [DIR]... [OPTIONS]
 
 Verbs:
-  check   analyse UNIT, with headers searched in each DIR, and print what it may violate
-  load    make a unit from --seed and --count, analyse it as UNIT, and print a summary
+  check  analyse UNIT, with headers searched in each DIR, and print the places
+         where it may break a rule
+  load   make a unit from --seed and --count, analyse it under the name UNIT,
+         and print a summary
 
-Options:
-  --model NAME_OR_FILE  lp64, ilp32, llp64, or a file with a data model [default: lp64]
+Options, each at most once:
+  --model NAME_OR_FILE  lp64, ilp32, llp64, or a TOML file with a data model
+                        [default: lp64]
   --format FORMAT       text or json [default: text]
   --entry NAME          the function at which runs start [default: main]
-  --turns K             0 to 64 turns of each loop analysed one by one, for check
+  --turns K             0 to 64: so many turns of each loop are analysed one by
+                        one, for check [default: none is]
   --seed N              0 to 2147483647, for load [default: 1]
   --count N             1 to 300, for load [default: 10]
+  -h, --help            this text, as the only word
+  -V, --version         the version, as the only word
 
-Status: 0 no diagnostic, 1 diagnostics, 2 the unit is refused, 3 the words or the model are refused,
-4 no such file, 5 a read failed, 6 a write failed, 7 out of memory, 8 a limit is passed
+Rules on runs:
+  accfree    freed memory is used
+  chrsgnext  a character function gets an argument outside its range
+  dblfree    memory is freed twice
+  diverr     a division is undefined
+  insufmem   an allocation is too small for its type
+  intoflow   a signed result is out of range
+  invptr     a pointer is out of bounds
+  libptr     a library call passes the end of an object
+  nonnullcs  a string has no terminating zero
+  nullref    a null or ended pointer is dereferenced
+  ptrobj     pointers into different objects are compared or subtracted
+  strmod     a string literal is modified
+  taintsink  a tainted value reaches a size or an index
+  uninitref  uninitialized memory is read
+  xfree      memory that was not allocated is freed
+Rules on the text:
+  boolasgn   an assignment stands as a condition
+  sizeofptr  sizeof is taken of a pointer
+  swtchdflt  a switch has no default
+
+Status:
+  0  accepted, no diagnostic       5  a read failed, nothing is written
+  1  accepted, with diagnostics    6  a write failed
+  2  the unit is refused           7  out of memory, nothing is written
+  3  words or model are refused    8  a limit is passed
+  4  no such file
 ";
 
 fn fixed(alloc: Global, status: u8, text: &str) -> Result<Answer, AllocError>
