@@ -19,7 +19,7 @@ fn is_full(pool: &mut RowPool<u8>) -> bool
 }
 
 #[test]
-#[tactic(auto, using(crate::specs::PoolLaws::free_apart))]
+#[tactic(auto, using(row_pool::specs::PoolLaws::free_apart))]
 fn two_rows(rt: HostRuntime) -> Result<(), Fail> {
     let mut pool = RowPool::new(rt.alloc(), 2, 3, 7u8)?;
     assert_eq!(rt; pool.free_rows(), 2);
