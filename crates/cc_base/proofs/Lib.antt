@@ -3,3 +3,4 @@ pub mod Filling
 mod Sorting
 mod DiagnosticOrder
 mod RuleOrder
+pub mod Closed

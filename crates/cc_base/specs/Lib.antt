@@ -16,3 +16,5 @@ pub mod LatticeParts
 pub mod NumberRanges
 pub mod Truths
 pub mod MachineArithmetic
+pub mod ClosedMap
+pub mod IntegerLaws

@@ -92,7 +92,7 @@ module _ {C : Type 0} (o : LatticeOf C) (k : OrderLaws o) (r : RoundLaws o) (m :
       let g' : not true ≡ true = rw low at g in cc)
       (λ (no : row_leq o (row_absorbed o m.list rounding old x) old ≡ false). no))
 
-  pub step-monotone : IsMonotone o m → (e : ℕ) (a b : Option (List C)) → e < m.edges → IsOwn m a → IsOwn m b → reached_leq o a b ≡ true → reached_leq o (step m e a) (step m e b) ≡ true
+  pub step-monotone : IsMonotone o m → (e : ℕ) (a b : Option (List C)) → e < m.edges → IsAttained m a → IsOwn m b → reached_leq o a b ≡ true → reached_leq o (step m e a) (step m e b) ≡ true
   step-monotone mono e None b lt h j le = refl
   step-monotone mono e (Some x) None lt h j le = cc
   step-monotone mono e (Some x) (Some y) lt h j le = mono e x y lt h j le

@@ -7,7 +7,7 @@ use Rattle.cc_base.specs.Machine.{Machine, MachineLaws, IsMonotone}
 use Rattle.cc_base.specs.InductiveMap.{row_at, step, IsInductive}
 use Rattle.fixpoint_engine.specs.SolverState.{State, mark_at, arrive_if, grows_if, advance, head_grows}
 use Rattle.fixpoint_engine.specs.Progress.{IsAttained, IsSound, potential}
-use Rattle.fixpoint_engine.proofs.ArrivalLaws.{step-monotone, step-attained, IsAttained-own}
+use Rattle.fixpoint_engine.proofs.ArrivalLaws.{step-monotone, step-attained}
 use Rattle.fixpoint_engine.proofs.Advance.{arrive-rises, arrive-above, arrive-sound, arrive-potential, arrive-mark, arrive-unmarked}
 
 module _ {C : Type 0} (o : LatticeOf C) (k : OrderLaws o) (r : RoundLaws o) (m : Machine C) (law : MachineLaws o m) where
@@ -16,7 +16,7 @@ module _ {C : Type 0} (o : LatticeOf C) (k : OrderLaws o) (r : RoundLaws o) (m :
   step-least e rows lt s mono other ind =
       reached_leq-trans o k (step m e (row_at rows (m.source e))) (step m e (row_at other (m.source e))) (row_at other (m.target e))
       (step-monotone o k r m law mono e (row_at rows (m.source e)) (row_at other (m.source e)) lt
-      (IsAttained-own o k r m law (row_at rows (m.source e)) (s.attained (m.source e))) (ind.own (m.source e)) (s.least mono other ind (m.source e)))
+      (s.attained (m.source e)) (ind.own (m.source e)) (s.least mono other ind (m.source e)))
       (ind.edge e lt)
 
   module _ (b : ℕ) (st : State C) (here : b < m.blocks) (marked : b < length st.marks) (s : IsSound o m st.rows) where

@@ -114,6 +114,14 @@ remainders k s t = remainders_by k s (without_zero t)
 
 -- ---- & | ^
 
+-- all numbers of a span are of the type
+abbrev pub is_of_type : IntType → Span → Bool
+is_of_type k s = int_le (least_of k) s.lo && int_le s.hi (greatest_of k)
+
+-- what two operands give whose numbers are of the type; others give any number of the type
+abbrev pub if_of_type : IntType → Span → Span → Interval → Interval
+if_of_type k s t x = cond (is_of_type k s && is_of_type k t) x (whole k)
+
 -- the bits of a number in the type
 abbrev pub bits_in : IntType → ℤ → ℕ
 bits_in k z = unsigned_abs (int_rem_euclid z (pos (modulus k)))
@@ -134,17 +142,17 @@ abbrev pub and_bound : IntType → Span → Span → Interval
 and_bound k s t = cond (int_le (pos 0) s.lo) (cond (int_le (pos 0) t.lo) (clamped k (pos 0) (int_min s.hi t.hi)) (clamped k (pos 0) s.hi)) (cond (int_le (pos 0) t.lo) (clamped k (pos 0) t.hi) (whole k))
 
 abbrev pub conjunctions : IntType → Span → Span → Interval
-conjunctions k s t = cond (are_single s t) (with_bits k (bit_and (bits_in k s.lo) (bits_in k t.lo))) (and_bound k s t)
+conjunctions k s t = if_of_type k s t (cond (are_single s t) (with_bits k (bit_and (bits_in k s.lo) (bits_in k t.lo))) (and_bound k s t))
 
 -- operands that are not below zero give no bit above theirs
 abbrev pub or_bound : IntType → Span → Span → Interval
 or_bound k s t = cond (int_le (pos 0) s.lo && int_le (pos 0) t.lo) (clamped k (pos 0) (ones_above (max (unsigned_abs s.hi) (unsigned_abs t.hi)))) (whole k)
 
 abbrev pub disjunctions : IntType → Span → Span → Interval
-disjunctions k s t = cond (are_single s t) (with_bits k (bit_or (bits_in k s.lo) (bits_in k t.lo))) (or_bound k s t)
+disjunctions k s t = if_of_type k s t (cond (are_single s t) (with_bits k (bit_or (bits_in k s.lo) (bits_in k t.lo))) (or_bound k s t))
 
 abbrev pub exclusives : IntType → Span → Span → Interval
-exclusives k s t = cond (are_single s t) (with_bits k (bit_xor (bits_in k s.lo) (bits_in k t.lo))) (or_bound k s t)
+exclusives k s t = if_of_type k s t (cond (are_single s t) (with_bits k (bit_xor (bits_in k s.lo) (bits_in k t.lo))) (or_bound k s t))
 
 -- ---- << >>
 

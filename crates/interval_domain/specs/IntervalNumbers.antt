@@ -25,7 +25,7 @@ use Rattle.interval_domain.specs.IntervalOrder.{interval_leq, leq_stands, leq_re
 use Rattle.interval_domain.specs.IntervalRound.{interval_round, round_down, round_up, down_from, up_from, contains_from}
 use Rattle.interval_domain.specs.Nearest.{Has}
 use Rattle.interval_domain.specs.IntervalLattice.{interval_lattice}
-use Rattle.interval_domain.specs.Arithmetic.{interval_arith, interval_unary, interval_convert, arith_spans, clamped, whole, wrapped, into, met, with_bits, bits_in, are_single, is_single, greatest_size, least_size, and_bound, or_bound, remainder, remainders_by, without_zero, towards_zero, scaled_by}
+use Rattle.interval_domain.specs.Arithmetic.{interval_arith, interval_unary, interval_convert, arith_spans, clamped, whole, wrapped, into, met, with_bits, bits_in, are_single, is_single, greatest_size, least_size, and_bound, or_bound, is_of_type, if_of_type, remainder, remainders_by, without_zero, towards_zero, scaled_by}
 use Rattle.interval_domain.specs.Relations.{interval_compare, interval_refine, refined, without_end}
 
 abbrev pub interval_numbers : IntegersOf Interval
@@ -167,8 +167,11 @@ and_bound_in k s t = cond_both (int_le (pos 0) s.lo) _ _ (InRange k)
 or_bound_in : (k : IntType) (s t : Span) → InRange k (or_bound k s t)
 or_bound_in k s t = cond_both (int_le (pos 0) s.lo && int_le (pos 0) t.lo) _ (whole k) (InRange k) (λ _. clamped_in k _ _) (λ _. whole_in k)
 
-bitwise_in : (k : IntType) (b : Bool) (n : ℕ) (x : Interval) → is_size k.bytes ≡ true → InRange k x → InRange k (cond b (with_bits k n) x)
-bitwise_in k b n x h p = cond_both b (with_bits k n) x (InRange k) (λ _. with_bits_in k n h) (λ _. p)
+bits_or_bound_in : (k : IntType) (b : Bool) (n : ℕ) (x : Interval) → is_size k.bytes ≡ true → InRange k x → InRange k (cond b (with_bits k n) x)
+bits_or_bound_in k b n x h p = cond_both b (with_bits k n) x (InRange k) (λ _. with_bits_in k n h) (λ _. p)
+
+bitwise_in : (k : IntType) (s t : Span) (n : ℕ) (x : Interval) → is_size k.bytes ≡ true → InRange k x → InRange k (if_of_type k s t (cond (are_single s t) (with_bits k n) x))
+bitwise_in k s t n x h p = cond_both (is_of_type k s && is_of_type k t) (cond (are_single s t) (with_bits k n) x) (whole k) (InRange k) (λ _. bits_or_bound_in k (are_single s t) n x h p) (λ _. whole_in k)
 
 remainder_in : (k : IntType) (a b : ℤ) → InRange k (remainder k a b)
 remainder_in k a b = cond_both (k.signed && (int_eq a (least_of k) && int_eq b (negsuc 0))) Bottom _ (InRange k) (λ _. tt) (λ _. clamped_in k _ _)
@@ -189,9 +192,9 @@ arith_in Sub k s t h = into_in k _ _ h
 arith_in Mul k s t h = into_in k _ _ h
 arith_in Div k s t h = met_in k _
 arith_in Rem k s t h = remainders_in k s (without_zero t)
-arith_in And k s t h = bitwise_in k (are_single s t) (bit_and (bits_in k s.lo) (bits_in k t.lo)) (and_bound k s t) h (and_bound_in k s t)
-arith_in Or k s t h = bitwise_in k (are_single s t) (bit_or (bits_in k s.lo) (bits_in k t.lo)) (or_bound k s t) h (or_bound_in k s t)
-arith_in Xor k s t h = bitwise_in k (are_single s t) (bit_xor (bits_in k s.lo) (bits_in k t.lo)) (or_bound k s t) h (or_bound_in k s t)
+arith_in And k s t h = bitwise_in k s t (bit_and (bits_in k s.lo) (bits_in k t.lo)) (and_bound k s t) h (and_bound_in k s t)
+arith_in Or k s t h = bitwise_in k s t (bit_or (bits_in k s.lo) (bits_in k t.lo)) (or_bound k s t) h (or_bound_in k s t)
+arith_in Xor k s t h = bitwise_in k s t (bit_xor (bits_in k s.lo) (bits_in k t.lo)) (or_bound k s t) h (or_bound_in k s t)
 arith_in Shl k s t h = scaled_in k _ _ h
 arith_in Shr k s t h = met_in k _
 

@@ -3,7 +3,7 @@ ghost use Rattle.std.specs.Prelude.{◌≡◌, ◌≤ℤ◌, ◌<ℤ◌, ◌-ℤ
 ghost use Rattle.std.specs.Int.{w128};
 ghost use Rattle.cc_base.specs.IntegerTypes.{is_size, modulus, least_of, wrap_into};
 ghost use Rattle.cc_base.specs.IntegerDomains.{IsNear};
-ghost use Rattle.interval_domain.specs.Arithmetic.{bits_in, with_bits, ones_above, and_bound, or_bound, conjunctions, disjunctions, exclusives, is_single, are_single};
+ghost use Rattle.interval_domain.specs.Arithmetic.{bits_in, with_bits, ones_above, is_of_type, and_bound, or_bound, conjunctions, disjunctions, exclusives, is_single, are_single};
 
 use crate::intervals::{Interval, between_or_empty};
 use crate::span_arithmetic::{are_single, clamped, whole};
@@ -67,11 +67,22 @@ fn or_bound(kind: IntType, s: Span, t: Span) -> Interval
     whole(kind)
 }
 
-/// `&` of a number of `s` and one of `t`.
+/// Whether all numbers of a span are of the type.
+fn is_of_type(kind: IntType, s: Span) -> bool
+    requires { is_size kind.bytes ≡ true }
+    ensures { result ≡ is_of_type kind s }
+{
+    kind.least() <= s.lo && s.hi <= kind.greatest()
+}
+
+/// `&` of a number of `s` and one of `t`; any number of the type where one of them is not of it.
 pub fn conjunctions(kind: IntType, s: Span, t: Span) -> Interval
     requires { is_size kind.bytes ≡ true }
     ensures { result ≡ conjunctions kind s t }
 {
+    if !(is_of_type(kind, s) && is_of_type(kind, t)) {
+        return whole(kind);
+    }
     if are_single(s, t) {
         with_bits(kind, bits_in(kind, s.lo) & bits_in(kind, t.lo))
     } else {
@@ -79,13 +90,16 @@ pub fn conjunctions(kind: IntType, s: Span, t: Span) -> Interval
     }
 }
 
-/// `|` of a number of `s` and one of `t`.
+/// `|` of a number of `s` and one of `t`; any number of the type where one of them is not of it.
 pub fn disjunctions(kind: IntType, s: Span, t: Span) -> Interval
     requires size { is_size kind.bytes ≡ true }
     requires left { IsNear (Some (s.lo, s.hi)) }
     requires right { IsNear (Some (t.lo, t.hi)) }
     ensures { result ≡ disjunctions kind s t }
 {
+    if !(is_of_type(kind, s) && is_of_type(kind, t)) {
+        return whole(kind);
+    }
     if are_single(s, t) {
         with_bits(kind, bits_in(kind, s.lo) | bits_in(kind, t.lo))
     } else {
@@ -93,13 +107,16 @@ pub fn disjunctions(kind: IntType, s: Span, t: Span) -> Interval
     }
 }
 
-/// `^` of a number of `s` and one of `t`.
+/// `^` of a number of `s` and one of `t`; any number of the type where one of them is not of it.
 pub fn exclusives(kind: IntType, s: Span, t: Span) -> Interval
     requires size { is_size kind.bytes ≡ true }
     requires left { IsNear (Some (s.lo, s.hi)) }
     requires right { IsNear (Some (t.lo, t.hi)) }
     ensures { result ≡ exclusives kind s t }
 {
+    if !(is_of_type(kind, s) && is_of_type(kind, t)) {
+        return whole(kind);
+    }
     if are_single(s, t) {
         with_bits(kind, bits_in(kind, s.lo) ^ bits_in(kind, t.lo))
     } else {
