@@ -8,16 +8,18 @@ use Rattle.c_layout.specs.declared.leaf_lists.Class.TheVariants.{Char, Pointer}
 use Rattle.c_layout.specs.Leaves.{class_of}
 use Rattle.flow_program.specs.declared.machine_instructions.Scalar.TheVariants as of
 use Rattle.flow_program.specs.declared.machine_instructions.Scalar as declared
-use Rattle.value_domain.specs.declared.label_sets.Labels.{Labels}
-use Rattle.value_domain.specs.LabelSets.{no_labels, labels_join}
-use Rattle.store_domain.specs.ClassNumbers.{same_class}
-use Rattle.store_domain.specs.ScalarTypes.{class_bytes}
+use Rattle.lib_models_memory.specs.Labels.{Labels}
+use Rattle.lib_models_memory.specs.Labels.{no_labels, labels_join}
+use Rattle.lib_models_memory.specs.ScalarSizes.{same_class}
+use Rattle.lib_models_memory.specs.ScalarSizes.{class_bytes}
 use Rattle.lib_models_memory.specs.Bytes.{MachinePointer, null, into, Content, indeterminate, number, part, Byte}
 use Rattle.lib_models_memory.specs.Instances.{Memory, Life, freed, bytes_at, life_at}
-use Rattle.lib_models_memory.specs.Matching.{Labelled, number_of}
-use Rattle.lib_models_memory.specs.ValueMeaning.{Scalar, integer, pointer}
-use Rattle.lib_models_effects.specs.Worlds.{World, Reply, goes, stops, behind, with_memory, noted, stopped_by}
-use Rattle.lib_models_effects.specs.ScalarBytes.{scalar_bytes, fit_from, tagged_from, replaced, refilled, region, contents}
+use Rattle.lib_models_memory.specs.Numbers.{Labelled, number_of}
+use Rattle.lib_models_memory.specs.Scalars.{Scalar, integer, pointer}
+use Rattle.lib_models_effects.specs.Worlds.{World, Reply, goes, stops, behind, with_memory, noted, stopped_by, Left, Stuck}
+use Rattle.lib_models_effects.specs.Operands.{with_pointer, is_of_kind}
+use Rattle.lib_models_memory.specs.Tags.{fit_from}
+use Rattle.lib_models_effects.specs.ScalarBytes.{scalar_bytes, tagged_from, replaced, refilled, region, contents}
 use Rattle.lib_models_effects.specs.Touches.{Spot, touched, is_allocated, storage_at, set_bytes}
 
 abbrev pub class_in : declared.Scalar → Class
@@ -115,12 +117,12 @@ points_into_freed memory _ = false
 
 -- a pointer into a freed instance is a violation, behind which the run goes on
 abbrev pub given : World → Option Scalar → Reply Scalar
-given w None = stops w
+given w None = stops Left w
 given w (Some v) = goes v (noted w (points_into_freed w.memory v) rule.Accfree)
 
 -- an indeterminate byte stops the run, which is no violation of an unsigned character
 abbrev pub read_blank : World → declared.Scalar → Reply Scalar
-read_blank w kind = cond (same_class (class_in kind) Char && is_unsigned kind) (stops w) (stopped_by w rule.Uninitref)
+read_blank w kind = cond (same_class (class_in kind) Char && is_unsigned kind) (stops Left w) (stopped_by w rule.Uninitref)
 
 abbrev pub read_contents : World → declared.Scalar → List Content → Reply Scalar
 read_contents w kind cs = cond (has_blank cs) (read_blank w kind) (given w (scalar_in kind cs))
@@ -136,11 +138,14 @@ abbrev pub load_at : Model → declared.Scalar → Spot → World → Reply Scal
 load_at m kind spot w =
     cond (is_seen_as (is_allocated (storage_at w.memory spot.instance)) (class_in kind) (bytes_seen m w (class_in kind) spot))
     (read_contents w kind (contents (bytes_seen m w (class_in kind) spot)))
-    (stops w)
+    (stops Left w)
 
 -- the scalar that a pointer points to
-abbrev pub load : Model → declared.Scalar → MachinePointer → World → Reply Scalar
-load m kind p w = behind (touched w p (class_bytes m (class_in kind)) false) (load_at m kind)
+abbrev pub load_through : Model → declared.Scalar → MachinePointer → World → Reply Scalar
+load_through m kind p w = behind (touched w p (class_bytes m (class_in kind)) false) (load_at m kind)
+
+abbrev pub load : Model → declared.Scalar → Scalar → World → Reply Scalar
+load m kind at w = with_pointer at w (load_through m kind)
 
 -- ---- stores
 
@@ -156,8 +161,12 @@ abbrev pub may_store : Model → World → Class → Spot → Bool
 may_store m w class spot = is_allocated (storage_at w.memory spot.instance) || is_seen_as false class (bytes_seen m w class spot)
 
 abbrev pub store_at : Model → Class → Scalar → Spot → World → Reply Scalar
-store_at m class v spot w = cond (may_store m w class spot) (goes v (stored w class spot (scalar_bytes (class_bytes m class) v))) (stops w)
+store_at m class v spot w = cond (may_store m w class spot) (goes v (stored w class spot (scalar_bytes (class_bytes m class) v))) (stops Left w)
 
 -- a scalar is stored where a pointer points to
-abbrev pub store : Model → declared.Scalar → MachinePointer → Scalar → World → Reply Scalar
-store m kind p v w = behind (touched w p (class_bytes m (class_in kind)) true) (store_at m (class_in kind) v)
+abbrev pub store_through : Model → declared.Scalar → Scalar → MachinePointer → World → Reply Scalar
+store_through m kind v p w = behind (touched w p (class_bytes m (class_in kind)) true) (store_at m (class_in kind) v)
+
+-- a value is stored where its kind is that of the scalar
+abbrev pub store : Model → declared.Scalar → Scalar → Scalar → World → Reply Scalar
+store m kind at v w = with_pointer at w (λ p w. cond (is_of_kind kind v) (store_through m kind v p w) (stops Stuck w))

@@ -13,24 +13,19 @@ use Rattle.cc_base.specs.declared.diagnostics.Rule.{Rule}
 use Rattle.cc_base.specs.declared.diagnostics.Rule.TheVariants as rule
 use Rattle.flow_program.specs.declared.machine_instructions.Scalar.TheVariants as of
 use Rattle.flow_program.specs.declared.machine_instructions.Scalar as declared
-use Rattle.value_domain.specs.declared.label_sets.Labels.{Labels}
-use Rattle.value_domain.specs.LabelSets.{no_labels, converted_labels, operated_labels, negated_labels}
-use Rattle.lib_models_memory.specs.Bytes.{MachinePointer, null}
-use Rattle.lib_models_memory.specs.ValueMeaning.{Scalar, integer, pointer}
-use Rattle.lib_models_effects.specs.Worlds.{World, Reply, goes, stops, violating}
-use Rattle.lib_models_effects.specs.PointerEffects.{truth, is_null}
+use Rattle.lib_models_memory.specs.Labels.{Labels, no_labels, converted_labels, operated_labels, negated_labels}
+use Rattle.lib_models_memory.specs.Bytes.{null}
+use Rattle.lib_models_memory.specs.Scalars.{Scalar, integer, pointer, is_false}
+use Rattle.lib_models_effects.specs.Worlds.{World, Why, Violated, Left, Stuck, Reply, goes, stops, violating}
+use Rattle.lib_models_effects.specs.Operands.{with_number}
 
-abbrev pub number_in : Scalar → ℤ
-number_in (integer n labels) = n
-number_in (pointer p) = pos 0
+-- 0 or 1
+abbrev pub truth : Bool → Scalar
+truth b = integer (cond b (pos 1) (pos 0)) no_labels
 
-abbrev pub labels_in : Scalar → Labels
-labels_in (integer n labels) = labels
-labels_in (pointer p) = no_labels
-
-abbrev pub pointer_in : Scalar → MachinePointer
-pointer_in (integer n labels) = null
-pointer_in (pointer p) = p
+-- the 1 of `++` and `--` has no label
+abbrev pub plain_one : Scalar
+plain_one = integer (pos 1) no_labels
 
 -- ---- the mathematical result, of the operators that can leave the type
 
@@ -65,47 +60,48 @@ binary_faults Rem kind a b = division_faults kind a b
 binary_faults Shl kind a b = shift_faults kind a b
 binary_faults op kind a b = overflow_faults kind (result_of op a b)
 
+-- without a fault there is no result where a shift's count is undefined
+abbrev pub why_none : List Rule → Why
+why_none [] = Left
+why_none (r ∷ rs) = Violated
+
 -- the run goes on with a result that there is
-abbrev pub computed : World → Option ℤ → Labels → Reply Scalar
-computed w None labels = stops w
-computed w (Some n) labels = goes (integer n labels) w
+abbrev pub computed : List Rule → Option ℤ → Labels → World → Reply Scalar
+computed faults None labels w = stops (why_none faults) (violating w faults)
+computed faults (Some n) labels w = goes (integer n labels) (violating w faults)
+
+abbrev pub binary_numbers : IntOp → IntType → ℤ → Labels → ℤ → Labels → World → Reply Scalar
+binary_numbers op kind a s b t w = computed (binary_faults op kind a b) (binary_result op kind a b) (operated_labels op s t kind (is_outside kind (result_of op a b))) w
 
 abbrev pub binary : IntOp → IntType → Scalar → Scalar → World → Reply Scalar
-binary op kind a b w =
-    computed (violating w (binary_faults op kind (number_in a) (number_in b)))
-    (binary_result op kind (number_in a) (number_in b))
-    (operated_labels op (labels_in a) (labels_in b) kind (is_outside kind (result_of op (number_in a) (number_in b))))
+binary op kind left right w = with_number left w (λ a s w. with_number right w (λ b t w. binary_numbers op kind a s b t w))
 
 abbrev pub unary_math : UnOp → ℤ → Option ℤ
 unary_math Neg a = Some (neg_ℤ a)
 unary_math Compl a = None
 
+abbrev pub unary_number : UnOp → IntType → ℤ → Labels → World → Reply Scalar
+unary_number op kind a s w = computed (overflow_faults kind (unary_math op a)) (unary_result op kind a) (negated_labels op s kind (is_outside kind (unary_math op a))) w
+
 abbrev pub unary : UnOp → IntType → Scalar → World → Reply Scalar
-unary op kind a w =
-    computed (violating w (overflow_faults kind (unary_math op (number_in a))))
-    (unary_result op kind (number_in a))
-    (negated_labels op (labels_in a) kind (is_outside kind (unary_math op (number_in a))))
+unary op kind operand w = with_number operand w (unary_number op kind)
 
 abbrev pub compare_numbers : Rel → Scalar → Scalar → World → Reply Scalar
-compare_numbers rel a b w = goes (truth (holds rel (number_in a) (number_in b))) w
-
--- whether a scalar is 0 or null
-abbrev pub is_false : Scalar → Bool
-is_false (integer n labels) = int_eq n (pos 0)
-is_false (pointer p) = is_null p
+compare_numbers rel left right w = with_number left w (λ a s w. with_number right w (λ b t w. goes (truth (holds rel a b)) w))
 
 abbrev pub negation : Scalar → World → Reply Scalar
 negation v w = goes (truth (is_false v)) w
 
 -- ---- conversions
 
-abbrev pub as_integer : IntType → Scalar → Scalar
-as_integer kind v = integer (wrap_into kind (number_in v)) (converted_labels (labels_in v) kind (in_type kind (number_in v)))
+abbrev pub as_integer : IntType → ℤ → Labels → Scalar
+as_integer kind n labels = integer (wrap_into kind n) (converted_labels labels kind (in_type kind n))
 
--- the constant 0 becomes a null pointer, a pointer stays
-abbrev pub converted : declared.Scalar → Scalar → Scalar
-converted (of.Int kind) v = as_integer kind v
-converted of.Pointer v = pointer (pointer_in v)
+-- a null pointer constant becomes a null pointer (6.3.2.3)
+abbrev pub pointer_from : Scalar → World → Reply Scalar
+pointer_from (integer n labels) w = cond (int_eq n (pos 0)) (goes (pointer null) w) (stops Stuck w)
+pointer_from (pointer p) w = goes (pointer p) w
 
 abbrev pub convert : declared.Scalar → Scalar → World → Reply Scalar
-convert kind v w = goes (converted kind v) w
+convert (of.Int kind) v w = with_number v w (λ n labels w. goes (as_integer kind n labels) w)
+convert of.Pointer v w = pointer_from v w

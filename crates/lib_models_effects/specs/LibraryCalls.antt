@@ -4,13 +4,12 @@ use Rattle.cc_base.specs.declared.limit_table.IntType.{IntType}
 use Rattle.c_layout.specs.declared.data_model.Model.{Model}
 use Rattle.c_layout.specs.declared.library_functions.LibFn.{LibFn}
 use Rattle.c_layout.specs.declared.library_functions.LibFn.TheVariants as f
-use Rattle.value_domain.specs.LabelSets.{no_labels, input_labels}
+use Rattle.lib_models_memory.specs.Labels.{no_labels, input_labels}
 use Rattle.lib_models_memory.specs.Bytes.{MachinePointer, null, Content, number}
-use Rattle.lib_models_memory.specs.ValueMeaning.{Scalar, integer, pointer}
-use Rattle.lib_models_effects.specs.Worlds.{World, Reply, goes, stops, behind, drawn}
+use Rattle.lib_models_memory.specs.Scalars.{Scalar, integer, pointer}
+use Rattle.lib_models_effects.specs.Worlds.{World, Ended, Left, Stuck, Reply, goes, stops, behind, done, drawn}
 use Rattle.lib_models_effects.specs.ScalarBytes.{bits_in}
-use Rattle.lib_models_effects.specs.IntegerEffects.{number_in, labels_in}
-use Rattle.lib_models_effects.specs.LibraryChecks.{Reach, argument, pointer_at, size_at, with_size, reached, string_length, fitting, writable}
+use Rattle.lib_models_effects.specs.LibraryChecks.{Reach, size_of, with_size, reached, string_length, fitting, writable}
 use Rattle.lib_models_effects.specs.AllocationCalls.{malloc, calloc, realloc, free}
 use Rattle.lib_models_effects.specs.MemoryCalls.{memcpy, memmove, memset, with_contents}
 use Rattle.lib_models_effects.specs.StringCalls.{plain, strlen, strcpy, strncpy, strcat, strcmp}
@@ -43,24 +42,30 @@ abbrev pub if_read : Model → MachinePointer → ℕ → Reach → ℤ → Worl
 if_read m p size to (pos zero) w = goes (pointer null) w
 if_read m p size to answer w = behind (drawn w (pos 0) (pos size -ℤ pos 1)) (line_read m p size to)
 
-abbrev pub read_into : Model → List Scalar → Reach → World → Reply Scalar
-read_into m arguments to w =
-    cond (int_lt (number_in (argument arguments 1)) (pos 1)) (stops w)
-    (behind (fitting (size_at arguments 1) to w) (λ _ w.
-    behind (writable (size_at arguments 1) to w) (λ _ w.
-    behind (drawn w (pos 0) (pos 1)) (if_read m (pointer_at arguments 0) (size_at arguments 1) to))))
+abbrev pub line_into : Model → MachinePointer → ℕ → Reach → World → Reply Scalar
+line_into m p size to w =
+    behind (fitting size to w) (λ _ w.
+    behind (writable size to w) (λ _ w.
+    behind (drawn w (pos 0) (pos 1)) (if_read m p size to)))
+
+-- a line of no character at all is not looked at
+abbrev pub read_into : Model → MachinePointer → ℤ → Reach → World → Reply Scalar
+read_into m p n to w = cond (int_lt n (pos 1)) (stops Left w) (line_into m p (size_of n) to w)
 
 -- the stream is not looked at
 abbrev pub fgets : Model → List Scalar → World → Reply Scalar
-fgets m arguments w = behind (reached (pointer_at arguments 0) (with_size w (argument arguments 1))) (read_into m arguments)
+fgets m (pointer p ∷ (integer n labels ∷ (pointer stream ∷ []))) w = behind (reached p (with_size w labels)) (read_into m p n)
+fgets m arguments w = stops Stuck w
 
 -- ---- output
 
 abbrev pub putchar : List Scalar → World → Reply Scalar
-putchar arguments w = goes (integer (pos (bits_in 1 (number_in (argument arguments 0)))) (labels_in (argument arguments 0))) w
+putchar (integer c labels ∷ []) w = goes (integer (pos (bits_in 1 c)) labels) w
+putchar arguments w = stops Stuck w
 
 abbrev pub puts : List Scalar → World → Reply Scalar
-puts arguments w = behind (reached (pointer_at arguments 0) w) (λ s w. behind (string_length s w) (λ _ w. goes (plain (pos 0)) w))
+puts (pointer p ∷ []) w = behind (reached p w) (λ s w. behind (string_length s w) (λ _ w. goes (plain (pos 0)) w))
+puts arguments w = stops Stuck w
 
 abbrev pub and_reach : Reach → List Reach → World → Reply (List Reach)
 and_reach r rs w = goes (r ∷ rs) w
@@ -71,16 +76,28 @@ strings_in [] w = goes [] w
 strings_in (integer n labels ∷ vs) w = strings_in vs w
 strings_in (pointer p ∷ vs) w = behind (reached p w) (λ r w. behind (strings_in vs w) (and_reach r))
 
-abbrev pub all_scanned : List Reach → World → Reply (List Reach)
-all_scanned [] w = goes [] w
+abbrev pub all_scanned : List Reach → World → Reply (Unit {0})
+all_scanned [] w = done w
 all_scanned (r ∷ rs) w = behind (string_length r w) (λ _ w. all_scanned rs w)
 
--- the format and the strings, then as many characters as the outside says
+abbrev pub most_int : Model → ℤ
+most_int m = pos (2 ^ (8 * m.int - 1) - 1)
+
+-- the format, a literal, is not scanned; the strings are, and then the outside says how many characters
+-- were written
 abbrev pub printf : Model → List Scalar → World → Reply Scalar
-printf m arguments w =
+printf m (pointer format ∷ arguments) w =
+    behind (reached format w) (λ _ w.
     behind (strings_in arguments w) (λ rs w.
     behind (all_scanned rs w) (λ _ w.
-    behind (drawn w (pos 0) (pos (2 ^ (8 * m.int - 1) - 1))) (λ n w. goes (plain n) w)))
+    behind (drawn w (pos 0) (most_int m)) (λ n w. goes (plain n) w))))
+printf m arguments w = stops Stuck w
+
+-- ---- functions on characters
+
+abbrev pub character_call : LibFn → List Scalar → World → Reply Scalar
+character_call function (integer c labels ∷ []) w = on_character function c labels w
+character_call function arguments w = stops Stuck w
 
 -- ---- all functions
 
@@ -106,6 +123,6 @@ library m wanted f.Fgets arguments w = with_result (fgets m arguments w)
 library m wanted f.Putchar arguments w = with_result (putchar arguments w)
 library m wanted f.Puts arguments w = with_result (puts arguments w)
 library m wanted f.Printf arguments w = with_result (printf m arguments w)
-library m wanted f.Exit arguments w = stops w
-library m wanted f.Abort arguments w = stops w
-library m wanted function arguments w = with_result (on_character function arguments w)
+library m wanted f.Exit arguments w = stops Ended w
+library m wanted f.Abort arguments w = stops Ended w
+library m wanted function arguments w = with_result (character_call function arguments w)

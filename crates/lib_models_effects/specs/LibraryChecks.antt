@@ -1,35 +1,23 @@
 -- What calls of the library check before they do anything (7.1.4).
-use Rattle.std.specs.Prelude.{ℕ, zero, suc, ◌-◌, ◌*◌, ◌^◌, pos, unsigned_abs, not, ◌&&◌, nat_lt, List, [], ◌∷◌, Option, Some, None, slice_get}
+use Rattle.std.specs.Prelude.{ℕ, zero, suc, ◌-◌, ◌*◌, ◌^◌, ℤ, unsigned_abs, not, ◌&&◌, nat_lt, List, [], ◌∷◌}
 use Rattle.cc_base.specs.declared.diagnostics.Rule.TheVariants as rule
 use Rattle.c_layout.specs.declared.data_model.Model.{Model}
-use Rattle.value_domain.specs.LabelSets.{no_labels, is_unlabelled}
+use Rattle.lib_models_memory.specs.Labels.{Labels, is_unlabelled}
 use Rattle.lib_models_memory.specs.Bytes.{MachinePointer, null, into, Content, indeterminate, number, part, Byte}
 use Rattle.lib_models_memory.specs.Instances.{Life, live, ended, freed, bytes_at, life_at}
-use Rattle.lib_models_memory.specs.ValueMeaning.{Scalar, integer}
-use Rattle.lib_models_effects.specs.Worlds.{World, Reply, goes, stops, noted, unless, stopped_by}
+use Rattle.lib_models_effects.specs.Worlds.{World, Left, Reply, goes, stops, noted, unless, stopped_by}
 use Rattle.lib_models_effects.specs.ScalarBytes.{region, contents}
 use Rattle.lib_models_effects.specs.Touches.{Spot, is_literal, storage_at}
-use Rattle.lib_models_effects.specs.IntegerEffects.{number_in, labels_in, pointer_in}
 
--- ---- arguments
-
-abbrev pub or_zero : Option Scalar → Scalar
-or_zero None = integer (pos 0) no_labels
-or_zero (Some v) = v
-
-abbrev pub argument : List Scalar → ℕ → Scalar
-argument arguments n = or_zero (slice_get arguments n)
-
-abbrev pub pointer_at : List Scalar → ℕ → MachinePointer
-pointer_at arguments n = pointer_in (argument arguments n)
+-- ---- sizes
 
 -- a size, which is not negative
-abbrev pub size_at : List Scalar → ℕ → ℕ
-size_at arguments n = unsigned_abs (number_in (argument arguments n))
+abbrev pub size_of : ℤ → ℕ
+size_of n = unsigned_abs n
 
 -- a size that has a label
-abbrev pub with_size : World → Scalar → World
-with_size w v = noted w (not (is_unlabelled (labels_in v))) rule.Taintsink
+abbrev pub with_size : World → Labels → World
+with_size w labels = noted w (not (is_unlabelled labels)) rule.Taintsink
 
 -- the greatest number of the type of differences of pointers
 abbrev pub most_size : Model → ℕ
@@ -79,7 +67,7 @@ scanned (part p k ∷ cs) = broken
 abbrev pub measured : World → Scanned → Reply ℕ
 measured w (ends n) = goes n w
 measured w unended = stopped_by w rule.Nonnullcs
-measured w broken = stops w
+measured w broken = stops Left w
 
 -- the length of the string that a pointer points to
 abbrev pub string_length : Reach → World → Reply ℕ

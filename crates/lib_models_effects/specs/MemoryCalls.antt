@@ -1,15 +1,15 @@
 -- `memcpy`, `memmove` and `memset` (7.24.2.1, 7.24.2.2, 7.24.6.1).
-use Rattle.std.specs.Prelude.{ℕ, Bool, true, false, cond, ◌&&◌, ◌||◌, nat_lt, List, ◌∷◌, replicate, Option, Some, None}
+use Rattle.std.specs.Prelude.{ℕ, Bool, true, false, cond, ◌&&◌, ◌||◌, nat_lt, List, [], ◌∷◌, replicate, Option, Some, None}
 use Rattle.c_layout.specs.declared.leaf_lists.Class.TheVariants.{Pointer}
 use Rattle.lib_models_memory.specs.Bytes.{MachinePointer, Content, number, part, Tag, Byte}
 use Rattle.lib_models_memory.specs.Instances.{bytes_at}
-use Rattle.lib_models_memory.specs.ValueMeaning.{Scalar, pointer}
-use Rattle.lib_models_effects.specs.Worlds.{World, Reply, goes, stops, behind, with_memory}
-use Rattle.lib_models_effects.specs.ScalarBytes.{bits_in, is_tag, replaced, refilled}
+use Rattle.lib_models_memory.specs.Scalars.{Scalar, integer, pointer}
+use Rattle.lib_models_effects.specs.Worlds.{World, Left, Stuck, Reply, goes, stops, behind, with_memory}
+use Rattle.lib_models_effects.specs.ScalarBytes.{bits_in, replaced, refilled}
+use Rattle.lib_models_memory.specs.Tags.{is_tag}
 use Rattle.lib_models_effects.specs.Touches.{is_allocated, storage_at, set_bytes}
 use Rattle.lib_models_effects.specs.StructCopies.{overlap}
-use Rattle.lib_models_effects.specs.IntegerEffects.{number_in, labels_in}
-use Rattle.lib_models_effects.specs.LibraryChecks.{Reach, argument, pointer_at, size_at, with_size, reached, bytes_from, fitting, writable}
+use Rattle.lib_models_effects.specs.LibraryChecks.{Reach, size_of, with_size, reached, bytes_from, fitting, writable}
 
 abbrev pub is_pointer_byte : Option Tag → ℕ → Bool
 is_pointer_byte None k = false
@@ -35,33 +35,42 @@ with_region w r bytes = with_memory w (set_bytes w.memory r.spot.instance (repla
 
 abbrev pub bytes_copied : ℕ → Bool → MachinePointer → Reach → Reach → World → Reply Scalar
 bytes_copied size apart p to from w =
-    cond (apart && overlap to.spot size from.spot size && nat_lt 0 size) (stops w)
+    cond (apart && overlap to.spot size from.spot size && nat_lt 0 size) (stops Left w)
     (cond (is_allocated (storage_at w.memory to.spot.instance) || may_all_come (bytes_from w to size) (bytes_from w from size))
     (goes (pointer p) (with_region w to (come_over (is_allocated (storage_at w.memory to.spot.instance)) (bytes_from w to size) (bytes_from w from size))))
-    (stops w))
+    (stops Left w))
 
 -- both pointers, then both rooms, then a write to a literal
-abbrev pub copy_memory : Bool → List Scalar → World → Reply Scalar
-copy_memory apart arguments w =
-    behind (reached (pointer_at arguments 0) (with_size w (argument arguments 2))) (λ to w.
-    behind (reached (pointer_at arguments 1) w) (λ from w.
-    behind (fitting (size_at arguments 2) to w) (λ _ w.
-    behind (fitting (size_at arguments 2) from w) (λ _ w.
-    behind (writable (size_at arguments 2) to w) (λ _ w.
-    bytes_copied (size_at arguments 2) apart (pointer_at arguments 0) to from w)))))
+abbrev pub copy_memory : Bool → MachinePointer → MachinePointer → ℕ → World → Reply Scalar
+copy_memory apart p q size w =
+    behind (reached p w) (λ to w.
+    behind (reached q w) (λ from w.
+    behind (fitting size to w) (λ _ w.
+    behind (fitting size from w) (λ _ w.
+    behind (writable size to w) (λ _ w.
+    bytes_copied size apart p to from w)))))
+
+-- whether the regions have to be apart
+abbrev pub copy_call : Bool → List Scalar → World → Reply Scalar
+copy_call apart (pointer p ∷ (pointer q ∷ (integer n labels ∷ []))) w = copy_memory apart p q (size_of n) (with_size w labels)
+copy_call apart arguments w = stops Stuck w
 
 abbrev pub memcpy : List Scalar → World → Reply Scalar
-memcpy = copy_memory true
+memcpy = copy_call true
 
 abbrev pub memmove : List Scalar → World → Reply Scalar
-memmove = copy_memory false
+memmove = copy_call false
 
 abbrev pub with_contents : World → Reach → List Content → World
 with_contents w r cs = with_memory w (set_bytes w.memory r.spot.instance (refilled (bytes_at w.memory r.spot.instance) r.spot.offset cs))
 
+abbrev pub fill_memory : MachinePointer → Content → ℕ → World → Reply Scalar
+fill_memory p c size w =
+    behind (reached p w) (λ to w.
+    behind (fitting size to w) (λ _ w.
+    behind (writable size to w) (λ _ w.
+    goes (pointer p) (with_contents w to (replicate size c)))))
+
 abbrev pub memset : List Scalar → World → Reply Scalar
-memset arguments w =
-    behind (reached (pointer_at arguments 0) (with_size w (argument arguments 2))) (λ to w.
-    behind (fitting (size_at arguments 2) to w) (λ _ w.
-    behind (writable (size_at arguments 2) to w) (λ _ w.
-    goes (pointer (pointer_at arguments 0)) (with_contents w to (replicate (size_at arguments 2) (number (bits_in 1 (number_in (argument arguments 1))) (labels_in (argument arguments 1))))))))
+memset (pointer p ∷ (integer c s ∷ (integer n t ∷ []))) w = fill_memory p (number (bits_in 1 c) s) (size_of n) (with_size w t)
+memset arguments w = stops Stuck w

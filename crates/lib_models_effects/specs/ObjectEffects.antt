@@ -2,11 +2,12 @@
 use Rattle.std.specs.Prelude.{ℕ, zero, suc, List, [], ◌∷◌, ◌++◌, length, map, take, Option, Some, None, slice_get, slice_set}
 use Rattle.c_layout.specs.declared.data_model.Model.{Model}
 use Rattle.c_layout.specs.declared.leaf_lists.Leaf.{Leaf}
-use Rattle.value_domain.specs.LabelSets.{no_labels}
+use Rattle.lib_models_memory.specs.Labels.{no_labels}
 use Rattle.lib_models_memory.specs.Bytes.{Content, indeterminate, number, Byte}
 use Rattle.lib_models_memory.specs.Instances.{Storage, automatic, Life, live, ended, Instance, Memory, bytes_at}
 use Rattle.lib_models_effects.specs.Worlds.{World, with_memory}
-use Rattle.lib_models_effects.specs.ScalarBytes.{tag_at, refilled}
+use Rattle.lib_models_memory.specs.Tags.{tag_at}
+use Rattle.lib_models_effects.specs.ScalarBytes.{refilled}
 use Rattle.lib_models_effects.specs.Touches.{set_bytes}
 
 -- indeterminate bytes under the tags of a type's leaves, from an offset on

@@ -2,18 +2,17 @@
 use Rattle.std.specs.Prelude.{ℕ, ◌+◌, ℤ, pos, neg_ℤ, ◌+ℤ◌, ◌-ℤ◌, ◌*ℤ◌, unsigned_abs, int_div, int_le, Bool, true, false, not, cond, ◌&&◌, ◌||◌, ◌==◌}
 use Rattle.cc_base.specs.MachineArithmetic.{holds}
 use Rattle.cc_base.specs.declared.integer_operators.Rel.{Rel}
-use Rattle.cc_base.specs.declared.integer_operators.Rel.TheVariants.{Lt, Le, Gt, Ge, Eq, Ne}
+use Rattle.cc_base.specs.declared.integer_operators.Rel.TheVariants.{Eq, Ne}
 use Rattle.cc_base.specs.declared.diagnostics.Rule.TheVariants as rule
-use Rattle.value_domain.specs.declared.label_sets.Labels.{Labels}
-use Rattle.value_domain.specs.LabelSets.{no_labels, is_unlabelled}
+use Rattle.lib_models_memory.specs.Labels.{Labels}
+use Rattle.lib_models_memory.specs.Labels.{no_labels, is_unlabelled}
 use Rattle.lib_models_memory.specs.Bytes.{MachinePointer, null, into}
 use Rattle.lib_models_memory.specs.Instances.{Memory, Life, ended, life_at}
-use Rattle.lib_models_memory.specs.ValueMeaning.{Scalar, integer}
+use Rattle.lib_models_memory.specs.Scalars.{Scalar, integer, is_null}
 use Rattle.lib_models_effects.specs.Worlds.{World, Reply, goes, behind, noted, unless, stopped_by}
+use Rattle.lib_models_effects.specs.Operands.{with_number, with_pointer, as_pointer}
+use Rattle.lib_models_effects.specs.IntegerEffects.{truth}
 use Rattle.lib_models_effects.specs.Touches.{Spot, touched}
-
-abbrev pub truth : Bool → Scalar
-truth b = integer (cond b (pos 1) (pos 0)) no_labels
 
 abbrev pub is_ended_life : Life → Bool
 is_ended_life ended = true
@@ -24,14 +23,10 @@ abbrev pub is_ended : Memory → MachinePointer → Bool
 is_ended memory null = false
 is_ended memory (into i offset lo hi) = is_ended_life (life_at memory i)
 
-abbrev pub is_null : MachinePointer → Bool
-is_null null = true
-is_null (into i offset lo hi) = false
-
 -- ---- narrowing: a member, or an array as a pointer to its first element
 
-abbrev pub narrowed_by : World → ℕ → Spot → World → Reply MachinePointer
-narrowed_by before size spot w = goes (into spot.instance spot.offset spot.offset (spot.offset + size)) w
+abbrev pub narrowed_by : ℕ → Spot → World → Reply MachinePointer
+narrowed_by size spot w = goes (into spot.instance spot.offset spot.offset (spot.offset + size)) w
 
 -- the pointer moved to a part
 abbrev pub at_part : MachinePointer → ℕ → MachinePointer
@@ -39,8 +34,11 @@ at_part null offset = null
 at_part (into i o lo hi) offset = into i (o + offset) lo hi
 
 -- so many bytes at an offset of what a pointer points to
-abbrev pub narrow : MachinePointer → ℕ → ℕ → World → Reply MachinePointer
-narrow p offset size w = behind (touched w (at_part p offset) size false) (narrowed_by w size)
+abbrev pub narrow_pointer : ℕ → ℕ → MachinePointer → World → Reply MachinePointer
+narrow_pointer offset size p w = behind (touched w (at_part p offset) size false) (narrowed_by size)
+
+abbrev pub narrow : Scalar → ℕ → ℕ → World → Reply Scalar
+narrow at offset size w = with_pointer at w (λ p w. as_pointer (narrow_pointer offset size p w))
 
 -- ---- arithmetic
 
@@ -55,8 +53,11 @@ moved w null by = stopped_by w rule.Nullref
 moved w (into i offset lo hi) by = unless w (is_ended w.memory (into i offset lo hi)) rule.Nullref (moved_into w i (pos offset +ℤ by) lo hi)
 
 -- a pointer is moved by so many elements of a size, backwards or not
-abbrev pub shift : MachinePointer → ℤ → Labels → ℕ → Bool → World → Reply MachinePointer
-shift p n labels size back w = moved (noted w (not (is_unlabelled labels)) rule.Taintsink) p (distance_of back n size)
+abbrev pub shift_pointer : ℕ → Bool → MachinePointer → ℤ → Labels → World → Reply MachinePointer
+shift_pointer size back p n labels w = moved (noted w (not (is_unlabelled labels)) rule.Taintsink) p (distance_of back n size)
+
+abbrev pub shift : Scalar → Scalar → ℕ → Bool → World → Reply Scalar
+shift at by size back w = with_pointer at w (λ p w. with_number by w (λ n labels w. as_pointer (shift_pointer size back p n labels w)))
 
 -- ---- two pointers
 
@@ -80,8 +81,11 @@ compared w p q reply = unless w (is_ended w.memory p || is_ended w.memory q) rul
 abbrev pub elements_between : MachinePointer → MachinePointer → ℕ → ℤ
 elements_between p q size = int_div (pos (offset_of p) -ℤ pos (offset_of q)) (pos size)
 
-abbrev pub difference : MachinePointer → MachinePointer → ℕ → World → Reply Scalar
-difference p q size w = compared w p q (goes (integer (elements_between p q size) no_labels) w)
+abbrev pub pointer_difference : ℕ → MachinePointer → MachinePointer → World → Reply Scalar
+pointer_difference size p q w = compared w p q (goes (integer (elements_between p q size) no_labels) w)
+
+abbrev pub difference : Scalar → Scalar → ℕ → World → Reply Scalar
+difference left right size w = with_pointer left w (λ p w. with_pointer right w (pointer_difference size p))
 
 abbrev pub are_equal : MachinePointer → MachinePointer → Bool
 are_equal null q = is_null q
@@ -94,10 +98,10 @@ equality w p q result = unless w (is_ended w.memory p || is_ended w.memory q) ru
 abbrev pub ordered : Rel → MachinePointer → MachinePointer → World → Reply Scalar
 ordered rel p q w = compared w p q (goes (truth (holds rel (pos (offset_of p)) (pos (offset_of q)))) w)
 
-abbrev pub compare : Rel → MachinePointer → MachinePointer → World → Reply Scalar
-compare Eq p q w = equality w p q (are_equal p q)
-compare Ne p q w = equality w p q (not (are_equal p q))
-compare Lt p q w = ordered Lt p q w
-compare Le p q w = ordered Le p q w
-compare Gt p q w = ordered Gt p q w
-compare Ge p q w = ordered Ge p q w
+abbrev pub pointers_compared : Rel → MachinePointer → MachinePointer → World → Reply Scalar
+pointers_compared Eq p q w = equality w p q (are_equal p q)
+pointers_compared Ne p q w = equality w p q (not (are_equal p q))
+pointers_compared rel p q w = ordered rel p q w
+
+abbrev pub compare : Rel → Scalar → Scalar → World → Reply Scalar
+compare rel left right w = with_pointer left w (λ p w. with_pointer right w (pointers_compared rel p))

@@ -3,11 +3,14 @@ use Rattle.std.specs.Prelude.{ℕ, suc, ◌+◌, Bool, true, false, not, cond, �
 use Rattle.c_layout.specs.declared.data_model.Model.{Model}
 use Rattle.c_layout.specs.declared.leaf_lists.Class.TheVariants.{Char}
 use Rattle.c_layout.specs.declared.leaf_lists.Leaf.{Leaf}
-use Rattle.store_domain.specs.ClassNumbers.{same_class, is_pointer}
+use Rattle.lib_models_memory.specs.ScalarSizes.{same_class, is_pointer}
 use Rattle.lib_models_memory.specs.Bytes.{MachinePointer, Content, part, Tag, Byte}
 use Rattle.lib_models_memory.specs.Instances.{bytes_at}
-use Rattle.lib_models_effects.specs.Worlds.{World, Reply, goes, stops, behind, with_memory}
-use Rattle.lib_models_effects.specs.ScalarBytes.{fits_tag, or_tag, tag_at, replaced, region}
+use Rattle.lib_models_memory.specs.Scalars.{Scalar}
+use Rattle.lib_models_effects.specs.Worlds.{World, Reply, goes, stops, behind, with_memory, Left}
+use Rattle.lib_models_effects.specs.Operands.{with_pointer, as_pointer}
+use Rattle.lib_models_memory.specs.Tags.{fits_tag, or_tag, tag_at}
+use Rattle.lib_models_effects.specs.ScalarBytes.{replaced, region}
 use Rattle.lib_models_effects.specs.Touches.{Spot, touched, is_allocated, storage_at, set_bytes}
 
 -- two regions have a byte in common
@@ -62,8 +65,11 @@ copy_made m leaves size w to from =
     (copied m leaves (is_allocated (storage_at w.memory to.instance)) 0 (region (bytes_at w.memory to.instance) to.offset size) (region (bytes_at w.memory from.instance) from.offset size))))
 
 abbrev pub copy_at : Model → List Leaf → ℕ → MachinePointer → Spot → Spot → World → Reply MachinePointer
-copy_at m leaves size p from to w = cond (may_copy m leaves size w to from) (goes p (copy_made m leaves size w to from)) (stops w)
+copy_at m leaves size p from to w = cond (may_copy m leaves size w to from) (goes p (copy_made m leaves size w to from)) (stops Left w)
 
 -- a struct is copied to where a pointer points to from where another one does; the source is touched first
-abbrev pub copy_struct : Model → List Leaf → ℕ → MachinePointer → MachinePointer → World → Reply MachinePointer
-copy_struct m leaves size p q w = behind (touched w q size false) (λ from w. behind (touched w p size true) (copy_at m leaves size p from))
+abbrev pub copy_between : Model → List Leaf → ℕ → MachinePointer → MachinePointer → World → Reply MachinePointer
+copy_between m leaves size p q w = behind (touched w q size false) (λ from w. behind (touched w p size true) (copy_at m leaves size p from))
+
+abbrev pub copy_struct : Model → List Leaf → ℕ → Scalar → Scalar → World → Reply Scalar
+copy_struct m leaves size to from w = with_pointer to w (λ p w. with_pointer from w (λ q w. as_pointer (copy_between m leaves size p q w)))

@@ -1,10 +1,9 @@
 -- Worked rows of the definitions.
-use Rattle.std.specs.Prelude.{◌≡◌, ℕ, refl, pos, negsuc, true, false, Option, Some, None, List, [], ◌∷◌}
-use Rattle.value_domain.specs.LabelSets.{no_labels}
-use Rattle.lib_models_memory.specs.Bytes.{Content, indeterminate, number, part, null, Byte}
-use Rattle.lib_models_memory.specs.Instances.{Memory, allocated, live, freed, ended, byte_at, life_at}
-use Rattle.lib_models_memory.specs.Matching.{Labelled, number_of}
-use Rattle.lib_models_memory.specs.ValueMeaning.{first_zero, zero_offset}
+use Rattle.std.specs.Prelude.{◌≡◌, ℕ, refl, pos, negsuc, true, false, Some, None, [], ◌∷◌}
+use Rattle.lib_models_memory.specs.Labels.{no_labels}
+use Rattle.lib_models_memory.specs.Bytes.{number, Byte}
+use Rattle.lib_models_memory.specs.Instances.{Memory, allocated, freed, ended, byte_at, life_at, total_size}
+use Rattle.lib_models_memory.specs.Numbers.{Labelled, number_of}
 
 abbrev plain : ℕ → Byte
 plain n = record { content = number n no_labels; tag = None }
@@ -25,20 +24,6 @@ signed = refl
 least : number_of true (of 128 ∷ []) ≡ negsuc 127
 least = refl
 
--- the text "ab", and what stands where a byte is indeterminate before a zero
-text : first_zero (plain 97 ∷ (plain 98 ∷ (plain 0 ∷ (plain 0 ∷ [])))) ≡ Some 2
-text = refl
-
-blank_first : first_zero (plain 97 ∷ (record { content = indeterminate; tag = None } ∷ (plain 0 ∷ []))) ≡ None
-blank_first = refl
-
--- a part of a null pointer is no zero
-pointer_first : first_zero (record { content = part null 0; tag = None } ∷ (plain 0 ∷ [])) ≡ Some 1
-pointer_first = refl
-
-no_zero : first_zero (plain 1 ∷ []) ≡ None
-no_zero = refl
-
 abbrev one_block : Memory
 one_block = record { storage = allocated; life = freed; bytes = plain 7 ∷ [] } ∷ []
 
@@ -55,3 +40,6 @@ freed_block = refl
 
 no_block : life_at one_block 1 ≡ ended
 no_block = refl
+
+one_byte : total_size one_block ≡ 1
+one_byte = refl

@@ -1,7 +1,7 @@
 -- The bytes of memory (6.2.6.1), with the types under which they were written (6.5p6 and p7).
 use Rattle.std.specs.Prelude.{ℕ, Option}
 use Rattle.c_layout.specs.declared.leaf_lists.Class.{Class}
-use Rattle.value_domain.specs.declared.label_sets.Labels.{Labels}
+use Rattle.lib_models_memory.specs.Labels.{Labels}
 
 -- a null pointer, or an offset into an instance and the bounds within which the pointer may move
 pub data MachinePointer : Type 0 where

@@ -1,5 +1,5 @@
 -- The instances of objects in memory (6.2.4, 7.22.3), and their bytes.
-use Rattle.std.specs.Prelude.{ℕ, Option, Some, None, List, [], slice_get}
+use Rattle.std.specs.Prelude.{ℕ, ◌+◌, Option, Some, None, List, [], ◌∷◌, length, slice_get}
 use Rattle.lib_models_memory.specs.Bytes.{Byte}
 
 pub data Storage : Type 0 where
@@ -39,3 +39,8 @@ life_of (Some instance) = instance.life
 -- no instance is one whose lifetime has ended
 abbrev pub life_at : Memory → ℕ → Life
 life_at memory i = life_of (slice_get memory i)
+
+-- how many bytes all instances have together, those that have ended too
+abbrev pub total_size : Memory → ℕ
+total_size [] = 0
+total_size (instance ∷ instances) = length instance.bytes + total_size instances

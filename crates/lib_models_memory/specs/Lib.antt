@@ -1,6 +1,7 @@
+pub mod Labels
+pub mod ScalarSizes
 pub mod Bytes
 pub mod Instances
-pub mod Matching
-pub mod Places
-pub mod ValueMeaning
-pub mod RowMeaning
+pub mod Tags
+pub mod Numbers
+pub mod Scalars

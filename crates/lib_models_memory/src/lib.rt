@@ -1,3 +1,2 @@
-//! Definitions alone: the memory of a C program, byte by byte, and the memories for which a row of the
-//! analysis stands.
+//! Definitions alone: the memory of a C program, byte by byte, and the scalars in it.
 #![tactic(auto)]

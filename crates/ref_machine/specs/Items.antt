@@ -1,5 +1,5 @@
 -- What a function still has to do: a list of items, the next one first.
-use Rattle.std.specs.Prelude.{ℕ, Bool, List, [], ◌∷◌, Option}
+use Rattle.std.specs.Prelude.{ℕ, ℤ, Bool, List, [], ◌∷◌, Option}
 use Rattle.cc_base.specs.declared.diagnostics.Place.{Place}
 use Rattle.cc_base.specs.declared.integer_operators.Rel.{Rel}
 use Rattle.cc_base.specs.declared.limit_table.IntType.{IntType}
@@ -7,20 +7,26 @@ use Rattle.c_layout.specs.CheckedTrees.{TermTree, LvalueTree, StatementTree}
 use Rattle.c_layout.specs.declared.checked_tree.checked_terms.ObjectRef.{ObjectRef}
 use Rattle.c_layout.specs.declared.checked_tree.checked_statements.CaseLabel.{CaseLabel}
 use Rattle.flow_lower_conditions.specs.declared.branch_tests.NamedObject.{NamedObject}
-use Rattle.lib_models_memory.specs.ValueMeaning.{Scalar}
-use Rattle.lib_models_effects.specs.Worlds.{World, Reply}
+use Rattle.ref_machine.specs.Operations.{Operation}
 
--- a side of a test: a named object, or a constant
+-- a side of a test: a named object, a number, or a null pointer
 pub data NamedSide : Type 0 where
   named : (object : NamedObject) → NamedSide
-  number : NamedSide
+  number : (value : ℤ) → NamedSide
+  nothing : NamedSide
 
--- a relation of two integers in their common type
+-- a relation of two integers in their common type, or of two pointers
 pub record NamedTest : Type 0 where
   pub left : NamedSide
   pub rel : Rel
   pub right : NamedSide
-  pub common : IntType
+  pub common : Option IntType
+
+-- what a declaration does to an object
+pub data Change : Type 0 where
+  Forget : Change
+  Clear : Change
+  Spell : (offset room : ℕ) (text : List ℕ) → Change
 
 mutual
   pub data Item : Type 0 where
@@ -29,10 +35,9 @@ mutual
     Unused : (term : TermTree) → Item
     -- the pointer to an lvalue is pushed
     Address : (lvalue : LvalueTree) → Item
-    -- a step takes so many values, given oldest first, and gives others
-    Do : (at : Place) (count : ℕ) (effect : List Scalar → World → Reply (List Scalar)) → Item
-    -- a value more, that no step computes
-    Push : (value : Scalar) → Item
+    Do : (at : Place) (operation : Operation) → Item
+    -- 0 or 1 is pushed
+    Truth : (holds : Bool) → Item
     -- the newest value again, or no longer
     Again : Item
     Drop : Item
@@ -40,16 +45,17 @@ mutual
     Object : (at : Place) (object : ObjectRef) (offset : ℕ) → Item
     Literal : (at : Place) (index : ℕ) → Item
     Outcome : (at : Place) → Item
-    -- something is done to a local object
-    OnObject : (at : Place) (local : ℕ) (effect : ℕ → World → World) → Item
+    OnObject : (at : Place) (local : ℕ) (change : Change) → Item
     -- the items of a condition, by whether the newest value is 0
     Choose : (at : Place) (test : Option NamedTest) (held failed : Items) → Item
+    -- a line is read, and the items follow by whether there was one
+    ReadLine : (at : Place) (none some : Items) → Item
     Statement : (statement : StatementTree) → Item
     -- the next turn of a loop, by its condition
     WhileTurn : (condition : TermTree) (body : StatementTree) → Item
     DoTurn : (body : StatementTree) (condition : TermTree) → Item
     ForTurn : (condition step : Option TermTree) (body : StatementTree) → Item
-    -- here a turn of a loop ends, or a loop or a switch
+    -- here `continue` leads, and `break`
     TurnEnd : Item
     LoopEnd : Item
     -- the newest value selects a label of a switch's body
@@ -57,14 +63,20 @@ mutual
     -- local objects begin to live, or end, one after the other; the result is the object behind all locals
     Enters : (locals : List ℕ) → Item
     Leaves : (locals : List ℕ) → Item
-    -- jumps
+    -- a step without effect: control goes somewhere else
+    Hop : Item
     GoTo : (label : ℕ) → Item
     BreakOut : Item
     NextTurn : Item
-    -- the function is left; the run ends where it is the entry
-    Finish : Item
+    -- the function is left by `return`, or its body ends
+    LeaveFunction : Item
+    EndBody : Item
     -- a function is called with the newest values
     Invoke : (at : Place) (function : ℕ) (count : ℕ) (used : Bool) → Item
+    -- the value so far below the newest, a pointer to a parameter, is stored there
+    Bind : (at : Place) (parameter : ℕ) (depth : ℕ) → Item
+    -- the object of the result ends
+    LeaveOutcome : (at : Place) → Item
 
   pub data Items : Type 0 where
     Nothing : Items

@@ -5,9 +5,8 @@ use Rattle.c_layout.specs.CheckedTrees as tree
 use Rattle.c_layout.specs.CheckedTrees.{TermTree, StatementTree, StatementTrees}
 use Rattle.c_layout.specs.CheckedUnits.{UnitView, FunctionView}
 use Rattle.c_layout.specs.declared.checked_tree.checked_statements.CaseLabel.{CaseLabel}
-use Rattle.ref_machine.specs.Items.{Item, Statement, WhileTurn, TurnEnd, LoopEnd, ForTurn, DoTurn, Leaves, Finish}
-use Rattle.ref_machine.specs.ConditionItems.{condition}
-use Rattle.ref_machine.specs.StatementItems.{statements, list_statements, clause}
+use Rattle.ref_machine.specs.Items.{Item, Statement, WhileTurn, TurnEnd, LoopEnd, Leaves, Hop, EndBody}
+use Rattle.ref_machine.specs.StatementItems.{statements, list_statements, do_test, for_step}
 
 -- a label of the function, or one of the innermost switch
 pub data Sought : Type 0 where
@@ -40,7 +39,7 @@ abbrev pub here_or : Bool → List Item → Option (List Item) → Option (List 
 here_or true items later = Some items
 here_or false items later = later
 
-mutual
+unfoldable mutual
   -- from a label in a statement on, where so many items follow the statement; what is entered on the way
   -- is entered by the jump
   pub found : UnitView → Sought → StatementTree → List Item → Option (List Item)
@@ -52,10 +51,10 @@ mutual
   found u l (tree.StartList at local stores) rest = None
   found u l (tree.Block objects items) rest = found_in u l items (Leaves objects ∷ rest)
   found u l (tree.If c body) rest = found u l body rest
-  found u l (tree.IfElse c one two) rest = first (found u l one rest) (found u l two rest)
-  found u l (tree.While c body) rest = found u l body (TurnEnd ∷ (WhileTurn c body ∷ (LoopEnd ∷ rest)))
-  found u l (tree.Do body c) rest = found u l body (TurnEnd ∷ (condition u true c (DoTurn body c ∷ []) [] ++ LoopEnd ∷ rest))
-  found u l (tree.For objects start c step body) rest = found u l body (TurnEnd ∷ (clause step ++ (ForTurn c step body ∷ (LoopEnd ∷ (Leaves objects ∷ rest)))))
+  found u l (tree.IfElse c one two) rest = first (found u l one (Hop ∷ rest)) (found u l two rest)
+  found u l (tree.While c body) rest = found u l body (Hop ∷ (TurnEnd ∷ (WhileTurn c body ∷ (LoopEnd ∷ rest))))
+  found u l (tree.Do body c) rest = found u l body (do_test u body c ++ LoopEnd ∷ rest)
+  found u l (tree.For objects start c step body) rest = found u l body (for_step c step body ++ (LoopEnd ∷ (Leaves objects ∷ rest)))
   found u l (tree.Switch at e labels has_default enumerators body) rest = inside_switch l (found u l body (LoopEnd ∷ rest))
   found u l (tree.Case n body) rest = here_or (is_case l n) (Statement body ∷ rest) (found u l body rest)
   found u l (tree.Default body) rest = here_or (is_other l) (Statement body ∷ rest) (found u l body rest)
@@ -75,7 +74,7 @@ found_among u l (s ∷ ss) rest = first (found u l s (list_statements ss ++ rest
 
 -- from a label of a function on
 abbrev pub from_label : UnitView → FunctionView → ℕ → Option (List Item)
-from_label u f n = found_among u (label n) f.body (Leaves f.scope ∷ (Finish ∷ []))
+from_label u f n = found_among u (label n) f.body (Leaves f.scope ∷ (EndBody ∷ []))
 
 -- the label that a value selects: the case of that value
 abbrev pub case_of : List CaseLabel → ℕ → ℤ → Sought

@@ -1,6 +1,6 @@
 -- The objects that live where a list of items is come to, scope by scope, the innermost one first.
 use Rattle.std.specs.Prelude.{ℕ, Bool, false, cond, ◌||◌, ◌==◌, List, [], ◌∷◌, ◌++◌}
-use Rattle.ref_machine.specs.Items.{Item, Enters, Leaves, TurnEnd, LoopEnd}
+use Rattle.ref_machine.specs.Items.{Item, Enters, Leaves, Hop, TurnEnd, LoopEnd}
 
 abbrev pub with_scope : Item → List (List ℕ) → List (List ℕ)
 with_scope (Leaves objects) scopes = objects ∷ scopes
@@ -37,7 +37,15 @@ entered_between from to = without (all_of (open_scopes from)) (inwards (open_sco
 
 -- a jump leaves what is left and enters what is entered, and goes on there
 abbrev pub jump : List Item → List Item → List Item
-jump from to = Leaves (left_between from to) ∷ (Enters (entered_between from to) ∷ to)
+jump from to = Leaves (left_between from to) ∷ (Enters (entered_between from to) ∷ (Hop ∷ to))
+
+abbrev pub entering_first : List ℕ → List Item → List Item
+entering_first [] to = to
+entering_first (x ∷ xs) to = Enters (x ∷ xs) ∷ (Hop ∷ to)
+
+-- the way to a label of a switch is a step of its own where it enters something
+abbrev pub leap_in : List Item → List Item → List Item
+leap_in from to = entering_first (entered_between from to) to
 
 -- what follows the end of the innermost loop or switch, and the end of the innermost loop's turn
 abbrev pub behind_loop : List Item → List Item

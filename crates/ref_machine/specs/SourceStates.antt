@@ -1,59 +1,85 @@
 -- Where a run of the source stands.
-use Rattle.std.specs.Prelude.{ℕ, ◌+◌, Bool, List, [], ◌++◌, length, take, drop, reverse, Option, Some, None, slice_get}
+use Rattle.std.specs.Prelude.{ℕ, Bool, List, ◌∷◌, ◌++◌, length, Option, Some, None, slice_get}
 use Rattle.cc_base.specs.declared.diagnostics.Place.{Place}
-use Rattle.c_layout.specs.Types.{Void}
-use Rattle.c_layout.specs.CheckedUnits.{FunctionView, UnitView}
+use Rattle.c_layout.specs.Types.{Ty}
+use Rattle.c_layout.specs.CheckedUnits.{FunctionView, StaticView, UnitView}
 use Rattle.c_layout.specs.declared.checked_tree.checked_terms.ObjectRef.{ObjectRef}
 use Rattle.c_layout.specs.declared.checked_tree.checked_terms.ObjectRef.TheVariants.{Static, Local}
-use Rattle.lib_models_memory.specs.ValueMeaning.{Scalar}
-use Rattle.lib_models_effects.specs.Worlds.{World}
+use Rattle.flow_lower_functions.specs.Functions.{local_type}
+use Rattle.lib_models_memory.specs.Scalars.{Scalar}
+use Rattle.lib_models_effects.specs.Worlds.{World, Reply, stops, Stuck}
 use Rattle.ref_machine.specs.Items.{Item}
 
--- a function that waits for a call: its number, the instances that its objects name, what it still has
--- to do behind the call, the call's place, and whether its value is used
+-- a function that waits for a call: its number, the instances that its objects name, what it still has to do
+-- behind the call, the call's place, and whether its value is used
 pub record Frame : Type 0 where
   pub function : ℕ
-  pub names : ℕ → ℕ
+  pub names : ℕ → Option ℕ
   pub control : List Item
   pub at : Place
   pub used : Bool
 
--- the function that runs, the instances that its objects name, what it still has to do, the values that
--- are pending in it and in the functions that wait, the newest first, these functions, and the world
+-- the function that runs, the instances that its objects name, what it still has to do, the values that are
+-- pending in it and in the functions that wait, the newest first, these functions, and the world
 pub record State : Type 0 where
   pub function : ℕ
-  pub names : ℕ → ℕ
+  pub names : ℕ → Option ℕ
   pub control : List Item
   pub values : List Scalar
   pub frames : List Frame
   pub world : World
 
-abbrev pub no_function : Place → FunctionView
-no_function at = record { name = []; at = at; returns = Void; parameters = 0; locals = []; scope = []; body = []; labels = 0 }
+abbrev pub with_world : State → World → State
+with_world s w = record s { world = w }
 
-abbrev pub function_in : Option FunctionView → FunctionView
-function_in None = no_function (record { file = 0; line = 0; col = 0 })
-function_in (Some f) = f
+abbrev pub first_do : List Item → State → State
+first_do items s = record s { control = items ++ s.control }
 
-abbrev pub function_at : UnitView → ℕ → FunctionView
-function_at u n = function_in (slice_get u.functions n)
+abbrev pub pushed : Scalar → State → State
+pushed v s = record s { values = v ∷ s.values }
+
+-- ---- what is there, without which a run is stuck
+
+abbrev pub stuck_at : {A : Type 0} → State → Reply A
+stuck_at s = stops Stuck s.world
+
+abbrev pub if_some : {A B : Type 0} → State → Option A → (A → Reply B) → Reply B
+if_some s None use_it = stuck_at s
+if_some s (Some x) use_it = use_it x
+
+abbrev pub function_at : UnitView → ℕ → Option FunctionView
+function_at u n = slice_get u.functions n
+
+-- the function that runs
+abbrev pub with_function : {B : Type 0} → UnitView → State → (FunctionView → Reply B) → Reply B
+with_function u s use_it = if_some s (function_at u s.function) use_it
+
+-- the instance that a local object names
+abbrev pub with_local : {B : Type 0} → State → ℕ → (ℕ → Reply B) → Reply B
+with_local s n use_it = if_some s (s.names n) use_it
+
+-- ---- objects
 
 -- the number of the object of a function's result
 abbrev pub result_object : FunctionView → ℕ
 result_object f = length f.locals
 
--- objects of static storage and then literals are the first instances
-abbrev pub literal_instance : UnitView → ℕ → ℕ
-literal_instance u n = length u.objects + n
-
-abbrev pub instance_of : (ℕ → ℕ) → ObjectRef → ℕ
-instance_of names (Static n) = n
+-- objects of static storage are the first instances
+abbrev pub instance_of : (ℕ → Option ℕ) → ObjectRef → Option ℕ
+instance_of names (Static n) = Some n
 instance_of names (Local n) = names n
 
--- the newest values, the oldest of them first
-abbrev pub newest : ℕ → List Scalar → List Scalar
-newest n values = reverse (take n values)
+abbrev pub with_object : {B : Type 0} → State → ObjectRef → (ℕ → Reply B) → Reply B
+with_object s o use_it = if_some s (instance_of s.names o) use_it
 
--- so many values are taken and others are pending in their place, given oldest first
-abbrev pub in_place : ℕ → List Scalar → List Scalar → List Scalar
-in_place n given values = reverse given ++ drop n values
+abbrev pub static_type : Option StaticView → Option Ty
+static_type None = None
+static_type (Some o) = Some o.ctype
+
+abbrev pub local_of : Option FunctionView → ℕ → Option Ty
+local_of None n = None
+local_of (Some f) n = Some (local_type f n)
+
+abbrev pub type_of : UnitView → State → ObjectRef → Option Ty
+type_of u s (Static n) = static_type (slice_get u.objects n)
+type_of u s (Local n) = local_of (function_at u s.function) n

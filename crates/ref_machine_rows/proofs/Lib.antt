@@ -1,1 +1,8 @@
-mod Rows
+mod Builders
+mod TestedParameter
+mod EndlessLoop
+mod Draws
+mod Calls
+mod Jumps
+mod ReadLines
+mod Starts

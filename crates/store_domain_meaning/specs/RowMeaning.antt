@@ -5,29 +5,28 @@ use Rattle.cc_base.specs.IntegerDomains.{IntegersOf}
 use Rattle.c_layout.specs.declared.leaf_lists.Class.{Class}
 use Rattle.c_layout.specs.declared.leaf_lists.Leaf.{Leaf}
 use Rattle.c_layout.specs.declared.shapes.BaseInfo.{BaseInfo}
-use Rattle.c_layout.specs.declared.shapes.BaseKind.TheVariants as base_kind
 use Rattle.c_layout.specs.declared.shapes.ZeroPart.{ZeroPart}
 use Rattle.flow_program.specs.declared.programs.Flow.{Flow}
 use Rattle.value_domain.specs.declared.values.Value.{Value}
 use Rattle.value_domain.specs.declared.row_cells.Cell.{Cell}
-use Rattle.store_domain.specs.ClassNumbers.{class_at, is_pointer}
+use Rattle.store_domain.specs.ClassNumbers.{class_at}
 use Rattle.store_domain.specs.RowPositions.{leaf_position, class_position, zero_position, state_position, value_at, zero_at, state_at}
 use Rattle.abstract_steps_checks.specs.Temporaries.{temp_value}
 use Rattle.lib_models_memory.specs.Bytes.{Content, Byte}
-use Rattle.lib_models_memory.specs.Instances.{Memory, live, freed, bytes_at, life_at}
-use Rattle.lib_models_memory.specs.Matching.{Matched, Labelled, Holds, number_of}
-use Rattle.lib_models_memory.specs.Places.{IsPlaceOf, OwnedByLeaf, OwnedByClass, IsClassPlace}
-use Rattle.lib_models_memory.specs.ValueMeaning.{Naming, Scalar, StandsScalar, StandsContent, StandsZero, StandsState}
+use Rattle.lib_models_memory.specs.Instances.{Memory, live, bytes_at, life_at}
+use Rattle.lib_models_memory.specs.Numbers.{Labelled, number_of}
+use Rattle.lib_models_memory.specs.ScalarSizes.{is_pointer}
+use Rattle.lib_models_memory.specs.Scalars.{Scalar}
+use Rattle.store_domain_meaning.specs.Matching.{Matched, Holds}
+use Rattle.store_domain_meaning.specs.Places.{IsPlaceOf, OwnedByLeaf, OwnedByClass, IsClassPlace}
+use Rattle.store_domain_meaning.specs.ValueMeaning.{Naming, StandsScalar, StandsContent, StandsZero, StandsState}
+use Rattle.store_domain_meaning.specs.SoundMemory.{IsMemoryOf, AreScalarsOf, AreEntered}
 
--- memory, and what the temporaries have, where they have something
+-- memory, what the temporaries have, and the instances of the objects that are entered
 pub record MachineState : Type 0 where
   pub memory : Memory
-  pub temps : List (Option Scalar)
-
--- the instances that a base names; each base but the older one of an allocation names one live instance
--- at most
-pub record NamesOne (flow : Flow) (naming : Naming) (memory : Memory) : Type 0 where
-  pub one : (i j b : ℕ) (base : BaseInfo) → slice_get flow.bases.items b ≡ Some base → (base.kind ≡ base_kind.Older → ⊥) → naming i ≡ Some b → naming j ≡ Some b → life_at memory i ≡ live → life_at memory j ≡ live → i ≡ j
+  pub temps : ℕ → Option Scalar
+  pub entered : ℕ → Option ℕ
 
 abbrev pub array_of : Option ℕ → List Byte → List Byte
 array_of None bytes = bytes
@@ -58,9 +57,11 @@ module _ {I : Type 0} (stands : I → ℤ → Type 0) (flow : Flow) (naming : Na
 module _ {I : Type 0} (l : LatticeOf I) (n : IntegersOf I) (stands : I → ℤ → Type 0) (flow : Flow) (naming : Naming) where
   -- a row stands for a state by these names: each of its cells stands for its own
   pub record StandsFor (row : List (Cell I)) (state : MachineState) : Type 0 where
-    pub names : NamesOne flow naming state.memory
+    pub sane : IsMemoryOf flow.model flow.bases.items naming state.memory
+    pub held : AreScalarsOf naming state.memory state.temps
+    pub lives : AreEntered naming state.memory state.entered
     pub leaves : (b j : ℕ) (base : BaseInfo) (leaf : Leaf) → slice_get flow.bases.items b ≡ Some base → slice_get base.shape.cells j ≡ Some leaf → StandsLeaf stands flow naming state.memory b leaf (value_at l n row (leaf_position base j))
     pub classes : (b c : ℕ) (base : BaseInfo) → slice_get flow.bases.items b ≡ Some base → base.shape.heap ≡ true → c < 6 → StandsClass stands flow naming state.memory b base (class_at c) (value_at l n row (class_position base c))
     pub zeros : (b p i : ℕ) (base : BaseInfo) (part : ZeroPart) → slice_get flow.bases.items b ≡ Some base → slice_get base.shape.zeros p ≡ Some part → IsLiveOf naming state.memory b i → StandsZero stands naming state.memory (zero_at l n row (zero_position base p)) (array_bytes part (bytes_at state.memory i))
     pub states : (b i : ℕ) (base : BaseInfo) → slice_get flow.bases.items b ≡ Some base → base.shape.heap ≡ true → naming i ≡ Some b → StandsState stands naming state.memory (state_at l n row (state_position base)) (life_at state.memory i) (length (bytes_at state.memory i))
-    pub temps : (t : ℕ) (scalar : Scalar) → slice_get state.temps t ≡ Some (Some scalar) → StandsScalar stands naming state.memory (temp_value l n flow row t) scalar
+    pub temps : (t : ℕ) (scalar : Scalar) → state.temps t ≡ Some scalar → StandsScalar stands naming state.memory (temp_value l n flow row t) scalar

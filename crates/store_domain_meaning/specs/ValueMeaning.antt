@@ -1,56 +1,18 @@
 -- The values, pointers, first zeros and states for which those of the analysis stand.
-use Rattle.std.specs.Prelude.{◌≡◌, ℕ, zero, suc, ◌-ℤ◌, ℤ, pos, Bool, true, false, Option, Some, None, List, [], ◌∷◌, length}
+use Rattle.std.specs.Prelude.{◌≡◌, ℕ, ◌-ℤ◌, ℤ, pos, true, false, Option, Some, List, length}
 use Rattle.c_layout.specs.declared.leaf_lists.Class.{Class}
 use Rattle.pointer_domain.specs.BaseSets.{bases_has}
 use Rattle.pointer_domain.specs.declared.pointer_sets.Pointers.{Pointers}
 use Rattle.string_domain.specs.declared.first_zeros.FirstZero.{FirstZero}
-use Rattle.string_domain.specs.FirstZeros.{the_end}
-use Rattle.value_domain.specs.declared.label_sets.Labels.{Labels}
 use Rattle.value_domain.specs.LabelSets.{labels_leq}
 use Rattle.value_domain.specs.declared.values.Value.{Value}
 use Rattle.value_domain.specs.declared.alloc_states.AllocState.{AllocState}
-use Rattle.store_domain.specs.ClassNumbers.{is_pointer}
+use Rattle.lib_models_memory.specs.ScalarSizes.{is_pointer}
 use Rattle.lib_models_memory.specs.Bytes.{MachinePointer, null, into, Content, indeterminate, number, part, Byte}
 use Rattle.lib_models_memory.specs.Instances.{Memory, Life, live, ended, freed, bytes_at, life_at}
-
--- a scalar that an instruction computes
-pub data Scalar : Type 0 where
-  integer : (n : ℤ) (labels : Labels) → Scalar
-  pointer : (p : MachinePointer) → Scalar
-
--- ---- first zeros
-
--- what a string function sees of a byte
-pub data Seen : Type 0 where
-  unknown : Seen
-  end : Seen
-  character : Seen
-
-abbrev pub seen_as : Content → Seen
-seen_as indeterminate = unknown
-seen_as (number zero labels) = end
-seen_as (number (suc n) labels) = character
-seen_as (part p k) = character
-
-abbrev pub one_more : Option ℕ → Option ℕ
-one_more None = None
-one_more (Some n) = Some (suc n)
-
-abbrev pub zero_by : Seen → Option ℕ → Option ℕ
-zero_by unknown behind = None
-zero_by end behind = Some 0
-zero_by character behind = one_more behind
-
--- the offset of the first zero byte behind determinate ones alone
-abbrev pub first_zero : List Byte → Option ℕ
-first_zero [] = None
-first_zero (b ∷ bs) = zero_by (seen_as b.content) (first_zero bs)
-
-abbrev pub zero_offset : Option ℕ → ℤ
-zero_offset None = the_end
-zero_offset (Some n) = pos n
-
--- ---- values
+use Rattle.lib_models_memory.specs.Scalars.{Scalar, integer, pointer}
+use Rattle.store_domain_meaning.specs.SeenLabels.{as_set}
+use Rattle.store_domain_meaning.specs.FirstZeroBytes.{first_zero, zero_offset}
 
 -- which base names an instance; none where the analysis does not speak of it
 abbrev pub Naming : Type 0
@@ -78,13 +40,13 @@ module _ {I : Type 0} (stands : I → ℤ → Type 0) (naming : Naming) (memory 
   StandsPointer v (into i offset lo hi) = StandsByLife v (life_at memory i) i offset lo hi
 
   abbrev pub StandsScalar : Value I → Scalar → Type 0
-  StandsScalar v (integer n labels) = stands v.num n × (labels_leq labels v.labels ≡ true)
+  StandsScalar v (integer n labels) = stands v.num n × (labels_leq (as_set labels) v.labels ≡ true)
   StandsScalar v (pointer p) = StandsPointer v.pointer p
 
   -- a byte that a cell of a class owns: a cell of pointers has null for each number
   abbrev pub StandsContent : Value I → Class → Content → Type 0
   StandsContent v class indeterminate = v.indeterminate ≡ true
-  StandsContent v class (number n labels) = (labels_leq labels v.labels ≡ true) × (is_pointer class ≡ true → v.pointer.null ≡ true)
+  StandsContent v class (number n labels) = (labels_leq (as_set labels) v.labels ≡ true) × (is_pointer class ≡ true → v.pointer.null ≡ true)
   StandsContent v class (part p k) = StandsPointer v.pointer p
 
   abbrev pub StandsZero : FirstZero I → List Byte → Type 0

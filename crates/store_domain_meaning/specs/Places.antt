@@ -1,11 +1,10 @@
 -- Where the cells of a base lie in its instances, and which bytes they own. Each byte of an instance,
 -- with its number in a scalar of a class, is owned by one cell of that class.
-use Rattle.std.specs.Prelude.{◌≡◌, ℕ, ◌+◌, ◌*◌, ◌<◌, ◌≤◌, List}
-use Rattle.std.specs.List.{Contains}
+use Rattle.std.specs.Prelude.{◌≡◌, ℕ, ◌+◌, ◌*◌, ◌<◌, ◌≤◌, List, Some, slice_get}
 use Rattle.c_layout.specs.declared.data_model.Model.{Model}
 use Rattle.c_layout.specs.declared.leaf_lists.Class.{Class}
 use Rattle.c_layout.specs.declared.leaf_lists.Leaf.{Leaf}
-use Rattle.store_domain.specs.ScalarTypes.{class_bytes}
+use Rattle.lib_models_memory.specs.ScalarSizes.{class_bytes}
 
 -- an offset of one of a leaf's scalars
 pub record IsPlaceOf (leaf : Leaf) (offset : ℕ) : Type 0 where
@@ -22,8 +21,9 @@ pub record OwnedByLeaf (m : Model) (leaf : Leaf) (offset k : ℕ) : Type 0 where
 
 -- a leaf of a class has a scalar at the offset
 pub record IsLeafPlace (leaves : List Leaf) (class : Class) (offset : ℕ) : Type 0 where
+  pub at : ℕ
   pub leaf : Leaf
-  pub among : Contains leaves leaf
+  pub among : slice_get leaves at ≡ Some leaf
   pub same : leaf.class ≡ class
   pub place : IsPlaceOf leaf offset
 

@@ -1,12 +1,12 @@
 -- What a load of a class at a place sees: bytes that lie there under the tags of the class, or under
 -- none.
-use Rattle.std.specs.Prelude.{◌≡◌, ℕ, zero, suc, ◌+◌, ◌-ℤ◌, ◌*◌, ◌<◌, ◌^◌, ℤ, pos, Bool, true, false, nat_lt, cond, Option, Some, None, List, [], ◌∷◌, length, slice_index_or}
+use Rattle.std.specs.Prelude.{◌≡◌, ℕ, ◌+◌, ◌<◌, Option, Some, None, List, length, slice_get}
 use Rattle.c_layout.specs.declared.data_model.Model.{Model}
 use Rattle.c_layout.specs.declared.leaf_lists.Class.{Class}
-use Rattle.value_domain.specs.declared.label_sets.Labels.{Labels}
-use Rattle.store_domain.specs.ScalarTypes.{class_bytes}
+use Rattle.lib_models_memory.specs.ScalarSizes.{class_bytes}
 use Rattle.lib_models_memory.specs.Bytes.{Content, number, Tag, Byte}
 use Rattle.lib_models_memory.specs.Instances.{Memory, byte_at}
+use Rattle.lib_models_memory.specs.Numbers.{Labelled}
 
 -- the tag is that of the k-th byte of the class, or there is none
 abbrev pub Fits : Class → ℕ → Option Tag → Type 0
@@ -19,29 +19,10 @@ pub record Matched (memory : Memory) (i offset : ℕ) (class : Class) (k : ℕ) 
   pub here : byte_at memory i offset ≡ Some (record { content = content; tag = tag })
   pub fits : Fits class k tag
 
--- a number with its labels
-pub record Labelled : Type 0 where
-  pub number : ℕ
-  pub labels : Labels
-
 abbrev pub number_in : Labelled → Content
 number_in n = number n.number n.labels
 
 -- all bytes at a place are seen as those of the class, and hold these numbers
 pub record Holds (m : Model) (memory : Memory) (i offset : ℕ) (class : Class) (numbers : List Labelled) : Type 0 where
   pub size : length numbers ≡ class_bytes m class
-  pub each : (k : ℕ) (n : Labelled) → k < length numbers → slice_index_or numbers k n ≡ n → Matched memory i (offset + k) class k (number_in n)
-
--- ---- the number of bytes, the least significant one first
-
-abbrev pub unsigned_of : List Labelled → ℕ
-unsigned_of [] = 0
-unsigned_of (n ∷ ns) = n.number + 256 * unsigned_of ns
-
--- two's complement (6.2.6.2)
-abbrev pub signed_of : ℕ → ℕ → ℤ
-signed_of bits n = cond (nat_lt (2 * n) (2 ^ bits)) (pos n) (pos n -ℤ pos (2 ^ bits))
-
-abbrev pub number_of : Bool → List Labelled → ℤ
-number_of true ns = signed_of (8 * length ns) (unsigned_of ns)
-number_of false ns = pos (unsigned_of ns)
+  pub each : (k : ℕ) (n : Labelled) → k < length numbers → slice_get numbers k ≡ Some n → Matched memory i (offset + k) class k (number_in n)
