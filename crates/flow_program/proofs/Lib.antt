@@ -1,3 +1,4 @@
 pub mod Ordered
 pub mod Nearest
 mod WellFormedRows
+mod ShapeRows

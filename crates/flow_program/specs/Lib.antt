@@ -3,3 +3,9 @@ pub mod FlowNumbers
 pub mod Nearest
 pub mod StructNumbers
 pub mod WellFormed
+pub mod ModelKinds
+pub mod BaseShapes
+pub mod StaticStarts
+pub mod StructCounts
+pub mod FlowSystems
+pub mod ApartLeaves

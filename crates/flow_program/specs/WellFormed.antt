@@ -1,13 +1,19 @@
 -- What a well-formed control-flow program is: what a part names is there, and is of the kind that the
 -- part needs; edges are numbered by the blocks that they leave; heads are where edges go back to.
-use Rattle.std.specs.Prelude.{ℕ, zero, suc, ℤ, pos, negsuc, ◌+◌, ◌*◌, ◌-◌, ◌^◌, Bool, true, false, not, cond, ◌&&◌, ◌==◌, nat_le, nat_lt, int_le, List, [], ◌∷◌, length, take, drop, Option, Some, None}
+use Rattle.std.specs.Prelude.{ℕ, zero, suc, ℤ, pos, negsuc, ◌+◌, ◌*◌, ◌-◌, ◌^◌, Bool, true, false, not, cond, ◌&&◌, ◌==◌, nat_le, nat_lt, int_le, List, [], ◌∷◌, length, take, drop, Option, Some, None, slice_get}
 use Rattle.std.specs.List.{list_any, list_all}
-use Rattle.cc_base.specs.IntegerTypes.{is_size}
 use Rattle.cc_base.specs.declared.limit_table.IntType.{IntType}
 use Rattle.cc_base.specs.declared.limit_table.Limits.{Limits}
 use Rattle.c_layout.specs.declared.shapes.BaseInfo.{BaseInfo}
 use Rattle.c_layout.specs.declared.shapes.BaseKind.{BaseKind}
 use Rattle.c_layout.specs.declared.shapes.BaseKind.TheVariants.{Static, Automatic, Literal, Newest, Older}
+use Rattle.c_layout.specs.Models.{is_model}
+use Rattle.c_layout.specs.StructViews.{structs_view}
+use Rattle.c_layout.specs.declared.data_model.Model.{Model}
+use Rattle.flow_program.specs.ModelKinds.{is_int_type}
+use Rattle.flow_program.specs.BaseShapes.{is_extent, same_truth, has_room, are_shaped}
+use Rattle.flow_program.specs.StaticStarts.{are_started}
+use Rattle.flow_program.specs.StructCounts.{are_counted}
 use Rattle.flow_program.specs.declared.basic_blocks.BasicBlock.{BasicBlock}
 use Rattle.flow_program.specs.declared.flow_edges.Edge.{Edge}
 use Rattle.flow_program.specs.declared.flow_edges.EdgeKind.{EdgeKind}
@@ -31,21 +37,15 @@ pub record Names : Type 0 where
   pub temps : ℕ
   pub bases : List BaseInfo
   pub structs : ℕ
-
--- an offset, a size or a scale
-abbrev pub is_extent : ℕ → Bool
-is_extent n = nat_le n (2 ^ 30)
+  pub model : Model
 
 -- a number of some integer type
 abbrev pub is_number : ℤ → Bool
 is_number n = int_le (negsuc (2 ^ 63 - 1)) n && int_le n (pos (2 ^ 64 - 1))
 
-abbrev pub is_int_type : IntType → Bool
-is_int_type kind = is_size kind.bytes
-
-abbrev pub is_scalar : Scalar → Bool
-is_scalar (scalar.Int kind) = is_int_type kind
-is_scalar scalar.Pointer = true
+abbrev pub is_scalar : Model → Scalar → Bool
+is_scalar m (scalar.Int kind) = is_int_type m kind
+is_scalar m scalar.Pointer = true
 
 abbrev pub kind_at : List BaseInfo → ℕ → Option BaseKind
 kind_at [] b = None
@@ -103,31 +103,36 @@ abbrev pub is_optional_extent : Option ℕ → Bool
 is_optional_extent None = true
 is_optional_extent (Some size) = is_extent size
 
+-- an offset of an object, or its end
+abbrev pub reaches : ℕ → Option BaseInfo → Bool
+reaches offset None = false
+reaches offset (Some info) = nat_le offset info.size
+
 -- whether an instruction names only what is there
 abbrev pub fits_operation : Names → Operation → Bool
-fits_operation n (op.Constant to value kind) = has_temp n to && (is_number value && is_int_type kind)
-fits_operation n (op.Address to b offset) = has_temp n to && (is_declared (kind_at n.bases b) && is_extent offset)
-fits_operation n (op.Load to from kind) = has_temp n to && (has_temp n from && is_scalar kind)
-fits_operation n (op.Store to from kind kept) = has_temp n to && (has_temp n from && (is_scalar kind && has_kept n kept))
+fits_operation n (op.Constant to value kind) = has_temp n to && (is_number value && is_int_type n.model kind)
+fits_operation n (op.Address to b offset) = has_temp n to && (is_declared (kind_at n.bases b) && reaches offset (slice_get n.bases b))
+fits_operation n (op.Load to from kind) = has_temp n to && (has_temp n from && is_scalar n.model kind)
+fits_operation n (op.Store to from kind kept) = has_temp n to && (has_temp n from && (is_scalar n.model kind && has_kept n kept))
 fits_operation n (op.Copy to from index) = has_temp n to && (has_temp n from && nat_lt index n.structs)
 fits_operation n (op.Narrow to from offset size) = has_temp n to && (has_temp n from && (is_extent offset && is_extent size))
 fits_operation n (op.Shift to from by size back) = has_temp n to && (has_temp n from && (has_amount n by && is_extent size))
-fits_operation n (op.Binary to o left right kind) = has_temp n to && (has_temp n left && (has_amount n right && is_int_type kind))
-fits_operation n (op.Unary to o from kind) = has_temp n to && (has_temp n from && is_int_type kind)
+fits_operation n (op.Binary to o left right kind) = has_temp n to && (has_temp n left && (has_amount n right && is_int_type n.model kind))
+fits_operation n (op.Unary to o from kind) = has_temp n to && (has_temp n from && is_int_type n.model kind)
 fits_operation n (op.Compare to rel left right) = has_temp n to && (has_temp n left && has_temp n right)
-fits_operation n (op.Not to from kind) = has_temp n to && (has_temp n from && is_scalar kind)
+fits_operation n (op.Not to from kind) = has_temp n to && (has_temp n from && is_scalar n.model kind)
 fits_operation n (op.Difference to left right size) = has_temp n to && (has_temp n left && (has_temp n right && is_extent size))
 fits_operation n (op.ComparePointers to rel left right) = has_temp n to && (has_temp n left && has_temp n right)
-fits_operation n (op.Convert to from old new) = has_temp n to && (has_temp n from && (is_scalar old && is_scalar new))
+fits_operation n (op.Convert to from old new) = has_temp n to && (has_temp n from && (is_scalar n.model old && is_scalar n.model new))
 fits_operation n (op.Library to function arguments site size) = has_result n to && (list_all (has_temp n) arguments.items && (is_site n.bases site && is_optional_extent size))
 fits_operation n (op.Enter b) = has_local n b
 fits_operation n (op.Leave b) = has_local n b
 fits_operation n (op.Forget b) = has_local n b
 fits_operation n (op.Clear b) = has_local n b
-fits_operation n (op.Spell b offset size text) = has_local n b && (is_extent offset && is_extent size)
+fits_operation n (op.Spell b offset size text) = has_local n b && ((is_extent offset && is_extent size) && has_room offset size (slice_get n.bases b))
 fits_operation n op.Jump = true
-fits_operation n (op.Branch t kind) = has_temp n t && is_scalar kind
-fits_operation n (op.Switch t kind) = has_temp n t && is_int_type kind
+fits_operation n (op.Branch t kind) = has_temp n t && is_scalar n.model kind
+fits_operation n (op.Switch t kind) = has_temp n t && is_int_type n.model kind
 fits_operation n (op.ReadLine to text count stream) = has_temp n to && (has_temp n text && (has_temp n count && has_temp n stream))
 fits_operation n op.Stop = true
 
@@ -166,10 +171,6 @@ abbrev pub is_jump : EdgeKind → Bool
 is_jump edge.Jump = true
 is_jump _ = false
 
-abbrev pub same_truth : Bool → Bool → Bool
-same_truth true b = b
-same_truth false b = not b
-
 abbrev pub is_when : Bool → EdgeKind → Bool
 is_when truth (edge.When on test kept) = same_truth truth on
 is_when truth _ = false
@@ -199,17 +200,17 @@ is_body l [] es = are_led l es
 is_body l (i ∷ is) es = false
 
 abbrev pub fits_side : Names → Side → Bool
-fits_side n (side.Object b kind) = is_declared (kind_at n.bases b) && is_scalar kind
+fits_side n (side.Object b kind) = is_declared (kind_at n.bases b) && is_scalar n.model kind
 fits_side n (side.Number value) = is_number value
 fits_side n side.Null = true
 
-abbrev pub is_common : Option IntType → Bool
-is_common None = true
-is_common (Some kind) = is_int_type kind
+abbrev pub is_common : Model → Option IntType → Bool
+is_common m None = true
+is_common m (Some kind) = is_int_type m kind
 
 abbrev pub fits_test : Names → Option Test → Bool
 fits_test n None = true
-fits_test n (Some t) = fits_side n t.left && (fits_side n t.right && is_common t.common)
+fits_test n (Some t) = fits_side n t.left && (fits_side n t.right && is_common n.model t.common)
 
 abbrev pub fits_taken : Names → Option (ℕ × ℤ) → Bool
 fits_taken n None = true
@@ -278,8 +279,8 @@ fits_initial_base bases (Some b) = is_initial (kind_at bases b)
 abbrev pub is_initial_object : List BaseInfo → InitialObject → Bool
 is_initial_object bases o = is_extent o.size && fits_initial_base bases o.base
 
-abbrev pub is_parameter : List BaseInfo → ParameterInput → Bool
-is_parameter bases p = is_automatic (kind_at bases p.base) && is_int_type p.kind
+abbrev pub is_parameter : Model → List BaseInfo → ParameterInput → Bool
+is_parameter m bases p = is_automatic (kind_at bases p.base) && is_int_type m p.kind
 
 abbrev pub all_instructions : List BasicBlock → ℕ
 all_instructions [] = 0
@@ -296,7 +297,22 @@ is_within limits f =
     && nat_le ((length f.blocks.items + 2) * f.width) limits.pool))))
 
 abbrev pub names_of : Flow → Names
-names_of f = record { temps = f.temps; bases = f.bases.items; structs = length f.structs.items.items }
+names_of f = record { temps = f.temps; bases = f.bases.items; structs = length f.structs.items.items; model = f.model }
+
+-- numbers of blocks and edges that can be counted on
+abbrev pub is_few : ℕ → Bool
+is_few count = nat_lt count (2 ^ 31)
+
+abbrev pub are_few : Flow → Bool
+are_few f = is_few (length f.blocks.items) && is_few (length f.edges.items)
+
+-- the bases, the objects that are there before the run begins, and the structs are such as the model makes them
+abbrev pub is_laid_out : Flow → Bool
+is_laid_out f =
+    is_model f.model
+    && (are_shaped f.model f.bases.items
+    && (are_started f.model f.bases.items f.initial.items
+    && are_counted (structs_view f.structs)))
 
 -- a well-formed program within limits
 abbrev pub is_well_formed : Limits → Flow → Bool
@@ -307,5 +323,7 @@ is_well_formed limits f =
     && (are_placed 0 f.bases.items
     && ((f.width == all_values f.bases.items + f.temps)
     && (list_all (is_initial_object f.bases.items) f.initial.items
-    && (list_all (is_parameter f.bases.items) f.parameters.items
-    && is_within limits f))))))
+    && (list_all (is_parameter f.model f.bases.items) f.parameters.items
+    && (is_within limits f
+    && (are_few f
+    && is_laid_out f))))))))

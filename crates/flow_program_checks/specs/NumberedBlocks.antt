@@ -3,7 +3,8 @@ use Rattle.std.specs.Prelude.{ℕ, ◌+◌, Bool, ◌&&◌, ◌==◌, List, [], 
 use Rattle.std.specs.List.{list_all}
 use Rattle.flow_program.specs.declared.basic_blocks.BasicBlock.{BasicBlock}
 use Rattle.flow_program.specs.declared.flow_edges.Edge.{Edge}
-use Rattle.flow_program.specs.WellFormed.{Names, fits_operation, is_body, On, all_leave, same_truth}
+use Rattle.flow_program.specs.WellFormed.{Names, fits_operation, is_body, On, all_leave}
+use Rattle.flow_program.specs.BaseShapes.{same_truth}
 use Rattle.flow_program_checks.specs.EnteredBlocks.{is_entered}
 
 abbrev pub is_marked_block : Names → ℕ → Bool → ℕ → BasicBlock → List Edge → Bool

@@ -5,7 +5,7 @@ ghost use Rattle.flow_program.specs.WellFormed as spec;
 
 use crate::base_kinds::{is_automatic, is_initial};
 use crate::value_ranges::{is_extent, is_int_type};
-use c_layout::BaseInfo;
+use c_layout::{BaseInfo, Model};
 use flow_program::{Flow, InitialObject, ParameterInput};
 use std::alloc::AllocError;
 
@@ -100,17 +100,19 @@ pub fn are_initial_objects(bases: &[BaseInfo], objects: &[InitialObject]) -> boo
         .all(|object| is_initial_object(bases, object))
 }
 
-fn is_parameter(bases: &[BaseInfo], parameter: ParameterInput) -> bool
-    ensures { result ≡ spec.is_parameter bases.now parameter }
+fn is_parameter(model: &Model, bases: &[BaseInfo], parameter: ParameterInput) -> bool
+    ensures { result ≡ spec.is_parameter model.now bases.now parameter }
 {
-    is_automatic(bases, parameter.base) && is_int_type(parameter.kind)
+    is_automatic(bases, parameter.base) && is_int_type(model, parameter.kind)
 }
 
 /// Whether all parameters of the entry are well formed.
-pub fn are_parameters(bases: &[BaseInfo], parameters: &[ParameterInput]) -> bool
-    ensures { result ≡ list_all (spec.is_parameter bases.now) parameters.now }
+pub fn are_parameters(flow: &Flow) -> bool
+    ensures { result ≡ list_all (spec.is_parameter flow.now.model flow.now.bases.items) flow.now.parameters.items }
 {
-    parameters
-        .iter()
-        .all(|parameter| is_parameter(bases, *parameter))
+    flow.parameters.iter().all(|parameter| is_parameter(
+        &flow.model,
+        flow.bases.as_slice(),
+        *parameter,
+    ))
 }

@@ -1,5 +1,6 @@
 //! The bodies of blocks, and the edges with which they end.
 ghost use Rattle.std.specs.Prelude.{◌≡◌, true, false};
+ghost use Rattle.flow_program.specs.BaseShapes.{same_truth};
 ghost use Rattle.flow_program.specs.WellFormed as spec;
 ghost use Rattle.flow_program.specs.WellFormed.{On, Once, TwoWays, ByCases, ByLine};
 ghost use Rattle.flow_program_checks.specs.Bodies.{is_on};
@@ -17,7 +18,7 @@ fn is_jump(kind: &EdgeKind) -> bool
 
 /// Whether two truths are the same.
 pub fn same_truth(a: bool, b: bool) -> bool
-    ensures { result ≡ spec.same_truth a b }
+    ensures { result ≡ same_truth a b }
 {
     if a { b } else { !b }
 }

@@ -13,7 +13,9 @@ fn fits_side(flow: &Flow, side: Side) -> bool
     ensures { result ≡ spec.fits_side (names_of flow.now) side }
 {
     match side {
-        Side::Object(base, kind) => is_declared(flow.bases.as_slice(), base) && is_scalar(kind),
+        Side::Object(base, kind) => {
+            is_declared(flow.bases.as_slice(), base) && is_scalar(&flow.model, kind)
+        }
         Side::Number(value) => is_number(value),
         Side::Null => true,
     }
@@ -25,7 +27,8 @@ fn fits_test(flow: &Flow, test: Option<Test>) -> bool
     match test {
         None => true,
         Some(test) => {
-            fits_side(flow, test.left) && (fits_side(flow, test.right) && is_common(test.common))
+            fits_side(flow, test.left)
+                && (fits_side(flow, test.right) && is_common(&flow.model, test.common))
         }
     }
 }

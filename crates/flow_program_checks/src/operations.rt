@@ -1,12 +1,16 @@
 //! What instructions name.
-ghost use Rattle.std.specs.Prelude.{◌≡◌, ◌&&◌, nat_lt, length};
+ghost use Rattle.std.specs.Prelude.{◌≡◌, ◌&&◌, nat_lt, length, slice_get};
 ghost use Rattle.std.specs.List.{list_all};
+ghost use Rattle.flow_program.specs.BaseShapes.{is_extent, has_room};
+ghost use Rattle.flow_program.specs.ModelKinds.{is_int_type};
 ghost use Rattle.flow_program.specs.WellFormed as spec;
 ghost use Rattle.flow_program.specs.WellFormed.{names_of};
 
 use crate::base_kinds::{is_automatic, is_declared, is_site};
+use crate::base_places;
 use crate::value_ranges::{is_extent, is_int_type, is_number, is_optional_extent, is_scalar};
-use flow_program::{Amount, Flow, Instruction, Operation};
+use cc_base::IntType;
+use flow_program::{Amount, Flow, Instruction, Operation, Scalar};
 
 /// Whether a temporary is there.
 pub fn has_temp(flow: &Flow, temp: u32) -> bool
@@ -73,6 +77,33 @@ fn has_site(flow: &Flow, site: Option<u32>) -> bool
     is_site(flow.bases.as_slice(), site)
 }
 
+/// Whether an object reaches to an offset.
+fn has_offset(flow: &Flow, base: u32, at: u64) -> bool
+    ensures { result ≡ spec.reaches at (slice_get flow.now.bases.items base) }
+{
+    base_places::reaches(flow.bases.as_slice(), base, at)
+}
+
+/// Whether a text may be spelled into so many bytes at an offset of an object.
+fn has_room(flow: &Flow, base: u32, at: u64, room: u64) -> bool
+    ensures { result ≡ ((is_extent at && is_extent room) && has_room at room (slice_get flow.now.bases.items base)) }
+{
+    (is_extent(at) && is_extent(room))
+        && base_places::has_room(flow.bases.as_slice(), base, at, room)
+}
+
+fn has_type(flow: &Flow, kind: IntType) -> bool
+    ensures { result ≡ is_int_type flow.now.model kind }
+{
+    is_int_type(&flow.model, kind)
+}
+
+fn has_scalar(flow: &Flow, kind: Scalar) -> bool
+    ensures { result ≡ spec.is_scalar flow.now.model kind }
+{
+    is_scalar(&flow.model, kind)
+}
+
 /// Whether two temporaries are there.
 fn has_both(flow: &Flow, a: u32, b: u32) -> bool
     ensures { result ≡ (spec.has_temp (names_of flow.now) a && spec.has_temp (names_of flow.now) b) }
@@ -94,14 +125,14 @@ fn fits_operation(flow: &Flow, operation: &Operation) -> bool
 {
     match operation {
         Operation::Constant(to, n, kind) => {
-            has_temp(flow, *to) && (is_number(*n) && is_int_type(*kind))
+            has_temp(flow, *to) && (is_number(*n) && has_type(flow, *kind))
         }
         Operation::Address(to, base, at) => {
-            has_temp(flow, *to) && (has_declared(flow, *base) && is_extent(*at))
+            has_temp(flow, *to) && (has_declared(flow, *base) && has_offset(flow, *base, *at))
         }
-        Operation::Load(to, from, kind) => has_both(flow, *to, *from) && is_scalar(*kind),
+        Operation::Load(to, from, kind) => has_both(flow, *to, *from) && has_scalar(flow, *kind),
         Operation::Store(to, from, kind, kept) => {
-            has_both(flow, *to, *from) && (is_scalar(*kind) && has_kept(flow, *kept))
+            has_both(flow, *to, *from) && (has_scalar(flow, *kind) && has_kept(flow, *kept))
         }
         Operation::Copy(to, from, index) => has_both(flow, *to, *from) && has_struct(flow, *index),
         Operation::Narrow(to, from, at, size) => {
@@ -111,17 +142,17 @@ fn fits_operation(flow: &Flow, operation: &Operation) -> bool
             has_both(flow, *to, *from) && (has_amount(flow, *by) && is_extent(*size))
         }
         Operation::Binary(to, _, a, b, kind) => {
-            has_both(flow, *to, *a) && (has_amount(flow, *b) && is_int_type(*kind))
+            has_both(flow, *to, *a) && (has_amount(flow, *b) && has_type(flow, *kind))
         }
-        Operation::Unary(to, _, from, kind) => has_both(flow, *to, *from) && is_int_type(*kind),
+        Operation::Unary(to, _, from, kind) => has_both(flow, *to, *from) && has_type(flow, *kind),
         Operation::Compare(to, _, a, b) => has_temp(flow, *to) && has_both(flow, *a, *b),
-        Operation::Not(to, from, kind) => has_both(flow, *to, *from) && is_scalar(*kind),
+        Operation::Not(to, from, kind) => has_both(flow, *to, *from) && has_scalar(flow, *kind),
         Operation::Difference(to, a, b, size) => {
             has_both(flow, *to, *a) && (has_temp(flow, *b) && is_extent(*size))
         }
         Operation::ComparePointers(to, _, a, b) => has_temp(flow, *to) && has_both(flow, *a, *b),
         Operation::Convert(to, from, old, new) => {
-            has_both(flow, *to, *from) && (is_scalar(*old) && is_scalar(*new))
+            has_both(flow, *to, *from) && (has_scalar(flow, *old) && has_scalar(flow, *new))
         }
         Operation::Library(to, _, arguments, site, size) => {
             has_result(flow, *to) && fits_call(flow, arguments.as_slice(), *site, *size)
@@ -131,11 +162,11 @@ fn fits_operation(flow: &Flow, operation: &Operation) -> bool
         Operation::Forget(base) => has_local(flow, *base),
         Operation::Clear(base) => has_local(flow, *base),
         Operation::Spell(base, at, size, _) => {
-            has_local(flow, *base) && (is_extent(*at) && is_extent(*size))
+            has_local(flow, *base) && has_room(flow, *base, *at, *size)
         }
         Operation::Jump => true,
-        Operation::Branch(from, kind) => has_temp(flow, *from) && is_scalar(*kind),
-        Operation::Switch(from, kind) => has_temp(flow, *from) && is_int_type(*kind),
+        Operation::Branch(from, kind) => has_temp(flow, *from) && has_scalar(flow, *kind),
+        Operation::Switch(from, kind) => has_temp(flow, *from) && has_type(flow, *kind),
         Operation::ReadLine(to, text, count, stream) => {
             has_both(flow, *to, *text) && has_both(flow, *count, *stream)
         }

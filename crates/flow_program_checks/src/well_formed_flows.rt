@@ -2,13 +2,41 @@
 ghost use Rattle.std.specs.Prelude.{◌≡◌, IfOk, true};
 ghost use Rattle.flow_program.specs.WellFormed as spec;
 
+use crate::base_shapes::are_shaped;
 use crate::base_tables::{are_initial_objects, are_parameters, are_placed, is_width};
+use crate::data_models::is_model;
 use crate::edge_kinds::fit_edges;
 use crate::numbered_blocks::are_blocks;
 use crate::program_counts::is_within;
+use crate::static_starts::are_started;
+use crate::struct_counts::are_counted;
 use cc_base::Limits;
 use flow_program::Flow;
 use std::alloc::{AllocError, Global};
+
+fn is_few(count: usize) -> bool
+    ensures { result ≡ spec.is_few count }
+{
+    count < 1 << 31
+}
+
+fn are_few(flow: &Flow) -> bool
+    ensures { result ≡ spec.are_few flow.now }
+{
+    is_few(flow.blocks.len()) && is_few(flow.edges.len())
+}
+
+/// Whether the bases, the objects that are there before the run begins, and the structs are such as the
+/// model makes them.
+fn is_laid_out(flow: &Flow) -> Result<bool, AllocError>
+    ensures { IfOk result (λ b. b ≡ spec.is_laid_out flow.now) }
+{
+    let counted = are_counted(&flow.structs)?;
+    Ok(
+        is_model(&flow.model)
+            && (are_shaped(&flow.model, flow.bases.as_slice()) && (are_started(flow) && counted)),
+    )
+}
 
 /// Whether a program is well formed within limits: what its parts name is there and is of the kind
 /// that they need, types, numbers and extents are in range, edges are numbered by the blocks that
@@ -27,9 +55,10 @@ pub fn is_well_formed(alloc: Global, flow: &Flow, limits: &Limits) -> Result<boo
     let placed = are_placed(bases)?;
     let width = is_width(flow)?;
     let initial = are_initial_objects(bases, flow.initial.as_slice());
-    let parameters = are_parameters(bases, flow.parameters.as_slice());
+    let parameters = are_parameters(flow);
     let within = is_within(flow, limits)?;
-    let named = initial && (parameters && within);
+    let rest = are_few(flow) && is_laid_out(flow)?;
+    let named = initial && (parameters && (within && rest));
     Ok(flow.blocks.len() > 0 && (blocks && (edges && (placed && (width && named)))))
 }
 

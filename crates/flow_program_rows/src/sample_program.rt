@@ -111,46 +111,81 @@ fn edges(alloc: Global) -> Result<Vec<Edge>, AllocError> {
     Ok(list)
 }
 
-/// The shape of an object with one scalar and one followed text, or of a heap base without cells of
-/// its own.
-fn shape(alloc: Global, heap: bool) -> Result<Shape, AllocError> {
+/// How many characters the text of an object has.
+const TEXT: u64 = 80;
+
+/// The shape of an object with an int at its start and a text whose leaf and whose part begin at these
+/// offsets.
+pub fn object_shape(alloc: Global, leaf: u64, part: u64) -> Result<Shape, AllocError> {
     let mut cells = Vec::new(alloc);
-    if !heap {
-        cells.push(Leaf {
-            offset: 0,
-            class: Class::Int,
-            signed: true,
-            stride: 4,
-            count: 1,
-        })?;
-    }
-    let mut zeros = Vec::new(alloc);
-    zeros.push(ZeroPart {
+    cells.push(Leaf {
         offset: 0,
-        size: None,
+        class: Class::Int,
+        signed: true,
+        stride: 4,
+        count: 1,
     })?;
+    cells.push(Leaf {
+        offset: leaf,
+        class: Class::Char,
+        signed: true,
+        stride: 1,
+        count: TEXT,
+    })?;
+    let zeros = Vec::from_slice(
+        alloc,
+        &[ZeroPart {
+            offset: part,
+            size: Some(TEXT),
+        }],
+    )?;
     Ok(Shape {
         cells: Leaves::from_vec(cells),
         zeros: ZeroParts::from_vec(zeros),
-        heap,
+        heap: false,
     })
 }
 
-fn base(alloc: Global, kind: BaseKind, first: u32, heap: bool) -> Result<BaseInfo, AllocError> {
+/// The shape of a heap base without cells of its own.
+fn heap_shape(alloc: Global) -> Result<Shape, AllocError> {
+    let zeros = Vec::from_slice(
+        alloc,
+        &[ZeroPart {
+            offset: 0,
+            size: None,
+        }],
+    )?;
+    Ok(Shape {
+        cells: Leaves::from_vec(Vec::new(alloc)),
+        zeros: ZeroParts::from_vec(zeros),
+        heap: true,
+    })
+}
+
+fn object(alloc: Global, kind: BaseKind, first: u32) -> Result<BaseInfo, AllocError> {
     Ok(BaseInfo {
         kind,
-        size: if heap { 0 } else { 4 },
+        size: 4 + TEXT,
         first,
-        shape: shape(alloc, heap)?,
+        shape: object_shape(alloc, 4, 4)?,
+    })
+}
+
+fn heap(alloc: Global, kind: BaseKind, first: u32) -> Result<BaseInfo, AllocError> {
+    Ok(BaseInfo {
+        kind,
+        size: 0,
+        first,
+        shape: heap_shape(alloc)?,
     })
 }
 
 fn bases(alloc: Global) -> Result<Vec<BaseInfo>, AllocError> {
     let mut list = Vec::new(alloc);
-    list.push(base(alloc, BaseKind::Static, 0, false)?)?;
-    list.push(base(alloc, BaseKind::Automatic, 2, false)?)?;
-    list.push(base(alloc, BaseKind::Newest, 4, true)?)?;
-    list.push(base(alloc, BaseKind::Older, 12, true)?)?;
+    list.push(object(alloc, BaseKind::Static, 0)?)?;
+    list.push(object(alloc, BaseKind::Automatic, 3)?)?;
+    list.push(heap(alloc, BaseKind::Newest, 6)?)?;
+    list.push(heap(alloc, BaseKind::Older, 14)?)?;
     Ok(list)
 }
 
@@ -159,7 +194,7 @@ fn initial(alloc: Global) -> Result<Vec<InitialObject>, AllocError> {
     let mut list = Vec::new(alloc);
     list.push(InitialObject {
         object: StaticBase::Object(0),
-        size: 4,
+        size: 4 + TEXT,
         base: Some(0),
         value: InitialValue::Stores(Vec::new(alloc)),
     })?;
@@ -189,7 +224,7 @@ pub fn sample(alloc: Global) -> Result<Flow, AllocError> {
         structs: Structs {
             items: Vec::new(alloc),
         },
-        width: 24,
+        width: 26,
         model: by_name("lp64").ok_or(AllocError)?,
     })
 }
