@@ -4,7 +4,7 @@ use Rattle.cc_base.specs.Lattices.{LatticeOf}
 use Rattle.cc_base.specs.IntegerDomains.{IntegersOf, of_range}
 use Rattle.cc_base.specs.NumberRanges.{Range, range_met}
 use Rattle.cc_base.specs.IntegerTypes.{is_size}
-use Rattle.cc_base.specs.declared.limit_table.IntType.{IntType}
+use Rattle.cc_base.specs.declared.int_types.IntType.{IntType}
 use Rattle.cc_base.specs.declared.integer_operators.Rel.{Rel}
 use Rattle.cc_base.specs.declared.integer_operators.Rel.TheVariants.{Lt, Le, Gt, Ge, Eq, Ne}
 use Rattle.c_layout.specs.declared.shapes.BaseInfo.{BaseInfo}

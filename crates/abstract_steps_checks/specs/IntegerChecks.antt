@@ -3,7 +3,7 @@ use Rattle.std.specs.Prelude.{ℤ, pos, negsuc, int_le, int_lt, Bool, false, not
 use Rattle.cc_base.specs.IntegerTypes.{least_of}
 use Rattle.cc_base.specs.IntegerDomains.{IntegersOf}
 use Rattle.cc_base.specs.NumberRanges.{Range}
-use Rattle.cc_base.specs.declared.limit_table.IntType.{IntType}
+use Rattle.cc_base.specs.declared.int_types.IntType.{IntType}
 use Rattle.cc_base.specs.declared.integer_operators.IntOp.{IntOp}
 use Rattle.cc_base.specs.declared.integer_operators.IntOp.TheVariants.{Add, Sub, Mul, Div, Rem, And, Or, Xor, Shl, Shr}
 use Rattle.cc_base.specs.declared.integer_operators.UnOp.{UnOp}

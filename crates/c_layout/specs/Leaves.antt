@@ -1,6 +1,6 @@
 -- The leaves of a type: its scalars with their offsets. A long array is folded: the leaves of its element stand once.
 use Rattle.std.specs.Prelude.{ℕ, Bool, true, false, ◌&&◌, ◌+◌, ◌*◌, ◌==◌, nat_le, List, [], ◌∷◌, ◌++◌, if◌then◌else◌, length, map, zero, suc}
-use Rattle.cc_base.specs.declared.limit_table.IntType.{IntType}
+use Rattle.cc_base.specs.declared.int_types.IntType.{IntType}
 use Rattle.c_layout.specs.declared.leaf_lists.Class.{Class}
 use Rattle.c_layout.specs.declared.leaf_lists.Class.TheVariants as class
 use Rattle.c_layout.specs.declared.leaf_lists.Leaf.{Leaf}

@@ -1,6 +1,6 @@
 -- C types, as they are compared.
 use Rattle.std.specs.Prelude.{ℕ, Bool, true, false, ◌==◌, ◌&&◌, not}
-use Rattle.cc_base.specs.declared.limit_table.IntType.{IntType}
+use Rattle.cc_base.specs.declared.int_types.IntType.{IntType}
 use Rattle.c_layout.specs.declared.type_terms.CType.{CType, fold-CType}
 use Rattle.c_layout.specs.declared.type_terms.CType.TheOpen.{CType-F}
 

@@ -1,7 +1,7 @@
 -- The type of an integer constant: the first of the list of 6.4.4.1 that has its value.
 use Rattle.std.specs.Prelude.{ℕ, ◌-◌, ◌*◌, ◌^◌, Bool, true, false, ◌||◌, ◌&&◌, not, ◌==◌, cond, nat_le, Option, Some, None, List, option_and_then}
 use Rattle.std.specs.Option.{option_or}
-use Rattle.cc_base.specs.declared.limit_table.IntType.{IntType}
+use Rattle.cc_base.specs.declared.int_types.IntType.{IntType}
 use Rattle.c_layout.specs.declared.data_model.Model.{Model}
 use Rattle.c_layout.specs.declared.syntax_tree.expressions.Constant.{Constant}
 use Rattle.c_parser_tokens.specs.declared.integer_forms.Spelled.{Spelled}

@@ -1,7 +1,7 @@
 -- Multiplicative, additive, shift and bitwise operators (6.5.5 to 6.5.7, 6.5.10 to 6.5.12).
 use Rattle.std.specs.Prelude.{ℤ, Bool, true, false, ◌&&◌, cond, Option, Some, None, Ok}
 use Rattle.cc_base.specs.declared.diagnostics.Place.{Place}
-use Rattle.cc_base.specs.declared.limit_table.IntType.{IntType}
+use Rattle.cc_base.specs.declared.int_types.IntType.{IntType}
 use Rattle.c_layout.specs.Types.{Ty, Int}
 use Rattle.c_layout.specs.CheckedTrees as tree
 use Rattle.c_layout.specs.declared.syntax_tree.expressions.BinaryOp.{BinaryOp}

@@ -1,7 +1,7 @@
 -- Conversions that no cast writes (6.3).
 use Rattle.std.specs.Prelude.{ℕ, Bool, true, false, cond, Option, Some, None, Ok}
 use Rattle.cc_base.specs.declared.diagnostics.Place.{Place}
-use Rattle.cc_base.specs.declared.limit_table.IntType.{IntType}
+use Rattle.cc_base.specs.declared.int_types.IntType.{IntType}
 use Rattle.c_layout.specs.Types.{Ty, Int, Pointer, same_type}
 use Rattle.c_layout.specs.CheckedTrees as tree
 use Rattle.c_layout.specs.CheckedTrees.{TermTree, FormTree}

@@ -1,7 +1,7 @@
 -- Names, constants and literals (6.4.4, 6.4.5, 6.5.1).
 use Rattle.std.specs.Prelude.{ℕ, ℤ, pos, neg_ℤ, ◌+◌, Bool, true, ◌&&◌, cond, is_none, List, length, get_or, slice_get, unwrap_or, Option, Some, None, Ok}
 use Rattle.cc_base.specs.declared.diagnostics.Place.{Place}
-use Rattle.cc_base.specs.declared.limit_table.IntType.{IntType}
+use Rattle.cc_base.specs.declared.int_types.IntType.{IntType}
 use Rattle.c_layout.specs.Types.{Ty, Int, Array}
 use Rattle.c_layout.specs.CheckedTrees as tree
 use Rattle.c_layout.specs.CheckedTrees.{LvalueFormTree}

@@ -1,6 +1,6 @@
 -- The integer types of a data model, promotions and the usual arithmetic conversions (6.2.5, 6.3.1.1, 6.3.1.8).
 use Rattle.std.specs.Prelude.{ℕ, ◌==◌, Bool, true, false, not, ◌||◌, cond, nat_le, nat_lt}
-use Rattle.cc_base.specs.declared.limit_table.IntType.{IntType}
+use Rattle.cc_base.specs.declared.int_types.IntType.{IntType}
 use Rattle.c_layout.specs.declared.data_model.Model.{Model}
 use Rattle.c_types_rules.specs.declared.integer_kinds.Rank.{Rank}
 use Rattle.c_types_rules.specs.declared.integer_kinds.Rank.TheVariants.{Char, Short, Int, Long, LongLong}

@@ -1,7 +1,7 @@
 -- What statements with statements in them are judged by once their parts have types (6.8.1, 6.8.4.2).
 use Rattle.std.specs.Prelude.{ℕ, ℤ, ◌==◌, Bool, true, false, cond, List, [], length, slice_get, Option, Some, None, Ok, Err}
 use Rattle.cc_base.specs.declared.diagnostics.Place.{Place}
-use Rattle.cc_base.specs.declared.limit_table.IntType.{IntType}
+use Rattle.cc_base.specs.declared.int_types.IntType.{IntType}
 use Rattle.c_layout.specs.Types.{Ty, Int, Pointer, Array, Struct, Void}
 use Rattle.c_layout.specs.SyntaxTrees.{Tree}
 use Rattle.c_layout.specs.CheckedTrees as tree

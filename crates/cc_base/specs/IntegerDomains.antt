@@ -1,7 +1,7 @@
 -- Lattices of sets of integers, and their laws.
 use Rattle.std.specs.Prelude.{◌≡◌, ℤ, pos, negsuc, ◌-◌, ◌^◌, ◌≤ℤ◌, true, cond, int_le, Option, Some, None, List, ◌⊎◌, refl}
 use Rattle.std.specs.List.{Contains}
-use Rattle.cc_base.specs.declared.limit_table.IntType.{IntType}
+use Rattle.cc_base.specs.declared.int_types.IntType.{IntType}
 use Rattle.cc_base.specs.declared.integer_operators.IntOp.{IntOp}
 use Rattle.cc_base.specs.declared.integer_operators.UnOp.{UnOp}
 use Rattle.cc_base.specs.declared.integer_operators.Rel.{Rel}

@@ -1,7 +1,7 @@
 -- The range of an integer type, and conversion into it (6.2.6.2 and 6.3.1.3).
 use Rattle.std.specs.Prelude.{ℕ, ◌-◌, ◌*◌, ◌^◌, ℤ, pos, negsuc, ◌+ℤ◌, ◌-ℤ◌, Bool, cond, ◌&&◌, ◌||◌, ◌==◌, int_le}
 use Rattle.std.specs.Int.{int_rem_euclid, int_div_euclid}
-use Rattle.cc_base.specs.declared.limit_table.IntType.{IntType}
+use Rattle.cc_base.specs.declared.int_types.IntType.{IntType}
 
 -- the sizes that an integer type can have, in bytes
 abbrev pub is_size : ℕ → Bool

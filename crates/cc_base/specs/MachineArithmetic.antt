@@ -2,7 +2,7 @@
 use Rattle.std.specs.Prelude.{ℕ, ◌*◌, ◌^◌, ℤ, pos, negsuc, neg_ℤ, ◌+ℤ◌, ◌-ℤ◌, ◌*ℤ◌, unsigned_abs, Bool, cond, ◌&&◌, not, int_le, int_lt, int_div, int_rem, bit_and, bit_or, bit_xor, Option, Some, None}
 use Rattle.std.specs.Int.{int_rem_euclid, int_shr}
 use Rattle.std.specs.Ordering.{int_eq}
-use Rattle.cc_base.specs.declared.limit_table.IntType.{IntType}
+use Rattle.cc_base.specs.declared.int_types.IntType.{IntType}
 use Rattle.cc_base.specs.declared.integer_operators.IntOp.{IntOp}
 use Rattle.cc_base.specs.declared.integer_operators.IntOp.TheVariants.{Add, Sub, Mul, Div, Rem, And, Or, Xor, Shl, Shr}
 use Rattle.cc_base.specs.declared.integer_operators.UnOp.{UnOp}

@@ -3,7 +3,7 @@ ghost use Rattle.std.specs.Prelude.{◌≡◌, ◌*◌, ◌-ℤ◌, ◌≤ℤ◌
 ghost use Rattle.std.specs.Int.{w128, int_div_euclid};
 ghost use Rattle.cc_base.specs.IntegerTypes.{is_size, modulus, least_of, greatest_of, wrap_into, in_type, block_of};
 
-use crate::limit_table::IntType;
+use crate::int_types::IntType;
 
 impl IntType {
     /// The number of bits of the type.

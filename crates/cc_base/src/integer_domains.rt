@@ -3,9 +3,9 @@ ghost use Rattle.std.specs.Prelude.{◌≡◌, ◌≤ℤ◌, ℤ, true, Option};
 ghost use Rattle.cc_base.specs.IntegerTypes.{is_size};
 ghost use Rattle.cc_base.specs.IntegerDomains.{IntegersOf, IsNear, BoundLaws, RangeLaws};
 
+use crate::int_types::IntType;
 use crate::integer_operators::{IntOp, Rel, Tri, UnOp};
 use crate::lattices::Lattice;
-use crate::limit_table::IntType;
 
 /// A lattice of sets of integers. Each value but the least one has two bounds, and each operation
 /// gives a value that holds every result of the operation on numbers of its operands.

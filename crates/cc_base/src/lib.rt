@@ -4,6 +4,7 @@
 
 mod diagnostics;
 mod int_type_ranges;
+mod int_types;
 mod integer_bounds;
 mod integer_domains;
 mod integer_operators;
@@ -25,12 +26,13 @@ mod threshold_list;
 mod truths;
 
 pub use diagnostics::{Diag, Place, Rule};
+pub use int_types::IntType;
 pub use integer_bounds::between_or_bottom;
 pub use integer_domains::IntDomain;
 pub use integer_operators::{IntOp, Rel, Tri, UnOp};
 pub use lattices::Lattice;
 pub use lexemes::{Kind, Token, Tokens};
-pub use limit_table::{Count, IntType, Limits};
+pub use limit_table::{Count, Limits};
 pub use memory_sink::MemSink;
 pub use memory_tree::MemTree;
 pub use number_ranges::{

@@ -1,4 +1,4 @@
-//! The limits of the control-flow program, and integer types.
+//! The limits of the control-flow program.
 ghost use Rattle.std.specs.Prelude.{◌≡◌};
 
 /// What is counted of a control-flow program, in the order in which limits are looked at.
@@ -16,15 +16,6 @@ pub enum Count {
     Instructions,
     /// Values of the solver's pool of rows.
     Pool,
-}
-
-/// An integer type: its size in bytes, whether it is signed, and its conversion rank (6.3.1.1 of
-/// ISO/IEC 9899:2011), from 1 for char to 5 for long long.
-#[derive(Clone, Copy, PartialEq, Eq, Debug)]
-pub struct IntType {
-    pub bytes: u8,
-    pub signed: bool,
-    pub rank: u8,
 }
 
 /// The most of each `Count` that a control-flow program may have.

@@ -3,7 +3,7 @@ use Rattle.std.specs.Prelude.{ℕ, Bool, true, false, cond, Option, Some, None}
 use Rattle.cc_base.specs.declared.diagnostics.Place.{Place}
 use Rattle.cc_base.specs.declared.integer_operators.IntOp.{IntOp}
 use Rattle.cc_base.specs.declared.integer_operators.IntOp.TheVariants.{Add}
-use Rattle.cc_base.specs.declared.limit_table.IntType.{IntType}
+use Rattle.cc_base.specs.declared.int_types.IntType.{IntType}
 use Rattle.c_layout.specs.Types.{Ty, same_kind}
 use Rattle.c_layout.specs.CheckedTrees.{TermTree, LvalueTree}
 use Rattle.c_layout.specs.declared.syntax_tree.expressions.StepOp.{StepOp}

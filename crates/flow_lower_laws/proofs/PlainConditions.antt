@@ -1,7 +1,7 @@
 -- Conditions plan no instruction that is done only where a call's value is used.
 use Rattle.std.proofs.Common.{ℕ, ℤ, Bool, true, false, Option, Some, None}
 use Rattle.cc_base.specs.declared.integer_operators.Rel.{Rel}
-use Rattle.cc_base.specs.declared.limit_table.IntType.{IntType}
+use Rattle.cc_base.specs.declared.int_types.IntType.{IntType}
 use Rattle.c_layout.specs.CheckedTrees as tree
 use Rattle.c_layout.specs.CheckedTrees.{TermTree, FormTree, Typed}
 use Rattle.flow_lower_conditions.specs.Conditions.{condition, condition_of_form, leaf_of, test_if, read_by, ReadView}

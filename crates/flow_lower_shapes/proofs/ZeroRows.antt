@@ -1,6 +1,6 @@
 -- First zeros of some types.
 use Rattle.std.proofs.Common.{◌≡◌, ℕ, true, List, [], ◌∷◌, refl}
-use Rattle.cc_base.specs.declared.limit_table.IntType.{IntType}
+use Rattle.cc_base.specs.declared.int_types.IntType.{IntType}
 use Rattle.c_layout.specs.Types.{Ty, Int, Pointer, Array, Struct}
 use Rattle.c_layout.specs.StructViews.{FieldView, StructView}
 use Rattle.flow_lower_shapes.specs.FirstZeros.{zeros_within, zero_part}

@@ -4,7 +4,7 @@ use Rattle.cc_base.specs.declared.diagnostics.Place.{Place}
 use Rattle.cc_base.specs.declared.integer_operators.IntOp.{IntOp}
 use Rattle.cc_base.specs.declared.integer_operators.UnOp.{UnOp}
 use Rattle.cc_base.specs.declared.integer_operators.Rel.{Rel}
-use Rattle.cc_base.specs.declared.limit_table.IntType.{IntType}
+use Rattle.cc_base.specs.declared.int_types.IntType.{IntType}
 use Rattle.c_layout.specs.declared.library_functions.LibFn.{LibFn}
 use Rattle.flow_program.specs.declared.machine_instructions.Amount.{Amount}
 use Rattle.flow_program.specs.declared.machine_instructions.Scalar.{Scalar}

@@ -1,6 +1,6 @@
 -- The numbers to which bounds are rounded: the ends of types, and what the program speaks of.
 use Rattle.std.specs.Prelude.{ℕ, ℤ, pos, negsuc, ◌+◌, ◌*◌, ◌^◌, ◌+ℤ◌, ◌-ℤ◌, Bool, true, false, List, [], ◌∷◌, ◌++◌, zero, suc}
-use Rattle.cc_base.specs.declared.limit_table.IntType.{IntType}
+use Rattle.cc_base.specs.declared.int_types.IntType.{IntType}
 use Rattle.cc_base.specs.IntegerTypes.{least_of, greatest_of}
 use Rattle.c_layout.specs.declared.data_model.Model.{Model}
 

@@ -2,7 +2,7 @@
 -- part needs; edges are numbered by the blocks that they leave; heads are where edges go back to.
 use Rattle.std.specs.Prelude.{ℕ, zero, suc, ℤ, pos, negsuc, ◌+◌, ◌*◌, ◌-◌, ◌^◌, Bool, true, false, not, cond, ◌&&◌, ◌==◌, nat_le, nat_lt, int_le, List, [], ◌∷◌, length, take, drop, Option, Some, None, slice_get}
 use Rattle.std.specs.List.{list_any, list_all}
-use Rattle.cc_base.specs.declared.limit_table.IntType.{IntType}
+use Rattle.cc_base.specs.declared.int_types.IntType.{IntType}
 use Rattle.cc_base.specs.declared.limit_table.Limits.{Limits}
 use Rattle.c_layout.specs.declared.shapes.BaseInfo.{BaseInfo}
 use Rattle.c_layout.specs.declared.shapes.BaseKind.{BaseKind}

@@ -1,6 +1,6 @@
 -- Worked rows of `&`, `|` and `^` on numbers that are not all of the type: where an operand grows, the result does.
 use Rattle.std.specs.Prelude.{◌≡◌, ◌^◌, ◌-◌, pos, negsuc, true, false, refl}
-use Rattle.cc_base.specs.declared.limit_table.IntType.{IntType}
+use Rattle.cc_base.specs.declared.int_types.IntType.{IntType}
 use Rattle.cc_base.specs.declared.integer_operators.IntOp.TheVariants.{And, Or, Xor}
 use Rattle.interval_domain.specs.declared.intervals.Interval.{Interval}
 use Rattle.interval_domain.specs.Spans.{between_or_empty}

@@ -8,7 +8,7 @@ use Rattle.interval_domain.specs.Arithmetic.{scaled}
 use Rattle.std.proofs.lemmas.Int.{ints, to_z_pos}
 use lib.Signed.{le_z_yes}
 use Rattle.cc_base.specs.IntegerTypes.{is_size, least_of, greatest_of}
-use Rattle.cc_base.specs.declared.limit_table.IntType.{IntType}
+use Rattle.cc_base.specs.declared.int_types.IntType.{IntType}
 use Rattle.interval_domain.specs.IntervalNumbers.{by_size}
 
 least_low_at : (n : ℕ) (s : Bool) → is_size n ≡ true → negsuc (2 ^ 63 - 1) ≤ℤ cond s (negsuc (2 ^ (8 * n - 1) - 1)) (pos 0)

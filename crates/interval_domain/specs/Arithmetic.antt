@@ -2,7 +2,7 @@
 use Rattle.std.specs.Prelude.{ℕ, ◌-◌, ◌*◌, ◌^◌, max, ℤ, pos, negsuc, ◌+ℤ◌, ◌-ℤ◌, ◌*ℤ◌, neg_ℤ, Bool, cond, ◌&&◌, ◌<ℤ◌, ◌≤ℤ◌, ◌⊎◌, int_le, int_lt, int_div, int_rem, bit_and, bit_or, bit_xor, unsigned_abs}
 use Rattle.std.specs.Int.{int_min, int_max, int_rem_euclid, int_shr, leading_zeros, w128}
 use Rattle.std.specs.Ordering.{int_eq}
-use Rattle.cc_base.specs.declared.limit_table.IntType.{IntType}
+use Rattle.cc_base.specs.declared.int_types.IntType.{IntType}
 use Rattle.cc_base.specs.declared.integer_operators.IntOp.{IntOp}
 use Rattle.cc_base.specs.declared.integer_operators.IntOp.TheVariants.{Add, Sub, Mul, Div, Rem, And, Or, Xor, Shl, Shr}
 use Rattle.cc_base.specs.declared.integer_operators.UnOp.{UnOp}

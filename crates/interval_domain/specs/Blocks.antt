@@ -8,7 +8,7 @@ use Rattle.std.proofs.lemmas.Bool.{cond_both, and_from, and_parts}
 use Rattle.std.proofs.lemmas.Bool.Decides.{Decides-int_eq}
 use Rattle.std.proofs.lemmas.Nat.{div-add-mod', le-div, pow_pos}
 use Rattle.cc_base.specs.IntegerTypes.{modulus, least_of, wrap_into, block_of}
-use Rattle.cc_base.specs.declared.limit_table.IntType.{IntType}
+use Rattle.cc_base.specs.declared.int_types.IntType.{IntType}
 use Rattle.interval_domain.specs.declared.intervals.Interval.{Interval}
 use Rattle.interval_domain.specs.Spans.{between_or_empty}
 use Rattle.interval_domain.specs.Arithmetic.{least_of_four, greatest_of_four, whole, wrapped}

@@ -3,7 +3,7 @@ use Rattle.std.specs.Prelude.{◌^◌, ℤ, pos, neg_ℤ, ◌+ℤ◌, ◌-ℤ◌
 use Rattle.std.specs.Ordering.{int_eq}
 use Rattle.cc_base.specs.IntegerTypes.{in_type, wrap_into}
 use Rattle.cc_base.specs.MachineArithmetic.{binary_result, unary_result, holds, is_count, is_quotient_overflow}
-use Rattle.cc_base.specs.declared.limit_table.IntType.{IntType}
+use Rattle.cc_base.specs.declared.int_types.IntType.{IntType}
 use Rattle.cc_base.specs.declared.integer_operators.IntOp.{IntOp}
 use Rattle.cc_base.specs.declared.integer_operators.IntOp.TheVariants.{Add, Sub, Mul, Div, Rem, Shl}
 use Rattle.cc_base.specs.declared.integer_operators.UnOp.{UnOp}

@@ -3,7 +3,7 @@ use Rattle.std.specs.Prelude.{ℕ, ℤ, Bool, true, false, not, cond, List, [], 
 use Rattle.std.specs.Ordering.{int_eq}
 use Rattle.cc_base.specs.IntegerTypes.{wrap_into}
 use Rattle.cc_base.specs.MachineArithmetic.{holds}
-use Rattle.cc_base.specs.declared.limit_table.IntType.{IntType}
+use Rattle.cc_base.specs.declared.int_types.IntType.{IntType}
 use Rattle.cc_base.specs.declared.integer_operators.Rel.{Rel}
 use Rattle.cc_base.specs.declared.integer_operators.Rel.TheVariants.{Lt, Le, Gt, Ge, Eq, Ne}
 use Rattle.c_layout.specs.declared.data_model.Model.{Model}

@@ -2,7 +2,7 @@
 -- numbers of the outside.
 use Rattle.std.specs.Prelude.{ℕ, ◌+◌, ℤ, List, [], ◌∷◌, ◌++◌, length, map, take, Option, Some, None, slice_get}
 use Rattle.cc_base.specs.IntegerTypes.{least_of, greatest_of}
-use Rattle.cc_base.specs.declared.limit_table.IntType.{IntType}
+use Rattle.cc_base.specs.declared.int_types.IntType.{IntType}
 use Rattle.c_layout.specs.Types.{Ty, Int}
 use Rattle.c_layout.specs.Layout.{size_of_type}
 use Rattle.c_layout.specs.Leaves.{leaves_of}

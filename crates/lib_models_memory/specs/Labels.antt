@@ -1,7 +1,7 @@
 -- The labels of numbers from the outside: what a number may be, and how operators spread, make and drop
 -- labels.
 use Rattle.std.specs.Prelude.{Bool, true, false, not, ◌&&◌, ◌||◌}
-use Rattle.cc_base.specs.declared.limit_table.IntType.{IntType}
+use Rattle.cc_base.specs.declared.int_types.IntType.{IntType}
 use Rattle.cc_base.specs.declared.integer_operators.IntOp.{IntOp}
 use Rattle.cc_base.specs.declared.integer_operators.IntOp.TheVariants.{Add, Sub, Mul, Rem, And, Shl}
 use Rattle.cc_base.specs.declared.integer_operators.UnOp.{UnOp}

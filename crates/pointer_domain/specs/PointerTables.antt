@@ -5,7 +5,7 @@ use Rattle.cc_base.specs.IntegerTypes.{least_of, greatest_of}
 use Rattle.cc_base.specs.IntegerDomains.{IntegersOf, IsNear, between_or_least, of_range}
 use Rattle.cc_base.specs.Truths.{tri_of}
 use Rattle.cc_base.specs.NumberRanges.{Range, range_sum, range_difference, range_times, range_over, range_met, range_clamped, ranges_meet, ranges_same_one, upper_or}
-use Rattle.cc_base.specs.declared.limit_table.IntType.{IntType}
+use Rattle.cc_base.specs.declared.int_types.IntType.{IntType}
 use Rattle.cc_base.specs.declared.integer_operators.Rel.{Rel}
 use Rattle.cc_base.specs.declared.integer_operators.Tri.{Tri}
 use Rattle.cc_base.specs.declared.integer_operators.Tri.TheVariants.{Never}

@@ -2,7 +2,7 @@
 use Rattle.std.specs.Prelude.{ℕ, ℤ, Bool, List, [], ◌∷◌, Option}
 use Rattle.cc_base.specs.declared.diagnostics.Place.{Place}
 use Rattle.cc_base.specs.declared.integer_operators.Rel.{Rel}
-use Rattle.cc_base.specs.declared.limit_table.IntType.{IntType}
+use Rattle.cc_base.specs.declared.int_types.IntType.{IntType}
 use Rattle.c_layout.specs.CheckedTrees.{TermTree, LvalueTree, StatementTree}
 use Rattle.c_layout.specs.declared.checked_tree.checked_terms.ObjectRef.{ObjectRef}
 use Rattle.c_layout.specs.declared.checked_tree.checked_statements.CaseLabel.{CaseLabel}

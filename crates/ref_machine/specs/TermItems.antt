@@ -1,7 +1,7 @@
 -- The items of terms: operands from left to right, and then the operator.
 use Rattle.std.specs.Prelude.{ℕ, ◌+◌, Bool, true, false, cond, List, [], ◌∷◌, ◌++◌, Option}
 use Rattle.cc_base.specs.declared.diagnostics.Place.{Place}
-use Rattle.cc_base.specs.declared.limit_table.IntType.{IntType}
+use Rattle.cc_base.specs.declared.int_types.IntType.{IntType}
 use Rattle.c_layout.specs.Types.{Ty, Int, same_kind}
 use Rattle.c_layout.specs.CheckedTrees as tree
 use Rattle.c_layout.specs.CheckedTrees.{TermTree, TermTrees, LvalueTree, Designates}

@@ -2,7 +2,7 @@
 use Rattle.std.specs.Prelude.{Bool, true, false, not, ◌&&◌, ◌||◌, refl}
 use Rattle.cc_base.specs.Lattices.{LatticeOf, OrderLaws, RoundLaws, HeightLaws}
 use Rattle.cc_base.specs.LatticeParts.{flag_leq, flag_lattice, flag_order, flag_rounding, flag_heights, pair_lattice, pair_order, pair_rounding, pair_heights, image_lattice, image_order, image_rounding, image_heights}
-use Rattle.cc_base.specs.declared.limit_table.IntType.{IntType}
+use Rattle.cc_base.specs.declared.int_types.IntType.{IntType}
 use Rattle.cc_base.specs.declared.integer_operators.IntOp.{IntOp}
 use Rattle.cc_base.specs.declared.integer_operators.IntOp.TheVariants.{Add, Sub, Mul, Div, Rem, And, Or, Xor, Shl, Shr}
 use Rattle.cc_base.specs.declared.integer_operators.UnOp.{UnOp}
