@@ -6,3 +6,4 @@ mod Calls
 mod Jumps
 mod ReadLines
 mod Starts
+mod BlankReads

@@ -1,5 +1,5 @@
 -- The machine has tables of its own; those of the analysis say the same.
-use Rattle.std.specs.Prelude.{◌≡◌, refl, ℕ, Bool}
+use Rattle.std.specs.Prelude.{◌≡◌, refl, Bool}
 use Rattle.cc_base.specs.declared.int_types.IntType.{IntType}
 use Rattle.cc_base.specs.declared.integer_operators.IntOp.{IntOp}
 use Rattle.cc_base.specs.declared.integer_operators.IntOp.TheVariants.{Add, Sub, Mul, Div, Rem, And, Or, Xor, Shl, Shr}
@@ -13,7 +13,7 @@ use Rattle.c_layout.specs.declared.leaf_lists.Class.TheVariants.{Char, Short, In
 use Rattle.value_domain.specs.LabelSets as set
 use Rattle.store_domain.specs.ScalarTypes as table
 use Rattle.store_domain.specs.ClassNumbers as numbers
-use Rattle.lib_models_memory.specs.ScalarSizes.{class_bytes, class_number, same_class, is_pointer}
+use Rattle.lib_models_memory.specs.ScalarSizes.{class_bytes, class_number}
 use Rattle.lib_models_memory.specs.Labels.{Labels, no_labels, input_labels, labels_join, is_unlabelled, converted_labels, operated_labels, negated_labels, dropped_labels}
 use Rattle.store_domain_meaning.specs.SeenLabels.{as_set}
 

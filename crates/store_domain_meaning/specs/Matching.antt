@@ -4,7 +4,7 @@ use Rattle.std.specs.Prelude.{◌≡◌, ℕ, ◌+◌, ◌<◌, Option, Some, No
 use Rattle.c_layout.specs.declared.data_model.Model.{Model}
 use Rattle.c_layout.specs.declared.leaf_lists.Class.{Class}
 use Rattle.lib_models_memory.specs.ScalarSizes.{class_bytes}
-use Rattle.lib_models_memory.specs.Bytes.{Content, number, Tag, Byte}
+use Rattle.lib_models_memory.specs.Bytes.{Content, number, Tag}
 use Rattle.lib_models_memory.specs.Instances.{Memory, byte_at}
 use Rattle.lib_models_memory.specs.Numbers.{Labelled}
 

@@ -1,5 +1,5 @@
 -- What holds of memory and of names whatever a row says. Each step of the machine is to keep it.
-use Rattle.std.specs.Prelude.{◌≡◌, ◌<◌, ◌≤◌, ℕ, true, false, Option, Some, None, List, length, slice_get}
+use Rattle.std.specs.Prelude.{◌≡◌, ◌<◌, ◌≤◌, ℕ, false, Option, Some, None, List, length, slice_get}
 use Rattle.c_layout.specs.declared.data_model.Model.{Model}
 use Rattle.c_layout.specs.declared.leaf_lists.Class.TheVariants.{Pointer}
 use Rattle.c_layout.specs.declared.shapes.BaseInfo.{BaseInfo}
@@ -8,7 +8,7 @@ use Rattle.c_layout.specs.declared.shapes.BaseKind.TheVariants.{Static, Automati
 use Rattle.store_domain.specs.AccessWindows.{last_offset}
 use Rattle.lib_models_memory.specs.ScalarSizes.{class_bytes}
 use Rattle.lib_models_memory.specs.Bytes.{MachinePointer, null, into, Content, indeterminate, number, part, Tag, Byte}
-use Rattle.lib_models_memory.specs.Instances.{Storage, static, automatic, allocated, literal, Life, live, ended, freed, Instance, Memory, byte_at, bytes_at, life_at}
+use Rattle.lib_models_memory.specs.Instances.{Storage, static, automatic, allocated, literal, live, ended, freed, Instance, Memory, byte_at, bytes_at, life_at}
 use Rattle.lib_models_memory.specs.Tags.{tag_of, tag_at}
 use Rattle.lib_models_memory.specs.Scalars.{Scalar, integer, pointer}
 use Rattle.store_domain_meaning.specs.ValueMeaning.{Naming}

@@ -1,5 +1,5 @@
 #!/usr/bin/env python3
-"""gate-times.py OUT [COMMAND ..]: runs the gate (`rt ci`, or another command) and writes the processor minutes of each crate to OUT.
+"""gate-times.sh OUT [COMMAND ..]: runs the gate (`rt ci`, or another command) and writes the processor minutes of each crate to OUT.
 
 At the top of the repository. Every two seconds the processor time of each `rattle` below the command is read from /proc,
 with that of what it has waited for; the last reading counts. OUT gets a Markdown table: a crate's proof, the proof of
