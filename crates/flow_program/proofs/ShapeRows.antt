@@ -1,11 +1,11 @@
 -- Worked rows of the shapes of bases.
-use Rattle.std.proofs.Common.{◌≡◌, ℕ, Bool, true, false, List, [], ◌∷◌, Some, None, refl}
+use Rattle.std.proofs.Common.{◌≡◌, ℕ, true, false, [], ◌∷◌, Some, refl}
 use Rattle.c_layout.specs.Models.{lp64}
 use Rattle.c_layout.specs.declared.leaf_lists.Class.{Class}
 use Rattle.c_layout.specs.declared.leaf_lists.Class.TheVariants.{Char, Short, Int}
 use Rattle.c_layout.specs.declared.leaf_lists.Leaf.{Leaf}
 use Rattle.c_layout.specs.declared.shapes.ZeroPart.{ZeroPart}
-use Rattle.flow_program.specs.BaseShapes.{are_leaves, are_parts, are_whole, lie_over, is_room_or_apart, is_place}
+use Rattle.flow_program.specs.BaseShapes.{are_leaves, lie_over, is_room_or_apart, is_place}
 
 abbrev leaf : ℕ → Class → ℕ → ℕ → Leaf
 leaf at class stride count = record { offset = at; class = class; signed = true; stride = stride; count = count }

@@ -1,8 +1,7 @@
 -- How objects of static storage and literals start: each has its number, stores meet leaves of their class,
 -- and addresses lie within what they name.
-use Rattle.std.specs.Prelude.{ℕ, suc, ◌+◌, Bool, true, false, cond, not, ◌&&◌, ◌||◌, ◌==◌, nat_le, List, [], ◌∷◌, length, Option, Some, None, slice_get}
+use Rattle.std.specs.Prelude.{ℕ, ◌+◌, Bool, true, false, cond, not, ◌&&◌, ◌||◌, ◌==◌, nat_le, List, [], ◌∷◌, length, Option, Some, None, slice_get}
 use Rattle.std.specs.List.{list_all}
-use Rattle.cc_base.specs.declared.int_types.IntType.{IntType}
 use Rattle.c_layout.specs.Leaves.{class_of}
 use Rattle.c_layout.specs.declared.data_model.Model.{Model}
 use Rattle.c_layout.specs.declared.leaf_lists.Class.{Class}
@@ -18,7 +17,7 @@ use Rattle.flow_program.specs.declared.programs.InitialObject.{InitialObject}
 use Rattle.flow_program.specs.declared.programs.InitialValue.{InitialValue}
 use Rattle.flow_program.specs.declared.programs.InitialValue.TheVariants as initial
 use Rattle.flow_program.specs.ModelKinds.{is_int_type}
-use Rattle.flow_program.specs.BaseShapes.{is_extent, has_room, has_place}
+use Rattle.flow_program.specs.BaseShapes.{has_room, has_place}
 
 -- ---- numbers
 

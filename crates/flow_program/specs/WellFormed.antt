@@ -1,6 +1,6 @@
 -- What a well-formed control-flow program is: what a part names is there, and is of the kind that the
 -- part needs; edges are numbered by the blocks that they leave; heads are where edges go back to.
-use Rattle.std.specs.Prelude.{ℕ, zero, suc, ℤ, pos, negsuc, ◌+◌, ◌*◌, ◌-◌, ◌^◌, Bool, true, false, not, cond, ◌&&◌, ◌==◌, nat_le, nat_lt, int_le, List, [], ◌∷◌, length, take, drop, Option, Some, None, slice_get}
+use Rattle.std.specs.Prelude.{ℕ, zero, suc, ℤ, pos, negsuc, ◌+◌, ◌*◌, ◌-◌, ◌^◌, Bool, true, false, cond, ◌&&◌, ◌==◌, nat_le, nat_lt, int_le, List, [], ◌∷◌, length, take, drop, Option, Some, None, slice_get}
 use Rattle.std.specs.List.{list_any, list_all}
 use Rattle.cc_base.specs.declared.int_types.IntType.{IntType}
 use Rattle.cc_base.specs.declared.limit_table.Limits.{Limits}

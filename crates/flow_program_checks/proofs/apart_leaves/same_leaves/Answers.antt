@@ -1,5 +1,4 @@
-use Rattle.std.proofs.Common.{◌≡◌, length, sym, arith}
-use Rattle.std.proofs.lemmas.Grind.{common_steps}
+use Rattle.std.proofs.Common.{sym, arith}
 use Rattle.flow_program_checks.proofs.SameLengths.{other_lengths}
 use Rattle.flow_program_checks.proofs.apart_leaves.same_leaves.Goals as goal
 
