@@ -1,5 +1,5 @@
 -- The system of a control-flow program: what a solver needs to know of it.
-use Rattle.std.specs.Prelude.{ℕ, zero, suc, ℤ, ◌*◌, Bool, false, List, [], ◌∷◌, length, replicate, Option, Some, None, slice_get, slice_index_or}
+use Rattle.std.specs.Prelude.{ℕ, zero, suc, ℤ, ◌*◌, Bool, false, List, [], ◌∷◌, length, replicate, Option, Some, None, is_some, slice_get, slice_index_or}
 use Rattle.cc_base.specs.Lattices.{LatticeOf}
 use Rattle.cc_base.specs.IntegerDomains.{IntegersOf}
 use Rattle.cc_base.specs.Machine.{Machine}
@@ -11,7 +11,9 @@ use Rattle.value_domain.specs.declared.row_cells.Cell.{Cell}
 use Rattle.value_domain.specs.declared.row_cells.Cell.TheVariants.{Nothing}
 use Rattle.value_domain.specs.Cells.{cell_height}
 use Rattle.abstract_steps.specs.StartRows.{start_row}
-use Rattle.abstract_steps_system.specs.FittedRows.{row_fit, reached_fit, is_own_row, row_room}
+use Rattle.abstract_steps_rows.specs.OwnRows.{is_own_row}
+use Rattle.abstract_steps_rows.specs.FittedRows.{row_fit, reached_fit}
+use Rattle.abstract_steps_rows.specs.RowRooms.{row_room}
 use Rattle.abstract_steps_system.specs.BlockPasses.{edge_end}
 
 abbrev pub no_edge : Edge
@@ -28,18 +30,22 @@ abbrev pub is_head_at : List BasicBlock → ℕ → Bool
 is_head_at blocks number = head_in (slice_get blocks number)
 
 module _ {I : Type 0} where
-  -- a program whose static initializers have no place starts with nothing
+  -- whether the static initializers have their places
+  abbrev pub has_start : LatticeOf I → IntegersOf I → Flow → Bool
+  has_start l n flow = is_some (start_row l n flow (replicate flow.width Nothing))
+
+  -- where they have none there is no such row: who analyses the program asks for it first
   abbrev pub known_start : ℕ → Option (List (Cell I)) → List (Cell I)
   known_start width None = replicate width Nothing
   known_start width (Some row) = row
 
   -- the row of the entry
   unfoldable pub start_of : LatticeOf I → IntegersOf I → Flow → List ℤ → List (Cell I)
-  start_of l n flow list = row_fit l list flow.bases.items flow.width (known_start flow.width (start_row l n flow (replicate flow.width Nothing)))
+  start_of l n flow list = row_fit l n list flow.bases.items flow.width (known_start flow.width (start_row l n flow (replicate flow.width Nothing)))
 
   -- what an edge makes of the row of the block that it leaves
   unfoldable pub through : LatticeOf I → IntegersOf I → Flow → List ℤ → ℕ → List (Cell I) → Option (List (Cell I))
-  through l n flow list number row = reached_fit l list flow.bases.items flow.width (edge_end l n flow (edge_at flow.edges.items number).from number row)
+  through l n flow list number row = reached_fit l n list flow.bases.items flow.width (edge_end l n flow (edge_at flow.edges.items number).from number row)
 
   abbrev pub flow_machine : LatticeOf I → IntegersOf I → Flow → List ℤ → Machine (Cell I)
   flow_machine l n flow list = record {
@@ -51,8 +57,8 @@ module _ {I : Type 0} where
     head = is_head_at flow.blocks.items;
     start = start_of l n flow list;
     through = through l n flow list;
-    own = is_own_row l list flow.bases.items flow.width;
-    attained = is_own_row l list flow.bases.items flow.width;
+    own = is_own_row l n list flow.bases.items flow.width;
+    attained = is_own_row l n list flow.bases.items flow.width;
     list = list;
     room = row_room l list flow.width;
     height = flow.width * cell_height l (length list);

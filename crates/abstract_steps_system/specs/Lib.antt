@@ -1,6 +1,3 @@
-pub mod Ends
-pub mod CellKinds
-pub mod FittedRows
 pub mod BlockPasses
 pub mod FlowMachines
 pub mod SystemChecks

@@ -2,15 +2,14 @@
 ghost use Rattle.std.specs.Prelude.{◌≡◌, ◌<◌, true, false, Some, None, length, replicate};
 ghost use Rattle.value_domain.specs.declared.row_cells.Cell.TheVariants.{Nothing};
 ghost use Rattle.abstract_steps.specs.StartRows.{start_row};
-ghost use Rattle.abstract_steps_system.specs.FlowMachines.{flow_machine, known_start, start_of, through};
+ghost use Rattle.abstract_steps_system.specs.FlowMachines.{flow_machine, has_start, known_start, start_of, through};
 ghost use Rattle.abstract_steps_system.specs.SystemChecks.{is_system};
 ghost use Rattle.abstract_steps_system.specs.FlowLaws.{flow-laws};
 
 use crate::block_passes::pass_edge;
-use crate::bounded_numbers::Bounded;
-use crate::fitted_rows::{fill_row, fit_row};
 use crate::system_checks::is_head_at;
 use abstract_steps::start_row;
+use abstract_steps_rows::{Bounded, fill_row, fit_row};
 use cc_base::{Steps, System, Thresholds};
 use flow_program::Flow;
 use std::marker::PhantomData;
@@ -36,6 +35,16 @@ pub fn system<'a, I: Bounded>(flow: &'a Flow, list: &'a Thresholds) -> FlowSyste
         list,
         numbers: PhantomData,
     }
+}
+
+/// Whether each static initializer of a program has its place, so that there is a row of the entry;
+/// the row is used to find it out.
+pub fn has_start<I: Bounded>(flow: &Flow, row: &mut [Cell<I>]) -> bool
+    requires { length row.old ≡ flow.now.width }
+    ensures { result ≡ has_start I.lattice I.numbers flow.now }
+{
+    fill_row(row, Cell::Nothing);
+    start_row(flow, row)
 }
 
 /// Makes `row` the row of the entry; where a static initializer has no place, no cell has anything.
@@ -85,7 +94,7 @@ impl<'a, I: Bounded> System for FlowSystem<'a, I> {
 
     ghost valid = { λ s. is_system s.flow.now ≡ true };
 
-    ghost lawful = { λ s valid. flow-laws I.lattice I.numbers I.order I.heights s.flow.now s.list.now valid };
+    ghost lawful = { λ s valid. flow-laws I.order I.rounding I.heights I.bounding I.ends s.flow.now s.list.now valid };
 
     fn blocks(&self) -> u32 {
         self.flow.blocks.len() as u32

@@ -3,12 +3,8 @@
 #![tactic(auto)]
 
 mod block_passes;
-mod bounded_numbers;
-mod cell_kinds;
-mod fitted_rows;
 mod flow_systems;
 mod system_checks;
 
-pub use bounded_numbers::Bounded;
-pub use flow_systems::{FlowSystem, system};
+pub use flow_systems::{FlowSystem, has_start, system};
 pub use system_checks::is_system;

@@ -8,6 +8,9 @@ use Rattle.cc_base.specs.declared.diagnostics.Diag.{Diag}
 use Rattle.flow_program.specs.declared.programs.Flow.{Flow}
 use Rattle.value_domain.specs.declared.row_cells.Cell.{Cell}
 use Rattle.interval_domain.specs.declared.intervals.Interval.{Interval}
+use Rattle.interval_domain.specs.IntervalLattice.{interval_lattice}
+use Rattle.interval_domain.specs.IntervalNumbers.{interval_numbers}
+use Rattle.abstract_steps_system.specs.FlowMachines.{has_start}
 use Rattle.flow_analysis.specs.Analyses.{row_lattice, machine_of, admitted_pairs, IsAnalysis}
 
 -- a map of a program's system with numbers of a list
@@ -19,6 +22,6 @@ pub solved_as : (flow flow' : Flow) (list list' : List ℤ) (rows : List (Option
 solved_as flow flow' list list' rows e f i l =
     subst (λ z. IsSolved flow' z rows) f (subst (λ z. IsSolved z list rows) e (record { inductive = i; least = l }))
 
-pub analysed : {V E : Type 0} (items : V → List Diag) (flow : Flow) (list : List ℤ) (rows : List (Option (List (Cell Interval)))) → IsSolved flow list rows → (result : Result V E) → IfOk result (λ v. IsOrderedSet (admitted_pairs flow rows) (items v)) → IfOk result (λ v. IsAnalysis flow list (items v))
-analysed items flow list rows s (Ok v) h = record { rows = rows; inductive = s.inductive; least = s.least; admitted = h }
-analysed items flow list rows s (Err e) h = tt
+pub analysed : {V E : Type 0} (items : V → List Diag) (flow : Flow) (list : List ℤ) (rows : List (Option (List (Cell Interval)))) → has_start interval_lattice interval_numbers flow ≡ true → IsSolved flow list rows → (result : Result V E) → IfOk result (λ v. IsOrderedSet (admitted_pairs flow rows) (items v)) → IfOk result (λ v. IsAnalysis flow list (items v))
+analysed items flow list rows start s (Ok v) h = record { rows = rows; started = start; inductive = s.inductive; least = s.least; admitted = h }
+analysed items flow list rows start s (Err e) h = tt

@@ -11,7 +11,7 @@ use Rattle.value_domain.specs.Cells.{cell_lattice}
 use Rattle.interval_domain.specs.declared.intervals.Interval.{Interval}
 use Rattle.interval_domain.specs.IntervalLattice.{interval_lattice}
 use Rattle.interval_domain.specs.IntervalNumbers.{interval_numbers}
-use Rattle.abstract_steps_system.specs.FlowMachines.{flow_machine}
+use Rattle.abstract_steps_system.specs.FlowMachines.{flow_machine, has_start}
 use Rattle.rule_checks.specs.AdmittedRules.{map_pairs}
 
 -- the lattice of a row's cells
@@ -30,6 +30,8 @@ admitted_pairs flow rows = map_pairs interval_lattice interval_numbers flow rows
 -- more of more
 pub record IsAnalysis (flow : Flow) (list : List ℤ) (found : List Diag) : Type 0 where
   pub rows : List (Option (List (Cell Interval)))
+  -- there is a row of the entry
+  pub started : has_start interval_lattice interval_numbers flow ≡ true
   pub inductive : IsInductive row_lattice (machine_of flow list) rows
   pub least : IsMonotone row_lattice (machine_of flow list) → IsLeast row_lattice (machine_of flow list) rows
   pub admitted : IsOrderedSet (admitted_pairs flow rows) found

@@ -2,10 +2,13 @@
 ghost use Rattle.std.specs.Prelude.{◌≡◌, ◌+◌, ◌<◌, ◌≤◌, true, length, None, IfOk};
 ghost use Rattle.std.proofs.Common.{replicate};
 ghost use Rattle.row_pool.specs.Pool.{free_count};
+ghost use Rattle.interval_domain.specs.IntervalLattice.{interval_lattice};
+ghost use Rattle.interval_domain.specs.IntervalNumbers.{interval_numbers};
 ghost use Rattle.abstract_steps_system.specs.SystemChecks.{is_system};
+ghost use Rattle.abstract_steps_system.specs.FlowMachines.{has_start};
 ghost use Rattle.flow_analysis.specs.Analyses.{IsAnalysis};
 
-use abstract_steps_system::{FlowSystem, is_system, system};
+use abstract_steps_system::{FlowSystem, has_start, is_system, system};
 use cc_base::{Diag, Lattice, Memory, Steps, System, Thresholds};
 use fixpoint_engine::{drop_map, new_map, release, solve};
 use flow_program::Flow;
@@ -27,6 +30,7 @@ fn found_by<L: Ledger>(
     steps: &mut Steps<L>,
 ) -> Result<Vec<Diag>, Memory>
     requires valid { is_system flow.now ≡ true }
+    requires started { has_start interval_lattice interval_numbers flow.now ≡ true }
     requires width { pool.old.width ≡ flow.now.width }
     requires vacant { map.old ≡ replicate (length flow.now.blocks.items) None }
     requires room { length flow.now.blocks.items + 2 ≤ free_count pool.old }
@@ -40,7 +44,16 @@ fn found_by<L: Ledger>(
     found
 }
 
-/// The pairs that a program whose blocks and edges make a system may break.
+/// Whether each static initializer of a program has its place.
+fn starts(alloc: Global, flow: &Flow) -> Result<bool, Memory>
+    ensures { IfOk result (λ held. held ≡ has_start interval_lattice interval_numbers flow.now) }
+{
+    let mut row = vec![in alloc; Cell::<Interval>::bottom(); flow.width as usize]?;
+    Ok(has_start(flow, row.as_mut_slice()))
+}
+
+/// The pairs that a program may break whose blocks and edges make a system and whose static
+/// initializers have their places.
 #[tactic(auto, using(crate::specs::Counts::few_blocks))]
 fn found_in<L: Ledger>(
     alloc: Global,
@@ -49,6 +62,7 @@ fn found_in<L: Ledger>(
     blank: Blank,
 ) -> Result<Vec<Diag>, Memory>
     requires valid { is_system flow.now ≡ true }
+    requires started { has_start interval_lattice interval_numbers flow.now ≡ true }
     requires name { blank.name ≡ L.name }
     requires parts { blank.parts ≡ L.parts }
     requires some { 0 < blank.parts }
@@ -68,11 +82,12 @@ fn found_in<L: Ledger>(
 ///
 /// # Errors
 ///
-/// Want of memory, and a program whose blocks and edges make no system.
+/// Want of memory, and a program whose blocks and edges make no system or with a static initializer
+/// that has no place.
 pub fn analyse(alloc: Global, flow: &Flow, list: &Thresholds) -> Result<Vec<Diag>, Memory>
     ensures found { IfOk result (λ found. IsAnalysis flow.now list.now found.items) }
 {
-    if is_system(flow) {
+    if is_system(flow) && starts(alloc, flow)? {
         found_in::<Brand>(alloc, flow, list, Blank::new(1))
     } else {
         Err(Memory)

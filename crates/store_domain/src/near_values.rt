@@ -2,13 +2,27 @@
 ghost use Rattle.std.specs.Prelude.{◌≡◌};
 ghost use Rattle.cc_base.specs.IntegerDomains.{IsNear};
 ghost use Rattle.pointer_domain.specs.PointerTables.{IsNearPointer};
-ghost use Rattle.store_domain.specs.NearValues.{near_number, near_pointer, near_value};
+ghost use Rattle.store_domain.specs.NearValues.{near_part, near_number, near_pointer, near_value};
 
-use cc_base::{IntDomain, Lattice};
+use cc_base::{IntDomain, Lattice, of_range, range_met};
 use pointer_domain::Pointers;
 use value_domain::Value;
 
-/// The numbers, where they lie from -2^64 to 2^64; else none. No row of a flow has other numbers.
+/// The numbers from -2^64 to 2^64.
+#[tactic(auto, using(crate::specs::NearValues::part_near))]
+fn near_part<I: IntDomain>(x: I) -> I
+    ensures near { IsNear (I.numbers.bounds result) }
+    ensures value { result ≡ near_part I.lattice I.numbers x }
+{
+    of_range(range_met(
+        x.bounds(),
+        -0x1_0000_0000_0000_0000,
+        0x1_0000_0000_0000_0000,
+    ))
+}
+
+/// The numbers, where they lie from -2^64 to 2^64; else those of them that do. No row of a flow has
+/// other numbers.
 pub fn near_number<I: IntDomain>(x: I) -> I
     ensures near { IsNear (I.numbers.bounds result) }
     ensures value { result ≡ near_number I.lattice I.numbers x }
@@ -17,7 +31,7 @@ pub fn near_number<I: IntDomain>(x: I) -> I
         None => I::bottom(),
         Some((lo, hi)) => {
             if lo < -0x1_0000_0000_0000_0000 || hi > 0x1_0000_0000_0000_0000 {
-                I::bottom()
+                near_part(x)
             } else {
                 x
             }

@@ -1,6 +1,8 @@
 //! Abstract integers of which it can be told whether their bounds lie within the ends of a list.
 ghost use Rattle.std.specs.Prelude.{◌≡◌, int_le, ◌&&◌, ◌||◌};
 ghost use Rattle.std.specs.List.{list_any};
+ghost use Rattle.abstract_steps_rows.specs.EndLaws.{EndLaws};
+ghost use Rattle.abstract_steps_rows.specs.IntervalEnds.{interval_ends};
 
 use cc_base::{IntDomain, Thresholds};
 use interval_domain::Interval;
@@ -11,6 +13,8 @@ pub trait Bounded: IntDomain {
     /// Whether the bounds lie between two numbers of the list.
     fn is_within(self, list: &Thresholds) -> bool
         ensures { result ≡ Self.lattice.within list.now self };
+
+    ghost ends: { EndLaws Self.lattice Self.numbers };
 }
 
 /// Whether some number of the list is at most `x`.
@@ -50,6 +54,8 @@ fn lies_below_end(list: &[i128], x: i128) -> bool
 }
 
 impl Bounded for Interval {
+    ghost ends = { interval_ends };
+
     fn is_within(self, list: &Thresholds) -> bool {
         match self {
             Interval::Bottom => true,

@@ -2,9 +2,9 @@
 -- class cells, its first zeros and its state; then the temporaries.
 use Rattle.std.proofs.Common.{◌≡◌, ℕ, zero, suc, ◌+◌, ◌-◌, ◌^◌, ◌≤◌, min, Bool, true, false, not, ◌&&◌, nat_eq, cond, List, [], ◌∷◌, length, drop}
 use Rattle.c_layout.specs.declared.shapes.BaseInfo.{BaseInfo}
-use Rattle.abstract_steps_system.specs.declared.cell_kinds.CellKind.{CellKind}
-use Rattle.abstract_steps_system.specs.declared.cell_kinds.CellKind.TheVariants as kind
-use Rattle.abstract_steps_system.specs.declared.cell_kinds.KindsLeft.{KindsLeft}
+use Rattle.abstract_steps_rows.specs.declared.cell_kinds.CellKind.{CellKind}
+use Rattle.abstract_steps_rows.specs.declared.cell_kinds.CellKind.TheVariants as kind
+use Rattle.abstract_steps_rows.specs.declared.cell_kinds.KindsLeft.{KindsLeft}
 
 -- a kind, so many times before others
 abbrev pub before : CellKind → ℕ → List CellKind → List CellKind

@@ -1,6 +1,6 @@
 //! The kinds of the cells of a row, position by position.
 ghost use Rattle.std.specs.Prelude.{◌≡◌, ◌≤◌, ◌<◌, ◌+◌, true, length, drop};
-ghost use Rattle.abstract_steps_system.specs.CellKinds.{values_of, kinds_in, all_kinds, is_spent, first_kind, kinds_behind, IsSettled};
+ghost use Rattle.abstract_steps_rows.specs.CellKinds.{values_of, kinds_in, all_kinds, is_spent, first_kind, kinds_behind, IsSettled};
 
 use c_layout::BaseInfo;
 

@@ -1,6 +1,6 @@
 use Rattle.std.proofs.Common.{◌≡◌, ◌++◌, take, drop, map}
-use Rattle.abstract_steps_system.specs.FittedRows.{filled_with}
-use Rattle.abstract_steps_system.proofs.fitted_rows.overwrite.Given as goal
+use Rattle.abstract_steps_rows.specs.FittedRows.{filled_with}
+use Rattle.abstract_steps_rows.proofs.fitted_rows.overwrite.Given as goal
 
 abbrev pub invariant-loop-at : goal.invariant-loop-at
 invariant-loop-at g l = record {

@@ -1,0 +1,10 @@
+pub mod Ends
+pub mod EndLaws
+pub mod IntervalEnds
+pub mod CellKinds
+pub mod OwnRows
+pub mod ProgramBases
+pub mod FittedRows
+pub mod OwnLaws
+pub mod RowRooms
+pub mod RoomLaws
