@@ -1,5 +1,5 @@
 -- The scan of a string argument for its closing zero.
-use Rattle.std.specs.Prelude.{ℕ, ℤ, pos, ◌-ℤ◌, Bool, true, false, cond, ◌||◌, Option, Some, None, is_some, List}
+use Rattle.std.specs.Prelude.{ℕ, ℤ, pos, ◌-ℤ◌, Bool, true, false, cond, Option, Some, None, is_some, List}
 use Rattle.std.specs.Int.{w128, saturate_signed}
 use Rattle.cc_base.specs.Lattices.{LatticeOf}
 use Rattle.cc_base.specs.IntegerDomains.{IntegersOf, of_range}
@@ -20,6 +20,10 @@ use Rattle.store_domain.specs.LiveBases.{has_base, only_base}
 use Rattle.store_domain.specs.Walks.{walk}
 use Rattle.abstract_steps_checks.specs.declared.string_scans.Scanned.{Scanned}
 use Rattle.abstract_steps_checks.specs.declared.string_scans.OneScan.{OneScan}
+
+-- the bases, with one more if its end is unknown
+abbrev pub unknown_in : Bases → ℕ → Bool → Bases
+unknown_in found number unknown = cond unknown (bases_union found (only_base number)) found
 
 module _ {I : Type 0} where
   abbrev pub scan_start : IntegersOf I → Pointers I → Option Window
@@ -59,7 +63,7 @@ module _ {I : Type 0} where
   goes_on_in n found number length = cond (is_some (n.bounds length)) (bases_union found (only_base number)) found
 
   abbrev pub with_base : LatticeOf I → IntegersOf I → Scanned I → ℕ → OneScan I → Scanned I
-  with_base l n found number one = record { length = l.join found.length one.length; bases = goes_on_in n found.bases number one.length; unknown = found.unknown || one.unknown }
+  with_base l n found number one = record { length = l.join found.length one.length; bases = goes_on_in n found.bases number one.length; unknown = unknown_in found.unknown number one.unknown }
 
   unfoldable pub with_base_if : LatticeOf I → IntegersOf I → List (Cell I) → Pointers I → Bool → ℕ → BaseInfo → Scanned I → Scanned I
   with_base_if l n row p wanted number base found = cond wanted (with_base l n found number (scan_base l n base row p)) found
@@ -68,7 +72,7 @@ module _ {I : Type 0} where
   scan_more l n row p base number found = with_base_if l n row p (has_base p.bases number) number base found
 
   abbrev pub nothing_scanned : LatticeOf I → Scanned I
-  nothing_scanned l = record { length = l.least; bases = no_base; unknown = false }
+  nothing_scanned l = record { length = l.least; bases = no_base; unknown = no_base }
 
   -- base by base
   unfoldable pub scan_bases : LatticeOf I → IntegersOf I → List BaseInfo → List (Cell I) → Pointers I → Scanned I

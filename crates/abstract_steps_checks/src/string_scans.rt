@@ -3,7 +3,7 @@ ghost use Rattle.std.specs.Prelude.{◌≡◌};
 ghost use Rattle.cc_base.specs.IntegerDomains.{IsNear};
 ghost use Rattle.pointer_domain.specs.PointerTables.{IsNearPointer};
 ghost use Rattle.store_domain.specs.FirstZeroWrites.{covering_part};
-ghost use Rattle.abstract_steps_checks.specs.StringScans.{scan_start, last_of_room, unknown_length, length_in, length_at, known_length, scan_base, goes_on_in, with_base, with_base_if, nothing_scanned, scan_bases, near_scanned, scan};
+ghost use Rattle.abstract_steps_checks.specs.StringScans.{scan_start, last_of_room, unknown_length, length_in, length_at, known_length, scan_base, goes_on_in, unknown_in, with_base, with_base_if, nothing_scanned, scan_bases, near_scanned, scan};
 
 use c_layout::BaseInfo;
 use cc_base::{IntDomain, Lattice, of_range, range_met, upper_or};
@@ -14,13 +14,13 @@ use store_domain::{
 };
 use value_domain::Cell;
 
-/// What a scan finds: the lengths of the string, the bases into which it goes on, and whether in some
-/// base its end is unknown.
+/// What a scan finds: the lengths of the string, the bases into which it goes on, and those in which
+/// its end is unknown.
 #[derive(Clone, Copy)]
 pub struct Scanned<I> {
     pub length: I,
     pub bases: Bases,
-    pub unknown: bool,
+    pub unknown: Bases,
 }
 
 /// The length in one base, and whether its end is unknown.
@@ -128,13 +128,24 @@ fn goes_on_in<I: IntDomain>(found: Bases, base: usize, length: I) -> Bases
     }
 }
 
+/// The bases in which the end is unknown, with one more if it is unknown there.
+fn unknown_in(found: Bases, base: usize, unknown: bool) -> Bases
+    ensures { result ≡ unknown_in found base unknown }
+{
+    if unknown {
+        found.union(only_base(base))
+    } else {
+        found
+    }
+}
+
 fn with_base<I: IntDomain>(found: Scanned<I>, base: usize, one: OneScan<I>) -> Scanned<I>
     ensures { result ≡ with_base I.lattice I.numbers found base one }
 {
     Scanned {
         length: found.length.join(one.length),
         bases: goes_on_in(found.bases, base, one.length),
-        unknown: found.unknown || one.unknown,
+        unknown: unknown_in(found.unknown, base, one.unknown),
     }
 }
 
@@ -164,7 +175,7 @@ fn nothing_scanned<I: IntDomain>() -> Scanned<I>
     Scanned {
         length: I::bottom(),
         bases: Bases::empty(),
-        unknown: false,
+        unknown: Bases::empty(),
     }
 }
 

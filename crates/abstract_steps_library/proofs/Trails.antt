@@ -6,14 +6,14 @@ use Rattle.value_domain.specs.declared.row_cells.Cell.{Cell}
 use Rattle.store_domain.specs.Walks.{turns}
 use Rattle.abstract_steps_library.specs.Calls.{Call}
 use Rattle.abstract_steps_library.specs.declared.call_plans.Trail.{Trail}
-use Rattle.abstract_steps_library.specs.Outputs.{pointer_trail_if, scan_trail_if, pointer_trails, scan_trails}
+use Rattle.abstract_steps_library.specs.Outputs.{printed_trail_at, text_trail_at, pointer_trails, scan_trails}
 
 pub turns_next : {S : Type 0} (f : ℕ → S → S) (at : ℕ) (s : S) → turns f (at + 1) s ≡ f at (turns f at s)
 turns_next f at s = rw (add-one at)
 
 module _ {I : Type 0} where
-  pub pointer_trails_next : (l : LatticeOf I) (n : IntegersOf I) (call : Call) (row : List (Cell I)) (at : ℕ) (trail : Trail) → pointer_trails l n call row (at + 1) trail ≡ pointer_trail_if l n call row (at + 1) (pointer_trails l n call row at trail)
+  pub pointer_trails_next : (l : LatticeOf I) (n : IntegersOf I) (call : Call) (row : List (Cell I)) (at : ℕ) (trail : Trail) → pointer_trails l n call row (at + 1) trail ≡ printed_trail_at l n call row (at + 1) (pointer_trails l n call row at trail)
   pointer_trails_next l n call row at trail = rw (add-one at)
 
-  pub scan_trails_next : (l : LatticeOf I) (n : IntegersOf I) (call : Call) (row : List (Cell I)) (at : ℕ) (trail : Trail) → scan_trails l n call row (at + 1) trail ≡ scan_trail_if l n call row (at + 1) (scan_trails l n call row at trail)
+  pub scan_trails_next : (l : LatticeOf I) (n : IntegersOf I) (call : Call) (row : List (Cell I)) (at : ℕ) (trail : Trail) → scan_trails l n call row (at + 1) trail ≡ text_trail_at l n call row (at + 1) (scan_trails l n call row at trail)
   scan_trails_next l n call row at trail = rw (add-one at)

@@ -40,7 +40,7 @@ module _ {I : Type 0} where
 
   abbrev pub allocated_at : LatticeOf I → IntegersOf I → Flow → Option ℕ → ℕ → I → Fresh I → List (Cell I) → List (Cell I)
   allocated_at l n flow to newest size fresh row =
-      put_result flow to (pointer_value l (renewed_pointer l n flow.bases.items (site_of newest (older_of newest)) size)) (renew l n flow.bases.items newest (older_of newest) size fresh row)
+      put_result flow to (pointer_value l (renewed_pointer l n flow.bases.items (site_of newest (older_of newest)) size)) (renew l n flow.model flow.bases.items newest (older_of newest) size fresh row)
 
   -- an allocation at the site whose newest base has this number; the older one follows it
   abbrev pub allocated : LatticeOf I → IntegersOf I → Flow → Option ℕ → Option ℕ → I → Fresh I → List (Cell I) → Option (List (Cell I))

@@ -29,7 +29,7 @@ use Rattle.store_domain.specs.RowPositions.{capped, leaf_position, class_positio
 use Rattle.store_domain.specs.ScalarTypes.{class_bytes}
 use Rattle.store_domain.specs.Walks.{walk, turns}
 use Rattle.abstract_steps_library.specs.declared.fill_writes.FillWrite.{FillWrite}
-use Rattle.abstract_steps_library.specs.TextWrites.{is_whole, sure_zero}
+use Rattle.abstract_steps_library.specs.TextWrites.{is_whole, lies_in_array, sure_zero}
 
 -- the last byte of a leaf's one place
 abbrev pub last_byte : Model → Leaf → ℕ
@@ -109,10 +109,10 @@ module _ {I : Type 0} where
 
   abbrev pub zero_met_at : LatticeOf I → IntegersOf I → FirstZero I → FillWrite → Bool → Bool → Option ZeroTarget → FirstZero I
   zero_met_at l n old write alone inside None = any_zero l n
-  zero_met_at l n old write alone inside (Some start) = cond (inside && start.whole) (zero_inside l n old start.local write alone) (any_zero l n)
+  zero_met_at l n old write alone inside (Some start) = cond (lies_in_array write.one_byte inside start) (zero_inside l n old start.local write (alone && start.whole)) (any_zero l n)
 
   -- the first zero of an array that the write meets: known where zeros are written from one offset on
-  -- that is not behind it
+  -- that is not behind it, and the old one too where the write may begin elsewhere
   abbrev pub zero_met : LatticeOf I → IntegersOf I → ZeroPart → FirstZero I → FillWrite → Bool → FirstZero I
   zero_met l n part old write alone = zero_met_at l n old write alone (is_whole (zero_target part write.window)) (zero_target part write.start)
 

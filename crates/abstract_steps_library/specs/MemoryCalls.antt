@@ -4,7 +4,7 @@ use Rattle.std.specs.Ordering.{int_eq}
 use Rattle.std.specs.Int.{w128, saturate_signed, int_rem_euclid}
 use Rattle.cc_base.specs.Lattices.{LatticeOf}
 use Rattle.cc_base.specs.IntegerDomains.{IntegersOf}
-use Rattle.cc_base.specs.NumberRanges.{Range}
+use Rattle.cc_base.specs.NumberRanges.{Range, upper_or}
 use Rattle.pointer_domain.specs.declared.pointer_sets.Pointers.{Pointers}
 use Rattle.pointer_domain.specs.BaseSets.{bases_empty}
 use Rattle.pointer_domain.specs.PointerTables.{offsets}
@@ -16,6 +16,7 @@ use Rattle.store_domain.specs.AccessWindows.{window_within}
 use Rattle.store_domain.specs.LiveBases.{writable_of}
 use Rattle.abstract_steps_checks.specs.declared.library_arguments.Argument.{Argument}
 use Rattle.abstract_steps_checks.specs.IntegerChecks.{sink_violations}
+use Rattle.abstract_steps_checks.specs.ViolationSets.{no_violations}
 use Rattle.abstract_steps_checks.specs.LibraryArguments.{cut_by_room, passes_room, after_write, writes_literal, within_bases, touched_window}
 use Rattle.abstract_steps_library.specs.Calls.{Call}
 use Rattle.abstract_steps_library.specs.declared.call_plans.Effect.{Effect}
@@ -41,13 +42,17 @@ sure_window None count = None
 sure_window (Some start) None = None
 sure_window (Some start) (Some count) = sure_between start.1 (last_sure start.0 count.0)
 
-abbrev pub least_of : Range → ℤ
-least_of None = pos 0
-least_of (Some p) = p.0
+abbrev pub lower_of : Range → ℤ
+lower_of None = pos 0
+lower_of (Some p) = p.0
 
 abbrev pub is_zero_range : Range → Bool
 is_zero_range None = false
 is_zero_range (Some p) = int_eq p.0 p.1 && int_eq (int_rem_euclid p.0 (pos 256)) (pos 0)
+
+-- no more than one byte is written
+abbrev pub is_one_byte : Range → Bool
+is_one_byte count = int_le (upper_or (pos 0) count) (pos 1)
 
 module _ {I : Type 0} where
   -- the trail behind the check of the room of a pointer for a count of bytes, and what of it is left
@@ -102,9 +107,10 @@ module _ {I : Type 0} where
         start = start;
         window = w;
         sure = sure_window (offsets n target.rest) target.count;
+        one_byte = is_one_byte target.count;
         zero = is_zero_byte n c;
         labels = c.labels;
-        least = least_of target.count;
+        least = lower_of target.count;
       }) (pointer_value l target.rest)
 
   abbrev pub fill_in_window : LatticeOf I → IntegersOf I → Call → Target I → Value I → Option Window → Option Window → Effect I
@@ -115,10 +121,14 @@ module _ {I : Type 0} where
   abbrev pub fill_to : LatticeOf I → IntegersOf I → Call → Value I → Target I → Plan I
   fill_to l n call c target = planned target.trail (fill_in_window l n call target c (touched_window n target.rest target.count) (window_within (offsets n target.rest)))
 
+  -- the trail behind the character, the size and the pointer
+  abbrev pub fill_trail : IntegersOf I → Value I → Value I → Argument I → Trail
+  fill_trail n c v to = given_trail (checked (trail_of (sink_violations v.labels)) no_violations (is_some (n.bounds c.num))) to
+
   abbrev pub fill_given : LatticeOf I → IntegersOf I → Call → Value I → Value I → Argument I → Plan I
   fill_given l n call c v to =
       fill_to l n call c
-      (target_of l n call (room_trail n (given_trail (trail_of (sink_violations v.labels)) to) to.rest (n.bounds v.num)) to.rest (cut_by_room n (n.bounds v.num) to.rest))
+      (target_of l n call (room_trail n (fill_trail n c v to) to.rest (n.bounds v.num)) to.rest (cut_by_room n (n.bounds v.num) to.rest))
 
   unfoldable pub plan_fill : LatticeOf I → IntegersOf I → Call → List (Cell I) → Plan I
   plan_fill l n call row = fill_given l n call (argument_value l n call row 1) (argument_value l n call row 2) (argument_at l n call row 0)

@@ -1,5 +1,5 @@
 -- Input, output and the lengths of strings (7.21, 7.24).
-use Rattle.std.specs.Prelude.{ℕ, zero, suc, ◌-◌, pos, negsuc, Bool, true, false, cond, not, is_some, is_none, List, length}
+use Rattle.std.specs.Prelude.{ℕ, zero, suc, ◌-◌, pos, negsuc, Bool, true, false, cond, not, ◌||◌, is_some, is_none, List, length}
 use Rattle.cc_base.specs.Lattices.{LatticeOf}
 use Rattle.cc_base.specs.IntegerDomains.{IntegersOf, of_range, between_or_least}
 use Rattle.cc_base.specs.IntegerTypes.{greatest_of}
@@ -14,6 +14,7 @@ use Rattle.value_domain.specs.ValueTables.{number_value}
 use Rattle.store_domain.specs.ScalarTypes.{kind_of}
 use Rattle.abstract_steps_checks.specs.declared.library_arguments.Argument.{Argument}
 use Rattle.abstract_steps_checks.specs.declared.string_scans.Scanned.{Scanned}
+use Rattle.abstract_steps_checks.specs.declared.violation_sets.Violations.{Violations}
 use Rattle.abstract_steps_checks.specs.LibraryArguments.{check_argument}
 use Rattle.abstract_steps_checks.specs.StringScans.{scan}
 use Rattle.abstract_steps_checks.specs.ViolationSets.{no_violations}
@@ -36,9 +37,13 @@ module _ {I : Type 0} where
   abbrev pub given_trail : Trail → Argument I → Trail
   given_trail trail given = checked trail given.violations (not (bases_empty given.rest.bases))
 
+  -- what a scan may violate
+  abbrev pub scan_violations : Scanned I → Violations
+  scan_violations found = string_violations (not (bases_empty found.unknown))
+
   -- the trail behind the scan of a string
   abbrev pub scanned_trail : Trail → Scanned I → Trail
-  scanned_trail trail found = checked trail (string_violations found.unknown) (not (bases_empty found.bases))
+  scanned_trail trail found = checked trail (scan_violations found) (not (bases_empty found.bases))
 
   -- a character or -1, with the labels of input
   abbrev pub plan_getchar : LatticeOf I → IntegersOf I → Model → Plan I
@@ -60,29 +65,37 @@ module _ {I : Type 0} where
   unfoldable pub plan_puts : LatticeOf I → IntegersOf I → Call → List (Cell I) → Plan I
   plan_puts l n call row = planned (scan_trail l n call row 0 (pointer_trail l n call row 0 (trail_of no_violations))) (effect.Result (number_value l (n.one (pos 0)) no_labels))
 
-  -- an integer has a number
-  abbrev pub is_pointer : LatticeOf I → IntegersOf I → Call → List (Cell I) → ℕ → Bool
-  is_pointer l n call row at = is_none (n.bounds (argument_value l n call row at).num)
+  -- the argument can be a number
+  abbrev pub has_number : LatticeOf I → IntegersOf I → Call → List (Cell I) → ℕ → Bool
+  has_number l n call row at = is_some (n.bounds (argument_value l n call row at).num)
 
-  abbrev pub pointer_trail_if : LatticeOf I → IntegersOf I → Call → List (Cell I) → ℕ → Trail → Trail
-  pointer_trail_if l n call row at trail = cond (is_pointer l n call row at) (pointer_trail l n call row at trail) trail
+  -- an argument behind a format is a number, or a pointer that is checked
+  abbrev pub printed_trail : Bool → Trail → Argument I → Trail
+  printed_trail number trail given = checked trail given.violations (number || not (bases_empty given.rest.bases))
 
-  abbrev pub scan_trail_if : LatticeOf I → IntegersOf I → Call → List (Cell I) → ℕ → Trail → Trail
-  scan_trail_if l n call row at trail = cond (is_pointer l n call row at) (scan_trail l n call row at trail) trail
+  abbrev pub printed_trail_at : LatticeOf I → IntegersOf I → Call → List (Cell I) → ℕ → Trail → Trail
+  printed_trail_at l n call row at trail = printed_trail (has_number l n call row at) trail (argument_at l n call row at)
+
+  -- it is a number, or a string
+  abbrev pub text_trail : Bool → Trail → Scanned I → Trail
+  text_trail number trail found = checked trail (scan_violations found) (number || not (bases_empty found.bases))
+
+  abbrev pub text_trail_at : LatticeOf I → IntegersOf I → Call → List (Cell I) → ℕ → Trail → Trail
+  text_trail_at l n call row at trail = text_trail (has_number l n call row at) trail (scan_at l n call row (argument_at l n call row at))
 
   -- over so many arguments behind the format
   abbrev pub pointer_trails : LatticeOf I → IntegersOf I → Call → List (Cell I) → ℕ → Trail → Trail
   pointer_trails l n call row zero trail = trail
-  pointer_trails l n call row (suc count) trail = pointer_trail_if l n call row (suc count) (pointer_trails l n call row count trail)
+  pointer_trails l n call row (suc count) trail = printed_trail_at l n call row (suc count) (pointer_trails l n call row count trail)
 
   abbrev pub scan_trails : LatticeOf I → IntegersOf I → Call → List (Cell I) → ℕ → Trail → Trail
   scan_trails l n call row zero trail = trail
-  scan_trails l n call row (suc count) trail = scan_trail_if l n call row (suc count) (scan_trails l n call row count trail)
+  scan_trails l n call row (suc count) trail = text_trail_at l n call row (suc count) (scan_trails l n call row count trail)
 
   abbrev pub printf_trail : LatticeOf I → IntegersOf I → Call → List (Cell I) → ℕ → Trail
-  printf_trail l n call row count = scan_trails l n call row count (pointer_trails l n call row count (trail_of no_violations))
+  printf_trail l n call row count = scan_trails l n call row count (pointer_trails l n call row count (pointer_trail l n call row 0 (trail_of no_violations)))
 
-  -- each argument that is a pointer is a string
+  -- the format is a literal, and not scanned; each argument behind it that is a pointer is a string
   unfoldable pub plan_printf : LatticeOf I → IntegersOf I → Call → List (Cell I) → Plan I
   plan_printf l n call row = planned (printf_trail l n call row (length call.arguments - 1)) (effect.Result (number_value l (between_or_least l n (pos 0) (greatest_of (kind_of call.flow.model Int true))) no_labels))
 
@@ -92,7 +105,7 @@ module _ {I : Type 0} where
 
   abbrev pub strlen_of : LatticeOf I → IntegersOf I → Argument I → Scanned I → I → Plan I
   strlen_of l n given found x =
-      planned (checked (checked (trail_of given.violations) no_violations (not (bases_empty given.rest.bases))) (string_violations found.unknown) (is_some (n.bounds x)))
+      planned (checked (checked (trail_of given.violations) no_violations (not (bases_empty given.rest.bases))) (scan_violations found) (is_some (n.bounds x)))
       (effect.Result (number_value l x no_labels))
 
   abbrev pub strlen_scanned : LatticeOf I → IntegersOf I → Model → Argument I → Scanned I → Plan I

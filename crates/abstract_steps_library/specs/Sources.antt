@@ -1,5 +1,5 @@
 -- The characters that a call reads.
-use Rattle.std.specs.Prelude.{ℕ, Bool, true, false, cond, Option, Some, None, List}
+use Rattle.std.specs.Prelude.{ℕ, Bool, true, false, cond, ◌&&◌, ◌||◌, Option, Some, None, List}
 use Rattle.cc_base.specs.Lattices.{LatticeOf}
 use Rattle.cc_base.specs.IntegerDomains.{IntegersOf}
 use Rattle.c_layout.specs.declared.data_model.Model.{Model}
@@ -14,7 +14,7 @@ use Rattle.store_domain.specs.declared.access_windows.Window.{Window}
 use Rattle.store_domain.specs.declared.cell_reads.Access.{Access}
 use Rattle.store_domain.specs.CellReads.{joined}
 use Rattle.store_domain.specs.LiveBases.{has_base}
-use Rattle.store_domain.specs.Loads.{load_base}
+use Rattle.store_domain.specs.Loads.{load_base, load_character}
 use Rattle.store_domain.specs.Walks.{walk}
 use Rattle.abstract_steps_library.specs.declared.source_bytes.Characters.{Characters}
 
@@ -31,6 +31,24 @@ module _ {I : Type 0} where
   -- what a character load of any byte of a window gets, over the bases of a set
   unfoldable pub characters_read : LatticeOf I → IntegersOf I → Model → List BaseInfo → List (Cell I) → Bases → Window → Bool → Option (Value I)
   characters_read l n m bases row set window signed = walk (read_characters l n m row set (character_access signed window)) 0 bases None
+
+  abbrev pub is_blank : Option (Value I) → Bool
+  is_blank None = false
+  is_blank (Some v) = v.indeterminate
+
+  abbrev pub is_blank_in : LatticeOf I → IntegersOf I → Model → List (Cell I) → Window → BaseInfo → Bool
+  is_blank_in l n m row window base = is_blank (load_character l n m base row (character_access true window))
+
+  abbrev pub is_blank_or : LatticeOf I → IntegersOf I → Model → List (Cell I) → Bases → Window → BaseInfo → ℕ → Bool → Bool
+  is_blank_or l n m row set window base number found = found || (has_base set number && is_blank_in l n m row window base)
+
+  -- a byte of the window may be indeterminate in some base of the set, whatever is known of its first zero
+  unfoldable pub reads_blank : LatticeOf I → IntegersOf I → Model → List BaseInfo → List (Cell I) → Bases → Window → Bool
+  reads_blank l n m bases row set window = walk (is_blank_or l n m row set window) 0 bases false
+
+  abbrev pub reads_blank_in : LatticeOf I → IntegersOf I → Model → List BaseInfo → List (Cell I) → Bases → Option Window → Bool
+  reads_blank_in l n m bases row set None = false
+  reads_blank_in l n m bases row set (Some window) = reads_blank l n m bases row set window
 
   abbrev pub no_characters : LatticeOf I → Characters I
   no_characters l = record { signed = l.least; unsigned = l.least; labels = no_labels }

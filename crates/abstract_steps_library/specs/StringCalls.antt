@@ -1,5 +1,5 @@
 -- `strcpy`, `strncpy`, `strcat` and `fgets`.
-use Rattle.std.specs.Prelude.{◌^◌, ◌-◌, nat_lt, ℤ, pos, negsuc, ◌-ℤ◌, Bool, true, false, cond, ◌&&◌, ◌||◌, Option, Some, None, is_some, List}
+use Rattle.std.specs.Prelude.{◌^◌, ◌-◌, nat_lt, ℤ, pos, negsuc, ◌-ℤ◌, Bool, true, false, cond, not, ◌&&◌, ◌||◌, Option, Some, None, is_some, List}
 use Rattle.std.specs.Int.{w128, saturate_signed}
 use Rattle.cc_base.specs.Lattices.{LatticeOf}
 use Rattle.cc_base.specs.IntegerDomains.{IntegersOf, of_range, between_or_least}
@@ -7,7 +7,9 @@ use Rattle.cc_base.specs.IntegerTypes.{least_of, greatest_of}
 use Rattle.cc_base.specs.NumberRanges.{Range, range_met, upper_or}
 use Rattle.c_layout.specs.declared.data_model.Model.{Model}
 use Rattle.c_layout.specs.declared.leaf_lists.Class.TheVariants.{Char}
+use Rattle.pointer_domain.specs.declared.base_sets.Bases.{Bases}
 use Rattle.pointer_domain.specs.declared.pointer_sets.Pointers.{Pointers}
+use Rattle.pointer_domain.specs.BaseSets.{bases_empty}
 use Rattle.pointer_domain.specs.PointerTables.{offsets}
 use Rattle.value_domain.specs.declared.values.Value.{Value}
 use Rattle.value_domain.specs.declared.row_cells.Cell.{Cell}
@@ -35,8 +37,8 @@ use Rattle.abstract_steps_library.specs.declared.text_writes.ZeroRule.TheVariant
 use Rattle.abstract_steps_library.specs.Plans.{trail_of, checked, planned}
 use Rattle.abstract_steps_library.specs.Arguments.{argument_value, string_violations}
 use Rattle.abstract_steps_library.specs.Outputs.{argument_at, scan_at, given_trail, scanned_trail}
-use Rattle.abstract_steps_library.specs.MemoryCalls.{room_trail, target_of, both_given}
-use Rattle.abstract_steps_library.specs.Sources.{characters_read, characters_of}
+use Rattle.abstract_steps_library.specs.MemoryCalls.{room_trail, target_of, both_given, is_one_byte, lower_of}
+use Rattle.abstract_steps_library.specs.Sources.{characters_of, reads_blank_in}
 
 abbrev pub less_one : ℤ → ℤ
 less_one x = saturate_signed w128 (x -ℤ pos 1)
@@ -51,6 +53,11 @@ window_behind None start = None
 window_behind (Some w) None = None
 window_behind (Some w) (Some p) = window_from_offset w p.0
 
+-- the greatest length of a text that is appended to those that are there, with its zero, in so many
+-- bytes
+abbrev pub most_appended : Range → Range → ℤ
+most_appended there cut = saturate_signed w128 (less_one (upper_or (pos 0) cut) -ℤ lower_of there)
+
 module _ {I : Type 0} where
   -- one more than the numbers
   abbrev pub one_more : IntegersOf I → I → Range
@@ -62,16 +69,16 @@ module _ {I : Type 0} where
   one_less l n (Some p) = near_number l n (of_range l n (Some (less_one p.0, less_one p.1)))
 
   -- a text write of a target from the given start, or the result alone where no byte is written
-  abbrev pub text_effect : LatticeOf I → Call → Target I → Option Window → Option Window → Characters I → ZeroRule I → Effect I
-  text_effect l call target (Some start) (Some w) characters rule =
-      effect.Text (record { bases = writable_of call.flow.bases.items target.rest.bases; start = start; window = w; characters = characters; zero = rule }) (pointer_value l target.rest)
-  text_effect l call target None w characters rule = effect.Result (pointer_value l target.rest)
-  text_effect l call target (Some start) None characters rule = effect.Result (pointer_value l target.rest)
+  abbrev pub text_effect : LatticeOf I → Call → Target I → Option Window → Option Window → Bool → Characters I → ZeroRule I → Effect I
+  text_effect l call target (Some start) (Some w) one_byte characters rule =
+      effect.Text (record { bases = writable_of call.flow.bases.items target.rest.bases; start = start; window = w; one_byte = one_byte; characters = characters; zero = rule }) (pointer_value l target.rest)
+  text_effect l call target None w one_byte characters rule = effect.Result (pointer_value l target.rest)
+  text_effect l call target (Some start) None one_byte characters rule = effect.Result (pointer_value l target.rest)
 
   -- from the first byte of the target on
   abbrev pub text_from_start : LatticeOf I → IntegersOf I → Call → Target I → Characters I → ZeroRule I → Plan I
   text_from_start l n call target characters rule =
-      planned target.trail (text_effect l call target (window_within (offsets n target.rest)) (touched_window n target.rest target.count) characters rule)
+      planned target.trail (text_effect l call target (window_within (offsets n target.rest)) (touched_window n target.rest target.count) (is_one_byte target.count) characters rule)
 
   abbrev pub two_given : Argument I → Argument I → Trail
   two_given to from = given_trail (given_trail (trail_of no_violations) to) from
@@ -85,7 +92,7 @@ module _ {I : Type 0} where
   strcpy_scanned l n call row to from found =
       text_from_start l n call
       (target_of l n call (room_trail n (scanned_trail (two_given to from) found) to.rest (one_more n found.length)) to.rest (cut_by_room n (one_more n found.length) to.rest))
-      (source_characters l n call row (within_bases l n from.rest found.bases) (one_more n found.length))
+      (source_characters l n call row (within_bases l n from.rest found.bases) (cut_by_room n (one_more n found.length) to.rest))
       (zero.Text (one_less l n (cut_by_room n (one_more n found.length) to.rest)))
 
   abbrev pub strcpy_given : LatticeOf I → IntegersOf I → Call → List (Cell I) → Argument I → Argument I → Plan I
@@ -104,15 +111,20 @@ module _ {I : Type 0} where
   abbrev pub append_window : IntegersOf I → Pointers I → I → Range → Option Window
   append_window n p there cut = window_behind (touched_window n p cut) (append_start n p there)
 
-  abbrev pub append_rule : Bool → I → ZeroRule I
-  append_rule unknown length = cond unknown zero.Any (zero.Append length)
+  -- the lengths of the new text for which there is room
+  abbrev pub appended : LatticeOf I → IntegersOf I → I → I → Range → I
+  appended l n there added cut = of_range l n (range_met (n.bounds added) (pos 0) (most_appended (n.bounds there) cut))
+
+  -- the write of a new text of these lengths; with the old one it takes as many bytes as that has
+  abbrev pub append_effect : LatticeOf I → IntegersOf I → Call → Target I → Scanned I → Characters I → I → Effect I
+  append_effect l n call target there characters length =
+      text_effect l call target (window_within (append_start n target.rest there.length)) (append_window n target.rest there.length target.count) false characters (zero.Append length there.unknown)
+
+  abbrev pub strcat_of : LatticeOf I → IntegersOf I → Call → List (Cell I) → Pointers I → Scanned I → Target I → I → Plan I
+  strcat_of l n call row source there target length = planned target.trail (append_effect l n call target there (source_characters l n call row source (one_more n length)) length)
 
   abbrev pub strcat_to : LatticeOf I → IntegersOf I → Call → List (Cell I) → Argument I → Scanned I → Scanned I → Target I → Plan I
-  strcat_to l n call row from there added target =
-      planned target.trail
-      (text_effect l call target (window_within (append_start n target.rest there.length)) (append_window n target.rest there.length target.count)
-      (source_characters l n call row (within_bases l n from.rest added.bases) (one_more n added.length))
-      (append_rule there.unknown added.length))
+  strcat_to l n call row from there added target = strcat_of l n call row (within_bases l n from.rest added.bases) there target (appended l n there.length added.length target.count)
 
   abbrev pub strcat_need : IntegersOf I → Scanned I → Scanned I → Range
   strcat_need n there added = added_ranges (n.bounds there.length) (one_more n added.length)
@@ -133,18 +145,11 @@ module _ {I : Type 0} where
 
   -- ---- strncpy
 
-  abbrev pub is_blank : Option (Value I) → Bool
-  is_blank None = false
-  is_blank (Some v) = v.indeterminate
-
-  abbrev pub reads_blank : LatticeOf I → IntegersOf I → Call → List (Cell I) → Pointers I → Option Window → Bool
-  reads_blank l n call row from None = false
-  reads_blank l n call row from (Some w) = is_blank (characters_read l n call.flow.model call.flow.bases.items row from.bases w true)
-
-  -- bytes before a zero may be read that are no string: the source is not known to end, and it may be
-  -- read past the room, or an indeterminate byte
-  abbrev pub reads_no_string : LatticeOf I → IntegersOf I → Call → List (Cell I) → Pointers I → Bool → Range → Bool
-  reads_no_string l n call row from unknown count = unknown && (passes_room n count from || reads_blank l n call row from (touched_window n from count))
+  -- bytes before a zero may be read that are no string: in a base where the source is not known to end,
+  -- it may be read past the room, or an indeterminate byte
+  abbrev pub reads_no_string : LatticeOf I → IntegersOf I → Call → List (Cell I) → Pointers I → Bases → Range → Bool
+  reads_no_string l n call row from unknown count =
+      not (bases_empty unknown) && (passes_room n count from || reads_blank_in l n call.flow.model call.flow.bases.items row unknown (touched_window n from count))
 
   abbrev pub strncpy_trail : LatticeOf I → IntegersOf I → Call → List (Cell I) → Value I → Argument I → Argument I → Scanned I → Trail
   strncpy_trail l n call row v to from found = checked (both_given v to from) (string_violations (reads_no_string l n call row from.rest found.unknown (n.bounds v.num))) true

@@ -1,5 +1,5 @@
 -- Writing a text and its closing zero.
-use Rattle.std.specs.Prelude.{ℕ, ◌+◌, pos, Bool, true, false, cond, ◌&&◌, Option, Some, None, is_some, List}
+use Rattle.std.specs.Prelude.{ℕ, ◌+◌, pos, Bool, true, false, cond, ◌&&◌, ◌||◌, Option, Some, None, is_some, List}
 use Rattle.std.specs.Int.{int_min}
 use Rattle.cc_base.specs.Lattices.{LatticeOf}
 use Rattle.cc_base.specs.IntegerDomains.{IntegersOf, of_range}
@@ -36,6 +36,10 @@ use Rattle.abstract_steps_library.specs.declared.text_writes.TextWrite.{TextWrit
 abbrev pub is_whole : Option ZeroTarget → Bool
 is_whole None = false
 is_whole (Some target) = target.whole
+
+-- each write that may meet an array lies in it: all of them do, or each is of one byte
+abbrev pub lies_in_array : Bool → Bool → ZeroTarget → Bool
+lies_in_array one_byte inside start = one_byte || (inside && start.whole)
 
 module _ {I : Type 0} where
   -- a character cell may be 0 or a character of the text; determinate
@@ -81,22 +85,23 @@ module _ {I : Type 0} where
   abbrev pub up_to_end : LatticeOf I → IntegersOf I → I → I → I
   up_to_end l n x y = up_to_end_of l n (added_ranges (n.bounds x) (n.bounds y))
 
-  -- the first zero of the array in which the whole write lies
+  -- the first zero of an array after a write that lies in it
   abbrev pub zero_after : LatticeOf I → IntegersOf I → FirstZero I → Window → ZeroRule I → FirstZero I
   zero_after l n old local (Text length) = text_at l n old (offsets_of l n local) (near_number l n length)
-  zero_after l n old local (Append length) = record { at = up_to_end l n old.at (near_number l n length) }
+  zero_after l n old local (Append length unknown) = record { at = up_to_end l n old.at (near_number l n length) }
   zero_after l n old local Any = any_zero l n
 
   abbrev pub sure_zero : LatticeOf I → Bool → FirstZero I → FirstZero I → FirstZero I
   sure_zero l alone old new = cond alone new ((zero_lattice l).join old new)
 
-  abbrev pub zero_met_at : LatticeOf I → IntegersOf I → FirstZero I → ZeroRule I → Bool → Bool → Option ZeroTarget → FirstZero I
-  zero_met_at l n old rule alone inside None = any_zero l n
-  zero_met_at l n old rule alone inside (Some start) = cond (inside && start.whole) (sure_zero l alone old (zero_after l n old start.local rule)) (any_zero l n)
+  abbrev pub zero_met_at : LatticeOf I → IntegersOf I → FirstZero I → TextWrite I → Bool → Bool → Option ZeroTarget → FirstZero I
+  zero_met_at l n old write alone inside None = any_zero l n
+  zero_met_at l n old write alone inside (Some start) = cond (lies_in_array write.one_byte inside start)
+      (sure_zero l (alone && start.whole) old (zero_after l n old start.local write.zero)) (any_zero l n)
 
-  -- the first zero of an array that the write meets
+  -- the first zero of an array that the write meets: the old one too where the write may begin elsewhere
   abbrev pub zero_met : LatticeOf I → IntegersOf I → ZeroPart → FirstZero I → TextWrite I → Bool → FirstZero I
-  zero_met l n part old write alone = zero_met_at l n old write.zero alone (is_whole (zero_target part write.window)) (zero_target part write.start)
+  zero_met l n part old write alone = zero_met_at l n old write alone (is_whole (zero_target part write.window)) (zero_target part write.start)
 
   abbrev pub write_zero_at : LatticeOf I → IntegersOf I → TextWrite I → Bool → ZeroPart → ℕ → List (Cell I) → List (Cell I)
   write_zero_at l n write alone part position row = put_zero row position (zero_met l n part (zero_at l n row position) write alone)
@@ -116,8 +121,17 @@ module _ {I : Type 0} where
   unfoldable pub write_base_if : LatticeOf I → IntegersOf I → Model → TextWrite I → Bool → Bool → BaseInfo → List (Cell I) → List (Cell I)
   write_base_if l n m write alone wanted base row = cond wanted (write_base l n m base write alone row) row
 
+  -- nothing is known behind a text that is not known to end in this base
+  abbrev pub rule_in : ZeroRule I → ℕ → ZeroRule I
+  rule_in (Text length) number = Text length
+  rule_in (Append length unknown) number = cond (has_base unknown number) Any (Append length unknown)
+  rule_in Any number = Any
+
+  abbrev pub write_into : TextWrite I → ℕ → TextWrite I
+  write_into write number = record write { zero = rule_in write.zero number }
+
   abbrev pub write_in : LatticeOf I → IntegersOf I → Model → TextWrite I → Bool → BaseInfo → ℕ → List (Cell I) → List (Cell I)
-  write_in l n m write alone base number row = write_base_if l n m write alone (has_base write.bases number) base row
+  write_in l n m write alone base number row = write_base_if l n m (write_into write number) alone (has_base write.bases number) base row
 
   -- the text in each base of the set
   unfoldable pub write_text : LatticeOf I → IntegersOf I → Flow → TextWrite I → List (Cell I) → List (Cell I)

@@ -41,7 +41,15 @@ fn allocate<I: IntDomain>(
     };
     let older = newest.saturating_add(1);
     let bases = flow.bases.as_slice();
-    let pointer = renew(bases, row, newest, older, near_number(size), fresh);
+    let pointer = renew(
+        &flow.model,
+        bases,
+        row,
+        newest,
+        older,
+        near_number(size),
+        fresh,
+    );
     put_result(flow, row, to_temp, Value::of_pointer(pointer));
     true
 }

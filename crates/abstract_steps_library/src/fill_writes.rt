@@ -3,6 +3,7 @@ ghost use Rattle.std.specs.Prelude.{◌≡◌, ◌&&◌, ◌+◌, ◌<◌, lengt
 ghost use Rattle.abstract_steps_library.specs.FillWrites.{covered_value, is_covered, fill_leaf, fill_leaf_of, fill_leaves, clears_state, clears_instance, class_value, is_from_start, holds_whole, is_up_to_range, fill_stray, fill_class, fill_classes, fill_class_cells, is_up_to, zero_inside, zero_met, fill_zero, fill_zeros, fill_base, fill_base_if, write_fill};
 ghost use Rattle.cc_base.specs.IntegerDomains.{IsNear};
 
+use crate::text_writes::lies_in_array;
 use c_layout::{BaseInfo, Class, Leaf, Model, ZeroPart};
 use cc_base::{IntDomain, Lattice, Tri};
 use flow_program::Flow;
@@ -16,14 +17,15 @@ use string_domain::FirstZero;
 use value_domain::{AllocState, Cell, Labels, Value};
 
 /// Bytes of the bases of a set, which are no literals, are set to a number: the offsets at which the
-/// write begins, the bytes that it may touch and those that it surely touches, whether the number is 0,
-/// its labels, and the least count of bytes.
+/// write begins, the bytes that it may touch and those that it surely touches, whether it is of one byte
+/// at most, whether the number is 0, its labels, and the least count of bytes.
 #[derive(Clone, Copy)]
 pub struct FillWrite {
     pub bases: Bases,
     pub start: Window,
     pub window: Window,
     pub sure: Option<Window>,
+    pub one_byte: bool,
     pub zero: bool,
     pub labels: Labels,
     pub least: i128,
@@ -252,7 +254,7 @@ fn is_up_to<I: IntDomain>(old: FirstZero<I>, local: Window) -> bool
 }
 
 /// The first zero of an array that the write meets: known where zeros are written from one offset on
-/// that is not behind it.
+/// that is not behind it, and the old one too where the write may begin elsewhere.
 fn zero_met<I: IntDomain>(
     part: ZeroPart,
     old: FirstZero<I>,
@@ -267,7 +269,9 @@ fn zero_met<I: IntDomain>(
         Some(target) => target.whole,
     };
     match zero_target(part, write.start) {
-        Some(start) if inside && start.whole => zero_inside(old, start.local, write, alone),
+        Some(start) if lies_in_array(write.one_byte, inside, start) => {
+            zero_inside(old, start.local, write, alone && start.whole)
+        }
         _ => any_zero(),
     }
 }

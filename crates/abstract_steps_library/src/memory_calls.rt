@@ -2,7 +2,7 @@
 ghost use Rattle.std.specs.Prelude.{◌≡◌};
 ghost use Rattle.abstract_steps_checks.specs.LibraryArguments.{cut_by_room};
 ghost use Rattle.abstract_steps_library.specs.Calls.{call_view};
-ghost use Rattle.abstract_steps_library.specs.MemoryCalls.{room_trail, target_of, plan_copy, sure_window, is_zero_byte, least_of, fill_effect, fill_in_window, fill_to, fill_given, plan_fill, copy_in_window, copy_to, both_given, copy_both};
+ghost use Rattle.abstract_steps_library.specs.MemoryCalls.{room_trail, target_of, plan_copy, sure_window, is_zero_byte, is_one_byte, lower_of, fill_trail, fill_effect, fill_in_window, fill_to, fill_given, plan_fill, copy_in_window, copy_to, both_given, copy_both};
 ghost use Rattle.pointer_domain.specs.PointerTables.{IsNearPointer};
 
 use crate::call_arguments::{Call, argument_value, literal_violations, room_violations};
@@ -11,10 +11,10 @@ use crate::copied_bytes::{CopyWrite, bytes_of_source};
 use crate::fill_writes::FillWrite;
 use crate::output_calls::{argument_at, given_trail};
 use abstract_steps_checks::{
-    Argument, after_write, cut_by_room, passes_room, sink_violations, touched_window, within_bases,
-    writes_literal,
+    Argument, Violations, after_write, cut_by_room, passes_room, sink_violations, touched_window,
+    within_bases, writes_literal,
 };
-use cc_base::IntDomain;
+use cc_base::{IntDomain, upper_or};
 use pointer_domain::{Bases, Pointers};
 use store_domain::{Window, window_within, writable_of};
 use value_domain::{Cell, Value};
@@ -168,8 +168,16 @@ fn is_zero_byte<I: IntDomain>(c: Value<I>) -> bool
     }
 }
 
-fn least_of(count: Option<(i128, i128)>) -> i128
-    ensures { result ≡ least_of count }
+/// Whether no more than one byte is written.
+pub fn is_one_byte(count: Option<(i128, i128)>) -> bool
+    ensures { result ≡ is_one_byte count }
+{
+    upper_or(0, count) <= 1
+}
+
+/// The least number, or 0 where there is none.
+pub fn lower_of(count: Option<(i128, i128)>) -> i128
+    ensures { result ≡ lower_of count }
 {
     match count {
         None => 0,
@@ -193,9 +201,10 @@ fn fill_effect<I: IntDomain>(
             start,
             window,
             sure: sure_window(target.rest.offsets(), target.count),
+            one_byte: is_one_byte(target.count),
             zero: is_zero_byte(c),
             labels: c.labels,
-            least: least_of(target.count),
+            least: lower_of(target.count),
         },
         Value::of_pointer(target.rest),
     )
@@ -226,12 +235,20 @@ fn fill_to<I: IntDomain>(call: Call, c: Value<I>, target: Target<I>) -> Plan<I>
     planned(target.trail, fill_in_window(call, target, c, window, start))
 }
 
+/// The trail behind the character, the size and the pointer of `memset`.
+fn fill_trail<I: IntDomain>(c: Value<I>, n: Value<I>, to: Argument<I>) -> Trail
+    ensures { result ≡ fill_trail I.numbers c n to }
+{
+    let trail = Trail::start(sink_violations(n.labels));
+    let trail = trail.check(Violations::none(), c.num.bounds().is_some());
+    given_trail(trail, to)
+}
+
 fn fill_given<I: IntDomain>(call: Call, c: Value<I>, n: Value<I>, to: Argument<I>) -> Plan<I>
     requires { IsNearPointer I.numbers to.rest }
     ensures { result ≡ fill_given I.lattice I.numbers (call_view call.entry) c n to }
 {
-    let trail = given_trail(Trail::start(sink_violations(n.labels)), to);
-    let (trail, count) = check_room(trail, to.rest, n.num.bounds());
+    let (trail, count) = check_room(fill_trail(c, n, to), to.rest, n.num.bounds());
     fill_to(call, c, check_literals(call, trail, to.rest, count))
 }
 

@@ -1,7 +1,7 @@
 //! Input, output and the end of the run (7.21 and 7.22.4 of ISO/IEC 9899:2011).
 ghost use Rattle.std.specs.Prelude.{◌≡◌};
 ghost use Rattle.abstract_steps_library.specs.Calls.{call_view};
-ghost use Rattle.abstract_steps_library.specs.Outputs.{plan_getchar, plan_putchar, pointer_trail, scan_trail, plan_puts, is_pointer, pointer_trail_if, scan_trail_if, pointer_trails, scan_trails, plan_printf, plan_strlen, plan_strcmp, argument_at, scan_at, given_trail, scanned_trail, length_of, strlen_of};
+ghost use Rattle.abstract_steps_library.specs.Outputs.{plan_getchar, plan_putchar, pointer_trail, scan_trail, plan_puts, has_number, printed_trail, printed_trail_at, text_trail, text_trail_at, scan_violations, pointer_trails, scan_trails, plan_printf, plan_strlen, plan_strcmp, argument_at, scan_at, given_trail, scanned_trail, length_of, strlen_of};
 ghost use Rattle.pointer_domain.specs.PointerTables.{IsNearPointer};
 ghost use Rattle.cc_base.specs.IntegerDomains.{IsNear};
 
@@ -59,11 +59,18 @@ pub fn given_trail<I: IntDomain>(trail: Trail, given: Argument<I>) -> Trail
     trail.check(given.violations, !given.rest.bases.is_empty())
 }
 
+/// What a scan may violate.
+fn scan_violations<I: IntDomain>(found: Scanned<I>) -> Violations
+    ensures { result ≡ scan_violations found }
+{
+    string_violations(!found.unknown.is_empty())
+}
+
 /// The trail behind the scan of a string.
 pub fn scanned_trail<I: IntDomain>(trail: Trail, found: Scanned<I>) -> Trail
     ensures { result ≡ scanned_trail trail found }
 {
-    trail.check(string_violations(found.unknown), !found.bases.is_empty())
+    trail.check(scan_violations(found), !found.bases.is_empty())
 }
 
 fn pointer_trail<I: IntDomain>(call: Call, row: &[Cell<I>], at: usize, trail: Trail) -> Trail
@@ -92,64 +99,75 @@ pub fn plan_puts<I: IntDomain>(call: Call, row: &[Cell<I>]) -> Plan<I>
     )
 }
 
-/// Whether the argument is a pointer: an integer has a number.
-fn is_pointer<I: IntDomain>(call: Call, row: &[Cell<I>], at: usize) -> bool
-    ensures { result ≡ is_pointer I.lattice I.numbers (call_view call.entry) row.now at }
+/// Whether the argument can be a number.
+fn has_number<I: IntDomain>(call: Call, row: &[Cell<I>], at: usize) -> bool
+    ensures { result ≡ has_number I.lattice I.numbers (call_view call.entry) row.now at }
 {
-    argument_value(call, row, at).num.bounds().is_none()
+    argument_value(call, row, at).num.bounds().is_some()
 }
 
-/// The trail behind the checks of the arguments that are pointers, behind a format.
+/// The trail behind an argument that is a number, or a pointer that is checked.
+fn printed_trail<I: IntDomain>(number: bool, trail: Trail, given: Argument<I>) -> Trail
+    ensures { result ≡ printed_trail number trail given }
+{
+    trail.check(given.violations, number || !given.rest.bases.is_empty())
+}
+
+/// The trail behind an argument that is a number, or a string.
+fn text_trail<I: IntDomain>(number: bool, trail: Trail, found: Scanned<I>) -> Trail
+    ensures { result ≡ text_trail number trail found }
+{
+    trail.check(scan_violations(found), number || !found.bases.is_empty())
+}
+
+/// The trail behind the checks of the arguments behind a format.
 #[tactic(auto, using(crate::proofs::Trails::pointer_trails_next))]
 fn pointer_trails<I: IntDomain>(call: Call, row: &[Cell<I>], count: usize, trail: Trail) -> Trail
     ensures { result ≡ pointer_trails I.lattice I.numbers (call_view call.entry) row.now count trail }
 {
     let mut checked = trail;
     for at in 0..count {
-        checked = pointer_trail_if(call, row, at.saturating_add(1), checked);
+        checked = printed_trail_at(call, row, at.saturating_add(1), checked);
     }
     checked
 }
 
-fn pointer_trail_if<I: IntDomain>(call: Call, row: &[Cell<I>], at: usize, trail: Trail) -> Trail
-    ensures { result ≡ pointer_trail_if I.lattice I.numbers (call_view call.entry) row.now at trail }
+fn printed_trail_at<I: IntDomain>(call: Call, row: &[Cell<I>], at: usize, trail: Trail) -> Trail
+    ensures { result ≡ printed_trail_at I.lattice I.numbers (call_view call.entry) row.now at trail }
 {
-    if is_pointer(call, row, at) {
-        pointer_trail(call, row, at, trail)
-    } else {
-        trail
-    }
+    let number = has_number(call, row, at);
+    printed_trail(number, trail, argument_at(call, row, at))
 }
 
-/// The trail behind the scans of the arguments that are pointers, behind a format.
+/// The trail behind the scans of the arguments behind a format.
 #[tactic(auto, using(crate::proofs::Trails::scan_trails_next))]
 fn scan_trails<I: IntDomain>(call: Call, row: &[Cell<I>], count: usize, trail: Trail) -> Trail
     ensures { result ≡ scan_trails I.lattice I.numbers (call_view call.entry) row.now count trail }
 {
     let mut checked = trail;
     for at in 0..count {
-        checked = scan_trail_if(call, row, at.saturating_add(1), checked);
+        checked = text_trail_at(call, row, at.saturating_add(1), checked);
     }
     checked
 }
 
-fn scan_trail_if<I: IntDomain>(call: Call, row: &[Cell<I>], at: usize, trail: Trail) -> Trail
-    ensures { result ≡ scan_trail_if I.lattice I.numbers (call_view call.entry) row.now at trail }
+fn text_trail_at<I: IntDomain>(call: Call, row: &[Cell<I>], at: usize, trail: Trail) -> Trail
+    ensures { result ≡ text_trail_at I.lattice I.numbers (call_view call.entry) row.now at trail }
 {
-    if is_pointer(call, row, at) {
-        scan_trail(call, row, at, trail)
-    } else {
-        trail
-    }
+    let number = has_number(call, row, at);
+    let given = argument_at(call, row, at);
+    text_trail(number, trail, scan_at(call, row, given))
 }
 
-/// `printf`: its format is a literal; each argument that is a pointer is a string.
+/// `printf`: its format is a literal, and not scanned; each argument behind it that is a pointer is a
+/// string.
 #[tactic(auto, unfolding(crate::specs::Outputs::plan_printf))]
 pub fn plan_printf<I: IntDomain>(call: Call, row: &[Cell<I>]) -> Plan<I>
     ensures { result ≡ plan_printf I.lattice I.numbers (call_view call.entry) row.now }
 {
     let count = call.arguments.len().saturating_sub(1);
-    let trail = pointer_trails(call, row, count, Trail::start(Violations::none()));
+    let trail = pointer_trail(call, row, 0, Trail::start(Violations::none()));
+    let trail = pointer_trails(call, row, count, trail);
     let trail = scan_trails(call, row, count, trail);
     let most = kind_of(&call.flow.model, Class::Int, true).greatest();
     planned(
@@ -171,7 +189,7 @@ fn strlen_of<I: IntDomain>(given: Argument<I>, found: Scanned<I>, length: I) -> 
 {
     let trail = Trail::start(given.violations);
     let trail = trail.check(Violations::none(), !given.rest.bases.is_empty());
-    let trail = trail.check(string_violations(found.unknown), length.bounds().is_some());
+    let trail = trail.check(scan_violations(found), length.bounds().is_some());
     planned(
         trail,
         Effect::Result(Value::of_number(length, Labels::none())),
@@ -201,8 +219,7 @@ pub fn plan_strcmp<I: IntDomain>(call: Call, row: &[Cell<I>]) -> Plan<I>
     let trail = trail.check(right.violations, !right.rest.bases.is_empty());
     let first = scan(bases, row, left.rest);
     let second = scan(bases, row, right.rest);
-    let trail = trail.check(string_violations(first.unknown), !first.bases.is_empty());
-    let trail = trail.check(string_violations(second.unknown), !second.bases.is_empty());
+    let trail = scanned_trail(scanned_trail(trail, first), second);
     planned(
         trail,
         Effect::Result(Value::of_number(between_or_bottom(-1, 1), Labels::none())),

@@ -1,15 +1,15 @@
 //! `strcpy`, `strncpy`, `strcat` and `fgets`.
 ghost use Rattle.std.specs.Prelude.{◌≡◌, Some};
 ghost use Rattle.abstract_steps_library.specs.Calls.{call_view};
-ghost use Rattle.abstract_steps_library.specs.StringCalls.{one_more, one_less, text_effect, text_from_start, two_given, source_characters, strcpy_scanned, plan_strcpy, append_start, append_window, append_rule, strcat_to, strcat_place, strcat_scanned, plan_strcat, line_count, line_trail, line_rule, fgets_given, reads_no_string, reads_blank, plan_strncpy, input_characters, plan_fgets};
+ghost use Rattle.abstract_steps_library.specs.StringCalls.{one_more, one_less, text_effect, text_from_start, two_given, source_characters, strcpy_scanned, plan_strcpy, append_start, append_window, most_appended, appended, append_effect, strcat_of, strcat_to, strcat_place, strcat_scanned, plan_strcat, line_count, line_trail, line_rule, fgets_given, reads_no_string, plan_strncpy, input_characters, plan_fgets};
 ghost use Rattle.pointer_domain.specs.PointerTables.{IsNearPointer};
 ghost use Rattle.cc_base.specs.IntegerDomains.{IsNear};
 
 use crate::call_arguments::{Call, argument_value, string_violations};
 use crate::call_plans::{Effect, Plan, Trail, planned};
-use crate::memory_calls::{Target, check_literals, check_room};
+use crate::memory_calls::{Target, check_literals, check_room, is_one_byte, lower_of};
 use crate::output_calls::{argument_at, given_trail, scan_at, scanned_trail};
-use crate::source_bytes::{Characters, characters_of, characters_read};
+use crate::source_bytes::{Characters, characters_of, reads_blank};
 use crate::text_writes::{TextWrite, ZeroRule};
 use abstract_steps_checks::{
     Argument, Scanned, Violations, check_argument, passes_room, scan, sink_violations,
@@ -17,7 +17,7 @@ use abstract_steps_checks::{
 };
 use c_layout::{Class, Model};
 use cc_base::{IntDomain, between_or_bottom, of_range, range_met, upper_or};
-use pointer_domain::Pointers;
+use pointer_domain::{Bases, Pointers};
 use store_domain::{Window, added_ranges, kind_of, near_number, window_within, writable_of};
 use value_domain::{Cell, Labels, Value};
 
@@ -45,10 +45,11 @@ fn text_effect<I: IntDomain>(
     target: Target<I>,
     start: Option<Window>,
     window: Option<Window>,
+    one_byte: bool,
     characters: Characters<I>,
     zero: ZeroRule<I>,
 ) -> Effect<I>
-    ensures { result ≡ text_effect I.lattice (call_view call.entry) target start window characters zero }
+    ensures { result ≡ text_effect I.lattice (call_view call.entry) target start window one_byte characters zero }
 {
     let result = Value::of_pointer(target.rest);
     match (start, window) {
@@ -57,6 +58,7 @@ fn text_effect<I: IntDomain>(
                 bases: writable_of(call.flow.bases.as_slice(), target.rest.bases),
                 start,
                 window,
+                one_byte,
                 characters,
                 zero,
             },
@@ -78,9 +80,10 @@ fn text_from_start<I: IntDomain>(
 {
     let start = window_within(target.rest.offsets());
     let window = touched_window(target.rest, target.count);
+    let one_byte = is_one_byte(target.count);
     planned(
         target.trail,
-        text_effect(call, target, start, window, characters, zero),
+        text_effect(call, target, start, window, one_byte, characters, zero),
     )
 }
 
@@ -124,7 +127,7 @@ fn strcpy_scanned<I: IntDomain>(
     let (trail, cut) = check_room(trail, to.rest, need);
     let target = check_literals(call, trail, to.rest, cut);
     let source = within_bases(from.rest, found.bases);
-    let characters = source_characters(call, row, source, need);
+    let characters = source_characters(call, row, source, cut);
     text_from_start(call, target, characters, ZeroRule::Text(one_less(cut)))
 }
 
@@ -163,15 +166,39 @@ fn append_window<I: IntDomain>(
     whole.met(lo, u64::MAX)
 }
 
-/// Where the zero behind an appended text may stand.
-fn append_rule<I: IntDomain>(unknown: bool, length: I) -> ZeroRule<I>
-    ensures { result ≡ append_rule unknown length }
+/// The greatest length of a text that is appended to those that are there, with its zero, in so many
+/// bytes.
+fn most_appended(there: Option<(i128, i128)>, cut: Option<(i128, i128)>) -> i128
+    ensures { result ≡ most_appended there cut }
 {
-    if unknown {
-        ZeroRule::Any
-    } else {
-        ZeroRule::Append(length)
-    }
+    let last = upper_or(0, cut).saturating_sub(1);
+    last.saturating_sub(lower_of(there))
+}
+
+/// The lengths of an appended text for which there is room.
+fn appended<I: IntDomain>(there: I, added: I, cut: Option<(i128, i128)>) -> I
+    ensures { result ≡ appended I.lattice I.numbers there added cut }
+{
+    let most = most_appended(there.bounds(), cut);
+    of_range(range_met(added.bounds(), 0, most))
+}
+
+/// The write of an appended text of these lengths.
+fn append_effect<I: IntDomain>(
+    call: Call,
+    target: Target<I>,
+    there: Scanned<I>,
+    characters: Characters<I>,
+    length: I,
+) -> Effect<I>
+    requires there { IsNear (I.numbers.bounds there.length) }
+    requires target { IsNearPointer I.numbers target.rest }
+    ensures { result ≡ append_effect I.lattice I.numbers (call_view call.entry) target there characters length }
+{
+    let start = window_within(append_start(target.rest, there.length));
+    let window = append_window(target.rest, there.length, target.count);
+    let zero = ZeroRule::Append(length, there.unknown);
+    text_effect(call, target, start, window, false, characters, zero)
 }
 
 /// The plan of `strcat` with its target.
@@ -188,14 +215,12 @@ fn strcat_to<I: IntDomain>(
     requires target { IsNearPointer I.numbers target.rest }
     ensures { result ≡ strcat_to I.lattice I.numbers (call_view call.entry) row.now from there added target }
 {
-    let start = window_within(append_start(target.rest, there.length));
-    let window = append_window(target.rest, there.length, target.count);
+    let length = appended(there.length, added.length, target.count);
     let source = within_bases(from.rest, added.bases);
-    let characters = source_characters(call, row, source, one_more(added.length));
-    let zero = append_rule(there.unknown, added.length);
+    let characters = source_characters(call, row, source, one_more(length));
     planned(
         target.trail,
-        text_effect(call, target, start, window, characters, zero),
+        append_effect(call, target, there, characters, length),
     )
 }
 
@@ -250,33 +275,24 @@ pub fn plan_strcat<I: IntDomain>(call: Call, row: &[Cell<I>]) -> Plan<I>
     strcat_scanned(call, row, to, from, there, added)
 }
 
-/// Whether `strncpy` may read bytes before a zero that are no string: its source is not known to end,
-/// and it may read past the room, or an indeterminate byte.
+/// Whether `strncpy` may read bytes before a zero that are no string: in a base where its source is not
+/// known to end, it may read past the room, or an indeterminate byte.
 fn reads_no_string<I: IntDomain>(
     call: Call,
     row: &[Cell<I>],
     from: Pointers<I>,
-    unknown: bool,
+    unknown: Bases,
     count: Option<(i128, i128)>,
 ) -> bool
     requires { IsNearPointer I.numbers from }
     ensures { result ≡ reads_no_string I.lattice I.numbers (call_view call.entry) row.now from unknown count }
 {
+    let bases = call.flow.bases.as_slice();
     let blank = match touched_window(from, count) {
         None => false,
-        Some(window) => reads_blank(call, row, from, window),
+        Some(window) => reads_blank(&call.flow.model, bases, row, unknown, window),
     };
-    unknown && (passes_room(count, from) || blank)
-}
-
-fn reads_blank<I: IntDomain>(call: Call, row: &[Cell<I>], from: Pointers<I>, window: Window) -> bool
-    ensures { result ≡ reads_blank I.lattice I.numbers (call_view call.entry) row.now from (Some window) }
-{
-    let bases = call.flow.bases.as_slice();
-    match characters_read(&call.flow.model, bases, row, from.bases, window, true) {
-        None => false,
-        Some(value) => value.indeterminate,
-    }
+    !unknown.is_empty() && (passes_room(count, from) || blank)
 }
 
 /// The plan of `strncpy`.

@@ -1,6 +1,6 @@
 //! Writing a text and its closing zero.
 ghost use Rattle.std.specs.Prelude.{◌≡◌, ◌+◌, ◌<◌, length};
-ghost use Rattle.abstract_steps_library.specs.TextWrites.{character_value, leaf_value, write_leaf, write_leaves, write_stray, write_class, write_class_cells, zero_after, up_to_end, zero_met, write_zero, write_zeros, write_heap_part, write_base, write_base_if, write_text, is_whole};
+ghost use Rattle.abstract_steps_library.specs.TextWrites.{character_value, leaf_value, write_leaf, write_leaves, write_stray, write_class, write_class_cells, zero_after, up_to_end, zero_met, write_zero, write_zeros, write_heap_part, write_base, write_base_if, write_text, is_whole, lies_in_array, rule_in, write_into};
 ghost use Rattle.cc_base.specs.IntegerDomains.{IsNear};
 
 use crate::source_bytes::Characters;
@@ -9,9 +9,9 @@ use cc_base::{IntDomain, Lattice, of_range};
 use flow_program::Flow;
 use pointer_domain::Bases;
 use store_domain::{
-    Window, added_ranges, any_zero, byte_written, class_at, class_position, has_base, has_stray,
-    is_one_instance, is_other, is_overlapped, join_value, leaf_position, near_number, offsets_of,
-    put_zero, zero_at, zero_position, zero_target,
+    Window, ZeroTarget, added_ranges, any_zero, byte_written, class_at, class_position, has_base,
+    has_stray, is_one_instance, is_other, is_overlapped, join_value, leaf_position, near_number,
+    offsets_of, put_zero, zero_at, zero_position, zero_target,
 };
 use string_domain::{END, FirstZero};
 use value_domain::{Cell, Labels, Value};
@@ -21,19 +21,22 @@ use value_domain::{Cell, Labels, Value};
 pub enum ZeroRule<I> {
     /// A text of this length is written from the start of the write on.
     Text(I),
-    /// A text of this length is written behind the one that is there.
-    Append(I),
+    /// A text of this length is written behind the one that is there, whose end is unknown in these
+    /// bases.
+    Append(I, Bases),
     /// Nothing is known any more.
     Any,
 }
 
 /// A write of characters to the bases of a set, which are no literals: the offsets at which it begins,
-/// the bytes that it may touch, the characters, and what becomes of the first zero.
+/// the bytes that it may touch, whether it is of one byte at most, the characters, and what becomes of
+/// the first zero.
 #[derive(Clone, Copy)]
 pub struct TextWrite<I> {
     pub bases: Bases,
     pub start: Window,
     pub window: Window,
+    pub one_byte: bool,
     pub characters: Characters<I>,
     pub zero: ZeroRule<I>,
 }
@@ -136,14 +139,14 @@ fn write_class_cells<I: IntDomain>(
     }
 }
 
-/// The first zero of the array in which the whole write lies.
+/// The first zero of an array after a write that lies in it.
 fn zero_after<I: IntDomain>(old: FirstZero<I>, local: Window, rule: ZeroRule<I>) -> FirstZero<I>
     requires { IsNear (I.numbers.bounds old.at) }
     ensures { result ≡ zero_after I.lattice I.numbers old local rule }
 {
     match rule {
         ZeroRule::Text(len) => old.text(offsets_of(local), near_number(len)),
-        ZeroRule::Append(len) => FirstZero {
+        ZeroRule::Append(len, _) => FirstZero {
             at: up_to_end(old.at, near_number(len)),
         },
         ZeroRule::Any => any_zero(),
@@ -162,7 +165,14 @@ fn up_to_end<I: IntDomain>(x: I, y: I) -> I
     }
 }
 
-/// The first zero of an array that the write meets.
+/// Whether each write that may meet an array lies in it: all of them do, or each is of one byte.
+pub fn lies_in_array(one_byte: bool, inside: bool, start: ZeroTarget) -> bool
+    ensures { result ≡ lies_in_array one_byte inside start }
+{
+    one_byte || (inside && start.whole)
+}
+
+/// The first zero of an array that the write meets: the old one too where the write may begin elsewhere.
 fn zero_met<I: IntDomain>(
     part: ZeroPart,
     old: FirstZero<I>,
@@ -177,9 +187,13 @@ fn zero_met<I: IntDomain>(
         Some(target) => target.whole,
     };
     match zero_target(part, write.start) {
-        Some(start) if inside && start.whole => {
+        Some(start) if lies_in_array(write.one_byte, inside, start) => {
             let new = zero_after(old, start.local, write.zero);
-            if alone { new } else { old.join(new) }
+            if alone && start.whole {
+                new
+            } else {
+                old.join(new)
+            }
         }
         _ => any_zero(),
     }
@@ -251,6 +265,26 @@ fn write_base_if<I: IntDomain>(
     }
 }
 
+/// What becomes of a first zero in the base with this number: nothing is known behind a text that is
+/// not known to end there.
+fn rule_in<I: IntDomain>(rule: ZeroRule<I>, number: usize) -> ZeroRule<I>
+    ensures { result ≡ rule_in rule number }
+{
+    match rule {
+        ZeroRule::Append(_, unknown) if has_base(unknown, number) => ZeroRule::Any,
+        _ => rule,
+    }
+}
+
+fn write_into<I: IntDomain>(write: TextWrite<I>, number: usize) -> TextWrite<I>
+    ensures { result ≡ write_into write number }
+{
+    TextWrite {
+        zero: rule_in(write.zero, number),
+        ..write
+    }
+}
+
 /// Writes the text to each base of the set.
 #[tactic(auto, unfolding(crate::specs::TextWrites::write_text))]
 pub fn write_text<I: IntDomain>(flow: &Flow, row: &mut [Cell<I>], write: TextWrite<I>)
@@ -261,6 +295,7 @@ pub fn write_text<I: IntDomain>(flow: &Flow, row: &mut [Cell<I>], write: TextWri
     let alone = is_one_instance(bases, write.bases);
     for n in 0..bases.len() {
         let wanted = has_base(write.bases, n);
-        write_base_if(&flow.model, &bases[n], row, &write, alone, wanted);
+        let there = write_into(write, n);
+        write_base_if(&flow.model, &bases[n], row, &there, alone, wanted);
     }
 }

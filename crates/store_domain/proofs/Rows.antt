@@ -17,7 +17,8 @@ use Rattle.store_domain.specs.AccessWindows.{window_between, window_within}
 use Rattle.store_domain.specs.LeafSelection.{has_place_in, is_overlapped, has_stray, meets_padding}
 use Rattle.store_domain.specs.RowPositions.{join_value, write_value}
 use Rattle.store_domain.specs.FirstZeroWrites.{zero_target, set_zeros, no_zero}
-use Rattle.store_domain.specs.Stores.{store_leaf_at}
+use Rattle.store_domain.specs.ScalarTypes.{kind_of}
+use Rattle.store_domain.specs.Stores.{cell_value, store_leaf_at}
 use Rattle.store_domain.specs.ObjectLives.{forget, blank_object, set_values}
 use Rattle.store_domain.specs.Spelling.{character_number, text_length}
 use Rattle.store_domain.specs.Freeing.{freed_state}
@@ -101,18 +102,29 @@ module _ {I : Type 0} (l : LatticeOf I) (n : IntegersOf I) (v w : values.Value I
   abbrev int_write : Bool → Write I
   int_write alone = record { access = record { class = class.Int; signed = true; window = window_between 0 0 }; value = w; alone = alone }
 
+  -- what is stored is of the type of the cell, also where the signs are the same
+  abbrev stored : values.Value I
+  stored = record w { num = n.convert w.num (kind_of lp64 class.Int true) }
+
   -- a store to the one place replaces the value; one that may be elsewhere, or to a leaf of two places, joins
-  strong_store : store_leaf_at l n lp64 (int_write true) (places 0 4 1) 0 (Value v ∷ []) ≡ Value w ∷ []
+  strong_store : store_leaf_at l n lp64 (int_write true) (places 0 4 1) 0 (Value v ∷ []) ≡ Value stored ∷ []
   unfolding store_leaf_at write_value
   strong_store = refl
 
-  weak_store : store_leaf_at l n lp64 (int_write false) (places 0 4 1) 0 (Value v ∷ []) ≡ join_value l n (Value v ∷ []) 0 w
+  weak_store : store_leaf_at l n lp64 (int_write false) (places 0 4 1) 0 (Value v ∷ []) ≡ join_value l n (Value v ∷ []) 0 stored
   unfolding store_leaf_at write_value
   weak_store = refl
 
-  folded_store : store_leaf_at l n lp64 (int_write true) (places 0 4 2) 0 (Value v ∷ []) ≡ join_value l n (Value v ∷ []) 0 w
+  folded_store : store_leaf_at l n lp64 (int_write true) (places 0 4 2) 0 (Value v ∷ []) ≡ join_value l n (Value v ∷ []) 0 stored
   unfolding store_leaf_at write_value
   folded_store = refl
+
+  abbrev char_write : Write I
+  char_write = record { access = record { class = class.Char; signed = true; window = window_between 0 0 }; value = w; alone = true }
+
+  -- 256 is 0 in a character: the number that is compared with 0 is the converted one
+  stored_character : (cell_value n lp64 char_write true).num ≡ n.convert w.num (kind_of lp64 class.Char true)
+  stored_character = refl
 
   entered : forget l n (one_int ∷ []) 0 (Value v ∷ []) ≡ Value (blank_value l) ∷ []
   unfolding forget blank_object set_values set_zeros

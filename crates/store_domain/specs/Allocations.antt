@@ -1,8 +1,9 @@
 -- Allocation: what a call makes of the two bases of its site.
-use Rattle.std.specs.Prelude.{ℕ, max, ℤ, pos, int_le, Bool, true, false, cond, ◌&&◌, ◌||◌, nat_lt, Option, Some, None, List, length, map, slice_get, is_some}
+use Rattle.std.specs.Prelude.{ℕ, ℤ, pos, int_le, Bool, true, false, cond, ◌&&◌, ◌||◌, nat_lt, Option, Some, None, List, length, map, slice_get, is_some}
 use Rattle.cc_base.specs.Lattices.{LatticeOf}
 use Rattle.cc_base.specs.IntegerDomains.{IntegersOf}
 use Rattle.cc_base.specs.NumberRanges.{Range}
+use Rattle.c_layout.specs.declared.data_model.Model.{Model}
 use Rattle.c_layout.specs.declared.leaf_lists.Leaf.{Leaf}
 use Rattle.c_layout.specs.declared.shapes.BaseInfo.{BaseInfo}
 use Rattle.pointer_domain.specs.declared.base_sets.Bases.{Bases}
@@ -21,11 +22,10 @@ use Rattle.store_domain.specs.declared.allocation.Fresh.{Fresh}
 use Rattle.store_domain.specs.declared.allocation.Fresh.TheVariants.{Blank, Zero, Old}
 use Rattle.store_domain.specs.declared.allocation.Site.{Site}
 use Rattle.store_domain.specs.declared.allocation.Target.{Target}
-use Rattle.store_domain.specs.ScalarTypes.{kind_of_bytes}
-use Rattle.store_domain.specs.ClassNumbers.{class_number, class_at, same_class, is_pointer}
+use Rattle.store_domain.specs.ClassNumbers.{class_number, class_at, same_class}
 use Rattle.store_domain.specs.Walks.{walk, turns}
 use Rattle.store_domain.specs.RowPositions.{leaf_position, class_position, zero_position, state_position, value_count, value_at, zero_at, state_at, put_value, put_state, join_value, join_zero}
-use Rattle.store_domain.specs.CellReads.{same_sign}
+use Rattle.store_domain.specs.CellReads.{as_stored}
 use Rattle.store_domain.specs.ByteWrites.{null_pointer}
 use Rattle.store_domain.specs.FirstZeroWrites.{any_zero, no_zero, zero_first, set_zeros}
 use Rattle.store_domain.specs.LiveBases.{most_bases, has_base}
@@ -37,10 +37,10 @@ abbrev pub is_named : Site → Bool
 is_named site = nat_lt site.newest most_bases && nat_lt site.older most_bases
 
 abbrev pub leaf_target : Leaf → Target
-leaf_target leaf = record { class = leaf.class; signed = leaf.signed; bytes = leaf.stride }
+leaf_target leaf = record { class = leaf.class; signed = leaf.signed }
 
 abbrev pub class_target : ℕ → Target
-class_target class = record { class = class_at class; signed = true; bytes = 0 }
+class_target class = record { class = class_at class; signed = true }
 
 abbrev pub site_of : ℕ → ℕ → Site
 site_of newest older = record { newest = newest; older = older }
@@ -83,56 +83,55 @@ module _ {I : Type 0} where
 
   -- ---- what the bytes of the fresh instance are
 
-  -- a value of one signedness in that of the target; one of both is a leaf, which tells the size of the type
-  abbrev pub in_sign : IntegersOf I → values.Value I → Bool → ℕ → Target → values.Value I
-  in_sign n v signed bytes target = cond (is_pointer target.class || same_sign signed target.signed) v
-      (record v { num = n.convert v.num (kind_of_bytes (max bytes target.bytes) target.signed) })
+  -- a value in the type of the target
+  abbrev pub in_target : IntegersOf I → Model → values.Value I → Target → values.Value I
+  in_target n m v target = as_stored n m v target.class target.signed
 
-  unfoldable pub class_cell : LatticeOf I → IntegersOf I → List (Cell I) → Target → BaseInfo → values.Value I
-  class_cell l n row target base = cond base.shape.heap (in_sign n (value_at l n row (class_position base (class_number target.class))) true 0 target) ((value_lattice l).least)
+  unfoldable pub class_cell : LatticeOf I → IntegersOf I → Model → List (Cell I) → Target → BaseInfo → values.Value I
+  class_cell l n m row target base = cond base.shape.heap (in_target n m (value_at l n row (class_position base (class_number target.class))) target) ((value_lattice l).least)
 
   abbrev pub joined_if : LatticeOf I → Bool → values.Value I → values.Value I → values.Value I
   joined_if l wanted found v = cond wanted ((value_lattice l).join found v) found
 
-  abbrev pub class_leaf_of : LatticeOf I → IntegersOf I → Target → Leaf → values.Value I → values.Value I → values.Value I
-  class_leaf_of l n target leaf v found = joined_if l (same_class leaf.class target.class) found (in_sign n v leaf.signed leaf.stride target)
+  abbrev pub class_leaf_of : LatticeOf I → IntegersOf I → Model → Target → Leaf → values.Value I → values.Value I → values.Value I
+  class_leaf_of l n m target leaf v found = joined_if l (same_class leaf.class target.class) found (in_target n m v target)
 
-  abbrev pub class_leaf : LatticeOf I → IntegersOf I → List (Cell I) → Target → BaseInfo → Leaf → ℕ → values.Value I → values.Value I
-  class_leaf l n row target base leaf at found = class_leaf_of l n target leaf (value_at l n row (leaf_position base at)) found
+  abbrev pub class_leaf : LatticeOf I → IntegersOf I → Model → List (Cell I) → Target → BaseInfo → Leaf → ℕ → values.Value I → values.Value I
+  class_leaf l n m row target base leaf at found = class_leaf_of l n m target leaf (value_at l n row (leaf_position base at)) found
 
   -- the cells of the target's class of a base
-  unfoldable pub class_values : LatticeOf I → IntegersOf I → List (Cell I) → Target → BaseInfo → values.Value I
-  class_values l n row target base = walk (class_leaf l n row target base) 0 base.shape.cells (class_cell l n row target base)
+  unfoldable pub class_values : LatticeOf I → IntegersOf I → Model → List (Cell I) → Target → BaseInfo → values.Value I
+  class_values l n m row target base = walk (class_leaf l n m row target base) 0 base.shape.cells (class_cell l n m row target base)
 
-  abbrev pub old_more : LatticeOf I → IntegersOf I → List (Cell I) → Bases → Target → BaseInfo → ℕ → values.Value I → values.Value I
-  old_more l n row set target base number found = joined_if l (has_base set number) found (class_values l n row target base)
+  abbrev pub old_more : LatticeOf I → IntegersOf I → Model → List (Cell I) → Bases → Target → BaseInfo → ℕ → values.Value I → values.Value I
+  old_more l n m row set target base number found = joined_if l (has_base set number) found (class_values l n m row target base)
 
   -- the cells of the target's class of the bases of a set
-  unfoldable pub old_value : LatticeOf I → IntegersOf I → List BaseInfo → List (Cell I) → Bases → Target → values.Value I
-  old_value l n bases row set target = walk (old_more l n row set target) 0 bases ((value_lattice l).least)
+  unfoldable pub old_value : LatticeOf I → IntegersOf I → Model → List BaseInfo → List (Cell I) → Bases → Target → values.Value I
+  old_value l n m bases row set target = walk (old_more l n m row set target) 0 bases ((value_lattice l).least)
 
-  unfoldable pub fresh_value : LatticeOf I → IntegersOf I → List BaseInfo → Fresh I → Target → List (Cell I) → values.Value I
-  fresh_value l n bases Blank target row = blank_value l
-  fresh_value l n bases Zero target row = zero_value l n target.class
-  fresh_value l n bases (Old p) target row = (value_lattice l).join (blank_value l) (old_value l n bases row p.bases target)
+  unfoldable pub fresh_value : LatticeOf I → IntegersOf I → Model → List BaseInfo → Fresh I → Target → List (Cell I) → values.Value I
+  fresh_value l n m bases Blank target row = blank_value l
+  fresh_value l n m bases Zero target row = zero_value l n target.class
+  fresh_value l n m bases (Old p) target row = (value_lattice l).join (blank_value l) (old_value l n m bases row p.bases target)
 
-  unfoldable pub fresh_cell : LatticeOf I → IntegersOf I → List BaseInfo → Fresh I → Target → ℕ → List (Cell I) → List (Cell I)
-  fresh_cell l n bases fresh target position row = put_value row position (fresh_value l n bases fresh target row)
+  unfoldable pub fresh_cell : LatticeOf I → IntegersOf I → Model → List BaseInfo → Fresh I → Target → ℕ → List (Cell I) → List (Cell I)
+  fresh_cell l n m bases fresh target position row = put_value row position (fresh_value l n m bases fresh target row)
 
-  abbrev pub fresh_leaf : LatticeOf I → IntegersOf I → List BaseInfo → BaseInfo → Fresh I → Leaf → ℕ → List (Cell I) → List (Cell I)
-  fresh_leaf l n bases new fresh leaf at row = fresh_cell l n bases fresh (leaf_target leaf) (leaf_position new at) row
+  abbrev pub fresh_leaf : LatticeOf I → IntegersOf I → Model → List BaseInfo → BaseInfo → Fresh I → Leaf → ℕ → List (Cell I) → List (Cell I)
+  fresh_leaf l n m bases new fresh leaf at row = fresh_cell l n m bases fresh (leaf_target leaf) (leaf_position new at) row
 
-  unfoldable pub fresh_leaves : LatticeOf I → IntegersOf I → List BaseInfo → BaseInfo → Fresh I → List (Cell I) → List (Cell I)
-  fresh_leaves l n bases new fresh row = walk (fresh_leaf l n bases new fresh) 0 new.shape.cells row
+  unfoldable pub fresh_leaves : LatticeOf I → IntegersOf I → Model → List BaseInfo → BaseInfo → Fresh I → List (Cell I) → List (Cell I)
+  fresh_leaves l n m bases new fresh row = walk (fresh_leaf l n m bases new fresh) 0 new.shape.cells row
 
-  abbrev pub fresh_class : LatticeOf I → IntegersOf I → List BaseInfo → BaseInfo → Fresh I → ℕ → List (Cell I) → List (Cell I)
-  fresh_class l n bases new fresh class row = fresh_cell l n bases fresh (class_target class) (class_position new class) row
+  abbrev pub fresh_class : LatticeOf I → IntegersOf I → Model → List BaseInfo → BaseInfo → Fresh I → ℕ → List (Cell I) → List (Cell I)
+  fresh_class l n m bases new fresh class row = fresh_cell l n m bases fresh (class_target class) (class_position new class) row
 
-  unfoldable pub fresh_classes : LatticeOf I → IntegersOf I → List BaseInfo → BaseInfo → Fresh I → List (Cell I) → List (Cell I)
-  fresh_classes l n bases new fresh row = turns (fresh_class l n bases new fresh) 6 row
+  unfoldable pub fresh_classes : LatticeOf I → IntegersOf I → Model → List BaseInfo → BaseInfo → Fresh I → List (Cell I) → List (Cell I)
+  fresh_classes l n m bases new fresh row = turns (fresh_class l n m bases new fresh) 6 row
 
-  unfoldable pub fresh_values : LatticeOf I → IntegersOf I → List BaseInfo → BaseInfo → Fresh I → List (Cell I) → List (Cell I)
-  fresh_values l n bases new fresh row = fresh_classes l n bases new fresh (fresh_leaves l n bases new fresh row)
+  unfoldable pub fresh_values : LatticeOf I → IntegersOf I → Model → List BaseInfo → BaseInfo → Fresh I → List (Cell I) → List (Cell I)
+  fresh_values l n m bases new fresh row = fresh_classes l n m bases new fresh (fresh_leaves l n m bases new fresh row)
 
   abbrev pub zero_if_any : LatticeOf I → IntegersOf I → ℤ → FirstZero I
   zero_if_any l n least = cond (int_le (pos 1) least) (zero_first n) (any_zero l n)
@@ -146,20 +145,20 @@ module _ {I : Type 0} where
   -- ---- the newest base
 
   -- one instance of a size
-  unfoldable pub make_instance : LatticeOf I → IntegersOf I → List BaseInfo → BaseInfo → I → Fresh I → ℤ → List (Cell I) → List (Cell I)
-  make_instance l n bases new size fresh least row = put_state (set_zeros new (fresh_zero l n fresh least) (fresh_values l n bases new fresh row)) (state_position new) (record { size = size; live = true; freed = false })
+  unfoldable pub make_instance : LatticeOf I → IntegersOf I → Model → List BaseInfo → BaseInfo → I → Fresh I → ℤ → List (Cell I) → List (Cell I)
+  make_instance l n m bases new size fresh least row = put_state (set_zeros new (fresh_zero l n fresh least) (fresh_values l n m bases new fresh row)) (state_position new) (record { size = size; live = true; freed = false })
 
   -- no instance
   unfoldable pub make_nothing : LatticeOf I → BaseInfo → List (Cell I) → List (Cell I)
   make_nothing l new row = put_state (set_zeros new ((zero_lattice l).least) (set_values new ((value_lattice l).least) row)) (state_position new) ((state_lattice l).least)
 
-  abbrev pub make_of : LatticeOf I → IntegersOf I → List BaseInfo → BaseInfo → I → Fresh I → Range → List (Cell I) → List (Cell I)
-  make_of l n bases new size fresh None row = make_nothing l new row
-  make_of l n bases new size fresh (Some p) row = make_instance l n bases new size fresh p.0 row
+  abbrev pub make_of : LatticeOf I → IntegersOf I → Model → List BaseInfo → BaseInfo → I → Fresh I → Range → List (Cell I) → List (Cell I)
+  make_of l n m bases new size fresh None row = make_nothing l new row
+  make_of l n m bases new size fresh (Some p) row = make_instance l n m bases new size fresh p.0 row
 
   -- a fresh instance, or none where no size is left
-  unfoldable pub make_fresh : LatticeOf I → IntegersOf I → List BaseInfo → BaseInfo → I → Fresh I → List (Cell I) → List (Cell I)
-  make_fresh l n bases new size fresh row = make_of l n bases new size fresh (n.bounds size) row
+  unfoldable pub make_fresh : LatticeOf I → IntegersOf I → Model → List BaseInfo → BaseInfo → I → Fresh I → List (Cell I) → List (Cell I)
+  make_fresh l n m bases new size fresh row = make_of l n m bases new size fresh (n.bounds size) row
 
   -- the bases of the old pointer may be freed
   unfoldable pub free_old : LatticeOf I → IntegersOf I → List BaseInfo → Fresh I → List (Cell I) → List (Cell I)
@@ -170,20 +169,20 @@ module _ {I : Type 0} where
   -- ---- the call
 
   -- the fresh instance in place of the newest one, and the old bases perhaps freed; `fresh` has new names
-  unfoldable pub replaced : LatticeOf I → IntegersOf I → List BaseInfo → BaseInfo → I → Fresh I → List (Cell I) → List (Cell I)
-  replaced l n bases new size fresh row = free_old l n bases fresh (make_fresh l n bases new size fresh row)
+  unfoldable pub replaced : LatticeOf I → IntegersOf I → Model → List BaseInfo → BaseInfo → I → Fresh I → List (Cell I) → List (Cell I)
+  replaced l n m bases new size fresh row = free_old l n bases fresh (make_fresh l n m bases new size fresh row)
 
-  unfoldable pub renew_site : LatticeOf I → IntegersOf I → List BaseInfo → Site → I → Fresh I → BaseInfo → BaseInfo → List (Cell I) → List (Cell I)
-  renew_site l n bases site size fresh new old row = replaced l n bases new size (renamed_fresh site fresh) (join_base l n new old (map (renamed_cell site) row))
+  unfoldable pub renew_site : LatticeOf I → IntegersOf I → Model → List BaseInfo → Site → I → Fresh I → BaseInfo → BaseInfo → List (Cell I) → List (Cell I)
+  renew_site l n m bases site size fresh new old row = replaced l n m bases new size (renamed_fresh site fresh) (join_base l n new old (map (renamed_cell site) row))
 
-  abbrev pub renew_found : LatticeOf I → IntegersOf I → List BaseInfo → Site → I → Fresh I → Option BaseInfo → Option BaseInfo → List (Cell I) → List (Cell I)
-  renew_found l n bases site size fresh None old row = row
-  renew_found l n bases site size fresh (Some new) None row = row
-  renew_found l n bases site size fresh (Some new) (Some old) row = renew_site l n bases site size fresh new old row
+  abbrev pub renew_found : LatticeOf I → IntegersOf I → Model → List BaseInfo → Site → I → Fresh I → Option BaseInfo → Option BaseInfo → List (Cell I) → List (Cell I)
+  renew_found l n m bases site size fresh None old row = row
+  renew_found l n m bases site size fresh (Some new) None row = row
+  renew_found l n m bases site size fresh (Some new) (Some old) row = renew_site l n m bases site size fresh new old row
 
   -- the row after an allocation at a site
-  unfoldable pub renew : LatticeOf I → IntegersOf I → List BaseInfo → ℕ → ℕ → I → Fresh I → List (Cell I) → List (Cell I)
-  renew l n bases newest older size fresh row = renew_found l n bases (site_of newest older) size fresh (slice_get bases newest) (slice_get bases older) row
+  unfoldable pub renew : LatticeOf I → IntegersOf I → Model → List BaseInfo → ℕ → ℕ → I → Fresh I → List (Cell I) → List (Cell I)
+  renew l n m bases newest older size fresh row = renew_found l n m bases (site_of newest older) size fresh (slice_get bases newest) (slice_get bases older) row
 
   abbrev pub is_fresh : IntegersOf I → Site → I → Bool
   is_fresh n site size = is_named site && is_some (n.bounds size)

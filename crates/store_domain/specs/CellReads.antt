@@ -36,6 +36,10 @@ module _ {I : Type 0} where
   abbrev pub as_read : IntegersOf I → Model → Value I → Class → Bool → Bool → Value I
   as_read n m v class from to = cond (is_pointer class || same_sign from to) v (record v { num = n.convert v.num (kind_of m class to) })
 
+  -- a value that is stored into a cell of a signedness: its numbers are converted; pointers have no sign
+  abbrev pub as_stored : IntegersOf I → Model → Value I → Class → Bool → Value I
+  as_stored n m v class to = cond (is_pointer class) v (record v { num = n.convert v.num (kind_of m class to) })
+
   abbrev pub only_flag : LatticeOf I → Bool → Value I
   only_flag l blank = cond blank (blank_value l) ((value_lattice l).least)
 

@@ -97,9 +97,13 @@ module _ {I : Type 0} where
   unfoldable pub load_others : LatticeOf I → IntegersOf I → Model → BaseInfo → List (Cell I) → Access → Option (Value I)
   load_others l n m base row access = joined l (load_other_leaves l n m base row access) (load_other_bytes l n m base row access)
 
+  -- a character, whatever is known of first zeros
+  unfoldable pub load_character : LatticeOf I → IntegersOf I → Model → BaseInfo → List (Cell I) → Access → Option (Value I)
+  load_character l n m base row access = joined l (load_own l n m base row access) (load_others l n m base row access)
+
   unfoldable pub load_base : LatticeOf I → IntegersOf I → Model → BaseInfo → List (Cell I) → Access → Option (Value I)
   load_base l n m base row access = cond (same_class access.class Char)
-      (determinate_if (is_text l n base row access.window) (joined l (load_own l n m base row access) (load_others l n m base row access)))
+      (determinate_if (is_text l n base row access.window) (load_character l n m base row access))
       (load_own l n m base row access)
 
   abbrev pub read_base_if : LatticeOf I → IntegersOf I → Model → List (Cell I) → Bool → Access → BaseInfo → Option (Value I) → Option (Value I)

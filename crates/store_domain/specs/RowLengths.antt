@@ -157,7 +157,7 @@ module _ {I : Type 0} (l : LatticeOf I) (n : IntegersOf I) where
 
   store_character_keeps : (m : Model) (base : BaseInfo) (write : Write I) (row : List (Cell I)) → length (store_character l n m base write row) ≡ length row
   unfolding store_character
-  store_character_keeps m base write row = put_character_keeps base write.access.window (n.compare Eq write.value.num (n.one (pos 0))) write.alone (store_other_bytes l n m base write row) ∙ store_other_bytes_keeps m base write row
+  store_character_keeps m base write row = put_character_keeps base write.access.window (n.compare Eq (cell_value n m write write.access.signed).num (n.one (pos 0))) write.alone (store_other_bytes l n m base write row) ∙ store_other_bytes_keeps m base write row
 
   store_wider_keeps : (base : BaseInfo) (w : Window) (row : List (Cell I)) → length (store_wider l n base w row) ≡ length row
   unfolding store_wider
@@ -302,29 +302,29 @@ module _ {I : Type 0} (l : LatticeOf I) (n : IntegersOf I) where
       let joined = join_values l n new old row in
       join_state_keeps new old (join_zeros l n new old joined) ∙ (join_zeros_keeps new old joined ∙ join_values_keeps new old row)
 
-  fresh_cell_keeps : (bases : List BaseInfo) (fresh : Fresh I) (target : Target) (position : ℕ) (row : List (Cell I)) → length (fresh_cell l n bases fresh target position row) ≡ length row
+  fresh_cell_keeps : (m : Model) (bases : List BaseInfo) (fresh : Fresh I) (target : Target) (position : ℕ) (row : List (Cell I)) → length (fresh_cell l n m bases fresh target position row) ≡ length row
   unfolding fresh_cell
-  fresh_cell_keeps bases fresh target position row = length-set row position (Value (fresh_value l n bases fresh target row))
+  fresh_cell_keeps m bases fresh target position row = length-set row position (Value (fresh_value l n m bases fresh target row))
 
-  fresh_leaves_keeps : (bases : List BaseInfo) (new : BaseInfo) (fresh : Fresh I) (row : List (Cell I)) → length (fresh_leaves l n bases new fresh row) ≡ length row
+  fresh_leaves_keeps : (m : Model) (bases : List BaseInfo) (new : BaseInfo) (fresh : Fresh I) (row : List (Cell I)) → length (fresh_leaves l n m bases new fresh row) ≡ length row
   unfolding fresh_leaves
-  fresh_leaves_keeps bases new fresh row = walk_keeps (fresh_leaf l n bases new fresh) (λ leaf at r. fresh_cell_keeps bases fresh (leaf_target leaf) (leaf_position new at) r) 0 new.shape.cells row
+  fresh_leaves_keeps m bases new fresh row = walk_keeps (fresh_leaf l n m bases new fresh) (λ leaf at r. fresh_cell_keeps m bases fresh (leaf_target leaf) (leaf_position new at) r) 0 new.shape.cells row
 
-  fresh_classes_keeps : (bases : List BaseInfo) (new : BaseInfo) (fresh : Fresh I) (row : List (Cell I)) → length (fresh_classes l n bases new fresh row) ≡ length row
+  fresh_classes_keeps : (m : Model) (bases : List BaseInfo) (new : BaseInfo) (fresh : Fresh I) (row : List (Cell I)) → length (fresh_classes l n m bases new fresh row) ≡ length row
   unfolding fresh_classes
-  fresh_classes_keeps bases new fresh row = turns_keep (fresh_class l n bases new fresh) (λ at r. fresh_cell_keeps bases fresh (class_target at) (class_position new at) r) 6 row
+  fresh_classes_keeps m bases new fresh row = turns_keep (fresh_class l n m bases new fresh) (λ at r. fresh_cell_keeps m bases fresh (class_target at) (class_position new at) r) 6 row
 
-  fresh_values_keeps : (bases : List BaseInfo) (new : BaseInfo) (fresh : Fresh I) (row : List (Cell I)) → length (fresh_values l n bases new fresh row) ≡ length row
+  fresh_values_keeps : (m : Model) (bases : List BaseInfo) (new : BaseInfo) (fresh : Fresh I) (row : List (Cell I)) → length (fresh_values l n m bases new fresh row) ≡ length row
   unfolding fresh_values
-  fresh_values_keeps bases new fresh row = fresh_classes_keeps bases new fresh (fresh_leaves l n bases new fresh row) ∙ fresh_leaves_keeps bases new fresh row
+  fresh_values_keeps m bases new fresh row = fresh_classes_keeps m bases new fresh (fresh_leaves l n m bases new fresh row) ∙ fresh_leaves_keeps m bases new fresh row
 
-  make_instance_keeps : (bases : List BaseInfo) (new : BaseInfo) (size : I) (fresh : Fresh I) (least : ℤ) (row : List (Cell I)) → length (make_instance l n bases new size fresh least row) ≡ length row
+  make_instance_keeps : (m : Model) (bases : List BaseInfo) (new : BaseInfo) (size : I) (fresh : Fresh I) (least : ℤ) (row : List (Cell I)) → length (make_instance l n m bases new size fresh least row) ≡ length row
   unfolding make_instance
-  make_instance_keeps bases new size fresh least row =
-      let made = fresh_values l n bases new fresh row in
+  make_instance_keeps m bases new size fresh least row =
+      let made = fresh_values l n m bases new fresh row in
       let zeroed = set_zeros new (fresh_zero l n fresh least) made in
       length-set zeroed (state_position new) (State (record { size = size; live = true; freed = false }))
-      ∙ (set_zeros_keeps new (fresh_zero l n fresh least) made ∙ fresh_values_keeps bases new fresh row)
+      ∙ (set_zeros_keeps new (fresh_zero l n fresh least) made ∙ fresh_values_keeps m bases new fresh row)
 
   make_nothing_keeps : (new : BaseInfo) (row : List (Cell I)) → length (make_nothing l new row) ≡ length row
   unfolding make_nothing
@@ -333,13 +333,13 @@ module _ {I : Type 0} (l : LatticeOf I) (n : IntegersOf I) where
       length-set (set_zeros new ((zero_lattice l).least) none) (state_position new) (State ((state_lattice l).least))
       ∙ (set_zeros_keeps new ((zero_lattice l).least) none ∙ set_values_keeps new ((value_lattice l).least) row)
 
-  make_of_keeps : (bases : List BaseInfo) (new : BaseInfo) (size : I) (fresh : Fresh I) (range : Range) (row : List (Cell I)) → length (make_of l n bases new size fresh range row) ≡ length row
-  make_of_keeps bases new size fresh None row = make_nothing_keeps new row
-  make_of_keeps bases new size fresh (Some p) row = make_instance_keeps bases new size fresh p.0 row
+  make_of_keeps : (m : Model) (bases : List BaseInfo) (new : BaseInfo) (size : I) (fresh : Fresh I) (range : Range) (row : List (Cell I)) → length (make_of l n m bases new size fresh range row) ≡ length row
+  make_of_keeps m bases new size fresh None row = make_nothing_keeps new row
+  make_of_keeps m bases new size fresh (Some p) row = make_instance_keeps m bases new size fresh p.0 row
 
-  make_fresh_keeps : (bases : List BaseInfo) (new : BaseInfo) (size : I) (fresh : Fresh I) (row : List (Cell I)) → length (make_fresh l n bases new size fresh row) ≡ length row
+  make_fresh_keeps : (m : Model) (bases : List BaseInfo) (new : BaseInfo) (size : I) (fresh : Fresh I) (row : List (Cell I)) → length (make_fresh l n m bases new size fresh row) ≡ length row
   unfolding make_fresh
-  make_fresh_keeps bases new size fresh row = make_of_keeps bases new size fresh (n.bounds size) row
+  make_fresh_keeps m bases new size fresh row = make_of_keeps m bases new size fresh (n.bounds size) row
 
   free_old_keeps : (bases : List BaseInfo) (fresh : Fresh I) (row : List (Cell I)) → length (free_old l n bases fresh row) ≡ length row
   unfolding free_old
@@ -347,21 +347,21 @@ module _ {I : Type 0} (l : LatticeOf I) (n : IntegersOf I) where
   free_old_keeps bases Zero row = refl
   free_old_keeps bases (Old p) row = free_bases_keeps bases p.bases false row
 
-  replaced_keeps : (bases : List BaseInfo) (new : BaseInfo) (size : I) (fresh : Fresh I) (row : List (Cell I)) → length (replaced l n bases new size fresh row) ≡ length row
+  replaced_keeps : (m : Model) (bases : List BaseInfo) (new : BaseInfo) (size : I) (fresh : Fresh I) (row : List (Cell I)) → length (replaced l n m bases new size fresh row) ≡ length row
   unfolding replaced
-  replaced_keeps bases new size fresh row = free_old_keeps bases fresh (make_fresh l n bases new size fresh row) ∙ make_fresh_keeps bases new size fresh row
+  replaced_keeps m bases new size fresh row = free_old_keeps bases fresh (make_fresh l n m bases new size fresh row) ∙ make_fresh_keeps m bases new size fresh row
 
-  renew_site_keeps : (bases : List BaseInfo) (site : Site) (size : I) (fresh : Fresh I) (new old : BaseInfo) (row : List (Cell I)) → length (renew_site l n bases site size fresh new old row) ≡ length row
+  renew_site_keeps : (m : Model) (bases : List BaseInfo) (site : Site) (size : I) (fresh : Fresh I) (new old : BaseInfo) (row : List (Cell I)) → length (renew_site l n m bases site size fresh new old row) ≡ length row
   unfolding renew_site
-  renew_site_keeps bases site size fresh new old row =
+  renew_site_keeps m bases site size fresh new old row =
       let named = map (renamed_cell site) row in
-      replaced_keeps bases new size (renamed_fresh site fresh) (join_base l n new old named) ∙ (join_base_keeps new old named ∙ length-map row (renamed_cell site))
+      replaced_keeps m bases new size (renamed_fresh site fresh) (join_base l n new old named) ∙ (join_base_keeps new old named ∙ length-map row (renamed_cell site))
 
-  renew_found_keeps : (bases : List BaseInfo) (site : Site) (size : I) (fresh : Fresh I) (new old : Option BaseInfo) (row : List (Cell I)) → length (renew_found l n bases site size fresh new old row) ≡ length row
-  renew_found_keeps bases site size fresh None old row = refl
-  renew_found_keeps bases site size fresh (Some new) None row = refl
-  renew_found_keeps bases site size fresh (Some new) (Some old) row = renew_site_keeps bases site size fresh new old row
+  renew_found_keeps : (m : Model) (bases : List BaseInfo) (site : Site) (size : I) (fresh : Fresh I) (new old : Option BaseInfo) (row : List (Cell I)) → length (renew_found l n m bases site size fresh new old row) ≡ length row
+  renew_found_keeps m bases site size fresh None old row = refl
+  renew_found_keeps m bases site size fresh (Some new) None row = refl
+  renew_found_keeps m bases site size fresh (Some new) (Some old) row = renew_site_keeps m bases site size fresh new old row
 
-  pub renew_keeps : (bases : List BaseInfo) (newest older : ℕ) (size : I) (fresh : Fresh I) (row : List (Cell I)) → length (renew l n bases newest older size fresh row) ≡ length row
+  pub renew_keeps : (m : Model) (bases : List BaseInfo) (newest older : ℕ) (size : I) (fresh : Fresh I) (row : List (Cell I)) → length (renew l n m bases newest older size fresh row) ≡ length row
   unfolding renew
-  renew_keeps bases newest older size fresh row = renew_found_keeps bases (site_of newest older) size fresh (slice_get bases newest) (slice_get bases older) row
+  renew_keeps m bases newest older size fresh row = renew_found_keeps m bases (site_of newest older) size fresh (slice_get bases newest) (slice_get bases older) row

@@ -35,11 +35,3 @@ class_rank LongLong = 5
 -- the integer type of a class and a signedness
 abbrev pub kind_of : Model → Class → Bool → IntType
 kind_of m c s = record { bytes = class_bytes m c; signed = s; rank = class_rank c }
-
--- a size of 1, 2, 4 or 8 bytes
-abbrev pub size_of_bytes : ℕ → ℕ
-size_of_bytes bytes = cond (bytes == 1) 1 (cond (bytes == 2) 2 (cond (bytes == 4) 4 8))
-
--- an integer type of that size
-abbrev pub kind_of_bytes : ℕ → Bool → IntType
-kind_of_bytes bytes s = record { bytes = size_of_bytes bytes; signed = s; rank = 0 }

@@ -23,7 +23,7 @@ use Rattle.store_domain.specs.Walks.{walk, turns}
 use Rattle.store_domain.specs.RowPositions.{leaf_position, class_position, join_value, write_value}
 use Rattle.store_domain.specs.AccessWindows.{window_of, window_is_one}
 use Rattle.store_domain.specs.LeafSelection.{is_selected, selected_count, is_other, meets_padding}
-use Rattle.store_domain.specs.CellReads.{as_read}
+use Rattle.store_domain.specs.CellReads.{as_stored}
 use Rattle.store_domain.specs.ByteWrites.{byte_written}
 use Rattle.store_domain.specs.FirstZeroWrites.{put_character, forget_zeros}
 use Rattle.store_domain.specs.LiveBases.{has_base, is_one_instance, live_of, writable_of}
@@ -66,9 +66,9 @@ module _ {I : Type 0} where
   abbrev pub stored_value : Class → Value I → Value I
   stored_value class v = record v { indeterminate = false; labels = labels_of class v.labels }
 
-  -- in the signedness of a cell
+  -- in the type of a cell
   abbrev pub cell_value : IntegersOf I → Model → Write I → Bool → Value I
-  cell_value n m write signed = as_read n m write.value write.access.class write.access.signed signed
+  cell_value n m write signed = as_stored n m write.value write.access.class signed
 
   -- the leaf is one place, and the one that is written
   abbrev pub is_strong : Leaf → Write I → Bool
@@ -116,7 +116,7 @@ module _ {I : Type 0} where
   store_own l n m base write row = store_class_cell l n m base write (store_leaves l n m base write row)
 
   unfoldable pub store_character : LatticeOf I → IntegersOf I → Model → BaseInfo → Write I → List (Cell I) → List (Cell I)
-  store_character l n m base write row = put_character l n base write.access.window (n.compare Eq write.value.num (n.one (pos 0))) write.alone (store_other_bytes l n m base write row)
+  store_character l n m base write row = put_character l n base write.access.window (n.compare Eq (cell_value n m write write.access.signed).num (n.one (pos 0))) write.alone (store_other_bytes l n m base write row)
 
   -- other stores to the heap hide its first zero
   unfoldable pub store_wider : LatticeOf I → IntegersOf I → BaseInfo → Window → List (Cell I) → List (Cell I)

@@ -1,11 +1,11 @@
 //! Allocation: what a call of malloc, calloc or realloc makes of the two bases of its site.
 ghost use Rattle.std.specs.Prelude.{◌≡◌, ◌<◌, true, length, map};
 ghost use Rattle.cc_base.specs.IntegerDomains.{IsNear};
-ghost use Rattle.store_domain.specs.Allocations.{is_named, renamed, renamed_cell, renamed_fresh, join_cell, join_values, join_part, join_zeros, join_state, join_base, in_sign, class_cell, joined_if, class_leaf_of, class_values, old_value, fresh_value, leaf_target, class_target, fresh_cell, fresh_leaves, fresh_classes, fresh_values, zero_if_any, fresh_zero, make_instance, make_nothing, make_fresh, free_old, replaced, renew_site, renew, is_fresh, fresh_pointer, renewed_pointer, site_of};
+ghost use Rattle.store_domain.specs.Allocations.{is_named, renamed, renamed_cell, renamed_fresh, join_cell, join_values, join_part, join_zeros, join_state, join_base, in_target, class_cell, joined_if, class_leaf_of, class_values, old_value, fresh_value, leaf_target, class_target, fresh_cell, fresh_leaves, fresh_classes, fresh_values, zero_if_any, fresh_zero, make_instance, make_nothing, make_fresh, free_old, replaced, renew_site, renew, is_fresh, fresh_pointer, renewed_pointer, site_of};
 
 use crate::byte_writes::null_pointer;
-use crate::cell_reads::same_sign;
-use crate::class_numbers::{class_at, class_number, is_pointer, same_class};
+use crate::cell_reads::as_stored;
+use crate::class_numbers::{class_at, class_number, same_class};
 use crate::first_zero_writes::{any_zero, no_zero, set_zeros, zero_first};
 use crate::freeing::free_perhaps;
 use crate::live_bases::{MOST_BASES, has_base};
@@ -14,8 +14,7 @@ use crate::row_positions::{
     class_position, join_value, join_zero, leaf_position, put_state, put_value, state_at,
     state_position, value_at, value_count, zero_at, zero_position,
 };
-use crate::scalar_types::kind_of_bytes;
-use c_layout::{BaseInfo, Class, Leaf};
+use c_layout::{BaseInfo, Class, Leaf, Model};
 use cc_base::{IntDomain, Lattice};
 use pointer_domain::{Bases, Pointers};
 use string_domain::FirstZero;
@@ -44,6 +43,7 @@ struct Site {
 /// left, null alone. The bases that `Fresh::Old` names may be freed afterwards.
 #[tactic(auto, unfolding(crate::specs::Allocations::renewed_pointer, crate::specs::Allocations::renew))]
 pub fn renew<I: IntDomain>(
+    model: &Model,
     bases: &[BaseInfo],
     row: &mut [Cell<I>],
     newest: u32,
@@ -53,7 +53,7 @@ pub fn renew<I: IntDomain>(
 ) -> Pointers<I>
     requires { IsNear (I.numbers.bounds size) }
     ensures length { length row.new ≡ length row.old }
-    ensures row { row.new ≡ renew I.lattice I.numbers bases.now newest older size fresh row.old }
+    ensures row { row.new ≡ renew I.lattice I.numbers model.now bases.now newest older size fresh row.old }
     ensures pointer { result ≡ renewed_pointer I.lattice I.numbers bases.now (site_of newest older) size }
 {
     let site = Site { newest, older };
@@ -62,7 +62,7 @@ pub fn renew<I: IntDomain>(
         Some(new) => match bases.get(older as usize) {
             None => null_pointer(),
             Some(old) => {
-                renew_site(bases, row, site, size, fresh, new, old);
+                renew_site(model, bases, row, site, size, fresh, new, old);
                 fresh_pointer(site, size)
             }
         },
@@ -72,6 +72,7 @@ pub fn renew<I: IntDomain>(
 /// The row after an allocation at a site with these two bases.
 #[tactic(auto, unfolding(crate::specs::Allocations::renew_site))]
 fn renew_site<I: IntDomain>(
+    model: &Model,
     bases: &[BaseInfo],
     row: &mut [Cell<I>],
     site: Site,
@@ -82,16 +83,17 @@ fn renew_site<I: IntDomain>(
 )
     requires { IsNear (I.numbers.bounds size) }
     ensures length { length row.new ≡ length row.old }
-    ensures row { row.new ≡ renew_site I.lattice I.numbers bases.now site size fresh new.now old.now row.old }
+    ensures row { row.new ≡ renew_site I.lattice I.numbers model.now bases.now site size fresh new.now old.now row.old }
 {
     rename_pointers(row, site);
     join_base(new, old, row);
-    replace(bases, row, new, size, renamed_fresh(fresh, site));
+    replace(model, bases, row, new, size, renamed_fresh(fresh, site));
 }
 
 /// Puts the fresh instance in place of the newest one; the old bases may be freed.
 #[tactic(auto, unfolding(crate::specs::Allocations::replaced))]
 fn replace<I: IntDomain>(
+    model: &Model,
     bases: &[BaseInfo],
     row: &mut [Cell<I>],
     new: &BaseInfo,
@@ -100,9 +102,9 @@ fn replace<I: IntDomain>(
 )
     requires { IsNear (I.numbers.bounds size) }
     ensures length { length row.new ≡ length row.old }
-    ensures row { row.new ≡ replaced I.lattice I.numbers bases.now new.now size fresh row.old }
+    ensures row { row.new ≡ replaced I.lattice I.numbers model.now bases.now new.now size fresh row.old }
 {
-    make_fresh(bases, row, new, size, fresh);
+    make_fresh(model, bases, row, new, size, fresh);
     free_old(bases, row, fresh);
 }
 
@@ -222,6 +224,7 @@ fn join_part<I: IntDomain>(new: &BaseInfo, old: &BaseInfo, at: usize, row: &mut 
 /// Makes the newest base a fresh instance, or none where no size is left.
 #[tactic(auto, unfolding(crate::specs::Allocations::make_fresh))]
 fn make_fresh<I: IntDomain>(
+    model: &Model,
     bases: &[BaseInfo],
     row: &mut [Cell<I>],
     new: &BaseInfo,
@@ -230,17 +233,18 @@ fn make_fresh<I: IntDomain>(
 )
     requires { IsNear (I.numbers.bounds size) }
     ensures length { length row.new ≡ length row.old }
-    ensures row { row.new ≡ make_fresh I.lattice I.numbers bases.now new.now size fresh row.old }
+    ensures row { row.new ≡ make_fresh I.lattice I.numbers model.now bases.now new.now size fresh row.old }
 {
     match size.bounds() {
         None => make_nothing(row, new),
-        Some(p) => make_instance(bases, row, new, size, fresh, p.0),
+        Some(p) => make_instance(model, bases, row, new, size, fresh, p.0),
     }
 }
 
 /// The base has one instance of the size, which is at least so many bytes.
 #[tactic(auto, unfolding(crate::specs::Allocations::make_instance))]
 fn make_instance<I: IntDomain>(
+    model: &Model,
     bases: &[BaseInfo],
     row: &mut [Cell<I>],
     new: &BaseInfo,
@@ -249,9 +253,9 @@ fn make_instance<I: IntDomain>(
     least: i128,
 )
     ensures length { length row.new ≡ length row.old }
-    ensures row { row.new ≡ make_instance I.lattice I.numbers bases.now new.now size fresh least row.old }
+    ensures row { row.new ≡ make_instance I.lattice I.numbers model.now bases.now new.now size fresh least row.old }
 {
-    fresh_values(bases, row, new, fresh);
+    fresh_values(model, bases, row, new, fresh);
     set_zeros(new, row, fresh_zero(fresh, least));
     put_state(
         row,
@@ -293,13 +297,11 @@ fn zero_if_any<I: IntDomain>(least: i128) -> FirstZero<I>
     if least >= 1 { zero_first() } else { any_zero() }
 }
 
-/// A cell of a fresh instance: its class and its signedness, and the size of its leaf in bytes, 0 for a
-/// class cell.
+/// A cell of a fresh instance: its class and its signedness.
 #[derive(Clone, Copy)]
 struct Target {
     class: Class,
     signed: bool,
-    bytes: u64,
 }
 
 fn leaf_target(leaf: Leaf) -> Target
@@ -308,7 +310,6 @@ fn leaf_target(leaf: Leaf) -> Target
     Target {
         class: leaf.class,
         signed: leaf.signed,
-        bytes: leaf.stride,
     }
 }
 
@@ -318,37 +319,39 @@ fn class_target(class: usize) -> Target
     Target {
         class: class_at(class),
         signed: true,
-        bytes: 0,
     }
 }
 
 #[tactic(auto, unfolding(crate::specs::Allocations::fresh_values))]
 fn fresh_values<I: IntDomain>(
+    model: &Model,
     bases: &[BaseInfo],
     row: &mut [Cell<I>],
     new: &BaseInfo,
     fresh: Fresh<I>,
 )
     ensures length { length row.new ≡ length row.old }
-    ensures row { row.new ≡ fresh_values I.lattice I.numbers bases.now new.now fresh row.old }
+    ensures row { row.new ≡ fresh_values I.lattice I.numbers model.now bases.now new.now fresh row.old }
 {
-    fresh_leaves(bases, row, new, fresh);
-    fresh_classes(bases, row, new, fresh);
+    fresh_leaves(model, bases, row, new, fresh);
+    fresh_classes(model, bases, row, new, fresh);
 }
 
 #[tactic(auto, unfolding(crate::specs::Allocations::fresh_leaves))]
 fn fresh_leaves<I: IntDomain>(
+    model: &Model,
     bases: &[BaseInfo],
     row: &mut [Cell<I>],
     new: &BaseInfo,
     fresh: Fresh<I>,
 )
     ensures length { length row.new ≡ length row.old }
-    ensures row { row.new ≡ fresh_leaves I.lattice I.numbers bases.now new.now fresh row.old }
+    ensures row { row.new ≡ fresh_leaves I.lattice I.numbers model.now bases.now new.now fresh row.old }
 {
     let leaves = new.shape.cells.as_slice();
     for at in 0..leaves.len() {
         fresh_cell(
+            model,
             bases,
             row,
             leaf_position(new, at),
@@ -360,16 +363,18 @@ fn fresh_leaves<I: IntDomain>(
 
 #[tactic(auto, using(crate::specs::TurnLaws::turns_next), unfolding(crate::specs::Allocations::fresh_classes))]
 fn fresh_classes<I: IntDomain>(
+    model: &Model,
     bases: &[BaseInfo],
     row: &mut [Cell<I>],
     new: &BaseInfo,
     fresh: Fresh<I>,
 )
     ensures length { length row.new ≡ length row.old }
-    ensures row { row.new ≡ fresh_classes I.lattice I.numbers bases.now new.now fresh row.old }
+    ensures row { row.new ≡ fresh_classes I.lattice I.numbers model.now bases.now new.now fresh row.old }
 {
     for class in 0..6 {
         fresh_cell(
+            model,
             bases,
             row,
             class_position(new, class),
@@ -381,6 +386,7 @@ fn fresh_classes<I: IntDomain>(
 
 #[tactic(auto, unfolding(crate::specs::Allocations::fresh_cell))]
 fn fresh_cell<I: IntDomain>(
+    model: &Model,
     bases: &[BaseInfo],
     row: &mut [Cell<I>],
     position: usize,
@@ -388,41 +394,43 @@ fn fresh_cell<I: IntDomain>(
     target: Target,
 )
     ensures length { length row.new ≡ length row.old }
-    ensures row { row.new ≡ fresh_cell I.lattice I.numbers bases.now fresh target position row.old }
+    ensures row { row.new ≡ fresh_cell I.lattice I.numbers model.now bases.now fresh target position row.old }
 {
-    let value = fresh_value(bases, row, fresh, target);
+    let value = fresh_value(model, bases, row, fresh, target);
     put_value(row, position, value);
 }
 
 #[tactic(auto, unfolding(crate::specs::Allocations::fresh_value))]
 fn fresh_value<I: IntDomain>(
+    model: &Model,
     bases: &[BaseInfo],
     row: &[Cell<I>],
     fresh: Fresh<I>,
     target: Target,
 ) -> Value<I>
-    ensures { result ≡ fresh_value I.lattice I.numbers bases.now fresh target row.now }
+    ensures { result ≡ fresh_value I.lattice I.numbers model.now bases.now fresh target row.now }
 {
     match fresh {
         Fresh::Blank => Value::blank(),
         Fresh::Zero => zero_value(target.class),
-        Fresh::Old(p) => Value::blank().join(old_value(bases, row, p.bases, target)),
+        Fresh::Old(p) => Value::blank().join(old_value(model, bases, row, p.bases, target)),
     }
 }
 
 /// The join of all cells of a class of the bases of a set.
 #[tactic(auto, unfolding(crate::specs::Allocations::old_value))]
 fn old_value<I: IntDomain>(
+    model: &Model,
     bases: &[BaseInfo],
     row: &[Cell<I>],
     set: Bases,
     target: Target,
 ) -> Value<I>
-    ensures { result ≡ old_value I.lattice I.numbers bases.now row.now set target }
+    ensures { result ≡ old_value I.lattice I.numbers model.now bases.now row.now set target }
 {
     let mut found = Value::bottom();
     for n in 0..bases.len() {
-        let value = class_values(&bases[n], row, target);
+        let value = class_values(model, &bases[n], row, target);
         found = joined_if(has_base(set, n), found, value);
     }
     found
@@ -435,63 +443,63 @@ fn joined_if<I: IntDomain>(wanted: bool, found: Value<I>, value: Value<I>) -> Va
     if wanted { found.join(value) } else { found }
 }
 
-/// The join of the cells of a class of a base, in the signedness of the target.
+/// The join of the cells of a class of a base, in the type of the target.
 #[tactic(auto, unfolding(crate::specs::Allocations::class_values))]
-fn class_values<I: IntDomain>(base: &BaseInfo, row: &[Cell<I>], target: Target) -> Value<I>
-    ensures { result ≡ class_values I.lattice I.numbers row.now target base.now }
+fn class_values<I: IntDomain>(
+    model: &Model,
+    base: &BaseInfo,
+    row: &[Cell<I>],
+    target: Target,
+) -> Value<I>
+    ensures { result ≡ class_values I.lattice I.numbers model.now row.now target base.now }
 {
     let leaves = base.shape.cells.as_slice();
-    let mut found = class_cell(base, row, target);
+    let mut found = class_cell(model, base, row, target);
     for at in 0..leaves.len() {
         let value = value_at(row, leaf_position(base, at));
-        found = class_leaf(leaves[at], value, target, found);
+        found = class_leaf(model, leaves[at], value, target, found);
     }
     found
 }
 
 /// What was found, joined with a leaf's value if the leaf is of the target's class.
 fn class_leaf<I: IntDomain>(
+    model: &Model,
     leaf: Leaf,
     value: Value<I>,
     target: Target,
     found: Value<I>,
 ) -> Value<I>
     requires { IsNear (I.numbers.bounds value.num) }
-    ensures { result ≡ class_leaf_of I.lattice I.numbers target leaf value found }
+    ensures { result ≡ class_leaf_of I.lattice I.numbers model.now target leaf value found }
 {
-    let read = in_sign(value, leaf.signed, leaf.stride, target);
+    let read = in_target(model, value, target);
     joined_if(same_class(leaf.class, target.class), found, read)
 }
 
 #[tactic(auto, unfolding(crate::specs::Allocations::class_cell))]
-fn class_cell<I: IntDomain>(base: &BaseInfo, row: &[Cell<I>], target: Target) -> Value<I>
-    ensures { result ≡ class_cell I.lattice I.numbers row.now target base.now }
+fn class_cell<I: IntDomain>(
+    model: &Model,
+    base: &BaseInfo,
+    row: &[Cell<I>],
+    target: Target,
+) -> Value<I>
+    ensures { result ≡ class_cell I.lattice I.numbers model.now row.now target base.now }
 {
     if base.shape.heap {
         let value = value_at(row, class_position(base, class_number(target.class)));
-        in_sign(value, true, 0, target)
+        in_target(model, value, target)
     } else {
         Value::bottom()
     }
 }
 
-/// A value of one signedness in that of the target. Where they differ one of both is a leaf, which
-/// tells the size of the type.
-fn in_sign<I: IntDomain>(value: Value<I>, signed: bool, bytes: u64, target: Target) -> Value<I>
+/// A value in the type of the target.
+fn in_target<I: IntDomain>(model: &Model, value: Value<I>, target: Target) -> Value<I>
     requires { IsNear (I.numbers.bounds value.num) }
-    ensures { result ≡ in_sign I.numbers value signed bytes target }
+    ensures { result ≡ in_target I.numbers model.now value target }
 {
-    if is_pointer(target.class) || same_sign(signed, target.signed) {
-        value
-    } else {
-        let kind = kind_of_bytes(bytes.max(target.bytes), target.signed);
-        Value {
-            num: value.num.convert(kind),
-            pointer: value.pointer,
-            indeterminate: value.indeterminate,
-            labels: value.labels,
-        }
-    }
+    as_stored(model, value, target.class, target.signed)
 }
 
 /// The bases of the old pointer may be freed.

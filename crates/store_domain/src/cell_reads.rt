@@ -3,7 +3,7 @@ ghost use Rattle.std.specs.Prelude.{◌≡◌, true, Some};
 ghost use Rattle.cc_base.specs.IntegerDomains.{IsNear};
 ghost use Rattle.cc_base.specs.IntegerTypes.{is_size};
 ghost use Rattle.value_domain.specs.Values.{value_lattice};
-ghost use Rattle.store_domain.specs.CellReads.{same_sign, joined, joined_with, whole_range, as_read, only_flag, byte_read};
+ghost use Rattle.store_domain.specs.CellReads.{same_sign, joined, joined_with, whole_range, as_read, as_stored, only_flag, byte_read};
 
 use crate::access_windows::Window;
 use crate::class_numbers::is_pointer;
@@ -85,6 +85,19 @@ pub fn as_read<I: IntDomain>(
     ensures { result ≡ as_read I.numbers model.now value class from to }
 {
     if is_pointer(class) || same_sign(from, to) {
+        value
+    } else {
+        with_number(value, value.num.convert(kind_of(model, class, to)))
+    }
+}
+
+/// A value that is stored into a cell of a signedness: its numbers converted, its labels kept. Pointers
+/// have no sign.
+pub fn as_stored<I: IntDomain>(model: &Model, value: Value<I>, class: Class, to: bool) -> Value<I>
+    requires { IsNear (I.numbers.bounds value.num) }
+    ensures { result ≡ as_stored I.numbers model.now value class to }
+{
+    if is_pointer(class) {
         value
     } else {
         with_number(value, value.num.convert(kind_of(model, class, to)))

@@ -23,7 +23,7 @@ mod stores;
 pub use access_windows::{Window, access_range, added_ranges, window_of, window_within};
 pub use allocation::{Fresh, renew};
 pub use byte_writes::{byte_written, labelled_null, null_pointer};
-pub use cell_reads::{Access, as_read, byte_read, joined, whole_range};
+pub use cell_reads::{Access, as_read, as_stored, byte_read, joined, whole_range};
 pub use cell_writes::write_value;
 pub use class_numbers::{class_at, class_number, is_pointer, same_class};
 pub use first_zero_writes::{
@@ -38,7 +38,7 @@ pub use live_bases::{
     MOST_BASES, any_freed, has_base, is_one_instance, is_single, live_of, may_be_freed,
     may_be_live, only_base, single_bases, writable_of,
 };
-pub use loads::{load, load_base};
+pub use loads::{load, load_base, load_character};
 pub use near_values::{near_number, near_pointer, near_value};
 pub use object_lives::{clear, enter, forget, leave, set_values, zero_value};
 pub use row_positions::{

@@ -2,7 +2,7 @@
 ghost use Rattle.std.specs.Prelude.{◌≡◌, ◌<◌};
 ghost use Rattle.pointer_domain.specs.PointerTables.{IsNearPointer};
 ghost use Rattle.store_domain.specs.RowPositions.{value_at};
-ghost use Rattle.store_domain.specs.Loads.{reaches_class, joined_leaf, load_leaves, load_class_cell, joined_other_leaf, load_other_leaves, read_class_cell, load_other_class_cells, load_padding, load_other_bytes, is_text, determinate_if, load_own, load_others, load_base, read_base, read_base_if, load_bases, labels_of, loaded, load};
+ghost use Rattle.store_domain.specs.Loads.{reaches_class, joined_leaf, load_leaves, load_class_cell, joined_other_leaf, load_other_leaves, read_class_cell, load_other_class_cells, load_padding, load_other_bytes, is_text, determinate_if, load_own, load_others, load_character, load_base, read_base, read_base_if, load_bases, labels_of, loaded, load};
 
 use crate::access_windows::{Window, window_of};
 use crate::cell_reads::{Access, as_read, byte_read, joined, whole_range};
@@ -132,13 +132,28 @@ pub fn load_base<I: IntDomain>(
 ) -> Option<Value<I>>
     ensures { result ≡ load_base I.lattice I.numbers model.now base.now row.now access }
 {
-    let own = load_own(model, base, row, access);
     if same_class(access.class, Class::Char) {
-        let others = load_others(model, base, row, access);
-        determinate_if(is_text(base, row, access.window), joined(own, others))
+        let found = load_character(model, base, row, access);
+        determinate_if(is_text(base, row, access.window), found)
     } else {
-        own
+        load_own(model, base, row, access)
     }
+}
+
+/// What a character load gets from one base, whatever is known of first zeros.
+#[tactic(auto, unfolding(crate::specs::Loads::load_character))]
+pub fn load_character<I: IntDomain>(
+    model: &Model,
+    base: &BaseInfo,
+    row: &[Cell<I>],
+    access: Access,
+) -> Option<Value<I>>
+    ensures { result ≡ load_character I.lattice I.numbers model.now base.now row.now access }
+{
+    joined(
+        load_own(model, base, row, access),
+        load_others(model, base, row, access),
+    )
 }
 
 /// What the load gets from the cells of its own class.

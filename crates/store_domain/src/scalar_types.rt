@@ -1,7 +1,7 @@
 //! The scalar types of a model, by class.
 ghost use Rattle.std.specs.Prelude.{◌≡◌, ◌≤◌, true};
 ghost use Rattle.cc_base.specs.IntegerTypes.{is_size};
-ghost use Rattle.store_domain.specs.ScalarTypes.{int_bytes, long_bytes, pointer_bytes, class_bytes, class_rank, kind_of, size_of_bytes, kind_of_bytes};
+ghost use Rattle.store_domain.specs.ScalarTypes.{int_bytes, long_bytes, pointer_bytes, class_bytes, class_rank, kind_of};
 
 use c_layout::{Class, Model};
 use cc_base::IntType;
@@ -68,32 +68,5 @@ pub fn kind_of(model: &Model, class: Class, signed: bool) -> IntType
         bytes: class_bytes(model, class),
         signed,
         rank: class_rank(class),
-    }
-}
-
-fn size_of_bytes(bytes: u64) -> u8
-    ensures size { is_size result ≡ true }
-    ensures value { result ≡ size_of_bytes bytes }
-{
-    if bytes == 1 {
-        1
-    } else if bytes == 2 {
-        2
-    } else if bytes == 4 {
-        4
-    } else {
-        8
-    }
-}
-
-/// An integer type of 1, 2, 4 or 8 bytes.
-pub fn kind_of_bytes(bytes: u64, signed: bool) -> IntType
-    ensures size { is_size result.bytes ≡ true }
-    ensures value { result ≡ kind_of_bytes bytes signed }
-{
-    IntType {
-        bytes: size_of_bytes(bytes),
-        signed,
-        rank: 0,
     }
 }

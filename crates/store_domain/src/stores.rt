@@ -6,7 +6,7 @@ ghost use Rattle.store_domain.specs.Stores.{is_other_or, any_other, has_other_pl
 
 use crate::access_windows::{Window, window_of};
 use crate::byte_writes::byte_written;
-use crate::cell_reads::{Access, as_read};
+use crate::cell_reads::{Access, as_stored};
 use crate::cell_writes::write_value;
 use crate::class_numbers::{class_at, class_number, is_pointer, same_class};
 use crate::first_zero_writes::{forget_zeros, put_character};
@@ -288,11 +288,13 @@ fn store_character<I: IntDomain>(
     row: &mut [Cell<I>],
     write: Write<I>,
 )
+    requires { IsNear (I.numbers.bounds write.value.num) }
     ensures length { length row.new ≡ length row.old }
     ensures row { row.new ≡ store_character I.lattice I.numbers model.now base.now write row.old }
 {
     store_other_bytes(model, base, row, write);
-    let zero = write.value.num.compare(Rel::Eq, I::one(0));
+    let stored = cell_value(model, write, write.access.signed);
+    let zero = stored.num.compare(Rel::Eq, I::one(0));
     put_character(base, row, write.access.window, zero, write.alone);
 }
 
@@ -346,18 +348,12 @@ fn is_strong<I: IntDomain>(leaf: Leaf, write: Write<I>) -> bool
     write.alone && (write.access.window.is_one() && leaf.count == 1)
 }
 
-/// The value in the signedness of a cell.
+/// The value in the type of a cell.
 fn cell_value<I: IntDomain>(model: &Model, write: Write<I>, signed: bool) -> Value<I>
     requires { IsNear (I.numbers.bounds write.value.num) }
     ensures { result ≡ cell_value I.numbers model.now write signed }
 {
-    as_read(
-        model,
-        write.value,
-        write.access.class,
-        write.access.signed,
-        signed,
-    )
+    as_stored(model, write.value, write.access.class, signed)
 }
 
 /// Stores to the class cell of a heap base, where the store may begin at an offset of no leaf of its

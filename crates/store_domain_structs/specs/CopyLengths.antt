@@ -17,7 +17,7 @@ use Rattle.value_domain.specs.declared.row_cells.Cell.TheVariants.{First}
 use Rattle.store_domain.specs.ClassNumbers.{class_number, class_at, same_class}
 use Rattle.store_domain.specs.NearValues.{near_value}
 use Rattle.store_domain.specs.RowPositions.{capped, leaf_position, class_position, zero_position, join_value, write_value, put_zero}
-use Rattle.store_domain.specs.CellReads.{as_read}
+use Rattle.store_domain.specs.CellReads.{as_stored}
 use Rattle.store_domain.specs.ByteWrites.{byte_written}
 use Rattle.store_domain.specs.LiveBases.{has_base}
 use Rattle.store_domain.specs.RowLengths.{walk_keeps, turns_keep, cond_keeps, some_keeps, join_value_keeps, write_value_keeps}
@@ -38,14 +38,14 @@ module _ {I : Type 0} (l : LatticeOf I) (n : IntegersOf I) where
   write_own_leaf_keeps : (m : Model) (base : BaseInfo) (access : LeafAccess) (v : values.Value I) (alone : Bool) (leaf : Leaf) (at : ℕ) (row : List (Cell I)) → length (write_own_leaf l n m base access v alone leaf at row) ≡ length row
   unfolding write_leaf_at
   write_own_leaf_keeps m base access v alone leaf at row =
-      let written = as_read n m v access.class access.signed leaf.signed in
+      let written = as_stored n m v access.class leaf.signed in
       cond_keeps (is_reached leaf access.class access.span) (write_value l n row (leaf_position base at) written (is_strong leaf access alone)) row row
       (write_value_keeps l n row (leaf_position base at) written (is_strong leaf access alone)) refl
 
   write_class_cell_keeps : (m : Model) (base : BaseInfo) (access : LeafAccess) (v : values.Value I) (row : List (Cell I)) → length (write_class_cell l n m base access v row) ≡ length row
   unfolding write_class_cell
   write_class_cell_keeps m base access v row =
-      let written = as_read n m v access.class access.signed true in
+      let written = as_stored n m v access.class true in
       let at = class_position base (class_number access.class) in
       cond_keeps (reaches_class base access) (join_value l n row at written) row row (join_value_keeps l n row at written) refl
 

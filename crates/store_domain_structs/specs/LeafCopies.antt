@@ -16,7 +16,7 @@ use Rattle.store_domain.specs.Walks.{walk, turns}
 use Rattle.store_domain.specs.NearValues.{near_value}
 use Rattle.store_domain.specs.RowPositions.{leaf_position, class_position, value_at, join_value, write_value}
 use Rattle.store_domain.specs.LeafSelection.{meets_padding}
-use Rattle.store_domain.specs.CellReads.{joined, whole_range, as_read, byte_read}
+use Rattle.store_domain.specs.CellReads.{joined, whole_range, as_read, as_stored, byte_read}
 use Rattle.store_domain.specs.ByteWrites.{byte_written}
 use Rattle.store_domain.specs.LiveBases.{has_base}
 use Rattle.store_domain.specs.Loads.{joined_if}
@@ -124,14 +124,14 @@ module _ {I : Type 0} where
 
   unfoldable pub write_leaf_at : LatticeOf I → IntegersOf I → Model → LeafAccess → Value I → Bool → Leaf → ℕ → List (Cell I) → List (Cell I)
   write_leaf_at l n m access v alone leaf position row = cond (is_reached leaf access.class access.span)
-      (write_value l n row position (as_read n m v access.class access.signed leaf.signed) (is_strong leaf access alone)) row
+      (write_value l n row position (as_stored n m v access.class leaf.signed) (is_strong leaf access alone)) row
 
   abbrev pub write_own_leaf : LatticeOf I → IntegersOf I → Model → BaseInfo → LeafAccess → Value I → Bool → Leaf → ℕ → List (Cell I) → List (Cell I)
   write_own_leaf l n m base access v alone leaf at row = write_leaf_at l n m access v alone leaf (leaf_position base at) row
 
   unfoldable pub write_class_cell : LatticeOf I → IntegersOf I → Model → BaseInfo → LeafAccess → Value I → List (Cell I) → List (Cell I)
   write_class_cell l n m base access v row = cond (reaches_class base access)
-      (join_value l n row (class_position base (class_number access.class)) (as_read n m v access.class access.signed true)) row
+      (join_value l n row (class_position base (class_number access.class)) (as_stored n m v access.class true)) row
 
   unfoldable pub write_leaves : LatticeOf I → IntegersOf I → Model → BaseInfo → LeafAccess → Value I → Bool → List (Cell I) → List (Cell I)
   write_leaves l n m base access v alone row = walk (write_own_leaf l n m base access v alone) 0 base.shape.cells row

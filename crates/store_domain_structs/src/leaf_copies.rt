@@ -9,9 +9,9 @@ use c_layout::{BaseInfo, Class, Leaf, Model};
 use cc_base::IntDomain;
 use pointer_domain::Bases;
 use store_domain::{
-    as_read, byte_read, byte_written, class_at, class_number, class_position, has_base, join_value,
-    joined, kind_of, leaf_position, meets_padding, near_value, same_class, value_at, whole_range,
-    write_value,
+    as_read, as_stored, byte_read, byte_written, class_at, class_number, class_position, has_base,
+    join_value, joined, kind_of, leaf_position, meets_padding, near_value, same_class, value_at,
+    whole_range, write_value,
 };
 use value_domain::{Cell, Labels, Value};
 
@@ -321,7 +321,7 @@ fn write_leaf_at<I: IntDomain>(
     ensures row { row.new ≡ write_leaf_at I.lattice I.numbers model.now access value alone leaf position row.old }
 {
     if is_reached(leaf, access.class, access.span) {
-        let written = as_read(model, value, access.class, access.signed, leaf.signed);
+        let written = as_stored(model, value, access.class, leaf.signed);
         write_value(row, position, written, is_strong(leaf, access, alone));
     }
 }
@@ -383,7 +383,7 @@ fn write_class_cell<I: IntDomain>(
     ensures row { row.new ≡ write_class_cell I.lattice I.numbers model.now base.now access value row.old }
 {
     if reaches_class(base, access) {
-        let written = as_read(model, value, access.class, access.signed, true);
+        let written = as_stored(model, value, access.class, true);
         let at = class_position(base, class_number(access.class));
         join_value(row, at, written);
     }

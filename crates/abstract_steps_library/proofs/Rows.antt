@@ -1,0 +1,96 @@
+-- Worked rows of the definitions.
+use Rattle.std.specs.Prelude.{◌≡◌, refl, pos, Bool, true, false, Option, Some, None, List}
+use Rattle.cc_base.specs.Lattices.{LatticeOf}
+use Rattle.cc_base.specs.IntegerDomains.{IntegersOf}
+use Rattle.cc_base.specs.NumberRanges.{Range}
+use Rattle.c_layout.specs.declared.shapes.ZeroPart.{ZeroPart}
+use Rattle.pointer_domain.specs.BaseSets.{no_base}
+use Rattle.pointer_domain.specs.PointerLattice.{no_pointer}
+use Rattle.pointer_domain.specs.declared.pointer_sets.Pointers.{Pointers}
+use Rattle.string_domain.specs.declared.first_zeros.FirstZero.{FirstZero}
+use Rattle.string_domain.specs.FirstZeros.{zero_lattice}
+use Rattle.value_domain.specs.LabelSets.{no_labels}
+use Rattle.value_domain.specs.declared.row_cells.Cell.{Cell}
+use Rattle.store_domain.specs.AccessWindows.{window_between}
+use Rattle.store_domain.specs.FirstZeroWrites.{any_zero}
+use Rattle.store_domain.specs.LiveBases.{only_base}
+use Rattle.abstract_steps_checks.specs.declared.library_arguments.Argument.{Argument}
+use Rattle.abstract_steps_checks.specs.declared.violation_sets.Violations.{Violations}
+use Rattle.abstract_steps_checks.specs.ViolationSets.{no_violations}
+use Rattle.abstract_steps_library.specs.Calls.{Call}
+use Rattle.abstract_steps_library.specs.Outputs.{printed_trail}
+use Rattle.abstract_steps_library.specs.Plans.{trail_of}
+use Rattle.abstract_steps_library.specs.StringCalls.{most_appended, reads_no_string}
+use Rattle.abstract_steps_library.specs.TextWrites.{rule_in, zero_after, zero_met}
+use Rattle.abstract_steps_library.specs.declared.call_plans.Trail.{Trail}
+use Rattle.abstract_steps_library.specs.declared.source_bytes.Characters.{Characters}
+use Rattle.abstract_steps_library.specs.declared.text_writes.TextWrite.{TextWrite}
+use Rattle.abstract_steps_library.specs.declared.text_writes.ZeroRule.{ZeroRule}
+use Rattle.abstract_steps_library.specs.declared.text_writes.ZeroRule.TheVariants.{Text, Append, Any}
+
+-- ---- strcat
+
+-- 4 bytes, of which a text of 1 or 2 characters is taken: 2 more characters and the zero
+room_for_two : most_appended (Some (pos 1, pos 2)) (Some (pos 2, pos 4)) ≡ pos 2
+room_for_two = refl
+
+-- the end is unknown in base 3 alone
+unknown_in_three : {I : Type 0} (x : I) → rule_in (Append x (only_base 3)) 3 ≡ Any
+unknown_in_three x = refl
+
+known_in_two : {I : Type 0} (x : I) → rule_in (Append x (only_base 3)) 2 ≡ Append x (only_base 3)
+known_in_two x = refl
+
+-- ---- a struct of two members char a[1], b[1], and a write that may begin in either
+
+abbrev second : ZeroPart
+second = record { offset = 1; size = Some 1 }
+
+-- ---- printf
+
+abbrev no_check : Trail
+no_check = trail_of no_violations
+
+module _ {I : Type 0} (l : LatticeOf I) (n : IntegersOf I) (x : I) (old : FirstZero I) where
+  abbrev text_in_either : Bool → TextWrite I
+  text_in_either one_byte = record {
+    bases = only_base 0;
+    start = window_between 0 1;
+    window = window_between 0 1;
+    one_byte = one_byte;
+    characters = record { signed = x; unsigned = x; labels = no_labels };
+    zero = Text x;
+  }
+
+  -- one byte lies in the member where it is written, or leaves it as it was
+  of_one_byte : zero_met l n second old (text_in_either true) true ≡ (zero_lattice l).join old (zero_after l n old (window_between 0 0) (Text x))
+  of_one_byte = refl
+
+  -- two bytes may go from the one to the other
+  of_two_bytes : zero_met l n second old (text_in_either false) true ≡ any_zero l n
+  of_two_bytes = refl
+
+  -- ---- strncpy
+
+  -- a source that is known to end in each base is a string
+  of_known_ends : (call : Call) (row : List (Cell I)) (from : Pointers I) (count : Range) → reads_no_string l n call row from no_base count ≡ false
+  of_known_ends call row from count = refl
+
+  -- ---- printf
+
+  abbrev nothing_given : Argument I
+  nothing_given = record { violations = no_violations; rest = no_pointer l }
+
+  abbrev null_given : Argument I
+  null_given = record { violations = record no_violations { nullref = true }; rest = record (no_pointer l) { null = true } }
+
+  -- a number goes on, and nothing at all does not
+  of_number : printed_trail true no_check nothing_given ≡ no_check
+  of_number = refl
+
+  of_nothing : printed_trail false no_check nothing_given ≡ record no_check { goes_on = false }
+  of_nothing = refl
+
+  -- what may be a number or null is told, and goes on
+  of_number_or_null : printed_trail true no_check null_given ≡ trail_of (record no_violations { nullref = true })
+  of_number_or_null = refl
