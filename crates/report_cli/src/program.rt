@@ -2,7 +2,6 @@
 ghost use Rattle.std.specs.Prelude.{◌≡◌, ◌≤◌, map, string_bytes};
 ghost use Rattle.c_preproc.specs.Causes.{seen_of};
 ghost use Rattle.report_cli_words.specs.Requests.{asked};
-ghost use Rattle.report_cli.specs.Judging.{order_of};
 ghost use Rattle.report_cli.specs.Outcomes.{took, Answers};
 
 use crate::decision::{Halt, decide};
