@@ -12,7 +12,7 @@ use Rattle.c_preproc.specs.Names.{is_distinct}
 use Rattle.c_preproc.specs.Causes.{Seen, seen_of, IsCaused, IsCausedFrom, IsOwnRefusal}
 use Rattle.c_preproc.proofs.Own.{own_caused}
 use Rattle.report_cli_words.specs.Requests.{CommandView, Asked, Help, Version, Check, Load, Refused}
-use Rattle.report_cli_texts.specs.Reports.{Bytes}
+use Rattle.report_cli_texts.specs.Reports.{Bytes, file_name}
 use Rattle.report_cli_texts.specs.LoadUnits.{load_of}
 use Rattle.report_cli_texts.specs.FixedTexts.{help_text, version_text, words_refused_text}
 use Rattle.report_cli.specs.declared.model_choice.ModelChoice.{ModelChoice}
@@ -22,7 +22,7 @@ use Rattle.report_cli.specs.Stages.{stage_of}
 use Rattle.report_cli.specs.declared.stages.Stage.{Stage}
 use Rattle.report_cli.specs.declared.stages.Stage.TheVariants as stage
 use Rattle.report_cli.specs.Judging.{SettingView, RefusesAt, RefusesUnit}
-use Rattle.report_cli.specs.Verdicts.{Tells, helped, versioned, words_refused, absent, refused, reported, summed, file_name, Gives, FromFiles, FromBytes, IsExpanded, IsLaterRefusal, IsStaged, IsRefusal, check_setting, load_setting, AnswersUnit, AnswersLoad, HasModel, RefusesModel, IsLater, IsVerdict}
+use Rattle.report_cli.specs.Verdicts.{Tells, helped, versioned, words_refused, absent, refused, reported, summed, Gives, FromFiles, FromBytes, IsExpanded, IsLaterRefusal, IsStaged, IsRefusal, check_setting, load_setting, AnswersUnit, AnswersLoad, HasModel, RefusesModel, IsLater, IsVerdict}
 use Rattle.report_cli.specs.Answering.{IsEarly, AnswersStop, AnswersOwn, AnswersJudged, AnswersMade}
 
 -- a refusal of a later stage, by its stage

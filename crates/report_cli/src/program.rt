@@ -5,7 +5,7 @@ ghost use Rattle.report_cli_words.specs.Requests.{asked};
 ghost use Rattle.report_cli.specs.Outcomes.{took, Answers};
 
 use crate::decision::{Halt, decide};
-use cc_base::{Diag, Sink, Tree};
+use cc_base::{Sink, Tree};
 use std::alloc::Global;
 
 /// Does all that the program does: takes the words behind its name, reads from the tree, puts its
