@@ -2,6 +2,8 @@
 #![tactic(auto)]
 
 #[cfg(test)]
+mod alias_rows;
+#[cfg(test)]
 mod array_rows;
 #[cfg(test)]
 mod call;
@@ -25,6 +27,8 @@ mod preprocessing_rows;
 mod program_rows;
 #[cfg(test)]
 mod refusal_rows;
+#[cfg(test)]
+mod rule_rows;
 #[cfg(test)]
 mod size_rows;
 #[cfg(test)]

@@ -54,3 +54,36 @@ const NUMBERS: [Unit; 2] = [
 fn numbers_in_conditions(rt: HostRuntime) -> Result<(), Fail> {
     check_all(&rt, rt.alloc(), &NUMBERS)
 }
+
+const FORMS: [Unit; 5] = [
+    (
+        "\"abc\nint main(void){return 0;}",
+        2,
+        "a.c:1:1: refused: OpenLiteral\n",
+    ),
+    (
+        "int main(void){return 'a;}",
+        2,
+        "a.c:1:23: refused: OpenLiteral\n",
+    ),
+    (
+        "#include\nint main(void){return 0;}",
+        2,
+        "a.c:1:1: refused: BadDirective\n",
+    ),
+    (
+        "#define 3 x\nint main(void){return 0;}",
+        2,
+        "a.c:1:1: refused: BadDirective\n",
+    ),
+    (
+        "#ifdef\n#endif\nint main(void){return 0;}",
+        2,
+        "a.c:1:1: refused: BadDirective\n",
+    ),
+];
+
+#[test]
+fn open_literals_and_bad_directives(rt: HostRuntime) -> Result<(), Fail> {
+    check_all(&rt, rt.alloc(), &FORMS)
+}
