@@ -151,7 +151,7 @@ def checked(program, text, options):
         with open(f"{folder}/unit.c", "w", encoding="utf-8") as file:
             file.write(text)
         words = [program, "check", "unit.c", *options]
-        return subprocess.run(words, cwd=folder, stdout=subprocess.PIPE, timeout=120).stdout.decode()
+        return subprocess.run(words, cwd=folder, stdout=subprocess.PIPE, timeout=600).stdout.decode()
 
 
 def example_fault(program, mark, lines):
@@ -184,7 +184,7 @@ def console_faults(program, lines):
         if words[0] != "ccheck":
             yield f"$ {' '.join(words)} is no call of ccheck"
             continue
-        out = subprocess.run([program, *words[1:]], cwd=f"{ROOT}/examples", stdout=subprocess.PIPE, timeout=120)
+        out = subprocess.run([program, *words[1:]], cwd=f"{ROOT}/examples", stdout=subprocess.PIPE, timeout=600)
         pattern = "".join(r"(?:.*\n)*" if it == ".." else re.escape(it + "\n") for it in wanted)
         if not re.fullmatch(pattern, out.stdout.decode()):
             yield f"$ {' '.join(words)} prints:\n{out.stdout.decode()}"
