@@ -92,6 +92,7 @@ def main():
     program = next(it for it in rt.rtlib.crates_below(ROOT) if it.name == PROGRAM)
     failed = build_all(program.below(), lanes)
     if failed:
+        print("not built:", *sorted(it.name for it in failed))
         return 1
     os.chdir(program.folder)
     if rt.main(["run", "--jobs", "1", "--", "--version"]) != 0:
