@@ -35,7 +35,7 @@ def command():
 
 
 def sum_once(crates):
-    """Lets each crate keep the sum of its files. The crates are kept too, so that no other one gets the place of one."""
+    """Lets each crate keep the sum of its files. The crates are kept too, so that their numbers stay theirs."""
     plain, sums = crates.Crate.stamp, {}
 
     def stamp(self):

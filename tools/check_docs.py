@@ -1,10 +1,10 @@
 #!/usr/bin/env python3
-"""check_docs.py [--bin PROGRAM]: looks through README.md, docs/ and the man page, and ends with 0 where all of it holds.
+"""check_docs.py [--bin PROGRAM]: looks through README.md, docs/ and the man page; ends with 0 where all of it holds.
 
 - No line has more than 120 columns.
 - Links inside the repository lead to files and headings that are there.
 - Paths and names in `code` are there: files, crates, and identifiers of the sources.
-- docs/ARCHITECTURE.md has each crate of crates.txt and no other, docs/rules.md each rule, docs/refusals.md each refusal.
+- docs/ARCHITECTURE.md has just the crates of crates.txt, docs/rules.md each rule, docs/refusals.md each refusal.
 - Each C example does what it is marked with when PROGRAM (the built one) checks it, with the options behind the mark:
   ```c bad TAG,TAG   just these tags are printed        ```c good             none is
   ```c refused WORD  it is refused with the word        ```c limit WORD       the limit is passed
@@ -203,8 +203,8 @@ def bad_examples(page, program):
 
 def man_warnings():
     try:
-        words = ["man", "--warnings", "-l", f"{ROOT}/man/ccheck.1"]
-        done = subprocess.run(words, stdout=subprocess.DEVNULL, stderr=subprocess.PIPE, env={**os.environ, "LC_ALL": "C.UTF-8"})
+        words, plain = ["man", "--warnings", "-l", f"{ROOT}/man/ccheck.1"], {**os.environ, "LC_ALL": "C.UTF-8"}
+        done = subprocess.run(words, stdout=subprocess.DEVNULL, stderr=subprocess.PIPE, env=plain)
     except FileNotFoundError:
         return
     yield from (f"man/ccheck.1: {it}" for it in done.stderr.decode().split("\n") if it)
