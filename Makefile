@@ -1,0 +1,26 @@
+# make                      the program: proved already where `rt ci` has run, else built by tools/build.py
+# make check                everything from nothing: proofs, must-fail edits, tests (`rt ci`)
+# make docs                 links, names and examples of README.md and docs/ (tools/check-docs.sh)
+# make install PREFIX=..    the program, its man page and the examples
+
+PREFIX = /usr/local
+PROGRAM = crates/ccheck_main/out/ccheck_main
+
+.PHONY: all check docs install
+
+all: $(PROGRAM)
+
+$(PROGRAM):
+	tools/build.py
+
+check:
+	rt ci
+
+docs: $(PROGRAM)
+	tools/check-docs.sh
+
+install: $(PROGRAM)
+	install -D -m 755 $(PROGRAM) $(DESTDIR)$(PREFIX)/bin/ccheck
+	install -D -m 644 man/ccheck.1 $(DESTDIR)$(PREFIX)/share/man/man1/ccheck.1
+	install -d $(DESTDIR)$(PREFIX)/share/doc/ccheck/examples
+	install -m 644 examples/* $(DESTDIR)$(PREFIX)/share/doc/ccheck/examples
