@@ -1,5 +1,5 @@
 -- What a map of the system admits is an analysis of its program.
-use Rattle.std.specs.Prelude.{◌≡◌, ℤ, List, Option, Result, Ok, Err, IfOk}
+use Rattle.std.specs.Prelude.{◌≡◌, ℤ, true, List, Option, Result, Ok, Err, IfOk}
 use Rattle.std.proofs.Common.{subst}
 use Rattle.cc_base.specs.DiagnosticOrder.{IsOrderedSet}
 use Rattle.cc_base.specs.Machine.{IsMonotone}

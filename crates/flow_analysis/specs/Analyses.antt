@@ -1,5 +1,5 @@
 -- What the analysis of a control-flow program finds.
-use Rattle.std.specs.Prelude.{◌≡◌, ℤ, List, Option}
+use Rattle.std.specs.Prelude.{◌≡◌, ℤ, true, List, Option}
 use Rattle.cc_base.specs.DiagnosticOrder.{IsOrderedSet}
 use Rattle.cc_base.specs.Lattices.{LatticeOf}
 use Rattle.cc_base.specs.Machine.{Machine, IsMonotone}
