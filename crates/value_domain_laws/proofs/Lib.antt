@@ -1,0 +1,17 @@
+pub mod Flags
+pub mod Ranges
+pub mod Parts
+pub mod Bases
+pub mod Moves
+pub mod Equality
+pub mod Renames
+pub mod Zeros
+pub mod LabelRules
+pub mod Leaving
+pub mod ValueOperations
+pub mod Joins
+pub mod Numbers
+pub mod PointerStands
+pub mod EqualityStands
+pub mod ValueStands
+pub mod Together
