@@ -14,4 +14,5 @@ pub mod Numbers
 pub mod PointerStands
 pub mod EqualityStands
 pub mod ValueStands
+pub mod ZeroStands
 pub mod Together

@@ -23,11 +23,11 @@ use Rattle.value_domain_laws.proofs.Ranges.{RangeBelow, difference_monotone, met
 
 -- ---- bounds from 0 to the end, in order
 
-abbrev AreCounts : Range → Type 0
+abbrev pub AreCounts : Range → Type 0
 AreCounts None = Unit {0}
 AreCounts (Some f) = (pos 0 ≤ℤ f.0) × (f.0 ≤ℤ f.1) × (f.1 ≤ℤ the_end)
 
-is_end : (z : ℤ) → int_eq z the_end ≡ true → z ≡ the_end
+pub is_end : (z : ℤ) → int_eq z the_end ≡ true → z ≡ the_end
 is_end z e = (Decides-int_eq z the_end).0 e
 
 -- ---- a zero was written
@@ -56,7 +56,7 @@ must_parts f o = by_tests (int_eq f.1 the_end) (int_eq o.0 (pos 0) && int_eq o.1
     by_tests true true = refl
     by_tests true false = refl
 
-same_int : (a c : ℤ) → a ≤ℤ c → c ≤ℤ a → a ≡ c
+pub same_int : (a c : ℤ) → a ≤ℤ c → c ≤ℤ a → a ≡ c
 same_int (pos a) (pos c) h k = ap pos (omega (arith, ints))
 same_int (pos a) (negsuc c) h k = absurd (omega (arith, ints))
 same_int (negsuc a) (pos c) h k = absurd (omega (arith, ints))
@@ -65,7 +65,7 @@ same_int (negsuc a) (negsuc c) h k = ap negsuc (omega (arith, ints))
 same_is : (a c : ℤ) → a ≤ℤ c → c ≤ℤ a → int_eq a c ≡ true
 same_is a c h k = (Decides-int_eq a c).1 (same_int a c h k)
 
-start_of : (o : ℤ × ℤ) → is_start o ≡ true → (o.0 ≡ pos 0) × (o.1 ≡ pos 0)
+pub start_of : (o : ℤ × ℤ) → is_start o ≡ true → (o.0 ≡ pos 0) × (o.1 ≡ pos 0)
 start_of o e = let a = and_parts (int_eq o.0 (pos 0)) (int_eq o.1 (pos 0)) e in ((Decides-int_eq o.0 (pos 0)).0 a.0, (Decides-int_eq o.1 (pos 0)).0 a.1)
 
 -- where larger offsets are 0 alone, smaller ones are
@@ -183,7 +183,7 @@ module _ {I : Type 0} {l : LatticeOf I} {n : IntegersOf I} {stands : I → ℤ �
   counts_at x None e h = tt
   counts_at x (Some p) e h = (h.0, b.proper x p.0 p.1 e, h.1)
 
-  counts_of : (x : I) → IsCount l n x → AreCounts (n.bounds x)
+  pub counts_of : (x : I) → IsCount l n x → AreCounts (n.bounds x)
   counts_of x h = counts_at x (n.bounds x) refl (subst (λ r. RangeBelow (n.bounds x) r) (b.between_bounds (pos 0) the_end (omega (arith, ints))) (bounds_monotone b x (n.between (pos 0) the_end) h))
 
   is_count : (x u : I) → l.leq x u ≡ true → IsCount l n u → IsCount l n x

@@ -8,3 +8,4 @@ pub mod Meaning
 pub mod PointerMeaning
 pub mod EqualityMeaning
 pub mod ValueMeaning
+pub mod ZeroMeaning

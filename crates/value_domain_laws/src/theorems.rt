@@ -14,6 +14,7 @@ ghost use Rattle.value_domain_laws.specs.ValueLaws.{ValueLaws};
 ghost use Rattle.value_domain_laws.specs.PointerMeaning.{PointerMeaning};
 ghost use Rattle.value_domain_laws.specs.EqualityMeaning.{EqualityMeaning};
 ghost use Rattle.value_domain_laws.specs.ValueMeaning.{ValueMeaning};
+ghost use Rattle.value_domain_laws.specs.ZeroMeaning.{ZeroMeaning};
 
 use cc_base::IntDomain;
 
@@ -60,4 +61,10 @@ pub fn equality_is_sound<I: IntDomain>()
 /// Values stand for what the operators make of each number, a result that leaves its type is told, and so is each truth.
 pub fn values_are_sound<I: IntDomain>()
     ensures { SoundLaws I.lattice I.numbers I.stands → ValueMeaning I.lattice I.numbers I.stands }
+{}
+
+/// First zeros, behind a char or a text that was written, stand for what comes of each first zero, and a scan that
+/// answers finds a string within its bounds, and its length.
+pub fn zeros_are_sound<I: IntDomain>()
+    ensures { ZeroMeaning I.lattice I.numbers I.stands }
 {}
