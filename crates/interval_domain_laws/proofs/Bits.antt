@@ -22,9 +22,6 @@ use Rattle.interval_domain.specs.Best.{le_true, true_le, stands_between}
 use Rattle.interval_domain.proofs.Ranges.{range_facts}
 use Rattle.interval_domain_laws.proofs.Kit.{Within, clamped_monotone, clamped_whole, single_below, same_single}
 
-le_false : (a b : ℤ) → int_le a b ≡ false → b <ℤ a
-le_false a b h = grind (arith, ints)
-
 -- ---- the bits of a number that is not below zero
 
 rem_own : (z : ℤ) (m : ℕ) → pos 0 ≤ℤ z → z <ℤ pos m → int_rem_euclid z (pos m) ≡ z

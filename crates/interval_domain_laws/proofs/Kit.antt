@@ -1,9 +1,10 @@
 -- A small kit: larger bounds make larger intervals.
-use Rattle.std.specs.Prelude.{◌≡◌, ℤ, true, Some, ◌≤ℤ◌, int_le, refl}
+use Rattle.std.specs.Prelude.{◌≡◌, ℕ, ◌*◌, ◌/◌, ◌<◌, ◌≤◌, ℤ, ◌≤ℤ◌, ◌<ℤ◌, true, false, int_le, int_lt, Some, refl}
 use Rattle.std.specs.Int.{int_min, int_max}
 use Rattle.std.proofs.Common.{arith, subst}
 use Rattle.std.proofs.lemmas.Int.{ints, clamps}
 use Rattle.std.proofs.lemmas.Bool.{and_parts, and_from}
+use Rattle.std.proofs.lemmas.Nat.{mul-le, le-div, div-add-mod'}
 use Rattle.cc_base.specs.IntegerTypes.{is_size, least_of, greatest_of, in_type}
 use Rattle.cc_base.specs.MachineArithmetic.{result_of}
 use Rattle.cc_base.specs.declared.int_types.IntType.{IntType}
@@ -14,6 +15,26 @@ use Rattle.interval_domain.specs.Spans.{between_or_empty, same_spans, Stands}
 use Rattle.interval_domain.specs.IntervalOrder.{interval_leq, interval_join, leq_transitive, leq_join_left, leq_join_right, leq_join_least}
 use Rattle.interval_domain.specs.Arithmetic.{clamped, whole, into, met}
 use Rattle.interval_domain.specs.Best.{IsLeastWith, le_true, true_le, below_if, stands_between, into_best}
+
+-- ---- tests and bounds
+
+pub lt_true : (a b : ℤ) → int_lt a b ≡ true → a <ℤ b
+lt_true a b h = grind (arith, ints)
+
+pub lt_false : (a b : ℤ) → int_lt a b ≡ false → b ≤ℤ a
+lt_false a b h = grind (arith, ints)
+
+pub some_same : (a b : ℤ) → Some a ≡ Some b → a ≡ b
+some_same a b e = cc
+
+pub rises : (a b m : ℕ) → 0 < m → a ≤ b → a / m ≤ b / m
+rises a b m h k = let e = div-add-mod' a m in le-div (a / m) b m h (omega arith)
+
+pub falls : (a m n : ℕ) → 0 < m → m ≤ n → a / n ≤ a / m
+falls a m n h k =
+    let e = div-add-mod' a n in
+    let l : a / n * m ≤ a / n * n = mul-le (a / n) m (a / n) n (omega arith) k in
+    le-div (a / n) a m h (omega arith)
 
 -- the numbers of s are numbers of u
 pub record Within (s u : Span) : Type 0 where

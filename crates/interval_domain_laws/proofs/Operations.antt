@@ -19,7 +19,7 @@ use Rattle.interval_domain.specs.IntervalLattice.{interval_lattice}
 use Rattle.interval_domain.specs.IntervalNumbers.{interval_numbers}
 use Rattle.interval_domain.specs.Arithmetic.{arith_spans, interval_arith, unary_span, interval_unary, interval_convert}
 use Rattle.interval_domain.specs.Best.{conversions_best}
-use Rattle.interval_domain_laws.proofs.Kit.{Within, within, within_stands, clamped_monotone, clamped_stands, into_monotone, into_stands, least_monotone, of_type, in_type_between}
+use Rattle.interval_domain_laws.proofs.Kit.{some_same, Within, within, within_stands, clamped_monotone, clamped_stands, into_monotone, into_stands, least_monotone, of_type, in_type_between}
 use Rattle.interval_domain_laws.proofs.Products.{sums_monotone, sums_stands, differences_monotone, differences_stands, products_monotone, products_stands}
 use Rattle.interval_domain_laws.proofs.Quotients.{quotients_monotone, quotients_stands}
 use Rattle.interval_domain_laws.proofs.Remainders.{remainders_monotone, remainders_stands}
@@ -74,9 +74,6 @@ interval_monotone = record {
 }
 
 -- ---- numbers of the operands
-
-some_same : (a b : ℤ) → Some a ≡ Some b → a ≡ b
-some_same a b e = cc
 
 spans_stand : (op : IntOp) (k : IntType) (s t : Span) (a b c : ℤ) → is_size k.bytes ≡ true → Stands (Of s) a → Stands (Of t) b → in_type k a ≡ true → binary_result op k a b ≡ Some c → Stands (arith_spans op k s t) c
 spans_stand Add k s t a b c h p q i e = sums_stands k s t a b c h p q e

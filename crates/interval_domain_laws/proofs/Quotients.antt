@@ -1,12 +1,11 @@
 -- Quotients.
-use Rattle.std.specs.Prelude.{◌≡◌, ℕ, zero, suc, ◌*◌, ◌/◌, ◌<◌, ◌≤◌, ℤ, pos, negsuc, ◌≤ℤ◌, ◌<ℤ◌, Bool, true, false, cond, int_div, Some, None, refl}
+use Rattle.std.specs.Prelude.{◌≡◌, ℕ, zero, suc, ℤ, pos, negsuc, ◌≤ℤ◌, ◌<ℤ◌, Bool, true, false, cond, int_div, Some, None, refl}
 use Rattle.std.specs.Int.{int_min, int_max}
 use Rattle.std.specs.Ordering.{int_eq}
 use Rattle.std.proofs.Common.{arith, sym, subst, ◌∙◌, inl, inr}
 use Rattle.std.proofs.lemmas.Int.{ints, clamps}
 use Rattle.std.proofs.lemmas.Bool.{cases_Bool}
 use Rattle.std.proofs.lemmas.Bool.Decides.{Decides-int_eq}
-use Rattle.std.proofs.lemmas.Nat.{mul-le, le-div, div-add-mod'}
 use Rattle.cc_base.specs.IntegerTypes.{in_type}
 use Rattle.cc_base.specs.MachineArithmetic.{in_or_stop, binary_result}
 use Rattle.cc_base.specs.declared.int_types.IntType.{IntType}
@@ -19,19 +18,8 @@ use Rattle.interval_domain.specs.IntervalOrder.{interval_leq, interval_join, leq
 use Rattle.interval_domain.specs.Arithmetic.{quotients, quotients_by, IsApart}
 use Rattle.interval_domain.specs.Best.{stands_between}
 use Rattle.interval_domain.proofs.Made.{is_below, is_above}
-use Rattle.interval_domain_laws.proofs.Kit.{Within, within, between_monotone, met_monotone, met_stands, join_monotone}
+use Rattle.interval_domain_laws.proofs.Kit.{rises, falls, some_same, Within, within, between_monotone, met_monotone, met_stands, join_monotone}
 use Rattle.interval_domain_laws.proofs.Corners.{LiesAmong, among_rising, among_falling, HasExtremesAtEnds, corners_monotone, corners_stands}
-
--- ---- of natural numbers
-
-rises : (a b m : ℕ) → 0 < m → a ≤ b → a / m ≤ b / m
-rises a b m h k = let e = div-add-mod' a m in le-div (a / m) b m h (omega arith)
-
-falls : (a m n : ℕ) → 0 < m → m ≤ n → a / n ≤ a / m
-falls a m n h k =
-    let e = div-add-mod' a n in
-    let l : a / n * m ≤ a / n * n = mul-le (a / n) m (a / n) n (omega arith) k in
-    le-div (a / n) a m h (omega arith)
 
 -- ---- dividends
 
@@ -135,9 +123,6 @@ record Quotient (k : IntType) (a b c : ℤ) : Type 0 where
   divides : b ≡ pos 0 → ⊥
   is : int_div a b ≡ c
   fits : in_type k c ≡ true
-
-some_same : (a b : ℤ) → Some a ≡ Some b → a ≡ b
-some_same a b e = cc
 
 pub goes_on : (k : IntType) (x z : ℤ) → in_or_stop k x ≡ Some z → (x ≡ z) × (in_type k z ≡ true)
 goes_on k x z e = elim (cases_Bool (in_type k x)) [

@@ -20,19 +20,13 @@ use Rattle.interval_domain.specs.Arithmetic.{remainders, remainders_by, remainde
 use Rattle.interval_domain.specs.Best.{stands_between}
 use Rattle.interval_domain.proofs.Made.{are_apart}
 use Rattle.interval_domain.proofs.Ranges.{range_facts}
-use Rattle.interval_domain_laws.proofs.Kit.{Within, within, between_monotone, clamped_monotone, clamped_stands, clamped_single_below, same_single, of_type, in_type_between}
+use Rattle.interval_domain_laws.proofs.Kit.{lt_true, lt_false, some_same, Within, within, between_monotone, clamped_monotone, clamped_stands, clamped_single_below, same_single, of_type, in_type_between}
 
 eq_true : (a b : ℤ) → int_eq a b ≡ true → a ≡ b
 eq_true a b h = (Decides-int_eq a b).0 h
 
 eq_false : (a b : ℤ) → int_eq a b ≡ false → a ≡ b → ⊥
 eq_false a b h e = let t = (Decides-int_eq a b).1 e in let u : true ≡ false = sym t ∙ h in cc
-
-lt_true : (a b : ℤ) → int_lt a b ≡ true → a <ℤ b
-lt_true a b h = grind (arith, ints)
-
-lt_false : (a b : ℤ) → int_lt a b ≡ false → b ≤ℤ a
-lt_false a b h = grind (arith, ints)
 
 -- ---- one remainder
 
@@ -239,9 +233,6 @@ record Remains (k : IntType) (a b c : ℤ) : Type 0 where
   divides : b ≡ pos 0 → ⊥
   fits : is_quotient_overflow k a b ≡ false
   is : int_rem a b ≡ c
-
-some_same : (a b : ℤ) → Some a ≡ Some b → a ≡ b
-some_same a b e = cc
 
 remains_at : (k : IntType) (a b c : ℤ) (none over : Bool) → int_eq b (pos 0) ≡ none → is_quotient_overflow k a b ≡ over → cond none None (cond over None (Some (int_rem a b))) ≡ Some c → Remains k a b c
 remains_at k a b c true over z o e = cc

@@ -1,11 +1,11 @@
 -- `<<` and `>>`.
-use Rattle.std.specs.Prelude.{◌≡◌, ℕ, ◌*◌, ◌/◌, ◌^◌, ◌<◌, ◌≤◌, ℤ, pos, negsuc, ◌≤ℤ◌, ◌<ℤ◌, Bool, true, false, cond, int_le, int_lt, unsigned_abs, Some, None, refl}
+use Rattle.std.specs.Prelude.{◌≡◌, ◌*◌, ◌^◌, ◌≤◌, ℤ, pos, negsuc, ◌≤ℤ◌, Bool, true, false, cond, int_le, int_lt, unsigned_abs, Some, None, refl}
 use Rattle.std.specs.Int.{int_min, int_max}
 use Rattle.std.proofs.Common.{arith, subst}
 use Rattle.std.proofs.Math.Nat.{pow-le-pow_right}
 use Rattle.std.proofs.lemmas.Int.{ints, clamps}
 use Rattle.std.proofs.lemmas.Bool.{and_parts}
-use Rattle.std.proofs.lemmas.Nat.{mul-le, le-div, div-add-mod', pow_pos}
+use Rattle.std.proofs.lemmas.Nat.{mul-le, pow_pos}
 use Rattle.cc_base.specs.IntegerTypes.{is_size, in_type, greatest_of}
 use Rattle.cc_base.specs.MachineArithmetic.{result_of, binary_result, is_count}
 use Rattle.cc_base.specs.declared.int_types.IntType.{IntType}
@@ -18,14 +18,8 @@ use Rattle.interval_domain.specs.IntervalOrder.{interval_leq}
 use Rattle.interval_domain.specs.Arithmetic.{shifted_left, shifted_right, scaled, scaled_by, halved, halved_by, counts}
 use Rattle.interval_domain.specs.Best.{le_true, stands_between}
 use Rattle.interval_domain.proofs.Ranges.{range_facts}
-use Rattle.interval_domain_laws.proofs.Kit.{Within, within, between_monotone, into_monotone, into_stands, met_monotone, met_stands, of_type, in_type_between}
+use Rattle.interval_domain_laws.proofs.Kit.{lt_true, lt_false, rises, falls, some_same, Within, within, between_monotone, into_monotone, into_stands, met_monotone, met_stands, of_type, in_type_between}
 use Rattle.interval_domain_laws.proofs.Corners.{LiesAmong, among_rising, among_falling, HasExtremesAtEnds, corners_monotone, corners_stands}
-
-lt_true : (a b : ℤ) → int_lt a b ≡ true → a <ℤ b
-lt_true a b h = grind (arith, ints)
-
-lt_false : (a b : ℤ) → int_lt a b ≡ false → b ≤ℤ a
-lt_false a b h = grind (arith, ints)
 
 -- no number is below zero
 abbrev IsNatural : Interval → Type 0
@@ -118,15 +112,6 @@ shifted_left_stands k s t a b c h p q i e =
 
 -- ---- `>>`
 
-rises : (a b m : ℕ) → 0 < m → a ≤ b → a / m ≤ b / m
-rises a b m h k = let e = div-add-mod' a m in le-div (a / m) b m h (omega arith)
-
-falls : (a m n : ℕ) → 0 < m → m ≤ n → a / n ≤ a / m
-falls a m n h k =
-    let e = div-add-mod' a n in
-    let l : a / n * m ≤ a / n * n = mul-le (a / n) m (a / n) n (omega arith) k in
-    le-div (a / n) a m h (omega arith)
-
 number_rises : (a b n : ℤ) → a ≤ℤ b → halved a n ≤ℤ halved b n
 number_rises (pos a) (pos b) n h = let r = rises a b (2 ^ unsigned_abs n) (pow_pos (unsigned_abs n)) (omega (arith, ints)) in omega (arith, ints)
 number_rises (pos a) (negsuc b) n h = absurd (omega (arith, ints))
@@ -175,9 +160,6 @@ halved_fits k (negsuc a) b h i =
     let o = of_type k (negsuc a) i in
     let r = falls a 1 (2 ^ unsigned_abs b) (omega arith) (pow_pos (unsigned_abs b)) in
     in_type_between k _ (omega (arith, ints)) (omega (arith, ints))
-
-some_same : (a b : ℤ) → Some a ≡ Some b → a ≡ b
-some_same a b e = cc
 
 halves_at : (k : IntType) (a b c : ℤ) (count : Bool) → is_count k b ≡ count → cond count (Some (halved a b)) None ≡ Some c → (is_count k b ≡ true) × (halved a b ≡ c)
 halves_at k a b c true p e = (p, some_same _ _ e)
