@@ -1,0 +1,10 @@
+pub mod Kit
+pub mod Corners
+pub mod Products
+pub mod Quotients
+pub mod Remainders
+pub mod Bits
+pub mod Shifts
+pub mod Relations
+pub mod Operations
+mod Outside

@@ -1,0 +1,6 @@
+//! Laws of the domain of intervals.
+#![tactic(auto)]
+
+mod theorems;
+
+pub use theorems::{intervals_are_monotone, intervals_are_sound};

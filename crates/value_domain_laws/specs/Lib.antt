@@ -1,0 +1,11 @@
+pub mod Consistency
+pub mod JoinLaws
+pub mod PointerLaws
+pub mod BaseLaws
+pub mod ZeroLaws
+pub mod ValueLaws
+pub mod Meaning
+pub mod PointerMeaning
+pub mod EqualityMeaning
+pub mod ValueMeaning
+pub mod ZeroMeaning
