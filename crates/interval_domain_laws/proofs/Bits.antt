@@ -29,7 +29,7 @@ rem_own (pos n) m p q = let r : n < m = omega (arith, ints) in ap pos (mod-eq_of
 rem_own (negsuc n) m p q = absurd (omega (arith, ints))
 
 -- a number of the type is left as it is
-wrap_own : (k : IntType) (z : ℤ) → is_size k.bytes ≡ true → least_of k ≤ℤ z → z ≤ℤ greatest_of k → wrap_into k z ≡ z
+pub wrap_own : (k : IntType) (z : ℤ) → is_size k.bytes ≡ true → least_of k ≤ℤ z → z ≤ℤ greatest_of k → wrap_into k z ≡ z
 wrap_own k z h p q =
     let e : (least_of k +ℤ pos (modulus k)) ≡ (greatest_of k +ℤ pos 1) = size_of_range k.bytes k.signed h in
     let r : int_rem_euclid (z -ℤ least_of k) (pos (modulus k)) ≡ (z -ℤ least_of k) = rem_own (z -ℤ least_of k) (modulus k) (omega (arith, ints)) (omega (arith, ints)) in

@@ -7,4 +7,8 @@ pub mod Bits
 pub mod Shifts
 pub mod Relations
 pub mod Operations
+pub mod Single
+pub mod BestResults
+pub mod BestSingles
+pub mod Rounding
 mod Outside

@@ -75,7 +75,7 @@ interval_monotone = record {
 
 -- ---- numbers of the operands
 
-spans_stand : (op : IntOp) (k : IntType) (s t : Span) (a b c : ℤ) → is_size k.bytes ≡ true → Stands (Of s) a → Stands (Of t) b → in_type k a ≡ true → binary_result op k a b ≡ Some c → Stands (arith_spans op k s t) c
+pub spans_stand : (op : IntOp) (k : IntType) (s t : Span) (a b c : ℤ) → is_size k.bytes ≡ true → Stands (Of s) a → Stands (Of t) b → in_type k a ≡ true → binary_result op k a b ≡ Some c → Stands (arith_spans op k s t) c
 spans_stand Add k s t a b c h p q i e = sums_stands k s t a b c h p q e
 spans_stand Sub k s t a b c h p q i e = differences_stands k s t a b c h p q e
 spans_stand Mul k s t a b c h p q i e = products_stands k s t a b c h p q e
@@ -92,7 +92,7 @@ arith_stands op k Bottom y a b c h p q i e = absurd p
 arith_stands op k (Of s) Bottom a b c h p q i e = absurd q
 arith_stands op k (Of s) (Of t) a b c h p q i e = spans_stand op k s t a b c h p q i e
 
-mirrored_stands : (k : IntType) (s : Span) (a : ℤ) → Stands (Of s) a → in_type k a ≡ true → Stands (unary_span Compl k s) ((least_of k +ℤ greatest_of k) -ℤ a)
+pub mirrored_stands : (k : IntType) (s : Span) (a : ℤ) → Stands (Of s) a → in_type k a ≡ true → Stands (unary_span Compl k s) ((least_of k +ℤ greatest_of k) -ℤ a)
 mirrored_stands k s a p i = let o = of_type k a i in clamped_stands k _ _ _ (omega (arith, ints)) (omega (arith, ints)) (in_type_between k _ (omega (arith, ints)) (omega (arith, ints)))
 
 span_stands : (op : UnOp) (k : IntType) (s : Span) (a c : ℤ) → is_size k.bytes ≡ true → Stands (Of s) a → in_type k a ≡ true → unary_result op k a ≡ Some c → Stands (unary_span op k s) c

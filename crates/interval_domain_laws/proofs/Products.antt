@@ -72,7 +72,7 @@ among_times_right x y a b p q =
     (subst (λ z. LiesAmong (x *ℤ a) z (a *ℤ b)) (*ℤ_comm y a)
     (subst (λ z. LiesAmong (x *ℤ a) (y *ℤ a) z) (*ℤ_comm b a) (among_times x y b a p q)))
 
-times_at_ends : (s t : Span) → HasExtremesAtEnds (λ a b. a *ℤ b) s t
+pub times_at_ends : (s t : Span) → HasExtremesAtEnds (λ a b. a *ℤ b) s t
 times_at_ends s t = record {
   left = λ a b p q. among_times s.lo s.hi a b p.0 p.1;
   right = λ a b p q. among_times_right t.lo t.hi a b q.0 q.1;

@@ -91,10 +91,10 @@ by_stands s (Of t) a b h p q = corners_stands int_div s t a b (quotients_at_ends
 
 -- ---- by both
 
-abbrev below_zero : Span → Interval
+abbrev pub below_zero : Span → Interval
 below_zero t = between_or_empty t.lo (int_min t.hi (negsuc 0))
 
-abbrev above_zero : Span → Interval
+abbrev pub above_zero : Span → Interval
 above_zero t = between_or_empty (int_max t.lo (pos 1)) t.hi
 
 below_apart : (t : Span) → IsApart (below_zero t)

@@ -3,4 +3,6 @@
 
 mod theorems;
 
-pub use theorems::{intervals_are_monotone, intervals_are_sound};
+pub use theorems::{
+    intervals_are_monotone, intervals_are_sound, results_are_best, rounding_is_least,
+};

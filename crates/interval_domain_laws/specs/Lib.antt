@@ -1,0 +1,2 @@
+pub mod BestResults
+pub mod NotBest
