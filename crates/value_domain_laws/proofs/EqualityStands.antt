@@ -12,15 +12,18 @@ use Rattle.cc_base.specs.IntegerDomains.{IntegersOf, BoundLaws}
 use Rattle.cc_base.specs.NumberRanges.{Range, ranges_meet, ranges_same_one}
 use Rattle.cc_base.specs.Truths.{tri_of, can_hold, can_fail}
 use Rattle.cc_base.specs.declared.integer_operators.Tri.TheVariants.{Never}
-use Rattle.pointer_domain.specs.BaseSets.{no_base, word_of, word_meets, bases_has, bases_meet, bases_empty}
+use Rattle.pointer_domain.specs.BaseSets.{no_base, word_of, word_meets, bases_has, bases_meet, bases_empty, bases_count, bases_within}
+use Rattle.pointer_domain.specs.BaseFacts.{within_has}
 use Rattle.pointer_domain.specs.PointerTables.{offsets, is_any, is_only_null, can_equal, same_one_base, must_equal, can_differ, pointers_equal}
 use Rattle.pointer_domain.specs.declared.base_sets.Bases.{Bases}
 use Rattle.pointer_domain.specs.declared.pointer_sets.Pointers.{Pointers}
 use Rattle.value_domain_laws.specs.Meaning.{IsInto}
 use Rattle.value_domain_laws.specs.EqualityMeaning.{EqualityMeaning}
+use Rattle.value_domain_laws.specs.BaseMeaning.{IsBase}
 use Rattle.value_domain_laws.proofs.Flags.{or_left, or_right, holds_of, fails_of}
 use Rattle.value_domain_laws.proofs.Bases.{sets_meet, empty_within}
 use Rattle.value_domain_laws.proofs.Renames.{word_in}
+use Rattle.value_domain_laws.proofs.BaseChanges.{only_base}
 use Rattle.value_domain_laws.proofs.Numbers.{RangeHas}
 use Rattle.value_domain_laws.proofs.PointerStands.{offsets_have}
 
@@ -67,13 +70,13 @@ meets_in false false false false false true g s t h = or_right (word_meets s.wor
 meets_in false false false false false false true s t h = or_right (word_meets s.word0 t.word0) (meet1 s t) (or_right (word_meets s.word1 t.word1) (meet2 s t) (or_right (word_meets s.word2 t.word2) (meet3 s t) (or_right (word_meets s.word3 t.word3) (meet4 s t) (or_right (word_meets s.word4 t.word4) (meet5 s t) (or_right (word_meets s.word5 t.word5) (meet6 s t) (or_left (word_meets s.word6 t.word6) (meet7 s t) h))))))
 meets_in false false false false false false false s t h = or_right (word_meets s.word0 t.word0) (meet1 s t) (or_right (word_meets s.word1 t.word1) (meet2 s t) (or_right (word_meets s.word2 t.word2) (meet3 s t) (or_right (word_meets s.word3 t.word3) (meet4 s t) (or_right (word_meets s.word4 t.word4) (meet5 s t) (or_right (word_meets s.word5 t.word5) (meet6 s t) (or_right (word_meets s.word6 t.word6) (meet7 s t) h))))))
 
-common_base : (s t : Bases) (n : ℕ) → bases_has s n ≡ true → bases_has t n ≡ true → bases_meet s t ≡ true
+pub common_base : (s t : Bases) (n : ℕ) → bases_has s n ≡ true → bases_has t n ≡ true → bases_meet s t ≡ true
 common_base s t n h k =
     let i = n / 128 in
     meets_in (i == 0) (i == 1) (i == 2) (i == 3) (i == 4) (i == 5) (i == 6) s t
     (meets_at (word_of s (n / 128)) (word_of t (n / 128)) (n % 128) (eqb-true (bit_at (word_of s (n / 128)) (n % 128)) 1 h) (eqb-true (bit_at (word_of t (n / 128)) (n % 128)) 1 k))
 
-has_some : (s : Bases) (n : ℕ) → bases_has s n ≡ true → bases_empty s ≡ false
+pub has_some : (s : Bases) (n : ℕ) → bases_has s n ≡ true → bases_empty s ≡ false
 has_some s n h = elim (cases_Bool (bases_empty s)) [
   | inl e ↦ (let w = empty_within s no_base e in let m : bases_meet no_base no_base ≡ true = sets_meet s s no_base no_base w w (common_base s s n h h) in let f : false ≡ true = m in cc)
   | inr e ↦ e
@@ -158,6 +161,17 @@ module _ {I : Type 0} {l : LatticeOf I} {n : IntegersOf I} {stands : I → ℤ �
       (λ x y. into_not_only p base low offset high h x)
       (λ x e. f (same_one_has (offsets n p) (offsets n q) offset place (offsets_have b p base low offset high h) (offsets_have b q other least place most k) e))
 
+  -- two pointers that must be the same are into one base of one instance
+  instances_fail : (p q : Pointers I) (single : Bases) (base other : ℕ) (low offset high least place most : ℤ) → IsBase base → IsBase other → IsInto stands p base low offset high → IsInto stands q other least place most → (base ≡ other → bases_has single base ≡ true → ⊥) → can_fail (pointers_equal n p q single) ≡ true
+  instances_fail p q single base other low offset high least place most i j h k f = there_fails (is_any p && is_any q) (can_equal n p q) (can_differ n p q single) (and_from (is_any p) (is_any q) (into_any p base low offset high h) (into_any q other least place most k))
+      (and_from (not (is_only_null p && is_only_null q)) (not (must_equal n p q single)) (not_both (is_only_null p) (is_only_null q) (λ x y. into_not_only p base low offset high h x)) (not_one (must_equal n p q single) (λ e.
+      let a = and_parts (same_one_base p q single) (not (p.null || q.null) && ranges_same_one (offsets n p) (offsets n q)) e in
+      let c = and_parts (bases_count p.bases == 1) (bases_within p.bases q.bases && (bases_within q.bases p.bases && bases_within p.bases single)) a.0 in
+      let d = and_parts (bases_within p.bases q.bases) (bases_within q.bases p.bases && bases_within p.bases single) c.1 in
+      let w = and_parts (bases_within q.bases p.bases) (bases_within p.bases single) d.1 in
+      only_base p.bases base other i j (eqb-true (bases_count p.bases) 1 c.0) h.among (within_has q.bases p.bases other w.0 k.among)
+      (λ (x : base ≡ other). f x (within_has p.bases single base w.1 h.among)))))
+
   nulls_hold : (p q : Pointers I) (single : Bases) → p.null ≡ true → q.null ≡ true → can_hold (pointers_equal n p q single) ≡ true
   nulls_hold p q single h k = holds_by p q single (null_any p h) (null_any q k) (or_left (p.null && q.null) (bases_meet p.bases q.bases && ranges_meet (offsets n p) (offsets n q)) (and_from p.null q.null h k))
 
@@ -175,6 +189,7 @@ module _ {I : Type 0} {l : LatticeOf I} {n : IntegersOf I} {stands : I → ℤ �
   equality_meaning = record {
     same_holds = same_holds;
     apart_fails = apart_fails;
+    instances_fail = instances_fail;
     nulls_hold = nulls_hold;
     null_fails = null_fails;
     to_null_fails = to_null_fails;

@@ -12,7 +12,9 @@ pub mod ValueOperations
 pub mod Joins
 pub mod Numbers
 pub mod PointerStands
+pub mod BaseChanges
 pub mod EqualityStands
+pub mod Ends
 pub mod ValueStands
 pub mod ZeroStands
 pub mod Together

@@ -23,10 +23,10 @@ use Rattle.value_domain_laws.proofs.Bases.{words_within, empty_below, empty_with
 
 -- ---- words
 
-bit_less : (a b i : ℕ) → word_within a b ≡ true → bit_at a i ≤ bit_at b i
+pub bit_less : (a b i : ℕ) → word_within a b ≡ true → bit_at a i ≤ bit_at b i
 bit_less a b i h = let f = bit_at_or a b i in let g : bit_at (bit_or a b) i ≡ bit_at b i = ap (λ z. bit_at z i) (eqb-true (bit_or a b) b h) in omega arith
 
-within_from : (a b : ℕ) → ((i : ℕ) → bit_at a i ≤ bit_at b i) → word_within a b ≡ true
+pub within_from : (a b : ℕ) → ((i : ℕ) → bit_at a i ≤ bit_at b i) → word_within a b ≡ true
 within_from a b f = eq-eqb (bit_or a b) b (same_from_bits (bit_or a b) b (λ i. let g = bit_at_or a b i in let h = f i in omega arith))
 
 and_within : (a b m : ℕ) → word_within a b ≡ true → word_within (bit_and a m) (bit_and b m) ≡ true
@@ -75,7 +75,7 @@ module _ (s t : Bases) (h : bases_within s t ≡ true) where
       word_at (i == 0) _ _ _ _ w.at0 (word_at (i == 1) _ _ _ _ w.at1 (word_at (i == 2) _ _ _ _ w.at2 (word_at (i == 3) _ _ _ _ w.at3
       (word_at (i == 4) _ _ _ _ w.at4 (word_at (i == 5) _ _ _ _ w.at5 (word_at (i == 6) _ _ _ _ w.at6 w.at7))))))
 
-  with_within : (i v w : ℕ) → word_within v w ≡ true → bases_within (with_word s i v) (with_word t i w) ≡ true
+  pub with_within : (i v w : ℕ) → word_within v w ≡ true → bases_within (with_word s i v) (with_word t i w) ≡ true
   with_within i v w k =
       let a = words_within s t h in
       pair_at (i == 0) _ _ _ _ (and_from _ _ k (and_from _ _ a.at1 (and_from _ _ a.at2 (and_from _ _ a.at3 (and_from _ _ a.at4 (and_from _ _ a.at5 (and_from _ _ a.at6 a.at7)))))))
@@ -111,7 +111,7 @@ own_in false false false false false false true s = refl
 own_in false false false false false false false s = refl
 
 -- a word that is the set's own changes nothing
-own_word : (s : Bases) (i : ℕ) → with_word s i (word_of s i) ≡ s
+pub own_word : (s : Bases) (i : ℕ) → with_word s i (word_of s i) ≡ s
 own_word s i = own_in (i == 0) (i == 1) (i == 2) (i == 3) (i == 4) (i == 5) (i == 6) s
 
 under_word : (s t : Bases) (i w : ℕ) → bases_within s t ≡ true → word_within (word_of s i) w ≡ true → bases_within s (with_word t i w) ≡ true

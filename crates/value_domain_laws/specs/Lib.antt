@@ -6,6 +6,7 @@ pub mod ZeroLaws
 pub mod ValueLaws
 pub mod Meaning
 pub mod PointerMeaning
+pub mod BaseMeaning
 pub mod EqualityMeaning
 pub mod ValueMeaning
 pub mod ZeroMeaning
