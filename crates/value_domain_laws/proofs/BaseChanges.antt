@@ -1,11 +1,11 @@
 -- What a set without a base has, and that a set of one base has no other.
-use Rattle.std.specs.Prelude.{◌≡◌, ℕ, ◌-◌, ◌/◌, ◌%◌, ◌^◌, ◌<◌, ◌≤◌, Bool, true, false, ◌==◌, bit_and, bit_or, ◌≢◌, refl}
+use Rattle.std.specs.Prelude.{◌≡◌, ℕ, ◌-◌, ◌/◌, ◌%◌, ◌^◌, ◌<◌, Bool, true, false, ◌==◌, bit_and, bit_or, ◌≢◌, refl}
 use Rattle.std.specs.Int.{bit_at, bit_not, w128}
 use Rattle.std.proofs.Common.{arith, ap, ◌∙◌, sym, subst, inl, inr}
 use Rattle.std.proofs.lemmas.Nat.{pow_below}
 use Rattle.std.proofs.lemmas.Nat.Bits.{bit_at_or, bit_at_and, bit_at_not, bit_at-lt, bit_at-pow_same, bit_at-pow_other, bit_at-zero}
 use Rattle.std.proofs.lemmas.Bool.{cases_Bool, eqb-true, cases_order}
-use Rattle.pointer_domain.specs.BaseSets.{no_base, word_of, with_word, word_within, bases_has, bases_with, bases_without, bases_within, bases_empty, bases_count}
+use Rattle.pointer_domain.specs.BaseSets.{no_base, word_of, word_within, bases_has, bases_with, bases_without, bases_within, bases_empty, bases_count}
 use Rattle.pointer_domain.specs.BaseFacts.{word_of_same, word_of_other, with_has_same, with_has_other}
 use Rattle.pointer_domain.specs.BaseLattice.{bases_order}
 use Rattle.pointer_domain.specs.declared.base_sets.Bases.{Bases}

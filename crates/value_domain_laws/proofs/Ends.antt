@@ -1,11 +1,11 @@
 -- Pointer parts whose bases are renamed or have ended stand for what that makes of each pointer.
 use Rattle.std.specs.Prelude.{◌≡◌, ℕ, ℤ, Bool, true, false, cond, refl}
-use Rattle.std.proofs.Common.{arith, ◌∙◌, sym, subst, inl, inr}
+use Rattle.std.proofs.Common.{arith, ◌∙◌, subst, inl, inr}
 use Rattle.std.proofs.lemmas.Bool.{cases_Bool, cases_order}
 use Rattle.cc_base.specs.Lattices.{LatticeOf}
 use Rattle.pointer_domain.specs.BaseSets.{bases_has, bases_with, bases_without, bases_empty}
 use Rattle.pointer_domain.specs.BaseFacts.{with_has_same, with_has_other}
-use Rattle.pointer_domain.specs.PointerTables.{renamed, without_bases, if_any_base, ended_at}
+use Rattle.pointer_domain.specs.PointerTables.{without_bases, if_any_base}
 use Rattle.pointer_domain.specs.declared.base_sets.Bases.{Bases}
 use Rattle.pointer_domain.specs.declared.pointer_sets.Pointers.{Pointers}
 use Rattle.value_domain_laws.specs.Meaning.{IsInto}

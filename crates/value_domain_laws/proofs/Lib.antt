@@ -17,4 +17,6 @@ pub mod EqualityStands
 pub mod Ends
 pub mod ValueStands
 pub mod ZeroStands
+pub mod LabelStands
+pub mod Larger
 pub mod Together

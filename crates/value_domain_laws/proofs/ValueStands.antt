@@ -1,6 +1,5 @@
 -- Values stand for what the operations do to their numbers.
 use Rattle.std.specs.Prelude.{◌≡◌, ℤ, pos, true, not, ◌||◌, Some, None}
-use Rattle.std.proofs.Common.{arith}
 use Rattle.std.proofs.lemmas.Bool.{and_parts}
 use lib.Signed.{≤ℤ_refl}
 use Rattle.cc_base.specs.Lattices.{LatticeOf}
@@ -26,15 +25,16 @@ single_below : (a : ℤ) (r : Range) → RangeHas r a → RangeBelow (Some (a, a
 single_below a None h = absurd h
 single_below a (Some p) h = (h.0, h.1)
 
-module _ {I : Type 0} {l : LatticeOf I} {n : IntegersOf I} {stands : I → ℤ → Type 0} (b : BoundLaws l n stands) (s : SoundLaws l n stands) where
-  single : (x : I) (a : ℤ) → stands x a → RangeBelow (Some (a, a)) (n.bounds x)
+module _ {I : Type 0} {l : LatticeOf I} {n : IntegersOf I} {stands : I → ℤ → Type 0} (b : BoundLaws l n stands) where
+  pub single : (x : I) (a : ℤ) → stands x a → RangeBelow (Some (a, a)) (n.bounds x)
   single x a h = single_below a (n.bounds x) (bounds_have b x a h)
 
+module _ {I : Type 0} {l : LatticeOf I} {n : IntegersOf I} {stands : I → ℤ → Type 0} (b : BoundLaws l n stands) (s : SoundLaws l n stands) where
   leaves_stand : (op : IntOp) (k : IntType) (x y : Value I) (a c : ℤ) → stands x.num a → stands y.num c → corners_leave op k (a, a) (c, c) ≡ true → ranges_leave op k (n.bounds x.num) (n.bounds y.num) ≡ true
-  leaves_stand op k x y a c h j e = leave_more op k (Some (a, a)) (Some (c, c)) (n.bounds x.num) (n.bounds y.num) (≤ℤ_refl a) (≤ℤ_refl c) (single x.num a h) (single y.num c j) e
+  leaves_stand op k x y a c h j e = leave_more op k (Some (a, a)) (Some (c, c)) (n.bounds x.num) (n.bounds y.num) (≤ℤ_refl a) (≤ℤ_refl c) (single b x.num a h) (single b y.num c j) e
 
   fits_stand : (k : IntType) (x : Value I) (a : ℤ) → stands x.num a → range_fits k (n.bounds x.num) ≡ true → in_type k a ≡ true
-  fits_stand k x a h e = let p = and_parts (in_type k a) (in_type k a) (fits_less k (Some (a, a)) (n.bounds x.num) (≤ℤ_refl a) (single x.num a h) e) in p.0
+  fits_stand k x a h e = let p = and_parts (in_type k a) (in_type k a) (fits_less k (Some (a, a)) (n.bounds x.num) (≤ℤ_refl a) (single b x.num a h) e) in p.0
 
   holds_at : (x : Value I) → (can_hold (n.compare Ne x.num (n.one (pos 0))) || (not (bases_empty x.pointer.bases) || x.pointer.ended)) ≡ true → can_hold (value_truth n x) ≡ true
   holds_at x h = holds_of (can_hold (n.compare Ne x.num (n.one (pos 0))) || (not (bases_empty x.pointer.bases) || x.pointer.ended)) (can_fail (n.compare Ne x.num (n.one (pos 0))) || x.pointer.null) h

@@ -10,3 +10,5 @@ pub mod BaseMeaning
 pub mod EqualityMeaning
 pub mod ValueMeaning
 pub mod ZeroMeaning
+pub mod LabelMeaning
+pub mod LargerMeaning

@@ -12,9 +12,12 @@ ghost use Rattle.value_domain_laws.specs.BaseLaws.{BaseLaws};
 ghost use Rattle.value_domain_laws.specs.ZeroLaws.{ZeroLaws};
 ghost use Rattle.value_domain_laws.specs.ValueLaws.{ValueLaws};
 ghost use Rattle.value_domain_laws.specs.PointerMeaning.{PointerMeaning};
+ghost use Rattle.value_domain_laws.specs.BaseMeaning.{WithoutMeaning, RenameMeaning, EndMeaning};
 ghost use Rattle.value_domain_laws.specs.EqualityMeaning.{EqualityMeaning};
 ghost use Rattle.value_domain_laws.specs.ValueMeaning.{ValueMeaning};
 ghost use Rattle.value_domain_laws.specs.ZeroMeaning.{ZeroMeaning};
+ghost use Rattle.value_domain_laws.specs.LabelMeaning.{LabelMeaning};
+ghost use Rattle.value_domain_laws.specs.LargerMeaning.{LargerMeaning};
 
 use cc_base::IntDomain;
 
@@ -52,8 +55,16 @@ pub fn pointers_are_sound<I: IntDomain>()
     ensures { SoundLaws I.lattice I.numbers I.stands → PointerMeaning I.lattice I.numbers I.stands }
 {}
 
-/// Equality of pointer parts may hold for pointers that are the same and for two nulls, and fail for null beside a pointer and
-/// for pointers at different offsets.
+/// A set without a base has all others. Pointer parts of which a base is renamed, or has ended, stand for what that makes of
+/// each pointer.
+pub fn bases_are_sound<I: IntDomain>()
+    ensures sets { WithoutMeaning }
+    ensures renaming { RenameMeaning I.stands }
+    ensures ending { EndMeaning I.lattice I.stands }
+{}
+
+/// Equality of pointer parts may hold for pointers that are the same and for two nulls, and fail for null beside a pointer,
+/// for pointers at different offsets and for pointers into two instances.
 pub fn equality_is_sound<I: IntDomain>()
     ensures { EqualityMeaning I.numbers I.stands }
 {}
@@ -67,4 +78,14 @@ pub fn values_are_sound<I: IntDomain>()
 /// answers finds a string within its bounds, and its length.
 pub fn zeros_are_sound<I: IntDomain>()
     ensures { ZeroMeaning I.lattice I.numbers I.stands }
+{}
+
+/// Labels spread from operands to results, and the labels of a result are among those of the value that stands for it.
+pub fn labels_are_sound<I: IntDomain>()
+    ensures { LabelMeaning I.lattice I.numbers I.stands }
+{}
+
+/// A larger pointer part, first zero, value, allocation state or cell stands for at least as much.
+pub fn larger_values_stand_for_more<I: IntDomain>()
+    ensures { LargerMeaning I.stands I.lattice }
 {}
