@@ -23,12 +23,15 @@ use Rattle.value_domain.specs.ValueTables.{blank_value}
 use Rattle.store_domain.specs.ScalarTypes.{kind_of, class_bytes}
 use Rattle.store_domain.specs.ClassNumbers.{is_pointer}
 use Rattle.store_domain.specs.Loads.{labels_of}
-use Rattle.store_domain.specs.CellReads.{same_sign, joined, whole_range, as_read, only_flag, byte_read}
+use Rattle.store_domain.specs.CellReads.{same_sign, joined, whole_range, as_read, as_stored, only_flag, byte_read}
 use Rattle.store_domain.specs.ByteWrites.{null_pointer, labelled_null, byte_written}
-use Rattle.spike_monotone.specs.MonotoneLaws.{MonotoneLaws}
-use Rattle.spike_monotone.specs.RangeOrder.{RangeBelow, below_of_bounds}
-use Rattle.spike_monotone.specs.ValueOrder.{ValueBelow, value_parts, value_below, pointer_parts, pointers_below, flag_sets}
-use Rattle.spike_monotone.specs.NearOrder.{top_number, top_value}
+use Rattle.cc_base.specs.IntegerLaws.{MonotoneLaws}
+use Rattle.value_domain_laws.proofs.Ranges.{RangeBelow}
+use Rattle.store_domain_laws.proofs.AddedRanges.{below_of_bounds}
+use Rattle.value_domain_laws.proofs.Parts.{ValueBelow, value_parts, value_below, pointer_parts, pointers_below}
+use Rattle.value_domain_laws.proofs.Flags.{flag_sets}
+use Rattle.store_domain_laws.specs.TopCells.{top_number, top_value}
+use Rattle.store_domain_laws.specs.RowsBelow.{ReadBelow}
 
 -- ---- all numbers of a type lie from -2^64 to 2^64
 
@@ -77,13 +80,6 @@ flag_top false = refl
 pub labels_top : (s : Labels) → labels_leq s all_labels ≡ true
 labels_top s = and_from _ _ (flag_top s.lo) (and_from _ _ (flag_top s.hi) (flag_top s.mutated))
 
-module _ {I : Type 0} (l : LatticeOf I) where
-  -- what one place gives below what another gives
-  abbrev pub ReadBelow : Option (Value I) → Option (Value I) → Type 0
-  ReadBelow None y = Unit {0}
-  ReadBelow (Some v) None = ⊥
-  ReadBelow (Some v) (Some w) = (value_lattice l).leq v w ≡ true
-
 module _ {I : Type 0} {l : LatticeOf I} {n : IntegersOf I} {stands : I → ℤ → Type 0} (o : OrderLaws l) (b : BoundLaws l n stands) where
   join_monotone : (v w x y : Value I) → (value_lattice l).leq v x ≡ true → (value_lattice l).leq w y ≡ true → (value_lattice l).leq ((value_lattice l).join v w) ((value_lattice l).join x y) ≡ true
   join_monotone v w x y h k = (value_order o).join_least v w ((value_lattice l).join x y) ((value_order o).transitive v x ((value_lattice l).join x y) h ((value_order o).join_left x y)) ((value_order o).transitive w y ((value_lattice l).join x y) k ((value_order o).join_right x y))
@@ -123,7 +119,16 @@ module _ {I : Type 0} {l : LatticeOf I} {n : IntegersOf I} {stands : I → ℤ �
       same_way : (t : Bool) → (value_lattice l).leq (cond t v (record v { num = n.convert v.num (kind_of m class to) })) (cond t w (record w { num = n.convert w.num (kind_of m class to) })) ≡ true
       same_way true = h
       same_way false = let p = value_parts l v w h in value_below l (record v { num = n.convert v.num (kind_of m class to) }) (record w { num = n.convert w.num (kind_of m class to) })
-          (record { num = g.convert_monotone v.num w.num (kind_of m class to) p.num; pointer = p.pointer; indeterminate = p.indeterminate; labels = p.labels })
+          (record { num = g.convert_monotone (kind_of m class to) v.num w.num (size_is m class) p.num; pointer = p.pointer; indeterminate = p.indeterminate; labels = p.labels })
+
+  -- a value that is stored into a cell of a signedness
+  pub stored_in_monotone : MonotoneLaws l n → (m : Model) (class : Class) (to : Bool) (v w : Value I) → (value_lattice l).leq v w ≡ true → (value_lattice l).leq (as_stored n m v class to) (as_stored n m w class to) ≡ true
+  stored_in_monotone g m class to v w h = same_way (is_pointer class)
+    where
+      same_way : (t : Bool) → (value_lattice l).leq (cond t v (record v { num = n.convert v.num (kind_of m class to) })) (cond t w (record w { num = n.convert w.num (kind_of m class to) })) ≡ true
+      same_way true = h
+      same_way false = let p = value_parts l v w h in value_below l (record v { num = n.convert v.num (kind_of m class to) }) (record w { num = n.convert w.num (kind_of m class to) })
+          (record { num = g.convert_monotone (kind_of m class to) v.num w.num (size_is m class) p.num; pointer = p.pointer; indeterminate = p.indeterminate; labels = p.labels })
 
   flag_monotone : (p q : Bool) → flag_leq p q ≡ true → (value_lattice l).leq (only_flag l p) (only_flag l q) ≡ true
   flag_monotone true true h = (value_order o).reflexive (blank_value l)
@@ -180,6 +185,14 @@ module _ {I : Type 0} {l : LatticeOf I} {n : IntegersOf I} {stands : I → ℤ �
 
   pub read_top : RangeLaws l n → (all : Bases) (m : Model) (class : Class) (from to : Bool) (v : Value I) → (value_lattice l).leq v (top_value n all) ≡ true → (value_lattice l).leq (as_read n m v class from to) (top_value n all) ≡ true
   read_top g all m class from to v h = cond_both (is_pointer class || same_sign from to) v (record v { num = n.convert v.num (kind_of m class to) }) (λ x. (value_lattice l).leq x (top_value n all) ≡ true)
+      (λ e. h)
+      (λ e. let p = value_parts l v (top_value n all) h in
+      let k = kind_ends m class to in
+      value_below l (record v { num = n.convert v.num (kind_of m class to) }) (top_value n all)
+      (record { num = fits_top (n.convert v.num (kind_of m class to)) (least_of (kind_of m class to)) (greatest_of (kind_of m class to)) k.0 k.1 (λ a c q. g.convert_fits v.num (kind_of m class to) a c (size_is m class) q); pointer = p.pointer; indeterminate = p.indeterminate; labels = p.labels }))
+
+  pub stored_in_top : RangeLaws l n → (all : Bases) (m : Model) (class : Class) (to : Bool) (v : Value I) → (value_lattice l).leq v (top_value n all) ≡ true → (value_lattice l).leq (as_stored n m v class to) (top_value n all) ≡ true
+  stored_in_top g all m class to v h = cond_both (is_pointer class) v (record v { num = n.convert v.num (kind_of m class to) }) (λ x. (value_lattice l).leq x (top_value n all) ≡ true)
       (λ e. h)
       (λ e. let p = value_parts l v (top_value n all) h in
       let k = kind_ends m class to in

@@ -11,13 +11,11 @@ use Rattle.value_domain.specs.declared.row_cells.Cell.TheVariants.{Nothing, Valu
 use Rattle.value_domain.specs.Values.{value_lattice, value_order}
 use Rattle.value_domain.specs.Cells.{cell_lattice, cell_leq, cell_order}
 use Rattle.store_domain.specs.RowPositions.{cell_at, value_at, put_value, join_value, write_value}
-use Rattle.spike_monotone.specs.RowOrder.{set_monotone, set_above, set_below}
-use Rattle.spike_monotone.specs.NearOrder.{top_value, value_at_monotone, value_at_top, cell_below_at}
+use Rattle.store_domain_laws.proofs.Rows.{set_monotone, set_above, set_below}
+use Rattle.store_domain_laws.specs.RowsBelow.{RowsBelow}
+use Rattle.store_domain_laws.specs.TopCells.{top_value}
+use Rattle.store_domain_laws.proofs.NearCells.{value_at_monotone, value_at_top, cell_below_at}
 
--- a row below another one, and that below the greatest
-pub record RowsBelow {I : Type 0} (l : LatticeOf I) (top r s : List (Cell I)) : Type 0 where
-  pub small : row_leq (cell_lattice l) r s ≡ true
-  pub large : row_leq (cell_lattice l) s top ≡ true
 
 module _ {I : Type 0} {l : LatticeOf I} {n : IntegersOf I} {stands : I → ℤ → Type 0} (o : OrderLaws l) (b : BoundLaws l n stands) (all : Bases) (top : List (Cell I)) (i : ℕ) where
   pub put_pair : (r s : List (Cell I)) (x y : Cell I) → RowsBelow l top r s → cell_leq l x y ≡ true → cell_leq l y (cell_at top i) ≡ true → RowsBelow l top (set r i x) (set s i y)

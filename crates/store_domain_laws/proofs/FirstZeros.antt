@@ -1,7 +1,7 @@
 -- First zeros of two rows in order.
 use Rattle.std.specs.Prelude.{◌≡◌, ℕ, ◌≤◌, ◌-◌, ◌^◌, ℤ, pos, negsuc, ◌≤ℤ◌, true, false, not, int_le, Some, None, List, refl}
 use Rattle.std.specs.Ordering.{int_eq}
-use Rattle.std.proofs.Common.{arith, sym, subst, ap}
+use Rattle.std.proofs.Common.{arith, sym, subst, subst₂, ap}
 use Rattle.std.proofs.lemmas.Int.{ints}
 use Rattle.std.proofs.lemmas.Bool.{and_from, and_parts, not_from_false, false_from_ne_true, not-true}
 use Rattle.std.proofs.lemmas.Bool.Decides.{Decides-int_eq}
@@ -13,12 +13,13 @@ use Rattle.string_domain.specs.FirstZeros.{the_end}
 use Rattle.string_domain.specs.declared.first_zeros.FirstZero.{FirstZero}
 use Rattle.value_domain.specs.declared.row_cells.Cell.{Cell}
 use Rattle.value_domain.specs.declared.row_cells.Cell.TheVariants.{Nothing, Value, First, State, Mixed}
-use Rattle.value_domain.specs.Cells.{cell_lattice, cell_leq}
+use Rattle.value_domain.specs.Cells.{cell_lattice, cell_leq, cell_order}
 use Rattle.store_domain.specs.RowPositions.{cell_at, zero_in, zero_at}
 use Rattle.store_domain.specs.FirstZeroWrites.{lies_up_to}
-use Rattle.spike_monotone.specs.RangeOrder.{RangeBelow}
-use Rattle.spike_monotone.specs.RowOrder.{at_monotone}
-use Rattle.spike_monotone.specs.NearOrder.{top_number, top_zero, near_less, near_is}
+use Rattle.value_domain_laws.proofs.Ranges.{RangeBelow}
+use Rattle.store_domain_laws.proofs.Rows.{at_monotone}
+use Rattle.store_domain_laws.specs.TopCells.{top_number, top_zero}
+use Rattle.store_domain_laws.proofs.NearCells.{near_is}
 
 module _ {I : Type 0} {l : LatticeOf I} {n : IntegersOf I} {stands : I → ℤ → Type 0} (o : OrderLaws l) (b : BoundLaws l n stands) where
   zero_in_monotone : (t : FirstZero I) (x y : Cell I) → cell_leq l x y ≡ true → cell_leq l y (First t) ≡ true → l.leq (zero_in l x).at (zero_in l y).at ≡ true
@@ -70,13 +71,15 @@ module _ {I : Type 0} {l : LatticeOf I} {n : IntegersOf I} {stands : I → ℤ �
     pub zero_at_top : l.leq (zero_at l n s i).at (top_zero n).at ≡ true
     zero_at_top = subst (λ z. l.leq z (top_zero n).at ≡ true) (sym zero_at_is) in_top
 
-    less_at : l.leq (zero_at l n r i).at (zero_in l (cell_at r i)).at ≡ true
+    small_top : cell_leq l (cell_at r i) (First (top_zero n)) ≡ true
+    small_top = (cell_order o).transitive (cell_at r i) (cell_at s i) (First (top_zero n)) (at_monotone l r s i h) first_top
+
+    small_is : (zero_at l n r i).at ≡ (zero_in l (cell_at r i)).at
     unfolding zero_at
-    less_at = near_less o b (zero_in l (cell_at r i)).at
+    small_is = near_is o b (zero_in l (cell_at r i)).at (o.transitive (zero_in l (cell_at r i)).at (top_zero n).at (top_number n) (zero_in_below (top_zero n) (cell_at r i) small_top) zero_near)
 
     pub zero_at_monotone : l.leq (zero_at l n r i).at (zero_at l n s i).at ≡ true
-    zero_at_monotone = subst (λ z. l.leq (zero_at l n r i).at z ≡ true) (sym zero_at_is)
-        (o.transitive (zero_at l n r i).at (zero_in l (cell_at r i)).at (zero_in l (cell_at s i)).at less_at (zero_in_monotone (top_zero n) (cell_at r i) (cell_at s i) (at_monotone l r s i h) first_top))
+    zero_at_monotone = subst₂ (λ x y. l.leq x y ≡ true) (sym small_is) (sym zero_at_is) (zero_in_monotone (top_zero n) (cell_at r i) (cell_at s i) (at_monotone l r s i h) first_top)
 
     pub first_below_at : cell_leq l (cell_at r i) (First (zero_at l n s i)) ≡ true
     first_below_at = subst (λ z. cell_leq l (cell_at r i) (First (record { at = z })) ≡ true) (sym zero_at_is) (first_below_in (top_zero n) (cell_at r i) (cell_at s i) (at_monotone l r s i h) first_top)

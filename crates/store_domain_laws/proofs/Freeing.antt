@@ -1,13 +1,13 @@
 -- Freeing through larger pointers in larger rows leaves larger rows; objects forgotten and cleared.
-use Rattle.std.specs.Prelude.{◌≡◌, ℕ, ◌==◌, ℤ, Bool, true, false, cond, not, ◌&&◌, List, refl}
-use Rattle.std.proofs.Common.{sym, subst}
-use Rattle.std.proofs.lemmas.Bool.{and_from, and_parts, eqb-true, not-true, and_right}
+use Rattle.std.specs.Prelude.{◌≡◌, ℕ, ◌==◌, ℤ, Bool, true, false, cond, not, ◌&&◌, ◌||◌, List, refl}
+use Rattle.std.proofs.Common.{sym, subst, subst₂, inl, inr}
+use Rattle.std.proofs.lemmas.Bool.{and_from, and_parts, or_cases, eqb-true, not-true, and_right}
 use Rattle.cc_base.specs.Lattices.{LatticeOf, OrderLaws}
 use Rattle.cc_base.specs.LatticeParts.{flag_leq, flag_order}
 use Rattle.cc_base.specs.IntegerDomains.{IntegersOf, BoundLaws}
 use Rattle.c_layout.specs.declared.shapes.BaseInfo.{BaseInfo}
 use Rattle.pointer_domain.specs.declared.base_sets.Bases.{Bases}
-use Rattle.pointer_domain.specs.BaseSets.{no_base, bases_within, bases_count}
+use Rattle.pointer_domain.specs.BaseSets.{no_base, bases_within, bases_count, bases_empty}
 use Rattle.pointer_domain.specs.PointerTables.{is_any}
 use Rattle.pointer_domain.specs.declared.pointer_sets.Pointers.{Pointers}
 use Rattle.value_domain.specs.declared.alloc_states.AllocState.{AllocState}
@@ -18,16 +18,18 @@ use Rattle.value_domain.specs.Cells.{cell_leq, cell_order}
 use Rattle.store_domain.specs.RowPositions.{cell_at, state_in, state_at, state_position, put_state, near_state}
 use Rattle.store_domain.specs.LiveBases.{has_base, is_one_instance, single_bases}
 use Rattle.store_domain.specs.Freeing.{freed_state, free_base_if, free_base, free_bases, free}
-use Rattle.spike_monotone.specs.PairedSteps.{EachFrom, walk_pair}
-use Rattle.spike_monotone.specs.RowOrder.{at_monotone}
-use Rattle.spike_monotone.specs.ValueOrder.{PointersBelow, flag_sets}
-use Rattle.spike_monotone.specs.BaseOrder.{has_monotone, one_base_some}
-use Rattle.spike_monotone.specs.NearOrder.{top_number, top_state, near_less, near_is}
-use Rattle.spike_monotone.specs.ZeroOrder.{zero_near}
-use Rattle.spike_monotone.specs.CellSteps.{RowsBelow, put_pair, put_above}
-use Rattle.spike_monotone.specs.Placements.{IsPlaced}
-use Rattle.spike_monotone.specs.StorePlaces.{not_sets}
-use Rattle.spike_monotone.specs.PointerOrder.{has_some, no_count}
+use Rattle.store_domain_laws.specs.Placements.{EachFrom, IsPlaced}
+use Rattle.store_domain_laws.proofs.PairedSteps.{walk_pair}
+use Rattle.store_domain_laws.proofs.Rows.{at_monotone}
+use Rattle.value_domain_laws.proofs.Parts.{PointersBelow}
+use Rattle.value_domain_laws.proofs.Flags.{flag_sets, not_sets}
+use Rattle.store_domain_laws.proofs.LiveSets.{has_monotone}
+use Rattle.store_domain_laws.specs.TopCells.{top_number, top_state}
+use Rattle.store_domain_laws.proofs.NearCells.{near_is}
+use Rattle.store_domain_laws.proofs.FirstZeros.{zero_near}
+use Rattle.store_domain_laws.specs.RowsBelow.{RowsBelow}
+use Rattle.store_domain_laws.proofs.CellSteps.{put_pair, put_above}
+use Rattle.value_domain_laws.proofs.Bases.{one_base, no_count}
 
 module _ {I : Type 0} (l : LatticeOf I) where
   pub record StateBelow (s t : AllocState I) : Type 0 where
@@ -85,13 +87,15 @@ module _ {I : Type 0} {l : LatticeOf I} {n : IntegersOf I} {stands : I → ℤ �
     unfolding state_at
     state_at_is = let v = state_in l (cell_at s i) in let a = near_is o b v.size (o.transitive v.size (top_state n).size (top_number n) (state_parts_of l v (top_state n) in_top).size (zero_near o b)) in λ j. record v { size = a j }
 
-    state_less : (state_lattice l).leq (state_at l n r i) (state_in l (cell_at r i)) ≡ true
+    small_under : cell_leq l (cell_at r i) (State (top_state n)) ≡ true
+    small_under = (cell_order o).transitive (cell_at r i) (cell_at s i) (State (top_state n)) (at_monotone l r s i h.small) under
+
+    small_is : state_at l n r i ≡ state_in l (cell_at r i)
     unfolding state_at
-    state_less = let v = state_in l (cell_at r i) in state_leq l (near_state l n v) v (record { size = near_less o b v.size; live = flag_order.reflexive v.live; freed = flag_order.reflexive v.freed })
+    small_is = let v = state_in l (cell_at r i) in let a = near_is o b v.size (o.transitive v.size (top_state n).size (top_number n) (state_parts_of l v (top_state n) (state_in_below (top_state n) (cell_at r i) small_under)).size (zero_near o b)) in λ j. record v { size = a j }
 
     pub state_at_monotone : (state_lattice l).leq (state_at l n r i) (state_at l n s i) ≡ true
-    state_at_monotone = subst (λ v. (state_lattice l).leq (state_at l n r i) v ≡ true) (sym state_at_is)
-        ((state_order o).transitive (state_at l n r i) (state_in l (cell_at r i)) (state_in l (cell_at s i)) state_less (state_in_monotone (top_state n) (cell_at r i) (cell_at s i) (at_monotone l r s i h.small) under))
+    state_at_monotone = subst₂ (λ v w. (state_lattice l).leq v w ≡ true) (sym small_is) (sym state_at_is) (state_in_monotone (top_state n) (cell_at r i) (cell_at s i) (at_monotone l r s i h.small) under)
 
     pub state_at_top : (state_lattice l).leq (state_at l n s i) (top_state n) ≡ true
     state_at_top = subst (λ v. (state_lattice l).leq v (top_state n) ≡ true) (sym state_at_is) in_top
@@ -129,6 +133,10 @@ module _ {I : Type 0} {l : LatticeOf I} {n : IntegersOf I} {stands : I → ℤ �
     free_pair false true a true m u = absurd (let t : false ≡ true = (u refl refl).0 in cc)
     free_pair false true a false m u = put_above o b no_base top i r s (State (freed_state false (state_at l n s i))) h ((cell_order o).transitive (cell_at r i) (State (state_at l n s i)) (State (freed_state false (state_at l n s i))) state_below_at (kept_below (state_at l n s i))) (freed_top false (state_at l n s i) state_at_top)
 
+  -- a base is there, where something is and the larger one has no null
+  has_some : (p q : Pointers I) → PointersBelow l p q → is_any p ≡ true → q.null ≡ false → bases_empty p.bases ≡ false
+  has_some p q h e f = elim (or_cases (not (bases_empty p.bases)) p.null e) [ inl g ↦ not-true (bases_empty p.bases) g | inr g ↦ absurd (let k = flag_sets p.null q.null h.null g in cc) ]
+
   off : {top : List (Cell I)} (a c : Bool) (x y : List (Cell I)) → a ≡ false → c ≡ false → (s t : List (Cell I)) → RowsBelow l top s t → RowsBelow l top (cond a x s) (cond c y t)
   off false false x y e f s t j = j
   off true c x y e f s t j = absurd (cc)
@@ -143,7 +151,7 @@ module _ {I : Type 0} {l : LatticeOf I} {n : IntegersOf I} {stands : I → ℤ �
       let same : many ≡ true → p.bases ≡ q.bases = λ (e : many ≡ true).
       let a = and_parts (is_one_instance bases q.bases) (not q.null) e in
       let c = and_parts (bases_count q.bases == 1) (bases_within q.bases (single_bases bases)) a.0 in
-      one_base_some p.bases q.bases k.bases (λ (z : bases_count p.bases ≡ 0). (let y = no_count p.bases z in let w = has_some o b p q k x (not-true q.null a.1) in cc)) (eqb-true (bases_count q.bases) 1 c.0) in
+      one_base p.bases q.bases k.bases (λ (z : bases_count p.bases ≡ 0). (let y = no_count p.bases z in let w = has_some p q k x (not-true q.null a.1) in cc)) (eqb-true (bases_count q.bases) 1 c.0) in
       let sure : many ≡ true → few ≡ true = λ (e : many ≡ true).
       let a = and_parts (is_one_instance bases q.bases) (not q.null) e in
       and_from (is_one_instance bases p.bases) (not p.null) (subst (λ t. is_one_instance bases t ≡ true) (sym (same e)) a.0) (not_sets q.null p.null (flag_sets p.null q.null k.null) a.1) in

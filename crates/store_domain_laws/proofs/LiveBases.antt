@@ -15,13 +15,13 @@ use Rattle.value_domain.specs.declared.row_cells.Cell.TheVariants.{Nothing, Valu
 use Rattle.value_domain.specs.Cells.{cell_leq}
 use Rattle.store_domain.specs.RowPositions.{cell_at, state_in, state_at, state_position}
 use Rattle.store_domain.specs.LiveBases.{has_base, is_literal_kind, may_be_live, is_live_in, add_live, live_of, is_writable_in, add_writable, writable_of}
-use Rattle.spike_monotone.specs.PairedSteps.{EachFrom, walk_pair}
-use Rattle.spike_monotone.specs.ValueOrder.{flag_sets}
-use Rattle.spike_monotone.specs.RowOrder.{at_monotone}
-use Rattle.spike_monotone.specs.NearOrder.{top_state}
-use Rattle.spike_monotone.specs.BaseOrder.{has_monotone, with_if_monotone}
-use Rattle.spike_monotone.specs.Placements.{IsPlaced}
-use Rattle.spike_monotone.specs.CellSteps.{RowsBelow}
+use Rattle.store_domain_laws.specs.Placements.{EachFrom, IsPlaced}
+use Rattle.store_domain_laws.proofs.PairedSteps.{walk_pair, any_each}
+use Rattle.value_domain_laws.proofs.Flags.{flag_sets}
+use Rattle.store_domain_laws.proofs.Rows.{at_monotone}
+use Rattle.store_domain_laws.specs.TopCells.{top_state}
+use Rattle.store_domain_laws.proofs.LiveSets.{has_monotone, with_if_monotone}
+use Rattle.store_domain_laws.specs.RowsBelow.{RowsBelow}
 
 module _ {I : Type 0} (l : LatticeOf I) where
   live_in_monotone : (t : AllocState I) (x y : Cell I) → cell_leq l x y ≡ true → cell_leq l y (State t) ≡ true → (state_in l x).live ≡ true → (state_in l y).live ≡ true
@@ -59,10 +59,6 @@ module _ {I : Type 0} (l : LatticeOf I) where
       walk_pair (λ base number. IsPlaced n all top base) (λ x y. bases_within x y ≡ true) (add_live l n r set) (add_live l n s more)
       (λ base number x y q j. with_if_monotone (is_live_in l n r set base number) (is_live_in l n s more base number) number x y (live_in_set_monotone n all top base number set more r s q h k) j)
       0 bases no_base no_base p (bases_order.reflexive no_base)
-
-any_each : {K : Type 0} (at : ℕ) (ks : List K) → EachFrom (λ k i. Unit {0}) at ks
-any_each at [] = tt
-any_each at (k ∷ ks) = (tt, any_each (at + 1) ks)
 
 -- those that are no literals
 pub writable_monotone : (bases : List BaseInfo) (set more : Bases) → bases_within set more ≡ true → bases_within (writable_of bases set) (writable_of bases more) ≡ true

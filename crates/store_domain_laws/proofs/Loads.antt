@@ -27,20 +27,21 @@ use Rattle.store_domain.specs.AccessWindows.{window_of}
 use Rattle.store_domain.specs.LeafSelection.{is_selected, is_other, has_stray, meets_padding}
 use Rattle.store_domain.specs.CellReads.{joined, whole_range, byte_read}
 use Rattle.store_domain.specs.LiveBases.{is_live_in}
-use Rattle.store_domain.specs.Loads.{reaches_class, labels_of, joined_if, read_leaf, load_leaves, load_class_cell, read_other_leaf, load_other_leaves, read_class_cell, load_other_class_cells, load_padding, load_other_bytes, is_text_in, is_text, determinate_if, load_own, load_others, load_base, read_base, load_bases, loaded, load_within, load}
-use Rattle.spike_monotone.specs.MonotoneLaws.{MonotoneLaws}
-use Rattle.spike_monotone.specs.RangeOrder.{RangeBelow, bounds_monotone}
-use Rattle.spike_monotone.specs.PairedSteps.{EachFrom, walk_pair, turns_pair, numbers_below, cond_pair, cond_pair_if, same_pair}
-use Rattle.spike_monotone.specs.ValueOrder.{value_parts, value_below, pointer_parts}
-use Rattle.spike_monotone.specs.WindowOrder.{WindowWithin, WindowsBelow, selected_monotone, other_monotone, window_monotone}
-use Rattle.spike_monotone.specs.NearOrder.{top_zero, value_at_monotone}
-use Rattle.spike_monotone.specs.CellSteps.{RowsBelow}
-use Rattle.spike_monotone.specs.Placements.{IsPlaced, IsRegular, CoversToo}
+use Rattle.store_domain.specs.Loads.{reaches_class, labels_of, joined_if, read_leaf, load_leaves, load_class_cell, read_other_leaf, load_other_leaves, read_class_cell, load_other_class_cells, load_padding, load_other_bytes, is_text_in, is_text, determinate_if, load_own, load_others, load_character, load_base, read_base, load_bases, loaded, load_within, load}
 use Rattle.store_domain.specs.FirstZeroWrites.{covering_part}
 use Rattle.string_domain.specs.FirstZeros.{the_end}
-use Rattle.spike_monotone.specs.LiveOrder.{live_in_set_monotone}
-use Rattle.spike_monotone.specs.ZeroOrder.{zero_at_monotone, zero_at_top, lies_monotone}
-use Rattle.spike_monotone.specs.ReadOrder.{ReadBelow, joined_monotone, joined_above, whole_monotone, read_monotone, byte_monotone, labels_monotone}
+use Rattle.cc_base.specs.IntegerLaws.{MonotoneLaws}
+use Rattle.value_domain_laws.proofs.Ranges.{RangeBelow, bounds_monotone}
+use Rattle.store_domain_laws.specs.Placements.{EachFrom, WindowWithin, IsPlaced, IsRegular, CoversToo}
+use Rattle.store_domain_laws.proofs.PairedSteps.{walk_pair, turns_pair, numbers_below, cond_pair, cond_pair_if, same_pair}
+use Rattle.value_domain_laws.proofs.Parts.{value_parts, value_below, pointer_parts}
+use Rattle.store_domain_laws.proofs.Windows.{WindowsBelow, selected_monotone, other_monotone, window_monotone}
+use Rattle.store_domain_laws.specs.TopCells.{top_zero}
+use Rattle.store_domain_laws.proofs.NearCells.{value_at_monotone}
+use Rattle.store_domain_laws.specs.RowsBelow.{RowsBelow, ReadBelow}
+use Rattle.store_domain_laws.proofs.LiveBases.{live_in_set_monotone}
+use Rattle.store_domain_laws.proofs.FirstZeros.{zero_at_monotone, zero_at_top, lies_monotone}
+use Rattle.store_domain_laws.proofs.CellReads.{joined_monotone, joined_above, whole_monotone, read_monotone, byte_monotone, labels_monotone}
 
 pub reaches_monotone : (m : Model) (base : BaseInfo) → IsRegular m base → (class : Class) (signed : Bool) (w u : Window) → WindowWithin w u → reaches_class base (record { class = class; signed = signed; window = w }) ≡ true → reaches_class base (record { class = class; signed = signed; window = u }) ≡ true
 reaches_monotone m base q class signed w u i h = let a = and_parts base.shape.heap (has_stray base.shape.cells class w) h in and_from _ _ a.0 (q.stray class w u i a.0 a.1)
@@ -141,7 +142,7 @@ module _ {I : Type 0} {l : LatticeOf I} {n : IntegersOf I} {stands : I → ℤ �
 
   module _ (g : MonotoneLaws l n) (m : Model) (all : Bases) (top : List (Cell I)) (r s : List (Cell I)) (h : RowsBelow l top r s) where
     base_monotone : (base : BaseInfo) (p : IsPlaced n all top base) (q : IsRegular m base) (class : Class) (signed : Bool) (w u : Window) (i : WindowWithin w u) → ReadBelow l (load_base l n m base r (record { class = class; signed = signed; window = w })) (load_base l n m base s (record { class = class; signed = signed; window = u }))
-    unfolding load_base load_own load_others
+    unfolding load_base load_own load_others load_character
     base_monotone base p q class signed w u i =
         let small : Access = record { class = class; signed = signed; window = w } in
         let large : Access = record { class = class; signed = signed; window = u } in

@@ -1,11 +1,11 @@
 -- Values with near bounds, and the greatest of them.
 use Rattle.std.specs.Prelude.{◌≡◌, ℕ, ◌^◌, ◌-◌, ℤ, pos, negsuc, neg_ℤ, ◌≤ℤ◌, true, not, ◌||◌, int_lt, Some, None, List, refl}
-use Rattle.std.proofs.Common.{arith, sym, subst}
+use Rattle.std.proofs.Common.{arith, ap, ◌∙◌, sym, subst, subst₂}
 use Rattle.std.proofs.lemmas.Int.{ints}
 use Rattle.std.proofs.lemmas.Bool.{cond_both, cond-true, not_from_false, or_from, false_from_ne_true}
 use Rattle.cc_base.specs.Lattices.{LatticeOf, OrderLaws}
-use Rattle.cc_base.specs.NumberRanges.{Range}
-use Rattle.cc_base.specs.IntegerDomains.{IntegersOf, BoundLaws}
+use Rattle.cc_base.specs.NumberRanges.{Range, range_met}
+use Rattle.cc_base.specs.IntegerDomains.{IntegersOf, BoundLaws, of_range}
 use Rattle.cc_base.specs.LatticeParts.{flag_order}
 use Rattle.string_domain.specs.FirstZeros.{zero_of, the_end}
 use Rattle.string_domain.specs.declared.first_zeros.FirstZero.{FirstZero}
@@ -18,33 +18,15 @@ use Rattle.value_domain.specs.declared.row_cells.Cell.{Cell}
 use Rattle.value_domain.specs.declared.row_cells.Cell.TheVariants.{Nothing, Value, First, State, Mixed}
 use Rattle.value_domain.specs.LabelSets.{all_labels, labels_order}
 use Rattle.value_domain.specs.Values.{value_lattice, value_order}
-use Rattle.value_domain.specs.Cells.{cell_lattice, cell_leq}
+use Rattle.value_domain.specs.Cells.{cell_lattice, cell_leq, cell_order}
 use Rattle.cc_base.specs.Rows.{row_leq}
-use Rattle.store_domain.specs.NearValues.{is_near, near_number, near_pointer, near_value}
+use Rattle.store_domain_laws.specs.TopCells.{top_number, top_value, top_zero, top_state}
+use Rattle.store_domain.specs.NearValues.{is_near, near_part, near_number, near_pointer, near_value}
 use Rattle.store_domain.specs.RowPositions.{cell_at, value_in, value_at}
-use Rattle.spike_monotone.specs.RangeOrder.{RangeBelow, bounds_monotone}
-use Rattle.spike_monotone.specs.ValueOrder.{PointersBelow, pointer_parts, pointers_below, value_parts, value_below}
-use Rattle.spike_monotone.specs.RowOrder.{at_monotone}
+use Rattle.value_domain_laws.proofs.Ranges.{RangeBelow, bounds_monotone}
+use Rattle.value_domain_laws.proofs.Parts.{PointersBelow, pointer_parts, pointers_below, value_parts, value_below}
+use Rattle.store_domain_laws.proofs.Rows.{at_monotone}
 
-module _ {I : Type 0} where
-  -- all numbers from -2^64 to 2^64
-  abbrev pub top_number : IntegersOf I → I
-  top_number n = n.between (negsuc (2 ^ 64 - 1)) (pos (2 ^ 64))
-
-  -- the greatest value with pointers into a set of bases
-  abbrev pub top_value : IntegersOf I → Bases → values.Value I
-  top_value n all = record {
-    num = top_number n;
-    pointer = record { bases = all; lo = top_number n; rel = top_number n; len = top_number n; part = true; null = true; ended = true };
-    indeterminate = true;
-    labels = all_labels;
-  }
-
-  abbrev pub top_zero : IntegersOf I → FirstZero I
-  top_zero n = zero_of (n.between (pos 0) the_end)
-
-  abbrev pub top_state : IntegersOf I → AllocState I
-  top_state n = record { size = n.between (pos 0) the_end; live = true; freed = true }
 
 near_if : (r : Range) → RangeBelow r (Some (negsuc (2 ^ 64 - 1), pos (2 ^ 64))) → (p : ℤ × ℤ) → r ≡ Some p → is_near r ≡ true
 near_if None h p e = absurd (cc)
@@ -54,35 +36,22 @@ near_if (Some q) h p e = near_pair q.0 q.1 h.0 h.1
     near_pair a b h k = not_from_false _ (or_from _ _ (false_from_ne_true _ (λ (e : int_lt a (neg_ℤ (pos (2 ^ 64))) ≡ true). omega (arith, ints))) (false_from_ne_true _ (λ (e : int_lt (pos (2 ^ 64)) b ≡ true). omega (arith, ints))))
 
 module _ {I : Type 0} {l : LatticeOf I} {n : IntegersOf I} {stands : I → ℤ → Type 0} (o : OrderLaws l) (b : BoundLaws l n stands) where
-  -- near numbers are no more than the numbers
-  pub near_less : (x : I) → l.leq (near_number l n x) x ≡ true
-  near_less x = cond_both (is_near (n.bounds x)) x l.least (λ y. l.leq y x ≡ true) (λ e. o.reflexive x) (λ e. o.least_below x)
-
   near_from : (x : I) (r : Range) → n.bounds x ≡ r → l.leq x (top_number n) ≡ true → near_number l n x ≡ x
-  near_from x None e h = let f : l.least ≡ x = sym (b.only_least x e) in cond_both (is_near (n.bounds x)) x l.least (λ y. y ≡ x) (λ k. refl) (λ k. f)
+  near_from x None e h =
+      let f : near_part l n x ≡ l.least = ap (λ r. of_range l n (range_met r (neg_ℤ (pos (2 ^ 64))) (pos (2 ^ 64)))) e in
+      cond_both (is_near (n.bounds x)) x (near_part l n x) (λ y. y ≡ x) (λ k. refl) (λ k. f ∙ sym (b.only_least x e))
   near_from x (Some p) e h =
       let k : RangeBelow (n.bounds x) (n.bounds (top_number n)) = bounds_monotone b x (top_number n) h in
       let t = b.between_bounds (negsuc (2 ^ 64 - 1)) (pos (2 ^ 64)) (omega (arith, ints)) in
       let m : RangeBelow (n.bounds x) (Some (negsuc (2 ^ 64 - 1), pos (2 ^ 64))) = subst (λ r. RangeBelow (n.bounds x) r) t k in
-      cond-true (is_near (n.bounds x)) x l.least (near_if (n.bounds x) m p e)
+      cond-true (is_near (n.bounds x)) x (near_part l n x) (near_if (n.bounds x) m p e)
 
   -- numbers from -2^64 to 2^64 are near
   pub near_is : (x : I) → l.leq x (top_number n) ≡ true → near_number l n x ≡ x
   near_is x h = near_from x (n.bounds x) refl h
 
   pub near_monotone : (x y : I) → l.leq x y ≡ true → l.leq y (top_number n) ≡ true → l.leq (near_number l n x) (near_number l n y) ≡ true
-  near_monotone x y h k = subst (λ z. l.leq (near_number l n x) z ≡ true) (sym (near_is y k)) (o.transitive (near_number l n x) x y (near_less x) h)
-
-  pub near_pointer_monotone : (p q : Pointers I) → PointersBelow l p q → (all : Bases) → PointersBelow l q (top_value n all).pointer → PointersBelow l (near_pointer l n p) (near_pointer l n q)
-  near_pointer_monotone p q h all k = record {
-    bases = h.bases;
-    lo = near_monotone p.lo q.lo h.lo k.lo;
-    rel = near_monotone p.rel q.rel h.rel k.rel;
-    len = near_monotone p.len q.len h.len k.len;
-    part = h.part;
-    null = h.null;
-    ended = h.ended;
-  }
+  near_monotone x y h k = subst₂ (λ u v. l.leq u v ≡ true) (sym (near_is x (o.transitive x y (top_number n) h k))) (sym (near_is y k)) h
 
   pub near_pointer_is : (q : Pointers I) (all : Bases) → PointersBelow l q (top_value n all).pointer → near_pointer l n q ≡ q
   near_pointer_is q all k = let a = near_is q.lo k.lo in let c = near_is q.rel k.rel in let d = near_is q.len k.len in λ i. record q { lo = a i; rel = c i; len = d i }
@@ -93,14 +62,6 @@ module _ {I : Type 0} {l : LatticeOf I} {n : IntegersOf I} {stands : I → ℤ �
       let a = near_is w.num p.num in
       let c = near_pointer_is w.pointer all (pointer_parts l w.pointer (top_value n all).pointer p.pointer) in
       λ i. record w { num = a i; pointer = c i }
-
-  pub near_value_less : (v : values.Value I) → (value_lattice l).leq (near_value l n v) v ≡ true
-  near_value_less v = value_below l (near_value l n v) v (record {
-    num = near_less v.num;
-    pointer = pointers_below l (near_pointer l n v.pointer) v.pointer (record { bases = bases_order.reflexive v.pointer.bases; lo = near_less v.pointer.lo; rel = near_less v.pointer.rel; len = near_less v.pointer.len; part = flag_order.reflexive v.pointer.part; null = flag_order.reflexive v.pointer.null; ended = flag_order.reflexive v.pointer.ended });
-    indeterminate = flag_order.reflexive v.indeterminate;
-    labels = labels_order.reflexive v.labels;
-  })
 
   -- ---- cells
 
@@ -151,10 +112,15 @@ module _ {I : Type 0} {l : LatticeOf I} {n : IntegersOf I} {stands : I → ℤ �
     pub value_at_top : (value_lattice l).leq (value_at l n s i) (top_value n all) ≡ true
     value_at_top = subst (λ v. (value_lattice l).leq v (top_value n all) ≡ true) (sym value_at_is) in_top
 
-    pub value_at_monotone : (value_lattice l).leq (value_at l n r i) (value_at l n s i) ≡ true
+    small_at_top : cell_leq l (cell_at r i) (Value (top_value n all)) ≡ true
+    small_at_top = (cell_order o).transitive (cell_at r i) (cell_at s i) (Value (top_value n all)) (at_monotone l r s i h) at_top
+
+    small_is : value_at l n r i ≡ value_in l (cell_at r i)
     unfolding value_at
-    value_at_monotone = subst (λ v. (value_lattice l).leq (near_value l n (value_in l (cell_at r i))) v ≡ true) (sym (near_value_is (value_in l (cell_at s i)) all in_top))
-        ((value_order o).transitive (near_value l n (value_in l (cell_at r i))) (value_in l (cell_at r i)) (value_in l (cell_at s i)) (near_value_less (value_in l (cell_at r i))) (value_in_monotone (top_value n all) (cell_at r i) (cell_at s i) (at_monotone l r s i h) at_top))
+    small_is = near_value_is (value_in l (cell_at r i)) all (value_in_below (top_value n all) (cell_at r i) small_at_top)
+
+    pub value_at_monotone : (value_lattice l).leq (value_at l n r i) (value_at l n s i) ≡ true
+    value_at_monotone = subst₂ (λ v w. (value_lattice l).leq v w ≡ true) (sym small_is) (sym value_at_is) (value_in_monotone (top_value n all) (cell_at r i) (cell_at s i) (at_monotone l r s i h) at_top)
 
     pub cell_below_at : cell_leq l (cell_at r i) (Value (value_at l n s i)) ≡ true
     cell_below_at = subst (λ v. cell_leq l (cell_at r i) (Value v) ≡ true) (sym value_at_is) (cell_below_in (top_value n all) (cell_at r i) (cell_at s i) (at_monotone l r s i h) at_top)

@@ -24,22 +24,16 @@ use Rattle.store_domain.specs.ClassNumbers.{is_pointer, same_class}
 use Rattle.store_domain.specs.LeafSelection.{selected_count, is_other}
 use Rattle.store_domain.specs.LiveBases.{has_base}
 use Rattle.store_domain.specs.Stores.{has_own_place, has_other_place, has_place, has_place_or, any_place, is_other_or, any_other, is_nothing}
-use Rattle.spike_monotone.specs.PairedSteps.{EachFrom, walk_pair}
-use Rattle.spike_monotone.specs.ValueOrder.{PointersBelow, value_parts, pointer_parts, flag_sets}
-use Rattle.spike_monotone.specs.WindowOrder.{WindowWithin, selected_monotone, other_monotone}
-use Rattle.spike_monotone.specs.BaseOrder.{words_within, has_monotone}
-use Rattle.spike_monotone.specs.Placements.{IsRegular}
-use Rattle.spike_monotone.specs.LoadOrder.{reaches_monotone}
-
-pub any_each : {K : Type 0} (at : ℕ) (ks : List K) → EachFrom (λ k i. Unit {0}) at ks
-any_each at [] = tt
-any_each at (k ∷ ks) = (tt, any_each (at + 1) ks)
-
-pub or_sets : (a b c d : Bool) → (a ≡ true → c ≡ true) → (b ≡ true → d ≡ true) → (a || b) ≡ true → (c || d) ≡ true
-or_sets a b c d h k e = elim (or_cases a b e) [ inl f ↦ or_left c d (h f) | inr f ↦ or_right c d (k f) ]
-
-pub and_sets : (a b c d : Bool) → (a ≡ true → c ≡ true) → (b ≡ true → d ≡ true) → (a && b) ≡ true → (c && d) ≡ true
-and_sets a b c d h k e = let p = and_parts a b e in and_from c d (h p.0) (k p.1)
+use Rattle.store_domain_laws.specs.Placements.{EachFrom, WindowWithin, IsRegular}
+use Rattle.store_domain_laws.proofs.PairedSteps.{walk_pair, any_each}
+use Rattle.value_domain_laws.proofs.Parts.{PointersBelow, value_parts, pointer_parts}
+use Rattle.value_domain_laws.proofs.Flags.{flag_sets}
+use Rattle.store_domain_laws.proofs.Windows.{selected_monotone, other_monotone}
+use Rattle.value_domain_laws.proofs.Bases.{words_within}
+use Rattle.store_domain_laws.proofs.LiveSets.{has_monotone}
+use Rattle.store_domain_laws.proofs.Loads.{reaches_monotone}
+use Rattle.value_domain_laws.proofs.Bases.{empty_below}
+use Rattle.value_domain_laws.proofs.Flags.{or_sets, and_sets, not_sets}
 
 counted : (a b : Bool) → (a ≡ true → b ≡ true) → cond {A = ℕ} a 1 0 ≤ cond b 1 0
 counted false b h = omega arith
@@ -52,20 +46,6 @@ count_monotone p q h (k ∷ ks) = let r = count_monotone p q h ks in let c = cou
 
 not_zero : (a b : ℕ) → a ≤ b → not (a == 0) ≡ true → not (b == 0) ≡ true
 not_zero a b h e = not_from_false _ (ne_eqb b 0 (λ (f : b ≡ 0). let g : (a == 0) ≡ true = eq-eqb a 0 (omega arith) in let k = not-true (a == 0) e in absurd (cc)))
-
-word_zero : (a b : ℕ) → word_within a b ≡ true → (b == 0) ≡ true → (a == 0) ≡ true
-word_zero a b h e = let f = eqb-true (bit_or a b) b h in let g = eqb-true b 0 e in let k = le_or_l a b in eq-eqb a 0 (omega arith)
-
-pub empty_below : (s t : Bases) → bases_within s t ≡ true → bases_empty t ≡ true → bases_empty s ≡ true
-empty_below s t h =
-    let w = words_within s t h in
-    and_sets _ _ _ _ (word_zero s.word0 t.word0 w.at0) (and_sets _ _ _ _ (word_zero s.word1 t.word1 w.at1) (and_sets _ _ _ _ (word_zero s.word2 t.word2 w.at2) (and_sets _ _ _ _ (word_zero s.word3 t.word3 w.at3)
-    (and_sets _ _ _ _ (word_zero s.word4 t.word4 w.at4) (and_sets _ _ _ _ (word_zero s.word5 t.word5 w.at5) (and_sets _ _ _ _ (word_zero s.word6 t.word6 w.at6) (word_zero s.word7 t.word7 w.at7)))))))
-
-pub not_sets : (a b : Bool) → (b ≡ true → a ≡ true) → not a ≡ true → not b ≡ true
-not_sets a false h e = refl
-not_sets true true h e = e
-not_sets false true h e = absurd (let k : false ≡ true = h refl in cc)
 
 module _ {I : Type 0} {l : LatticeOf I} {n : IntegersOf I} {stands : I → ℤ → Type 0} (o : OrderLaws l) (b : BoundLaws l n stands) where
   pub any_monotone : (p q : Pointers I) → PointersBelow l p q → is_any p ≡ true → is_any q ≡ true

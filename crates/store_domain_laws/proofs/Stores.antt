@@ -5,6 +5,7 @@ use Rattle.std.proofs.lemmas.Bool.{and_from, and_parts, eqb-true}
 use Rattle.cc_base.specs.Lattices.{LatticeOf, OrderLaws}
 use Rattle.cc_base.specs.IntegerDomains.{IntegersOf, BoundLaws, RangeLaws}
 use Rattle.cc_base.specs.declared.integer_operators.Rel.TheVariants.{Eq}
+use Rattle.cc_base.specs.declared.integer_operators.Tri.{Tri}
 use Rattle.c_layout.specs.declared.data_model.Model.{Model}
 use Rattle.c_layout.specs.declared.leaf_lists.Class.{Class}
 use Rattle.c_layout.specs.declared.leaf_lists.Class.TheVariants.{Char}
@@ -28,39 +29,26 @@ use Rattle.store_domain.specs.Stores.{cell_value, is_strong, store_leaf_at, stor
 use Rattle.store_domain.specs.FirstZeroWrites.{put_character, forget_zeros}
 use Rattle.store_domain.specs.LiveBases.{has_base, is_one_instance, single_bases, live_of}
 use Rattle.pointer_domain.specs.BaseSets.{bases_within, bases_has, bases_count}
-use Rattle.spike_monotone.specs.MonotoneLaws.{tri_leq}
-use Rattle.spike_monotone.specs.BaseOrder.{has_monotone, one_base}
 use Rattle.pointer_domain.specs.declared.pointer_sets.Pointers.{Pointers}
 use Rattle.pointer_domain.specs.PointerLattice.{pointers_leq}
 use Rattle.store_domain.specs.ScalarTypes.{class_bytes}
 use Rattle.store_domain.specs.Loads.{labels_of}
-use Rattle.spike_monotone.specs.LiveOrder.{live_of_monotone, writable_monotone}
-use Rattle.spike_monotone.specs.StorePlaces.{and_sets, not_sets, nothing_monotone, any_place_monotone, place_has}
-use Rattle.spike_monotone.specs.TargetSteps.{character_step, forget_step}
-use Rattle.spike_monotone.specs.MonotoneLaws.{MonotoneLaws}
-use Rattle.spike_monotone.specs.PairedSteps.{EachFrom, Step, walk_pair, walk_step, turns_step, then_step, if_step, same_step, numbers_below}
-use Rattle.spike_monotone.specs.ValueOrder.{value_parts, value_below, pointer_parts}
-use Rattle.spike_monotone.specs.WindowOrder.{WindowWithin, WindowsBelow, selected_monotone, other_monotone, window_is, window_monotone}
-use Rattle.spike_monotone.specs.NearOrder.{top_value}
-use Rattle.spike_monotone.specs.CellSteps.{RowsBelow, write_step, join_step}
-use Rattle.spike_monotone.specs.Placements.{IsPlaced, IsRegular}
-use Rattle.spike_monotone.specs.ReadOrder.{read_monotone, read_top, written_monotone, written_top, labels_monotone, labels_top}
-use Rattle.spike_monotone.specs.LoadOrder.{reaches_monotone, class_small, some_bytes}
-
--- a write below a larger one; where the larger one is to one instance alone, the smaller one is made and is so too
-pub record WriteBelow {I : Type 0} (l : LatticeOf I) (n : IntegersOf I) (all : Bases) (on : Bool) (small large : Write I) : Type 0 where
-  pub class : small.access.class ≡ large.access.class
-  pub signed : small.access.signed ≡ large.access.signed
-  pub window : WindowWithin small.access.window large.access.window
-  pub value : (value_lattice l).leq small.value large.value ≡ true
-  pub top : (value_lattice l).leq large.value (top_value n all) ≡ true
-  pub alone : large.alone ≡ true → (on ≡ true) × (small.alone ≡ true)
-
--- a row that is reached below another one, and that below the greatest
-abbrev pub StoresBelow : {I : Type 0} → LatticeOf I → List (Cell I) → Option (List (Cell I)) → Option (List (Cell I)) → Type 0
-StoresBelow l top None y = Unit {0}
-StoresBelow l top (Some x) None = ⊥
-StoresBelow l top (Some x) (Some y) = RowsBelow l top x y
+use Rattle.cc_base.specs.IntegerLaws.{tri_leq, MonotoneLaws}
+use Rattle.store_domain_laws.proofs.LiveSets.{has_monotone, one_base}
+use Rattle.store_domain_laws.proofs.LiveBases.{live_of_monotone, writable_monotone}
+use Rattle.value_domain_laws.proofs.Flags.{and_sets, not_sets}
+use Rattle.store_domain_laws.proofs.StorePlaces.{nothing_monotone, any_place_monotone, place_has}
+use Rattle.store_domain_laws.proofs.ZeroTargets.{character_step, forget_step}
+use Rattle.store_domain_laws.specs.Placements.{EachFrom, WindowWithin, IsPlaced, IsRegular}
+use Rattle.store_domain_laws.proofs.PairedSteps.{Step, walk_pair, walk_step, turns_step, then_step, if_step, same_step, numbers_below}
+use Rattle.value_domain_laws.proofs.Parts.{value_parts, value_below, pointer_parts}
+use Rattle.store_domain_laws.proofs.Windows.{WindowsBelow, selected_monotone, other_monotone, window_is, window_monotone}
+use Rattle.store_domain_laws.specs.TopCells.{top_value}
+use Rattle.store_domain_laws.specs.RowsBelow.{RowsBelow}
+use Rattle.store_domain_laws.proofs.CellSteps.{write_step, join_step}
+use Rattle.store_domain_laws.proofs.CellReads.{stored_in_monotone, stored_in_top, read_monotone, read_top, written_monotone, written_top, labels_monotone, labels_top}
+use Rattle.store_domain_laws.proofs.Loads.{reaches_monotone, class_small, some_bytes}
+use Rattle.store_domain_laws.specs.RowsBelow.{StoresBelow}
 
 module _ {I : Type 0} {l : LatticeOf I} {n : IntegersOf I} {stands : I → ℤ → Type 0} (o : OrderLaws l) (b : BoundLaws l n stands) (f : RangeLaws l n) (g : MonotoneLaws l n) (m : Model) (all : Bases) (top : List (Cell I)) where
   module _ (base : BaseInfo) (p : IsPlaced n all top base) (q : IsRegular m base) (on : Bool) (class : Class) (signed : Bool) (w u : Window) (x y : Value I) (one two : Bool) (i : WindowWithin w u) (h : (value_lattice l).leq x y ≡ true) (k : (value_lattice l).leq y (top_value n all) ≡ true) (a : two ≡ true → (on ≡ true) × (one ≡ true)) where
@@ -83,7 +71,7 @@ module _ {I : Type 0} {l : LatticeOf I} {n : IntegersOf I} {stands : I → ℤ �
     unfolding store_leaves store_leaf_at
     leaves_step = walk_step (λ leaf at. at < length base.shape.cells) (RowsBelow l top) on (store_leaf l n m base small) (store_leaf l n m base large)
         (λ leaf at e r s j. write_step o b all top (leaf_position base at) (p.leaf at e) r s (cell_value n m small leaf.signed) (cell_value n m large leaf.signed) j
-        (read_monotone o b g m class signed leaf.signed x y h) (read_top o b f all m class signed leaf.signed y k)
+        (stored_in_monotone o b g m class leaf.signed x y h) (stored_in_top o b f all m class leaf.signed y k)
         on (is_selected leaf class w) (is_selected leaf class u) (is_strong leaf small) (is_strong leaf large) (selected_monotone leaf class w u i) (strong_same leaf))
         0 base.shape.cells (numbers_below (length base.shape.cells) 0 base.shape.cells (omega arith))
 
@@ -93,7 +81,7 @@ module _ {I : Type 0} {l : LatticeOf I} {n : IntegersOf I} {stands : I → ℤ �
         (λ r. join_value l n r (class_position base (class_number class)) (cell_value n m small true)) (λ r. join_value l n r (class_position base (class_number class)) (cell_value n m large true))
         (reaches_monotone m base q class signed w u i)
         (λ e now d c r s j. join_step o b all top (class_position base (class_number class)) (p.class (class_number class) (and_parts base.shape.heap (has_stray base.shape.cells class u) e).0 (class_small class)) r s (cell_value n m small true) (cell_value n m large true) j
-        (read_monotone o b g m class signed true x y h) (read_top o b f all m class signed true y k) now true true (λ z. z))
+        (stored_in_monotone o b g m class true x y h) (stored_in_top o b f all m class true y k) now true true (λ z. z))
 
     own_step : Step (RowsBelow l top) on (store_own l n m base small) (store_own l n m base large)
     unfolding store_own
@@ -125,14 +113,18 @@ module _ {I : Type 0} {l : LatticeOf I} {n : IntegersOf I} {stands : I → ℤ �
         (λ e. then_step (RowsBelow l top) on (store_other_leaves l n m base small) (store_other_leaves l n m base large) (store_other_classes l n m base x.labels) (store_other_classes l n m base y.labels) other_leaves_step (other_classes_step e))
         (λ e. other_leaves_step)
 
-    zero_below : tri_leq (n.compare Eq x.num (n.one (pos 0))) (n.compare Eq y.num (n.one (pos 0)))
-    zero_below = g.compare_monotone Eq x.num (n.one (pos 0)) y.num (n.one (pos 0)) (value_parts l x y h).num (o.reflexive (n.one (pos 0)))
+    -- whether the character that is stored is zero
+    abbrev zero_of : Write I → Tri
+    zero_of write = n.compare Eq (cell_value n m write signed).num (n.one (pos 0))
+
+    zero_below : tri_leq (zero_of small) (zero_of large) ≡ true
+    zero_below = g.compare_monotone Eq (cell_value n m small signed).num (n.one (pos 0)) (cell_value n m large signed).num (n.one (pos 0)) (value_parts l (cell_value n m small signed) (cell_value n m large signed) (stored_in_monotone o b g m class signed x y h)).num (o.reflexive (n.one (pos 0)))
 
     character_step_of : Step (RowsBelow l top) on (store_character l n m base small) (store_character l n m base large)
     unfolding store_character
     character_step_of = then_step (RowsBelow l top) on (store_other_bytes l n m base small) (store_other_bytes l n m base large)
-        (put_character l n base w (n.compare Eq x.num (n.one (pos 0))) one) (put_character l n base u (n.compare Eq y.num (n.one (pos 0))) two)
-        other_bytes_step (character_step o b all top base p on w u i (n.compare Eq x.num (n.one (pos 0))) (n.compare Eq y.num (n.one (pos 0))) zero_below one two a)
+        (put_character l n base w (zero_of small) one) (put_character l n base u (zero_of large) two)
+        other_bytes_step (character_step o b all top base p on w u i (zero_of small) (zero_of large) zero_below one two a)
 
     wider_step : Step (RowsBelow l top) on (store_wider l n base w) (store_wider l n base u)
     unfolding store_wider

@@ -4,28 +4,17 @@ use Rattle.std.proofs.Common.{arith, sym, subst, ap, ◌∙◌, append_assoc, le
 use Rattle.std.proofs.lemmas.Bool.{and_parts, eqb-true}
 use Rattle.cc_base.specs.IntegerDomains.{IntegersOf}
 use Rattle.c_layout.specs.declared.shapes.BaseInfo.{BaseInfo}
-use Rattle.flow_program.specs.WellFormed.{is_extent, are_placed, base_cells, base_values}
+use Rattle.flow_program.specs.BaseShapes.{is_extent}
+use Rattle.flow_program.specs.WellFormed.{are_placed, base_cells, base_values}
 use Rattle.pointer_domain.specs.declared.base_sets.Bases.{Bases}
 use Rattle.value_domain.specs.declared.row_cells.Cell.{Cell}
 use Rattle.value_domain.specs.declared.row_cells.Cell.TheVariants.{Value, First, State}
 use Rattle.store_domain.specs.RowPositions.{cell_at, leaf_position, class_position, zero_position, state_position}
-use Rattle.spike_monotone.specs.PairedSteps.{EachFrom}
-use Rattle.spike_monotone.specs.NearOrder.{top_value, top_zero, top_state}
-use Rattle.spike_monotone.specs.Placements.{IsPlaced}
+use Rattle.store_domain_laws.specs.Placements.{EachFrom, IsPlaced}
+use Rattle.store_domain_laws.specs.TopRows.{top_base, top_bases, top_row}
+use Rattle.store_domain_laws.specs.TopCells.{top_value, top_zero, top_state}
 
 module _ {I : Type 0} where
-  -- the greatest cells of a base
-  abbrev pub top_base : IntegersOf I → Bases → BaseInfo → List (Cell I)
-  top_base n all base = replicate (base_cells base) (Value (top_value n all)) ++ (replicate (length base.shape.zeros) (First (top_zero n)) ++ replicate (cond base.shape.heap 1 0) (State (top_state n)))
-
-  abbrev pub top_bases : IntegersOf I → Bases → List BaseInfo → List (Cell I)
-  top_bases n all [] = []
-  top_bases n all (base ∷ bases) = top_base n all base ++ top_bases n all bases
-
-  -- the greatest row, with so many temporaries
-  abbrev pub top_row : IntegersOf I → Bases → List BaseInfo → ℕ → List (Cell I)
-  top_row n all bases temps = top_bases n all bases ++ replicate temps (Value (top_value n all))
-
   at_behind : (pre ys : List (Cell I)) (i k : ℕ) → i ≡ length pre + k → cell_at (pre ++ ys) i ≡ cell_at ys k
   at_behind [] ys i k e = ap (λ j. cell_at ys j) (let f : i ≡ k = omega arith in f)
   at_behind (x ∷ pre) ys zero k e = absurd (omega arith)

@@ -19,15 +19,11 @@ use Rattle.store_domain.specs.ScalarTypes.{class_bytes}
 use Rattle.store_domain.specs.ClassNumbers.{same_class}
 use Rattle.store_domain.specs.AccessWindows.{window_between, window_of_range, window_within, last_offset, last_place, access_range, added_ranges, window_of}
 use Rattle.store_domain.specs.LeafSelection.{places_before, has_place_in, is_selected, is_overlapped, is_other}
-use Rattle.spike_monotone.specs.RangeOrder.{RangeBelow, met_monotone, added_monotone, saturate_monotone, upper_monotone, bounds_monotone}
-use Rattle.spike_monotone.specs.ValueOrder.{PointersBelow}
+use Rattle.value_domain_laws.proofs.Ranges.{RangeBelow, met_monotone, upper_monotone, bounds_monotone}
+use Rattle.store_domain_laws.specs.Placements.{WindowWithin}
+use Rattle.store_domain_laws.proofs.AddedRanges.{added_monotone, saturate_monotone}
+use Rattle.value_domain_laws.proofs.Parts.{PointersBelow}
 
--- each offset of the first window is one of the second, and there is one
-pub record WindowWithin (w u : Window) : Type 0 where
-  pub lo : u.lo ≤ w.lo
-  pub some : w.lo ≤ w.hi
-  pub hi : w.hi ≤ u.hi
-  pub near : u.hi ≤ last_offset
 
 div_monotone : (a b s : ℕ) → a ≤ b → a / s ≤ b / s
 div_monotone a b zero h = omega arith

@@ -21,15 +21,16 @@ use Rattle.store_domain.specs.declared.first_zero_writes.ZeroTarget.{ZeroTarget}
 use Rattle.store_domain.specs.AccessWindows.{last_offset, window_between, window_met}
 use Rattle.store_domain.specs.RowPositions.{cell_at, zero_position, zero_at, put_zero}
 use Rattle.store_domain.specs.FirstZeroWrites.{last_of, has_no_bytes, target_at, zero_target, any_zero, offsets_of, sure_or_joined, put_target, put_part, put_character, forget_target, forget_part, forget_zeros}
-use Rattle.spike_monotone.specs.MonotoneLaws.{tri_leq}
-use Rattle.spike_monotone.specs.RangeOrder.{of_range_monotone}
-use Rattle.spike_monotone.specs.PairedSteps.{Step, walk_step, numbers_below}
-use Rattle.spike_monotone.specs.WindowOrder.{WindowWithin}
-use Rattle.spike_monotone.specs.NearOrder.{top_number, top_zero, near_less, near_monotone}
-use Rattle.spike_monotone.specs.ZeroOrder.{zero_at_monotone, zero_at_top, first_below_at, zero_near}
-use Rattle.spike_monotone.specs.ZeroSteps.{put_monotone, put_top}
-use Rattle.spike_monotone.specs.CellSteps.{RowsBelow, put_pair, put_above}
-use Rattle.spike_monotone.specs.Placements.{IsPlaced}
+use Rattle.cc_base.specs.IntegerLaws.{tri_leq}
+use Rattle.value_domain_laws.proofs.Ranges.{of_range_monotone}
+use Rattle.store_domain_laws.proofs.PairedSteps.{Step, walk_step, numbers_below}
+use Rattle.store_domain_laws.specs.Placements.{WindowWithin, IsPlaced}
+use Rattle.store_domain_laws.specs.TopCells.{top_number, top_zero}
+use Rattle.store_domain_laws.proofs.NearCells.{near_is, near_monotone}
+use Rattle.store_domain_laws.proofs.FirstZeros.{zero_at_monotone, zero_at_top, first_below_at, zero_near}
+use Rattle.store_domain_laws.proofs.PutZeros.{put_monotone, put_top}
+use Rattle.store_domain_laws.specs.RowsBelow.{RowsBelow}
+use Rattle.store_domain_laws.proofs.CellSteps.{put_pair, put_above}
 
 -- a target of a smaller window: where the larger window has no byte outside the array, nor has the smaller one
 abbrev pub TargetBelow : Option ZeroTarget → Option ZeroTarget → Type 0
@@ -87,7 +88,9 @@ module _ {I : Type 0} {l : LatticeOf I} {n : IntegersOf I} {stands : I → ℤ �
       (o.transitive (between_or_least l n (pos u.lo) (pos u.hi)) (n.between (pos 0) the_end) (top_number n) (numbers_top u i.near) (zero_near o b))
 
   pub offsets_top : (u : Window) → u.hi ≤ last_offset → l.leq (offsets_of l n u) (n.between (pos 0) the_end) ≡ true
-  offsets_top u i = o.transitive (offsets_of l n u) (between_or_least l n (pos u.lo) (pos u.hi)) (n.between (pos 0) the_end) (near_less o b (between_or_least l n (pos u.lo) (pos u.hi))) (numbers_top u i)
+  offsets_top u i =
+      let e = near_is o b (between_or_least l n (pos u.lo) (pos u.hi)) (o.transitive (between_or_least l n (pos u.lo) (pos u.hi)) (n.between (pos 0) the_end) (top_number n) (numbers_top u i) (zero_near o b)) in
+      subst (λ x. l.leq x (n.between (pos 0) the_end) ≡ true) (sym e) (numbers_top u i)
 
   pub sure_monotone : (a c : Bool) → (c ≡ true → a ≡ true) → (f d g e : FirstZero I) → l.leq f.at d.at ≡ true → l.leq g.at e.at ≡ true → l.leq (sure_or_joined l a f g).at (sure_or_joined l c d e).at ≡ true
   sure_monotone true true h f d g e i j = j
@@ -120,7 +123,7 @@ module _ {I : Type 0} {l : LatticeOf I} {n : IntegersOf I} {stands : I → ℤ �
         (at_top (sure_or_joined l (two && t.whole) old new) (sure_top (two && t.whole) old new (n.between (pos 0) the_end) old_top (put_top o b old old (offsets_of l n t.local) (offsets_of l n t.local) (o.reflexive old.at) (o.reflexive (offsets_of l n t.local)) old_top (offsets_top t.local j) y)))
 
     -- both writes
-    both_pair : (f t : ZeroTarget) (x y : Tri) (one two : Bool) → WindowWithin f.local t.local → (t.whole ≡ true → f.whole ≡ true) → tri_leq x y → (two ≡ true → one ≡ true) → RowsBelow l top (put_target l n r i (Some f) x one) (put_target l n s i (Some t) y two)
+    both_pair : (f t : ZeroTarget) (x y : Tri) (one two : Bool) → WindowWithin f.local t.local → (t.whole ≡ true → f.whole ≡ true) → tri_leq x y ≡ true → (two ≡ true → one ≡ true) → RowsBelow l top (put_target l n r i (Some f) x one) (put_target l n s i (Some t) y two)
     unfolding put_target
     both_pair f t x y one two j k z a =
         let fold = zero_at l n r i in
@@ -136,7 +139,7 @@ module _ {I : Type 0} {l : LatticeOf I} {n : IntegersOf I} {stands : I → ℤ �
         (put_monotone o b fold old (offsets_of l n f.local) (offsets_of l n t.local) old_monotone off_monotone old_top off_top x y z))
         (at_top (sure_or_joined l (two && t.whole) old new) (sure_top (two && t.whole) old new (n.between (pos 0) the_end) old_top (put_top o b old old (offsets_of l n t.local) (offsets_of l n t.local) (o.reflexive old.at) (o.reflexive (offsets_of l n t.local)) old_top off_top y)))
 
-    target_step : (f t : Option ZeroTarget) → TargetBelow f t → (x y : Tri) → tri_leq x y → (on one two : Bool) → (two ≡ true → (on ≡ true) × (one ≡ true))
+    target_step : (f t : Option ZeroTarget) → TargetBelow f t → (x y : Tri) → tri_leq x y ≡ true → (on one two : Bool) → (two ≡ true → (on ≡ true) × (one ≡ true))
         → RowsBelow l top (cond on (put_target l n r i f x one) r) (put_target l n s i t y two)
     unfolding put_target
     target_step None None k x y z true one two a = h
@@ -165,7 +168,7 @@ module _ {I : Type 0} {l : LatticeOf I} {n : IntegersOf I} {stands : I → ℤ �
 
   module _ (all : Bases) (top : List (Cell I)) (base : BaseInfo) (p : IsPlaced n all top base) (on : Bool) (w u : Window) (i : WindowWithin w u) where
     -- a character is written in the window
-    pub character_step : (x y : Tri) → tri_leq x y → (one two : Bool) → (two ≡ true → (on ≡ true) × (one ≡ true)) → Step (RowsBelow l top) on (put_character l n base w x one) (put_character l n base u y two)
+    pub character_step : (x y : Tri) → tri_leq x y ≡ true → (one two : Bool) → (two ≡ true → (on ≡ true) × (one ≡ true)) → Step (RowsBelow l top) on (put_character l n base w x one) (put_character l n base u y two)
     unfolding put_character
     character_step x y z one two a = walk_step (λ part at. at < length base.shape.zeros) (RowsBelow l top) on (put_part l n base w x one) (put_part l n base u y two)
         (λ part at e r s j. target_step top r s (zero_position base at) j (p.zero at e) (zero_target part w) (zero_target part u) (target_monotone part w u i) x y z on one two a)

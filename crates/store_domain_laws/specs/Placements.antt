@@ -1,5 +1,5 @@
 -- Where the greatest row has what, and the shapes for which larger windows reach more.
-use Rattle.std.specs.Prelude.{◌≡◌, ℕ, ◌≤◌, ◌<◌, true, Option, Some, None, List, length}
+use Rattle.std.specs.Prelude.{◌≡◌, ℕ, ◌+◌, ◌≤◌, ◌<◌, true, Option, Some, None, List, [], ◌∷◌, length}
 use Rattle.cc_base.specs.IntegerDomains.{IntegersOf}
 use Rattle.c_layout.specs.declared.data_model.Model.{Model}
 use Rattle.c_layout.specs.declared.leaf_lists.Class.{Class}
@@ -9,10 +9,22 @@ use Rattle.value_domain.specs.declared.row_cells.Cell.{Cell}
 use Rattle.value_domain.specs.declared.row_cells.Cell.TheVariants.{Value, First, State}
 use Rattle.store_domain.specs.declared.access_windows.Window.{Window}
 use Rattle.store_domain.specs.RowPositions.{cell_at, leaf_position, class_position, zero_position, state_position}
+use Rattle.store_domain.specs.AccessWindows.{last_offset}
 use Rattle.store_domain.specs.LeafSelection.{has_stray, meets_padding}
 use Rattle.store_domain.specs.FirstZeroWrites.{covering_part}
-use Rattle.spike_monotone.specs.NearOrder.{top_value, top_zero, top_state}
-use Rattle.spike_monotone.specs.WindowOrder.{WindowWithin}
+use Rattle.store_domain_laws.specs.TopCells.{top_value, top_zero, top_state}
+
+-- something holds of each item and its number
+abbrev pub EachFrom : {K : Type 0} → (K → ℕ → Type 0) → ℕ → List K → Type 0
+EachFrom P at [] = Unit {0}
+EachFrom P at (k ∷ ks) = P k at × EachFrom P (at + 1) ks
+
+-- each offset of the first window is one of the second, and there is one
+pub record WindowWithin (w u : Window) : Type 0 where
+  pub lo : u.lo ≤ w.lo
+  pub some : w.lo ≤ w.hi
+  pub hi : w.hi ≤ u.hi
+  pub near : u.hi ≤ last_offset
 
 module _ {I : Type 0} where
   -- the cells of a base stand in the greatest row

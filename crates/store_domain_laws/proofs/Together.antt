@@ -1,0 +1,38 @@
+-- The laws of the store over a program's bases.
+use Rattle.std.specs.Prelude.{ℕ, ◌^◌, ◌+◌, ◌<◌, ℤ, List, [], ◌∷◌, length, replicate, refl}
+use Rattle.cc_base.specs.Lattices.{LatticeOf, OrderLaws}
+use Rattle.cc_base.specs.IntegerDomains.{IntegersOf, BoundLaws, RangeLaws}
+use Rattle.cc_base.specs.IntegerLaws.{MonotoneLaws}
+use Rattle.c_layout.specs.declared.data_model.Model.{Model}
+use Rattle.c_layout.specs.declared.shapes.BaseInfo.{BaseInfo}
+use Rattle.pointer_domain.specs.declared.base_sets.Bases.{Bases}
+use Rattle.value_domain.specs.declared.row_cells.Cell.TheVariants.{Value}
+use Rattle.value_domain_laws.proofs.Parts.{pointer_parts}
+use Rattle.store_domain_laws.specs.TopCells.{top_value}
+use Rattle.store_domain_laws.specs.TopRows.{top_row}
+use Rattle.store_domain_laws.specs.Placements.{EachFrom, IsPlaced, IsRegular}
+use Rattle.store_domain_laws.specs.StoreLaws.{IsLayout, IsLoadMonotone, IsStoreMonotone, IsFreeMonotone}
+use Rattle.store_domain_laws.proofs.Loads.{load_monotone}
+use Rattle.store_domain_laws.proofs.Stores.{store_monotone}
+use Rattle.store_domain_laws.proofs.Freeing.{free_monotone}
+use Rattle.store_domain_laws.proofs.TopRows.{all_placed}
+
+both_each : {K : Type 0} (P Q : K → ℕ → Type 0) (at : ℕ) (ks : List K) → EachFrom P at ks → EachFrom Q at ks → EachFrom (λ k i. P k i × Q k i) at ks
+both_each P Q at [] e f = tt
+both_each P Q at (k ∷ ks) e f = ((e.0, f.0), both_each P Q (at + 1) ks e.1 f.1)
+
+module _ {I : Type 0} {l : LatticeOf I} {n : IntegersOf I} {stands : I → ℤ → Type 0} (o : OrderLaws l) (b : BoundLaws l n stands) (m : Model) (bases : List BaseInfo) (k : IsLayout m bases) (all : Bases) (temps : ℕ) (h : length (top_row n all bases temps) < 2 ^ 64) where
+  placed : EachFrom (λ base number. IsPlaced n all (top_row n all bases temps) base) 0 bases
+  placed = all_placed n all (top_row n all bases temps) [] (replicate temps (Value (top_value n all))) 0 bases refl h k.placed
+
+  each : EachFrom (λ base number. IsPlaced n all (top_row n all bases temps) base × IsRegular m base) 0 bases
+  each = both_each (λ base number. IsPlaced n all (top_row n all bases temps) base) (λ base number. IsRegular m base) 0 bases placed k.regular
+
+  pub loads : MonotoneLaws l n → IsLoadMonotone l n m bases all temps
+  loads g r s j p q e class signed = load_monotone o b g m all (top_row n all bases temps) r s j bases each p q e class signed
+
+  pub stores : RangeLaws l n → MonotoneLaws l n → IsStoreMonotone l n m bases all temps
+  stores f g r s j p q e class signed v w i t = store_monotone o b f g m all (top_row n all bases temps) bases each r s j class signed v w i t p q e
+
+  pub frees : IsFreeMonotone l n m bases all temps
+  frees r s j p q e a = free_monotone o b all (top_row n all bases temps) bases placed r s j p q (pointer_parts l p q e) a

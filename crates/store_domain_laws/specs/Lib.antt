@@ -1,0 +1,5 @@
+pub mod TopCells
+pub mod TopRows
+pub mod RowsBelow
+pub mod Placements
+pub mod StoreLaws

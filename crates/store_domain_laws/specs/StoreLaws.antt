@@ -1,0 +1,41 @@
+-- The calls of the store grow with the row and with their arguments, and leave own rows.
+use Rattle.std.specs.Prelude.{◌≡◌, ℕ, ℤ, Bool, true, List}
+use Rattle.cc_base.specs.Lattices.{LatticeOf}
+use Rattle.cc_base.specs.IntegerDomains.{IntegersOf}
+use Rattle.c_layout.specs.declared.data_model.Model.{Model}
+use Rattle.c_layout.specs.declared.leaf_lists.Class.{Class}
+use Rattle.c_layout.specs.declared.shapes.BaseInfo.{BaseInfo}
+use Rattle.flow_program.specs.WellFormed.{are_placed}
+use Rattle.pointer_domain.specs.declared.base_sets.Bases.{Bases}
+use Rattle.pointer_domain.specs.declared.pointer_sets.Pointers.{Pointers}
+use Rattle.pointer_domain.specs.PointerLattice.{pointers_leq}
+use Rattle.pointer_domain.specs.PointerTables.{is_any}
+use Rattle.value_domain.specs.declared.values.Value.{Value}
+use Rattle.value_domain.specs.declared.row_cells.Cell.{Cell}
+use Rattle.value_domain.specs.Values.{value_lattice}
+use Rattle.store_domain.specs.Loads.{load}
+use Rattle.store_domain.specs.Stores.{store}
+use Rattle.store_domain.specs.Freeing.{free}
+use Rattle.store_domain_laws.specs.TopCells.{top_value}
+use Rattle.store_domain_laws.specs.TopRows.{top_row}
+use Rattle.store_domain_laws.specs.RowsBelow.{RowsBelow, ReadBelow, StoresBelow}
+use Rattle.store_domain_laws.specs.Placements.{EachFrom, IsRegular}
+
+-- bases that follow each other, of regular shapes
+pub record IsLayout (m : Model) (bases : List BaseInfo) : Type 0 where
+  pub placed : are_placed 0 bases ≡ true
+  pub regular : EachFrom (λ base number. IsRegular m base) 0 bases
+
+module _ {I : Type 0} (l : LatticeOf I) (n : IntegersOf I) (m : Model) (bases : List BaseInfo) (all : Bases) (temps : ℕ) where
+  -- a larger row and larger pointers give a larger value
+  abbrev pub IsLoadMonotone : Type 0
+  IsLoadMonotone = (r s : List (Cell I)) → RowsBelow l (top_row n all bases temps) r s → (p q : Pointers I) → pointers_leq l p q ≡ true → (class : Class) (signed : Bool) → ReadBelow l (load l n m bases r p class signed) (load l n m bases s q class signed)
+
+  -- a larger row, larger pointers and a larger own value leave a larger own row
+  abbrev pub IsStoreMonotone : Type 0
+  IsStoreMonotone = (r s : List (Cell I)) → RowsBelow l (top_row n all bases temps) r s → (p q : Pointers I) → pointers_leq l p q ≡ true → (class : Class) (signed : Bool) (v w : Value I) → (value_lattice l).leq v w ≡ true → (value_lattice l).leq w (top_value n all) ≡ true
+      → StoresBelow l (top_row n all bases temps) (store l n m bases p class signed v r) (store l n m bases q class signed w s)
+
+  -- freeing through larger pointers, which are there, leaves a larger own row
+  abbrev pub IsFreeMonotone : Type 0
+  IsFreeMonotone = (r s : List (Cell I)) → RowsBelow l (top_row n all bases temps) r s → (p q : Pointers I) → pointers_leq l p q ≡ true → is_any p ≡ true → RowsBelow l (top_row n all bases temps) (free l n bases p r) (free l n bases q s)

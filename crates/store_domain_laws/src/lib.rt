@@ -1,0 +1,6 @@
+//! Laws of the abstract store.
+#![tactic(auto)]
+
+mod theorems;
+
+pub use theorems::{frees_are_monotone, loads_are_monotone, stores_are_monotone};

@@ -1,0 +1,25 @@
+//! The calls of the store grow with the row and with their arguments, over any domain of integers whose operations do.
+ghost use Rattle.std.specs.Prelude.{◌<◌, ◌^◌, ℕ, List, length};
+ghost use Rattle.cc_base.specs.IntegerLaws.{MonotoneLaws};
+ghost use Rattle.c_layout.specs.declared.data_model.Model.{Model};
+ghost use Rattle.c_layout.specs.declared.shapes.BaseInfo.{BaseInfo};
+ghost use Rattle.pointer_domain.specs.declared.base_sets.Bases.{Bases};
+ghost use Rattle.store_domain_laws.specs.TopRows.{top_row};
+ghost use Rattle.store_domain_laws.specs.StoreLaws.{IsLayout, IsLoadMonotone, IsStoreMonotone, IsFreeMonotone};
+
+use cc_base::IntDomain;
+
+/// A load through larger pointers from a larger own row gives a larger value.
+pub fn loads_are_monotone<I: IntDomain>()
+    ensures { MonotoneLaws I.lattice I.numbers → (m : Model) (bases : List BaseInfo) → IsLayout m bases → (all : Bases) (temps : ℕ) → length (top_row I.numbers all bases temps) < 2 ^ 64 → IsLoadMonotone I.lattice I.numbers m bases all temps }
+{}
+
+/// A store of a larger value through larger pointers into a larger own row leaves a larger row, and an own one.
+pub fn stores_are_monotone<I: IntDomain>()
+    ensures { MonotoneLaws I.lattice I.numbers → (m : Model) (bases : List BaseInfo) → IsLayout m bases → (all : Bases) (temps : ℕ) → length (top_row I.numbers all bases temps) < 2 ^ 64 → IsStoreMonotone I.lattice I.numbers m bases all temps }
+{}
+
+/// Freeing through larger pointers, of which one is there, in a larger own row leaves a larger row, and an own one.
+pub fn frees_are_monotone<I: IntDomain>()
+    ensures { (m : Model) (bases : List BaseInfo) → IsLayout m bases → (all : Bases) (temps : ℕ) → length (top_row I.numbers all bases temps) < 2 ^ 64 → IsFreeMonotone I.lattice I.numbers m bases all temps }
+{}
