@@ -1,5 +1,5 @@
 use Rattle.c_tokens.proofs.Only.{one_list, one_fault, no_both}
-use Rattle.c_tokens.proofs.cutting.one_answer.Goals as goal
+use Rattle.c_tokens.proofs.theorems.one_answer.Goals as goal
 
 pub returns-clause-tokens : goal.returns-clause-tokens
 returns-clause-tokens c = one_list

@@ -1,5 +1,5 @@
 use Rattle.flow_lower.proofs.CountedLowerings.{as_counted, within_limits}
-use Rattle.flow_lower.proofs.unit_lowering.as_counted.Goals as goal
+use Rattle.flow_lower.proofs.theorems.as_counted.Goals as goal
 
 pub returns : goal.returns
 returns c = record {

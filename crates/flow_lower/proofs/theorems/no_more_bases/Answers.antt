@@ -1,5 +1,5 @@
 use Rattle.flow_lower.proofs.CountedBases.{no_more, few}
-use Rattle.flow_lower.proofs.unit_lowering.no_more_bases.Goals as goal
+use Rattle.flow_lower.proofs.theorems.no_more_bases.Goals as goal
 
 pub returns : goal.returns
 returns c = record {

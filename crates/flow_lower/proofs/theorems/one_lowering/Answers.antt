@@ -1,5 +1,5 @@
 use Rattle.flow_lower.proofs.OneLowering.{one_program, one_refusal, no_refusal}
-use Rattle.flow_lower.proofs.unit_lowering.one_lowering.Goals as goal
+use Rattle.flow_lower.proofs.theorems.one_lowering.Goals as goal
 
 pub returns : goal.returns
 returns c = record {

@@ -1,6 +1,6 @@
 use Rattle.flow_lower.proofs.WellMadeRuns.{lowering_well}
 use Rattle.flow_lower.proofs.EdgesLead.{edges_lead}
-use Rattle.flow_lower.proofs.unit_lowering.well_made.Goals as goal
+use Rattle.flow_lower.proofs.theorems.well_made.Goals as goal
 
 pub returns : goal.returns
 returns c = record {

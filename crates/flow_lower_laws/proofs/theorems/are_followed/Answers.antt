@@ -1,6 +1,6 @@
 use Rattle.flow_lower_laws.proofs.TemplateOrder.{template_followed}
 use Rattle.flow_lower_laws.proofs.SettledOrder.{settled_followed}
-use Rattle.flow_lower_laws.proofs.piece_order.are_followed.Goals as goal
+use Rattle.flow_lower_laws.proofs.theorems.are_followed.Goals as goal
 
 pub returns : goal.returns
 returns c = record {

@@ -1,6 +1,6 @@
 use Rattle.flow_lower_laws.proofs.TemplateNames.{template_named}
 use Rattle.flow_lower_laws.proofs.SettledNames.{settled_named}
-use Rattle.flow_lower_laws.proofs.named_bases.are_named.Goals as goal
+use Rattle.flow_lower_laws.proofs.theorems.are_named.Goals as goal
 
 pub returns : goal.returns
 returns c = record {

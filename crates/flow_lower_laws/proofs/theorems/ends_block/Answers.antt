@@ -1,6 +1,6 @@
 use Rattle.flow_lower_laws.proofs.TemplateOrder.{entry_ends}
 use Rattle.flow_lower_laws.proofs.SettledOrder.{settled_ends}
-use Rattle.flow_lower_laws.proofs.piece_order.ends_block.Goals as goal
+use Rattle.flow_lower_laws.proofs.theorems.ends_block.Goals as goal
 
 pub returns : goal.returns
 returns c = record {
