@@ -12,7 +12,7 @@ use Rattle.value_domain.specs.declared.row_cells.Cell.{Cell}
 use Rattle.value_domain.specs.Cells.{cell_lattice}
 use Rattle.abstract_steps_rows.specs.CellKinds.{all_kinds}
 use Rattle.abstract_steps_rows.specs.EndLaws.{EndLaws}
-use Rattle.abstract_steps_rows.specs.OwnRows.{reach_of, is_own_row}
+use Rattle.abstract_steps_rows.specs.OwnRows.{is_own_row}
 use Rattle.abstract_steps_rows.specs.FittedRows.{row_fit, reached_fit}
 use Rattle.abstract_steps_rows.specs.OwnLaws.{own_length, own_cells, fit_own, join_own, round_own}
 use Rattle.abstract_steps_rows.specs.BaseRooms.{spare_bases}

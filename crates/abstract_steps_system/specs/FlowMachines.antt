@@ -1,5 +1,5 @@
 -- The system of a control-flow program: what a solver needs to know of it.
-use Rattle.std.specs.Prelude.{ℕ, zero, suc, ℤ, Bool, false, List, [], ◌∷◌, length, replicate, Option, Some, None, is_some, slice_get, slice_index_or}
+use Rattle.std.specs.Prelude.{ℕ, ℤ, Bool, false, List, length, replicate, Option, Some, None, is_some, slice_get, slice_index_or}
 use Rattle.cc_base.specs.Lattices.{LatticeOf}
 use Rattle.cc_base.specs.IntegerDomains.{IntegersOf}
 use Rattle.cc_base.specs.Machine.{Machine}
