@@ -1,5 +1,5 @@
 -- The rows of a program grow no more often than is said of their cells, so a solver follows no more edges.
-use Rattle.std.specs.Prelude.{◌≡◌, ◌≤◌, ◌+◌, ◌*◌, ◌-◌, ℕ, zero, suc, ℤ, List, [], ◌∷◌, length}
+use Rattle.std.specs.Prelude.{◌≡◌, ◌≤◌, ◌+◌, ◌*◌, ℕ, zero, suc, ℤ, List, length}
 use Rattle.std.proofs.Common.{arith, subst}
 use Rattle.std.proofs.Math.Nat.{mul-le-mul_left}
 use Rattle.cc_base.specs.InductiveMap.{heads_below, most_steps}
@@ -12,7 +12,7 @@ use Rattle.abstract_steps_rows.specs.CellKinds.{all_kinds, first_kind, kinds_beh
 use Rattle.abstract_steps_rows.specs.RowRooms.{kind_height, row_height}
 use Rattle.abstract_steps_system.specs.FlowMachines.{is_head_at}
 use Rattle.flow_analysis.specs.Analyses.{machine_of}
-use Rattle.flow_analysis.specs.StepBounds.{growths, row_growths, most_visits, most_edges}
+use Rattle.flow_analysis.specs.StepBounds.{growths, row_growths, most_edges}
 
 kind_grows : (t b : ℕ) (k : CellKind) → kind_height interval_lattice t (spare_bases b) k ≤ growths t b k
 kind_grows t b kind.Value = omega arith

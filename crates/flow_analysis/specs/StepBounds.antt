@@ -1,7 +1,6 @@
 -- How many edges the analysis of a program follows at most.
-use Rattle.std.specs.Prelude.{ℕ, zero, suc, ◌+◌, ◌*◌, List, [], ◌∷◌, length}
+use Rattle.std.specs.Prelude.{ℕ, zero, suc, ◌+◌, ◌*◌, List, length}
 use Rattle.cc_base.specs.InductiveMap.{heads_below}
-use Rattle.c_layout.specs.declared.shapes.BaseInfo.{BaseInfo}
 use Rattle.flow_program.specs.declared.programs.Flow.{Flow}
 use Rattle.abstract_steps_rows.specs.declared.cell_kinds.CellKind.{CellKind}
 use Rattle.abstract_steps_rows.specs.declared.cell_kinds.CellKind.TheVariants as kind
