@@ -1,6 +1,6 @@
 -- Any row made one of the program's own: what is beyond the bounds of own cells is cut off, and a cell
 -- of another kind becomes the greatest one of its kind.
-use Rattle.std.proofs.Common.{◌≡◌, ℕ, zero, suc, pos, ℤ, Bool, true, false, not, ◌&&◌, ◌-◌, nat_lt, cond, List, [], ◌∷◌, length, map, replicate, slice_index_or, Option, Some, None, refl, ap, arith}
+use Rattle.std.proofs.Common.{◌≡◌, ℕ, zero, suc, pos, ℤ, true, not, ◌&&◌, ◌-◌, nat_lt, cond, List, [], ◌∷◌, length, map, replicate, slice_index_or, Option, Some, None, refl, ap, arith}
 use Rattle.cc_base.specs.Lattices.{LatticeOf}
 use Rattle.cc_base.specs.NumberRanges.{Range, range_met}
 use Rattle.cc_base.specs.IntegerDomains.{IntegersOf, of_range}

@@ -6,5 +6,6 @@ pub mod OwnRows
 pub mod ProgramBases
 pub mod FittedRows
 pub mod OwnLaws
+pub mod BaseRooms
 pub mod RowRooms
 pub mod RoomLaws

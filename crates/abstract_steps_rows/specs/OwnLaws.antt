@@ -1,5 +1,5 @@
 -- What is fitted is a program's own, and so is what is joined or rounded of own cells.
-use Rattle.std.proofs.Common.{◌≡◌, ◌<◌, ◌-◌, ◌∙◌, ◌≤ℤ◌, ℕ, zero, suc, pos, ℤ, Bool, true, false, not, ◌&&◌, nat_eq, nat_lt, int_le, min, cond, List, [], ◌∷◌, length, slice_index_or, Option, Some, None, is_none, is_some, refl, sym, subst, arith}
+use Rattle.std.proofs.Common.{◌≡◌, ◌<◌, ◌-◌, ◌∙◌, ◌≤ℤ◌, ℕ, zero, suc, pos, ℤ, Bool, true, false, not, ◌&&◌, nat_eq, nat_lt, int_le, min, cond, List, [], ◌∷◌, length, slice_index_or, Some, None, is_none, is_some, refl, sym, subst, arith}
 use Rattle.std.specs.Int.{int_min, int_max}
 use Rattle.std.proofs.lemmas.Int.{ints, clamps}
 use Rattle.std.proofs.lemmas.Bool.{and_from, and_parts, cond_both, eqb-true, eq-eqb, ltb-true, not-true, not_from_false, or_from}
@@ -32,7 +32,7 @@ use Rattle.abstract_steps_rows.specs.Ends.{any_below, any_above}
 use Rattle.abstract_steps_rows.specs.EndLaws.{HasEnds, EndLaws}
 use Rattle.abstract_steps_rows.specs.ProgramBases.{both_empty, left_some, right_some, below_within, within_few}
 use Rattle.abstract_steps_rows.specs.OwnRows.{reach_of, is_nowhere, is_somewhere, is_consistent, is_own_pointer, is_known_value, is_own_value, is_own_first, is_own_state, is_own_cell, are_own_cells, is_own_row}
-use Rattle.abstract_steps_rows.specs.FittedRows.{list_ends, count_ends, ranges_both, cut_to, number_fit, count_fit, bases_fit, if_somewhere, pointer_fit, value_fit, first_fit, state_fit, greatest_number, greatest_pointer, greatest_value, greatest_first, greatest_state, fit_as_value, fit_as_first, fit_as_state, cell_made, cell_fit, cells_fit, cells_of, row_fit}
+use Rattle.abstract_steps_rows.specs.FittedRows.{list_ends, count_ends, ranges_both, cut_to, number_fit, count_fit, bases_fit, if_somewhere, pointer_fit, value_fit, first_fit, state_fit, greatest_number, greatest_pointer, greatest_value, fit_as_value, fit_as_first, fit_as_state, cell_made, cell_fit, cells_fit, cells_of, row_fit}
 
 -- ---- ranges
 

@@ -1,10 +1,10 @@
 -- The bases of a program as sets, and which sets are empty.
 use Rattle.std.proofs.Common.{◌≡◌, ◌<◌, ◌^◌, ◌/◌, ◌%◌, ℕ, zero, suc, ℤ, Bool, true, false, ◌&&◌, ◌==◌, nat_lt, bit_or, cond, List, refl, sym, subst, arith}
-use Rattle.std.proofs.lemmas.Bool.{and_from, and_parts, cond_both, eqb-true, lt-ltb, ltb-true, false_from_ne_true}
+use Rattle.std.proofs.lemmas.Bool.{and_from, cond_both, eqb-true, lt-ltb, ltb-true, false_from_ne_true}
 use Rattle.std.proofs.lemmas.Nat.{or_lt, le_or_l}
 use Rattle.std.proofs.Math.Pow.{pow-lt}
 use Rattle.pointer_domain.specs.declared.base_sets.Bases.{Bases}
-use Rattle.pointer_domain.specs.BaseSets.{no_base, word_of, with_word, word_within, bases_with, bases_union, bases_within, bases_empty}
+use Rattle.pointer_domain.specs.BaseSets.{no_base, word_of, with_word, word_within, bases_union, bases_within, bases_empty}
 use Rattle.pointer_domain.specs.BaseLattice.{bases_lattice, bases_order}
 use Rattle.abstract_steps_rows.specs.OwnRows.{bases_below}
 

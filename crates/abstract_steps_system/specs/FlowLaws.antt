@@ -12,11 +12,11 @@ use Rattle.value_domain.specs.declared.row_cells.Cell.{Cell}
 use Rattle.value_domain.specs.Cells.{cell_lattice}
 use Rattle.abstract_steps_rows.specs.CellKinds.{all_kinds}
 use Rattle.abstract_steps_rows.specs.EndLaws.{EndLaws}
-use Rattle.abstract_steps_rows.specs.OwnRows.{reach_of, is_own_row}
+use Rattle.abstract_steps_rows.specs.OwnRows.{is_own_row}
 use Rattle.abstract_steps_rows.specs.FittedRows.{row_fit, reached_fit}
 use Rattle.abstract_steps_rows.specs.OwnLaws.{own_length, own_cells, fit_own, join_own, round_own}
-use Rattle.abstract_steps_rows.specs.RowRooms.{cells_within}
-use Rattle.abstract_steps_rows.specs.RoomLaws.{own_cells-within, room-bounded, room-falls}
+use Rattle.abstract_steps_rows.specs.BaseRooms.{spare_bases}
+use Rattle.abstract_steps_rows.specs.RoomLaws.{room-bounded, room-falls}
 use Rattle.abstract_steps_system.specs.BlockPasses.{edge_end}
 use Rattle.abstract_steps_system.specs.FlowMachines.{no_edge, edge_at, is_head_at, start_of, through, flow_machine}
 use Rattle.abstract_steps_system.specs.SystemChecks.{is_sound_edge, is_in_order, is_few, is_system}
@@ -87,9 +87,6 @@ module _ {I : Type 0} {l : LatticeOf I} {n : IntegersOf I} {stands : I → ℤ �
   unfolding through
   through-own e r s h = reached-own (edge_end l n flow (edge_at flow.edges.items e).from e r) s h
 
-  own-within : (r : List (Cell I)) → IsOwn r → cells_within l list r ≡ true
-  own-within r h = own_cells-within l n list (reach_of l n list (length flow.bases.items)) (all_kinds flow.bases.items) r (own_cells o k g b ends list flow.bases.items flow.width r h)
-
   sound-at : is_system flow ≡ true → (e : ℕ) → e < length flow.edges.items → is_sound_edge flow.blocks.items (edge_at flow.edges.items e) ≡ true
   sound-at valid e lt = list_all-at (is_sound_edge flow.blocks.items) flow.edges.items no_edge (structure flow valid).sound e lt
 
@@ -112,6 +109,6 @@ module _ {I : Type 0} {l : LatticeOf I} {n : IntegersOf I} {stands : I → ℤ �
     through_attained = λ e r s lt h same. through-own e r s same;
     join_attained = join_own o k g b ends list flow.bases.items flow.width;
     round_attained = round_own o k g b ends list flow.bases.items flow.width;
-    room_bounded = room-bounded l o g list flow.width;
-    room_falls = λ r s h j. room-falls l o g list flow.width r s (own_length o k g b ends list flow.bases.items flow.width r h) (own-within r h) (own-within s j);
+    room_bounded = room-bounded l o g list (spare_bases (length flow.bases.items)) (all_kinds flow.bases.items) flow.width;
+    room_falls = λ r s h j. room-falls l o g n list (length flow.bases.items) (all_kinds flow.bases.items) flow.width r s (own_length o k g b ends list flow.bases.items flow.width r h) (own_cells o k g b ends list flow.bases.items flow.width r h) (own_cells o k g b ends list flow.bases.items flow.width s j);
   }

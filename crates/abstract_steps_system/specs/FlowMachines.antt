@@ -1,5 +1,5 @@
 -- The system of a control-flow program: what a solver needs to know of it.
-use Rattle.std.specs.Prelude.{ℕ, zero, suc, ℤ, ◌*◌, Bool, false, List, [], ◌∷◌, length, replicate, Option, Some, None, is_some, slice_get, slice_index_or}
+use Rattle.std.specs.Prelude.{ℕ, ℤ, Bool, false, List, length, replicate, Option, Some, None, is_some, slice_get, slice_index_or}
 use Rattle.cc_base.specs.Lattices.{LatticeOf}
 use Rattle.cc_base.specs.IntegerDomains.{IntegersOf}
 use Rattle.cc_base.specs.Machine.{Machine}
@@ -9,11 +9,12 @@ use Rattle.flow_program.specs.declared.flow_edges.Edge.{Edge}
 use Rattle.flow_program.specs.declared.flow_edges.EdgeKind.TheVariants.{Jump}
 use Rattle.value_domain.specs.declared.row_cells.Cell.{Cell}
 use Rattle.value_domain.specs.declared.row_cells.Cell.TheVariants.{Nothing}
-use Rattle.value_domain.specs.Cells.{cell_height}
 use Rattle.abstract_steps.specs.StartRows.{start_row}
 use Rattle.abstract_steps_rows.specs.OwnRows.{is_own_row}
 use Rattle.abstract_steps_rows.specs.FittedRows.{row_fit, reached_fit}
-use Rattle.abstract_steps_rows.specs.RowRooms.{row_room}
+use Rattle.abstract_steps_rows.specs.BaseRooms.{spare_bases}
+use Rattle.abstract_steps_rows.specs.CellKinds.{all_kinds}
+use Rattle.abstract_steps_rows.specs.RowRooms.{row_room, row_height}
 use Rattle.abstract_steps_system.specs.BlockPasses.{edge_end}
 
 abbrev pub no_edge : Edge
@@ -60,6 +61,6 @@ module _ {I : Type 0} where
     own = is_own_row l n list flow.bases.items flow.width;
     attained = is_own_row l n list flow.bases.items flow.width;
     list = list;
-    room = row_room l list flow.width;
-    height = flow.width * cell_height l (length list);
+    room = row_room l list (spare_bases (length flow.bases.items)) (all_kinds flow.bases.items) flow.width;
+    height = row_height l (length list) (spare_bases (length flow.bases.items)) (all_kinds flow.bases.items) flow.width;
   }

@@ -1,7 +1,6 @@
 //! Evaluates a condition with a stack of what is open, and no recursion.
 
-ghost use Rattle.std.specs.Prelude.{◌≡◌, List, [], Some, None, Ok, IfOk};
-ghost use Rattle.c_preproc_conditions.specs.Expressions.{IsExpression};
+ghost use Rattle.std.specs.Prelude.{◌≡◌, [], Some, None, Ok, IfOk};
 ghost use Rattle.c_preproc_conditions.specs.Lines.{symbol_of, symbols_of, decided, HoldsBy, Collects, Adds};
 ghost use Rattle.c_preproc_conditions.specs.Reading.{prefixed, reduced, closed, prefix_read, begun, infix_read, gone_on, step, ended, run};
 ghost use Rattle.c_preproc_conditions.specs.Truth.{truth, line_truth, IsTruth};
@@ -279,11 +278,6 @@ fn value_of(alloc: Global, symbols: &[Symbol]) -> Result<Value, ConditionFault>
 {
     run(alloc, symbols)
 }
-
-/// The tokens of a condition are an expression with one value at most.
-pub fn one_value()
-    ensures { (ts : List Symbol) (v w : Value) → IsExpression ts v → IsExpression ts w → v ≡ w }
-{}
 
 /// Adds what a token is in a condition.
 fn push_symbol(

@@ -7,7 +7,9 @@ mod defined_names;
 mod evaluation;
 mod number_forms;
 mod operations;
+mod theorems;
 
 pub use condition_value::Number;
 pub use defined_names::{Digits, replace_defined};
-pub use evaluation::{ConditionFault, holds, one_value};
+pub use evaluation::{ConditionFault, holds};
+pub use theorems::one_value;

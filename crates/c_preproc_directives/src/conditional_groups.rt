@@ -1,6 +1,6 @@
 //! Conditional inclusion: which groups of an if-section are taken (6.10.1).
-ghost use Rattle.std.specs.Prelude.{◌≡◌, [], List, Bool, IfOk, IfNone, OnErr, option_map, slice_get, length, ◌-◌};
-ghost use Rattle.c_preproc_directives.specs.Groups.{is_taken, is_waiting, is_outside, is_skipped, entered, state_before_elif, with_state, else_fault, turned_else, end_fault, left, states_of, first_only, taken_of};
+ghost use Rattle.std.specs.Prelude.{◌≡◌, [], IfOk, IfNone, option_map, slice_get, length, ◌-◌};
+ghost use Rattle.c_preproc_directives.specs.Groups.{is_taken, is_waiting, is_outside, is_skipped, entered, state_before_elif, with_state, else_fault, turned_else, end_fault, left};
 
 use cc_base::{Memory, Place};
 use std::alloc::Global;
@@ -102,12 +102,6 @@ impl GroupState {
         }
     }
 }
-
-/// The groups of a section are taken as their conditions say: the first whose condition holds, and
-/// no other.
-pub fn first_group_is_taken()
-    ensures { (conditions : List Bool) → taken_of (states_of conditions) ≡ first_only conditions }
-{}
 
 /// The if-sections that are open in a file, the innermost first.
 #[derive(Drop)]

@@ -10,10 +10,12 @@ mod macro_table;
 mod pending_list;
 mod replacement;
 mod spelling_numbers;
+mod theorems;
 mod trouble;
 
 pub use lexeme::{Lexeme, Mark};
-pub use machine::{Expansion, expand_list, goes_by_its_first_token};
+pub use machine::{Expansion, expand_list};
 pub use macro_table::{Macro, Macros, Part};
 pub use spelling_numbers::Spellings;
 pub use trouble::{Failure, Refused, Trouble};
+pub use theorems::goes_by_its_first_token;

@@ -1,6 +1,6 @@
 //! Expands a list with a stack of what is still to be read, and no recursion.
-ghost use Rattle.std.specs.Prelude.{◌≡◌, Bool, true, ◌∷◌, [], ◌++◌, map, vec_items, vec_len};
-ghost use Rattle.c_preproc_macros.specs.Expanding.{EndsEmpty, GoesByItsFirst, expansion, look, put, unclosed};
+ghost use Rattle.std.specs.Prelude.{◌≡◌, Bool, true, ◌∷◌, [], ◌++◌, map, vec_items};
+ghost use Rattle.c_preproc_macros.specs.Expanding.{expansion, look, put, unclosed};
 ghost use Rattle.c_preproc_macros.specs.Frames.{frame_of, frames_of};
 ghost use Rattle.c_preproc_macros.specs.Lexemes.{moved, place_by};
 ghost use Rattle.c_preproc_macros.specs.Machine.{at_of, call_at, call_ended, close_in, comma_in, function_at, kept, macro_at, opened, replaced, started, suits, token_at, turned};
@@ -369,13 +369,6 @@ impl Machine {
         }
     }
 }
-
-/// A replaced list is nothing at its end, and else what becomes of its first token: a token that
-/// stays, a macro's list between the arguments and the rest, or a refusal.
-pub fn goes_by_its_first_token()
-    ensures end { EndsEmpty }
-    ensures first { GoesByItsFirst }
-{}
 
 /// Runs the machine over a list of tokens.
 fn run(alloc: Global, macros: &Macros, used: usize, text: &[Lexeme]) -> Result<Expansion, Failure>

@@ -1,5 +1,5 @@
 -- The blocks of a system are few.
-use Rattle.std.proofs.Common.{◌≡◌, ◌&&◌, ◌<◌, ◌^◌, true, length, ltb}
+use Rattle.std.proofs.Common.{◌≡◌, ◌<◌, ◌^◌, true, length, ltb}
 use Rattle.std.proofs.lemmas.Bool.{ltb-true}
 use Rattle.cc_base.specs.RowLaws.{and_left, and_right}
 use Rattle.flow_program.specs.declared.programs.Flow.{Flow}

@@ -1,2 +1,3 @@
 pub mod Analyses
 pub mod Counts
+pub mod StepBounds

@@ -4,4 +4,4 @@
 
 mod program_analysis;
 
-pub use program_analysis::analyse;
+pub use program_analysis::{analyse, analyse_counted};

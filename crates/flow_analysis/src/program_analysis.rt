@@ -7,6 +7,7 @@ ghost use Rattle.interval_domain.specs.IntervalNumbers.{interval_numbers};
 ghost use Rattle.abstract_steps_system.specs.SystemChecks.{is_system};
 ghost use Rattle.abstract_steps_system.specs.FlowMachines.{has_start};
 ghost use Rattle.flow_analysis.specs.Analyses.{IsAnalysis};
+ghost use Rattle.flow_analysis.specs.StepBounds.{most_edges};
 
 use abstract_steps_system::{FlowSystem, has_start, is_system, system};
 use cc_base::{Diag, Lattice, Memory, Steps, System, Thresholds};
@@ -35,6 +36,7 @@ fn found_by<L: Ledger>(
     requires vacant { map.old ≡ replicate (length flow.now.blocks.items) None }
     requires room { length flow.now.blocks.items + 2 ≤ free_count pool.old }
     ensures vacant { map.new ≡ replicate (length map.old) None }
+    ensures followed { steps.new ≤ steps.old + most_edges flow.now (length list.now) }
     ensures found { IfOk result (λ found. IsAnalysis flow.now list.now found.items) }
 {
     let equations: FlowSystem<Interval> = system(flow, list);
@@ -59,22 +61,57 @@ fn found_in<L: Ledger>(
     alloc: Global,
     flow: &Flow,
     list: &Thresholds,
-    blank: Blank,
+    steps: &mut Steps<L>,
 ) -> Result<Vec<Diag>, Memory>
     requires valid { is_system flow.now ≡ true }
     requires started { has_start interval_lattice interval_numbers flow.now ≡ true }
-    requires name { blank.name ≡ L.name }
-    requires parts { blank.parts ≡ L.parts }
-    requires some { 0 < blank.parts }
+    ensures followed { steps.new ≤ steps.old + most_edges flow.now (length list.now) }
     ensures found { IfOk result (λ found. IsAnalysis flow.now list.now found.items) }
 {
     let blocks = flow.blocks.len() as u32;
     let mut pool = RowPool::new(alloc, blocks + 2, flow.width, Cell::bottom())?;
     let mut map = new_map(alloc, blocks)?;
-    let mut steps = Steps::<L>::start(blank);
-    let found = found_by(alloc, flow, list, &mut pool, map.as_mut_slice(), &mut steps);
+    let found = found_by(alloc, flow, list, &mut pool, map.as_mut_slice(), steps);
     drop_map(map);
     found
+}
+
+/// `analyse`, with its steps counted: each edge of the program that is followed is one. There are no
+/// more than the program's edges, cells, bases and heads and the length of the list call for.
+///
+/// # Errors
+///
+/// Those of `analyse`.
+pub fn analyse_counted<L: Ledger>(
+    alloc: Global,
+    flow: &Flow,
+    list: &Thresholds,
+    steps: &mut Steps<L>,
+) -> Result<Vec<Diag>, Memory>
+    ensures followed { steps.new ≤ steps.old + most_edges flow.now (length list.now) }
+    ensures found { IfOk result (λ found. IsAnalysis flow.now list.now found.items) }
+{
+    if is_system(flow) && starts(alloc, flow)? {
+        found_in(alloc, flow, list, steps)
+    } else {
+        Err(Memory)
+    }
+}
+
+/// The analysis with a counter of its own.
+fn analysed_from<L: Ledger>(
+    alloc: Global,
+    flow: &Flow,
+    list: &Thresholds,
+    blank: Blank,
+) -> Result<Vec<Diag>, Memory>
+    requires name { blank.name ≡ L.name }
+    requires parts { blank.parts ≡ L.parts }
+    requires some { 0 < blank.parts }
+    ensures { IfOk result (λ found. IsAnalysis flow.now list.now found.items) }
+{
+    let mut steps = Steps::<L>::start(blank);
+    analyse_counted(alloc, flow, list, &mut steps)
 }
 
 /// The pairs of place and rule that the program may break, with intervals whose bounds are rounded to
@@ -82,14 +119,10 @@ fn found_in<L: Ledger>(
 ///
 /// # Errors
 ///
-/// Want of memory, and a program whose blocks and edges make no system or with a static initializer
+/// Out of memory, and a program whose blocks and edges make no system or with a static initializer
 /// that has no place.
 pub fn analyse(alloc: Global, flow: &Flow, list: &Thresholds) -> Result<Vec<Diag>, Memory>
     ensures found { IfOk result (λ found. IsAnalysis flow.now list.now found.items) }
 {
-    if is_system(flow) && starts(alloc, flow)? {
-        found_in::<Brand>(alloc, flow, list, Blank::new(1))
-    } else {
-        Err(Memory)
-    }
+    analysed_from::<Brand>(alloc, flow, list, Blank::new(1))
 }

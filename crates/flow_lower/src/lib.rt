@@ -6,6 +6,8 @@ mod initial_objects;
 mod moved_operations;
 mod opened_program;
 mod program_bases;
+mod theorems;
 mod unit_lowering;
 
-pub use unit_lowering::{as_counted, lower, no_more_bases, one_lowering, well_made};
+pub use unit_lowering::lower;
+pub use theorems::{as_counted, no_more_bases, one_lowering, well_made};

@@ -1,19 +1,17 @@
 //! Lowering: from a checked unit to its control-flow program.
-ghost use Rattle.std.specs.Prelude.{◌≡◌, ◌≤◌, ◌<◌, ◌+◌, ◌^◌, IfErr, IfOk, Some, length, slice_get, true};
+ghost use Rattle.std.specs.Prelude.{◌≡◌, ◌≤◌, ◌<◌, ◌+◌, IfErr, IfOk, Some, slice_get, true};
 ghost use Rattle.c_layout.specs.declared.checked_tree.checked_units.Function.{Function};
 ghost use Rattle.c_layout.specs.Types.{view};
 ghost use Rattle.cc_base.specs.declared.limit_table.Limits.{Limits};
-ghost use Rattle.cc_base.specs.declared.refusals.Fault.{Fault};
-ghost use Rattle.c_layout.specs.CheckedUnits.{UnitView, function_view, unit_view};
+ghost use Rattle.c_layout.specs.CheckedUnits.{function_view, unit_view};
 ghost use Rattle.flow_program.specs.WellFormed.{is_well_formed};
 ghost use Rattle.flow_lower_counts.specs.Preparations.{templates_view};
-ghost use Rattle.flow_lower_counts.specs.SizeRefusals.{limit_of, IsTooLarge};
-ghost use Rattle.flow_program_views.specs.ProgramViews.{FlowView, flow_view};
+ghost use Rattle.flow_lower_counts.specs.SizeRefusals.{IsTooLarge};
+ghost use Rattle.flow_program_views.specs.ProgramViews.{flow_view};
 ghost use Rattle.flow_lower.specs.Openings.{program_view};
 ghost use Rattle.flow_lower.specs.Lowerings as spec;
-ghost use Rattle.flow_lower.specs.Lowerings.{AreUnitCounts, IsLowering, IsRefusal, Refuses};
-ghost use Rattle.flow_lower.specs.WellMade.{IsWellMade, AllLead};
-ghost use Rattle.flow_lower.specs.AsCounted.{IsAsCounted, IsWithin, HasJust, HasNoMore, HasFew, all_mentions};
+ghost use Rattle.flow_lower.specs.Lowerings.{AreUnitCounts, IsLowering, Refuses};
+ghost use Rattle.flow_lower.specs.AsCounted.{HasJust};
 
 use crate::counted_bases::with_counted_bases;
 use crate::initial_objects::initial_objects;
@@ -151,29 +149,3 @@ pub fn lower(alloc: Global, unit: &Checked, limits: &Limits) -> Result<Flow, Sto
     let made = with_counted_bases(made, counts)?;
     Ok(well_formed(alloc, made, limits)?)
 }
-
-/// A unit has one program at most and one refusal at most, and where it has a program it is not refused.
-pub fn one_lowering()
-    ensures program { (u : UnitView) (limits : Limits) (f g : FlowView) → IsLowering u limits f → IsLowering u limits g → f ≡ g }
-    ensures refusal { (u : UnitView) (limits : Limits) (f g : Fault) → IsRefusal u limits f → IsRefusal u limits g → f ≡ g }
-    ensures apart { (u : UnitView) (limits : Limits) (f : FlowView) (g : Fault) → IsLowering u limits f → IsRefusal u limits g → ⊥ }
-{}
-
-/// What lowering makes is well formed in its bases, in its edges and in its heads.
-pub fn well_made()
-    ensures made { (u : UnitView) (limits : Limits) (f : FlowView) → IsLowering u limits f → IsWellMade f }
-    ensures lead { (u : UnitView) (limits : Limits) (f : FlowView) → IsLowering u limits f → AllLead (length f.blocks) f.edges }
-{}
-
-/// A program has just the blocks and the instructions that were counted before it was made.
-pub fn as_counted()
-    ensures counts { (u : UnitView) (limits : Limits) (f : FlowView) (is : IsLowering u limits f) → IsAsCounted is.counts f }
-    ensures within { (u : UnitView) (limits : Limits) (f : FlowView) (is : IsLowering u limits f) → IsWithin limits is.counts f }
-{}
-
-/// A program has no more bases and cells than were counted, where templates and initializers name less
-/// than 2^64 things, and for cells where each type has as many leaves as were recorded.
-pub fn no_more_bases()
-    ensures counts { (u : UnitView) (limits : Limits) (f : FlowView) (is : IsLowering u limits f) → all_mentions u is.templates < 2 ^ 64 → HasNoMore u is.counts f }
-    ensures within { (u : UnitView) (limits : Limits) (f : FlowView) (is : IsLowering u limits f) → all_mentions u is.templates < 2 ^ 64 → HasFew u limits f }
-{}

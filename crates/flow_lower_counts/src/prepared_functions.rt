@@ -1,12 +1,12 @@
 //! The functions that the entry reaches, each after those that it calls.
-ghost use Rattle.std.specs.Prelude.{◌≡◌, ◌<◌, ℕ, IfOk, IfSome, Some, None, true, length, map, replicate, slice_get, slice_set};
+ghost use Rattle.std.specs.Prelude.{◌≡◌, ◌<◌, IfOk, IfSome, Some, None, true, length, map, replicate, slice_get, slice_set};
 ghost use Rattle.c_layout.specs.StructViews.{structs_view};
-ghost use Rattle.c_layout.specs.CheckedUnits.{UnitView, function_view, unit_view};
-ghost use Rattle.flow_lower_tasks.specs.Pieces.{TemplateView, piece_view, template_view};
+ghost use Rattle.c_layout.specs.CheckedUnits.{function_view, unit_view};
+ghost use Rattle.flow_lower_tasks.specs.Pieces.{piece_view, template_view};
 ghost use Rattle.flow_lower_counts.specs.declared.function_counts.FunctionCounts.{FunctionCounts};
 ghost use Rattle.flow_lower_counts.specs.FunctionTotals.{is_nothing, function_counts};
 ghost use Rattle.flow_lower_counts.specs.Preparations as spec;
-ghost use Rattle.flow_lower_counts.specs.Preparations.{templates_view, Counts, IsSettled, IsPrepared};
+ghost use Rattle.flow_lower_counts.specs.Preparations.{templates_view, IsPrepared};
 ghost use Rattle.flow_lower_counts.specs.PreparingSteps.{progress, CallsOf, IsMade, AreMade, IsCounting, IsSettling, AreSettled};
 
 use crate::function_counts::{BlockExtent, FunctionCounts, counts_at, extent, if_used, temps};
@@ -357,9 +357,3 @@ pub fn prepared<'a>(alloc: Global, unit: &'a Checked) -> Result<PreparedUnit<'a>
     counts_at(found.counts.as_slice(), unit.entry)?;
     Ok(found)
 }
-
-/// A function has one row of counts and one settled template at most, whatever tables they are made from.
-pub fn one_count()
-    ensures counts { (u : UnitView) (n : ℕ) (c d : FunctionCounts) → Counts u n c → Counts u n d → c ≡ d }
-    ensures settled { (u : UnitView) (n : ℕ) (s t : TemplateView) → IsSettled u n s → IsSettled u n t → s ≡ t }
-{}

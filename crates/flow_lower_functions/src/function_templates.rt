@@ -1,8 +1,8 @@
 //! Templates of functions.
-ghost use Rattle.std.specs.Prelude.{◌≡◌, ℕ, Bool, List, IfOk};
-ghost use Rattle.c_layout.specs.CheckedUnits.{FunctionView, function_view};
-ghost use Rattle.c_layout.specs.StructViews.{StructView, structs_view};
-ghost use Rattle.flow_lower_tasks.specs.Pieces.{TemplateView, template_view};
+ghost use Rattle.std.specs.Prelude.{◌≡◌, IfOk};
+ghost use Rattle.c_layout.specs.CheckedUnits.{function_view};
+ghost use Rattle.c_layout.specs.StructViews.{structs_view};
+ghost use Rattle.flow_lower_tasks.specs.Pieces.{template_view};
 ghost use Rattle.flow_lower_tasks.specs.Plans.{plan};
 ghost use Rattle.flow_lower_tasks.specs.Settings.{setting};
 ghost use Rattle.flow_lower_functions.specs.Functions.{numbers_from, setting_of, no_plan, IsTemplate};
@@ -77,8 +77,3 @@ pub fn template<'a>(
     push_function(&cx, &mut builder, function)?;
     finished(&cx, builder)
 }
-
-/// A function has one template at most.
-pub fn one_template()
-    ensures { (structs : List StructView) (pointer int_bytes : ℕ) (f : FunctionView) (is_entry : Bool) (t u : TemplateView) → IsTemplate structs pointer int_bytes f is_entry t → IsTemplate structs pointer int_bytes f is_entry u → t ≡ u }
-{}

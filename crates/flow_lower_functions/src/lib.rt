@@ -4,6 +4,8 @@
 mod finished_works;
 mod function_templates;
 mod function_works;
+mod theorems;
 
 pub use flow_lower_tasks::{BaseName, Exit, OwnCall, Piece, Template};
-pub use function_templates::{one_template, template};
+pub use function_templates::template;
+pub use theorems::one_template;

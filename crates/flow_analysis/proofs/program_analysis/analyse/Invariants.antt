@@ -1,4 +1,4 @@
 use Rattle.flow_analysis.proofs.program_analysis.analyse.Given as goal
 
-abbrev pub ghosts-found_in : goal.ghosts-found_in
-ghosts-found_in a = record { name = a.blank.name; parts = a.blank.parts }
+abbrev pub ghosts-analysed_from : goal.ghosts-analysed_from
+ghosts-analysed_from a = record { name = a.blank.name; parts = a.blank.parts }

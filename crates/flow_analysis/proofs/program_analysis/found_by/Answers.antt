@@ -1,4 +1,5 @@
 use Rattle.fixpoint_engine.specs.RowMap.{rows_in}
+use Rattle.flow_analysis.proofs.VisitBounds.{followed}
 use Rattle.flow_analysis.proofs.Found.{solved_as, analysed}
 use Rattle.flow_analysis.proofs.program_analysis.found_by.Goals as goal
 
@@ -7,3 +8,7 @@ returns-clause-found g c =
     analysed (λ v. v.items) c.args.flow.now c.args.list.now (rows_in c.solve.new.pool c.solve.new.map) c.requires.started
     (solved_as c.system-equations.result.flow.now c.args.flow.now c.system-equations.result.list.now c.args.list.now (rows_in c.solve.new.pool c.solve.new.map) c.system-equations.ensures.flow c.system-equations.ensures.list c.solve.ensures.inductive c.solve.ensures.least)
     c.diagnose-found.result c.diagnose-found.ensures
+
+pub returns-clause-followed : goal.returns-clause-followed
+returns-clause-followed g c =
+    followed c.system-equations.result.flow.now c.args.flow.now c.system-equations.result.list.now c.args.list.now _ _ c.system-equations.ensures.flow c.system-equations.ensures.list c.solve.ensures.steps

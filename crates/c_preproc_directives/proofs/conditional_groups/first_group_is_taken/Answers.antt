@@ -1,5 +1,0 @@
-use Rattle.c_preproc_directives.proofs.Groups.{section-takes_first}
-use Rattle.c_preproc_directives.proofs.conditional_groups.first_group_is_taken.Goals as goal
-
-pub returns : goal.returns
-returns c = section-takes_first
