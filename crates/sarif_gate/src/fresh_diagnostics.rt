@@ -18,8 +18,7 @@ struct Key {
 }
 
 /// The key of a known result.
-fn key_of(alloc: Global, known: &Known) -> Result<Key, AllocError>
-{
+fn key_of(alloc: Global, known: &Known) -> Result<Key, AllocError> {
     let file = Vec::from_slice(alloc, known.file.as_bytes())?;
     Ok(Key {
         file,
@@ -30,8 +29,7 @@ fn key_of(alloc: Global, known: &Known) -> Result<Key, AllocError>
 }
 
 /// The key of a diagnostic in a file.
-fn diagnostic_key(alloc: Global, file: &str, diag: &Diag) -> Result<Key, AllocError>
-{
+fn diagnostic_key(alloc: Global, file: &str, diag: &Diag) -> Result<Key, AllocError> {
     let file = Vec::from_slice(alloc, file.as_bytes())?;
     Ok(Key {
         file,
@@ -42,8 +40,7 @@ fn diagnostic_key(alloc: Global, file: &str, diag: &Diag) -> Result<Key, AllocEr
 }
 
 /// The keys of what is known.
-fn keys_of(alloc: Global, known: &[Known]) -> Result<BTreeSet<Key>, AllocError>
-{
+fn keys_of(alloc: Global, known: &[Known]) -> Result<BTreeSet<Key>, AllocError> {
     let mut keys = BTreeSet::new(alloc);
     for entry in known {
         let key = key_of(alloc, entry)?;
@@ -58,8 +55,7 @@ fn is_known(
     files: &[String],
     keys: &BTreeSet<Key>,
     diag: &Diag,
-) -> Result<bool, AllocError>
-{
+) -> Result<bool, AllocError> {
     let Some(file) = files.get(diag.place.file as usize) else {
         return Ok(false);
     };
