@@ -73,7 +73,7 @@ lex-printed c [] rest h e = refl
 lex-printed c (t ∷ ts) rest h e =
     let more = print_from (ends t) ts in
     let inner = ap (lex between) (append_assoc (token_text t) more rest) ∙ lex-token_text t (more ++ rest) h.0 (λ k. ap (λ b. ends_word (print_from b ts ++ rest)) k ∙ ends_behind ts rest e)
-        ∙ ap (λ l. token_lexemes t ++ l) (lex-printed (ends t) ts rest h.1 e) ∙ sym (append_assoc (token_lexemes t) (lexemes (ends t) ts) (lex between rest))
+    ∙ ap (λ l. token_lexemes t ++ l) (lex-printed (ends t) ts rest h.1 e) ∙ sym (append_assoc (token_lexemes t) (lexemes (ends t) ts) (lex between rest))
     in
     ap (lex between) (append_assoc (separator c t) (token_text t ++ more) rest) ∙ lex-separator (c && begins t) ((token_text t ++ more) ++ rest)
     ∙ ap (λ l. commas (c && begins t) ++ l) inner ∙ sym (append_assoc (commas (c && begins t)) (token_lexemes t ++ lexemes (ends t) ts) (lex between rest))

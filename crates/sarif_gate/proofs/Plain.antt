@@ -1,5 +1,5 @@
 -- Values whose numbers are whole and whose texts are UTF-8: they are printed and read as they are.
-use Rattle.std.proofs.Common.{◌≡◌, ◌<◌, ◌^◌, ℕ, suc, max, Bool, true, false, List, [], ◌∷◌, ◌++◌, refl, sym, ap, ap₂, ◌∙◌, arith, IsUtf8, decimal}
+use Rattle.std.proofs.Common.{◌≡◌, ◌<◌, ◌^◌, suc, max, Bool, true, false, [], ◌∷◌, refl, ap, ap₂, IsUtf8, decimal}
 use Rattle.std.specs.Prelude.{⊤}
 use Rattle.std.proofs.lemmas.Str.{IsUtf8-append, IsUtf8-from_ascii, IsUtf8-nil}
 use Rattle.std.proofs.lemmas.Fmt.{IsAscii-decimal}

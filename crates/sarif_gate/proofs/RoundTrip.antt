@@ -1,5 +1,5 @@
 -- A report is read as the diagnostics that it was written for.
-use Rattle.std.proofs.Common.{◌≡◌, ◌<◌, ◌≤◌, ◌^◌, ℕ, zero, suc, Bool, true, false, cond, List, [], ◌∷◌, ◌++◌, length, map, Option, Some, None, option_map, option_and_then, option_to_list, slice_get, unwrap_or, codes, refl, sym, ap, ◌∙◌, arith, append-nil, All, IsUtf8, subst}
+use Rattle.std.proofs.Common.{◌≡◌, ◌<◌, ◌≤◌, ◌^◌, ℕ, zero, suc, true, List, [], ◌∷◌, ◌++◌, map, Option, Some, option_and_then, option_to_list, refl, sym, ap, ◌∙◌, arith, append-nil, All, IsUtf8, subst}
 use Rattle.std.proofs.lemmas.Bool.{le-leb, lt-ltb}
 use Rattle.std.proofs.lemmas.List.Elements.{All-head, All-tail, All-nil}
 use Rattle.std.proofs.lemmas.Str.{IsUtf8-append, is_utf8-from_IsUtf8, IsUtf8-nil}
@@ -14,13 +14,12 @@ use Rattle.json.specs.Tree.{json_tokens}
 use Rattle.json.specs.Tree as tree
 use Rattle.json.proofs.Printed.Trees.{ArePrintable-json_tokens, value-json_tokens}
 use Rattle.json.proofs.Printed.Utf8.{are_ascii, IsUtf8-are_ascii}
-use Rattle.serde_json.specs.Data.{Data, depth, items_depth, number, unsigned}
+use Rattle.serde_json.specs.Data.{Data, depth, items_depth}
 use Rattle.serde_json.specs.Read.{of_json, of_items, read, max_depth}
 use Rattle.serde_json.specs.View.{items_of}
 use Rattle.serde_json.specs.Written.{outline, items_outline, compact_text}
 use Rattle.serde_json.proofs.Numbers.{number_of-decimal}
 use Rattle.serde_json.proofs.Texts.{print-outline}
-use Rattle.sarif_gate.specs.declared.known_results.Known.{Known}
 use Rattle.sarif_gate.specs.Uris.{Bytes, uri_of, file_of_uri}
 use Rattle.sarif_gate.specs.RuleTags.{rule_tagged}
 use Rattle.sarif_gate.specs.Reports.{name_of, result_data, results_data, report_data, sarif_of}
@@ -130,10 +129,7 @@ result_plain : (uri : Bytes) (d : Diag) → IsUtf8 uri → IsCounted d → IsPla
 result_plain uri d u c =
     let line : d.place.line < 2 ^ 64 = omega (arith, c.line_fits) in
     let col : d.place.col < 2 ^ 64 = omega (arith, c.col_fits) in
-    let region = (ascii _ refl, (col, (ascii _ refl, (line, tt)))) in
-    let artifact = (ascii _ refl, (u, tt)) in
-    let physical = (ascii _ refl, (artifact, (ascii _ refl, (region, tt)))) in
-    (ascii _ refl, (((ascii _ refl, (physical, tt)), tt), (ascii _ refl, ((ascii _ refl, (ascii _ (text_ascii d.rule), tt)), (ascii _ refl, (ascii _ (tag_ascii d.rule), tt))))))
+    (ascii _ refl, (((ascii _ refl, ((ascii _ refl, ((ascii _ refl, (u, tt)), (ascii _ refl, ((ascii _ refl, (col, (ascii _ refl, (line, tt)))), tt)))), tt)), tt), (ascii _ refl, ((ascii _ refl, (ascii _ (text_ascii d.rule), tt)), (ascii _ refl, (ascii _ (tag_ascii d.rule), tt))))))
 
 results_plain : (names : List Bytes) (ds : List Diag) → All IsName names → All IsCounted ds → ArePlain (items_of (results_data names ds))
 results_plain names [] h c = tt
@@ -142,8 +138,7 @@ results_plain names (d ∷ ds) h c =
 
 report_plain : (names : List Bytes) (ds : List Diag) → All IsName names → All IsCounted ds → IsPlain (report_data (results_data names ds))
 report_plain names ds h c =
-    let tool = (ascii _ refl, ((ascii _ refl, (ascii _ refl, tt)), tt)) in
-    (ascii _ refl, (((ascii _ refl, (results_plain names ds h c, (ascii _ refl, (tool, tt)))), tt), (ascii _ refl, (ascii _ refl, tt))))
+    (ascii _ refl, (((ascii _ refl, (results_plain names ds h c, (ascii _ refl, ((ascii _ refl, ((ascii _ refl, (ascii _ refl, tt)), tt)), tt)))), tt), (ascii _ refl, (ascii _ refl, tt))))
 
 result_json : (uri : Bytes) (d : Diag) → IsCounted d → of_json (outline (result_data uri d)) ≡ Some (result_data uri d)
 result_json uri d c =
@@ -169,7 +164,7 @@ report_shallow names ds = omega (arith, results_shallow names ds)
 report_tokens : (names : List Bytes) (ds : List Diag) → All IsName names → All IsCounted ds → tokens (sarif_of names ds) ≡ json_tokens (outline (report_data (results_data names ds)))
 report_tokens names ds h c =
     ap (λ t. tokens (t ++ 10 ∷ [])) (sym (print-outline (report_data (results_data names ds))))
-    ∙ line_tokens _ (ArePrintable-json_tokens _ (numbers_kept (report_data (results_data names ds)) (report_plain names ds h c)))
+    ∙ line_tokens (json_tokens (outline (report_data (results_data names ds)))) (ArePrintable-json_tokens (outline (report_data (results_data names ds))) (numbers_kept (report_data (results_data names ds)) (report_plain names ds h c)))
 
 -- the value of what was read
 abbrev whole : Option (json.Json × List Token) → Option Data

@@ -1,5 +1,5 @@
 -- Uris, byte by byte.
-use Rattle.std.proofs.Common.{◌≡◌, ℕ, List, [], ◌∷◌, ◌++◌, ◌∙◌, ap, sym, Option, Some, None, option_map, append_assoc}
+use Rattle.std.proofs.Common.{◌≡◌, ℕ, [], ◌∷◌, ◌++◌, ◌∙◌, ap, sym, Option, Some, None, option_map, append_assoc}
 use Rattle.sarif_gate.specs.Uris.{Bytes}
 
 -- one more byte of a uri is decoded

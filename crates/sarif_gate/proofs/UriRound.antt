@@ -1,5 +1,5 @@
 -- A file name is what its uri stands for.
-use Rattle.std.proofs.Common.{◌≡◌, ◌<◌, ◌/◌, ◌%◌, ◌==◌, ℕ, zero, suc, Bool, true, false, cond, not, ◌&&◌, List, [], ◌∷◌, ◌++◌, Option, Some, None, option_map, option_and_then, refl, sym, ap, ◌∙◌, arith, All, IsUtf8, inl, inr, eqb-true}
+use Rattle.std.proofs.Common.{◌≡◌, ◌<◌, ◌/◌, ◌%◌, ◌==◌, ℕ, zero, suc, Bool, true, false, cond, not, ◌&&◌, [], ◌∷◌, ◌++◌, Option, Some, None, option_map, option_and_then, refl, sym, ap, ◌∙◌, arith, All, IsUtf8, inl, inr, eqb-true}
 use Rattle.std.proofs.lemmas.Bool.{and_parts, cases_eq}
 use Rattle.std.proofs.lemmas.List.Elements.{All-head, All-tail}
 use Rattle.std.proofs.lemmas.Str.{IsUtf8-append, IsUtf8-nil}
@@ -36,8 +36,7 @@ is_false false e = refl
 byte_read : (byte : ℕ) (rest : Bytes) → byte < 256 → uri_bytes (escaped byte ++ rest) ≡ option_map (λ bytes. byte ∷ bytes) (uri_bytes rest)
 byte_read byte rest h =
     elim (is_plain byte) as (λ b. cond b (not (byte == 37)) (is_some_of (hex_pair (hex_digit (byte / 16)) (hex_digit (byte % 16))) byte) ≡ true
-    → uri_bytes (cond b (byte ∷ []) (37 ∷ (hex_digit (byte / 16) ∷ (hex_digit (byte % 16) ∷ []))) ++ rest) ≡ option_map (λ bytes. byte ∷ bytes) (uri_bytes rest))
-    [
+    → uri_bytes (cond b (byte ∷ []) (37 ∷ (hex_digit (byte / 16) ∷ (hex_digit (byte % 16) ∷ []))) ++ rest) ≡ option_map (λ bytes. byte ∷ bytes) (uri_bytes rest)) [
       | true ↦ λ e. rw (is_false (byte == 37) e) refl
       | false ↦ λ e. ap (option_and_then (λ b. option_map (λ bytes. b ∷ bytes) (uri_bytes rest))) (some_of _ byte e)
     ] (of_below is_read_back 256 refl byte h)
@@ -45,9 +44,9 @@ byte_read byte rest h =
 pub uri_read_back : (name : Bytes) → All (λ b. b < 256) name → uri_bytes (uri_of name) ≡ Some name
 uri_read_back [] h = refl
 uri_read_back (byte ∷ name) h =
-    byte_read byte (uri_of name) (All-head _ byte name h) ∙ ap (option_map (λ bytes. byte ∷ bytes)) (uri_read_back name (All-tail _ byte name h))
+    byte_read byte (uri_of name) (All-head (λ b. b < 256) byte name h) ∙ ap (option_map (λ bytes. byte ∷ bytes)) (uri_read_back name (All-tail (λ b. b < 256) byte name h))
 
 pub uri_is_utf8 : (name : Bytes) → All (λ b. b < 256) name → IsUtf8 (uri_of name)
 uri_is_utf8 [] h = IsUtf8-nil
 uri_is_utf8 (byte ∷ name) h =
-    IsUtf8-append (escaped byte) (uri_of name) (IsUtf8-are_ascii (escaped byte) (of_below (λ b. are_ascii (escaped b)) 256 refl byte (All-head _ byte name h))) (uri_is_utf8 name (All-tail _ byte name h))
+    IsUtf8-append (escaped byte) (uri_of name) (IsUtf8-are_ascii (escaped byte) (of_below (λ b. are_ascii (escaped b)) 256 refl byte (All-head (λ b. b < 256) byte name h))) (uri_is_utf8 name (All-tail (λ b. b < 256) byte name h))

@@ -1,5 +1,5 @@
 -- Bytes that no value is.
-use Rattle.std.proofs.Common.{◌≡◌, ℕ, List, true, false, cond, refl, sym, IsUtf8, Option, Some, None, Result, Ok, Err, is_ok, MatchResult}
+use Rattle.std.proofs.Common.{◌≡◌, ℕ, List, true, false, cond, refl, sym, IsUtf8, Some, None, Result, Ok, Err, is_ok, MatchResult}
 use Rattle.std.specs.Str.{is_utf8}
 use Rattle.std.proofs.lemmas.Str.{IsUtf8-from_is_utf8, is_utf8-from_IsUtf8}
 use Rattle.serde_json.specs.Data.{Data}
