@@ -1,0 +1,7 @@
+pub mod Uris
+pub mod RuleTags
+pub mod Reports
+pub mod Baselines
+pub mod Comparing
+pub mod Keys
+pub mod Laws
