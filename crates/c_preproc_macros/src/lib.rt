@@ -17,5 +17,5 @@ pub use lexeme::{Lexeme, Mark};
 pub use machine::{Expansion, expand_list};
 pub use macro_table::{Macro, Macros, Part};
 pub use spelling_numbers::Spellings;
-pub use trouble::{Failure, Refused, Trouble};
 pub use theorems::goes_by_its_first_token;
+pub use trouble::{Failure, Refused, Trouble};

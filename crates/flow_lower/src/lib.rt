@@ -6,8 +6,9 @@ mod initial_objects;
 mod moved_operations;
 mod opened_program;
 mod program_bases;
+mod resolved_edges;
 mod theorems;
 mod unit_lowering;
 
-pub use unit_lowering::lower;
 pub use theorems::{as_counted, no_more_bases, one_lowering, well_made};
+pub use unit_lowering::lower;

@@ -2,7 +2,7 @@ use Rattle.std.proofs.Common.{◌<◌, length, refl, arith}
 use Rattle.std.proofs.lemmas.Grind.{common_steps}
 use Rattle.std.proofs.lemmas.Option.{slice_get_read}
 use Rattle.flow_lower.proofs.Heads.{head_at}
-use Rattle.flow_lower.proofs.opened_program.set_head.Goals as goal
+use Rattle.flow_lower.proofs.resolved_edges.set_head.Goals as goal
 
 pub returns-then-number-len : goal.returns-then-number-len
 returns-then-number-len c =
