@@ -8,3 +8,4 @@ pub mod Lines
 pub mod Plain
 pub mod RoundTrip
 pub mod OwnReports
+pub mod Rows

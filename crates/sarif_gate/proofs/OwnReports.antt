@@ -1,5 +1,5 @@
 -- Behind the report of diagnostics none of them is fresh.
-use Rattle.std.proofs.Common.{◌≡◌, ◌<◌, ℕ, zero, suc, Bool, true, false, cond, not, ◌||◌, List, [], ◌∷◌, ◌++◌, length, map, filter, Some, slice_get, bytes_eq, refl, ap, ◌∙◌, subst, arith, append_assoc, All}
+use Rattle.std.proofs.Common.{◌≡◌, ◌<◌, ℕ, zero, suc, Bool, true, false, cond, not, ◌||◌, List, [], ◌∷◌, ◌++◌, length, map, Some, slice_get, bytes_eq, refl, ap, ◌∙◌, subst, arith, append_assoc, All}
 use Rattle.std.proofs.lemmas.Bool.{eq-eqb}
 use Rattle.std.proofs.lemmas.List.Elements.{All-head, All-tail}
 use Rattle.cc_base.specs.DiagnosticOrder.{rule_rank}

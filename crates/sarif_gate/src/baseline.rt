@@ -1,9 +1,8 @@
 //! Reports of other runs and of other producers, read as lists of what is known.
-ghost use Rattle.std.specs.Prelude.{◌≡◌, ◌++◌, Some, None, Err, IfOk, OnOk, codes, string_bytes, option_map, option_and_then};
-ghost use Rattle.serde_json.specs.Find.{get, at};
+ghost use Rattle.std.specs.Prelude.{◌≡◌, ◌++◌, Some, None, Err, IfOk, OnOk, option_map};
 ghost use Rattle.serde_json.specs.View.{view, items_view};
 ghost use Rattle.sarif_gate.specs.declared.base_fault.BaseFault.TheVariants.{Shape};
-ghost use Rattle.sarif_gate.specs.Baselines.{text_at, position, position_at, location_of, uri_at, file_at, region_position, rule_of, known_from, known_at, known_of, results_known, run_results, runs_known, has_version, runs_of, baseline_of, value_of, baseline_read};
+ghost use Rattle.sarif_gate.specs.Baselines.{text_at, position, position_at, location_of, uri_at, file_at, region_position, rule_of, known_from, known_at, known_of, results_known, run_results, runs_known, has_version, runs_of, value_of, baseline_read};
 
 use crate::base_fault::BaseFault;
 use crate::known_results::Known;

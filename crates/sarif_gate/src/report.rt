@@ -2,7 +2,6 @@
 ghost use Rattle.std.specs.Prelude.{◌≡◌, ◌++◌, false, IfOk, map, string_bytes, codes};
 ghost use Rattle.serde_json.specs.View.{view};
 ghost use Rattle.serde_json.specs.Written.{compact_text, has_float};
-ghost use Rattle.sarif_gate.specs.Uris.{uri_of};
 ghost use Rattle.sarif_gate.specs.Reports.{name_of, location_data, result_data, diagnostic_data, results_data, run_data, report_data, sarif_of};
 
 use crate::uris::uri_of;
