@@ -15,4 +15,7 @@ pub mod StorePlaces
 pub mod Stores
 pub mod Freeing
 pub mod TopRows
+pub mod OwnValues
+pub mod ObjectLives
+pub mod Spelling
 pub mod Together

@@ -5,7 +5,7 @@ ghost use Rattle.c_layout.specs.declared.data_model.Model.{Model};
 ghost use Rattle.c_layout.specs.declared.shapes.BaseInfo.{BaseInfo};
 ghost use Rattle.pointer_domain.specs.declared.base_sets.Bases.{Bases};
 ghost use Rattle.store_domain_laws.specs.TopRows.{top_row};
-ghost use Rattle.store_domain_laws.specs.StoreLaws.{IsLayout, IsLoadMonotone, IsStoreMonotone, IsFreeMonotone};
+ghost use Rattle.store_domain_laws.specs.StoreLaws.{IsLayout, IsLoadMonotone, IsStoreMonotone, IsFreeMonotone, IsForgetMonotone, IsClearMonotone, IsLeaveMonotone, IsSpellMonotone};
 
 use cc_base::IntDomain;
 
@@ -22,4 +22,17 @@ pub fn stores_are_monotone<I: IntDomain>()
 /// Freeing through larger pointers, of which one is there, in a larger own row leaves a larger row, and an own one.
 pub fn frees_are_monotone<I: IntDomain>()
     ensures { (m : Model) (bases : List BaseInfo) → IsLayout m bases → (all : Bases) (temps : ℕ) → length (top_row I.numbers all bases temps) < 2 ^ 64 → IsFreeMonotone I.lattice I.numbers m bases all temps }
+{}
+
+/// An object that is entered, forgotten, cleared or left in a larger own row leaves a larger row, and an own one; where it is
+/// left, the pointers of the smaller row are consistent.
+pub fn lives_are_monotone<I: IntDomain>()
+    ensures forgotten { (m : Model) (bases : List BaseInfo) → IsLayout m bases → (all : Bases) (temps : ℕ) → length (top_row I.numbers all bases temps) < 2 ^ 64 → IsForgetMonotone I.lattice I.numbers m bases all temps }
+    ensures cleared { (m : Model) (bases : List BaseInfo) → IsLayout m bases → (all : Bases) (temps : ℕ) → length (top_row I.numbers all bases temps) < 2 ^ 64 → IsClearMonotone I.lattice I.numbers m bases all temps }
+    ensures left { (m : Model) (bases : List BaseInfo) → IsLayout m bases → (all : Bases) (temps : ℕ) → length (top_row I.numbers all bases temps) < 2 ^ 64 → IsLeaveMonotone I.lattice I.numbers m bases all temps }
+{}
+
+/// A text of bytes that is written into an array in a larger own row leaves a larger row, and an own one.
+pub fn spells_are_monotone<I: IntDomain>()
+    ensures { (m : Model) (bases : List BaseInfo) → IsLayout m bases → (all : Bases) (temps : ℕ) → length (top_row I.numbers all bases temps) < 2 ^ 64 → IsSpellMonotone I.lattice I.numbers m bases all temps }
 {}
