@@ -18,4 +18,6 @@ pub mod TopRows
 pub mod OwnValues
 pub mod ObjectLives
 pub mod Spelling
+pub mod OldBytes
+pub mod Allocations
 pub mod Together

@@ -105,7 +105,7 @@ module _ {I : Type 0} {l : LatticeOf I} {n : IntegersOf I} {stands : I → ℤ �
       bases = bases_order.least_below all; lo = o.least_below (top_number n); rel = o.least_below (top_number n); len = o.least_below (top_number n); part = refl; null = any_flag q.null; ended = any_flag q.ended;
     })
 
-    either_top : (t : Bool) (x y : Pointers I) → pointers_leq l x (top_value n all).pointer ≡ true → pointers_leq l y (top_value n all).pointer ≡ true → pointers_leq l (cond t x y) (top_value n all).pointer ≡ true
+    pub either_top : (t : Bool) (x y : Pointers I) → pointers_leq l x (top_value n all).pointer ≡ true → pointers_leq l y (top_value n all).pointer ≡ true → pointers_leq l (cond t x y) (top_value n all).pointer ≡ true
     either_top true x y u v = u
     either_top false x y u v = v
 
@@ -121,7 +121,7 @@ module _ {I : Type 0} {l : LatticeOf I} {n : IntegersOf I} {stands : I → ℤ �
       by_number true = end_monotone o b p q number w k h
       by_number false = h
 
-  with_pointer : (v w : values.Value I) (p q : Pointers I) → (value_lattice l).leq v w ≡ true → pointers_leq l p q ≡ true → (value_lattice l).leq (record v { pointer = p }) (record w { pointer = q }) ≡ true
+  pub with_pointer : (v w : values.Value I) (p q : Pointers I) → (value_lattice l).leq v w ≡ true → pointers_leq l p q ≡ true → (value_lattice l).leq (record v { pointer = p }) (record w { pointer = q }) ≡ true
   with_pointer v w p q h k = let d = value_parts l v w h in value_below l (record v { pointer = p }) (record w { pointer = q }) (record { num = d.num; pointer = k; indeterminate = d.indeterminate; labels = d.labels })
 
   cell_ended : (number : ℕ) (x y : Cell I) → IsConsistentCell n x → cell_leq l x y ≡ true → cell_leq l (ended_cell l number x) (ended_cell l number y) ≡ true
