@@ -42,7 +42,7 @@ use Rattle.store_domain_laws.specs.TopCells.{top_value, top_zero, top_state}
 use Rattle.store_domain_laws.specs.Placements.{EachFrom, IsPlaced}
 use Rattle.store_domain_laws.specs.RowsBelow.{RowsBelow}
 use Rattle.store_domain_laws.specs.ConsistentRows.{IsConsistentCell, AreConsistent}
-use Rattle.store_domain_laws.specs.StoreLaws.{IsSite, FreshBelow}
+use Rattle.store_domain_laws.specs.StoreLaws.{IsSite, FreshBelow, IsFreshOfWords}
 use Rattle.store_domain_laws.proofs.PairedSteps.{walk_pair, turns_pair, numbers_below}
 use Rattle.store_domain_laws.proofs.NearCells.{value_at_monotone, value_at_top}
 use Rattle.store_domain_laws.proofs.CellSteps.{put_pair, join_pair}
@@ -131,18 +131,16 @@ module _ {I : Type 0} {l : LatticeOf I} {n : IntegersOf I} {stands : I → ℤ �
   pub renamed_row : (all : Bases) (newest older : ℕ) → bases_has all older ≡ true → (top r s : List (Cell I)) → AreGreatest n all top → AreConsistent n r → RowsBelow l top r s → RowsBelow l top (map (renamed_cell (site_of newest older)) r) (map (renamed_cell (site_of newest older)) s)
   renamed_row all newest older t top r s g e j = record { small = row_renamed newest older r s e j.small; large = row_own all newest older t s top g j.large }
 
-  renamed_below : (newest older : ℕ) (fresh more : Fresh I) → FreshBelow l fresh more → (p q : Pointers I) → fresh ≡ Old p → more ≡ Old q → bases_within (renamed (site_of newest older) p).bases (renamed (site_of newest older) q).bases ≡ true
-  renamed_below newest older Blank more h p q e f = cc
-  renamed_below newest older Zero more h p q e f = cc
-  renamed_below newest older (Old x) Blank h p q e f = cc
-  renamed_below newest older (Old x) Zero h p q e f = cc
-  renamed_below newest older (Old x) (Old y) h p q e f =
-      let u : x ≡ p = same x p e in
-      let v : y ≡ q = same y q f in
-      subst (λ z. bases_within (renamed (site_of newest older) z).bases (renamed (site_of newest older) q).bases ≡ true) u (subst (λ z. bases_within (renamed (site_of newest older) x).bases (renamed (site_of newest older) z).bases ≡ true) v (pointer_parts l (renamed (site_of newest older) x) (renamed (site_of newest older) y) (renamed_monotone newest older x y h.0 h.1)).bases)
-    where
-      same : (x p : Pointers I) → Old x ≡ Old p → x ≡ p
-      same x p e = cc
+  renamed_below : (newest older : ℕ) (fresh more : Fresh I) → IsFreshOfWords fresh → FreshBelow l fresh more → FreshBelow l (renamed_fresh (site_of newest older) fresh) (renamed_fresh (site_of newest older) more)
+  renamed_below newest older Blank Blank w h = tt
+  renamed_below newest older Blank Zero w h = absurd h
+  renamed_below newest older Blank (Old q) w h = absurd h
+  renamed_below newest older Zero Blank w h = absurd h
+  renamed_below newest older Zero Zero w h = tt
+  renamed_below newest older Zero (Old q) w h = absurd h
+  renamed_below newest older (Old p) Blank w h = absurd h
+  renamed_below newest older (Old p) Zero w h = absurd h
+  renamed_below newest older (Old p) (Old q) w h = renamed_monotone newest older p q w h
 
   -- ---- the newest base becomes part of the older one
 
@@ -263,4 +261,31 @@ module _ {I : Type 0} {l : LatticeOf I} {n : IntegersOf I} {stands : I → ℤ �
       old_freed Zero (Old q) h r s j = absurd h
       old_freed (Old p) Blank h r s j = absurd h
       old_freed (Old p) Zero h r s j = absurd h
-      old_freed (Old p) (Old q) h r s j = perhaps_freed p.bases q.bases (pointer_parts l p q h.1).bases r s j
+      old_freed (Old p) (Old q) h r s j = perhaps_freed p.bases q.bases (pointer_parts l p q h).bases r s j
+
+    -- ---- the call
+
+    module _ (f : RangeLaws l n) (g : MonotoneLaws l n) (m : Model) (bases : List BaseInfo) (each : EachFrom (λ base number. IsPlaced n all top base) 0 bases) (x y : I) (k : l.leq x y ≡ true) (t : l.leq y (n.between (pos 0) the_end) ≡ true) (e : is_some (n.bounds x) ≡ true) (fresh more : Fresh I) where
+      all_replaced : (new : BaseInfo) → IsPlaced n all top new → new.shape.heap ≡ true → FreshBelow l fresh more → (r s : List (Cell I)) → RowsBelow l top r s → RowsBelow l top (replaced l n m bases new x fresh r) (replaced l n m bases new y more s)
+      unfolding replaced
+      all_replaced new p heap h r s j = old_freed bases each fresh more h (make_fresh l n m bases new x fresh r) (make_fresh l n m bases new y more s) (fresh_made f g m bases each new p heap fresh more h x y k t e r s j)
+
+    module _ (f : RangeLaws l n) (g : MonotoneLaws l n) (m : Model) (bases : List BaseInfo) (each : EachFrom (λ base number. IsPlaced n all top base) 0 bases) (greatest : AreGreatest n all top) (newest older : ℕ) (has : bases_has all older ≡ true) where
+      -- over the two bases that the numbers name
+      pub renew_monotone : ((new old : BaseInfo) → slice_get bases newest ≡ Some new → slice_get bases older ≡ Some old → IsSite new old) → (r s : List (Cell I)) → RowsBelow l top r s → AreConsistent n r
+          → (x y : I) → l.leq x y ≡ true → l.leq y (n.between (pos 0) the_end) ≡ true → is_some (n.bounds x) ≡ true → (fresh more : Fresh I) → IsFreshOfWords fresh → FreshBelow l fresh more
+          → RowsBelow l top (renew l n m bases newest older x fresh r) (renew l n m bases newest older y more s)
+      unfolding renew renew_site
+      renew_monotone places r s j c x y k t e fresh more w h = by_found (slice_get bases newest) (slice_get bases older) refl refl
+        where
+          by_found : (new old : Option BaseInfo) → slice_get bases newest ≡ new → slice_get bases older ≡ old → RowsBelow l top (renew_found l n m bases (site_of newest older) x fresh new old r) (renew_found l n m bases (site_of newest older) y more new old s)
+          by_found None old u v = j
+          by_found (Some new) None u v = j
+          by_found (Some new) (Some old) u v =
+              let place = places new old u v in
+              let p = each_get (λ base number. IsPlaced n all top base) 0 newest bases new each u in
+              let q = each_get (λ base number. IsPlaced n all top base) 0 older bases old each v in
+              let named = renamed_row all newest older has top r s greatest c j in
+              all_replaced f g m bases each x y k t e (renamed_fresh (site_of newest older) fresh) (renamed_fresh (site_of newest older) more) new p place.new_heap (renamed_below newest older fresh more w h)
+              (join_base l n new old (map (renamed_cell (site_of newest older)) r)) (join_base l n new old (map (renamed_cell (site_of newest older)) s))
+              (base_joined new old p q place (map (renamed_cell (site_of newest older)) r) (map (renamed_cell (site_of newest older)) s) named)

@@ -102,7 +102,7 @@ module _ {I : Type 0} {l : LatticeOf I} {n : IntegersOf I} {stands : I → ℤ �
       fresh_own (Old p) Blank h = absurd h
       fresh_own (Old p) Zero h = absurd h
       fresh_own (Old p) (Old q) h = own_join (blank_value l) (blank_value l) (old_value l n m bases r p.bases (record { class = class; signed = signed })) (old_value l n m bases s q.bases (record { class = class; signed = signed }))
-          (record { small = (value_order o).reflexive (blank_value l); large = blank_top o b all }) (old_own p.bases q.bases (pointer_parts l p q h.1).bases)
+          (record { small = (value_order o).reflexive (blank_value l); large = blank_top o b all }) (old_own p.bases q.bases (pointer_parts l p q h).bases)
 
 -- ---- first zeros of a fresh instance
 

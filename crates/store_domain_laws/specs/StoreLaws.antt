@@ -58,7 +58,13 @@ FreshBelow l Zero Zero = Unit {0}
 FreshBelow l Zero (Old q) = ⊥
 FreshBelow l (Old p) Blank = ⊥
 FreshBelow l (Old p) Zero = ⊥
-FreshBelow l (Old p) (Old q) = AreWords p.bases × (pointers_leq l p q ≡ true)
+FreshBelow l (Old p) (Old q) = pointers_leq l p q ≡ true
+
+-- the set of the old pointers is of words
+abbrev pub IsFreshOfWords : {I : Type 0} → Fresh I → Type 0
+IsFreshOfWords Blank = Unit {0}
+IsFreshOfWords Zero = Unit {0}
+IsFreshOfWords (Old p) = AreWords p.bases
 
 module _ {I : Type 0} (l : LatticeOf I) (n : IntegersOf I) (m : Model) (bases : List BaseInfo) (all : Bases) (temps : ℕ) where
   -- a larger row and larger pointers give a larger value
@@ -95,4 +101,4 @@ module _ {I : Type 0} (l : LatticeOf I) (n : IntegersOf I) (m : Model) (bases : 
   IsRenewMonotone = (r s : List (Cell I)) → RowsBelow l (top_row n all bases temps) r s → AreConsistent n r → (newest older : ℕ) → bases_has all older ≡ true
       → ((new old : BaseInfo) → slice_get bases newest ≡ Some new → slice_get bases older ≡ Some old → IsSite new old)
       → (x y : I) → l.leq x y ≡ true → l.leq y (n.between (pos 0) the_end) ≡ true → is_some (n.bounds x) ≡ true
-      → (fresh more : Fresh I) → FreshBelow l fresh more → RowsBelow l (top_row n all bases temps) (renew l n m bases newest older x fresh r) (renew l n m bases newest older y more s)
+      → (fresh more : Fresh I) → IsFreshOfWords fresh → FreshBelow l fresh more → RowsBelow l (top_row n all bases temps) (renew l n m bases newest older x fresh r) (renew l n m bases newest older y more s)

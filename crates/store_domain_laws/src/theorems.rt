@@ -5,7 +5,7 @@ ghost use Rattle.c_layout.specs.declared.data_model.Model.{Model};
 ghost use Rattle.c_layout.specs.declared.shapes.BaseInfo.{BaseInfo};
 ghost use Rattle.pointer_domain.specs.declared.base_sets.Bases.{Bases};
 ghost use Rattle.store_domain_laws.specs.TopRows.{top_row};
-ghost use Rattle.store_domain_laws.specs.StoreLaws.{IsLayout, IsLoadMonotone, IsStoreMonotone, IsFreeMonotone, IsForgetMonotone, IsClearMonotone, IsLeaveMonotone, IsSpellMonotone};
+ghost use Rattle.store_domain_laws.specs.StoreLaws.{IsLayout, IsLoadMonotone, IsStoreMonotone, IsFreeMonotone, IsForgetMonotone, IsClearMonotone, IsLeaveMonotone, IsSpellMonotone, IsRenewMonotone};
 
 use cc_base::IntDomain;
 
@@ -35,4 +35,10 @@ pub fn lives_are_monotone<I: IntDomain>()
 /// A text of bytes that is written into an array in a larger own row leaves a larger row, and an own one.
 pub fn spells_are_monotone<I: IntDomain>()
     ensures { (m : Model) (bases : List BaseInfo) → IsLayout m bases → (all : Bases) (temps : ℕ) → length (top_row I.numbers all bases temps) < 2 ^ 64 → IsSpellMonotone I.lattice I.numbers m bases all temps }
+{}
+
+/// An allocation of a larger size, with larger old pointers, in a larger own row leaves a larger row, and an own one, where
+/// some size is left and the pointers of the smaller row are consistent.
+pub fn renewals_are_monotone<I: IntDomain>()
+    ensures { MonotoneLaws I.lattice I.numbers → (m : Model) (bases : List BaseInfo) → IsLayout m bases → (all : Bases) (temps : ℕ) → length (top_row I.numbers all bases temps) < 2 ^ 64 → IsRenewMonotone I.lattice I.numbers m bases all temps }
 {}
