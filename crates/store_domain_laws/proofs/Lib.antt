@@ -20,4 +20,8 @@ pub mod ObjectLives
 pub mod Spelling
 pub mod OldBytes
 pub mod Allocations
+pub mod PlacesOfLeaves
+pub mod Regular
+pub mod PlainShapes
+pub mod WorkedBases
 pub mod Together

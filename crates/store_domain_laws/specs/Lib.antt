@@ -4,3 +4,4 @@ pub mod RowsBelow
 pub mod Placements
 pub mod ConsistentRows
 pub mod StoreLaws
+pub mod PlainShapes
