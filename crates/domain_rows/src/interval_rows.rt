@@ -6,7 +6,7 @@ ghost use Rattle.cc_base.specs.IntegerDomains.{IsNear};
 ghost use Rattle.interval_domain.specs.Spans.{interval_bounds};
 
 use crate::pointer_rows;
-use cc_base::{IntDomain, IntOp, IntType, Rel, Tri, UnOp};
+use cc_base::{IntDomain, Lattice, IntOp, IntType, Rel, Tri, UnOp};
 use interval_domain::Interval;
 
 /// An operation, two numbers and what C gives, where it gives a number.
@@ -497,7 +497,7 @@ fn is_right(op: IntOp, s: (i128, i128), t: (i128, i128), signed: bool) -> bool {
         }
     }
     let is_best = match op {
-        IntOp::Add | IntOp::Sub | IntOp::Shr => true,
+        IntOp::Add | IntOp::Sub | IntOp::Mul | IntOp::Div | IntOp::Shr => true,
         _ => s.0 == s.1 && t.0 == t.1,
     };
     match (least, found) {
@@ -618,4 +618,104 @@ fn small_intervals(rt: HostRuntime) {
     }
     assert!(rt; all_right_beside_operators(around_zero.as_slice(), true));
     assert!(rt; all_right_beside_operators(from_zero.as_slice(), false));
+}
+
+/// A number of a char with the low bits of `n`.
+fn in_char_bits(n: i128, signed: bool) -> i128 {
+    let low = n.rem_euclid(256);
+    if signed && 127 < low { low.wrapping_sub(256) } else { low }
+}
+
+fn is_char(n: i128, signed: bool) -> bool {
+    if signed {
+        -128 <= n && n <= 127
+    } else {
+        0 <= n && n <= 255
+    }
+}
+
+/// What C gives on a number of a char and any number.
+fn beyond_char(op: IntOp, a: i128, b: i128, signed: bool) -> Option<i128> {
+    match op {
+        _ if !is_char(a, signed) => None,
+        IntOp::And => Some(in_char_bits(a & b, signed)),
+        IntOp::Or => Some(in_char_bits(a | b, signed)),
+        IntOp::Xor => Some(in_char_bits(a ^ b, signed)),
+        IntOp::Rem if signed && a == -128 && b == -1 => None,
+        _ => in_char(op, a, b, signed),
+    }
+}
+
+fn has_number(found: Option<(i128, i128)>, n: Option<i128>) -> bool {
+    match (found, n) {
+        (_, None) => true,
+        (None, Some(_)) => false,
+        (Some(p), Some(n)) => p.0 <= n && n <= p.1,
+    }
+}
+
+/// Whether an operation on two intervals of any numbers has each result on a number of a char.
+fn has_results(op: IntOp, s: (i128, i128), t: (i128, i128), signed: bool) -> bool {
+    let found = given(s.0, s.1)
+        .arith(op, given(t.0, t.1), kind(1, signed))
+        .bounds();
+    let mut right = true;
+    for a in s.0..s.1.saturating_add(1) {
+        for b in t.0..t.1.saturating_add(1) {
+            right &= has_number(found, beyond_char(op, a, b, signed));
+        }
+    }
+    right
+}
+
+/// Whether wider operands give no narrower result.
+fn is_wider(op: IntOp, s: (i128, i128), t: (i128, i128), signed: bool) -> bool {
+    let least = given(s.0, s.1).arith(op, given(t.0, t.1), kind(1, signed));
+    let left = given(s.0.saturating_sub(1), s.1.saturating_add(1));
+    let right = given(t.0.saturating_sub(1), t.1.saturating_add(1));
+    least.leq(left.arith(op, given(t.0, t.1), kind(1, signed)))
+        && least.leq(given(s.0, s.1).arith(op, right, kind(1, signed)))
+}
+
+/// Whether both hold of all intervals with a bound of each list for the left and for the right operand.
+fn all_beyond(op: IntOp, left: &[i128], right: &[i128], signed: bool) -> bool {
+    let mut all = true;
+    for (i, a) in left.iter().enumerate() {
+        for b in &left[i..] {
+            for (j, c) in right.iter().enumerate() {
+                for d in &right[j..] {
+                    all &= has_results(op, (*a, *b), (*c, *d), signed);
+                    all &= is_wider(op, (*a, *b), (*c, *d), signed);
+                }
+            }
+        }
+    }
+    all
+}
+
+const ABOUT_LEAST: [i128; 4] = [-130, -129, -128, -127];
+const ABOUT_ZERO: [i128; 4] = [-2, -1, 0, 1];
+const ABOUT_GREATEST: [i128; 4] = [126, 127, 128, 129];
+const ABOUT_UNSIGNED: [i128; 4] = [254, 255, 256, 257];
+
+fn all_beyond_signed(op: IntOp, left: &[i128]) -> bool {
+    all_beyond(op, left, ABOUT_LEAST.as_slice(), true)
+        && all_beyond(op, left, ABOUT_ZERO.as_slice(), true)
+        && all_beyond(op, left, ABOUT_GREATEST.as_slice(), true)
+}
+
+fn all_beyond_unsigned(op: IntOp, left: &[i128]) -> bool {
+    all_beyond(op, left, ABOUT_ZERO.as_slice(), false)
+        && all_beyond(op, left, ABOUT_UNSIGNED.as_slice(), false)
+}
+
+#[test]
+fn beyond_the_type(rt: HostRuntime) {
+    for op in OPERATORS {
+        assert!(rt; all_beyond_signed(op, ABOUT_LEAST.as_slice()));
+        assert!(rt; all_beyond_signed(op, ABOUT_ZERO.as_slice()));
+        assert!(rt; all_beyond_signed(op, ABOUT_GREATEST.as_slice()));
+        assert!(rt; all_beyond_unsigned(op, ABOUT_ZERO.as_slice()));
+        assert!(rt; all_beyond_unsigned(op, ABOUT_UNSIGNED.as_slice()));
+    }
 }

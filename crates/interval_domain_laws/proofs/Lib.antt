@@ -12,3 +12,4 @@ pub mod BestResults
 pub mod BestSingles
 pub mod Rounding
 mod Outside
+mod WrongTables

@@ -126,7 +126,7 @@ module _ {I : Type 0} {l : LatticeOf I} {n : IntegersOf I} {stands : I → ℤ �
         any false = refl
 
     -- where the larger one is surely freed, so is the smaller one
-    free_pair : (p q a c : Bool) → (p ≡ true → q ≡ true) → (q ≡ true → c ≡ true → (p ≡ true) × (a ≡ true)) → RowsBelow l top (cond p (put_state r i (freed_state a (state_at l n r i))) r) (cond q (put_state s i (freed_state c (state_at l n s i))) s)
+    pub free_pair : (p q a c : Bool) → (p ≡ true → q ≡ true) → (q ≡ true → c ≡ true → (p ≡ true) × (a ≡ true)) → RowsBelow l top (cond p (put_state r i (freed_state a (state_at l n r i))) r) (cond q (put_state s i (freed_state c (state_at l n s i))) s)
     free_pair false false a c m u = h
     free_pair true false a c m u = absurd (let t : false ≡ true = m refl in cc)
     free_pair true true a c m u = put_pair o b no_base top i r s (State (freed_state a (state_at l n r i))) (State (freed_state c (state_at l n s i))) h (freed_below a c (λ t. (u refl t).1) (state_at l n r i) (state_at l n s i) state_at_monotone) (freed_top c (state_at l n s i) state_at_top)
@@ -137,7 +137,7 @@ module _ {I : Type 0} {l : LatticeOf I} {n : IntegersOf I} {stands : I → ℤ �
   has_some : (p q : Pointers I) → PointersBelow l p q → is_any p ≡ true → q.null ≡ false → bases_empty p.bases ≡ false
   has_some p q h e f = elim (or_cases (not (bases_empty p.bases)) p.null e) [ inl g ↦ not-true (bases_empty p.bases) g | inr g ↦ absurd (let k = flag_sets p.null q.null h.null g in cc) ]
 
-  off : {top : List (Cell I)} (a c : Bool) (x y : List (Cell I)) → a ≡ false → c ≡ false → (s t : List (Cell I)) → RowsBelow l top s t → RowsBelow l top (cond a x s) (cond c y t)
+  pub off : {top : List (Cell I)} (a c : Bool) (x y : List (Cell I)) → a ≡ false → c ≡ false → (s t : List (Cell I)) → RowsBelow l top s t → RowsBelow l top (cond a x s) (cond c y t)
   off false false x y e f s t j = j
   off true c x y e f s t j = absurd (cc)
   off false true x y e f s t j = absurd (cc)

@@ -15,4 +15,13 @@ pub mod StorePlaces
 pub mod Stores
 pub mod Freeing
 pub mod TopRows
+pub mod OwnValues
+pub mod ObjectLives
+pub mod Spelling
+pub mod OldBytes
+pub mod Allocations
+pub mod PlacesOfLeaves
+pub mod Regular
+pub mod PlainShapes
+pub mod WorkedBases
 pub mod Together

@@ -11,11 +11,14 @@ use Rattle.value_domain_laws.proofs.Parts.{pointer_parts}
 use Rattle.store_domain_laws.specs.TopCells.{top_value}
 use Rattle.store_domain_laws.specs.TopRows.{top_row}
 use Rattle.store_domain_laws.specs.Placements.{EachFrom, IsPlaced, IsRegular}
-use Rattle.store_domain_laws.specs.StoreLaws.{IsLayout, IsLoadMonotone, IsStoreMonotone, IsFreeMonotone}
+use Rattle.store_domain_laws.specs.StoreLaws.{IsLayout, IsLoadMonotone, IsStoreMonotone, IsFreeMonotone, IsForgetMonotone, IsClearMonotone, IsLeaveMonotone, IsSpellMonotone, IsRenewMonotone}
 use Rattle.store_domain_laws.proofs.Loads.{load_monotone}
 use Rattle.store_domain_laws.proofs.Stores.{store_monotone}
 use Rattle.store_domain_laws.proofs.Freeing.{free_monotone}
 use Rattle.store_domain_laws.proofs.TopRows.{all_placed}
+use Rattle.store_domain_laws.proofs.ObjectLives.{row_greatest, forget_monotone, clear_monotone, leave_monotone}
+use Rattle.store_domain_laws.proofs.Spelling.{spell_monotone}
+use Rattle.store_domain_laws.proofs.Allocations.{renew_monotone}
 
 both_each : {K : Type 0} (P Q : K → ℕ → Type 0) (at : ℕ) (ks : List K) → EachFrom P at ks → EachFrom Q at ks → EachFrom (λ k i. P k i × Q k i) at ks
 both_each P Q at [] e f = tt
@@ -36,3 +39,18 @@ module _ {I : Type 0} {l : LatticeOf I} {n : IntegersOf I} {stands : I → ℤ �
 
   pub frees : IsFreeMonotone l n m bases all temps
   frees r s j p q e a = free_monotone o b all (top_row n all bases temps) bases placed r s j p q (pointer_parts l p q e) a
+
+  pub forgets : IsForgetMonotone l n m bases all temps
+  forgets r s j number = forget_monotone o b all (top_row n all bases temps) bases placed number r s j
+
+  pub clears : IsClearMonotone l n m bases all temps
+  clears r s j number = clear_monotone o b all (top_row n all bases temps) bases placed number r s j
+
+  pub leaves : IsLeaveMonotone l n m bases all temps
+  leaves r s j e number = leave_monotone o b all (top_row n all bases temps) bases placed number r s j (row_greatest n all bases temps) e
+
+  pub spells : IsSpellMonotone l n m bases all temps
+  spells r s j number offset room text k e = spell_monotone o b all (top_row n all bases temps) offset text e bases placed number room k r s j
+
+  pub renews : RangeLaws l n → MonotoneLaws l n → IsRenewMonotone l n m bases all temps
+  renews f g r s j c newest older has places x y k t e fresh more w i = renew_monotone o b all (top_row n all bases temps) f g m bases placed (row_greatest n all bases temps) newest older has places r s j c x y k t e fresh more w i

@@ -54,11 +54,11 @@ without_meaning = record { gone = without_gone; others = without_others }
 
 -- ---- a set of one base
 
-bit_of : (s : Bases) (base : ℕ) → bases_has s base ≡ true → bit_at (word_of s (base / 128)) (base % 128) ≡ 1
+pub bit_of : (s : Bases) (base : ℕ) → bases_has s base ≡ true → bit_at (word_of s (base / 128)) (base % 128) ≡ 1
 bit_of s base h = eqb-true (bit_at (word_of s (base / 128)) (base % 128)) 1 h
 
 -- a word that has a bit has that bit and all of a word below it
-or_below : (x w k : ℕ) → word_within x w ≡ true → bit_at w k ≡ 1 → word_within (bit_or x (2 ^ k)) w ≡ true
+pub or_below : (x w k : ℕ) → word_within x w ≡ true → bit_at w k ≡ 1 → word_within (bit_or x (2 ^ k)) w ≡ true
 or_below x w k h e = within_from (bit_or x (2 ^ k)) w (λ i.
     let f = bit_at_or x (2 ^ k) i in
     let g = bit_less x w i h in

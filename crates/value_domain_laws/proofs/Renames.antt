@@ -29,7 +29,7 @@ bit_less a b i h = let f = bit_at_or a b i in let g : bit_at (bit_or a b) i ≡ 
 pub within_from : (a b : ℕ) → ((i : ℕ) → bit_at a i ≤ bit_at b i) → word_within a b ≡ true
 within_from a b f = eq-eqb (bit_or a b) b (same_from_bits (bit_or a b) b (λ i. let g = bit_at_or a b i in let h = f i in omega arith))
 
-and_within : (a b m : ℕ) → word_within a b ≡ true → word_within (bit_and a m) (bit_and b m) ≡ true
+pub and_within : (a b m : ℕ) → word_within a b ≡ true → word_within (bit_and a m) (bit_and b m) ≡ true
 and_within a b m h = within_from (bit_and a m) (bit_and b m) (λ i. let f = bit_less a b i h in let g = bit_at_and a m i in let k = bit_at_and b m i in omega arith)
 
 or_within : (a b m : ℕ) → word_within a b ≡ true → word_within (bit_or a m) (bit_or b m) ≡ true
@@ -69,7 +69,7 @@ word_at true x y u v h k = h
 word_at false x y u v h k = k
 
 module _ (s t : Bases) (h : bases_within s t ≡ true) where
-  word_of_within : (i : ℕ) → word_within (word_of s i) (word_of t i) ≡ true
+  pub word_of_within : (i : ℕ) → word_within (word_of s i) (word_of t i) ≡ true
   word_of_within i =
       let w = words_within s t h in
       word_at (i == 0) _ _ _ _ w.at0 (word_at (i == 1) _ _ _ _ w.at1 (word_at (i == 2) _ _ _ _ w.at2 (word_at (i == 3) _ _ _ _ w.at3
