@@ -4,7 +4,7 @@ use Rattle.std.specs.Fmt.{digits}
 use Rattle.cc_base.specs.declared.diagnostics.Diag.{Diag}
 use Rattle.cc_base.specs.declared.diagnostics.Rule.TheVariants.{Diverr, Intoflow}
 use Rattle.json.specs.Print.{escape_byte}
-use Rattle.serde_json.specs.Data.{Data, string, array, object, no_items, item, no_members, member}
+use Rattle.serde_json.specs.Data.{string, array, object, no_items, item, no_members, member}
 use Rattle.sarif_gate.specs.declared.known_results.Known.{Known}
 use Rattle.sarif_gate.specs.Uris.{Bytes, uri_of, uri_bytes}
 use Rattle.sarif_gate.specs.RuleTags.{rule_tagged}
