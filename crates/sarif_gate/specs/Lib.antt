@@ -1,0 +1,5 @@
+pub mod Uris
+pub mod RuleTags
+pub mod Reports
+pub mod Baselines
+pub mod Comparing

@@ -1,0 +1,16 @@
+//! Reports in the SARIF format, and a baseline of results that are known already.
+#![tactic(auto)]
+
+mod base_fault;
+mod baseline;
+mod fresh_diagnostics;
+mod known_results;
+mod report;
+mod rule_tags;
+mod uris;
+
+pub use base_fault::BaseFault;
+pub use baseline::read_sarif;
+pub use fresh_diagnostics::fresh;
+pub use known_results::Known;
+pub use report::write_sarif;
