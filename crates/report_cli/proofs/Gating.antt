@@ -71,11 +71,15 @@ own_gated seen c base m u names known status text expanded is a =
 new_gated : (seen : Seen) (c : CommandView) (base : Bytes) (m : Model) (u : Unit7) (names : List Bytes) (known : List Known) (status : ℕ) (text : Bytes) → IsExpanded (FromFiles seen.files c.dirs m c.unit) m names u → IsBaseline seen.files base known → AnswersGated (gate_setting c m) u known names c.unit status text → Tells (AnswersGate seen c base m) status text
 new_gated seen c base m u names known status text expanded is a = record {
   verdict = reported format.Text names c.unit (fresh_of names known a.answers.all);
-  called_for = inr (refl, refl, record {
-    all = a.answers.all;
-    report = record { expanded = u; is_expanded = expanded; found = a.found; judged = a.judged; listed = a.answers.listed };
-    fresh = record { known = known; is_baseline = is; left = refl };
-  });
+  called_for = inr (
+    refl,
+    refl,
+    record {
+      all = a.answers.all;
+      report = record { expanded = u; is_expanded = expanded; found = a.found; judged = a.judged; listed = a.answers.listed };
+      fresh = record { known = known; is_baseline = is; left = refl };
+    },
+  );
   by_status = a.answers.by_status;
   by_text = a.answers.by_text;
 }

@@ -112,11 +112,7 @@ fn gate_under<T: Tree>(
 }
 
 /// The answer to `gate`.
-pub(crate) fn answer_gate<T: Tree>(
-    alloc: Global,
-    gate: &Gate,
-    tree: &mut T,
-) -> Result<Answer, Halt>
+pub(crate) fn answer_gate<T: Tree>(alloc: Global, gate: &Gate, tree: &mut T) -> Result<Answer, Halt>
     ensures fault { IsErrOf result Halt.ReadFault → Rose (T.faults tree.old) (T.faults tree.new) }
     ensures called { IfOk result (λ a. Tells (IsVerdict (seen_of (T.files tree.old) (T.faults tree.old) (T.faults tree.new) (T.taken tree.old) (T.taken tree.new)) (request.Gate (command_view gate.now.command) (string_bytes gate.now.base))) a.status a.text.items) }
     ensures files { T.files tree.new ≡ T.files tree.old }
