@@ -1,0 +1,9 @@
+pub mod Values
+pub mod Fractions
+pub mod UriBytes
+pub mod UriRound
+pub mod Ranks
+pub mod Keys
+pub mod Lines
+pub mod Plain
+pub mod RoundTrip

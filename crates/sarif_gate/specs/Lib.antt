@@ -3,3 +3,5 @@ pub mod RuleTags
 pub mod Reports
 pub mod Baselines
 pub mod Comparing
+pub mod Keys
+pub mod Laws

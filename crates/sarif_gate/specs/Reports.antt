@@ -31,8 +31,12 @@ result_data uri d =
     (member (codes "message") (object (member (codes "text") (string (text_of d.rule)) no_members))
     (member (codes "ruleId") (string (tag_of d.rule)) no_members)))
 
+-- a diagnostic of a unit
+abbrev pub diagnostic_data : List Bytes → Diag → Data
+diagnostic_data names d = result_data (uri_of (name_of names d.place.file)) d
+
 abbrev pub results_data : List Bytes → List Diag → List Data
-results_data names diags = map (λ (d : Diag). result_data (uri_of (name_of names d.place.file)) d) diags
+results_data names diags = map (λ (d : Diag). diagnostic_data names d) diags
 
 abbrev pub tool_data : Data
 tool_data = object (member (codes "driver") (object (member (codes "name") (string (codes "ccheck")) no_members)) no_members)

@@ -127,11 +127,7 @@ fn known_of(alloc: Global, value: &Value) -> Result<Option<Known>, AllocError>
 }
 
 /// Adds what the results of a run say is known.
-fn push_results(
-    alloc: Global,
-    known: &mut Vec<Known>,
-    results: &[Value],
-) -> Result<(), AllocError>
+fn push_results(alloc: Global, known: &mut Vec<Known>, results: &[Value]) -> Result<(), AllocError>
     ensures { OnOk result (known.new.items ≡ known.old.items ++ results_known (items_view results.now)) }
 {
     for value in results {

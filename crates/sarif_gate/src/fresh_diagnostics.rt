@@ -1,7 +1,8 @@
 //! Diagnostics that a baseline does not hold.
-ghost use Rattle.std.specs.Prelude.{◌≡◌, IfOk, map, string_bytes};
-ghost use Rattle.std.specs.List.{list_any};
+ghost use Rattle.std.specs.Prelude.{◌≡◌, List, IfOk, map, string_bytes};
 ghost use Rattle.sarif_gate.specs.Comparing.{is_known, fresh_of};
+ghost use Rattle.sarif_gate.specs.Keys.{IsKey, Indexes};
+ghost use Rattle.sarif_gate.specs.declared.known_results.Known.{Known};
 
 use crate::known_results::Known;
 use cc_base::{Diag, Memory, Rule};
@@ -19,6 +20,7 @@ struct Key {
 
 /// The key of a known result.
 fn key_of(alloc: Global, known: &Known) -> Result<Key, AllocError>
+    ensures { IfOk result (λ k. IsKey k known.now.file known.now.line known.now.col known.now.rule) }
 {
     let file = Vec::from_slice(alloc, known.file.as_bytes())?;
     Ok(Key {
@@ -31,6 +33,7 @@ fn key_of(alloc: Global, known: &Known) -> Result<Key, AllocError>
 
 /// The key of a diagnostic in a file.
 fn diagnostic_key(alloc: Global, file: &str, diag: &Diag) -> Result<Key, AllocError>
+    ensures { IfOk result (λ k. IsKey k file.now diag.now.place.line diag.now.place.col diag.now.rule) }
 {
     let file = Vec::from_slice(alloc, file.as_bytes())?;
     Ok(Key {
@@ -43,6 +46,7 @@ fn diagnostic_key(alloc: Global, file: &str, diag: &Diag) -> Result<Key, AllocEr
 
 /// The keys of what is known.
 fn keys_of(alloc: Global, known: &[Known]) -> Result<BTreeSet<Key>, AllocError>
+    ensures { IfOk result (λ keys. Indexes ⟦<Key as Ord>⟧.cmp keys known.now) }
 {
     let mut keys = BTreeSet::new(alloc);
     for entry in known {
@@ -52,13 +56,15 @@ fn keys_of(alloc: Global, known: &[Known]) -> Result<BTreeSet<Key>, AllocError>
     Ok(keys)
 }
 
-/// Whether a diagnostic is known.
+/// Whether a diagnostic is among the known results whose keys are given.
 fn is_known(
     alloc: Global,
     files: &[String],
     keys: &BTreeSet<Key>,
     diag: &Diag,
 ) -> Result<bool, AllocError>
+    ensures { IfOk result (λ b. (known : List Known) → Indexes ⟦<Key as Ord>⟧.cmp keys.now known
+        → b ≡ is_known (map string_bytes files.now) known diag.now) }
 {
     let Some(file) = files.get(diag.place.file as usize) else {
         return Ok(false);

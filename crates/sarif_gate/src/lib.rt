@@ -7,6 +7,7 @@ mod fresh_diagnostics;
 mod known_results;
 mod report;
 mod rule_tags;
+mod theorems;
 mod uris;
 
 pub use base_fault::BaseFault;
@@ -14,3 +15,4 @@ pub use baseline::read_sarif;
 pub use fresh_diagnostics::fresh;
 pub use known_results::Known;
 pub use report::write_sarif;
+pub use theorems::{reports_are_read_back, uris_are_read_back};

@@ -3,7 +3,7 @@ ghost use Rattle.std.specs.Prelude.{◌≡◌, ◌++◌, false, IfOk, map, strin
 ghost use Rattle.serde_json.specs.View.{view};
 ghost use Rattle.serde_json.specs.Written.{compact_text, has_float};
 ghost use Rattle.sarif_gate.specs.Uris.{uri_of};
-ghost use Rattle.sarif_gate.specs.Reports.{name_of, location_data, result_data, results_data, run_data, report_data, sarif_of};
+ghost use Rattle.sarif_gate.specs.Reports.{name_of, location_data, result_data, diagnostic_data, results_data, run_data, report_data, sarif_of};
 
 use crate::uris::uri_of;
 use cc_base::{Diag, Memory, Place};
@@ -39,6 +39,14 @@ fn result_value(alloc: Global, uri: String, diag: &Diag) -> Result<Value, AllocE
     json!(in alloc; {"locations": [location], "message": {"text": text}, "ruleId": rule})
 }
 
+/// The result of a diagnostic of a unit with these files.
+fn diagnostic_value(alloc: Global, files: &[String], diag: &Diag) -> Result<Value, AllocError>
+    ensures { IfOk result (λ v. view v ≡ diagnostic_data (map string_bytes files.now) diag.now) }
+{
+    let uri = uri_of(alloc, name_of(files, diag.place.file))?;
+    result_value(alloc, uri, diag)
+}
+
 /// The results of the diagnostics, in order.
 fn result_values(alloc: Global, files: &[String], diags: &[Diag]) -> Result<Vec<Value>, AllocError>
     ensures { IfOk result (λ v. map view v.items ≡ results_data (map string_bytes files.now) diags.now) }
@@ -46,8 +54,7 @@ fn result_values(alloc: Global, files: &[String], diags: &[Diag]) -> Result<Vec<
     let mut values = Vec::new(alloc);
     for at in 0..diags.len() {
         let diag = &diags[at];
-        let uri = uri_of(alloc, name_of(files, diag.place.file))?;
-        let value = result_value(alloc, uri, diag)?;
+        let value = diagnostic_value(alloc, files, diag)?;
         values.push(value)?;
     }
     Ok(values)

@@ -1,5 +1,6 @@
 //! File names as uris, byte by byte.
 ghost use Rattle.std.specs.Prelude.{◌≡◌, ◌++◌, ◌∷◌, ◌<◌, length, IfOk, OnOk, IfSome, IfNone, None, string_bytes, option_map};
+ghost use Rattle.std.specs.Str.{is_utf8};
 ghost use Rattle.sarif_gate.specs.Uris.{is_plain, hex_digit, escaped, uri_of, hex_value, hex_pair, uri_bytes, file_of_uri};
 
 use cc_base::Text;
@@ -107,6 +108,13 @@ fn uri_bytes(alloc: Global, uri: &[u8]) -> Result<Option<Text>, AllocError>
     Ok(Some(bytes))
 }
 
+/// Whether bytes are UTF-8.
+fn is_utf8(bytes: &[u8]) -> bool
+    ensures { result ≡ is_utf8 bytes.now }
+{
+    str::from_utf8(bytes).is_ok()
+}
+
 /// The name of the file that a uri stands for. Nothing where a `%` lacks its digits, or the name is
 /// not UTF-8.
 pub fn file_of_uri(alloc: Global, uri: &str) -> Result<Option<Text>, AllocError>
@@ -115,7 +123,7 @@ pub fn file_of_uri(alloc: Global, uri: &str) -> Result<Option<Text>, AllocError>
     let Some(name) = uri_bytes(alloc, uri.as_bytes())? else {
         return Ok(None);
     };
-    if str::from_utf8(name.as_bytes()).is_ok() {
+    if is_utf8(name.as_bytes()) {
         Ok(Some(name))
     } else {
         Ok(None)

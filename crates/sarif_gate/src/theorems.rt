@@ -1,0 +1,18 @@
+//! What is written is read back.
+ghost use Rattle.std.specs.Prelude.{◌≡◌, ◌<◌, List, All, Some, map};
+ghost use Rattle.cc_base.specs.declared.diagnostics.Diag.{Diag};
+ghost use Rattle.sarif_gate.specs.Uris.{Bytes, uri_of, uri_bytes};
+ghost use Rattle.sarif_gate.specs.Reports.{sarif_of};
+ghost use Rattle.sarif_gate.specs.Baselines.{baseline_read};
+ghost use Rattle.sarif_gate.specs.Laws.{IsName, IsCounted, known_result};
+
+/// The uri of a name stands for the name.
+pub fn uris_are_read_back()
+    ensures { (name : Bytes) → All (λ b. b < 256) name → uri_bytes (uri_of name) ≡ Some name }
+{}
+
+/// Where lines and columns are at least 1, the report on diagnostics says that exactly they are known, in their order.
+pub fn reports_are_read_back()
+    ensures { (names : List Bytes) (diags : List Diag) → All IsName names → All IsCounted diags
+        → baseline_read (sarif_of names diags) ≡ Some (map (known_result names) diags) }
+{}
