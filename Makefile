@@ -23,4 +23,4 @@ install: $(PROGRAM)
 	install -D -m 755 $(PROGRAM) $(DESTDIR)$(PREFIX)/bin/ccheck
 	install -D -m 644 man/ccheck.1 $(DESTDIR)$(PREFIX)/share/man/man1/ccheck.1
 	install -d $(DESTDIR)$(PREFIX)/share/doc/ccheck/examples
-	install -m 644 examples/* $(DESTDIR)$(PREFIX)/share/doc/ccheck/examples
+	cp -R examples/. $(DESTDIR)$(PREFIX)/share/doc/ccheck/examples

@@ -7,3 +7,4 @@ pub mod Keys
 pub mod Lines
 pub mod Plain
 pub mod RoundTrip
+pub mod OwnReports

@@ -1,5 +1,5 @@
 -- What a report of diagnostics says is known.
-use Rattle.std.specs.Prelude.{◌<◌, ◌≤◌, ◌^◌, List, All, IsUtf8}
+use Rattle.std.specs.Prelude.{◌<◌, ◌≤◌, ◌^◌, List, length, All, IsUtf8}
 use Rattle.cc_base.specs.declared.diagnostics.Diag.{Diag}
 use Rattle.sarif_gate.specs.declared.known_results.Known.{Known}
 use Rattle.sarif_gate.specs.Uris.{Bytes}
@@ -15,6 +15,10 @@ pub record IsCounted (d : Diag) : Type 0 where
   pub col_from_1 : 1 ≤ d.place.col
   pub line_fits : d.place.line < 2 ^ 32
   pub col_fits : d.place.col < 2 ^ 32
+
+-- the file of a diagnostic is of a list
+abbrev pub IsOfList : List Bytes → Diag → Type 0
+IsOfList names d = d.place.file < length names
 
 -- the known result of a diagnostic
 abbrev pub known_result : List Bytes → Diag → Known

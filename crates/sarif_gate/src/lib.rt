@@ -15,4 +15,4 @@ pub use baseline::read_sarif;
 pub use fresh_diagnostics::fresh;
 pub use known_results::Known;
 pub use report::write_sarif;
-pub use theorems::{reports_are_read_back, uris_are_read_back};
+pub use theorems::{reports_are_read_back, reports_hold_their_diagnostics, uris_are_read_back};

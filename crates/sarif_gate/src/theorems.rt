@@ -1,10 +1,11 @@
 //! What is written is read back.
-ghost use Rattle.std.specs.Prelude.{◌≡◌, ◌<◌, List, All, Some, map};
+ghost use Rattle.std.specs.Prelude.{◌≡◌, ◌<◌, [], List, All, Some, map};
 ghost use Rattle.cc_base.specs.declared.diagnostics.Diag.{Diag};
 ghost use Rattle.sarif_gate.specs.Uris.{Bytes, uri_of, uri_bytes};
 ghost use Rattle.sarif_gate.specs.Reports.{sarif_of};
 ghost use Rattle.sarif_gate.specs.Baselines.{baseline_read};
-ghost use Rattle.sarif_gate.specs.Laws.{IsName, IsCounted, known_result};
+ghost use Rattle.sarif_gate.specs.Comparing.{fresh_of};
+ghost use Rattle.sarif_gate.specs.Laws.{IsName, IsCounted, IsOfList, known_result};
 
 /// The uri of a name stands for the name.
 pub fn uris_are_read_back()
@@ -15,4 +16,10 @@ pub fn uris_are_read_back()
 pub fn reports_are_read_back()
     ensures { (names : List Bytes) (diags : List Diag) → All IsName names → All IsCounted diags
         → baseline_read (sarif_of names diags) ≡ Some (map (known_result names) diags) }
+{}
+
+/// Behind the report of diagnostics whose files are of the list, none of them is fresh.
+pub fn reports_hold_their_diagnostics()
+    ensures { (names : List Bytes) (diags : List Diag) → All (IsOfList names) diags
+        → fresh_of names (map (known_result names) diags) diags ≡ [] }
 {}
