@@ -37,7 +37,7 @@ long_further seen name a long status text = record { verdict = too_long name; ca
 -- what bytes that are held say is known
 pub held_baseline : (seen : Seen) (name bytes : Bytes) (b : Baseline) → Holds seen.files name bytes → IsBaselineOf name bytes b → IsBaselineIn seen name b
 held_baseline seen name bytes (baseline.Read known) held h = record { bytes = bytes; held = held; reads = h }
-held_baseline seen name bytes (baseline.Refused a) held h = record { verdict = no_baseline name; called_for = (refl, record { bytes = bytes; held = held; reads = h.0 }); by_status = h.1.0; by_text = h.1.1 }
+held_baseline seen name bytes (baseline.Refused a) held h = record { verdict = no_baseline name; called_for = (refl, record { bytes = bytes; held = held; reads = h.0 }); by_status = h.1; by_text = h.2 }
 
 file_refuses : (seen : Seen) (base : Bytes) (v : Verdict) → RefusesFile seen base v → RefusesBase seen base v
 file_refuses seen base (no_baseline name) h = absurd h
