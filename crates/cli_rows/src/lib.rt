@@ -2,10 +2,6 @@
 #![tactic(auto)]
 
 #[cfg(test)]
-mod alias_rows;
-#[cfg(test)]
-mod array_rows;
-#[cfg(test)]
 mod call;
 #[cfg(test)]
 mod command_rows;
@@ -13,6 +9,8 @@ mod command_rows;
 mod devices;
 #[cfg(test)]
 mod division_rows;
+#[cfg(test)]
+mod gate_rows;
 #[cfg(test)]
 mod heap_rows;
 #[cfg(test)]
@@ -28,16 +26,10 @@ mod program_rows;
 #[cfg(test)]
 mod refusal_rows;
 #[cfg(test)]
-mod rule_rows;
+mod sarif_rows;
 #[cfg(test)]
 mod size_rows;
 #[cfg(test)]
 mod string_rows;
 #[cfg(test)]
-mod taint_rows;
-#[cfg(test)]
-mod text_rule_rows;
-#[cfg(test)]
 mod turn_rows;
-#[cfg(test)]
-mod typing_rows;

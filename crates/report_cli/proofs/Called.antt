@@ -46,10 +46,10 @@ early_staged given g names why stage.Grammar h told = absurd h
 early_staged given g names why stage.Typing h told = absurd h
 early_staged given g names why stage.Counting h told = absurd h
 
-stopped_refusal : (given : Gives) (seen : Seen) (dirs : List Bytes) (g : SettingView) (unit : Bytes) (names : List Bytes) (f : Fault) → IsCaused seen dirs g.model names (stop.Refused f) → IsEarly (stage_of f.refusal) → given names (Err (stop.Refused f)) → IsRefusal given seen dirs g unit (file_name names unit f.place.file) f
+pub stopped_refusal : (given : Gives) (seen : Seen) (dirs : List Bytes) (g : SettingView) (unit : Bytes) (names : List Bytes) (f : Fault) → IsCaused seen dirs g.model names (stop.Refused f) → IsEarly (stage_of f.refusal) → given names (Err (stop.Refused f)) → IsRefusal given seen dirs g unit (file_name names unit f.place.file) f
 stopped_refusal given seen dirs g unit names f h e told = record { names = names; named = refl; cause = h; staged = early_staged given g names f (stage_of f.refusal) e told }
 
-later_refusal : (given : Gives) (seen : Seen) (dirs : List Bytes) (g : SettingView) (u : Unit7) (unit : Bytes) (names : List Bytes) (f : Fault) → IsExpanded given g.model names u → RefusesUnit u g f → IsRefusal given seen dirs g unit (file_name names unit f.place.file) f
+pub later_refusal : (given : Gives) (seen : Seen) (dirs : List Bytes) (g : SettingView) (u : Unit7) (unit : Bytes) (names : List Bytes) (f : Fault) → IsExpanded given g.model names u → RefusesUnit u g f → IsRefusal given seen dirs g unit (file_name names unit f.place.file) f
 later_refusal given seen dirs g u unit names f expanded h = record {
   names = names;
   named = refl;
@@ -145,10 +145,10 @@ unit_answered seen later c m status text has after t = record { verdict = t.verd
 pub load_answered : (seen later : Seen) (c : CommandView) (m : Model) (status : ℕ) (text : Bytes) → HasModel seen.files c.model m → IsLater seen later → Tells (AnswersLoad later c m) status text → Tells (IsVerdict seen (Load c)) status text
 load_answered seen later c m status text has after t = record { verdict = t.verdict; called_for = inr (record { chosen = m; has_model = has; later = later; is_later = after; answered = t.called_for }); by_status = t.by_status; by_text = t.by_text }
 
-later : (f0 f1 : Option Files) (a0 a1 a2 b0 b1 b2 : ℕ) → f1 ≡ f0 → a0 ≤ a1 → b0 ≤ b1 → IsLater (seen_of f0 a0 a2 b0 b2) (seen_of f1 a1 a2 b1 b2)
+pub later : (f0 f1 : Option Files) (a0 a1 a2 b0 b1 b2 : ℕ) → f1 ≡ f0 → a0 ≤ a1 → b0 ≤ b1 → IsLater (seen_of f0 a0 a2 b0 b2) (seen_of f1 a1 a2 b1 b2)
 later f0 f1 a0 a1 a2 b0 b1 b2 same faults taken = record { files = same; faults = faults; faults_now = refl; taken = taken; taken_now = refl }
 
-model_held : (seen : Seen) (name model : Bytes) (choice : ModelChoice) (m : Model) → name ≡ model → choice ≡ Chosen m → IsChoice seen name choice → HasModel seen.files model m
+pub model_held : (seen : Seen) (name model : Bytes) (choice : ModelChoice) (m : Model) → name ≡ model → choice ≡ Chosen m → IsChoice seen name choice → HasModel seen.files model m
 model_held seen name model choice m same chose h =
     let by_name : IsChoice seen name (Chosen m) = subst (λ k. IsChoice seen name k) chose h in
     subst (λ n. HasModel seen.files n m) same by_name.1

@@ -2,3 +2,4 @@ pub mod Telling
 pub mod Choosing
 pub mod Called
 pub mod Staging
+pub mod Gating

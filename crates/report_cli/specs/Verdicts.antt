@@ -26,25 +26,29 @@ use Rattle.report_cli_words.specs.Requests.{Asked, CommandView}
 use Rattle.report_cli_words.specs.Requests as asked
 use Rattle.report_cli_texts.specs.Reports.{Bytes, file_name, report_of}
 use Rattle.report_cli.specs.Stages.{stage_of}
+use Rattle.report_cli.specs.Baselines.{HasBaseline, NoBaseline, IsFreshOf}
 use Rattle.report_cli.specs.Judging.{SettingView, judging, Judgement, IsJudged, RefusesUnit}
 use Rattle.report_cli.specs.declared.stages.Stage.{Stage}
 use Rattle.report_cli.specs.declared.stages.Stage.TheVariants as stage
 use Rattle.report_cli_texts.specs.JsonReports.{json_of}
+use Rattle.sarif_gate.specs.Reports.{sarif_of}
 use Rattle.report_cli_texts.specs.Summaries.{summary_of}
 use Rattle.report_cli_texts.specs.Refusals.{refusal_line, refusal_status}
-use Rattle.report_cli_texts.specs.FixedTexts.{help_text, version_text, words_refused_text, no_file_text, too_long_text, no_model_text}
+use Rattle.report_cli_texts.specs.FixedTexts.{help_text, version_text, words_refused_text, no_file_text, too_long_text, no_model_text, no_baseline_text}
 
 -- one for each kind of answer that has a text
 pub data Verdict : Type 0 where
   helped : Verdict
   versioned : Verdict
   words_refused : Verdict
-  -- the unit's file or the model file is not held
+  -- the unit's file, the model file or a further file is not held
   absent : (name : Bytes) → Verdict
-  -- the model file is too long
+  -- the model file or a further file is too long
   too_long : (name : Bytes) → Verdict
   -- the model file gives no model
   no_model : (name reason : Bytes) → Verdict
+  -- the baseline file is no report
+  no_baseline : (name : Bytes) → Verdict
   -- the unit is refused
   refused : (file : Bytes) (why : Fault) → Verdict
   -- the unit is accepted
@@ -64,6 +68,7 @@ status_of words_refused = 3
 status_of (absent name) = 4
 status_of (too_long name) = 8
 status_of (no_model name reason) = 3
+status_of (no_baseline name) = 3
 status_of (refused file why) = refusal_status why.refusal
 status_of (reported form names unit diags) = report_status diags
 status_of (summed unit bases cells diags) = report_status diags
@@ -71,6 +76,7 @@ status_of (summed unit bases cells diags) = report_status diags
 abbrev pub report_in : Format → List Bytes → Bytes → List Diag → Bytes
 report_in format.Text names unit diags = report_of names unit diags
 report_in format.Json names unit diags = json_of names unit diags
+report_in format.Sarif names unit diags = sarif_of names diags
 
 abbrev pub text_of : Verdict → Bytes
 text_of helped = help_text
@@ -79,6 +85,7 @@ text_of words_refused = words_refused_text
 text_of (absent name) = no_file_text name
 text_of (too_long name) = too_long_text name
 text_of (no_model name reason) = no_model_text name reason
+text_of (no_baseline name) = no_baseline_text name
 text_of (refused file why) = refusal_line file why.place why.refusal
 text_of (reported form names unit diags) = report_in form names unit diags
 text_of (summed unit bases cells diags) = summary_of unit bases cells diags
@@ -206,7 +213,7 @@ AnswersLoad seen c m (refused file why) = IsRefusal (FromBytes seen.files m c.un
 AnswersLoad seen c m (summed unit bases cells diags) = (unit ≡ c.unit) × (names : List Bytes) × IsSummary (FromBytes seen.files m c.unit (load_of c.seed c.count)) (load_setting m) names bases cells diags
 AnswersLoad seen c m _ = ⊥
 
--- ---- the whole
+-- ---- a further file, which is read behind the expansion
 
 -- the same files and the same end, from a later time on
 pub record IsLater (seen later : Seen) : Type 0 where
@@ -215,6 +222,55 @@ pub record IsLater (seen later : Seen) : Type 0 where
   pub faults_now : later.faults_now ≡ seen.faults_now
   pub taken : seen.taken ≤ later.taken
   pub taken_now : later.taken_now ≡ seen.taken_now
+
+-- once the unit was expanded, this holds of what was seen from then on
+pub record IsBehind (given : Gives) (m : Model) (seen : Seen) (P : Seen → Type 0) : Type 0 where
+  pub names : List Bytes
+  pub expanded : Unit7
+  pub is_expanded : IsExpanded given m names expanded
+  pub later : Seen
+  pub is_later : IsLater seen later
+  pub holds : P later
+
+-- an expansion that is followed up only where a further file gives what is asked of it
+abbrev pub With : Type 0 → Gives → Gives
+With P given names (Ok expanded) = given names (Ok expanded) × P
+With P given names (Err s) = given names (Err s)
+
+-- why a further file cannot be had
+abbrev pub RefusesFile : Seen → Bytes → Verdict → Type 0
+RefusesFile seen file (absent name) = (name ≡ file) × Lacks seen.files file (Rose seen.faults seen.faults_now)
+RefusesFile seen file (too_long name) = (name ≡ file) × HoldsTooLong 1048576 seen.files file (RoseBeyond 1048576 seen.taken seen.taken_now)
+RefusesFile seen file _ = ⊥
+
+-- why there is no baseline
+abbrev pub RefusesBase : Seen → Bytes → Verdict → Type 0
+RefusesBase seen base (no_baseline name) = (name ≡ base) × NoBaseline seen.files base
+RefusesBase seen base v = RefusesFile seen base v
+
+-- how `gate` judges a unit under a model: no loop is unrolled
+abbrev pub gate_setting : CommandView → Model → SettingView
+gate_setting c m = judging m c.entry None
+
+-- the diagnostics that a gate tells: those of the accepted unit, in order and each once, that the baseline
+-- does not hold
+pub record IsFreshReport (given : Gives) (files : Option Files) (base : Bytes) (s : SettingView) (names : List Bytes) (diags : List Diag) : Type 0 where
+  pub all : List Diag
+  pub report : IsReport given s names all
+  pub fresh : IsFreshOf files base names all diags
+
+-- what `gate` tells of a unit under a model, where it does not refuse its baseline
+abbrev pub AnswersFresh : Seen → CommandView → Bytes → Model → Verdict → Type 0
+AnswersFresh seen c base m (absent name) = (name ≡ c.unit) × Lacks seen.files c.unit (Rose seen.faults seen.faults_now)
+AnswersFresh seen c base m (refused file why) = IsRefusal (With (HasBaseline seen.files base) (FromFiles seen.files c.dirs m c.unit)) seen c.dirs (gate_setting c m) c.unit file why
+AnswersFresh seen c base m (reported form names unit diags) = (form ≡ format.Text) × (unit ≡ c.unit) × IsFreshReport (FromFiles seen.files c.dirs m c.unit) seen.files base (gate_setting c m) names diags
+AnswersFresh seen c base m _ = ⊥
+
+-- what `gate` tells of a unit under a model
+abbrev pub AnswersGate : Seen → CommandView → Bytes → Model → Verdict → Type 0
+AnswersGate seen c base m v = IsBehind (FromFiles seen.files c.dirs m c.unit) m seen (λ later. RefusesBase later base v) ⊎ AnswersFresh seen c base m v
+
+-- ---- the whole
 
 -- under the model that is found first, the unit is answered by what follows
 pub record Under (seen : Seen) (model : Bytes) (P : Seen → Model → Type 0) : Type 0 where
@@ -230,3 +286,4 @@ IsVerdict seen asked.Version v = v ≡ versioned
 IsVerdict seen asked.Refused v = v ≡ words_refused
 IsVerdict seen (asked.Check c) v = RefusesModel seen c.model v ⊎ Under seen c.model (λ later m. AnswersUnit later c m v)
 IsVerdict seen (asked.Load c) v = RefusesModel seen c.model v ⊎ Under seen c.model (λ later m. AnswersLoad later c m v)
+IsVerdict seen (asked.Gate c base) v = RefusesModel seen c.model v ⊎ Under seen c.model (λ later m. AnswersGate later c base m v)

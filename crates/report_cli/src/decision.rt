@@ -9,6 +9,7 @@ ghost use Rattle.report_cli.specs.Verdicts.{load_setting, report_status, report_
 ghost use Rattle.report_cli.specs.Answering.{AnswersFault, AnswersStop, AnswersOwn, AnswersReport, AnswersSummary, AnswersJudged, AnswersMade};
 ghost use Rattle.cc_base.specs.declared.refusals.Stop.TheVariants as stops;
 
+use crate::gate_decision::answer_gate;
 use crate::model_choice::{ModelChoice, choose_model};
 use crate::stages::{Stage, stage_of};
 use crate::unit_answers::{Judged, Setting, judge_unit};
@@ -20,6 +21,7 @@ use report_cli_texts::{
     version, words_refused,
 };
 use report_cli_words::{Command, Format, Request, read_words};
+use sarif_gate::write_sarif;
 use std::alloc::{AllocError, Global};
 
 /// What ends the work without a text.
@@ -61,7 +63,7 @@ fn refused(alloc: Global, files: &[String], unit: &str, fault: &Fault) -> Result
 }
 
 /// The answer where the work behind the expansion stopped.
-fn stopped(
+pub(crate) fn stopped(
     alloc: Global,
     files: &[String],
     unit: &str,
@@ -80,7 +82,12 @@ fn stopped(
 }
 
 /// The answer where the expansion stopped. A refusal of a later stage is none of its own.
-fn not_expanded(alloc: Global, files: &[String], unit: &str, stop: Stop) -> Result<Answer, Halt>
+pub(crate) fn not_expanded(
+    alloc: Global,
+    files: &[String],
+    unit: &str,
+    stop: Stop,
+) -> Result<Answer, Halt>
     ensures fault { IsErrOf result Halt.ReadFault → stop ≡ stops.ReadFault }
     ensures called { IfOk result (λ a. AnswersStop (map string_bytes files.now) unit.now stop a.status a.text.items) }
 {
@@ -99,7 +106,7 @@ fn not_expanded(alloc: Global, files: &[String], unit: &str, stop: Stop) -> Resu
 }
 
 /// 1 where there is a diagnostic.
-fn status_for(diags: &[Diag]) -> u8
+pub(crate) fn status_for(diags: &[Diag]) -> u8
     ensures { result ≡ report_status diags.now }
 {
     match diags {
@@ -121,6 +128,7 @@ fn report(
     match format {
         Format::Text => report_text(alloc, files, unit, diags),
         Format::Json => report_json(alloc, files, unit, diags),
+        Format::Sarif => write_sarif(alloc, files, diags),
     }
 }
 
@@ -302,5 +310,6 @@ pub(crate) fn decide<T: Tree>(alloc: Global, words: &[String], tree: &mut T) -> 
         Request::Refused => Ok(words_refused(alloc)?),
         Request::Check(command) => answer_check(alloc, &command, tree),
         Request::Load(command) => answer_load(alloc, &command, tree),
+        Request::Gate(gate) => answer_gate(alloc, &gate, tree),
     }
 }

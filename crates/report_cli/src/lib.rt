@@ -1,7 +1,10 @@
 //! The program: words in, a report or a refusal out, and a status.
 #![tactic(auto)]
 
+mod baseline_files;
 mod decision;
+mod further_files;
+mod gate_decision;
 mod model_choice;
 mod program;
 mod stages;

@@ -1,6 +1,6 @@
 //! The texts of the command line itself.
 ghost use Rattle.std.specs.Prelude.{◌≡◌, IfOk};
-ghost use Rattle.report_cli_texts.specs.FixedTexts.{help_text, version_text, words_refused_text, no_file_text, too_long_text, no_model_text};
+ghost use Rattle.report_cli_texts.specs.FixedTexts.{help_text, version_text, words_refused_text, no_file_text, too_long_text, no_model_text, no_baseline_text};
 
 use crate::answers::Answer;
 use std::alloc::{AllocError, Global};
@@ -13,16 +13,18 @@ Usage: ccheck VERB UNIT [DIR]... [OPTIONS]
 Verbs:
   check  analyse UNIT, with headers searched in each DIR, and print the places
          where it may break a rule
+  gate   the same, without the diagnostics that the file of --base holds
   load   make a unit from --seed and --count, analyse it under the name UNIT,
          and print a summary
 
-Options, each at most once:
+Options, each at most once; a verb takes those of others and leaves them unused:
   --model NAME_OR_FILE  lp64, ilp32, llp64, or a TOML file with a data model
                         [default: lp64]
-  --format FORMAT       text or json [default: text]
+  --format FORMAT       text, json or sarif, for check [default: text]
   --entry NAME          the function at which runs start [default: main]
   --turns K             0 to 64: so many turns of each loop are analysed one by
                         one, for check [default: none is]
+  --base FILE           a SARIF report, for gate, which needs it
   --seed N              0 to 2147483647, for load [default: 1]
   --count N             1 to 300, for load [default: 10]
   -h, --help            this text, as the only word
@@ -53,7 +55,7 @@ Status:
   0  accepted, no diagnostic       5  a read failed, nothing is written
   1  accepted, with diagnostics    6  a write failed
   2  the unit is refused           7  out of memory, nothing is written
-  3  words or model are refused    8  a limit is passed
+  3  words or a file are refused   8  a limit is passed
   4  no such file
 ";
 
@@ -113,5 +115,14 @@ pub fn no_model(alloc: Global, name: &str, reason: &str) -> Result<Answer, Alloc
     ensures text { IfOk result (λ a. a.text.items ≡ no_model_text name.now reason.now) }
 {
     let line = format!(in alloc; "ccheck: {name}: {reason}\n")?;
+    fixed(alloc, 3, line.as_str())
+}
+
+/// A baseline file that is no SARIF report.
+pub fn no_baseline(alloc: Global, name: &str) -> Result<Answer, AllocError>
+    ensures status { IfOk result (λ a. a.status ≡ 3) }
+    ensures text { IfOk result (λ a. a.text.items ≡ no_baseline_text name.now) }
+{
+    let line = format!(in alloc; "ccheck: {name}: BaseShape\n")?;
     fixed(alloc, 3, line.as_str())
 }

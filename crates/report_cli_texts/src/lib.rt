@@ -11,7 +11,9 @@ mod refusal_words;
 mod text_report;
 
 pub use answers::Answer;
-pub use fixed_texts::{file_too_long, help, no_file, no_model, version, words_refused};
+pub use fixed_texts::{
+    file_too_long, help, no_baseline, no_file, no_model, version, words_refused,
+};
 pub use json_report::report_json;
 pub use load_summary::summary;
 pub use loaded_units::load_unit;

@@ -16,6 +16,12 @@ text_given o t f id e h = rw (← first_value-rows f id, ← e, h) refl
 pub no_text : (o : Option (Bor (List ℕ))) (f : Found) (id : List ℕ) → option_map (λ s. s.now) o ≡ first_value f id → o ≡ None → ◌≡◌ {A = List ℕ} [] (text_in (rows_of f) id)
 no_text o f id e h = rw (← first_value-rows f id, ← e, h) refl
 
+pub name_given : (o : Option (Bor (List ℕ))) (t : Bor (List ℕ)) (f : Found) (id : List ℕ) → option_map (λ s. s.now) o ≡ first_value f id → o ≡ Some t → ◌≡◌ {A = Option (List ℕ)} (Some t.now) (first_of id (rows_of f))
+name_given o t f id e h = rw (← first_value-rows f id, ← e, h) refl
+
+pub no_name : (o : Option (Bor (List ℕ))) (f : Found) (id : List ℕ) → option_map (λ s. s.now) o ≡ first_value f id → o ≡ None → ◌≡◌ {A = Option (List ℕ)} None (first_of id (rows_of f))
+no_name o f id e h = rw (← first_value-rows f id, ← e, h) refl
+
 pub turns_given : (o : Option (Bor (List ℕ))) (t : Bor (List ℕ)) (f : Found) (id : List ℕ) → option_map (λ s. s.now) o ≡ first_value f id → o ≡ Some t → turns_named (Some t.now) ≡ turns_named (first_of id (rows_of f))
 turns_given o t f id e h = rw (← first_value-rows f id, ← e, h) refl
 

@@ -32,7 +32,11 @@ abbrev pub with_options : App → App
 with_options a = with_rule (with_rule (with_rule a (option_rule (codes "model") (codes "lp64"))) (option_rule (codes "format") (codes "text"))) (option_rule (codes "entry") (codes "main"))
 
 abbrev pub with_numbers : App → App
-with_numbers a = with_rule (with_rule (with_rule a (option_rule (codes "seed") (codes "1"))) (option_rule (codes "count") (codes "10"))) (optional_rule (codes "turns"))
+with_numbers a = with_rule (with_rule (with_rule (with_rule a (option_rule (codes "seed") (codes "1"))) (option_rule (codes "count") (codes "10"))) (option_rule (codes "steps") (codes "100000"))) (optional_rule (codes "turns"))
+
+-- the options that name a further file
+abbrev pub with_files : App → App
+with_files a = with_rule (with_rule (with_rule a (optional_rule (codes "base"))) (optional_rule (codes "cert"))) (optional_rule (codes "draws"))
 
 unfoldable pub command_app : App
-command_app = with_numbers (with_options (with_words bare_app))
+command_app = with_files (with_numbers (with_options (with_words bare_app)))

@@ -32,15 +32,17 @@ pub record CommandView : Type 0 where
   pub turns : Option ℕ
   pub seed : ℕ
   pub count : ℕ
+  pub steps : ℕ
 
 abbrev pub command_view : Command → CommandView
-command_view c = record { unit = string_bytes c.unit; dirs = map string_bytes c.dirs.items; model = string_bytes c.model; format = c.format; entry = string_bytes c.entry; turns = c.turns; seed = c.seed; count = c.count }
+command_view c = record { unit = string_bytes c.unit; dirs = map string_bytes c.dirs.items; model = string_bytes c.model; format = c.format; entry = string_bytes c.entry; turns = c.turns; seed = c.seed; count = c.count; steps = c.steps }
 
 pub data Asked : Type 0 where
   Help : Asked
   Version : Asked
   Check : (command : CommandView) → Asked
   Load : (command : CommandView) → Asked
+  Gate : (command : CommandView) → (base : Bytes) → Asked
   Refused : Asked
 
 abbrev pub asked_by : Request → Asked
@@ -48,6 +50,7 @@ asked_by request.Help = Help
 asked_by request.Version = Version
 asked_by (request.Check c) = Check (command_view c)
 asked_by (request.Load c) = Load (command_view c)
+asked_by (request.Gate g) = Gate (command_view g.command) (string_bytes g.base)
 asked_by request.Refused = Refused
 
 abbrev pub is_text : Bytes → Bytes → Bool
@@ -71,7 +74,7 @@ abbrev pub number_within : Bytes → ℕ → ℕ → Option ℕ
 number_within text least most = in_range least most (digits_of (without_leading_plus text))
 
 abbrev pub format_named : Bytes → Option Format
-format_named text = if is_text text (codes "text") then Some format.Text else (if is_text text (codes "json") then Some format.Json else None)
+format_named text = if is_text text (codes "text") then Some format.Text else (if is_text text (codes "json") then Some format.Json else (if is_text text (codes "sarif") then Some format.Sarif else None))
 
 -- the text of a word or an option
 abbrev pub text_in : List Row → Bytes → Bytes
@@ -81,10 +84,15 @@ abbrev pub texts_in : List Row → Bytes → List Bytes
 texts_in rows id = unwrap_or (all_of id rows) []
 
 abbrev pub command_in : List Row → OptionValues → CommandView
-command_in rows v = record { unit = text_in rows (codes "unit"); dirs = texts_in rows (codes "dirs"); model = text_in rows (codes "model"); format = v.format; entry = text_in rows (codes "entry"); turns = v.turns; seed = v.seed; count = v.count }
+command_in rows v = record { unit = text_in rows (codes "unit"); dirs = texts_in rows (codes "dirs"); model = text_in rows (codes "model"); format = v.format; entry = text_in rows (codes "entry"); turns = v.turns; seed = v.seed; count = v.count; steps = v.steps }
 
-abbrev pub verb_of : Bytes → CommandView → Asked
-verb_of verb c = if is_text verb (codes "check") then Check c else (if is_text verb (codes "load") then Load c else Refused)
+-- a gate needs the name of its baseline
+abbrev pub gate_in : Option Bytes → CommandView → Asked
+gate_in None c = Refused
+gate_in (Some base) c = Gate c base
+
+abbrev pub verb_of : Bytes → List Row → CommandView → Asked
+verb_of verb rows c = if is_text verb (codes "check") then Check c else (if is_text verb (codes "load") then Load c else (if is_text verb (codes "gate") then gate_in (first_of (codes "base") rows) c else Refused))
 
 -- the turns that are asked for, where an option asks for some; none where they are out of range
 abbrev pub turns_named : Option Bytes → Option (Option ℕ)
@@ -92,16 +100,16 @@ turns_named None = Some None
 turns_named (Some text) = option_map Some (number_within text 0 64)
 
 -- the values that are no plain texts, where each is in its form
-abbrev pub values_of : Option Format → Option (Option ℕ) → Option ℕ → Option ℕ → Option OptionValues
-values_of (Some form) (Some turns) (Some seed) (Some count) = Some (record { format = form; turns = turns; seed = seed; count = count })
-values_of _ _ _ _ = None
+abbrev pub values_of : Option Format → Option (Option ℕ) → Option ℕ → Option ℕ → Option ℕ → Option OptionValues
+values_of (Some form) (Some turns) (Some seed) (Some count) (Some steps) = Some (record { format = form; turns = turns; seed = seed; count = count; steps = steps })
+values_of _ _ _ _ _ = None
 
 abbrev pub values_in : List Row → Option OptionValues
-values_in rows = values_of (format_named (text_in rows (codes "format"))) (turns_named (first_of (codes "turns") rows)) (number_within (text_in rows (codes "seed")) 0 2147483647) (number_within (text_in rows (codes "count")) 1 300)
+values_in rows = values_of (format_named (text_in rows (codes "format"))) (turns_named (first_of (codes "turns") rows)) (number_within (text_in rows (codes "seed")) 0 2147483647) (number_within (text_in rows (codes "count")) 1 300) (number_within (text_in rows (codes "steps")) 0 1000000)
 
 abbrev pub asked_with : List Row → Option OptionValues → Asked
 asked_with rows None = Refused
-asked_with rows (Some v) = verb_of (text_in rows (codes "verb")) (command_in rows v)
+asked_with rows (Some v) = verb_of (text_in rows (codes "verb")) rows (command_in rows v)
 
 -- what the values of the words and options ask for
 abbrev pub asked_in : List Row → Asked

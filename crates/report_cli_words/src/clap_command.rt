@@ -2,7 +2,7 @@
 ghost use Rattle.std.specs.Prelude.{◌≡◌, false, IfOk};
 ghost use Rattle.clap.specs.Simple.{app_of};
 ghost use Rattle.clap.specs.Walk.{rule_of};
-ghost use Rattle.report_cli_words.specs.CommandLine.{option_rule, optional_rule, word_rule, words_rule, with_words, with_options, with_numbers, command_app};
+ghost use Rattle.report_cli_words.specs.CommandLine.{option_rule, optional_rule, word_rule, words_rule, with_words, with_options, with_numbers, with_files, command_app};
 
 use clap::{Arg, ArgAction, Command};
 use std::alloc::{AllocError, Global};
@@ -69,7 +69,18 @@ fn with_numbers<'a>(alloc: Global, command: Command<'a>) -> Result<Command<'a>, 
     command
         .arg(option(alloc, "seed", "1"))?
         .arg(option(alloc, "count", "10"))?
+        .arg(option(alloc, "steps", "100000"))?
         .arg(optional(alloc, "turns"))
+}
+
+/// The options that name a further file.
+fn with_files<'a>(alloc: Global, command: Command<'a>) -> Result<Command<'a>, AllocError>
+    ensures { IfOk result (λ c. app_of c ≡ with_files (app_of command.entry)) }
+{
+    command
+        .arg(optional(alloc, "base"))?
+        .arg(optional(alloc, "cert"))?
+        .arg(optional(alloc, "draws"))
 }
 
 /// The command line of the program, without the program's own name.
@@ -80,5 +91,6 @@ pub fn command<'a>(alloc: Global) -> Result<Command<'a>, AllocError>
     let bare = Command::new(alloc, "ccheck").no_binary_name(true);
     let named = with_words(alloc, bare)?;
     let chosen = with_options(alloc, named)?;
-    with_numbers(alloc, chosen)
+    let counted = with_numbers(alloc, chosen)?;
+    with_files(alloc, counted)
 }

@@ -7,6 +7,8 @@ pub enum Format {
     Text,
     /// One line of JSON.
     Json,
+    /// One line of SARIF 2.1.0.
+    Sarif,
 }
 
 /// A verb's unit, directories and options.
@@ -27,6 +29,15 @@ pub struct Command {
     pub seed: u32,
     /// From 1 to 300.
     pub count: u32,
+    /// How many steps a replay takes at most, from 0 to 1000000.
+    pub steps: u32,
+}
+
+/// What a gate is asked for: a unit, and the name of the file with its baseline.
+#[derive(Drop)]
+pub struct Gate {
+    pub command: Command,
+    pub base: String,
 }
 
 /// What is asked for.
@@ -40,6 +51,8 @@ pub enum Request {
     Check(Command),
     /// `load`: a unit is made and analysed.
     Load(Command),
+    /// `gate`: a unit is analysed, and what a baseline holds is left out of its report.
+    Gate(Gate),
     /// The words are refused.
     Refused,
 }

@@ -6,5 +6,5 @@ mod commands;
 mod numbers;
 mod reading;
 
-pub use commands::{Command, Format, Request};
+pub use commands::{Command, Format, Gate, Request};
 pub use reading::read_words;

@@ -2,11 +2,11 @@
 ghost use Rattle.std.specs.Prelude.{◌≡◌, IfOk, Some, map, string_bytes, codes};
 ghost use Rattle.clap.specs.Matches.{found_of};
 ghost use Rattle.clap.specs.Walk.{rows_of, first_of};
-ghost use Rattle.report_cli_words.specs.Requests.{is_only, format_named, turns_named, text_in, texts_in, command_in, command_view, values_in, asked_in, asked_by, is_memory_kind, asked, asked_of_command};
+ghost use Rattle.report_cli_words.specs.Requests.{is_only, format_named, turns_named, text_in, texts_in, command_in, gate_in, command_view, values_in, asked_in, asked_by, is_memory_kind, asked, asked_of_command};
 ghost use Rattle.clap.specs.Values.{kind_of};
 
 use crate::clap_command::command;
-use crate::commands::{Command, Format, Request};
+use crate::commands::{Command, Format, Gate, Request};
 use crate::numbers::number_within;
 use cc_base::Memory;
 use clap::error::ErrorKind;
@@ -40,6 +40,8 @@ fn format_of(text: &str) -> Option<Format>
         Some(Format::Text)
     } else if text == "json" {
         Some(Format::Json)
+    } else if text == "sarif" {
+        Some(Format::Sarif)
     } else {
         None
     }
@@ -93,6 +95,7 @@ struct OptionValues {
     turns: Option<u32>,
     seed: u32,
     count: u32,
+    steps: u32,
 }
 
 /// The values that are no plain texts; None where one is out of form.
@@ -103,11 +106,13 @@ fn checked_values(matches: &ArgMatches) -> Option<OptionValues>
     let turns = turns_of(matches)?;
     let seed = number_within(text_of(matches, "seed"), 0, 2_147_483_647)?;
     let count = number_within(text_of(matches, "count"), 1, 300)?;
+    let steps = number_within(text_of(matches, "steps"), 0, 1_000_000)?;
     Some(OptionValues {
         format,
         turns,
         seed,
         count,
+        steps,
     })
 }
 
@@ -131,7 +136,21 @@ fn command_of(
         turns: values.turns,
         seed: values.seed,
         count: values.count,
+        steps: values.steps,
     })
+}
+
+/// What `gate` asks for; refused where no option names a baseline.
+fn gate_of(alloc: Global, matches: &ArgMatches, values: OptionValues) -> Result<Request, AllocError>
+    ensures { IfOk result (λ r. asked_by r ≡ gate_in (first_of (codes "base") (rows_of (found_of matches.now))) (command_in (rows_of (found_of matches.now)) values)) }
+{
+    match matches.get_str("base") {
+        Some(name) => Ok(Request::Gate(Gate {
+            command: command_of(alloc, matches, values)?,
+            base: String::from_str(alloc, name)?,
+        })),
+        None => Ok(Request::Refused),
+    }
 }
 
 fn request_of(alloc: Global, matches: &ArgMatches) -> Result<Request, AllocError>
@@ -145,6 +164,8 @@ fn request_of(alloc: Global, matches: &ArgMatches) -> Result<Request, AllocError
         Ok(Request::Check(command_of(alloc, matches, values)?))
     } else if verb == "load" {
         Ok(Request::Load(command_of(alloc, matches, values)?))
+    } else if verb == "gate" {
+        gate_of(alloc, matches, values)
     } else {
         Ok(Request::Refused)
     }
