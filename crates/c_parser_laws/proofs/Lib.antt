@@ -1,0 +1,4 @@
+pub mod Listing
+pub mod Fronts
+pub mod Declaring
+pub mod Specifying
