@@ -80,7 +80,7 @@ suffix_fix known x y ts r s d e =
 suffix_front : {known : List (List ℕ)} {x : SuffixView} {ts r : List Terminal} → IsSuffix known x ts r → first_symbol ts ≡ symbol.Punctuator p.LeftBracket
 suffix_front d = d.opens.symbol
 
-abbrev Suffixes : List (List ℕ) → List SuffixView → List Terminal → List Terminal → Type 0
+abbrev pub Suffixes : List (List ℕ) → List SuffixView → List Terminal → List Terminal → Type 0
 Suffixes known xs ts r = Chain (IsSuffix known) xs ts r
 
 no_suffix : (ts : List Terminal) → first_symbol ts ≡ symbol.Punctuator p.LeftBracket → Ends ts → ⊥
@@ -99,12 +99,12 @@ suffixes_fix known (x ∷ xs) (y ∷ ys) ts r s (a, one, more) er (b, two, other
 -- ---- between the stars and the brackets
 
 -- no star, and an identifier exactly where there is a name; no `(`
-record CoreFront (ts : List Terminal) (named : Bool) : Type 0 where
-  star : NoStar ts
-  name : is_identifier (first_symbol ts) ≡ named
-  parenthesis : is_left_parenthesis (first_symbol ts) ≡ false
+pub record CoreFront (ts : List Terminal) (named : Bool) : Type 0 where
+  pub star : NoStar ts
+  pub name : is_identifier (first_symbol ts) ≡ named
+  pub parenthesis : is_left_parenthesis (first_symbol ts) ≡ false
 
-suffixes_front : (known : List (List ℕ)) (xs : List SuffixView) (ts r : List Terminal) → Suffixes known xs ts r → Ends r → CoreFront ts false
+pub suffixes_front : (known : List (List ℕ)) (xs : List SuffixView) (ts r : List Terminal) → Suffixes known xs ts r → Ends r → CoreFront ts false
 suffixes_front known [] ts r d er =
     let end : Ends ts = rw d at er in record { star = no_star_end ts end; name = end_identifier (first_symbol ts) end; parenthesis = end_parenthesis (first_symbol ts) end }
 suffixes_front known (x ∷ xs) ts r (a, one, more) er = record { star = no_star one.opens.symbol refl; name = rw one.opens.symbol refl; parenthesis = rw one.opens.symbol refl }

@@ -2,3 +2,5 @@ pub mod Listing
 pub mod Fronts
 pub mod Declaring
 pub mod Specifying
+pub mod Initializing
+pub mod Starting

@@ -37,11 +37,11 @@ pub data Kind : Type 0 where
   OfName : Kind
   OfNone : Kind
 
-abbrev kind_of_keyword : WordKind → Kind
+abbrev pub kind_of_keyword : WordKind → Kind
 kind_of_keyword OfOther = OfNone
 kind_of_keyword kind = OfWord kind
 
-abbrev kind_by : Symbol → Bool → Kind
+abbrev pub kind_by : Symbol → Bool → Kind
 kind_by (symbol.Keyword w) named = kind_of_keyword (word_kind w)
 kind_by symbol.Identifier named = cond named OfName OfNone
 kind_by _ named = OfNone
@@ -277,7 +277,7 @@ sign_no_comma {sign} {r} {s} is other = rw is.symbol other
 kinds_apart : (w v : SpecTree) (known : List (List ℕ)) (ts r s : List Terminal) → DeriveWord w known ts r → DeriveWord v known ts s → kind_of w ≡ kind_of v
 kinds_apart w v known ts r s d e = sym (kind_is w known ts r d) ∙ kind_is v known ts s e
 
-brace_no_kind : (x : Symbol) (named : Bool) → is_right_brace x ≡ true → kind_by x named ≡ OfNone
+pub brace_no_kind : (x : Symbol) (named : Bool) → is_right_brace x ≡ true → kind_by x named ≡ OfNone
 brace_no_kind (symbol.Punctuator s) named is = refl
 brace_no_kind _ named is = cc
 

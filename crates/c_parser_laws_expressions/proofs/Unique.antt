@@ -36,7 +36,7 @@ mutual
   all_spined End = tt
   all_spined (More e more) = (spined e, all_spined more)
 
-same_found : (r s : Tree × List Terminal) → Some r ≡ Some s → (r.0 ≡ s.0) × (r.1 ≡ s.1)
+pub same_found : (r s : Tree × List Terminal) → Some r ≡ Some s → (r.0 ≡ s.0) × (r.1 ≡ s.1)
 same_found r s same = let h : r ≡ s = cc in (ap (λ (x : Tree × List Terminal). x.0) h, ap (λ (x : Tree × List Terminal). x.1) h)
 
 pub one_expression : (e d : Tree) (known : List (List ℕ)) (l : ℕ) (ts rest left : List Terminal) → Derives e known l ts rest → EndsBefore l rest → Derives d known l ts left → EndsBefore l left → (e ≡ d) × (rest ≡ left)
