@@ -362,3 +362,12 @@ local_fix known x y ts r s d e =
 
 pub local_word : (known : List (List ℕ)) (x : LocalView) (ts r : List Terminal) → IsLocal known x ts r → kind_at known ts ≡ OfNone → ⊥
 local_word known x ts r d none = spec_word (spec_trees x.words) known ts d.behind d.spec none
+
+-- behind a declarator no body stands
+pub defined_apart : (known inside : List (List ℕ)) (x : InitDeclaratorView) (f : FunctionDeclaratorView) (ts r s v : List Terminal) → Initializes known inside x ts r → EndsDeclared r → IsFunction known f ts s → IsSign p.LeftBrace s v → ⊥
+defined_apart known inside (Object x) f ts r s v d er e opens = function_apart known f x ts s d.behind e d.declarator (declared_end (first_symbol d.behind) (subst EndsDeclared d.initializer er))
+defined_apart known inside (Initialized x at i) f ts r s v d er e opens = function_apart known f x ts s d.behind e d.declarator (ends_by d.initializer.2 refl)
+defined_apart known inside (Prototype g) f ts r s v d er e opens =
+    let same = function_fix known g f ts d.behind s d.declarator e in
+    let here : EndsDeclared s = subst EndsDeclared (d.initializer ∙ same.1) er in
+    let h : false ≡ true = rw opens.symbol at here in cc

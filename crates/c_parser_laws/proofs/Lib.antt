@@ -4,3 +4,5 @@ pub mod Declaring
 pub mod Specifying
 pub mod Initializing
 pub mod Starting
+pub mod Stating
+pub mod Uniting
