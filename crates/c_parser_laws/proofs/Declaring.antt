@@ -1,5 +1,5 @@
 -- A declarator is fixed by its terminals and by what ends it.
-use Rattle.std.proofs.Common.{◌≡◌, ℕ, zero, suc, ◌+◌, ◌≤◌, ◌<◌, Bool, true, false, ◌&&◌, not, cond, List, [], ◌∷◌, length, Option, Some, None, is_some, refl, sym, ap, subst, ◌∙◌, arith}
+use Rattle.std.proofs.Common.{◌≡◌, ℕ, ◌+◌, Bool, true, false, List, [], ◌∷◌, Option, Some, None, is_some, refl, sym, ap, subst, ◌∙◌, arith}
 use Rattle.c_layout.specs.SyntaxTrees.{Tree}
 use Rattle.c_layout.specs.DeclarationTrees.{NameView, SuffixView, DeclaratorLayerView, DeclaratorView}
 use Rattle.c_parser_tokens.specs.declared.terminals.Terminal.{Terminal}
@@ -7,15 +7,14 @@ use Rattle.c_parser_tokens.specs.declared.terminals.Symbol.{Symbol}
 use Rattle.c_parser_tokens.specs.declared.terminals.Symbol.TheVariants as symbol
 use Rattle.c_parser_tokens.specs.declared.terminals.Punctuator.{Punctuator}
 use Rattle.c_parser_tokens.specs.declared.terminals.Punctuator.TheVariants as p
-use Rattle.c_parser_expressions.specs.Expressions.{Derives}
-use Rattle.c_parser_expressions.specs.Fronts.{first_symbol, first_place, first_text, behind_first, is_identifier, IsSign, IsName}
+use Rattle.c_parser_expressions.specs.Fronts.{first_symbol, is_identifier, IsSign}
 use Rattle.c_parser_expressions.specs.Spans.{Chain}
-use Rattle.c_parser_expressions.specs.TypeNames.{Stars, IsStar, is_pointer_qualifier}
-use Rattle.c_parser_declarations.specs.Declarators.{Length, IsSuffix, Core, is_something, Layers, Shape, IsDeclarator}
+use Rattle.c_parser_expressions.specs.TypeNames.{Stars, is_pointer_qualifier}
+use Rattle.c_parser_declarations.specs.Declarators.{Length, IsSuffix, Core, Layers, Shape, IsDeclarator}
 use Rattle.c_parser_laws_expressions.proofs.Scanning.{NoStar, no_star, stars, stars_are, star_weight, is_star, is_left_bracket, is_left_parenthesis}
 use Rattle.c_parser_laws_expressions.proofs.Levels.{ends_at}
 use Rattle.c_parser_laws_expressions.proofs.Unique.{one_expression}
-use Rattle.c_parser_laws.proofs.Listing.{next, true_false, Fixes}
+use Rattle.c_parser_laws.proofs.Listing.{next, Fixes}
 use Rattle.c_parser_laws.proofs.Fronts.{names_fix, no_expression, is_end, Ends}
 
 -- ---- ends

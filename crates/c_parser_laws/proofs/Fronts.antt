@@ -1,18 +1,15 @@
 -- What stands at the front of expressions, words and declarators, and what ends them.
-use Rattle.std.proofs.Common.{◌≡◌, ℕ, zero, suc, ◌+◌, ◌≤◌, ◌<◌, Bool, true, false, ◌||◌, cond, List, [], ◌∷◌, Option, Some, None, is_some, min, refl, sym, ap, subst, ◌∙◌, arith}
+use Rattle.std.proofs.Common.{◌≡◌, ℕ, suc, Bool, true, false, List, Some, None, refl, sym, ◌∙◌, arith}
 use Rattle.c_layout.specs.SyntaxTrees.{Tree}
 use Rattle.c_layout.specs.DeclarationTrees.{NameView}
 use Rattle.c_parser_tokens.specs.declared.terminals.Terminal.{Terminal}
-use Rattle.c_parser_tokens.specs.declared.terminals.Keyword.{Keyword}
-use Rattle.c_parser_tokens.specs.declared.terminals.Keyword.TheVariants as k
 use Rattle.c_parser_tokens.specs.declared.terminals.Symbol.{Symbol}
 use Rattle.c_parser_tokens.specs.declared.terminals.Symbol.TheVariants as symbol
-use Rattle.c_parser_tokens.specs.declared.terminals.Punctuator.{Punctuator}
 use Rattle.c_parser_tokens.specs.declared.terminals.Punctuator.TheVariants as p
 use Rattle.c_parser_expressions.specs.Expressions.{Derives}
-use Rattle.c_parser_expressions.specs.Fronts.{first_symbol, first_place, first_text, behind_first, is_typedef, is_identifier, IsSign, IsWord, IsName}
+use Rattle.c_parser_expressions.specs.Fronts.{first_symbol, is_identifier, IsName}
 use Rattle.c_parser_laws_expressions.specs.Endings.{EndsBefore}
-use Rattle.c_parser_laws_expressions.proofs.Reading.{Reads, Found, begin, on, climb, read}
+use Rattle.c_parser_laws_expressions.proofs.Reading.{Reads, Found, begin, read}
 use Rattle.c_parser_laws_expressions.proofs.Operands.{operand, size}
 use Rattle.c_parser_laws_expressions.proofs.Unique.{spined}
 use Rattle.c_parser_laws_expressions.proofs.Spans.{no_type}

@@ -1,21 +1,20 @@
 -- Initializers, parameters and declarators with initializers are fixed by their terminals and by what ends them.
-use Rattle.std.proofs.Common.{◌≡◌, ℕ, zero, suc, ◌+◌, ◌≤◌, ◌<◌, Bool, true, false, ◌&&◌, ◌||◌, not, cond, List, [], ◌∷◌, length, Option, Some, None, is_some, ◌⊎◌, inl, inr, refl, sym, ap, subst, ◌∙◌, arith}
+use Rattle.std.proofs.Common.{◌≡◌, ℕ, Bool, true, false, ◌&&◌, ◌||◌, not, List, [], ◌∷◌, Option, Some, None, is_some, ◌⊎◌, inl, inr, refl, sym, ap, subst, ◌∙◌, arith}
 use Rattle.c_layout.specs.SyntaxTrees.{Tree}
-use Rattle.c_layout.specs.DeclarationTrees.{NameView, DeclaratorLayerView, DeclaratorView, StorageWord, Qualifier, StructTag, StructBody, EnumTag, EnumBody, TypedefName, InitializerTree, InitializerTrees, Single, Braces, NoInitializer, MoreInitializers, initializer_trees, SpecTree, TypeOf, ParameterView, ParametersView, NoParameters, OnlyVoid, ParameterList, FunctionDeclaratorView, InitDeclaratorView, Object, Initialized, Prototype, LocalView, SpecTrees, NoWord, MoreWords, spec_trees}
+use Rattle.c_layout.specs.DeclarationTrees.{NameView, DeclaratorLayerView, DeclaratorView, StorageWord, Qualifier, StructTag, StructBody, EnumTag, EnumBody, TypedefName, InitializerTree, InitializerTrees, Single, Braces, NoInitializer, MoreInitializers, initializer_trees, SpecTree, TypeOf, ParameterView, ParametersView, NoParameters, OnlyVoid, ParameterList, FunctionDeclaratorView, InitDeclaratorView, Object, Initialized, Prototype, LocalView, NoWord, MoreWords, spec_trees}
 use Rattle.c_layout.specs.declared.syntax_tree.declarations.TypeWord.TheVariants as type_word
 use Rattle.c_parser_tokens.specs.declared.terminals.Terminal.{Terminal}
 use Rattle.c_parser_tokens.specs.declared.terminals.Keyword.TheVariants as k
 use Rattle.c_parser_tokens.specs.declared.terminals.Symbol.{Symbol}
 use Rattle.c_parser_tokens.specs.declared.terminals.Symbol.TheVariants as symbol
-use Rattle.c_parser_tokens.specs.declared.terminals.Punctuator.{Punctuator}
 use Rattle.c_parser_tokens.specs.declared.terminals.Punctuator.TheVariants as p
 use Rattle.c_parser_expressions.specs.Expressions.{Derives}
 use Rattle.c_parser_expressions.specs.Fronts.{first_symbol, first_place, first_text, behind_first, is_typedef, is_identifier, IsSign, IsWord, IsName}
-use Rattle.c_parser_expressions.specs.Spans.{Span, Trailed, Separated, Chain}
+use Rattle.c_parser_expressions.specs.Spans.{Span, Trailed, Separated}
 use Rattle.c_parser_expressions.specs.TypeNames.{Stars}
-use Rattle.c_parser_declarations.specs.Declarators.{IsDeclarator, Layers, Shape, Core, IsSuffix}
-use Rattle.c_parser_declarations.specs.Declarations.{is_declarator_sign, begins_declarator, Optional, IsParameter, is_lone_void, is_only_void, is_void_type, Parameters, IsFunction, IsDeclared, IsInitialized, Initializes, bare, is_object, IsLocalDeclarator, LocalDeclarators, IsLocal}
-use Rattle.c_parser_declarations.specs.Initializers.{has_item, DeriveInitializer, DeriveItems}
+use Rattle.c_parser_declarations.specs.Declarators.{IsDeclarator, Shape}
+use Rattle.c_parser_declarations.specs.Declarations.{is_declarator_sign, begins_declarator, Optional, IsParameter, is_lone_void, is_only_void, is_void_type, Parameters, IsFunction, Initializes, bare, IsLocalDeclarator, LocalDeclarators, IsLocal}
+use Rattle.c_parser_declarations.specs.Initializers.{DeriveInitializer, DeriveItems}
 use Rattle.c_parser_declarations.specs.Lists.{Listed}
 use Rattle.c_parser_declarations.specs.Specifiers.{IsNamed, IsSpec, DeriveWord, DeriveWords}
 use Rattle.c_parser_laws_expressions.specs.Endings.{EndsBefore}
@@ -24,10 +23,10 @@ use Rattle.c_parser_laws_expressions.proofs.Reading.{is_comma}
 use Rattle.c_parser_laws_expressions.proofs.Scanning.{NoStar, no_star, is_left_parenthesis}
 use Rattle.c_parser_laws_expressions.proofs.WordReading.{OfType}
 use Rattle.c_parser_laws_expressions.proofs.Unique.{one_expression}
-use Rattle.c_parser_laws.proofs.Listing.{next, true_false, Fixes, AllFix, all_fix, listed_fix, Rowed, rowed_fix, AtBrace, at_brace, is_right_brace}
+use Rattle.c_parser_laws.proofs.Listing.{next, true_false, Fixes, AllFix, listed_fix, Rowed, rowed_fix, AtBrace, at_brace, is_right_brace}
 use Rattle.c_parser_laws.proofs.Fronts.{names_fix, no_expression, is_end, Ends}
-use Rattle.c_parser_laws.proofs.Declaring.{declarator_fix, ends_by, stars_fix, no_star_end, suffixes_front}
-use Rattle.c_parser_laws.proofs.Specifying.{Kind, OfWord, OfNone, kind_at, kind_of, kind_is, no_word, NoWordAt, begins_no_word, declarator_begins, end_no_word, is_left_brace, EndsItem, item_comma, item_brace, item_ends, comma_ends, named_fix, spec_fix, spec_word}
+use Rattle.c_parser_laws.proofs.Declaring.{declarator_fix, ends_by, stars_fix, suffixes_front}
+use Rattle.c_parser_laws.proofs.Specifying.{OfWord, OfNone, kind_at, kind_of, kind_is, no_word, NoWordAt, begins_no_word, declarator_begins, end_no_word, item_brace, item_ends, named_fix, spec_fix, spec_word}
 
 -- ---- initializers
 

@@ -1,10 +1,8 @@
 -- Specifiers are fixed by their terminals and by what ends them.
-use Rattle.std.proofs.Common.{◌≡◌, ℕ, zero, suc, ◌+◌, ◌≤◌, ◌<◌, Bool, true, false, ◌&&◌, ◌||◌, not, cond, List, [], ◌∷◌, length, Option, Some, None, is_some, ◌⊎◌, inl, inr, refl, sym, ap, subst, ◌∙◌, arith}
+use Rattle.std.proofs.Common.{◌≡◌, ℕ, ◌≤◌, Bool, true, false, ◌&&◌, ◌||◌, not, cond, List, [], ◌∷◌, Option, Some, None, is_some, ◌⊎◌, inl, inr, refl, sym, ap, subst, ◌∙◌, arith}
 use Rattle.c_layout.specs.SyntaxTrees.{Tree}
 use Rattle.c_layout.specs.DeclarationTrees.{NameView, SuffixView, DeclaratorLayerView, DeclaratorView, EnumeratorView, SpecTree, SpecTrees, MemberTree, MemberTrees, StorageWord, Qualifier, TypeOf, StructTag, StructBody, EnumTag, EnumBody, TypedefName, NoWord, MoreWords, Members, NoMember, MoreMembers, spec_trees}
 use Rattle.c_layout.specs.declared.syntax_tree.declarations.Storage.{Storage}
-use Rattle.c_layout.specs.declared.syntax_tree.declarations.Storage.TheVariants as storage
-use Rattle.c_layout.specs.declared.syntax_tree.declarations.TypeWord.{TypeWord}
 use Rattle.c_parser_tokens.specs.declared.terminals.Terminal.{Terminal}
 use Rattle.c_parser_tokens.specs.declared.terminals.Keyword.{Keyword}
 use Rattle.c_parser_tokens.specs.declared.terminals.Keyword.TheVariants as k
@@ -13,21 +11,20 @@ use Rattle.c_parser_tokens.specs.declared.terminals.Symbol.TheVariants as symbol
 use Rattle.c_parser_tokens.specs.declared.terminals.Punctuator.{Punctuator}
 use Rattle.c_parser_tokens.specs.declared.terminals.Punctuator.TheVariants as p
 use Rattle.c_parser_expressions.specs.Expressions.{Derives}
-use Rattle.c_parser_expressions.specs.Fronts.{first_symbol, first_place, first_text, behind_first, is_typedef, is_identifier, is_typedef_first, is_identifier_first, begins_with, is_specifier, IsSign, IsWord, IsName, IsTypedefName}
+use Rattle.c_parser_expressions.specs.Fronts.{first_symbol, first_text, is_typedef, is_identifier, IsSign, IsName}
 use Rattle.c_parser_expressions.specs.Spans.{Chain}
-use Rattle.c_parser_expressions.specs.TypeNames.{Stars, type_word_of, is_qualifier, is_one_type}
+use Rattle.c_parser_expressions.specs.TypeNames.{Stars}
 use Rattle.c_parser_declarations.specs.Declarations.{is_declarator_sign, begins_declarator}
-use Rattle.c_parser_declarations.specs.Declarators.{IsDeclarator, Layers, Shape, Core, IsSuffix, is_something}
-use Rattle.c_parser_declarations.specs.Lists.{Listed, Trailed}
-use Rattle.c_parser_declarations.specs.Specifiers.{Tag, Value, IsEnumerator, Enumerators, IsNamed, counts_of, has_member, DeriveWord, DeriveWords, DeriveMember, DeriveMembers, IsSpec}
+use Rattle.c_parser_declarations.specs.Declarators.{IsDeclarator, Shape, Core, IsSuffix, is_something}
+use Rattle.c_parser_declarations.specs.Lists.{Listed}
+use Rattle.c_parser_declarations.specs.Specifiers.{Tag, Value, IsEnumerator, Enumerators, IsNamed, DeriveWord, DeriveWords, DeriveMember, DeriveMembers, IsSpec}
 use Rattle.c_parser_declarations.specs.StorageClasses.{storage_class}
 use Rattle.c_parser_laws_expressions.specs.Endings.{EndsBefore}
-use Rattle.c_parser_laws_expressions.proofs.Levels.{ends_at}
 use Rattle.c_parser_laws_expressions.proofs.Reading.{is_comma}
 use Rattle.c_parser_laws_expressions.proofs.WordReading.{WordKind, OfStorage, OfQualifier, OfType, OfStruct, OfEnum, OfOther, word_kind, qualifier_kind, type_kind}
 use Rattle.c_parser_laws_expressions.proofs.Unique.{one_expression}
-use Rattle.c_parser_laws.proofs.Listing.{next, true_false, Fixes, AllFix, all_fix, listed_fix, Rowed, listed_rowed, trailed_rowed, rowed_fix, AtBrace, at_brace, is_right_brace}
-use Rattle.c_parser_laws.proofs.Fronts.{names_fix, identifier_at, no_expression, is_end, Ends}
+use Rattle.c_parser_laws.proofs.Listing.{next, true_false, Fixes, all_fix, listed_fix, Rowed, listed_rowed, trailed_rowed, rowed_fix, AtBrace, at_brace, is_right_brace}
+use Rattle.c_parser_laws.proofs.Fronts.{names_fix, is_end, Ends}
 use Rattle.c_parser_laws.proofs.Declaring.{declarator_fix, ends_by}
 
 -- ---- what a word is, by its first terminal

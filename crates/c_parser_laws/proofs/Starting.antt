@@ -1,25 +1,23 @@
 -- What a statement begins with.
-use Rattle.std.proofs.Common.{◌≡◌, ℕ, zero, suc, ◌+◌, ◌≤◌, ◌<◌, Bool, true, false, cond, List, [], ◌∷◌, Option, Some, None, refl, sym, ap, subst, ◌∙◌, arith}
+use Rattle.std.proofs.Common.{◌≡◌, ℕ, zero, suc, Bool, true, false, cond, List, Option, Some, None, refl, sym, ap, ◌∙◌, arith}
 use Rattle.c_layout.specs.SyntaxTrees.{Tree, Name}
-use Rattle.c_layout.specs.DeclarationTrees.{ForFirstView, StatementTree, StatementTrees, Declaration, Label, Case, Default, Block, Expression, If, IfElse, Switch, While, Do, For, Goto, Continue, Break, Return, NoStatement, MoreStatements}
+use Rattle.c_layout.specs.DeclarationTrees.{StatementTree, Declaration, Label, Case, Default, Block, Expression, If, IfElse, Switch, While, Do, For, Goto, Continue, Break, Return}
 use Rattle.c_parser_tokens.specs.declared.terminals.Terminal.{Terminal}
 use Rattle.c_parser_tokens.specs.declared.terminals.Keyword.{Keyword}
 use Rattle.c_parser_tokens.specs.declared.terminals.Keyword.TheVariants as k
 use Rattle.c_parser_tokens.specs.declared.terminals.Symbol.{Symbol}
 use Rattle.c_parser_tokens.specs.declared.terminals.Symbol.TheVariants as symbol
-use Rattle.c_parser_tokens.specs.declared.terminals.Punctuator.{Punctuator}
 use Rattle.c_parser_tokens.specs.declared.terminals.Punctuator.TheVariants as p
 use Rattle.c_parser_expressions.specs.Expressions.{Derives}
-use Rattle.c_parser_expressions.specs.Fronts.{first_symbol, first_place, first_text, behind_first, is_typedef, IsSign, IsWord, IsName}
+use Rattle.c_parser_expressions.specs.Fronts.{first_symbol, first_place, first_text, behind_first, is_typedef, IsSign, IsWord}
 use Rattle.c_parser.specs.Statements.{Maybe, DeriveStatement}
-use Rattle.c_parser_laws_expressions.specs.Endings.{EndsBefore}
 use Rattle.c_parser_laws_expressions.proofs.Levels.{ends_at}
 use Rattle.c_parser_laws_expressions.proofs.Reading.{Reads, climb, read}
 use Rattle.c_parser_laws_expressions.proofs.Operands.{operand, size}
 use Rattle.c_parser_laws_expressions.proofs.WordReading.{word_kind}
 use Rattle.c_parser_laws_expressions.proofs.Unique.{spined, same_found}
 use Rattle.c_parser_laws.proofs.Fronts.{no_expression}
-use Rattle.c_parser_laws.proofs.Specifying.{Kind, OfNone, kind_at, kind_by, kind_of_keyword}
+use Rattle.c_parser_laws.proofs.Specifying.{OfNone, kind_at, kind_by, kind_of_keyword}
 use Rattle.c_parser_laws.proofs.Initializing.{local_word}
 
 pub data Start : Type 0 where

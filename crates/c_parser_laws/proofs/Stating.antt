@@ -1,5 +1,5 @@
 -- Statements are fixed by their terminals, and by the `else` that does not stand behind an open one.
-use Rattle.std.proofs.Common.{◌≡◌, ℕ, zero, suc, ◌+◌, ◌≤◌, ◌<◌, Bool, true, false, cond, List, [], ◌∷◌, Option, Some, None, refl, sym, ap, subst, ◌∙◌, arith}
+use Rattle.std.proofs.Common.{◌≡◌, ℕ, Bool, true, false, List, Option, Some, None, refl, sym, ap, subst, ◌∙◌, arith}
 use Rattle.c_layout.specs.SyntaxTrees.{Tree}
 use Rattle.c_layout.specs.DeclarationTrees.{ForFirstView, NoClause, Clause, StatementTree, StatementTrees, Declaration, Label, Case, Default, Block, Expression, If, IfElse, Switch, While, Do, For, Goto, Continue, Break, Return, NoStatement, MoreStatements}
 use Rattle.c_layout.specs.DeclarationTrees as tree
@@ -8,19 +8,19 @@ use Rattle.c_parser_tokens.specs.declared.terminals.Keyword.{Keyword}
 use Rattle.c_parser_tokens.specs.declared.terminals.Keyword.TheVariants as k
 use Rattle.c_parser_tokens.specs.declared.terminals.Symbol.{Symbol}
 use Rattle.c_parser_tokens.specs.declared.terminals.Symbol.TheVariants as symbol
-use Rattle.c_parser_tokens.specs.declared.terminals.Punctuator.{Punctuator}
 use Rattle.c_parser_tokens.specs.declared.terminals.Punctuator.TheVariants as p
 use Rattle.c_parser_expressions.specs.Expressions.{Derives}
-use Rattle.c_parser_expressions.specs.Fronts.{first_symbol, first_place, behind_first, is_typedef, IsSign, IsWord, IsName}
+use Rattle.c_parser_expressions.specs.Fronts.{first_symbol, behind_first, IsSign, IsWord, IsName}
 use Rattle.c_parser_declarations.specs.Declarations.{IsLocal}
-use Rattle.c_parser.specs.Statements.{Maybe, Condition, FirstClause, is_statement, is_open, DeriveStatement, DeriveStatements, IsBlock}
+use Rattle.c_parser.specs.Statements.{Maybe, Condition, FirstClause, is_open, DeriveStatement, DeriveStatements, IsBlock}
+use Rattle.c_parser_laws.specs.StatementEnds.{is_else, TakesNoElse}
 use Rattle.c_parser_laws_expressions.proofs.Levels.{ends_at}
 use Rattle.c_parser_laws_expressions.proofs.Unique.{one_expression}
 use Rattle.c_parser_laws.proofs.Listing.{next, true_false, AtBrace, at_brace, is_right_brace}
 use Rattle.c_parser_laws.proofs.Fronts.{names_fix, no_expression}
 use Rattle.c_parser_laws.proofs.Specifying.{OfNone, kind_at}
 use Rattle.c_parser_laws.proofs.Initializing.{local_fix, local_word}
-use Rattle.c_parser_laws.proofs.Starting.{Start, ByWord, ByBrace, ByLabel, Declares, Evaluates, Never, start_at, start_of, start_is, no_statement, evaluates_at, declares_at}
+use Rattle.c_parser_laws.proofs.Starting.{Declares, Evaluates, Never, start_at, start_of, start_is, no_statement, evaluates_at, declares_at}
 
 -- ---- parts
 
@@ -75,18 +75,10 @@ first_fix known (tree.Declares x) (tree.Declares y) ts r s d e = let same = loca
 
 -- ---- what stands behind an open statement
 
-abbrev is_else : Symbol → Bool
-is_else (symbol.Keyword k.Else) = true
-is_else _ = false
-
--- no `else` stands behind a statement that would take it
-abbrev pub Fits : StatementTree → List Terminal → Type 0
-Fits s r = is_open s ≡ true → is_else (first_symbol r) ≡ false
-
-closed_fits : (s : StatementTree) (r : List Terminal) → is_open s ≡ false → Fits s r
+closed_fits : (s : StatementTree) (r : List Terminal) → is_open s ≡ false → TakesNoElse s r
 closed_fits s r closed open-is = absurd (true_false open-is closed)
 
-while_fits : (s : StatementTree) {r a : List Terminal} → IsWord k.While r a → Fits s r
+while_fits : (s : StatementTree) {r a : List Terminal} → IsWord k.While r a → TakesNoElse s r
 while_fits s {r} {a} is open-is = rw is.symbol refl
 
 no_else : {r c d : List Terminal} → is_else (first_symbol r) ≡ false → r ≡ c → IsWord k.Else c d → ⊥
@@ -134,7 +126,7 @@ moved_maybe : (y : Option Tree) (known : List (List ℕ)) (s : List Terminal) {a
 moved_maybe y known s {a} {b} same e = subst (λ (z : List Terminal). Maybe known y z s) (sym same) e
 
 mutual
-  pub statement_fix : (x y : StatementTree) (known : List (List ℕ)) (ts r s : List Terminal) → DeriveStatement x known ts r → Fits x r → DeriveStatement y known ts s → Fits y s → (x ≡ y) × (r ≡ s)
+  pub statement_fix : (x y : StatementTree) (known : List (List ℕ)) (ts r s : List Terminal) → DeriveStatement x known ts r → TakesNoElse x r → DeriveStatement y known ts s → TakesNoElse y s → (x ≡ y) × (r ≡ s)
   statement_fix (Declaration x) (Declaration y) known ts r s d er e es = let same = local_fix known x y ts r s d e in (ap Declaration same.0, same.1)
   statement_fix (Label n x) (Label m y) known ts r s (a, b, is, colon, some, d) er (f, g, is-too, colon-too, some-too, e) es =
       let names = names_fix n m is is-too in
@@ -184,11 +176,14 @@ mutual
       let same = statement_fix x y known a b g d (while_fits x is-while) (moved y known _ (next_word is is-too refl) e) (while_fits y is-while-too) in
       let values = condition_fix known v w c l j value (moved_condition w known _ (next_word is-while is-while-too same.1) value-too) in
       (λ i. Do ((place ∙ sym place-too) i) (same.0 i) (values.0 i), next semi semi-too values.1)
-  statement_fix (For at first v w x) (For at-too first-too v-too w-too y) known ts r s (place, a, b, c, m, f, g, h, is, opens, clause, test, semi, step, shut, some, d) er (place-too, aa, bb, cc-at, mm, ff, gg, hh, is-too, opens-too, clause-too, test-too, semi-too, step-too, shut-too, some-too, e) es =
-      let inside : b ≡ bb = next opens opens-too (next_word is is-too refl) in
-      let clauses = first_fix known first first-too b c cc-at clause (subst (λ (z : List Terminal). FirstClause known first-too z cc-at) (sym inside) clause-too) in
-      let tests = valued_fix known v v-too c m mm f ff test semi (moved_maybe v-too known _ clauses.1 test-too) semi-too in
-      let steps = step_fix known w w-too f g gg h hh step shut (moved_maybe w-too known _ (next semi semi-too tests.1) step-too) shut-too in
+  statement_fix (For at first v w x) (For at-too first-too v-too w-too y) known ts r s
+      (place, a, b, c, l, f, g, h, is, opens, clause, test, semi, step, shut, some, d) er
+      (place-too, a2, b2, c2, l2, f2, g2, h2, is-too, opens-too, clause-too, test-too, semi-too, step-too, shut-too, some-too, e) es =
+      let inside : b ≡ b2 = next opens opens-too (next_word is is-too refl) in
+      let from : FirstClause known first-too b c2 = subst (λ (z : List Terminal). FirstClause known first-too z c2) (sym inside) clause-too in
+      let clauses = first_fix known first first-too b c c2 clause from in
+      let tests = valued_fix known v v-too c l l2 f f2 test semi (moved_maybe v-too known _ clauses.1 test-too) semi-too in
+      let steps = step_fix known w w-too f g g2 h h2 step shut (moved_maybe w-too known _ (next semi semi-too tests.1) step-too) shut-too in
       let same = statement_fix x y known h r s d er (moved y known _ (next shut shut-too steps.1) e) es in
       (λ i. For ((place ∙ sym place-too) i) (clauses.0 i) (tests.0 i) (steps.0 i) (same.0 i), same.1)
   statement_fix (Goto at n) (Goto at-too m) known ts r s (place, a, b, is, name, semi) er (place-too, f, g, is-too, name-too, semi-too) es =

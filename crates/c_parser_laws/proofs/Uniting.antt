@@ -1,24 +1,20 @@
 -- External declarations, pieces and units are fixed by their terminals.
-use Rattle.std.proofs.Common.{◌≡◌, ℕ, zero, suc, ◌+◌, ◌≤◌, ◌<◌, Bool, true, false, cond, List, [], ◌∷◌, ◌++◌, take, drop, Option, Some, None, Ok, Err, Result, ◌⊎◌, inl, inr, refl, sym, ap, subst, ◌∙◌, arith}
+use Rattle.std.proofs.Common.{◌≡◌, ℕ, Bool, true, false, List, [], ◌∷◌, take, drop, Ok, Result, refl, sym, ap, subst, ◌∙◌}
 use Rattle.cc_base.specs.declared.lexemes.Token.{Token}
 use Rattle.c_layout.specs.declared.data_model.Model.{Model}
-use Rattle.c_layout.specs.DeclarationTrees.{NameView, SpecTree, FunctionDeclaratorView, InitDeclaratorView, Object, Initialized, Prototype, ExternalTree, Declared, Defined, StatementTree, StatementTrees, NoStatement, MoreStatements, spec_trees, statement_trees}
+use Rattle.c_layout.specs.DeclarationTrees.{FunctionDeclaratorView, InitDeclaratorView, Object, Initialized, Prototype, ExternalTree, Declared, Defined, StatementTree, StatementTrees, NoStatement, MoreStatements, spec_trees, statement_trees}
 use Rattle.c_parser_tokens.specs.declared.terminals.Terminal.{Terminal}
-use Rattle.c_parser_tokens.specs.declared.terminals.Symbol.{Symbol}
 use Rattle.c_parser_tokens.specs.declared.terminals.Symbol.TheVariants as symbol
-use Rattle.c_parser_tokens.specs.declared.terminals.Punctuator.{Punctuator}
 use Rattle.c_parser_tokens.specs.declared.terminals.Punctuator.TheVariants as p
-use Rattle.c_parser_expressions.specs.Fronts.{first_symbol, first_place, behind_first, IsSign, IsName}
-use Rattle.c_parser_declarations.specs.Declarations.{begins_declarator, Initializes, IsFunction, IsDeclared, IsInitialized, bare, name_of}
-use Rattle.c_parser_declarations.specs.Specifiers.{IsSpec}
+use Rattle.c_parser_expressions.specs.Fronts.{IsSign}
+use Rattle.c_parser_declarations.specs.Declarations.{begins_declarator, IsFunction, bare, name_of}
 use Rattle.c_parser_declarations.specs.StorageClasses.{is_typedef}
-use Rattle.c_parser_tokens.specs.Classes.{classified}
 use Rattle.c_parser.specs.Externals.{with_name, with_declared, in_force, IsFileDeclarator, Further, FileDeclarators, IsExternal, IsPiece, ArePieces, IsUnit}
 use Rattle.c_parser.specs.Pieces.{piece_length}
 use Rattle.c_parser.specs.Statements.{IsBlock}
-use Rattle.c_parser_laws.proofs.Listing.{next, true_false}
+use Rattle.c_parser_laws.proofs.Listing.{next}
 use Rattle.c_parser_laws.proofs.Declaring.{ends_by}
-use Rattle.c_parser_laws.proofs.Specifying.{OfNone, kind_at, NoWordAt, begins_no_word, end_no_word, spec_fix, spec_word}
+use Rattle.c_parser_laws.proofs.Specifying.{NoWordAt, begins_no_word, end_no_word, spec_fix, spec_word}
 use Rattle.c_parser_laws.proofs.Initializing.{EndsDeclared, declared_comma, declared_semicolon, initialized_fix, initialized_begins, function_begins, function_fix, defined_apart, semicolon_begins}
 use Rattle.c_parser_laws.proofs.Stating.{block_fix}
 

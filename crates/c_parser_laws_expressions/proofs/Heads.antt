@@ -1,5 +1,5 @@
 -- Expressions that begin with a terminal of their own.
-use Rattle.std.proofs.Common.{◌≡◌, ℕ, zero, suc, ◌+◌, ◌≤◌, ◌<◌, Bool, true, false, List, [], ◌∷◌, Option, Some, None, min, nat_lt, refl, arith, sym, ap, subst, ◌∙◌}
+use Rattle.std.proofs.Common.{◌≡◌, ℕ, ◌+◌, ◌≤◌, true, List, Some, None, nat_lt, refl, arith, sym, subst}
 use Rattle.cc_base.specs.declared.diagnostics.Place.{Place}
 use Rattle.c_layout.specs.SyntaxTrees.{Tree, Trees, TypeNameView, Name, Number, Literal, Paren, Call, Prefix, Unary, SizeofExpr, SizeofType, Cast}
 use Rattle.c_layout.specs.declared.syntax_tree.expressions.Constant.{Constant}
@@ -7,20 +7,19 @@ use Rattle.c_layout.specs.declared.syntax_tree.expressions.StepOp.{StepOp}
 use Rattle.c_layout.specs.declared.syntax_tree.expressions.StepOp.TheVariants as step
 use Rattle.c_layout.specs.declared.syntax_tree.expressions.UnaryOp.{UnaryOp}
 use Rattle.c_layout.specs.declared.syntax_tree.expressions.UnaryOp.TheVariants as unary
-use Rattle.c_parser_tokens.specs.declared.terminals.Keyword.TheVariants as k
 use Rattle.c_parser_tokens.specs.declared.terminals.Terminal.{Terminal}
 use Rattle.c_parser_tokens.specs.declared.terminals.Punctuator.TheVariants as p
 use Rattle.c_parser_tokens.specs.declared.terminals.Symbol.TheVariants as symbol
 use Rattle.c_parser_expressions.specs.Expressions.{Derives, DeriveEach}
-use Rattle.c_parser_expressions.specs.Fronts.{first_symbol, first_place, first_text, behind_first, IsSign, IsName}
+use Rattle.c_parser_expressions.specs.Fronts.{first_symbol, first_place, first_text, behind_first, IsSign}
 use Rattle.c_parser_expressions.specs.Levels.{step_sign, unary_sign}
-use Rattle.c_parser_expressions.specs.Spans.{Span, Separated}
+use Rattle.c_parser_expressions.specs.Spans.{Span}
 use Rattle.c_parser_expressions.specs.TypeNames.{IsTypeName}
-use Rattle.c_parser_laws_expressions.specs.Endings.{Continuation, Arguments, continuation_of, power, EndsBefore}
-use Rattle.c_parser_laws_expressions.proofs.WordReading.{BeginsWord, begins_word, type_name_is, name_weight, Named}
-use Rattle.c_parser_laws_expressions.proofs.Reading.{Found, Reads, on, several, skip_by, trees_at, called, type_behind, size_of, cast_to, begin, climb, start, read}
-use Rattle.c_parser_laws_expressions.proofs.Levels.{power_at, ends_at, below}
-use Rattle.c_parser_laws_expressions.proofs.Operands.{Operand, Spined, operand, size, sizes, Each, each_skipped, each_trees, several_are, count}
+use Rattle.c_parser_laws_expressions.specs.Endings.{Continuation, Arguments, continuation_of, power}
+use Rattle.c_parser_laws_expressions.proofs.WordReading.{begins_word, type_name_is, name_weight, Named}
+use Rattle.c_parser_laws_expressions.proofs.Reading.{Reads, on, several, skip_by, trees_at, called, type_behind, size_of, cast_to, begin, climb, read}
+use Rattle.c_parser_laws_expressions.proofs.Levels.{ends_at, below}
+use Rattle.c_parser_laws_expressions.proofs.Operands.{Spined, operand, sizes, Each, each_skipped, each_trees, several_are}
 use Rattle.c_parser_laws_expressions.proofs.Spans.{AllSpined, each_read, count_small, separated_end, type_name_end, no_bracket, no_parenthesis, no_type, no_cast}
 
 called_name : (self : Reads) (m : ℕ) (ts : List Terminal) (c : Continuation) → power c ≤ 16 → called self m ts c ≡ Some (Name (first_place ts) (first_text ts), behind_first ts)

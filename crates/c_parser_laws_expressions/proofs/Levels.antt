@@ -1,6 +1,6 @@
 -- The right edges of expressions: which operators may stand behind one without going on with its last operand.
-use Rattle.std.proofs.Common.{◌≡◌, ℕ, zero, suc, ◌+◌, ◌≤◌, ◌<◌, Bool, true, false, List, Option, Some, None, min, nat_lt, refl, arith, sym, ap, ◌∙◌}
-use Rattle.c_layout.specs.SyntaxTrees.{Tree, Trees, Name, Number, Literal, Paren, Subscript, Call, Member, Arrow, Postfix, Prefix, Unary, SizeofExpr, SizeofType, Cast, Binary, Logical, Conditional, Assign, Comma, End, More}
+use Rattle.std.proofs.Common.{◌≡◌, ℕ, ◌+◌, ◌≤◌, ◌<◌, true, false, List, Option, Some, None, min, nat_lt, refl, arith, ap, ◌∙◌}
+use Rattle.c_layout.specs.SyntaxTrees.{Tree, Name, Number, Literal, Paren, Subscript, Call, Member, Arrow, Postfix, Prefix, Unary, SizeofExpr, SizeofType, Cast, Binary, Logical, Conditional, Assign, Comma}
 use Rattle.c_layout.specs.declared.syntax_tree.expressions.AssignOp.{AssignOp}
 use Rattle.c_layout.specs.declared.syntax_tree.expressions.AssignOp.TheVariants as assign
 use Rattle.c_layout.specs.declared.syntax_tree.expressions.BinaryOp.{BinaryOp}
@@ -14,7 +14,7 @@ use Rattle.c_parser_tokens.specs.declared.terminals.Punctuator.{Punctuator}
 use Rattle.c_parser_expressions.specs.Expressions.{Derives}
 use Rattle.c_parser_expressions.specs.Fronts.{first_symbol, IsSign}
 use Rattle.c_parser_expressions.specs.Levels.{binary_sign, binary_level, logical_sign, logical_level, step_sign, assign_sign, compound_sign}
-use Rattle.c_parser_laws_expressions.specs.Endings.{Continuation, Stepped, With, Joined, Becomes, Nothing, continuation_of, continuation_of_sign, power, EndsBefore}
+use Rattle.c_parser_laws_expressions.specs.Endings.{Continuation, Stepped, With, Joined, Becomes, continuation_of, continuation_of_sign, power, EndsBefore}
 
 pub below : (a b : ℕ) → a < b → nat_lt a b ≡ true
 below a b h = grind arith

@@ -1,14 +1,12 @@
 -- What is shown of an expression: reading from its first terminal on comes to where it ends.
-use Rattle.std.proofs.Common.{◌≡◌, ℕ, zero, suc, ◌+◌, ◌-◌, ◌≤◌, ◌<◌, Bool, true, false, cond, List, [], ◌∷◌, ◌++◌, length, Option, Some, None, min, nat_lt, refl, arith, sym, ap, ◌∙◌, subst}
+use Rattle.std.proofs.Common.{◌≡◌, ℕ, zero, suc, ◌+◌, ◌-◌, ◌≤◌, ◌<◌, false, List, [], ◌∷◌, Some, None, nat_lt, refl, arith, sym, ap, ◌∙◌}
 use Rattle.c_layout.specs.SyntaxTrees.{Tree, Trees, Name, Number, Literal, Paren, Subscript, Call, Member, Arrow, Postfix, Prefix, Unary, SizeofExpr, SizeofType, Cast, Binary, Logical, Conditional, Assign, Comma, End, More}
 use Rattle.c_parser_tokens.specs.declared.terminals.Terminal.{Terminal}
-use Rattle.c_parser_tokens.specs.declared.terminals.Punctuator.TheVariants as p
-use Rattle.c_parser_tokens.specs.declared.terminals.Symbol.TheVariants as symbol
-use Rattle.c_parser_expressions.specs.Expressions.{Derives, DeriveEach}
-use Rattle.c_parser_expressions.specs.Fronts.{first_symbol, first_place, behind_first, IsSign}
+use Rattle.c_parser_expressions.specs.Expressions.{Derives}
+use Rattle.c_parser_expressions.specs.Fronts.{first_symbol, behind_first}
 use Rattle.c_parser_expressions.specs.Spans.{Span, Separated}
-use Rattle.c_parser_laws_expressions.specs.Endings.{continuation_of, power, EndsBefore}
-use Rattle.c_parser_laws_expressions.proofs.Scanning.{Skips, AllSkipped, StopsAtBracket}
+use Rattle.c_parser_laws_expressions.specs.Endings.{EndsBefore}
+use Rattle.c_parser_laws_expressions.proofs.Scanning.{Skips, AllSkipped}
 use Rattle.c_parser_laws_expressions.proofs.WordReading.{name_weight}
 use Rattle.c_parser_laws_expressions.proofs.Reading.{Found, Reads, several, skip_by, trees_at, is_comma, climb, start, read}
 use Rattle.c_parser_laws_expressions.proofs.Levels.{edge, edge_right, power_at, not_below}

@@ -1,6 +1,6 @@
 -- Reading what begins with its own sign: stars, brackets, and layers of an abstract declarator. The numbers
 -- bound how often a loop turns.
-use Rattle.std.proofs.Common.{◌≡◌, ℕ, zero, suc, ◌+◌, ◌≤◌, Bool, true, false, cond, List, [], ◌∷◌, ◌++◌, length, Option, Some, None, refl, sym, ap, subst, ◌∙◌, arith, All}
+use Rattle.std.proofs.Common.{◌≡◌, ℕ, zero, suc, ◌+◌, ◌≤◌, Bool, true, false, cond, List, [], ◌∷◌, ◌++◌, length, Option, Some, None, refl, ap, ◌∙◌, arith}
 use Rattle.c_layout.specs.SyntaxTrees.{LayerView}
 use Rattle.c_layout.specs.declared.syntax_tree.expressions.Brackets.{Brackets}
 use Rattle.c_parser_tokens.specs.declared.terminals.Terminal.{Terminal}
@@ -9,8 +9,8 @@ use Rattle.c_parser_tokens.specs.declared.terminals.Symbol.TheVariants as symbol
 use Rattle.c_parser_tokens.specs.declared.terminals.Punctuator.{Punctuator}
 use Rattle.c_parser_tokens.specs.declared.terminals.Punctuator.TheVariants as p
 use Rattle.c_parser_expressions.specs.Fronts.{first_symbol, first_place, behind_first, IsSign}
-use Rattle.c_parser_expressions.specs.Spans.{Span, Chain}
-use Rattle.c_parser_expressions.specs.TypeNames.{is_pointer_qualifier, Qualifiers, IsStar, Stars, Length, IsBrackets, Arrays, is_something, Layers, Declarator}
+use Rattle.c_parser_expressions.specs.Spans.{Span}
+use Rattle.c_parser_expressions.specs.TypeNames.{is_pointer_qualifier, Qualifiers, Stars, Length, IsBrackets, Arrays, is_something, Layers, Declarator}
 
 -- ---- signs
 

@@ -1,6 +1,6 @@
 -- Expressions at spans: each is read, since what stands behind it ends it.
-use Rattle.std.proofs.Common.{◌≡◌, ℕ, zero, suc, ◌+◌, ◌≤◌, ◌<◌, Bool, true, false, List, [], ◌∷◌, ◌++◌, Option, Some, None, min, refl, arith, sym, ap, ◌∙◌}
-use Rattle.c_layout.specs.SyntaxTrees.{LayerView, TypeNameView, Tree, Trees, End, More}
+use Rattle.std.proofs.Common.{◌≡◌, ℕ, zero, suc, ◌≤◌, Bool, true, false, List, [], ◌∷◌, ◌++◌, Some, None, refl, arith}
+use Rattle.c_layout.specs.SyntaxTrees.{LayerView, TypeNameView, Trees, End, More}
 use Rattle.c_layout.specs.declared.syntax_tree.declarations.TypeWord.{TypeWord}
 use Rattle.c_layout.specs.declared.syntax_tree.expressions.Brackets.{Brackets}
 use Rattle.c_layout.specs.declared.syntax_tree.expressions.TypeNameWord.{TypeNameWord}
@@ -10,7 +10,7 @@ use Rattle.c_parser_tokens.specs.declared.terminals.Keyword.TheVariants as k
 use Rattle.c_parser_tokens.specs.declared.terminals.Terminal.{Terminal}
 use Rattle.c_parser_tokens.specs.declared.terminals.Punctuator.TheVariants as p
 use Rattle.c_parser_tokens.specs.declared.terminals.Symbol.TheVariants as symbol
-use Rattle.c_parser_expressions.specs.Expressions.{Derives, DeriveEach}
+use Rattle.c_parser_expressions.specs.Expressions.{DeriveEach}
 use Rattle.c_parser_expressions.specs.Fronts.{first_symbol, behind_first, IsSign}
 use Rattle.c_parser_expressions.specs.Spans.{Span, Separated}
 use Rattle.c_parser_expressions.specs.TypeNames.{type_word_of, is_storage, is_qualifier, Length, Arrays, Layers, Declarator, IsTypeName, IsTypeNameWord}
@@ -19,7 +19,7 @@ use Rattle.c_parser_laws_expressions.proofs.Scanning.{StopsAtBracket}
 use Rattle.c_parser_laws_expressions.proofs.WordReading.{BeginsWord}
 use Rattle.c_parser_laws_expressions.proofs.Reading.{skip_by, read}
 use Rattle.c_parser_laws_expressions.proofs.Levels.{ends_at}
-use Rattle.c_parser_laws_expressions.proofs.Operands.{Operand, Spined, operand, sizes, Each, count}
+use Rattle.c_parser_laws_expressions.proofs.Operands.{Spined, operand, sizes, Each, count}
 
 -- ---- what ends each
 

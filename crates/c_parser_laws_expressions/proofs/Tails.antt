@@ -1,5 +1,5 @@
 -- Expressions that begin with an operand.
-use Rattle.std.proofs.Common.{◌≡◌, ℕ, zero, suc, ◌+◌, ◌≤◌, ◌<◌, Bool, true, false, List, [], ◌∷◌, Option, Some, None, min, nat_lt, refl, arith, sym, ap, ◌∙◌}
+use Rattle.std.proofs.Common.{◌≡◌, ℕ, suc, ◌+◌, ◌≤◌, ◌<◌, true, List, Some, nat_lt, refl, arith, ◌∙◌}
 use Rattle.cc_base.specs.declared.diagnostics.Place.{Place}
 use Rattle.c_layout.specs.SyntaxTrees.{Tree, Subscript, Member, Arrow, Postfix, Binary, Logical, Conditional, Assign, Comma}
 use Rattle.c_layout.specs.declared.syntax_tree.expressions.AssignOp.{AssignOp}
@@ -7,15 +7,13 @@ use Rattle.c_layout.specs.declared.syntax_tree.expressions.BinaryOp.{BinaryOp}
 use Rattle.c_layout.specs.declared.syntax_tree.expressions.LogicalOp.{LogicalOp}
 use Rattle.c_layout.specs.declared.syntax_tree.expressions.StepOp.{StepOp}
 use Rattle.c_parser_tokens.specs.declared.terminals.Terminal.{Terminal}
-use Rattle.c_parser_tokens.specs.declared.terminals.Punctuator.{Punctuator}
-use Rattle.c_parser_tokens.specs.declared.terminals.Punctuator.TheVariants as p
 use Rattle.c_parser_expressions.specs.Expressions.{Derives}
-use Rattle.c_parser_expressions.specs.Fronts.{first_symbol, first_place, first_text, behind_first, IsSign, IsName}
-use Rattle.c_parser_expressions.specs.Levels.{binary_sign, binary_level, logical_sign, logical_level, step_sign}
-use Rattle.c_parser_laws_expressions.specs.Endings.{Continuation, Index, OfObject, OfPointer, Stepped, With, Joined, Asks, Becomes, Follows, continuation_of, continuation_of_sign, power, EndsBefore}
-use Rattle.c_parser_laws_expressions.proofs.Reading.{Found, Reads, on, go_on, climb, start, read}
-use Rattle.c_parser_laws_expressions.proofs.Levels.{edge, edge_left, edge_postfix, edge_right, edge_least, power_at, ends_at, power_is, below, with_sign, joined_sign, stepped_sign, becomes_sign, level_high, level_low, logical_high, logical_low}
-use Rattle.c_parser_laws_expressions.proofs.Operands.{Operand, Spined, operand, size, spine}
+use Rattle.c_parser_expressions.specs.Fronts.{first_symbol, behind_first}
+use Rattle.c_parser_expressions.specs.Levels.{binary_level, logical_level}
+use Rattle.c_parser_laws_expressions.specs.Endings.{Continuation, Index, OfObject, OfPointer, Stepped, With, Joined, Asks, Becomes, Follows, continuation_of, power}
+use Rattle.c_parser_laws_expressions.proofs.Reading.{Reads, go_on, climb, start, read}
+use Rattle.c_parser_laws_expressions.proofs.Levels.{edge, edge_left, edge_postfix, edge_right, edge_least, ends_at, power_is, below, with_sign, joined_sign, stepped_sign, becomes_sign, level_high, level_low, logical_high, logical_low}
+use Rattle.c_parser_laws_expressions.proofs.Operands.{Spined, operand, size, spine}
 
 -- one operator more
 goes_on : (self : Reads) (k low : ℕ) (e : Tree) (ts : List Terminal) (c : Continuation) → continuation_of (first_symbol ts) ≡ c → low < power c → climb self (suc k) low e ts ≡ go_on self e ts c (climb self k low)

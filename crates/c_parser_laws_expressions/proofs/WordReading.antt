@@ -1,6 +1,6 @@
 -- Reading the words of a type name, and type names.
-use Rattle.std.proofs.Common.{◌≡◌, ℕ, zero, suc, ◌+◌, ◌≤◌, Bool, true, false, cond, List, [], ◌∷◌, length, Option, Some, None, refl, sym, ap, ◌∙◌, arith}
-use Rattle.c_layout.specs.SyntaxTrees.{LayerView, TypeNameView}
+use Rattle.std.proofs.Common.{◌≡◌, ℕ, zero, suc, ◌+◌, ◌≤◌, true, cond, List, [], ◌∷◌, length, Option, Some, None, refl, arith}
+use Rattle.c_layout.specs.SyntaxTrees.{TypeNameView}
 use Rattle.c_layout.specs.declared.syntax_tree.declarations.TypeWord.{TypeWord}
 use Rattle.c_layout.specs.declared.syntax_tree.declarations.TypeWord.TheVariants as type_word
 use Rattle.c_layout.specs.declared.syntax_tree.expressions.Name.{Name}
@@ -13,7 +13,7 @@ use Rattle.c_parser_tokens.specs.declared.terminals.Symbol.{Symbol}
 use Rattle.c_parser_tokens.specs.declared.terminals.Symbol.TheVariants as symbol
 use Rattle.c_parser_tokens.specs.declared.terminals.Punctuator.{Punctuator}
 use Rattle.c_parser_tokens.specs.declared.terminals.Punctuator.TheVariants as p
-use Rattle.c_parser_expressions.specs.Fronts.{first_symbol, first_place, first_text, behind_first, is_typedef, IsSign, IsWord, IsName, IsTypedefName}
+use Rattle.c_parser_expressions.specs.Fronts.{first_symbol, first_place, first_text, behind_first, is_typedef, IsSign, IsName}
 use Rattle.c_parser_expressions.specs.Spans.{Span, Chain}
 use Rattle.c_parser_expressions.specs.TypeNames.{type_word_of, is_storage, is_qualifier, IsTypeNameWord, IsTypeName, is_one_type, counts_of}
 use Rattle.c_parser_laws_expressions.proofs.Scanning.{Skip, Layered, StopsAtBracket, AllSkipped, declarator, declarator_is, declarator_weight, declarator_sign}
