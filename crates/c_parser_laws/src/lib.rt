@@ -1,0 +1,6 @@
+//! Laws of the grammar: a unit has one tree.
+#![tactic(auto)]
+
+mod theorems;
+
+pub use theorems::{one_external_declaration, one_statement, one_tree};

@@ -1,0 +1,6 @@
+//! Laws of the grammar of expressions: what tokens derive from fixes the tree.
+#![tactic(auto)]
+
+mod theorems;
+
+pub use theorems::one_expression;
