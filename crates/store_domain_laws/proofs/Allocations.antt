@@ -76,7 +76,12 @@ module _ {I : Type 0} {l : LatticeOf I} {n : IntegersOf I} {stands : I → ℤ �
       (either_top o b all p h (bases_has p.bases newest) (record p { bases = bases_with (bases_without p.bases newest) older }) p
       (pointers_below l (record p { bases = bases_with (bases_without p.bases newest) older }) (top_value n all).pointer (record {
         bases = with_into (bases_without p.bases newest) all older (bases_order.transitive (bases_without p.bases newest) p.bases all (without_within p.bases newest) c.bases) e;
-        lo = c.lo; rel = c.rel; len = c.len; part = c.part; null = c.null; ended = c.ended;
+        lo = c.lo;
+        rel = c.rel;
+        len = c.len;
+        part = c.part;
+        null = c.null;
+        ended = c.ended;
       })) h) h
 
   cell_renamed : (newest older : ℕ) (x y : Cell I) → IsConsistentCell n x → cell_leq l x y ≡ true → cell_leq l (renamed_cell (site_of newest older) x) (renamed_cell (site_of newest older) y) ≡ true

@@ -16,7 +16,6 @@ use Rattle.store_domain_laws.specs.RowsBelow.{RowsBelow}
 use Rattle.store_domain_laws.specs.TopCells.{top_value}
 use Rattle.store_domain_laws.proofs.NearCells.{value_at_monotone, value_at_top, cell_below_at}
 
-
 module _ {I : Type 0} {l : LatticeOf I} {n : IntegersOf I} {stands : I → ℤ → Type 0} (o : OrderLaws l) (b : BoundLaws l n stands) (all : Bases) (top : List (Cell I)) (i : ℕ) where
   pub put_pair : (r s : List (Cell I)) (x y : Cell I) → RowsBelow l top r s → cell_leq l x y ≡ true → cell_leq l y (cell_at top i) ≡ true → RowsBelow l top (set r i x) (set s i y)
   put_pair r s x y h j k = record { small = set_monotone (cell_lattice l) r s i x y h.small j; large = set_below (cell_lattice l) s top i Nothing y h.large k }

@@ -27,7 +27,6 @@ use Rattle.value_domain_laws.proofs.Ranges.{RangeBelow, bounds_monotone}
 use Rattle.value_domain_laws.proofs.Parts.{PointersBelow, pointer_parts, pointers_below, value_parts, value_below}
 use Rattle.store_domain_laws.proofs.Rows.{at_monotone}
 
-
 near_if : (r : Range) → RangeBelow r (Some (negsuc (2 ^ 64 - 1), pos (2 ^ 64))) → (p : ℤ × ℤ) → r ≡ Some p → is_near r ≡ true
 near_if None h p e = absurd (cc)
 near_if (Some q) h p e = near_pair q.0 q.1 h.0 h.1

@@ -97,12 +97,23 @@ module _ {I : Type 0} {l : LatticeOf I} {n : IntegersOf I} {stands : I → ℤ �
     after_top : (number : ℕ) → pointers_leq l (record p { bases = bases_without p.bases number; ended = true }) (top_value n all).pointer ≡ true
     after_top number = pointers_below l (record p { bases = bases_without p.bases number; ended = true }) (top_value n all).pointer (record {
       bases = bases_order.transitive (bases_without p.bases number) p.bases all (without_within p.bases number) c.bases;
-      lo = c.lo; rel = c.rel; len = c.len; part = c.part; null = c.null; ended = refl;
+      lo = c.lo;
+      rel = c.rel;
+      len = c.len;
+      part = c.part;
+      null = c.null;
+      ended = refl;
     })
 
     bare_top : (q : Pointers I) → pointers_leq l (without_bases l q) (top_value n all).pointer ≡ true
     bare_top q = pointers_below l (without_bases l q) (top_value n all).pointer (record {
-      bases = bases_order.least_below all; lo = o.least_below (top_number n); rel = o.least_below (top_number n); len = o.least_below (top_number n); part = refl; null = any_flag q.null; ended = any_flag q.ended;
+      bases = bases_order.least_below all;
+      lo = o.least_below (top_number n);
+      rel = o.least_below (top_number n);
+      len = o.least_below (top_number n);
+      part = refl;
+      null = any_flag q.null;
+      ended = any_flag q.ended;
     })
 
     pub either_top : (t : Bool) (x y : Pointers I) → pointers_leq l x (top_value n all).pointer ≡ true → pointers_leq l y (top_value n all).pointer ≡ true → pointers_leq l (cond t x y) (top_value n all).pointer ≡ true
