@@ -1,6 +1,6 @@
 -- Worked rows: why one tree needs what stands behind it. From `x + y` both `x`, in front of the sign, and the sum
 -- derive; only the sum ends before what stands there.
-use Rattle.std.proofs.Common.{◌≡◌, ℕ, ◌≤◌, List, [], ◌∷◌, refl, arith, codes}
+use Rattle.std.proofs.Common.{ℕ, List, [], ◌∷◌, refl, arith, codes}
 use Rattle.cc_base.specs.declared.diagnostics.Place.{Place}
 use Rattle.c_layout.specs.SyntaxTrees.{Name, Binary}
 use Rattle.c_layout.specs.declared.syntax_tree.expressions.BinaryOp.TheVariants as binary
