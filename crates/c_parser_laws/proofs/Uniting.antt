@@ -9,9 +9,11 @@ use Rattle.c_parser_tokens.specs.declared.terminals.Punctuator.TheVariants as p
 use Rattle.c_parser_expressions.specs.Fronts.{IsSign}
 use Rattle.c_parser_declarations.specs.Declarations.{begins_declarator, IsFunction, bare, name_of}
 use Rattle.c_parser_declarations.specs.StorageClasses.{is_typedef}
-use Rattle.c_parser.specs.Externals.{with_name, with_declared, in_force, IsFileDeclarator, Further, FileDeclarators, IsExternal, IsPiece, ArePieces, IsUnit}
+use Rattle.c_parser_tokens.specs.Classes.{classified}
+use Rattle.c_parser.specs.Externals.{with_name, with_declared, in_force, in_force_behind, IsFileDeclarator, Further, FileDeclarators, IsExternal, IsPiece, ArePieces, IsUnit}
 use Rattle.c_parser.specs.Pieces.{piece_length}
 use Rattle.c_parser.specs.Statements.{IsBlock}
+use Rattle.c_parser_laws.specs.FirstRefusals.{IsRefusedAt}
 use Rattle.c_parser_laws.proofs.Listing.{next}
 use Rattle.c_parser_laws.proofs.Declaring.{ends_by}
 use Rattle.c_parser_laws.proofs.Specifying.{NoWordAt, begins_no_word, end_no_word, spec_fix, spec_word}
@@ -140,3 +142,36 @@ pub one_tree : (model : Model) (tokens : List Token) (es ds : List ExternalTree)
 one_tree model tokens es ds one two =
     let same : one.terminals ≡ two.terminals = ok_same one.classes two.classes in
     pieces_fix es ds [] one.terminals one.pieces (subst (λ (z : List Terminal). ArePieces ds [] z []) (sym same) two.pieces)
+
+-- ---- the first piece without a derivation
+
+abbrev NoPieceAt : List (List ℕ) → List ExternalTree → List Terminal → Type 0
+NoPieceAt known before rest = (e : ExternalTree) → IsPiece (in_force_behind known before) e (take (piece_length rest) rest) → ⊥
+
+-- pieces with trees do not go past one that has none
+refused_once : (xs ys : List ExternalTree) (known : List (List ℕ)) (ts r s : List Terminal) → ArePieces xs known ts r → NoPieceAt known xs r → ArePieces ys known ts s → NoPieceAt known ys s → r ≡ s
+refused_once [] [] known ts r s d none e none-too = d ∙ sym e
+refused_once [] (y ∷ ys) known ts r s d none e none-too = absurd (none y (subst (λ (z : List Terminal). IsPiece known y (take (piece_length z) z)) (sym d) e.0))
+refused_once (x ∷ xs) [] known ts r s d none e none-too = absurd (none-too x (subst (λ (z : List Terminal). IsPiece known x (take (piece_length z) z)) (sym e) d.0))
+refused_once (x ∷ xs) (y ∷ ys) known ts r s (one, more) none (two, others) none-too =
+    let same : x ≡ y = (external_fix known x y (take (piece_length ts) ts) [] [] one.derives two.derives).0 in
+    let from : ArePieces ys (in_force known x) (drop (piece_length ts) ts) s = subst (λ (z : ExternalTree). ArePieces ys (in_force known z) (drop (piece_length ts) ts) s) (sym same) others in
+    let last : NoPieceAt (in_force known x) ys s = subst (λ (z : ExternalTree). NoPieceAt (in_force known z) ys s) (sym same) none-too in
+    refused_once xs ys (in_force known x) (drop (piece_length ts) ts) r s more none from last
+
+refused_apart : (xs ys : List ExternalTree) (known : List (List ℕ)) (ts r : List Terminal) → ArePieces xs known ts r → (r ≡ [] → ⊥) → NoPieceAt known xs r → ArePieces ys known ts [] → ⊥
+refused_apart [] [] known ts r d some none e = some (d ∙ sym e)
+refused_apart [] (y ∷ ys) known ts r d some none e = none y (subst (λ (z : List Terminal). IsPiece known y (take (piece_length z) z)) (sym d) e.0)
+refused_apart (x ∷ xs) [] known ts r d some none e = no_piece known x ts (sym e) d.0
+refused_apart (x ∷ xs) (y ∷ ys) known ts r (one, more) some none (two, others) =
+    let same : x ≡ y = (external_fix known x y (take (piece_length ts) ts) [] [] one.derives two.derives).0 in
+    let from : ArePieces ys (in_force known x) (drop (piece_length ts) ts) [] = subst (λ (z : ExternalTree). ArePieces ys (in_force known z) (drop (piece_length ts) ts) []) (sym same) others in
+    refused_apart xs ys (in_force known x) (drop (piece_length ts) ts) r more some none from
+
+pub one_refusal : (ts r s : List Terminal) → IsRefusedAt ts r → IsRefusedAt ts s → r ≡ s
+one_refusal ts r s d e = refused_once d.before e.before [] ts r s d.derive d.none e.derive e.none
+
+pub no_tree : (model : Model) (tokens : List Token) (ts r : List Terminal) (es : List ExternalTree) → classified model tokens ≡ Ok ts → IsRefusedAt ts r → IsUnit model tokens es → ⊥
+no_tree model tokens ts r es is d e =
+    let same : e.terminals ≡ ts = ok_same e.classes is in
+    refused_apart d.before es [] ts r d.derive d.some d.none (subst (λ (z : List Terminal). ArePieces es [] z []) same e.pieces)

@@ -1,1 +1,2 @@
 pub mod StatementEnds
+pub mod FirstRefusals

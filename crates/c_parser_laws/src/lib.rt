@@ -3,4 +3,4 @@
 
 mod theorems;
 
-pub use theorems::{one_external_declaration, one_statement, one_tree};
+pub use theorems::{one_external_declaration, one_refusal, one_statement, one_tree};

@@ -1,11 +1,13 @@
 //! A unit has one tree, and so has each statement and each external declaration.
-ghost use Rattle.std.specs.Prelude.{◌≡◌, ℕ, List};
+ghost use Rattle.std.specs.Prelude.{◌≡◌, ℕ, List, Ok};
 ghost use Rattle.cc_base.specs.declared.lexemes.Token.{Token};
 ghost use Rattle.c_layout.specs.declared.data_model.Model.{Model};
 ghost use Rattle.c_layout.specs.DeclarationTrees.{ExternalTree, StatementTree};
 ghost use Rattle.c_parser_tokens.specs.declared.terminals.Terminal.{Terminal};
+ghost use Rattle.c_parser_tokens.specs.Classes.{classified};
 ghost use Rattle.c_parser.specs.Externals.{IsExternal, IsUnit};
 ghost use Rattle.c_parser.specs.Statements.{DeriveStatement};
+ghost use Rattle.c_parser_laws.specs.FirstRefusals.{IsRefusedAt};
 ghost use Rattle.c_parser_laws.specs.StatementEnds.{TakesNoElse};
 
 /// Two statements that derive from the same terminals are the same and leave the same, where no `else` stands
@@ -24,4 +26,10 @@ pub fn one_external_declaration()
 /// from them are the same.
 pub fn one_tree()
     ensures { (model : Model) (tokens : List Token) (es ds : List ExternalTree) → IsUnit model tokens es → IsUnit model tokens ds → es ≡ ds }
+{}
+
+/// At most one piece of a unit is the first that has no derivation, and a unit with one has no tree.
+pub fn one_refusal()
+    ensures once { (ts rest left : List Terminal) → IsRefusedAt ts rest → IsRefusedAt ts left → rest ≡ left }
+    ensures apart { (model : Model) (tokens : List Token) (ts rest : List Terminal) (es : List ExternalTree) → classified model tokens ≡ Ok ts → IsRefusedAt ts rest → IsUnit model tokens es → ⊥ }
 {}

@@ -7,3 +7,4 @@ pub mod Spans
 pub mod Heads
 pub mod Tails
 pub mod Unique
+mod Rows
