@@ -1,7 +1,7 @@
 use Rattle.std.proofs.Common.{◌∙◌, ap, codes, string_bytes}
 use Rattle.clap.specs.Matches.{found_of}
 use Rattle.clap.specs.Walk.{rows_of}
-use Rattle.report_cli_words.specs.Requests.{Gate, command_view, command_in, gate_in}
+use Rattle.report_cli_words.specs.Requests.{Gate, command_in, gate_in}
 use Rattle.report_cli_words.proofs.Values.{name_given, no_name}
 use Rattle.report_cli_words.proofs.reading.gate_of.Goals as goal
 
