@@ -6,7 +6,7 @@ ghost use Rattle.cc_base.specs.IntegerDomains.{IsNear};
 ghost use Rattle.interval_domain.specs.Spans.{interval_bounds};
 
 use crate::pointer_rows;
-use cc_base::{IntDomain, Lattice, IntOp, IntType, Rel, Tri, UnOp};
+use cc_base::{IntDomain, IntOp, IntType, Lattice, Rel, Tri, UnOp};
 use interval_domain::Interval;
 
 /// An operation, two numbers and what C gives, where it gives a number.
@@ -623,7 +623,11 @@ fn small_intervals(rt: HostRuntime) {
 /// A number of a char with the low bits of `n`.
 fn in_char_bits(n: i128, signed: bool) -> i128 {
     let low = n.rem_euclid(256);
-    if signed && 127 < low { low.wrapping_sub(256) } else { low }
+    if signed && 127 < low {
+        low.wrapping_sub(256)
+    } else {
+        low
+    }
 }
 
 fn is_char(n: i128, signed: bool) -> bool {
@@ -641,6 +645,10 @@ fn beyond_char(op: IntOp, a: i128, b: i128, signed: bool) -> Option<i128> {
         IntOp::And => Some(in_char_bits(a & b, signed)),
         IntOp::Or => Some(in_char_bits(a | b, signed)),
         IntOp::Xor => Some(in_char_bits(a ^ b, signed)),
+        IntOp::Div => match a.checked_div(b) {
+            Some(n) if is_char(n, signed) => Some(n),
+            _ => None,
+        },
         IntOp::Rem if signed && a == -128 && b == -1 => None,
         _ => in_char(op, a, b, signed),
     }
@@ -694,8 +702,11 @@ fn all_beyond(op: IntOp, left: &[i128], right: &[i128], signed: bool) -> bool {
 }
 
 const ABOUT_LEAST: [i128; 4] = [-130, -129, -128, -127];
+
 const ABOUT_ZERO: [i128; 4] = [-2, -1, 0, 1];
+
 const ABOUT_GREATEST: [i128; 4] = [126, 127, 128, 129];
+
 const ABOUT_UNSIGNED: [i128; 4] = [254, 255, 256, 257];
 
 fn all_beyond_signed(op: IntOp, left: &[i128]) -> bool {
