@@ -3,7 +3,6 @@ use Rattle.std.specs.Prelude.{◌≡◌, ℕ, ℤ, Bool, true, false, cond, List
 use Rattle.std.proofs.Common.{sym, subst}
 use Rattle.cc_base.specs.Lattices.{LatticeOf, OrderLaws}
 use Rattle.cc_base.specs.IntegerDomains.{IntegersOf, BoundLaws}
-use Rattle.cc_base.specs.Rows.{row_leq}
 use Rattle.pointer_domain.specs.declared.base_sets.Bases.{Bases}
 use Rattle.value_domain.specs.declared.values.Value as values
 use Rattle.value_domain.specs.declared.row_cells.Cell.{Cell}
@@ -15,7 +14,6 @@ use Rattle.store_domain_laws.proofs.Rows.{set_monotone, set_above, set_below}
 use Rattle.store_domain_laws.specs.RowsBelow.{RowsBelow}
 use Rattle.store_domain_laws.specs.TopCells.{top_value}
 use Rattle.store_domain_laws.proofs.NearCells.{value_at_monotone, value_at_top, cell_below_at}
-
 
 module _ {I : Type 0} {l : LatticeOf I} {n : IntegersOf I} {stands : I → ℤ → Type 0} (o : OrderLaws l) (b : BoundLaws l n stands) (all : Bases) (top : List (Cell I)) (i : ℕ) where
   pub put_pair : (r s : List (Cell I)) (x y : Cell I) → RowsBelow l top r s → cell_leq l x y ≡ true → cell_leq l y (cell_at top i) ≡ true → RowsBelow l top (set r i x) (set s i y)

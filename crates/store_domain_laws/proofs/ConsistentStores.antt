@@ -1,5 +1,5 @@
 -- Stores leave consistent rows.
-use Rattle.std.specs.Prelude.{◌≡◌, ℕ, zero, suc, ◌+◌, ◌<◌, ℤ, pos, Bool, true, false, cond, ◌&&◌, Option, Some, None, List, [], ◌∷◌, length, set, refl}
+use Rattle.std.specs.Prelude.{◌≡◌, ℕ, zero, suc, ◌+◌, ◌<◌, ℤ, pos, Bool, true, false, cond, Option, Some, None, List, [], ◌∷◌, length, set, refl}
 use Rattle.std.proofs.Common.{arith, sym, subst}
 use Rattle.std.proofs.lemmas.Bool.{and_parts, and_from}
 use Rattle.cc_base.specs.Lattices.{LatticeOf, OrderLaws}
@@ -15,14 +15,12 @@ use Rattle.c_layout.specs.declared.leaf_lists.Class.{Class}
 use Rattle.c_layout.specs.declared.leaf_lists.Class.TheVariants.{Char}
 use Rattle.c_layout.specs.declared.shapes.BaseInfo.{BaseInfo}
 use Rattle.pointer_domain.specs.declared.base_sets.Bases.{Bases}
-use Rattle.string_domain.specs.declared.first_zeros.FirstZero.{FirstZero}
 use Rattle.value_domain.specs.declared.values.Value as values
 use Rattle.value_domain.specs.declared.row_cells.Cell.{Cell}
 use Rattle.value_domain.specs.declared.row_cells.Cell.TheVariants.{Nothing, Value, First, State, Mixed}
 use Rattle.value_domain.specs.Values.{value_lattice, value_order}
-use Rattle.value_domain.specs.Cells.{cell_lattice, cell_leq, cell_order}
+use Rattle.value_domain.specs.Cells.{cell_lattice, cell_order}
 use Rattle.store_domain.specs.declared.access_windows.Window.{Window}
-use Rattle.store_domain.specs.declared.cell_reads.Access.{Access}
 use Rattle.store_domain.specs.declared.stores.Write.{Write}
 use Rattle.store_domain.specs.declared.first_zero_writes.ZeroTarget.{ZeroTarget}
 use Rattle.store_domain.specs.ClassNumbers.{class_number, class_at, same_class, is_pointer}
@@ -36,7 +34,7 @@ use Rattle.store_domain.specs.ByteWrites.{labelled_null, byte_written}
 use Rattle.store_domain.specs.CellReads.{whole_range}
 use Rattle.store_domain.specs.ScalarTypes.{kind_of, class_bytes}
 use Rattle.store_domain.specs.Loads.{reaches_class, labels_of}
-use Rattle.store_domain.specs.RowPositions.{cell_at, value_in, value_at, leaf_position, class_position, zero_position, put_zero, join_value, write_value}
+use Rattle.store_domain.specs.RowPositions.{cell_at, value_in, value_at, leaf_position, class_position, zero_position, join_value, write_value}
 use Rattle.store_domain.specs.FirstZeroWrites.{zero_target, put_target, put_part, put_character, forget_target, forget_part, forget_zeros}
 use Rattle.store_domain.specs.Stores.{cell_value, is_strong, store_leaf_at, store_leaf, store_leaves, store_class_cell, store_other_leaf_at, store_other_leaf, store_other_leaves, store_other_class, store_other_classes, store_other_bytes, store_own, store_character, store_wider, store_base, store_if, store_to, store_all, stored_value, can_store, store_access, reached_of, store_within, store}
 use Rattle.store_domain_laws.specs.TopCells.{top_value}

@@ -24,7 +24,6 @@ use Rattle.store_domain_laws.specs.Placements.{WindowWithin}
 use Rattle.store_domain_laws.proofs.AddedRanges.{added_monotone, saturate_monotone}
 use Rattle.value_domain_laws.proofs.Parts.{PointersBelow}
 
-
 div_monotone : (a b s : ℕ) → a ≤ b → a / s ≤ b / s
 div_monotone a b zero h = omega arith
 div_monotone a b (suc s) h = let e = div-add-mod' a (suc s) in le-div (a / suc s) b (suc s) (omega arith) (omega arith)
