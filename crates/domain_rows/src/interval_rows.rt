@@ -645,6 +645,10 @@ fn beyond_char(op: IntOp, a: i128, b: i128, signed: bool) -> Option<i128> {
         IntOp::And => Some(in_char_bits(a & b, signed)),
         IntOp::Or => Some(in_char_bits(a | b, signed)),
         IntOp::Xor => Some(in_char_bits(a ^ b, signed)),
+        IntOp::Div => match a.checked_div(b) {
+            Some(n) if is_char(n, signed) => Some(n),
+            _ => None,
+        },
         IntOp::Rem if signed && a == -128 && b == -1 => None,
         _ => in_char(op, a, b, signed),
     }

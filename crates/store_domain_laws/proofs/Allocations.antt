@@ -1,9 +1,8 @@
 -- Allocations: the newest base becomes part of the older one, and a fresh instance takes its place.
-use Rattle.std.specs.Prelude.{◌≡◌, ℕ, ◌/◌, ◌%◌, ◌^◌, ◌<◌, ◌≤◌, ℤ, pos, ◌≤ℤ◌, Bool, true, false, cond, ◌&&◌, bit_or, Option, Some, None, is_some, List, [], ◌∷◌, length, map, slice_get, refl}
-use Rattle.std.proofs.Common.{arith, ap, ◌∙◌, sym, subst}
+use Rattle.std.specs.Prelude.{◌≡◌, ℕ, ◌/◌, ◌%◌, ◌^◌, ◌<◌, ℤ, pos, ◌≤ℤ◌, Bool, true, false, cond, ◌&&◌, bit_or, Option, Some, None, is_some, List, [], ◌∷◌, length, map, slice_get, refl}
+use Rattle.std.proofs.Common.{arith, sym, subst}
 use Rattle.std.proofs.lemmas.Bool.{and_parts, and_from, and_right}
 use Rattle.cc_base.specs.Lattices.{LatticeOf, OrderLaws}
-use Rattle.cc_base.specs.LatticeParts.{flag_order}
 use Rattle.cc_base.specs.Rows.{row_leq}
 use Rattle.cc_base.specs.NumberRanges.{Range}
 use Rattle.cc_base.specs.IntegerDomains.{IntegersOf, BoundLaws, RangeLaws}
@@ -16,8 +15,7 @@ use Rattle.pointer_domain.specs.PointerLattice.{pointers_leq}
 use Rattle.pointer_domain.specs.PointerTables as pointers
 use Rattle.pointer_domain.specs.declared.base_sets.Bases.{Bases}
 use Rattle.pointer_domain.specs.declared.pointer_sets.Pointers.{Pointers}
-use Rattle.string_domain.specs.FirstZeros.{the_end, zero_lattice, zero_order}
-use Rattle.value_domain.specs.declared.values.Value as values
+use Rattle.string_domain.specs.FirstZeros.{the_end, zero_lattice}
 use Rattle.value_domain.specs.declared.alloc_states.AllocState.{AllocState}
 use Rattle.value_domain.specs.AllocStates.{state_lattice, state_order}
 use Rattle.value_domain.specs.declared.row_cells.Cell.{Cell}
@@ -30,12 +28,12 @@ use Rattle.c_layout.specs.declared.leaf_lists.Class.{Class}
 use Rattle.store_domain.specs.ClassNumbers.{class_at}
 use Rattle.store_domain.specs.LiveBases.{has_base}
 use Rattle.store_domain.specs.Freeing.{free_base_if, free_base, free_bases}
-use Rattle.store_domain.specs.RowPositions.{cell_at, leaf_position, class_position, zero_position, state_position, value_count, value_at, zero_at, state_at, put_state, join_value, join_zero}
+use Rattle.store_domain.specs.RowPositions.{cell_at, leaf_position, class_position, zero_position, state_position, value_count, value_at, zero_at, state_at, put_state, join_zero}
 use Rattle.store_domain.specs.FirstZeroWrites.{set_zeros}
-use Rattle.store_domain.specs.Allocations.{is_named, leaf_target, class_target, site_of, renamed, renamed_cell, renamed_fresh, join_cell, join_values, join_part, join_zeros, join_state, join_base, fresh_value, fresh_cell, fresh_leaf, fresh_leaves, fresh_class, fresh_classes, fresh_values, fresh_zero, make_instance, make_of, make_fresh, free_old, replaced, renew_site, renew_found, renew}
+use Rattle.store_domain.specs.Allocations.{is_named, site_of, renamed, renamed_cell, renamed_fresh, join_cell, join_values, join_part, join_zeros, join_state, join_base, fresh_value, fresh_cell, fresh_leaf, fresh_leaves, fresh_class, fresh_classes, fresh_values, fresh_zero, make_instance, make_of, make_fresh, free_old, replaced, renew_site, renew_found, renew}
 use Rattle.value_domain_laws.specs.Consistency.{AreWords}
 use Rattle.value_domain_laws.proofs.Ranges.{RangeBelow, bounds_monotone}
-use Rattle.value_domain_laws.proofs.Parts.{PointersBelow, pointer_parts, pointers_below, value_parts, value_below}
+use Rattle.value_domain_laws.proofs.Parts.{pointer_parts, pointers_below, value_parts}
 use Rattle.value_domain_laws.proofs.Renames.{with_within, own_word, word_of_within, rename_monotone}
 use Rattle.value_domain_laws.proofs.BaseChanges.{or_below, bit_of}
 use Rattle.store_domain_laws.specs.TopCells.{top_value, top_zero, top_state}

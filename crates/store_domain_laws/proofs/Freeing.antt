@@ -1,5 +1,5 @@
 -- Freeing through larger pointers in larger rows leaves larger rows; objects forgotten and cleared.
-use Rattle.std.specs.Prelude.{◌≡◌, ℕ, ◌==◌, ℤ, Bool, true, false, cond, not, ◌&&◌, ◌||◌, List, refl}
+use Rattle.std.specs.Prelude.{◌≡◌, ℕ, ◌==◌, ℤ, Bool, true, false, cond, not, ◌&&◌, List, refl}
 use Rattle.std.proofs.Common.{sym, subst, subst₂, inl, inr}
 use Rattle.std.proofs.lemmas.Bool.{and_from, and_parts, or_cases, eqb-true, not-true, and_right}
 use Rattle.cc_base.specs.Lattices.{LatticeOf, OrderLaws}
@@ -15,7 +15,7 @@ use Rattle.value_domain.specs.AllocStates.{state_lattice, state_order}
 use Rattle.value_domain.specs.declared.row_cells.Cell.{Cell}
 use Rattle.value_domain.specs.declared.row_cells.Cell.TheVariants.{Nothing, Value, First, State, Mixed}
 use Rattle.value_domain.specs.Cells.{cell_leq, cell_order}
-use Rattle.store_domain.specs.RowPositions.{cell_at, state_in, state_at, state_position, put_state, near_state}
+use Rattle.store_domain.specs.RowPositions.{cell_at, state_in, state_at, state_position, put_state}
 use Rattle.store_domain.specs.LiveBases.{has_base, is_one_instance, single_bases}
 use Rattle.store_domain.specs.Freeing.{freed_state, free_base_if, free_base, free_bases, free}
 use Rattle.store_domain_laws.specs.Placements.{EachFrom, IsPlaced}

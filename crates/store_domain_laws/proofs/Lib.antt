@@ -24,4 +24,6 @@ pub mod PlacesOfLeaves
 pub mod Regular
 pub mod PlainShapes
 pub mod WorkedBases
+pub mod Consistent
+pub mod ConsistentStores
 pub mod Together

@@ -1,6 +1,5 @@
 -- Sets of bases with more live ones.
-use Rattle.std.specs.Prelude.{◌≡◌, ℕ, Bool, true, false, ◌&&◌, nat_lt, refl}
-use Rattle.std.proofs.Common.{arith}
+use Rattle.std.specs.Prelude.{◌≡◌, ℕ, Bool, true, false, nat_lt, refl}
 use Rattle.std.proofs.lemmas.Bool.{and_parts, and_from}
 use Rattle.pointer_domain.specs.BaseSets.{bases_has, bases_within, bases_union, bases_count}
 use Rattle.pointer_domain.specs.BaseFacts.{within_has}

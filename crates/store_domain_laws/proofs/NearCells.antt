@@ -6,25 +6,19 @@ use Rattle.std.proofs.lemmas.Bool.{cond_both, cond-true, not_from_false, or_from
 use Rattle.cc_base.specs.Lattices.{LatticeOf, OrderLaws}
 use Rattle.cc_base.specs.NumberRanges.{Range, range_met}
 use Rattle.cc_base.specs.IntegerDomains.{IntegersOf, BoundLaws, of_range}
-use Rattle.cc_base.specs.LatticeParts.{flag_order}
-use Rattle.string_domain.specs.FirstZeros.{zero_of, the_end}
-use Rattle.string_domain.specs.declared.first_zeros.FirstZero.{FirstZero}
 use Rattle.pointer_domain.specs.declared.base_sets.Bases.{Bases}
 use Rattle.pointer_domain.specs.declared.pointer_sets.Pointers.{Pointers}
-use Rattle.pointer_domain.specs.BaseLattice.{bases_order}
 use Rattle.value_domain.specs.declared.values.Value as values
-use Rattle.value_domain.specs.declared.alloc_states.AllocState.{AllocState}
 use Rattle.value_domain.specs.declared.row_cells.Cell.{Cell}
 use Rattle.value_domain.specs.declared.row_cells.Cell.TheVariants.{Nothing, Value, First, State, Mixed}
-use Rattle.value_domain.specs.LabelSets.{all_labels, labels_order}
 use Rattle.value_domain.specs.Values.{value_lattice, value_order}
 use Rattle.value_domain.specs.Cells.{cell_lattice, cell_leq, cell_order}
 use Rattle.cc_base.specs.Rows.{row_leq}
-use Rattle.store_domain_laws.specs.TopCells.{top_number, top_value, top_zero, top_state}
+use Rattle.store_domain_laws.specs.TopCells.{top_number, top_value}
 use Rattle.store_domain.specs.NearValues.{is_near, near_part, near_number, near_pointer, near_value}
 use Rattle.store_domain.specs.RowPositions.{cell_at, value_in, value_at}
 use Rattle.value_domain_laws.proofs.Ranges.{RangeBelow, bounds_monotone}
-use Rattle.value_domain_laws.proofs.Parts.{PointersBelow, pointer_parts, pointers_below, value_parts, value_below}
+use Rattle.value_domain_laws.proofs.Parts.{PointersBelow, pointer_parts, value_parts}
 use Rattle.store_domain_laws.proofs.Rows.{at_monotone}
 
 near_if : (r : Range) → RangeBelow r (Some (negsuc (2 ^ 64 - 1), pos (2 ^ 64))) → (p : ℤ × ℤ) → r ≡ Some p → is_near r ≡ true

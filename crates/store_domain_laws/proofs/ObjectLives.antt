@@ -1,19 +1,18 @@
 -- Objects that are forgotten, cleared and left.
-use Rattle.std.specs.Prelude.{◌≡◌, ℕ, ◌/◌, ◌%◌, ◌^◌, ◌<◌, ℤ, Bool, true, false, cond, ◌&&◌, nat_lt, bit_and, Option, Some, None, List, [], ◌∷◌, ◌++◌, length, map, replicate, slice_get, zero, suc, refl}
-use Rattle.std.specs.Int.{bit_at, bit_not, w128}
-use Rattle.std.proofs.Common.{arith, ap, ◌∙◌, sym, subst}
+use Rattle.std.specs.Prelude.{◌≡◌, ℕ, ◌/◌, ◌%◌, ◌^◌, ◌<◌, ℤ, Bool, true, false, cond, nat_lt, bit_and, Option, Some, None, List, [], ◌∷◌, ◌++◌, length, map, replicate, slice_get, zero, suc, refl}
+use Rattle.std.specs.Int.{bit_not, w128}
+use Rattle.std.proofs.Common.{arith, sym, subst}
 use Rattle.std.proofs.lemmas.Nat.Bits.{bit_at_and}
 use Rattle.std.proofs.lemmas.Bool.{and_parts, and_from}
 use Rattle.cc_base.specs.Lattices.{LatticeOf, OrderLaws}
-use Rattle.cc_base.specs.LatticeParts.{flag_leq, flag_order}
+use Rattle.cc_base.specs.LatticeParts.{flag_leq}
 use Rattle.cc_base.specs.Rows.{row_leq}
 use Rattle.cc_base.specs.IntegerDomains.{IntegersOf, BoundLaws}
-use Rattle.c_layout.specs.declared.leaf_lists.Leaf.{Leaf}
 use Rattle.c_layout.specs.declared.shapes.BaseInfo.{BaseInfo}
 use Rattle.flow_program.specs.WellFormed.{base_cells}
 use Rattle.pointer_domain.specs.BaseSets.{word_of, word_within, bases_has, bases_without, bases_within, bases_empty}
 use Rattle.pointer_domain.specs.BaseLattice.{bases_order}
-use Rattle.pointer_domain.specs.PointerLattice.{pointers_leq, pointer_order}
+use Rattle.pointer_domain.specs.PointerLattice.{pointers_leq}
 use Rattle.pointer_domain.specs.PointerTables.{without_bases, if_any_base, ended_at}
 use Rattle.pointer_domain.specs.declared.base_sets.Bases.{Bases}
 use Rattle.pointer_domain.specs.declared.pointer_sets.Pointers.{Pointers}
@@ -21,13 +20,12 @@ use Rattle.string_domain.specs.FirstZeros.{zero_lattice}
 use Rattle.value_domain.specs.declared.values.Value as values
 use Rattle.value_domain.specs.declared.row_cells.Cell.{Cell}
 use Rattle.value_domain.specs.declared.row_cells.Cell.TheVariants.{Nothing, Value, First, State, Mixed}
-use Rattle.value_domain.specs.LabelSets.{labels_order}
 use Rattle.value_domain.specs.Values.{value_lattice, value_order}
 use Rattle.value_domain.specs.ValueTables.{blank_value}
 use Rattle.value_domain.specs.Cells.{cell_lattice, cell_leq}
 use Rattle.store_domain.specs.LiveBases.{most_bases}
 use Rattle.store_domain.specs.RowPositions.{leaf_position}
-use Rattle.store_domain.specs.FirstZeroWrites.{no_zero, zero_first, set_zeros}
+use Rattle.store_domain.specs.FirstZeroWrites.{no_zero, zero_first}
 use Rattle.store_domain.specs.ObjectLives.{set_values, blank_object, at_base, forget, zero_value, clear_leaf, clear_leaves, clear_object, clear, ended_pointer, ended_cell, leave_object, leave}
 use Rattle.value_domain_laws.specs.Consistency.{AreWords, is_consistent}
 use Rattle.value_domain_laws.proofs.Parts.{PointersBelow, pointer_parts, pointers_below, value_parts, value_below}

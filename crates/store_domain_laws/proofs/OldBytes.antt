@@ -1,5 +1,5 @@
 -- What the bytes of a fresh instance are: larger for a larger row and larger old pointers.
-use Rattle.std.specs.Prelude.{◌≡◌, ℕ, ◌<◌, ℤ, pos, ◌≤ℤ◌, Bool, true, false, cond, int_le, List, length, refl}
+use Rattle.std.specs.Prelude.{◌≡◌, ◌<◌, ℤ, pos, ◌≤ℤ◌, Bool, true, false, cond, int_le, List, length, refl}
 use Rattle.std.proofs.Common.{arith}
 use Rattle.std.proofs.lemmas.Int.{ints}
 use Rattle.cc_base.specs.Lattices.{LatticeOf, OrderLaws}
@@ -9,7 +9,6 @@ use Rattle.c_layout.specs.declared.data_model.Model.{Model}
 use Rattle.c_layout.specs.declared.shapes.BaseInfo.{BaseInfo}
 use Rattle.pointer_domain.specs.BaseSets.{bases_within}
 use Rattle.pointer_domain.specs.declared.base_sets.Bases.{Bases}
-use Rattle.string_domain.specs.declared.first_zeros.FirstZero.{FirstZero}
 use Rattle.value_domain.specs.declared.values.Value as values
 use Rattle.value_domain.specs.declared.row_cells.Cell.{Cell}
 use Rattle.value_domain.specs.Values.{value_lattice, value_order}
@@ -22,7 +21,7 @@ use Rattle.store_domain.specs.LiveBases.{has_base}
 use Rattle.store_domain.specs.RowPositions.{leaf_position, class_position, value_at}
 use Rattle.store_domain.specs.FirstZeroWrites.{any_zero, no_zero, zero_first}
 use Rattle.store_domain.specs.ObjectLives.{zero_value}
-use Rattle.store_domain.specs.Allocations.{in_target, class_cell, joined_if, class_leaf, class_values, old_more, old_value, fresh_value, zero_if_any, fresh_zero}
+use Rattle.store_domain.specs.Allocations.{in_target, class_cell, joined_if, class_leaf, class_values, old_more, old_value, fresh_value, fresh_zero}
 use Rattle.value_domain_laws.proofs.Parts.{pointer_parts}
 use Rattle.store_domain_laws.specs.TopCells.{top_value, top_zero}
 use Rattle.store_domain_laws.specs.Placements.{EachFrom, IsPlaced}

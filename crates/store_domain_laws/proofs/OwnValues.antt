@@ -1,6 +1,6 @@
 -- Values and first zeros that are put into a row are own ones, and where a base's values stand.
-use Rattle.std.specs.Prelude.{◌≡◌, ℕ, zero, suc, ◌+◌, ◌-◌, ◌^◌, ◌<◌, ◌≤◌, ℤ, pos, negsuc, ◌≤ℤ◌, Bool, true, false, cond, Option, Some, None, List, [], ◌∷◌, length, slice_get, set, refl}
-use Rattle.std.proofs.Common.{arith, ap, ◌∙◌, sym, subst, inl, inr}
+use Rattle.std.specs.Prelude.{◌≡◌, ℕ, zero, suc, ◌+◌, ◌-◌, ◌^◌, ◌<◌, ◌≤◌, ℤ, pos, negsuc, ◌≤ℤ◌, Bool, true, false, cond, Some, List, [], ◌∷◌, length, slice_get, set, refl}
+use Rattle.std.proofs.Common.{arith, sym, subst, inl, inr}
 use Rattle.std.proofs.lemmas.Int.{ints}
 use Rattle.std.proofs.lemmas.Bool.{cond_both, cases_lt}
 use Rattle.cc_base.specs.Lattices.{LatticeOf, OrderLaws}
@@ -16,13 +16,13 @@ use Rattle.value_domain.specs.declared.values.Value as values
 use Rattle.value_domain.specs.declared.row_cells.Cell.{Cell}
 use Rattle.value_domain.specs.declared.row_cells.Cell.TheVariants.{Value, First}
 use Rattle.value_domain.specs.LabelSets.{no_labels, labels_order}
-use Rattle.value_domain.specs.Values.{value_lattice, value_order}
+use Rattle.value_domain.specs.Values.{value_lattice}
 use Rattle.value_domain.specs.ValueTables.{blank_value, number_value, pointer_value}
 use Rattle.value_domain.specs.Cells.{cell_leq}
 use Rattle.store_domain.specs.ClassNumbers.{is_pointer}
 use Rattle.store_domain.specs.ByteWrites.{null_pointer}
-use Rattle.store_domain.specs.FirstZeroWrites.{any_zero, no_zero, zero_first, set_part, set_zeros}
-use Rattle.store_domain.specs.RowPositions.{cell_at, leaf_position, class_position, zero_position, class_count, value_count}
+use Rattle.store_domain.specs.FirstZeroWrites.{no_zero, zero_first, set_part, set_zeros}
+use Rattle.store_domain.specs.RowPositions.{cell_at, leaf_position, class_position, zero_position, value_count}
 use Rattle.store_domain.specs.ObjectLives.{set_cell, set_values, zero_value}
 use Rattle.value_domain_laws.proofs.Parts.{value_below, pointers_below}
 use Rattle.store_domain_laws.specs.TopCells.{top_number, top_value, top_zero}

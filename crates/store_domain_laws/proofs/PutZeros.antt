@@ -1,18 +1,14 @@
 -- First zeros behind a character that is written stay from 0 to the end.
 use Rattle.std.specs.Prelude.{◌≡◌, ℤ, pos, true, Some, refl}
-use Rattle.std.proofs.Common.{arith, subst, sym, ◌∙◌}
+use Rattle.std.proofs.Common.{arith, subst, sym}
 use Rattle.std.proofs.lemmas.Int.{ints}
-use Rattle.std.proofs.lemmas.Bool.{and_from}
 use Rattle.cc_base.specs.Lattices.{LatticeOf, OrderLaws}
-use Rattle.cc_base.specs.LatticeParts.{flag_leq}
-use Rattle.cc_base.specs.NumberRanges.{Range}
 use Rattle.cc_base.specs.IntegerDomains.{IntegersOf, BoundLaws, of_range}
 use Rattle.cc_base.specs.IntegerLaws.{tri_leq}
-use Rattle.cc_base.specs.Truths.{can_hold, can_fail}
 use Rattle.cc_base.specs.declared.integer_operators.Tri.{Tri}
 use Rattle.cc_base.specs.declared.integer_operators.Tri.TheVariants.{No, Yes, Both, Never}
 use Rattle.string_domain.specs.FirstZeros.{the_end, zero_of}
-use Rattle.string_domain.specs.ZeroTables.{must_be_zero, cannot_be_zero, in_both, zero_written, other_written, put_at}
+use Rattle.string_domain.specs.ZeroTables.{must_be_zero, cannot_be_zero, in_both, put_at}
 use Rattle.string_domain.specs.declared.first_zeros.FirstZero.{FirstZero}
 use Rattle.value_domain_laws.proofs.Ranges.{RangeBelow, of_range_monotone}
 use Rattle.value_domain_laws.proofs.Zeros as zeros

@@ -1,5 +1,5 @@
 -- Texts that are written into arrays.
-use Rattle.std.specs.Prelude.{◌≡◌, ℕ, zero, suc, ◌+◌, ◌-◌, ◌^◌, ◌<◌, ◌≤◌, ℤ, pos, negsuc, ◌-ℤ◌, ◌≤ℤ◌, Bool, true, false, cond, ◌&&◌, ◌==◌, nat_le, nat_lt, List, [], ◌∷◌, length, get_or}
+use Rattle.std.specs.Prelude.{◌≡◌, ℕ, zero, suc, ◌+◌, ◌-◌, ◌^◌, ◌<◌, ◌≤◌, ℤ, pos, negsuc, ◌-ℤ◌, Bool, true, ◌&&◌, ◌==◌, nat_le, nat_lt, List, [], ◌∷◌, length, get_or}
 use Rattle.std.proofs.Common.{arith}
 use Rattle.std.proofs.lemmas.Int.{ints}
 use Rattle.std.proofs.lemmas.Bool.{cond_both, ltb-true}
@@ -10,13 +10,12 @@ use Rattle.c_layout.specs.declared.shapes.BaseInfo.{BaseInfo}
 use Rattle.pointer_domain.specs.declared.base_sets.Bases.{Bases}
 use Rattle.string_domain.specs.FirstZeros.{the_end, zero_of}
 use Rattle.string_domain.specs.declared.first_zeros.FirstZero.{FirstZero}
-use Rattle.value_domain.specs.declared.values.Value as values
 use Rattle.value_domain.specs.declared.row_cells.Cell.{Cell}
 use Rattle.value_domain.specs.declared.row_cells.Cell.TheVariants.{Value}
-use Rattle.value_domain.specs.Values.{value_lattice, value_order}
-use Rattle.store_domain.specs.RowPositions.{capped, cell_at, leaf_position, zero_position, put_zero}
+use Rattle.value_domain.specs.Values.{value_order}
+use Rattle.store_domain.specs.RowPositions.{capped, cell_at, leaf_position, zero_position}
 use Rattle.store_domain.specs.FirstZeroWrites.{no_zero}
-use Rattle.store_domain.specs.Spelling.{written_count, character, character_number, begins_at, is_one_place, is_spelled, text_length, number_of, hull_more, hull, one_character, characters, spell_cell, spell_leaf_at, spell_leaf, spell_leaves, first_zero_of, spell_part, spell_zero, spell_object, spell}
+use Rattle.store_domain.specs.Spelling.{written_count, character, begins_at, is_one_place, is_spelled, text_length, number_of, hull_more, hull, one_character, characters, spell_cell, spell_leaf_at, spell_leaf, spell_leaves, first_zero_of, spell_part, spell_zero, spell_object, spell}
 use Rattle.store_domain_laws.specs.TopCells.{top_number, top_value, top_zero}
 use Rattle.store_domain_laws.specs.Placements.{EachFrom, IsPlaced}
 use Rattle.store_domain_laws.specs.RowsBelow.{RowsBelow}

@@ -1,9 +1,8 @@
 -- Where there is something to store and a place for it, there is for larger values, sets and windows.
-use Rattle.std.specs.Prelude.{◌≡◌, ℕ, ◌+◌, ◌≤◌, ◌==◌, ℤ, Bool, true, false, cond, not, ◌&&◌, ◌||◌, bit_or, Some, None, is_none, List, [], ◌∷◌, count_by, refl}
+use Rattle.std.specs.Prelude.{◌≡◌, ℕ, ◌≤◌, ◌==◌, ℤ, Bool, true, false, cond, not, ◌&&◌, Some, None, is_none, List, [], ◌∷◌, count_by, refl}
 use Rattle.std.proofs.lemmas.List.Sums.{sum_by-cons}
 use Rattle.std.proofs.Common.{arith, inl, inr}
-use Rattle.std.proofs.lemmas.Nat.{le_or_l}
-use Rattle.std.proofs.lemmas.Bool.{and_from, and_parts, eqb-true, eq-eqb, or_cases, or_left, or_right, not_from_false, not-true, ne_eqb}
+use Rattle.std.proofs.lemmas.Bool.{and_parts, eq-eqb, or_cases, not_from_false, not-true, ne_eqb}
 use Rattle.cc_base.specs.Lattices.{LatticeOf, OrderLaws}
 use Rattle.cc_base.specs.NumberRanges.{Range}
 use Rattle.cc_base.specs.IntegerDomains.{IntegersOf, BoundLaws}
@@ -14,7 +13,7 @@ use Rattle.c_layout.specs.declared.leaf_lists.Leaf.{Leaf}
 use Rattle.c_layout.specs.declared.shapes.BaseInfo.{BaseInfo}
 use Rattle.pointer_domain.specs.declared.base_sets.Bases.{Bases}
 use Rattle.pointer_domain.specs.declared.pointer_sets.Pointers.{Pointers}
-use Rattle.pointer_domain.specs.BaseSets.{bases_within, bases_empty, word_within}
+use Rattle.pointer_domain.specs.BaseSets.{bases_within, bases_empty}
 use Rattle.pointer_domain.specs.PointerTables.{is_any}
 use Rattle.value_domain.specs.declared.values.Value.{Value}
 use Rattle.value_domain.specs.Values.{value_lattice}
@@ -29,7 +28,6 @@ use Rattle.store_domain_laws.proofs.PairedSteps.{walk_pair, any_each}
 use Rattle.value_domain_laws.proofs.Parts.{PointersBelow, value_parts, pointer_parts}
 use Rattle.value_domain_laws.proofs.Flags.{flag_sets}
 use Rattle.store_domain_laws.proofs.Windows.{selected_monotone, other_monotone}
-use Rattle.value_domain_laws.proofs.Bases.{words_within}
 use Rattle.store_domain_laws.proofs.LiveSets.{has_monotone}
 use Rattle.store_domain_laws.proofs.Loads.{reaches_monotone}
 use Rattle.value_domain_laws.proofs.Bases.{empty_below}

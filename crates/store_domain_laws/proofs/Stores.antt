@@ -46,7 +46,7 @@ use Rattle.store_domain_laws.proofs.Windows.{WindowsBelow, selected_monotone, ot
 use Rattle.store_domain_laws.specs.TopCells.{top_value}
 use Rattle.store_domain_laws.specs.RowsBelow.{RowsBelow}
 use Rattle.store_domain_laws.proofs.CellSteps.{write_step, join_step}
-use Rattle.store_domain_laws.proofs.CellReads.{stored_in_monotone, stored_in_top, read_monotone, read_top, written_monotone, written_top, labels_monotone, labels_top}
+use Rattle.store_domain_laws.proofs.CellReads.{stored_in_monotone, stored_in_top, written_monotone, written_top, labels_monotone, labels_top}
 use Rattle.store_domain_laws.proofs.Loads.{reaches_monotone, class_small, some_bytes}
 use Rattle.store_domain_laws.specs.RowsBelow.{StoresBelow}
 

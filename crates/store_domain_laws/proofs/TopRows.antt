@@ -11,7 +11,7 @@ use Rattle.value_domain.specs.declared.row_cells.Cell.{Cell}
 use Rattle.value_domain.specs.declared.row_cells.Cell.TheVariants.{Value, First, State}
 use Rattle.store_domain.specs.RowPositions.{cell_at, leaf_position, class_position, zero_position, state_position}
 use Rattle.store_domain_laws.specs.Placements.{EachFrom, IsPlaced}
-use Rattle.store_domain_laws.specs.TopRows.{top_base, top_bases, top_row}
+use Rattle.store_domain_laws.specs.TopRows.{top_base, top_bases}
 use Rattle.store_domain_laws.specs.TopCells.{top_value, top_zero, top_state}
 
 module _ {I : Type 0} where

@@ -1,5 +1,5 @@
 -- Rows whose pointer parts are consistent.
-use Rattle.std.specs.Prelude.{◌≡◌, true, List, [], ◌∷◌}
+use Rattle.std.specs.Prelude.{◌≡◌, true, Option, Some, None, List, [], ◌∷◌}
 use Rattle.cc_base.specs.IntegerDomains.{IntegersOf}
 use Rattle.value_domain.specs.declared.row_cells.Cell.{Cell}
 use Rattle.value_domain.specs.declared.row_cells.Cell.TheVariants.{Nothing, Value, First, State, Mixed}
@@ -17,3 +17,8 @@ module _ {I : Type 0} (n : IntegersOf I) where
   abbrev pub AreConsistent : List (Cell I) → Type 0
   AreConsistent [] = Unit {0}
   AreConsistent (c ∷ cs) = IsConsistentCell c × AreConsistent cs
+
+  -- the row that is left, where one is
+  abbrev pub IsLeftConsistent : Option (List (Cell I)) → Type 0
+  IsLeftConsistent None = Unit {0}
+  IsLeftConsistent (Some row) = AreConsistent row

@@ -1,5 +1,5 @@
 -- The calls of the store grow with the row and with their arguments, and leave own rows.
-use Rattle.std.specs.Prelude.{◌≡◌, ℕ, ◌^◌, ◌<◌, ◌≤◌, ℤ, pos, Bool, true, is_some, Some, List, [], ◌∷◌, length, slice_get}
+use Rattle.std.specs.Prelude.{◌≡◌, ℕ, ◌^◌, ◌<◌, ◌≤◌, pos, Bool, true, is_some, Some, List, [], ◌∷◌, length, slice_get}
 use Rattle.cc_base.specs.Lattices.{LatticeOf}
 use Rattle.cc_base.specs.IntegerDomains.{IntegersOf}
 use Rattle.c_layout.specs.declared.data_model.Model.{Model}
@@ -22,14 +22,16 @@ use Rattle.store_domain.specs.Allocations.{renew}
 use Rattle.store_domain.specs.declared.allocation.Fresh.{Fresh}
 use Rattle.store_domain.specs.RowPositions.{value_count}
 use Rattle.string_domain.specs.FirstZeros.{the_end}
-use Rattle.value_domain_laws.specs.Consistency.{AreWords}
+use Rattle.value_domain_laws.specs.Consistency.{AreWords, is_consistent}
 use Rattle.store_domain.specs.declared.allocation.Fresh.TheVariants.{Blank, Zero, Old}
 use Rattle.pointer_domain.specs.BaseSets.{bases_has}
 use Rattle.store_domain_laws.specs.TopCells.{top_value}
 use Rattle.store_domain_laws.specs.TopRows.{top_row}
 use Rattle.store_domain_laws.specs.RowsBelow.{RowsBelow, ReadBelow, StoresBelow}
 use Rattle.store_domain_laws.specs.Placements.{EachFrom, IsRegular}
-use Rattle.store_domain_laws.specs.ConsistentRows.{AreConsistent}
+use Rattle.store_domain_laws.specs.ConsistentRows.{AreConsistent, IsLeftConsistent}
+use Rattle.cc_base.specs.Rows.{row_leq}
+use Rattle.value_domain.specs.Cells.{cell_lattice}
 
 -- bases that follow each other, of regular shapes
 pub record IsLayout (m : Model) (bases : List BaseInfo) : Type 0 where
@@ -102,3 +104,8 @@ module _ {I : Type 0} (l : LatticeOf I) (n : IntegersOf I) (m : Model) (bases : 
       → ((new old : BaseInfo) → slice_get bases newest ≡ Some new → slice_get bases older ≡ Some old → IsSite new old)
       → (x y : I) → l.leq x y ≡ true → l.leq y (n.between (pos 0) the_end) ≡ true → is_some (n.bounds x) ≡ true
       → (fresh more : Fresh I) → IsFreshOfWords fresh → FreshBelow l fresh more → RowsBelow l (top_row n all bases temps) (renew l n m bases newest older x fresh r) (renew l n m bases newest older y more s)
+
+  -- a store of an own value with a consistent pointer part into an own row of such ones leaves such a row
+  abbrev pub IsStoreConsistent : Type 0
+  IsStoreConsistent = (r : List (Cell I)) → row_leq (cell_lattice l) r (top_row n all bases temps) ≡ true → AreConsistent n r → (p : Pointers I) (class : Class) (signed : Bool) (v : Value I) → (value_lattice l).leq v (top_value n all) ≡ true → AreWords v.pointer.bases → is_consistent n v.pointer ≡ true
+      → IsLeftConsistent n (store l n m bases p class signed v r)

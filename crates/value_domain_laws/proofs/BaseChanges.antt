@@ -78,7 +78,7 @@ no_word_in false false false false false true g = refl
 no_word_in false false false false false false true = refl
 no_word_in false false false false false false false = refl
 
-no_word_is : (i : ℕ) → word_of no_base i ≡ 0
+pub no_word_is : (i : ℕ) → word_of no_base i ≡ 0
 no_word_is i = no_word_in (i == 0) (i == 1) (i == 2) (i == 3) (i == 4) (i == 5) (i == 6)
 
 no_word : (w i : ℕ) → word_within (word_of no_base i) w ≡ true
