@@ -1,8 +1,11 @@
 //! The rows that lines give.
+ghost use Rattle.std.specs.Prelude.{◌≡◌, Some, None};
+
 use crate::row_positions::{Position, least_cell};
 use cert_check_text::MapLine;
 use interval_domain::Interval;
 use row_pool::{Row, RowPool};
+use std::mem;
 use value_domain::Cell;
 
 /// Makes of a row the one that has nothing.
@@ -24,6 +27,17 @@ fn new_row(positions: &[Position], pool: &mut RowPool<Cell<Interval>>) -> Row {
     row
 }
 
+/// Puts a row into an entry that has none.
+fn set_row(slot: &mut Option<Row>, row: Row)
+    requires { slot.old ≡ None }
+    ensures { slot.new ≡ Some row }
+{
+    match mem::replace(slot, Some(row)) {
+        None => {}
+        Some(_) => unreachable!(),
+    }
+}
+
 /// Puts a cell into the row of a block.
 fn place(pool: &mut RowPool<Cell<Interval>>, slot: &Option<Row>, at: usize, cell: &Cell<Interval>) {
     if let Some(row) = slot {
@@ -42,7 +56,7 @@ fn fill_line(
     match line {
         MapLine::Unreached => begun + 1,
         MapLine::Reached(_) => {
-            map[begun] = Some(new_row(positions, pool));
+            set_row(&mut map[begun], new_row(positions, pool));
             begun + 1
         }
         MapLine::Placed(at, cell) => {

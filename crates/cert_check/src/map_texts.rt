@@ -21,7 +21,8 @@ fn push_line(alloc: Global, out: &mut Vec<u8>, line: &MapLine) -> Result<(), All
 {
     let text = line_text(alloc, line)?;
     out.extend_from_slice(text.as_slice())?;
-    out.push(10)
+    out.push(10)?;
+    Ok(())
 }
 
 /// How many cells of a row have a line.

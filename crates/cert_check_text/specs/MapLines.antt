@@ -17,7 +17,7 @@ unfoldable pub placed_text : ℕ → Cell Interval → Bytes
 placed_text at cell = with_cell (decimal at) cell
 
 -- the text of a line, without its end
-unfoldable pub line_text : MapLine → Bytes
+abbrev pub line_text : MapLine → Bytes
 line_text Unreached = codes "u"
 line_text (Reached count) = reached_text count
 line_text (Placed at cell) = placed_text at cell

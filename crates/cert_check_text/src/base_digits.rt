@@ -38,6 +38,14 @@ fn hex_digit(digit: u8) -> u8
     if digit < 10 { digit + 48 } else { digit + 87 }
 }
 
+/// The byte of the digit at a place.
+fn digit_at(set: Bases, at: usize) -> u8
+    requires { at < 254 }
+    ensures { result ≡ hex_digit (nibble set at) }
+{
+    hex_digit(nibble(set, at))
+}
+
 /// How many digits of the lowest ones a set needs.
 #[tactic(auto, unfolding(crate::specs::BaseDigits::used_below))]
 fn used_digits(set: Bases, count: usize) -> usize
@@ -55,7 +63,6 @@ fn used_digits(set: Bases, count: usize) -> usize
 }
 
 /// The digits of a set, so many from the lowest.
-#[tactic(auto, using(crate::proofs::Digits::digits_next))]
 fn digits_text(alloc: Global, set: Bases, count: usize) -> Result<Vec<u8>, AllocError>
     requires { count ≤ 254 }
     ensures { IfOk result (λ b. b.items ≡ digits_below set count) }
@@ -64,7 +71,7 @@ fn digits_text(alloc: Global, set: Bases, count: usize) -> Result<Vec<u8>, Alloc
     let mut left = count;
     while left > 0 {
         left -= 1;
-        text.push(hex_digit(nibble(set, left)))?;
+        text.push(digit_at(set, left))?;
     }
     Ok(text)
 }
