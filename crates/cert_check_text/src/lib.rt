@@ -8,5 +8,5 @@ mod decimal_words;
 mod line_words;
 mod map_lines;
 
-pub use line_words::{same_bytes, until};
+pub use line_words::{behind, same_bytes, until};
 pub use map_lines::{MapLine, line_text, read_line};

@@ -25,7 +25,7 @@ pub fn until(text: &[u8], stop: u8) -> &[u8]
 
 /// The bytes behind the first `stop`; none where there is none.
 #[tactic(auto, unfolding(crate::specs::LineWords::behind))]
-pub(crate) fn behind(text: &[u8], stop: u8) -> &[u8]
+pub fn behind(text: &[u8], stop: u8) -> &[u8]
     ensures { result.now ≡ behind stop text.now }
 {
     let end = word_length(text, stop);
