@@ -1,0 +1,2 @@
+pub mod LeastCells
+pub mod MapTexts
