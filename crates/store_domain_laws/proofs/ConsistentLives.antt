@@ -5,7 +5,6 @@ use Rattle.cc_base.specs.Lattices.{LatticeOf, OrderLaws}
 use Rattle.cc_base.specs.IntegerDomains.{IntegersOf, BoundLaws}
 use Rattle.c_layout.specs.declared.leaf_lists.Class.{Class}
 use Rattle.c_layout.specs.declared.shapes.BaseInfo.{BaseInfo}
-use Rattle.pointer_domain.specs.declared.base_sets.Bases.{Bases}
 use Rattle.pointer_domain.specs.declared.pointer_sets.Pointers.{Pointers}
 use Rattle.string_domain.specs.declared.first_zeros.FirstZero.{FirstZero}
 use Rattle.value_domain.specs.declared.values.Value as values
