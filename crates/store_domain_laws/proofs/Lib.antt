@@ -26,4 +26,5 @@ pub mod PlainShapes
 pub mod WorkedBases
 pub mod Consistent
 pub mod ConsistentStores
+pub mod ConsistentLives
 pub mod Together

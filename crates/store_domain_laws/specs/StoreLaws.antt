@@ -109,3 +109,10 @@ module _ {I : Type 0} (l : LatticeOf I) (n : IntegersOf I) (m : Model) (bases : 
   abbrev pub IsStoreConsistent : Type 0
   IsStoreConsistent = (r : List (Cell I)) → row_leq (cell_lattice l) r (top_row n all bases temps) ≡ true → AreConsistent n r → (p : Pointers I) (class : Class) (signed : Bool) (v : Value I) → (value_lattice l).leq v (top_value n all) ≡ true → AreWords v.pointer.bases → is_consistent n v.pointer ≡ true
       → IsLeftConsistent n (store l n m bases p class signed v r)
+
+module _ {I : Type 0} (l : LatticeOf I) (n : IntegersOf I) (bases : List BaseInfo) where
+  -- what is freed, forgotten or cleared in a row of consistent pointer parts leaves such a row
+  pub record AreLivesConsistent : Type 0 where
+    pub freed : (r : List (Cell I)) (p : Pointers I) → AreConsistent n r → AreConsistent n (free l n bases p r)
+    pub forgotten : (r : List (Cell I)) (number : ℕ) → AreConsistent n r → AreConsistent n (forget l n bases number r)
+    pub cleared : (r : List (Cell I)) (number : ℕ) → AreConsistent n r → AreConsistent n (clear l n bases number r)
