@@ -1,0 +1,14 @@
+pub mod Walks
+pub mod Larger
+pub mod Found
+pub mod Windows
+pub mod Classes
+pub mod Selected
+pub mod Slices
+pub mod Reading
+pub mod MachineLoads
+pub mod Rereading
+pub mod CellReads
+pub mod TagPlaces
+pub mod Reached
+pub mod LoadSound

@@ -1,0 +1,4 @@
+pub mod Gives
+pub mod Scalars
+pub mod Shapes
+pub mod Statements

@@ -1,0 +1,6 @@
+//! The abstract store is sound: it speaks of each state that the machine can be in.
+#![tactic(auto)]
+
+mod theorems;
+
+pub use theorems::loads_are_sound;

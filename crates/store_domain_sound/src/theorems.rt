@@ -1,0 +1,13 @@
+//! What a load or a store makes of a row stands for what the machine's load or store makes of a state for which the row
+//! stands, over any domain of integers whose operations are sound.
+ghost use Rattle.cc_base.specs.IntegerLaws.{SoundLaws};
+ghost use Rattle.store_domain_sound.specs.Statements.{LoadStands, BlankStands};
+
+use cc_base::IntDomain;
+
+/// A load of a scalar wider than a character gives a value that stands for what the machine loads, or says that it may be
+/// indeterminate where the machine stops at an indeterminate byte. It gives nothing only where the machine does neither.
+pub fn loads_are_sound<I: IntDomain>()
+    ensures loads { SoundLaws I.lattice I.numbers I.stands → LoadStands I.lattice I.numbers I.stands }
+    ensures blanks { SoundLaws I.lattice I.numbers I.stands → BlankStands I.lattice I.numbers I.stands }
+{}
