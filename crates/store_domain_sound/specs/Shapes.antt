@@ -1,6 +1,7 @@
 -- What the bases of a flow have to be like.
 use Rattle.flow_program.specs.WellFormed.{base_values}
 use Rattle.std.specs.Prelude.{◌≡◌, ◌<◌, ◌≤◌, ◌+◌, ◌-◌, ◌^◌, ◌⊎◌, ℕ, Bool, true, false, ◌&&◌, ◌==◌, Option, Some, None, List, length, slice_get, count_by}
+use Rattle.flow_program.specs.declared.programs.Flow.{Flow}
 use Rattle.c_layout.specs.declared.data_model.Model.{Model}
 use Rattle.c_layout.specs.declared.shapes.ZeroPart.{ZeroPart}
 use Rattle.c_layout.specs.declared.leaf_lists.Class.TheVariants.{Char}
@@ -38,3 +39,12 @@ pub record AreLaid (bases : List BaseInfo) (behind : ℕ) : Type 0 where
 pub record HasTexts (m : Model) (base : BaseInfo) : Type 0 where
   pub texts : base.shape.heap ≡ false → (p : ℕ) (zeros : ZeroPart) → slice_get base.shape.zeros p ≡ Some zeros → (size : ℕ) × (zeros.size ≡ Some size) × ((o : ℕ) → zeros.offset ≤ o → o < zeros.offset + size → tag_at m base.shape.cells o ≡ tag_of Char 0)
   pub heaps : base.shape.heap ≡ true → (p : ℕ) (zeros : ZeroPart) → slice_get base.shape.zeros p ≡ Some zeros → (zeros.size ≡ None) × (zeros.offset ≡ 0)
+
+-- a flow whose rows have so many cells: each base has a shape and a place of its own, and the temporaries stand behind all
+pub record IsLaidOut (flow : Flow) (size : ℕ) : Type 0 where
+  pub shaped : AreShaped flow.bases.items
+  pub texts : (b : ℕ) (base : BaseInfo) → slice_get flow.bases.items b ≡ Some base → HasTexts flow.model base
+  pub behind : ℕ
+  pub laid : AreLaid flow.bases.items behind
+  pub temporaries : behind ≤ flow.width - flow.temps
+  pub long : behind ≤ size

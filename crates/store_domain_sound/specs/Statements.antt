@@ -23,7 +23,7 @@ use Rattle.store_domain_meaning.specs.SoundMemory.{IsPointerIn, IsScalarIn}
 use Rattle.store_domain_meaning.specs.RowMeaning.{MachineState, StandsFor}
 use Rattle.store_domain_sound.specs.Gives.{Gives}
 use Rattle.store_domain_sound.specs.Scalars.{signed_in}
-use Rattle.store_domain_sound.specs.Shapes.{AreShaped, AreLaid, HasTexts}
+use Rattle.store_domain_sound.specs.Shapes.{AreShaped, IsLaidOut}
 
 -- a scalar wider than a character
 abbrev pub IsWide : declared.Scalar → Type 0
@@ -45,3 +45,9 @@ module _ {I : Type 0} (l : LatticeOf I) (n : IntegersOf I) (stands : I → ℤ �
   BlankStands = (flow : Flow) → AreShaped flow.bases.items → (naming : Naming) (row : List (Cell I)) (w : World) (temps : ℕ → Option Scalar) (entered : ℕ → Option ℕ) → StandsFor l n stands flow naming row (state_in w temps entered)
       → (p : Pointers I) (at : MachinePointer) (kind : declared.Scalar) → IsWide kind → StandsPointer stands naming w.memory p at → IsPointerIn w.memory at → load flow.model kind (pointer at) w ≡ stopped_by w rule.Uninitref
       → Gives (λ x. x.indeterminate ≡ true) (loaded l n flow.model flow.bases.items row p (class_in kind) (signed_in kind))
+
+  -- a store of a wider scalar leaves a row that stands for the state behind it
+  abbrev pub StoreStands : Type 0
+  StoreStands = (flow : Flow) (size : ℕ) → IsLaidOut flow size → (naming : Naming) (row : List (Cell I)) (w u : World) (temps : ℕ → Option Scalar) (entered : ℕ → Option ℕ) → length row ≡ size → StandsFor l n stands flow naming row (state_in w temps entered)
+      → (p : Pointers I) (at : MachinePointer) (kind : declared.Scalar) (x : Value I) (v t : Scalar) → IsWide kind → StandsPointer stands naming w.memory p at → IsPointerIn w.memory at → StandsScalar stands naming w.memory x v → IsScalarIn w.memory v → near_value l n x ≡ x → store flow.model kind (pointer at) v w ≡ goes t u
+      → Gives (λ after. StandsFor l n stands flow naming after (state_in u temps entered)) (stored l n flow.model flow.bases.items p (class_in kind) (signed_in kind) x row)

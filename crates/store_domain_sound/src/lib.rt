@@ -3,4 +3,4 @@
 
 mod theorems;
 
-pub use theorems::loads_are_sound;
+pub use theorems::{loads_are_sound, stores_are_sound};

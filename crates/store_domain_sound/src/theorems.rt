@@ -1,7 +1,7 @@
 //! What a load or a store makes of a row stands for what the machine's load or store makes of a state for which the row
 //! stands, over any domain of integers whose operations are sound.
 ghost use Rattle.cc_base.specs.IntegerLaws.{SoundLaws};
-ghost use Rattle.store_domain_sound.specs.Statements.{LoadStands, BlankStands};
+ghost use Rattle.store_domain_sound.specs.Statements.{LoadStands, BlankStands, StoreStands};
 
 use cc_base::IntDomain;
 
@@ -10,4 +10,10 @@ use cc_base::IntDomain;
 pub fn loads_are_sound<I: IntDomain>()
     ensures loads { SoundLaws I.lattice I.numbers I.stands → LoadStands I.lattice I.numbers I.stands }
     ensures blanks { SoundLaws I.lattice I.numbers I.stands → BlankStands I.lattice I.numbers I.stands }
+{}
+
+/// A store of a scalar wider than a character leaves a row that stands for the state behind the machine's store. It leaves none
+/// only where the machine goes no further.
+pub fn stores_are_sound<I: IntDomain>()
+    ensures { SoundLaws I.lattice I.numbers I.stands → StoreStands I.lattice I.numbers I.stands }
 {}
