@@ -29,3 +29,8 @@ pub mod StoreLeaves
 pub mod StoreZeros
 pub mod StorePlaces
 pub mod StoreSound
+pub mod CharCells
+pub mod CharValues
+pub mod CharSound
+pub mod Freed
+pub mod Refills

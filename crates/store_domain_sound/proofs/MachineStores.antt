@@ -62,7 +62,7 @@ tagged_at class from [] k j c e d = cc
 tagged_at class from (x ∷ xs) zero j c e d = let f : x ≡ c = cc in let g : from ≡ j = omega arith in λ i. Some (record { content = f i; tag = tag_of class (g i) })
 tagged_at class from (x ∷ xs) (suc k) j c e d = tagged_at class (suc from) xs k j c e (omega arith)
 
-filled_length : (bs : List Byte) (cs : List Content) → length (filled bs cs) ≡ length bs
+pub filled_length : (bs : List Byte) (cs : List Content) → length (filled bs cs) ≡ length bs
 filled_length [] [] = refl
 filled_length [] (c ∷ cs) = refl
 filled_length (b ∷ bs) [] = refl
@@ -144,7 +144,7 @@ refilled_stored old offset class cs h tags =
           ∙ (filled_at (drop offset old) cs k t.0 c (get_drop offset old k (offset + k) refl ∙ t.1) e ∙ ap (λ x. Some (record { content = c; tag = x })) t.2);
     }
 
-set_is : (memory : Memory) (i : ℕ) (it : Instance) (bytes : List Byte) → slice_get memory i ≡ Some it → set_bytes memory i bytes ≡ set memory i (record it { bytes = bytes })
+pub set_is : (memory : Memory) (i : ℕ) (it : Instance) (bytes : List Byte) → slice_get memory i ≡ Some it → set_bytes memory i bytes ≡ set memory i (record it { bytes = bytes })
 set_is memory i it bytes e = rw e
 
 module _ (old : Memory) (i offset : ℕ) (class : Class) (size : ℕ) (cs : List Content) (it : Instance) (at : slice_get old i ≡ Some it) (bytes : List Byte) (b : BytesStored it.bytes bytes offset class size cs) (long : length cs ≡ size) (fits : offset + size ≤ length it.bytes) (kept : is_allocated it.storage ≡ false → (k : ℕ) → k < size → (x : Byte) × (slice_get it.bytes (offset + k) ≡ Some x) × (x.tag ≡ tag_of class k)) where
@@ -183,7 +183,7 @@ module _ (old : Memory) (i offset : ℕ) (class : Class) (size : ℕ) (cs : List
 
 -- ---- the machine's store
 
-instance_in : (o : Option Instance) → life_of o ≡ live → (it : Instance) × (o ≡ Some it)
+pub instance_in : (o : Option Instance) → life_of o ≡ live → (it : Instance) × (o ≡ Some it)
 instance_in None h = cc
 instance_in (Some it) h = (it, refl)
 
@@ -221,7 +221,7 @@ may_or : (a f : Bool) → (a || f) ≡ true → a ≡ false → f ≡ true
 may_or true f h e = cc
 may_or false f h e = h
 
-store_spot : (m : Model) (class : Class) (v r : Scalar) (spot : Spot) (w u : World) → store_at m class v spot w ≡ goes r u → (may_store m w class spot ≡ true) × (u ≡ stored w class spot (scalar_bytes (class_bytes m class) v))
+pub store_spot : (m : Model) (class : Class) (v r : Scalar) (spot : Spot) (w u : World) → store_at m class v spot w ≡ goes r u → (may_store m w class spot ≡ true) × (u ≡ stored w class spot (scalar_bytes (class_bytes m class) v))
 store_spot m class v r spot w u h = elim (cases_Bool (may_store m w class spot)) [
   | inl e ↦ (let g : goes v (stored w class spot (scalar_bytes (class_bytes m class) v)) ≡ goes r u = rw e at h in (e, cc))
   | inr e ↦ (let g : ◌≡◌ {A = Reply Scalar} (stops Left w) (goes r u) = rw e at h in cc)

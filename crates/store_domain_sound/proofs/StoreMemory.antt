@@ -27,13 +27,13 @@ use Rattle.store_domain_sound.proofs.MachineStores.{IsStore}
 use Rattle.store_domain_sound.proofs.Frames.{alike, in_or_out, pointer_in_moves}
 use Rattle.store_domain_sound.proofs.Fresh.{number_content, part_content}
 
-content_in_moves : {old new : Memory} → ((p : MachinePointer) → IsPointerIn old p → IsPointerIn new p) → (c : Content) (t : Option Tag) → IsContentIn old c t → IsContentIn new c t
+pub content_in_moves : {old new : Memory} → ((p : MachinePointer) → IsPointerIn old p → IsPointerIn new p) → (c : Content) (t : Option Tag) → IsContentIn old c t → IsContentIn new c t
 content_in_moves f indeterminate t h = h
 content_in_moves f (number n labels) t h = h
 content_in_moves f (part p k) t h = (f p h.0, h.1)
 
 -- a content names nothing that memory with the same lives does not name
-content_named_moves : (naming : Naming) (old new : Memory) → ((j : ℕ) → life_at new j ≡ life_at old j) → (c : Content) → IsContentNamed naming old c → IsContentNamed naming new c
+pub content_named_moves : (naming : Naming) (old new : Memory) → ((j : ℕ) → life_at new j ≡ life_at old j) → (c : Content) → IsContentNamed naming old c → IsContentNamed naming new c
 content_named_moves naming old new f indeterminate h = h
 content_named_moves naming old new f (number n labels) h = h
 content_named_moves naming old new f (part null k) h = h

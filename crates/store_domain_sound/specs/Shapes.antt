@@ -10,6 +10,8 @@ use Rattle.c_layout.specs.declared.leaf_lists.Class.{Class}
 use Rattle.c_layout.specs.declared.leaf_lists.Leaf.{Leaf}
 use Rattle.c_layout.specs.declared.shapes.BaseInfo.{BaseInfo}
 use Rattle.store_domain.specs.ClassNumbers.{same_class}
+use Rattle.store_domain.specs.declared.access_windows.Window.{Window}
+use Rattle.store_domain.specs.LeafSelection.{meets_padding}
 use Rattle.store_domain.specs.LiveBases.{most_bases}
 use Rattle.store_domain_meaning.specs.SoundMemory.{storage_for}
 use Rattle.lib_models_effects.specs.Touches.{is_allocated}
@@ -39,6 +41,10 @@ pub record AreLaid (bases : List BaseInfo) (behind : ℕ) : Type 0 where
 pub record HasTexts (m : Model) (base : BaseInfo) : Type 0 where
   pub texts : base.shape.heap ≡ false → (p : ℕ) (zeros : ZeroPart) → slice_get base.shape.zeros p ≡ Some zeros → (size : ℕ) × (zeros.size ≡ Some size) × ((o : ℕ) → zeros.offset ≤ o → o < zeros.offset + size → tag_at m base.shape.cells o ≡ tag_of Char 0)
   pub heaps : base.shape.heap ≡ true → (p : ℕ) (zeros : ZeroPart) → slice_get base.shape.zeros p ≡ Some zeros → (zeros.size ≡ None) × (zeros.offset ≡ 0)
+
+-- where a window has an offset of an object that is that of no leaf's byte, the counts of bytes say so
+abbrev pub SeesPadding : Model → List BaseInfo → Type 0
+SeesPadding m bases = (b : ℕ) (base : BaseInfo) (window : Window) (offset : ℕ) → slice_get bases b ≡ Some base → base.shape.heap ≡ false → window.lo ≤ offset → offset ≤ window.hi → offset < base.size → tag_at m base.shape.cells offset ≡ None → meets_padding m base.shape.cells window base.size ≡ true
 
 -- a flow whose rows have so many cells: each base has a shape and a place of its own, and the temporaries stand behind all
 pub record IsLaidOut (flow : Flow) (size : ℕ) : Type 0 where

@@ -11,19 +11,20 @@ use Rattle.pointer_domain.specs.declared.pointer_sets.Pointers.{Pointers}
 use Rattle.value_domain.specs.declared.values.Value.{Value}
 use Rattle.value_domain.specs.declared.row_cells.Cell.{Cell}
 use Rattle.store_domain.specs.NearValues.{near_value}
+use Rattle.store_domain.specs.LiveBases.{any_freed}
 use Rattle.store_domain.specs.Loads.{load as loaded}
 use Rattle.store_domain.specs.Stores.{store as stored}
 use Rattle.lib_models_memory.specs.ScalarSizes.{same_class}
 use Rattle.lib_models_memory.specs.Bytes.{MachinePointer}
 use Rattle.lib_models_memory.specs.Scalars.{Scalar, pointer}
 use Rattle.lib_models_effects.specs.Worlds.{World, goes, stopped_by}
-use Rattle.lib_models_effects.specs.Accesses.{class_in, load, store}
+use Rattle.lib_models_effects.specs.Accesses.{class_in, points_into_freed, load, store}
 use Rattle.store_domain_meaning.specs.ValueMeaning.{Naming, StandsPointer, StandsScalar}
 use Rattle.store_domain_meaning.specs.SoundMemory.{IsPointerIn, IsScalarIn}
 use Rattle.store_domain_meaning.specs.RowMeaning.{MachineState, StandsFor}
 use Rattle.store_domain_sound.specs.Gives.{Gives}
 use Rattle.store_domain_sound.specs.Scalars.{signed_in}
-use Rattle.store_domain_sound.specs.Shapes.{AreShaped, IsLaidOut}
+use Rattle.store_domain_sound.specs.Shapes.{AreShaped, SeesPadding, IsLaidOut}
 
 -- a scalar wider than a character
 abbrev pub IsWide : declared.Scalar → Type 0
@@ -39,6 +40,17 @@ module _ {I : Type 0} (l : LatticeOf I) (n : IntegersOf I) (stands : I → ℤ �
   LoadStands = (flow : Flow) → AreShaped flow.bases.items → (naming : Naming) (row : List (Cell I)) (w u : World) (temps : ℕ → Option Scalar) (entered : ℕ → Option ℕ) → StandsFor l n stands flow naming row (state_in w temps entered)
       → (p : Pointers I) (at : MachinePointer) (kind : declared.Scalar) (v : Scalar) → IsWide kind → StandsPointer stands naming w.memory p at → IsPointerIn w.memory at → load flow.model kind (pointer at) w ≡ goes v u
       → Gives (λ x. StandsScalar stands naming w.memory x v) (loaded l n flow.model flow.bases.items row p (class_in kind) (signed_in kind))
+
+  -- a load of a character too, where the counts of bytes see padding
+  abbrev pub CharacterStands : Type 0
+  CharacterStands = (flow : Flow) → AreShaped flow.bases.items → SeesPadding flow.model flow.bases.items → (naming : Naming) (row : List (Cell I)) (w u : World) (temps : ℕ → Option Scalar) (entered : ℕ → Option ℕ) → StandsFor l n stands flow naming row (state_in w temps entered)
+      → (p : Pointers I) (at : MachinePointer) (kind : declared.Scalar) (v : Scalar) → same_class (class_in kind) Char ≡ true → StandsPointer stands naming w.memory p at → IsPointerIn w.memory at → load flow.model kind (pointer at) w ≡ goes v u
+      → Gives (λ x. StandsScalar stands naming w.memory x v) (loaded l n flow.model flow.bases.items row p (class_in kind) (signed_in kind))
+
+  -- what is known of a pointer to a freed instance: one of its bases may be freed
+  abbrev pub FreedShows : Type 0
+  FreedShows = (flow : Flow) → AreShaped flow.bases.items → (naming : Naming) (row : List (Cell I)) (state : MachineState) → StandsFor l n stands flow naming row state
+      → (x : Value I) (v : Scalar) → StandsScalar stands naming state.memory x v → points_into_freed state.memory v ≡ true → any_freed l n flow.bases.items row x.pointer.bases ≡ true
 
   -- where the machine stops at an indeterminate byte of a wider scalar, the value says so
   abbrev pub BlankStands : Type 0

@@ -3,4 +3,6 @@
 
 mod theorems;
 
-pub use theorems::{loads_are_sound, stores_are_sound};
+pub use theorems::{
+    character_loads_are_sound, freed_pointers_show, loads_are_sound, stores_are_sound,
+};

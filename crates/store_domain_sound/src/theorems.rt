@@ -1,7 +1,7 @@
 //! What a load or a store makes of a row stands for what the machine's load or store makes of a state for which the row
 //! stands, over any domain of integers whose operations are sound.
 ghost use Rattle.cc_base.specs.IntegerLaws.{SoundLaws};
-ghost use Rattle.store_domain_sound.specs.Statements.{LoadStands, BlankStands, StoreStands};
+ghost use Rattle.store_domain_sound.specs.Statements.{LoadStands, BlankStands, CharacterStands, FreedShows, StoreStands};
 
 use cc_base::IntDomain;
 
@@ -10,6 +10,16 @@ use cc_base::IntDomain;
 pub fn loads_are_sound<I: IntDomain>()
     ensures loads { SoundLaws I.lattice I.numbers I.stands → LoadStands I.lattice I.numbers I.stands }
     ensures blanks { SoundLaws I.lattice I.numbers I.stands → BlankStands I.lattice I.numbers I.stands }
+{}
+
+/// A load of a character gives a value that stands for what the machine loads.
+pub fn character_loads_are_sound<I: IntDomain>()
+    ensures { SoundLaws I.lattice I.numbers I.stands → CharacterStands I.lattice I.numbers I.stands }
+{}
+
+/// A pointer into a freed instance, as a load can give one, has a base that may be freed.
+pub fn freed_pointers_show<I: IntDomain>()
+    ensures { FreedShows I.lattice I.numbers I.stands }
 {}
 
 /// A store of a scalar wider than a character leaves a row that stands for the state behind the machine's store. It leaves none
