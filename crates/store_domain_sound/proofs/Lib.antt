@@ -34,3 +34,4 @@ pub mod CharValues
 pub mod CharSound
 pub mod Freed
 pub mod Refills
+pub mod MemorySound

@@ -88,6 +88,29 @@ through_goes m kind p w u s h =
 pub load_goes : (m : Model) (kind : declared.Scalar) (p : MachinePointer) (w u : World) (s : Scalar) → load m kind (pointer p) w ≡ goes s u → (cs : List Content) × HasRead m kind w p cs × (has_blank cs ≡ false) × (scalar_in kind cs ≡ Some s)
 load_goes m kind p w u s h = through_goes m kind p w u s h
 
+given_same : (w u : World) (o : Option Scalar) (s : Scalar) → given w o ≡ goes s u → u.memory ≡ w.memory
+given_same w u None s h = cc
+given_same w u (Some v) s h = let e : noted w (points_into_freed w.memory v) rule.Accfree ≡ u = cc in sym (ap (λ z. z.memory) e)
+
+contents_same : (w u : World) (kind : declared.Scalar) (cs : List Content) (s : Scalar) → read_contents w kind cs ≡ goes s u → u.memory ≡ w.memory
+contents_same w u kind cs s h = elim (cases_Bool (has_blank cs)) [
+  | inl e ↦ absurd (blank_stops w u kind s (rw e at h))
+  | inr e ↦ given_same w u (scalar_in kind cs) s (rw e at h)
+]
+
+spot_same : (m : Model) (kind : declared.Scalar) (w u : World) (spot : Spot) (s : Scalar) → load_at m kind spot w ≡ goes s u → u.memory ≡ w.memory
+spot_same m kind w u spot s h = elim (cases_Bool (is_seen_as (is_allocated (storage_at w.memory spot.instance)) (class_in kind) (bytes_seen m w (class_in kind) spot))) [
+  | inl e ↦ (let g : read_contents w kind (read_at m kind w spot) ≡ goes s u = rw e at h in contents_same w u kind (read_at m kind w spot) s g)
+  | inr e ↦ (let g : ◌≡◌ {A = Reply Scalar} (stops Left w) (goes s u) = rw e at h in cc)
+]
+
+-- a load leaves memory as it is
+pub load_same : (m : Model) (kind : declared.Scalar) (p : MachinePointer) (w u : World) (s : Scalar) → load m kind (pointer p) w ≡ goes s u → u.memory ≡ w.memory
+load_same m kind p w u s h =
+    let b = behind_goes (touched w p (class_bytes m (class_in kind)) false) (load_at m kind) s u h in
+    let t = touched_goes w p (class_bytes m (class_in kind)) false b.0 b.1 b.2 in
+    spot_same m kind b.1 u b.0 s b.3 ∙ ap (λ z. z.memory) t.same
+
 -- ---- where the load stops at an indeterminate byte
 
 other_rule : (w : World) (r : Rule) → stopped_by {A = Scalar} w r ≡ stopped_by w rule.Uninitref → r ≡ rule.Uninitref

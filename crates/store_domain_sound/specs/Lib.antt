@@ -1,4 +1,5 @@
 pub mod Gives
 pub mod Scalars
 pub mod Shapes
+pub mod MemoryStatements
 pub mod Statements

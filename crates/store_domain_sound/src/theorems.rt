@@ -1,9 +1,21 @@
 //! What a load or a store makes of a row stands for what the machine's load or store makes of a state for which the row
 //! stands, over any domain of integers whose operations are sound.
 ghost use Rattle.cc_base.specs.IntegerLaws.{SoundLaws};
+ghost use Rattle.c_layout.specs.declared.data_model.Model.{Model};
+ghost use Rattle.c_layout.specs.declared.shapes.BaseInfo.{BaseInfo};
+ghost use Rattle.std.specs.Prelude.{List};
+ghost use Rattle.store_domain_sound.specs.MemoryStatements.{LoadKeeps, StoreKeeps};
+ghost use Rattle.store_domain_sound.specs.Shapes.{AreShaped};
 ghost use Rattle.store_domain_sound.specs.Statements.{LoadStands, BlankStands, CharacterStands, FreedShows, StoreStands};
 
 use cc_base::IntDomain;
+
+/// Memory and the names of its instances stay sound behind a load, which gives only pointers into memory, and behind a store of
+/// any scalar.
+pub fn memory_stays_sound()
+    ensures loads { (m : Model) (bases : List BaseInfo) → LoadKeeps m bases }
+    ensures stores { (m : Model) (bases : List BaseInfo) → AreShaped bases → StoreKeeps m bases }
+{}
 
 /// A load of a scalar wider than a character gives a value that stands for what the machine loads, or says that it may be
 /// indeterminate where the machine stops at an indeterminate byte. It gives nothing only where the machine does neither.
