@@ -51,7 +51,7 @@ module _ {I : Type 0} {l : LatticeOf I} {n : IntegersOf I} {stands : I → ℤ �
       let y = subst (λ z. StandsState stands naming state.memory (state_at l n row (state_position base)) z (length (bytes_at state.memory i))) gone x in
       and_from _ _ heap y.1
 
-  into_freed : (v : Pointers I) (i offset lo hi : ℕ) → life_at state.memory i ≡ freed → StandsInto stands naming state.memory v i offset lo hi → any_freed l n flow.bases.items row v.bases ≡ true
+  pub into_freed : (v : Pointers I) (i offset lo hi : ℕ) → life_at state.memory i ≡ freed → StandsInto stands naming state.memory v i offset lo hi → any_freed l n flow.bases.items row v.bases ≡ true
   into_freed v i offset lo hi gone h =
       let base = get_there flow.bases.items h.base (s.sane.few i h.base h.named) in
       let few = shaped.few in

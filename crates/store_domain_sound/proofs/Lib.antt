@@ -35,3 +35,4 @@ pub mod CharSound
 pub mod Freed
 pub mod Refills
 pub mod MemorySound
+pub mod TouchSound

@@ -141,7 +141,7 @@ touch_else : (w : World) (p : MachinePointer) (size : ℕ) → touched w p size 
 touch_else w null size h = spot_rule w rule.Nullref (λ (f : rule.Nullref ≡ rule.Uninitref). cc) h
 touch_else w (into i offset lo hi) size h = life_else w (life_at w.memory i) i offset lo hi size h
 
-behind_cases : (r : Reply Spot) (next : Spot → World → Reply Scalar) (why : Why) (u : World) → behind r next ≡ stops why u → ((a : Spot) × (w : World) × (r ≡ goes a w) × (next a w ≡ stops why u)) ⊎ (r ≡ stops why u)
+pub behind_cases : (r : Reply Spot) (next : Spot → World → Reply Scalar) (why : Why) (u : World) → behind r next ≡ stops why u → ((a : Spot) × (w : World) × (r ≡ goes a w) × (next a w ≡ stops why u)) ⊎ (r ≡ stops why u)
 behind_cases (goes a w) next why u e = inl (a, w, refl, e)
 behind_cases (stops y w) next why u e = let d : y ≡ why = cc in let f : w ≡ u = cc in inr (λ i. stops (d i) (f i))
 
@@ -165,4 +165,43 @@ load_blank m kind p w h = elim (behind_cases (touched w p (class_bytes m (class_
       let k : load_at m kind r.0 w ≡ stopped_by w rule.Uninitref = subst (λ z. load_at m kind r.0 z ≡ stopped_by w rule.Uninitref) t.same r.3 in
       let g = spot_else m kind w r.0 k in
       (read_at m kind w r.0, has_read m kind p w w r.0 (subst (λ z. IsTouched w p (class_bytes m (class_in kind)) false r.0 z) t.same t) g.0, g.1))
+]
+
+-- ---- where the load stops at any violation
+
+same_rule : (w : World) (a r : Rule) → stopped_by {A = Scalar} w a ≡ stopped_by w r → a ≡ r
+same_rule w a r h = let e : w.violated ++ (a ∷ []) ≡ w.violated ++ (r ∷ []) = ap violated_of h in let f = append_cancel_left w.violated (a ∷ []) (r ∷ []) e in cc
+
+never_left : (w v : World) → ◌≡◌ {A = Reply Scalar} (stops Left w) (stops Violated v) → ⊥
+never_left w v h = cc
+
+blank_rule : (w : World) (kind : declared.Scalar) (r : Rule) → read_blank w kind ≡ stopped_by w r → rule.Uninitref ≡ r
+blank_rule w kind r h = elim (cases_Bool (same_class (class_in kind) Char && is_unsigned kind)) [
+  | inl e ↦ absurd (never_left w (violating w (r ∷ [])) (rw e at h))
+  | inr e ↦ same_rule w rule.Uninitref r (rw e at h)
+]
+
+given_never : (w v : World) (o : Option Scalar) → given w o ≡ stops Violated v → ⊥
+given_never w v None h = cc
+given_never w v (Some x) h = cc
+
+contents_rule : (w : World) (kind : declared.Scalar) (cs : List Content) (r : Rule) → read_contents w kind cs ≡ stopped_by w r → rule.Uninitref ≡ r
+contents_rule w kind cs r h = elim (cases_Bool (has_blank cs)) [
+  | inl e ↦ blank_rule w kind r (rw e at h)
+  | inr e ↦ absurd (given_never w (violating w (r ∷ [])) (scalar_in kind cs) (rw e at h))
+]
+
+spot_stopped : (m : Model) (kind : declared.Scalar) (w : World) (spot : Spot) (r : Rule) → load_at m kind spot w ≡ stopped_by w r → rule.Uninitref ≡ r
+spot_stopped m kind w spot r h = elim (cases_Bool (is_seen_as (is_allocated (storage_at w.memory spot.instance)) (class_in kind) (bytes_seen m w (class_in kind) spot))) [
+  | inl e ↦ contents_rule w kind (read_at m kind w spot) r (rw e at h)
+  | inr e ↦ absurd (never_left w (violating w (r ∷ [])) (rw e at h))
+]
+
+-- a load stops at a violation of its touch, or at an indeterminate byte
+pub load_stopped : (m : Model) (kind : declared.Scalar) (p : MachinePointer) (w : World) (r : Rule) → load m kind (pointer p) w ≡ stopped_by w r → (touched w p (class_bytes m (class_in kind)) false ≡ stopped_by w r) ⊎ (r ≡ rule.Uninitref)
+load_stopped m kind p w r h = elim (behind_cases (touched w p (class_bytes m (class_in kind)) false) (load_at m kind) Violated (violating w (r ∷ [])) h) [
+  | inr e ↦ inl e
+  | inl g ↦ (let t = touched_goes w p (class_bytes m (class_in kind)) false g.0 g.1 g.2 in
+      let k : load_at m kind g.0 w ≡ stopped_by w r = subst (λ z. load_at m kind g.0 z ≡ stopped_by w r) t.same g.3 in
+      inr (sym (spot_stopped m kind w g.0 r k)))
 ]

@@ -78,7 +78,7 @@ word_none s i h =
 empty_has : (s : Bases) (b : ℕ) → bases_empty s ≡ true → bases_has s b ≡ false
 empty_has s b h = ap (λ w. bit_at w (b % 128) == 1) (word_none s (b / 128) h) ∙ ap (λ z. z == 1) (bit_at-zero (b % 128))
 
-not_empty : (s : Bases) (b : ℕ) → bases_has s b ≡ true → bases_empty s ≡ false
+pub not_empty : (s : Bases) (b : ℕ) → bases_has s b ≡ true → bases_empty s ≡ false
 not_empty s b h = false_from_ne_true (bases_empty s) (λ e. true≢false (sym h ∙ empty_has s b e))
 
 nothing_false : (a e : Bool) → (a || e) ≡ true → (not a && not e) ≡ false

@@ -3,3 +3,4 @@ pub mod Scalars
 pub mod Shapes
 pub mod MemoryStatements
 pub mod Statements
+pub mod TouchStatements

@@ -6,6 +6,7 @@ ghost use Rattle.c_layout.specs.declared.shapes.BaseInfo.{BaseInfo};
 ghost use Rattle.std.specs.Prelude.{List};
 ghost use Rattle.store_domain_sound.specs.MemoryStatements.{LoadKeeps, StoreKeeps};
 ghost use Rattle.store_domain_sound.specs.Shapes.{AreShaped};
+ghost use Rattle.store_domain_sound.specs.TouchStatements.{TouchAdmits, LoadAdmits};
 ghost use Rattle.store_domain_sound.specs.Statements.{LoadStands, BlankStands, CharacterStands, FreedShows, StoreStands};
 
 use cc_base::IntDomain;
@@ -27,6 +28,13 @@ pub fn loads_are_sound<I: IntDomain>()
 /// A load of a character gives a value that stands for what the machine loads.
 pub fn character_loads_are_sound<I: IntDomain>()
     ensures { SoundLaws I.lattice I.numbers I.stands → CharacterStands I.lattice I.numbers I.stands }
+{}
+
+/// The rule at which the machine stops before it reads or writes bytes is among those that the analysis admits there. A load
+/// stops at no other but an indeterminate byte.
+pub fn violations_are_admitted<I: IntDomain>()
+    ensures touches { TouchAdmits I.lattice I.numbers I.stands }
+    ensures loads { LoadAdmits I.lattice I.numbers I.stands }
 {}
 
 /// A pointer into a freed instance, as a load can give one, has a base that may be freed.
