@@ -31,7 +31,7 @@ use Rattle.store_domain.specs.RowPositions.{leaf_position, class_position, value
 use Rattle.store_domain.specs.LiveBases.{is_live_in, has_base, may_be_live}
 use Rattle.store_domain.specs.Loads.{load as abstract_load, load_bases, load_within, load_own, loaded, labels_of, read_other_leaf, load_other_leaves, read_class_cell, load_other_class_cells, load_padding, load_other_bytes, load_others, load_base, determinate_if, is_text}
 use Rattle.store_domain.specs.Loads as loads
-use Rattle.lib_models_memory.specs.Bytes.{MachinePointer, null, into, Content, Tag, Byte, number}
+use Rattle.lib_models_memory.specs.Bytes.{MachinePointer, null, into, Content, Tag, Byte, number, indeterminate}
 use Rattle.lib_models_memory.specs.Instances.{Memory, Life, live, ended, freed, Instance, bytes_at, byte_at, life_at, bytes_of, life_of}
 use Rattle.store_domain_meaning.specs.Matching.{Matched, Fits, number_in}
 use Rattle.lib_models_memory.specs.Tags.{fits_tag, fit_from, tag_of, tag_at, is_tag}
@@ -44,6 +44,7 @@ use Rattle.lib_models_effects.specs.Worlds.{World, Reply, goes, stops, behind, v
 use Rattle.lib_models_effects.specs.ScalarBytes.{region, contents}
 use Rattle.lib_models_effects.specs.Touches.{Spot, touched, is_allocated, storage_at, storage_of}
 use Rattle.lib_models_effects.specs.Accesses.{class_in, is_seen_as, bytes_seen, has_blank, pointer_in, scalar_in, given, read_blank, read_contents, load_at, load, points_into_freed, numbers_in, joined_labels, integer_in}
+use Rattle.store_domain_sound.proofs.Texts.{no_text, byte_flag, read_flag}
 use Rattle.store_domain_sound.specs.Gives.{Gives}
 use Rattle.store_domain_sound.specs.Statements.{state_in}
 use Rattle.store_domain_sound.specs.Scalars.{signed_in}
@@ -54,7 +55,7 @@ use Rattle.store_domain_sound.proofs.Windows.{WindowHas, window_has}
 use Rattle.store_domain_sound.proofs.Classes.{class_small, class_number_back, class_above, same_class_is, integer_class, is_same_class}
 use Rattle.store_domain_sound.proofs.Selected.{counted_place, uncounted_place, place_selected}
 use Rattle.store_domain_sound.proofs.Slices.{get_there, get_map}
-use Rattle.store_domain_sound.proofs.Reading.{behind_goes, IsTouched, touched_goes, fit_at, region_at, region_length, seen_matched, numbers_at, numbers_length}
+use Rattle.store_domain_sound.proofs.Reading.{behind_goes, IsTouched, touched_goes, fit_at, region_at, region_length, seen_matched, numbers_at, numbers_length, blank_at}
 use Rattle.store_domain_sound.proofs.MachineLoads.{HasRead, load_goes, load_blank}
 use Rattle.store_domain_sound.proofs.CellReads.{scalar_pointer_is, Sees, blank_stands, scalar_stands, integer_is}
 use Rattle.store_domain_sound.proofs.TagPlaces.{tag_place, is_tagged, IsTagged}
@@ -115,21 +116,12 @@ wide_number LongLong h = (3, omega arith, refl)
 wide_number Pointer h = (4, omega arith, refl)
 
 module _ {I : Type 0} {l : LatticeOf I} {n : IntegersOf I} {stands : I → ℤ → Type 0} (o : OrderLaws l) (q : BoundLaws l n stands) (flow : Flow) (shaped : AreShaped flow.bases.items) (padding : SeesPadding flow.model flow.bases.items) (naming : Naming) (row : List (Cell I)) (state : MachineState) (s : StandsFor l n stands flow naming row state)
-    (access : Access) (char : access.class ≡ Char) (i offset : ℕ) (from : access.window.lo ≤ offset) (to : offset ≤ access.window.hi) (alive : life_at state.memory i ≡ live) (inside : offset + class_bytes flow.model access.class ≤ length (bytes_at state.memory i)) (b : ℕ) (base : BaseInfo) (at : slice_get flow.bases.items b ≡ Some base) (named : naming i ≡ Some b) (x : Labelled) (byte : Byte) (here : byte_at state.memory i offset ≡ Some byte) (is : byte.content ≡ number_in x) where
-  abbrev P : Value I → Type 0
-  P y = StandsScalar stands naming state.memory y (integer (number_of access.signed (x ∷ [])) (joined_labels (x ∷ [])))
-
-  up : (y z : Value I) → (value_lattice l).leq y z ≡ true → P y → P z
-  up y z h = scalar_larger q naming state.memory y z (integer (number_of access.signed (x ∷ [])) (joined_labels (x ∷ []))) (value_below l y z h)
-
-  small : x.number < 256
-  small = let h = s.sane.bytes i offset byte here in subst (λ z. IsContentIn state.memory z byte.tag) is h
-
-  matched : (d : Class) (k : ℕ) → Fits d k byte.tag → Matched state.memory i offset d k (number_in x)
-  matched d k f = record { tag = byte.tag; here = here ∙ ap (λ z. Some (record { content = z; tag = byte.tag })) is; fits = f }
+    (access : Access) (char : access.class ≡ Char) (i offset : ℕ) (from : access.window.lo ≤ offset) (to : offset ≤ access.window.hi) (alive : life_at state.memory i ≡ live) (inside : offset + class_bytes flow.model access.class ≤ length (bytes_at state.memory i)) (b : ℕ) (base : BaseInfo) (at : slice_get flow.bases.items b ≡ Some base) (named : naming i ≡ Some b) (byte : Byte) (here : byte_at state.memory i offset ≡ Some byte) {P : Value I → Type 0} (up : (y z : Value I) → (value_lattice l).leq y z ≡ true → P y → P z) (other : (v : Value I) (d : Class) → StandsContent stands naming state.memory v d byte.content → P (byte_read l n flow.model v d access.signed)) (pad : P (whole_range l n (kind_of flow.model Char access.signed) all_labels true)) (text : is_text l n base row access.window ≡ true → (v : Value I) → P v → P (record v { indeterminate = v.indeterminate && false })) where
+  matched : (d : Class) (k : ℕ) → Fits d k byte.tag → Matched state.memory i offset d k byte.content
+  matched d k f = record { tag = byte.tag; here = here; fits = f }
 
   cell_gives : (d : Class) (k : ℕ) (signed : Bool) (Place Owns : ℕ → ℕ → Type 0) (v : Value I) → StandsCell stands flow naming state.memory b d signed Place Owns v → Owns offset k → Fits d k byte.tag → P (byte_read l n flow.model v d access.signed)
-  cell_gives d k signed Place Owns v cell owns f = byte_stands o q flow.model naming state.memory v d access.signed x small (cell.byte i offset k (number_in x) (record { named = named; alive = alive }) owns (matched d k f))
+  cell_gives d k signed Place Owns v cell owns f = other v d (cell.byte i offset k byte.content (record { named = named; alive = alive }) owns (matched d k f))
 
   -- a leaf of another class that owns the byte
   other_leaf : (j k : ℕ) (leaf : Leaf) → slice_get base.shape.cells j ≡ Some leaf → OwnedByLeaf flow.model leaf offset k → same_class leaf.class Char ≡ false → Fits leaf.class k byte.tag → Gives P (load_others l n flow.model base row access)
@@ -198,7 +190,7 @@ module _ {I : Type 0} {l : LatticeOf I} {n : IntegersOf I} {stands : I → ℤ �
     own_heap f heap = on_heap o q flow shaped naming row state s up access i offset from to (read f) b base at named (cells f) heap (count_by (at_offset access.class offset) base.shape.cells) refl
 
     in_object : base.shape.heap ≡ false → (tag : Option Tag) → byte.tag ≡ tag → tag_at flow.model base.shape.cells offset ≡ tag → offset < base.size → Gives P (load_own l n flow.model base row access) ⊎ Gives P (load_others l n flow.model base row access)
-    in_object heap None e f g = inr (by_padding o n up flow.model row access offset from to base heap (padding b base access.window offset at heap from to g f) (padding_stands o q flow.model naming state.memory access.signed x small))
+    in_object heap None e f g = inr (by_padding o n up flow.model row access offset from to base heap (padding b base access.window offset at heap from to g f) pad)
     in_object heap (Some t) e f g =
         let r = is_tagged flow.model base.shape.cells offset t f in
         let fits : Fits r.leaf.class t.at byte.tag = subst (Fits r.leaf.class t.at) (sym e) (r.class, refl) in
@@ -243,7 +235,7 @@ module _ {I : Type 0} {l : LatticeOf I} {n : IntegersOf I} {stands : I → ℤ �
             (subst (λ z. StandsState stands naming state.memory (state_at l n row (state_position base)) z (length (bytes_at state.memory i))) alive y).1) in
         bases_give o n up flow.model row access offset from to flow.bases.items set b base at
         (and_from _ _ (and_from _ _ (lt-ltb _ _ (omega arith)) has) live_base)
-        (char_base o n up flow.model row access offset from to base is_char (λ t v h. h) (in_base base.shape.heap refl))
+        (char_base o n up flow.model row access offset from to base is_char text (in_base base.shape.heap refl))
 
 module _ {I : Type 0} {l : LatticeOf I} {n : IntegersOf I} {stands : I → ℤ → Type 0} (o : OrderLaws l) (q : BoundLaws l n stands) (c : SoundLaws l n stands) (flow : Flow) (shaped : AreShaped flow.bases.items) (padding : SeesPadding flow.model flow.bases.items) (naming : Naming) (row : List (Cell I)) (w : World) (temps : ℕ → Option Scalar) (entered : ℕ → Option ℕ) (s : StandsFor l n stands flow naming row (state_in w temps entered)) where
   first_of : (bytes : List Byte) (k : ℕ) (ct : Content) → slice_get (contents bytes) k ≡ Some ct → (y : Byte) × (slice_get bytes k ≡ Some y) × (y.content ≡ ct)
@@ -281,7 +273,47 @@ module _ {I : Type 0} {l : LatticeOf I} {n : IntegersOf I} {stands : I → ℤ �
       let access : Access = record { class = class; signed = k.signed; window = z.window } in
       let is_v : v ≡ integer (number_of k.signed (x.0 ∷ [])) (joined_labels (x.0 ∷ [])) = f.2 ∙ ap (λ a. integer (number_of k.signed a) (joined_labels a)) only in
       let found : scalar_in kind cs ≡ Some (integer (number_of k.signed (x.0 ∷ [])) (joined_labels (x.0 ∷ []))) = g.3 ∙ ap Some is_v in
-      let res = char_reaches o q flow shaped padding naming row (state_in w temps entered) s access char r.i r.offset z.from z.to r.alive (omega arith) t.base base.0 base.1 t.named x.0 y.0 rg.1 y.2
+      let low : x.0.number < 256 = subst (λ z. IsContentIn w.memory z y.0.tag) y.2 (s.sane.bytes r.i r.offset y.0 rg.1) in
+      let res = char_reaches o q flow shaped padding naming row (state_in w temps entered) s access char r.i r.offset z.from z.to r.alive (omega arith) t.base base.0 base.1 t.named y.0 rg.1 {P = λ b. StandsScalar stands naming w.memory b (integer (number_of k.signed (x.0 ∷ [])) (joined_labels (x.0 ∷ [])))}
+          (λ a b h. scalar_larger q naming w.memory a b (integer (number_of k.signed (x.0 ∷ [])) (joined_labels (x.0 ∷ []))) (value_below l a b h))
+          (λ vv d h. byte_stands o q flow.model naming w.memory vv d k.signed x.0 low (subst (StandsContent stands naming w.memory vv d) y.2 h))
+          (padding_stands o q flow.model naming w.memory k.signed x.0 low) (λ t vv h. h)
           (λ fits signed Place Owns vv cell place owns. scalar_stands c flow naming w.memory s.sane t.base class signed Place Owns vv cell r.i r.offset (record { named = t.named; alive = r.alive }) place owns cs (sees_one flow.model w.memory r.i r.offset class cs (number_in x.0) y.0 csl one ct rg.1 y.2 fits) kind (integer (number_of k.signed (x.0 ∷ [])) (joined_labels (x.0 ∷ []))) refl found) p.bases t.among in
       subst (λ a. Gives (λ b. StandsScalar stands naming w.memory b a) (table l n flow row p kind)) (sym is_v)
       (rw z.is (relabelled o q c flow shaped naming row w temps entered s class _ (λ a b. relabel_scalar o q c flow shaped naming row w temps entered s kind a (integer (number_of k.signed (x.0 ∷ [])) (joined_labels (x.0 ∷ []))) cs found b) res))
+
+  -- where the machine stops at an indeterminate character, the value says so: the window lies in no text up to its first zero
+  pub char_blank : (p : Pointers I) (at : MachinePointer) (kind : declared.Scalar) → same_class (class_in kind) Char ≡ true → StandsPointer stands naming w.memory p at → IsPointerIn w.memory at → load flow.model kind (pointer at) w ≡ stopped_by w rule.Uninitref → Gives (λ y. y.indeterminate ≡ true) (table l n flow row p kind)
+  unfolding abstract_load byte_at
+  char_blank p at kind e st inside h =
+      let class : Class = class_in kind in
+      let char : class ≡ Char = same_class_is class Char e in
+      let size : ℕ = class_bytes flow.model class in
+      let one : size ≡ 1 = class_size_char flow.model class char in
+      let g = load_blank flow.model kind at w h in
+      let r = g.1 in
+      let cs : List Content = g.0 in
+      let t = into_live o q c flow shaped naming row w temps entered s p r.i r.offset r.lo r.hi r.alive (subst (StandsPointer stands naming w.memory p) r.pointer st) in
+      let ins : IsWithin w.memory r.i r.offset r.lo r.hi = subst (IsPointerIn w.memory) r.pointer inside in
+      let d = ins.within in
+      let m = s.sane.small r.i in
+      let below = r.below in
+      let z = window_has q p size r.offset r.lo r.hi t.lower t.relative t.room r.above r.below (omega arith) in
+      let base = base_there flow.bases.items t.base (s.sane.few r.i t.base t.named) in
+      let bytes : List Byte = region (bytes_at w.memory r.i) r.offset size in
+      let len : length bytes ≡ size = region_length (bytes_at w.memory r.i) r.offset size (omega arith) in
+      let csl : length cs ≡ size = ap length r.here ∙ (length-map bytes (λ b. b.content) ∙ len) in
+      let hole = blank_at cs g.2 in
+      let in_cs = slice_get_within cs hole.0 indeterminate hole.1 in
+      let zeroth : hole.0 ≡ 0 = omega arith in
+      let ct : slice_get cs 0 ≡ Some indeterminate = subst (λ k. slice_get cs k ≡ Some indeterminate) zeroth hole.1 in
+      let y = first_of bytes 0 indeterminate (subst (λ a. slice_get a 0 ≡ Some indeterminate) r.here ct) in
+      let rg = region_at (bytes_at w.memory r.i) r.offset size 0 r.offset y.0 y.1 (omega arith) in
+      let access : Access = record { class = class; signed = signed_in kind; window = z.window } in
+      let res = char_reaches o q flow shaped padding naming row (state_in w temps entered) s access char r.i r.offset z.from z.to r.alive (omega arith) t.base base.0 base.1 t.named y.0 rg.1 {P = λ b. b.indeterminate ≡ true}
+          (λ a b k. (value_below l a b k).indeterminate)
+          (λ vv d k. byte_flag l n flow.model vv d (signed_in kind) (subst (StandsContent stands naming w.memory vv d) y.2 k))
+          refl
+          (λ text vv k. absurd (no_text q flow naming row (state_in w temps entered) s r.i r.offset t.base base.0 base.1 (record { named = t.named; alive = r.alive }) z.window z.from z.to y.0 rg.1 y.2 text))
+          (λ fits signed Place Owns vv cell place owns. read_flag n flow.model vv class signed (signed_in kind) (blank_stands c flow naming w.memory s.sane t.base class signed Place Owns vv cell r.i r.offset (record { named = t.named; alive = r.alive }) place owns cs (sees_one flow.model w.memory r.i r.offset class cs indeterminate y.0 csl one ct rg.1 y.2 fits) g.2)) p.bases t.among in
+      rw z.is (relabelled o q c flow shaped naming row w temps entered s class _ (λ a b. b) res)

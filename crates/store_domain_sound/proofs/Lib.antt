@@ -36,3 +36,5 @@ pub mod Freed
 pub mod Refills
 pub mod MemorySound
 pub mod TouchSound
+pub mod Texts
+pub mod TouchedRest

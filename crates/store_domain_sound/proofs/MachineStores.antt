@@ -84,7 +84,7 @@ filled_past (x ∷ xs) (y ∷ ys) (suc k) h = filled_past xs ys k (omega arith)
 -- ---- bytes replaced and refilled
 
 module _ {X : Type 0} where
-  take_at : (n : ℕ) (xs : List X) (k : ℕ) → k < n → slice_get (take n xs) k ≡ slice_get xs k
+  pub take_at : (n : ℕ) (xs : List X) (k : ℕ) → k < n → slice_get (take n xs) k ≡ slice_get xs k
   take_at zero xs k h = absurd (omega arith)
   take_at (suc n) [] k h = refl
   take_at (suc n) (x ∷ xs) zero h = refl

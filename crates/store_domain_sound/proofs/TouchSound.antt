@@ -64,7 +64,7 @@ literal_kind Literal h = refl
 literal_kind Newest h = cc
 literal_kind Older h = cc
 
-or_none : (a b : Bool) → a ≡ false → b ≡ false → (a || b) ≡ false
+pub or_none : (a b : Bool) → a ≡ false → b ≡ false → (a || b) ≡ false
 or_none a b e f = rw (e, f) refl
 
 module _ {I : Type 0} {l : LatticeOf I} {n : IntegersOf I} {stands : I → ℤ → Type 0} (o : OrderLaws l) (q : BoundLaws l n stands) where
@@ -77,10 +77,10 @@ module _ {I : Type 0} {l : LatticeOf I} {n : IntegersOf I} {stands : I → ℤ �
       let b = h.to in
       subst (λ y. stands y z) (sym (some_between o q p.0 p.1 (omega (arith, ints)))) (between_stands o q p.0 p.1 z (omega (arith, ints)) (omega (arith, ints)))
 
-  bounds_have : (x : I) (z : ℤ) → stands x z → RangeHas (n.bounds x) z
+  pub bounds_have : (x : I) (z : ℤ) → stands x z → RangeHas (n.bounds x) z
   bounds_have x z h = let r = q.inside x z h in record { low = r.0; high = r.1; is = r.2; from = r.3; to = r.4 }
 
-  bounded : (x : I) (z : ℤ) → stands x z → is_none (n.bounds x) ≡ false
+  pub bounded : (x : I) (z : ℤ) → stands x z → is_none (n.bounds x) ≡ false
   bounded x z h = let r = q.inside x z h in rw r.2 refl
 
   past_bounds : (x y : Range) (size : ℕ) (z room : ℤ) → RangeHas x z → RangeHas y room → ((room +ℤ pos 1) ≤ℤ (z +ℤ pos size)) → leaves_bounds_at (range_sum x (span_of 0 size)) y ≡ true
@@ -93,7 +93,7 @@ module _ {I : Type 0} {l : LatticeOf I} {n : IntegersOf I} {stands : I → ℤ �
       let d = k.from in
       or_right _ _ (lt_true r.0 (p.1 +ℤ pos (0 + size)) (omega (arith, ints)))
 
-  room_above : (p : Pointers I) (room : ℤ) → stands p.len room → room ≤ℤ length_above n p
+  pub room_above : (p : Pointers I) (room : ℤ) → stands p.len room → room ≤ℤ length_above n p
   room_above p room h = let r = q.inside p.len room h in let e = r.4 in rw r.2 e
 
 module _ {I : Type 0} {l : LatticeOf I} {n : IntegersOf I} {stands : I → ℤ → Type 0} (o : OrderLaws l) (q : BoundLaws l n stands) (flow : Flow) (shaped : AreShaped flow.bases.items) (naming : Naming) (row : List (Cell I)) (w : World) (temps : ℕ → Option Scalar) (entered : ℕ → Option ℕ) (s : StandsFor l n stands flow naming row (state_in w temps entered)) (p : Pointers I) (size : ℕ) (writes : Bool) where

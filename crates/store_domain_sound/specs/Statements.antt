@@ -47,6 +47,12 @@ module _ {I : Type 0} (l : LatticeOf I) (n : IntegersOf I) (stands : I → ℤ �
       → (p : Pointers I) (at : MachinePointer) (kind : declared.Scalar) (v : Scalar) → same_class (class_in kind) Char ≡ true → StandsPointer stands naming w.memory p at → IsPointerIn w.memory at → load flow.model kind (pointer at) w ≡ goes v u
       → Gives (λ x. StandsScalar stands naming w.memory x v) (loaded l n flow.model flow.bases.items row p (class_in kind) (signed_in kind))
 
+  -- where the machine stops at an indeterminate character, the value says so
+  abbrev pub BlankCharacterStands : Type 0
+  BlankCharacterStands = (flow : Flow) → AreShaped flow.bases.items → SeesPadding flow.model flow.bases.items → (naming : Naming) (row : List (Cell I)) (w : World) (temps : ℕ → Option Scalar) (entered : ℕ → Option ℕ) → StandsFor l n stands flow naming row (state_in w temps entered)
+      → (p : Pointers I) (at : MachinePointer) (kind : declared.Scalar) → same_class (class_in kind) Char ≡ true → StandsPointer stands naming w.memory p at → IsPointerIn w.memory at → load flow.model kind (pointer at) w ≡ stopped_by w rule.Uninitref
+      → Gives (λ x. x.indeterminate ≡ true) (loaded l n flow.model flow.bases.items row p (class_in kind) (signed_in kind))
+
   -- what is known of a pointer to a freed instance: one of its bases may be freed
   abbrev pub FreedShows : Type 0
   FreedShows = (flow : Flow) → AreShaped flow.bases.items → (naming : Naming) (row : List (Cell I)) (state : MachineState) → StandsFor l n stands flow naming row state

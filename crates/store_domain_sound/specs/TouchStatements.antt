@@ -13,8 +13,8 @@ use Rattle.abstract_steps_checks.specs.ViolationSets.{violates}
 use Rattle.lib_models_memory.specs.ScalarSizes.{class_bytes}
 use Rattle.lib_models_memory.specs.Bytes.{MachinePointer}
 use Rattle.lib_models_memory.specs.Scalars.{Scalar, pointer}
-use Rattle.lib_models_effects.specs.Worlds.{World, stopped_by}
-use Rattle.lib_models_effects.specs.Touches.{touched}
+use Rattle.lib_models_effects.specs.Worlds.{World, goes, stopped_by}
+use Rattle.lib_models_effects.specs.Touches.{Spot, touched}
 use Rattle.lib_models_effects.specs.Accesses.{class_in, load}
 use Rattle.store_domain_meaning.specs.ValueMeaning.{Naming, StandsPointer}
 use Rattle.store_domain_meaning.specs.SoundMemory.{IsPointerIn}
@@ -33,3 +33,8 @@ module _ {I : Type 0} (l : LatticeOf I) (n : IntegersOf I) (stands : I → ℤ �
   LoadAdmits = (flow : Flow) → AreShaped flow.bases.items → (naming : Naming) (row : List (Cell I)) (w : World) (temps : ℕ → Option Scalar) (entered : ℕ → Option ℕ) → StandsFor l n stands flow naming row (state_in w temps entered)
       → (p : Pointers I) (at : MachinePointer) (kind : declared.Scalar) (r : Rule) → StandsPointer stands naming w.memory p at → IsPointerIn w.memory at → load flow.model kind (pointer at) w ≡ stopped_by w r
       → (violates (touch l n flow.bases.items row p 0 (class_bytes flow.model (class_in kind)) false).violations r ≡ true) ⊎ (r ≡ Uninitref)
+
+  -- where a touch goes on, the pointers that go on stand for the machine's
+  abbrev pub TouchStands : Type 0
+  TouchStands = (flow : Flow) → AreShaped flow.bases.items → (naming : Naming) (row : List (Cell I)) (w u : World) (temps : ℕ → Option Scalar) (entered : ℕ → Option ℕ) → StandsFor l n stands flow naming row (state_in w temps entered)
+      → (p : Pointers I) (at : MachinePointer) (size : ℕ) (writes : Bool) (spot : Spot) → StandsPointer stands naming w.memory p at → IsPointerIn w.memory at → touched w at size writes ≡ goes spot u → StandsPointer stands naming w.memory (touch l n flow.bases.items row p 0 size writes).rest at

@@ -6,8 +6,8 @@ ghost use Rattle.c_layout.specs.declared.shapes.BaseInfo.{BaseInfo};
 ghost use Rattle.std.specs.Prelude.{List};
 ghost use Rattle.store_domain_sound.specs.MemoryStatements.{LoadKeeps, StoreKeeps};
 ghost use Rattle.store_domain_sound.specs.Shapes.{AreShaped};
-ghost use Rattle.store_domain_sound.specs.TouchStatements.{TouchAdmits, LoadAdmits};
-ghost use Rattle.store_domain_sound.specs.Statements.{LoadStands, BlankStands, CharacterStands, FreedShows, StoreStands};
+ghost use Rattle.store_domain_sound.specs.TouchStatements.{TouchAdmits, LoadAdmits, TouchStands};
+ghost use Rattle.store_domain_sound.specs.Statements.{LoadStands, BlankStands, CharacterStands, BlankCharacterStands, FreedShows, StoreStands};
 
 use cc_base::IntDomain;
 
@@ -25,9 +25,16 @@ pub fn loads_are_sound<I: IntDomain>()
     ensures blanks { SoundLaws I.lattice I.numbers I.stands → BlankStands I.lattice I.numbers I.stands }
 {}
 
-/// A load of a character gives a value that stands for what the machine loads.
+/// A load of a character gives a value that stands for what the machine loads, or says that it may be indeterminate where the
+/// machine stops at an indeterminate byte: no such byte lies before the first zero of an array.
 pub fn character_loads_are_sound<I: IntDomain>()
-    ensures { SoundLaws I.lattice I.numbers I.stands → CharacterStands I.lattice I.numbers I.stands }
+    ensures loads { SoundLaws I.lattice I.numbers I.stands → CharacterStands I.lattice I.numbers I.stands }
+    ensures blanks { SoundLaws I.lattice I.numbers I.stands → BlankCharacterStands I.lattice I.numbers I.stands }
+{}
+
+/// Where the machine goes on with bytes that a pointer points to, the pointers with which the analysis goes on stand for it.
+pub fn touches_are_sound<I: IntDomain>()
+    ensures { TouchStands I.lattice I.numbers I.stands }
 {}
 
 /// The rule at which the machine stops before it reads or writes bytes is among those that the analysis admits there. A load
