@@ -1,13 +1,11 @@
 -- What a cell gives for what the machine reads at one of its places.
-use Rattle.std.proofs.Common.{◌≡◌, ℕ, zero, suc, ◌+◌, ◌<◌, ◌≤◌, Bool, true, false, cond, ◌||◌, Option, Some, None, List, [], ◌∷◌, length, arith, subst, sym, refl, ap, ◌∙◌, inl, inr}
+use Rattle.std.proofs.Common.{◌≡◌, ℕ, zero, suc, ◌+◌, ◌<◌, Bool, true, false, cond, Option, Some, None, List, [], ◌∷◌, length, arith, subst, sym, refl, ap, ◌∙◌, inl, inr}
 use Rattle.std.specs.Prelude.{slice_get, ℤ}
 use Rattle.std.proofs.lemmas.Bool.{cases_Bool}
-use Rattle.cc_base.specs.Lattices.{LatticeOf, OrderLaws}
-use Rattle.cc_base.specs.IntegerDomains.{IntegersOf, BoundLaws}
+use Rattle.cc_base.specs.Lattices.{LatticeOf}
+use Rattle.cc_base.specs.IntegerDomains.{IntegersOf}
 use Rattle.c_layout.specs.declared.data_model.Model.{Model}
-use Rattle.c_layout.specs.Leaves.{class_of}
 use Rattle.c_layout.specs.declared.leaf_lists.Class.{Class}
-use Rattle.c_layout.specs.declared.leaf_lists.Class.TheVariants.{Pointer}
 use Rattle.flow_program.specs.declared.machine_instructions.Scalar.TheVariants as of
 use Rattle.flow_program.specs.declared.machine_instructions.Scalar as declared
 use Rattle.flow_program.specs.declared.programs.Flow.{Flow}
@@ -20,15 +18,15 @@ use Rattle.store_domain.specs.CellReads.{as_read, same_sign}
 use Rattle.lib_models_memory.specs.ScalarSizes.{class_bytes}
 use Rattle.store_domain.specs.ScalarTypes.{kind_of}
 use Rattle.store_domain.specs.ClassNumbers.{is_pointer}
-use Rattle.lib_models_memory.specs.Bytes.{MachinePointer, null, Content, indeterminate, number, part, Byte}
-use Rattle.lib_models_memory.specs.Instances.{Memory, byte_at, bytes_at}
+use Rattle.lib_models_memory.specs.Bytes.{MachinePointer, null, Content, indeterminate, number, part}
+use Rattle.lib_models_memory.specs.Instances.{Memory, bytes_at}
 use Rattle.lib_models_memory.specs.Numbers.{Labelled, number_of}
 use Rattle.store_domain_meaning.specs.Matching.{Matched, number_in, Holds}
 use Rattle.lib_models_memory.specs.Scalars.{Scalar, integer, pointer}
 use Rattle.store_domain_meaning.specs.ValueMeaning.{Naming, StandsScalar, StandsPointer, StandsContent}
 use Rattle.store_domain_meaning.specs.SoundMemory.{IsMemoryOf}
 use Rattle.store_domain_meaning.specs.RowMeaning.{IsLiveOf, StandsCell}
-use Rattle.lib_models_effects.specs.Accesses.{class_in, has_blank, numbers_in, joined_labels, pointer_in, pointer_by, pointer_of_parts, are_parts, are_zeros, is_zero, scalar_in, integer_in, pointer_scalar}
+use Rattle.lib_models_effects.specs.Accesses.{class_in, has_blank, numbers_in, joined_labels, pointer_in, pointer_by, are_parts, are_zeros, scalar_in, integer_in, pointer_scalar}
 use Rattle.store_domain_sound.specs.Scalars.{signed_in}
 use Rattle.cc_base.specs.IntegerLaws.{SoundLaws}
 use Rattle.store_domain_sound.proofs.Classes.{integer_class, class_size, class_above}

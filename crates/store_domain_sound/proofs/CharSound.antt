@@ -1,11 +1,11 @@
 -- A load of a character is stood for.
-use Rattle.std.proofs.Common.{◌≡◌, ℕ, zero, suc, ◌+◌, ◌<◌, ◌≤◌, Bool, true, false, cond, not, ◌&&◌, ◌||◌, Option, Some, None, List, [], ◌∷◌, ◌++◌, length, arith, subst, sym, refl, ap, ◌∙◌, inl, inr, ◌⊎◌, ◌-◌}
-use Rattle.std.specs.Prelude.{slice_get, ℤ, pos, ◌-ℤ◌, nat_lt, ◌==◌, count_by, negsuc, ◌≤ℤ◌, int_le, ◌^◌, ◌*◌}
-use Rattle.std.proofs.lemmas.Bool.{cases_Bool, and_from, and_parts, eqb-true, eq-eqb, or_right, lt-ltb, or_cases, cases_lt, true≢false, le-leb, ltb-true, ltb-false}
+use Rattle.std.proofs.Common.{◌≡◌, ℕ, zero, suc, ◌+◌, ◌<◌, ◌≤◌, Bool, true, false, ◌&&◌, Option, Some, None, List, [], ◌∷◌, length, arith, subst, sym, refl, ap, ◌∙◌, inl, inr, ◌⊎◌, ◌-◌}
+use Rattle.std.specs.Prelude.{slice_get, ℤ, count_by}
+use Rattle.std.proofs.lemmas.Bool.{cases_Bool, and_from, eq-eqb, or_right, lt-ltb, cases_lt}
 use Rattle.std.proofs.lemmas.Option.{slice_get_within, same_Some}
-use Rattle.std.proofs.lemmas.List.{length-append, length-map, length-drop}
+use Rattle.std.proofs.lemmas.List.{length-map}
 use Rattle.cc_base.specs.Lattices.{LatticeOf, OrderLaws}
-use Rattle.cc_base.specs.IntegerDomains.{IntegersOf, BoundLaws, between_or_least}
+use Rattle.cc_base.specs.IntegerDomains.{IntegersOf, BoundLaws}
 use Rattle.cc_base.specs.declared.diagnostics.Rule.TheVariants as rule
 use Rattle.c_layout.specs.declared.data_model.Model.{Model}
 use Rattle.c_layout.specs.declared.leaf_lists.Class.{Class}
@@ -17,69 +17,53 @@ use Rattle.flow_program.specs.declared.machine_instructions.Scalar as declared
 use Rattle.flow_program.specs.declared.programs.Flow.{Flow}
 use Rattle.pointer_domain.specs.BaseSets.{bases_has}
 use Rattle.pointer_domain.specs.declared.pointer_sets.Pointers.{Pointers}
-use Rattle.value_domain.specs.LabelSets.{labels_leq, no_labels, labels_order, labels_join, all_labels}
+use Rattle.value_domain.specs.LabelSets.{all_labels}
 use Rattle.value_domain.specs.Values.{value_lattice}
 use Rattle.value_domain.specs.declared.values.Value.{Value}
 use Rattle.value_domain.specs.declared.row_cells.Cell.{Cell}
-use Rattle.store_domain.specs.declared.access_windows.Window.{Window}
 use Rattle.store_domain.specs.declared.cell_reads.Access.{Access}
-use Rattle.store_domain.specs.AccessWindows.{window_of, window_between, last_offset}
-use Rattle.store_domain.specs.CellReads.{as_read, same_sign, joined, whole_range, byte_read, only_flag}
-use Rattle.store_domain.specs.ClassNumbers.{same_class, class_number, class_at, is_pointer}
+use Rattle.store_domain.specs.CellReads.{as_read, whole_range, byte_read}
+use Rattle.store_domain.specs.ClassNumbers.{same_class, class_number, class_at}
 use Rattle.lib_models_memory.specs.ScalarSizes.{class_bytes}
 use Rattle.store_domain.specs.RowPositions.{leaf_position, class_position, value_at, state_at, state_position}
-use Rattle.store_domain.specs.LiveBases.{is_live_in, has_base, may_be_live}
-use Rattle.store_domain.specs.Loads.{load as abstract_load, load_bases, load_within, load_own, loaded, labels_of, read_other_leaf, load_other_leaves, read_class_cell, load_other_class_cells, load_padding, load_other_bytes, load_others, load_base, determinate_if, is_text}
-use Rattle.store_domain.specs.Loads as loads
-use Rattle.lib_models_memory.specs.Bytes.{MachinePointer, null, into, Content, Tag, Byte, number, indeterminate}
-use Rattle.lib_models_memory.specs.Instances.{Memory, Life, live, ended, freed, Instance, bytes_at, byte_at, life_at, bytes_of, life_of}
+use Rattle.store_domain.specs.LiveBases.{may_be_live}
+use Rattle.store_domain.specs.Loads.{load as abstract_load, load_bases, load_own, load_others, is_text}
+use Rattle.lib_models_memory.specs.Bytes.{MachinePointer, Content, Tag, Byte, indeterminate}
+use Rattle.lib_models_memory.specs.Instances.{Memory, live, bytes_at, byte_at, life_at, bytes_of}
 use Rattle.store_domain_meaning.specs.Matching.{Matched, Fits, number_in}
-use Rattle.lib_models_memory.specs.Tags.{fits_tag, fit_from, tag_of, tag_at, is_tag}
+use Rattle.lib_models_memory.specs.Tags.{fits_tag, fit_from, tag_at}
 use Rattle.store_domain_meaning.specs.Places.{IsPlaceOf, IsLeafPlace, OwnedByLeaf, OwnedByClass, IsClassPlace}
-use Rattle.store_domain_meaning.specs.SoundMemory.{IsContentIn, IsMemoryOf, IsPointerIn, IsWithin, IsInstanceOf, storage_for}
+use Rattle.store_domain_meaning.specs.SoundMemory.{IsContentIn, IsPointerIn, IsWithin}
 use Rattle.lib_models_memory.specs.Scalars.{Scalar, integer, pointer}
-use Rattle.store_domain_meaning.specs.ValueMeaning.{Naming, StandsInto, StandsByLife, StandsPointer, StandsScalar, StandsState, StandsContent}
-use Rattle.store_domain_meaning.specs.RowMeaning.{MachineState, IsLiveOf, StandsCell, StandsLeaf, StandsClass, StandsFor}
-use Rattle.lib_models_effects.specs.Worlds.{World, Reply, goes, stops, behind, violating, noted, stopped_by}
+use Rattle.store_domain_meaning.specs.ValueMeaning.{Naming, StandsPointer, StandsScalar, StandsState, StandsContent}
+use Rattle.store_domain_meaning.specs.RowMeaning.{MachineState, StandsCell, StandsClass, StandsFor}
+use Rattle.lib_models_effects.specs.Worlds.{World, goes, stopped_by}
 use Rattle.lib_models_effects.specs.ScalarBytes.{region, contents}
-use Rattle.lib_models_effects.specs.Touches.{Spot, touched, is_allocated, storage_at, storage_of}
-use Rattle.lib_models_effects.specs.Accesses.{class_in, is_seen_as, bytes_seen, has_blank, pointer_in, scalar_in, given, read_blank, read_contents, load_at, load, points_into_freed, numbers_in, joined_labels, integer_in}
+use Rattle.lib_models_effects.specs.Touches.{is_allocated, storage_at}
+use Rattle.lib_models_effects.specs.Accesses.{class_in, scalar_in, load, numbers_in, joined_labels}
 use Rattle.store_domain_sound.proofs.Texts.{no_text, byte_flag, read_flag}
 use Rattle.store_domain_sound.specs.Gives.{Gives}
 use Rattle.store_domain_sound.specs.Statements.{state_in}
 use Rattle.store_domain_sound.specs.Scalars.{signed_in}
 use Rattle.cc_base.specs.IntegerLaws.{SoundLaws}
-use Rattle.store_domain_sound.specs.Shapes.{IsShaped, AreShaped, at_offset, SeesPadding}
+use Rattle.store_domain_sound.specs.Shapes.{AreShaped, at_offset, SeesPadding}
 use Rattle.store_domain_sound.proofs.Larger.{value_below, scalar_larger}
-use Rattle.store_domain_sound.proofs.Windows.{WindowHas, window_has}
-use Rattle.store_domain_sound.proofs.Classes.{class_small, class_number_back, class_above, same_class_is, integer_class, is_same_class}
-use Rattle.store_domain_sound.proofs.Selected.{counted_place, uncounted_place, place_selected}
+use Rattle.store_domain_sound.proofs.Windows.{window_has}
+use Rattle.store_domain_sound.proofs.Classes.{class_number_back, class_above, same_class_is, is_same_class}
+use Rattle.store_domain_sound.proofs.Selected.{counted_place, uncounted_place}
 use Rattle.store_domain_sound.proofs.Slices.{get_there, get_map}
-use Rattle.store_domain_sound.proofs.Reading.{behind_goes, IsTouched, touched_goes, fit_at, region_at, region_length, seen_matched, numbers_at, numbers_length, blank_at}
-use Rattle.store_domain_sound.proofs.MachineLoads.{HasRead, load_goes, load_blank}
-use Rattle.store_domain_sound.proofs.CellReads.{scalar_pointer_is, Sees, blank_stands, scalar_stands, integer_is}
-use Rattle.store_domain_sound.proofs.TagPlaces.{tag_place, is_tagged, IsTagged}
-use Rattle.store_domain_sound.proofs.Reached.{leaves_give, class_gives, own_gives, base_gives, bases_give}
-
+use Rattle.store_domain_sound.proofs.Reading.{region_at, region_length, numbers_at, numbers_length, blank_at}
+use Rattle.store_domain_sound.proofs.MachineLoads.{load_goes, load_blank}
+use Rattle.store_domain_sound.proofs.CellReads.{Sees, blank_stands, scalar_stands, integer_is}
+use Rattle.store_domain_sound.proofs.TagPlaces.{is_tagged}
+use Rattle.store_domain_sound.proofs.Reached.{own_gives, bases_give}
 -- ---- the instance at hand
 
-use Rattle.cc_base.specs.LatticeParts.{flag_leq}
-use Rattle.std.proofs.lemmas.Int.{ints}
-use Rattle.cc_base.specs.IntegerTypes.{least_of, greatest_of}
-use Rattle.value_domain.specs.declared.label_sets.Labels.{Labels}
 use Rattle.c_layout.specs.Leaves.{class_of}
-use Rattle.pointer_domain.specs.PointerLattice.{no_pointer}
 use Rattle.pointer_domain.specs.declared.base_sets.Bases.{Bases}
 use Rattle.store_domain.specs.ScalarTypes.{kind_of}
-use Rattle.store_domain.specs.LeafSelection.{has_place_in, is_overlapped, is_other, meets_padding}
-use Rattle.lib_models_memory.specs.Numbers.{Labelled, number_of}
-use Rattle.store_domain_sound.proofs.Walks.{walk_meets, turns_meet}
-use Rattle.store_domain_sound.proofs.Found.{given_left, given_by_right, if_keeps, if_gives}
-use Rattle.store_domain_sound.proofs.StoreZeros.{between_stands, some_between}
-use Rattle.store_domain_sound.proofs.LoadSound.{IsRead, live_if, instance_there, base_there, at_leaf, on_heap, may_live, into_live, relabelled, relabel_scalar, table}
-
-use Rattle.std.proofs.lemmas.Nat.{pow_pos}
-
+use Rattle.lib_models_memory.specs.Numbers.{number_of}
+use Rattle.store_domain_sound.proofs.LoadSound.{IsRead, live_if, instance_there, base_there, at_leaf, on_heap, into_live, relabelled, relabel_scalar, table}
 use Rattle.store_domain_sound.proofs.CharCells.{others_give, class_cells_give, by_leaves, by_classes, by_padding, char_base}
 use Rattle.store_domain_sound.proofs.CharValues.{byte_stands, padding_stands}
 
@@ -127,7 +111,7 @@ module _ {I : Type 0} {l : LatticeOf I} {n : IntegersOf I} {stands : I → ℤ �
   other_leaf : (j k : ℕ) (leaf : Leaf) → slice_get base.shape.cells j ≡ Some leaf → OwnedByLeaf flow.model leaf offset k → same_class leaf.class Char ≡ false → Fits leaf.class k byte.tag → Gives P (load_others l n flow.model base row access)
   other_leaf j k leaf e w d f = by_leaves o n up flow.model row access offset from to base
       (others_give o n up flow.model row access offset from to base j leaf k e ((shaped.each b base at).strides j leaf e) w d
-        (cell_gives leaf.class k leaf.signed (λ size z. IsPlaceOf leaf z) (OwnedByLeaf flow.model leaf) (value_at l n row (leaf_position base j)) (s.leaves b j base leaf at e) w f))
+      (cell_gives leaf.class k leaf.signed (λ size z. IsPlaceOf leaf z) (OwnedByLeaf flow.model leaf) (value_at l n row (leaf_position base j)) (s.leaves b j base leaf at e) w f))
 
   -- the class cell of another class
   other_class : (d : Class) (k : ℕ) → base.shape.heap ≡ true → OwnedByClass flow.model base.shape.cells d offset k → same_class d Char ≡ false → Fits d k byte.tag → Gives P (load_others l n flow.model base row access)
@@ -138,8 +122,8 @@ module _ {I : Type 0} {l : LatticeOf I} {n : IntegersOf I} {stands : I → ℤ �
       let cell : StandsClass stands flow naming state.memory b base (class_at (m.0 + 1)) (value_at l n row (class_position base (m.0 + 1))) = s.classes b (m.0 + 1) base at heap (omega arith) in
       by_classes o n up flow.model row access offset from to base heap
       (class_cells_give o n up flow.model row access offset from to base m.0 m.1
-        (cell_gives (class_at (m.0 + 1)) k true (IsClassPlace flow.model base.shape.cells (class_at (m.0 + 1))) (OwnedByClass flow.model base.shape.cells (class_at (m.0 + 1))) (value_at l n row (class_position base (m.0 + 1))) cell
-          (subst (λ z. OwnedByClass flow.model base.shape.cells z offset k) (sym h) w) (subst (λ z. Fits z k byte.tag) (sym h) f)))
+      (cell_gives (class_at (m.0 + 1)) k true (IsClassPlace flow.model base.shape.cells (class_at (m.0 + 1))) (OwnedByClass flow.model base.shape.cells (class_at (m.0 + 1))) (value_at l n row (class_position base (m.0 + 1))) cell
+      (subst (λ z. OwnedByClass flow.model base.shape.cells z offset k) (sym h) w) (subst (λ z. Fits z k byte.tag) (sym h) f)))
 
   at_start : (count : ℕ) (d : Class) (k : ℕ) → count_by (at_offset d (offset - k)) base.shape.cells ≡ count → base.shape.heap ≡ true → k < class_bytes flow.model d → same_class d Char ≡ false → Fits d k byte.tag → k ≤ offset → Gives P (load_others l n flow.model base row access)
   at_start zero d k h heap sm e f g = other_class d k heap (record { small = sm; no_leaf = λ start w p. uncounted_place base.shape.cells d (offset - k) ((shaped.each b base at).single heap) h (let y : start ≡ offset - k = omega arith in subst (IsLeafPlace base.shape.cells d) y p) }) e f
@@ -231,8 +215,8 @@ module _ {I : Type 0} {l : LatticeOf I} {n : IntegersOf I} {stands : I → ℤ �
         let f = shaped.few in
         let w = slice_get_within flow.bases.items b base at in
         let live_base : may_be_live l n base row ≡ true = live_if base.shape.heap _ (λ e.
-            let y = s.states b i base at e named in
-            (subst (λ z. StandsState stands naming state.memory (state_at l n row (state_position base)) z (length (bytes_at state.memory i))) alive y).1) in
+        let y = s.states b i base at e named in
+        (subst (λ z. StandsState stands naming state.memory (state_at l n row (state_position base)) z (length (bytes_at state.memory i))) alive y).1) in
         bases_give o n up flow.model row access offset from to flow.bases.items set b base at
         (and_from _ _ (and_from _ _ (lt-ltb _ _ (omega arith)) has) live_base)
         (char_base o n up flow.model row access offset from to base is_char text (in_base base.shape.heap refl))
@@ -275,10 +259,10 @@ module _ {I : Type 0} {l : LatticeOf I} {n : IntegersOf I} {stands : I → ℤ �
       let found : scalar_in kind cs ≡ Some (integer (number_of k.signed (x.0 ∷ [])) (joined_labels (x.0 ∷ []))) = g.3 ∙ ap Some is_v in
       let low : x.0.number < 256 = subst (λ z. IsContentIn w.memory z y.0.tag) y.2 (s.sane.bytes r.i r.offset y.0 rg.1) in
       let res = char_reaches o q flow shaped padding naming row (state_in w temps entered) s access char r.i r.offset z.from z.to r.alive (omega arith) t.base base.0 base.1 t.named y.0 rg.1 {P = λ b. StandsScalar stands naming w.memory b (integer (number_of k.signed (x.0 ∷ [])) (joined_labels (x.0 ∷ [])))}
-          (λ a b h. scalar_larger q naming w.memory a b (integer (number_of k.signed (x.0 ∷ [])) (joined_labels (x.0 ∷ []))) (value_below l a b h))
-          (λ vv d h. byte_stands o q flow.model naming w.memory vv d k.signed x.0 low (subst (StandsContent stands naming w.memory vv d) y.2 h))
-          (padding_stands o q flow.model naming w.memory k.signed x.0 low) (λ t vv h. h)
-          (λ fits signed Place Owns vv cell place owns. scalar_stands c flow naming w.memory s.sane t.base class signed Place Owns vv cell r.i r.offset (record { named = t.named; alive = r.alive }) place owns cs (sees_one flow.model w.memory r.i r.offset class cs (number_in x.0) y.0 csl one ct rg.1 y.2 fits) kind (integer (number_of k.signed (x.0 ∷ [])) (joined_labels (x.0 ∷ []))) refl found) p.bases t.among in
+      (λ a b h. scalar_larger q naming w.memory a b (integer (number_of k.signed (x.0 ∷ [])) (joined_labels (x.0 ∷ []))) (value_below l a b h))
+      (λ vv d h. byte_stands o q flow.model naming w.memory vv d k.signed x.0 low (subst (StandsContent stands naming w.memory vv d) y.2 h))
+      (padding_stands o q flow.model naming w.memory k.signed x.0 low) (λ t vv h. h)
+      (λ fits signed Place Owns vv cell place owns. scalar_stands c flow naming w.memory s.sane t.base class signed Place Owns vv cell r.i r.offset (record { named = t.named; alive = r.alive }) place owns cs (sees_one flow.model w.memory r.i r.offset class cs (number_in x.0) y.0 csl one ct rg.1 y.2 fits) kind (integer (number_of k.signed (x.0 ∷ [])) (joined_labels (x.0 ∷ []))) refl found) p.bases t.among in
       subst (λ a. Gives (λ b. StandsScalar stands naming w.memory b a) (table l n flow row p kind)) (sym is_v)
       (rw z.is (relabelled o q c flow shaped naming row w temps entered s class _ (λ a b. relabel_scalar o q c flow shaped naming row w temps entered s kind a (integer (number_of k.signed (x.0 ∷ [])) (joined_labels (x.0 ∷ []))) cs found b) res))
 
@@ -311,9 +295,9 @@ module _ {I : Type 0} {l : LatticeOf I} {n : IntegersOf I} {stands : I → ℤ �
       let rg = region_at (bytes_at w.memory r.i) r.offset size 0 r.offset y.0 y.1 (omega arith) in
       let access : Access = record { class = class; signed = signed_in kind; window = z.window } in
       let res = char_reaches o q flow shaped padding naming row (state_in w temps entered) s access char r.i r.offset z.from z.to r.alive (omega arith) t.base base.0 base.1 t.named y.0 rg.1 {P = λ b. b.indeterminate ≡ true}
-          (λ a b k. (value_below l a b k).indeterminate)
-          (λ vv d k. byte_flag l n flow.model vv d (signed_in kind) (subst (StandsContent stands naming w.memory vv d) y.2 k))
-          refl
-          (λ text vv k. absurd (no_text q flow naming row (state_in w temps entered) s r.i r.offset t.base base.0 base.1 (record { named = t.named; alive = r.alive }) z.window z.from z.to y.0 rg.1 y.2 text))
-          (λ fits signed Place Owns vv cell place owns. read_flag n flow.model vv class signed (signed_in kind) (blank_stands c flow naming w.memory s.sane t.base class signed Place Owns vv cell r.i r.offset (record { named = t.named; alive = r.alive }) place owns cs (sees_one flow.model w.memory r.i r.offset class cs indeterminate y.0 csl one ct rg.1 y.2 fits) g.2)) p.bases t.among in
+      (λ a b k. (value_below l a b k).indeterminate)
+      (λ vv d k. byte_flag l n flow.model vv d (signed_in kind) (subst (StandsContent stands naming w.memory vv d) y.2 k))
+      refl
+      (λ text vv k. absurd (no_text q flow naming row (state_in w temps entered) s r.i r.offset t.base base.0 base.1 (record { named = t.named; alive = r.alive }) z.window z.from z.to y.0 rg.1 y.2 text))
+      (λ fits signed Place Owns vv cell place owns. read_flag n flow.model vv class signed (signed_in kind) (blank_stands c flow naming w.memory s.sane t.base class signed Place Owns vv cell r.i r.offset (record { named = t.named; alive = r.alive }) place owns cs (sees_one flow.model w.memory r.i r.offset class cs indeterminate y.0 csl one ct rg.1 y.2 fits) g.2)) p.bases t.among in
       rw z.is (relabelled o q c flow shaped naming row w temps entered s class _ (λ a b. b) res)

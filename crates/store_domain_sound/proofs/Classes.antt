@@ -1,19 +1,15 @@
 -- Classes by their numbers, and counts of leaves.
-use Rattle.std.proofs.Common.{◌≡◌, ℕ, zero, suc, ◌+◌, ◌-◌, ◌*◌, ◌/◌, ◌<◌, ◌≤◌, Bool, true, false, cond, ◌&&◌, ◌||◌, ◌⊎◌, Option, Some, None, List, [], ◌∷◌, length, arith, subst, sym, refl, inl, inr, ap, ◌∙◌}
-use Rattle.std.specs.Prelude.{slice_get, nat_le, nat_lt, ◌==◌, count_by, not}
-use Rattle.std.proofs.Math.Nat.{div-lt_iff_lt-mul, le-div_iff_mul-le}
-use Rattle.std.proofs.lemmas.Bool.{cases_Bool, and_parts, and_from, eqb-true, eq-eqb, le-leb, leb-true, ltb-true, lt-ltb, cases_eq, cases_lt}
+use Rattle.std.proofs.Common.{◌≡◌, ℕ, zero, suc, ◌+◌, ◌<◌, ◌≤◌, Bool, true, false, cond, ◌||◌, Some, List, [], ◌∷◌, arith, subst, sym, refl, inl, inr, ap, ◌∙◌}
+use Rattle.std.specs.Prelude.{slice_get, ◌==◌, count_by}
+use Rattle.std.proofs.lemmas.Bool.{cases_Bool, eqb-true, eq-eqb}
 use Rattle.std.proofs.lemmas.List.Sums.{sum_by-cons}
-use Rattle.std.proofs.lemmas.Bool.Decides.{nat_tests}
 use Rattle.cc_base.specs.IntegerTypes.{is_size}
 use Rattle.cc_base.specs.declared.int_types.IntType.{IntType}
 use Rattle.c_layout.specs.declared.data_model.Model.{Model}
 use Rattle.c_layout.specs.Leaves.{class_of}
 use Rattle.c_layout.specs.declared.leaf_lists.Class.{Class}
 use Rattle.c_layout.specs.declared.leaf_lists.Class.TheVariants.{Char, Short, Int, Long, LongLong, Pointer}
-use Rattle.c_layout.specs.declared.leaf_lists.Leaf.{Leaf}
 use Rattle.lib_models_memory.specs.ScalarSizes.{class_bytes}
-use Rattle.store_domain.specs.ScalarTypes.{int_bytes, long_bytes, pointer_bytes}
 use Rattle.store_domain.specs.ClassNumbers.{class_number, class_at, same_class, is_pointer}
 
 number_back : (c : Class) → class_at (class_number c) ≡ c

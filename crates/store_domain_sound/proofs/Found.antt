@@ -1,5 +1,5 @@
 -- What joins of found values give.
-use Rattle.std.proofs.Common.{◌≡◌, Bool, true, false, cond, Option, Some, None, arith, subst, refl, sym}
+use Rattle.std.proofs.Common.{◌≡◌, Bool, true, false, Option, Some, None, subst, refl}
 use Rattle.cc_base.specs.Lattices.{LatticeOf, OrderLaws}
 use Rattle.value_domain.specs.Values.{value_lattice, value_order}
 use Rattle.value_domain.specs.declared.values.Value.{Value}

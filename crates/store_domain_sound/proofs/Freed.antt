@@ -1,26 +1,24 @@
 -- A pointer into a freed instance has a base that may be freed.
-use Rattle.std.proofs.Common.{◌≡◌, ℕ, ◌+◌, ◌<◌, ◌≤◌, Bool, true, false, cond, not, ◌&&◌, ◌||◌, Option, Some, None, List, length, arith, subst, sym, refl, ap, ◌∙◌}
-use Rattle.std.specs.Prelude.{slice_get, ℤ, nat_lt}
+use Rattle.std.proofs.Common.{◌≡◌, ℕ, Bool, true, false, ◌||◌, Option, Some, None, List, length, arith, subst, sym, refl, ap, ◌∙◌}
+use Rattle.std.specs.Prelude.{slice_get, ℤ}
 use Rattle.std.proofs.lemmas.Bool.{and_from, or_left, or_right, lt-ltb}
 use Rattle.std.proofs.lemmas.Option.{slice_get_within}
 use Rattle.cc_base.specs.Lattices.{LatticeOf}
 use Rattle.cc_base.specs.IntegerDomains.{IntegersOf}
 use Rattle.c_layout.specs.declared.shapes.BaseInfo.{BaseInfo}
 use Rattle.flow_program.specs.declared.programs.Flow.{Flow}
-use Rattle.pointer_domain.specs.declared.base_sets.Bases.{Bases}
 use Rattle.pointer_domain.specs.declared.pointer_sets.Pointers.{Pointers}
-use Rattle.pointer_domain.specs.BaseSets.{bases_has}
 use Rattle.value_domain.specs.declared.values.Value.{Value}
 use Rattle.value_domain.specs.declared.row_cells.Cell.{Cell}
 use Rattle.store_domain.specs.RowPositions.{state_at, state_position}
-use Rattle.store_domain.specs.LiveBases.{has_base, most_bases, may_be_freed, is_freed_or, any_freed}
-use Rattle.lib_models_memory.specs.Bytes.{MachinePointer, null, into}
-use Rattle.lib_models_memory.specs.Instances.{Memory, Life, live, ended, freed, Instance, allocated, bytes_at, life_at, life_of}
+use Rattle.store_domain.specs.LiveBases.{may_be_freed, is_freed_or, any_freed}
+use Rattle.lib_models_memory.specs.Bytes.{null, into}
+use Rattle.lib_models_memory.specs.Instances.{Life, live, ended, freed, Instance, allocated, bytes_at, life_at, life_of}
 use Rattle.lib_models_memory.specs.Scalars.{Scalar, integer, pointer}
 use Rattle.lib_models_effects.specs.Touches.{is_allocated}
 use Rattle.lib_models_effects.specs.Accesses.{is_freed_life, points_into_freed}
-use Rattle.store_domain_meaning.specs.ValueMeaning.{Naming, StandsInto, StandsByLife, StandsPointer, StandsScalar, StandsState}
-use Rattle.store_domain_meaning.specs.SoundMemory.{storage_for, IsInstanceOf}
+use Rattle.store_domain_meaning.specs.ValueMeaning.{Naming, StandsInto, StandsByLife, StandsScalar, StandsState}
+use Rattle.store_domain_meaning.specs.SoundMemory.{IsInstanceOf}
 use Rattle.store_domain_meaning.specs.RowMeaning.{MachineState, StandsFor}
 use Rattle.store_domain_sound.specs.Shapes.{AreShaped}
 use Rattle.store_domain_sound.proofs.Walks.{walk_meets}

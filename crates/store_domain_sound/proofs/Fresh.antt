@@ -1,19 +1,18 @@
 -- What the bytes of a stored scalar are, and what its value stands for.
-use Rattle.std.proofs.Common.{◌≡◌, ℕ, zero, suc, ◌+◌, ◌-◌, ◌*◌, ◌/◌, ◌%◌, ◌^◌, ◌<◌, ◌≤◌, Bool, true, false, cond, ◌&&◌, ◌||◌, Option, Some, None, List, [], ◌∷◌, length, arith, subst, sym, refl, ap, ◌∙◌, inl, inr, ◌⊎◌}
-use Rattle.std.specs.Prelude.{slice_get, ℤ, pos, negsuc, ◌+ℤ◌, ◌-ℤ◌, ◌≤ℤ◌, unsigned_abs, nat_lt, int_le}
+use Rattle.std.proofs.Common.{◌≡◌, ℕ, zero, suc, ◌+◌, ◌-◌, ◌*◌, ◌/◌, ◌%◌, ◌^◌, ◌<◌, Bool, true, false, Some, List, [], ◌∷◌, length, arith, subst, sym, refl, ap, ◌∙◌, inl, inr}
+use Rattle.std.specs.Prelude.{slice_get, ℤ, pos, negsuc, ◌+ℤ◌, ◌-ℤ◌, unsigned_abs}
 use Rattle.std.specs.Int.{int_rem_euclid}
 use Rattle.std.proofs.lemmas.Int.{ints, int_rem_euclid_is}
 use Rattle.std.proofs.lemmas.Nat.{pow-add, pow_pos}
 use Rattle.std.proofs.Math.Nat.{mod-lt, add-mul-mod_self_right}
-use Rattle.std.proofs.lemmas.Bool.{cases_Bool, and_parts}
+use Rattle.std.proofs.lemmas.Bool.{cases_Bool}
 use Rattle.cc_base.specs.declared.int_types.IntType.{IntType}
-use Rattle.cc_base.specs.IntegerTypes.{is_size, least_of, modulus, wrap_into}
+use Rattle.cc_base.specs.IntegerTypes.{least_of, modulus, wrap_into}
 use Rattle.lib_models_memory.specs.Labels.{Labels}
-use Rattle.lib_models_memory.specs.Bytes.{MachinePointer, null, into, Content, indeterminate, number, part}
-use Rattle.lib_models_memory.specs.Numbers.{Labelled, unsigned_of, signed_of, number_of}
+use Rattle.lib_models_memory.specs.Bytes.{MachinePointer, Content, number, part}
+use Rattle.lib_models_memory.specs.Numbers.{Labelled, unsigned_of, number_of}
 use Rattle.store_domain_meaning.specs.Matching.{number_in}
-use Rattle.lib_models_memory.specs.Scalars.{Scalar, integer, pointer}
-use Rattle.lib_models_effects.specs.ScalarBytes.{number_bytes, parts_from, pointer_bytes, bits_in, scalar_bytes}
+use Rattle.lib_models_effects.specs.ScalarBytes.{number_bytes, parts_from, bits_in}
 use Rattle.store_domain_sound.proofs.Rereading.{IsSame, wrapped_signed, wrapped_unsigned, halves}
 
 pub number_content : (size n : ℕ) (labels : Labels) (k : ℕ) (c : Content) → slice_get (number_bytes size n labels) k ≡ Some c → (d : ℕ) × (c ≡ number d labels) × (d < 256)

@@ -1,13 +1,13 @@
 -- What a stored value stands for behind the store.
-use Rattle.std.proofs.Common.{◌≡◌, ℕ, zero, suc, ◌+◌, ◌^◌, ◌<◌, ◌≤◌, Bool, true, false, cond, not, ◌&&◌, ◌||◌, Option, Some, None, List, [], ◌∷◌, length, arith, subst, sym, refl, ap, ◌∙◌, inl, inr, ◌⊎◌}
-use Rattle.std.specs.Prelude.{slice_get, ℤ, pos, neg_ℤ, negsuc, ◌-ℤ◌, ◌≤ℤ◌, ◌-◌, ◌*◌}
+use Rattle.std.proofs.Common.{◌≡◌, ℕ, ◌+◌, ◌^◌, ◌≤◌, Bool, true, false, cond, Some, None, List, length, arith, subst, sym, refl, ap, ◌∙◌, inl, inr}
+use Rattle.std.specs.Prelude.{slice_get, ℤ, pos, neg_ℤ, negsuc, ◌≤ℤ◌, ◌-◌, ◌*◌}
 use Rattle.std.proofs.lemmas.Int.{ints}
 use Rattle.std.proofs.Math.Nat.{pow-le-pow_right}
 use Rattle.std.proofs.lemmas.Bool.Decides.{nat_tests}
 use Rattle.std.proofs.lemmas.Bool.{cases_Bool, true≢false}
 use Rattle.std.proofs.lemmas.Option.{slice_get_within}
 use Rattle.cc_base.specs.Lattices.{LatticeOf, OrderLaws}
-use Rattle.cc_base.specs.IntegerTypes.{in_type, wrap_into, is_size, least_of, greatest_of}
+use Rattle.cc_base.specs.IntegerTypes.{wrap_into, is_size, least_of, greatest_of}
 use Rattle.cc_base.specs.IntegerDomains.{IntegersOf, BoundLaws, RangeLaws}
 use Rattle.cc_base.specs.declared.int_types.IntType.{IntType}
 use Rattle.cc_base.specs.NumberRanges.{Range}
@@ -17,7 +17,6 @@ use Rattle.c_layout.specs.declared.leaf_lists.Class.{Class}
 use Rattle.c_layout.specs.declared.leaf_lists.Class.TheVariants.{Pointer}
 use Rattle.flow_program.specs.declared.machine_instructions.Scalar.TheVariants as of
 use Rattle.flow_program.specs.declared.machine_instructions.Scalar as declared
-use Rattle.flow_program.specs.declared.programs.Flow.{Flow}
 use Rattle.value_domain.specs.LabelSets.{labels_leq, no_labels, labels_order}
 use Rattle.lib_models_memory.specs.Labels.{Labels}
 use Rattle.lib_models_memory.specs.Labels as plain
@@ -28,21 +27,20 @@ use Rattle.lib_models_memory.specs.ScalarSizes.{class_bytes}
 use Rattle.store_domain.specs.ScalarTypes.{kind_of}
 use Rattle.store_domain.specs.ClassNumbers.{is_pointer}
 use Rattle.store_domain.specs.NearValues.{near_number}
-use Rattle.store_domain.specs.Loads.{labels_of}
 use Rattle.store_domain.specs.Stores.{stored_value}
-use Rattle.lib_models_memory.specs.Bytes.{MachinePointer, null, into, Content, indeterminate, number, part}
+use Rattle.lib_models_memory.specs.Bytes.{null, into, Content}
 use Rattle.lib_models_memory.specs.Instances.{Memory}
 use Rattle.lib_models_memory.specs.Numbers.{Labelled, number_of}
-use Rattle.store_domain_meaning.specs.Matching.{Matched, number_in, Holds}
+use Rattle.store_domain_meaning.specs.Matching.{number_in, Holds}
 use Rattle.lib_models_memory.specs.Scalars.{Scalar, integer, pointer}
-use Rattle.store_domain_meaning.specs.ValueMeaning.{Naming, StandsScalar, StandsPointer, StandsContent}
+use Rattle.store_domain_meaning.specs.ValueMeaning.{Naming, StandsScalar, StandsContent}
 use Rattle.lib_models_effects.specs.Accesses.{class_in}
 use Rattle.lib_models_effects.specs.ScalarBytes.{number_bytes, bits_in, scalar_bytes}
 use Rattle.cc_base.specs.IntegerLaws.{SoundLaws}
 use Rattle.store_domain_sound.proofs.Classes.{integer_class, class_size, class_above}
-use Rattle.store_domain_sound.specs.Scalars.{signed_in, IsOfKind}
-use Rattle.store_domain_sound.proofs.MachineStores.{IsStore, scalar_length}
-use Rattle.store_domain_sound.proofs.Frames.{alike, matched_in, scalar_moves, pointer_moves}
+use Rattle.store_domain_sound.specs.Scalars.{IsOfKind}
+use Rattle.store_domain_sound.proofs.MachineStores.{IsStore}
+use Rattle.store_domain_sound.proofs.Frames.{alike, matched_in, pointer_moves}
 use Rattle.store_domain_sound.proofs.Fresh.{number_content, part_content, converted_back}
 use Rattle.store_domain_sound.proofs.Near.{IsNearValue, near_number_from, near_number_none}
 

@@ -1,22 +1,20 @@
 -- A larger value stands for what a smaller one stands for.
-use Rattle.std.proofs.Common.{◌≡◌, ℕ, zero, suc, ◌+◌, Bool, true, false, ◌&&◌, arith, subst, refl}
-use Rattle.std.specs.Prelude.{ℤ, pos, ◌-ℤ◌}
+use Rattle.std.proofs.Common.{◌≡◌, ℕ, Bool, true, false, refl}
+use Rattle.std.specs.Prelude.{ℤ}
 use Rattle.std.proofs.lemmas.Bool.{and_parts}
-use Rattle.cc_base.specs.Lattices.{LatticeOf, OrderLaws}
+use Rattle.cc_base.specs.Lattices.{LatticeOf}
 use Rattle.cc_base.specs.LatticeParts.{flag_leq}
 use Rattle.cc_base.specs.IntegerDomains.{IntegersOf, BoundLaws}
 use Rattle.c_layout.specs.declared.leaf_lists.Class.{Class}
-use Rattle.pointer_domain.specs.BaseSets.{bases_within, bases_has}
+use Rattle.pointer_domain.specs.BaseSets.{bases_within}
 use Rattle.pointer_domain.specs.BaseFacts.{within_has}
 use Rattle.pointer_domain.specs.PointerLattice.{pointers_leq}
 use Rattle.pointer_domain.specs.declared.pointer_sets.Pointers.{Pointers}
 use Rattle.value_domain.specs.Values.{value_lattice}
 use Rattle.value_domain.specs.LabelSets.{labels_leq, labels_order}
-use Rattle.value_domain.specs.declared.label_sets.Labels.{Labels}
 use Rattle.value_domain.specs.declared.values.Value.{Value}
-use Rattle.store_domain.specs.ClassNumbers.{is_pointer}
 use Rattle.lib_models_memory.specs.Bytes.{MachinePointer, null, into, Content, indeterminate, number, part}
-use Rattle.lib_models_memory.specs.Instances.{Memory, Life, live, ended, freed, bytes_at, life_at}
+use Rattle.lib_models_memory.specs.Instances.{Memory, Life, live, ended, freed, life_at}
 use Rattle.lib_models_memory.specs.Scalars.{Scalar, integer, pointer}
 use Rattle.store_domain_meaning.specs.SeenLabels.{as_set}
 use Rattle.store_domain_meaning.specs.ValueMeaning.{Naming, StandsInto, StandsByLife, StandsPointer, StandsScalar, StandsContent}

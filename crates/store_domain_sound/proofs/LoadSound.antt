@@ -1,16 +1,15 @@
 -- A load of a class other than char is stood for.
-use Rattle.std.proofs.Common.{◌≡◌, ℕ, zero, suc, ◌+◌, ◌<◌, ◌≤◌, Bool, true, false, cond, not, ◌&&◌, ◌||◌, Option, Some, None, List, [], ◌∷◌, ◌++◌, length, arith, subst, sym, refl, ap, ◌∙◌, inl, inr, ◌⊎◌}
-use Rattle.std.specs.Prelude.{slice_get, ℤ, pos, ◌-ℤ◌, nat_lt, ◌==◌, count_by}
-use Rattle.std.proofs.lemmas.Bool.{cases_Bool, and_from, and_parts, eqb-true, lt-ltb, or_cases}
+use Rattle.std.proofs.Common.{◌≡◌, ℕ, zero, suc, ◌+◌, ◌<◌, ◌≤◌, Bool, true, false, cond, not, ◌||◌, Option, Some, None, List, length, arith, subst, sym, refl, ap, ◌∙◌, inl, inr}
+use Rattle.std.specs.Prelude.{slice_get, ℤ, ◌==◌, count_by}
+use Rattle.std.proofs.lemmas.Bool.{and_from, and_parts, eqb-true, lt-ltb}
 use Rattle.std.proofs.lemmas.Option.{slice_get_within}
-use Rattle.std.proofs.lemmas.List.{length-append, length-map}
+use Rattle.std.proofs.lemmas.List.{length-map}
 use Rattle.cc_base.specs.Lattices.{LatticeOf, OrderLaws}
 use Rattle.cc_base.specs.IntegerDomains.{IntegersOf, BoundLaws}
 use Rattle.cc_base.specs.declared.diagnostics.Rule.TheVariants as rule
 use Rattle.c_layout.specs.declared.data_model.Model.{Model}
 use Rattle.c_layout.specs.declared.leaf_lists.Class.{Class}
 use Rattle.c_layout.specs.declared.leaf_lists.Class.TheVariants.{Char}
-use Rattle.c_layout.specs.declared.leaf_lists.Leaf.{Leaf}
 use Rattle.c_layout.specs.declared.shapes.BaseInfo.{BaseInfo}
 use Rattle.flow_program.specs.declared.machine_instructions.Scalar.TheVariants as of
 use Rattle.flow_program.specs.declared.machine_instructions.Scalar as declared
@@ -21,41 +20,38 @@ use Rattle.value_domain.specs.LabelSets.{labels_leq, no_labels}
 use Rattle.value_domain.specs.Values.{value_lattice}
 use Rattle.value_domain.specs.declared.values.Value.{Value}
 use Rattle.value_domain.specs.declared.row_cells.Cell.{Cell}
-use Rattle.store_domain.specs.declared.access_windows.Window.{Window}
 use Rattle.store_domain.specs.declared.cell_reads.Access.{Access}
-use Rattle.store_domain.specs.AccessWindows.{window_of}
 use Rattle.store_domain.specs.CellReads.{as_read, same_sign}
-use Rattle.store_domain.specs.ClassNumbers.{same_class, class_number, class_at, is_pointer}
+use Rattle.store_domain.specs.ClassNumbers.{same_class, class_number, is_pointer}
 use Rattle.lib_models_memory.specs.ScalarSizes.{class_bytes}
 use Rattle.store_domain.specs.RowPositions.{leaf_position, class_position, value_at, state_at, state_position}
-use Rattle.store_domain.specs.LiveBases.{is_live_in, has_base, may_be_live}
+use Rattle.store_domain.specs.LiveBases.{may_be_live}
 use Rattle.store_domain.specs.Loads.{load as abstract_load, load_bases, load_within, load_own, loaded, labels_of}
 use Rattle.store_domain.specs.Loads as loads
-use Rattle.lib_models_memory.specs.Bytes.{MachinePointer, null, into, Content, Tag, Byte}
-use Rattle.lib_models_memory.specs.Instances.{Memory, Life, live, ended, freed, Instance, bytes_at, byte_at, life_at, bytes_of, life_of}
-use Rattle.store_domain_meaning.specs.Matching.{Matched}
-use Rattle.lib_models_memory.specs.Tags.{fits_tag, fit_from, tag_of, tag_at, is_tag}
+use Rattle.lib_models_memory.specs.Bytes.{MachinePointer, into, Content, Tag, Byte}
+use Rattle.lib_models_memory.specs.Instances.{Memory, live, Instance, bytes_at, byte_at, life_at, bytes_of, life_of}
+use Rattle.lib_models_memory.specs.Tags.{fits_tag, fit_from, tag_of, tag_at}
 use Rattle.store_domain_meaning.specs.Places.{IsPlaceOf, IsLeafPlace, OwnedByLeaf, OwnedByClass, IsClassPlace}
-use Rattle.store_domain_meaning.specs.SoundMemory.{IsMemoryOf, IsPointerIn, IsWithin, IsInstanceOf, storage_for}
+use Rattle.store_domain_meaning.specs.SoundMemory.{IsPointerIn, IsWithin, IsInstanceOf}
 use Rattle.lib_models_memory.specs.Scalars.{Scalar, integer, pointer}
 use Rattle.store_domain_meaning.specs.ValueMeaning.{Naming, StandsInto, StandsByLife, StandsPointer, StandsScalar, StandsState}
 use Rattle.store_domain_meaning.specs.RowMeaning.{MachineState, IsLiveOf, StandsCell, StandsLeaf, StandsClass, StandsFor}
-use Rattle.lib_models_effects.specs.Worlds.{World, Reply, goes, stops, behind, violating, noted, stopped_by}
-use Rattle.lib_models_effects.specs.ScalarBytes.{region, contents}
-use Rattle.lib_models_effects.specs.Touches.{Spot, touched, is_allocated, storage_at, storage_of}
-use Rattle.lib_models_effects.specs.Accesses.{class_in, is_seen_as, bytes_seen, has_blank, pointer_in, scalar_in, given, read_blank, read_contents, load_at, load, points_into_freed}
+use Rattle.lib_models_effects.specs.Worlds.{World, goes, stopped_by}
+use Rattle.lib_models_effects.specs.ScalarBytes.{region}
+use Rattle.lib_models_effects.specs.Touches.{is_allocated, storage_at, storage_of}
+use Rattle.lib_models_effects.specs.Accesses.{class_in, pointer_in, scalar_in, load}
 use Rattle.store_domain_sound.specs.Gives.{Gives}
 use Rattle.store_domain_sound.specs.Statements.{state_in}
 use Rattle.store_domain_meaning.specs.SeenLabels.{as_set}
 use Rattle.store_domain_sound.specs.Scalars.{signed_in}
 use Rattle.cc_base.specs.IntegerLaws.{SoundLaws}
-use Rattle.store_domain_sound.specs.Shapes.{IsShaped, AreShaped, at_offset}
+use Rattle.store_domain_sound.specs.Shapes.{AreShaped, at_offset}
 use Rattle.store_domain_sound.proofs.Larger.{value_below, scalar_larger}
-use Rattle.store_domain_sound.proofs.Windows.{WindowHas, window_has}
+use Rattle.store_domain_sound.proofs.Windows.{window_has}
 use Rattle.store_domain_sound.proofs.Classes.{class_small, class_number_back, class_above, same_class_is, integer_class}
 use Rattle.store_domain_sound.proofs.Selected.{counted_place, uncounted_place}
 use Rattle.store_domain_sound.proofs.Slices.{get_there}
-use Rattle.store_domain_sound.proofs.Reading.{behind_goes, IsTouched, touched_goes, fit_at, region_at, region_length, seen_matched}
+use Rattle.store_domain_sound.proofs.Reading.{fit_at, region_at, region_length, seen_matched}
 use Rattle.store_domain_sound.proofs.MachineLoads.{HasRead, load_goes, load_blank}
 use Rattle.store_domain_sound.proofs.CellReads.{scalar_pointer_is, Sees, blank_stands, scalar_stands}
 use Rattle.store_domain_sound.proofs.TagPlaces.{tag_place}
@@ -78,7 +74,6 @@ first_tag : (class : Class) (tag : Option Tag) → same_class class Char ≡ fal
 first_tag class None e h = cc
 first_tag class (Some t) e h = let p = and_parts (same_class t.class class) (t.at == 0) h in let a = same_class_is _ _ p.0 in let b = eqb-true _ _ p.1 in λ i. Some (record { class = a i; at = b i })
 
-
 pub live_if : (heap alive : Bool) → (heap ≡ true → alive ≡ true) → (not heap || alive) ≡ true
 live_if true alive h = h refl
 live_if false alive h = refl
@@ -97,7 +92,7 @@ module _ {I : Type 0} {l : LatticeOf I} {n : IntegersOf I} {stands : I → ℤ �
         let y = subst (λ k. StandsCell stands flow naming state.memory b k place.leaf.signed (λ size z. IsPlaceOf place.leaf z) (OwnedByLeaf flow.model place.leaf) (value_at l n row (leaf_position base place.at))) place.same x in
         leaves_give o n up flow.model row access offset from to base (shaped.each b base at) place
         (cells place.leaf.signed (λ size z. IsPlaceOf place.leaf z) (OwnedByLeaf flow.model place.leaf) (value_at l n row (leaf_position base place.at)) y place.place
-          (λ k h. record { start = offset; place = place.place; there = refl; small = subst (λ d. k < class_bytes flow.model d) (sym place.same) h }))
+        (λ k h. record { start = offset; place = place.place; there = refl; small = subst (λ d. k < class_bytes flow.model d) (sym place.same) h }))
 
     pub at_class : base.shape.heap ≡ true → count_by (at_offset access.class offset) base.shape.cells ≡ 0 → Gives P (loads.load_class_cell l n flow.model base row access)
     at_class heap none =
@@ -107,7 +102,7 @@ module _ {I : Type 0} {l : LatticeOf I} {n : IntegersOf I} {stands : I → ℤ �
         let y = subst (λ k. StandsClass stands flow naming state.memory b base k (value_at l n row (class_position base (class_number access.class)))) (class_number_back access.class) x in
         class_gives o n up flow.model row access offset from to base shape heap f none
         (cells true (IsClassPlace flow.model base.shape.cells access.class) (OwnedByClass flow.model base.shape.cells access.class) (value_at l n row (class_position base (class_number access.class))) y (record { fits = read.inside; no_leaf = f })
-          (λ k h. record { small = h; no_leaf = λ start e p. f (subst (IsLeafPlace base.shape.cells access.class) (let d : start ≡ offset = omega arith in d) p) }))
+        (λ k h. record { small = h; no_leaf = λ start e p. f (subst (IsLeafPlace base.shape.cells access.class) (let d : start ≡ offset = omega arith in d) p) }))
 
     pub on_heap : base.shape.heap ≡ true → (count : ℕ) → count_by (at_offset access.class offset) base.shape.cells ≡ count → Gives P (load_own l n flow.model base row access)
     on_heap heap zero e = own_gives o n up flow.model row access offset from to base (shaped.each b base at) (inr (at_class heap e))
@@ -193,7 +188,7 @@ module _ {I : Type 0} {l : LatticeOf I} {n : IntegersOf I} {stands : I → ℤ �
       let sees : Sees flow.model w.memory r.i r.offset (class_in kind) cs = record { long = long; each = λ k x e. seen_matched w.memory r.i r.offset (is_allocated (storage_at w.memory r.i)) (class_in kind) size k x seen (subst (λ y. slice_get y k ≡ Some x) r.here e) } in
       let access : Access = record { class = class_in kind; signed = signed_in kind; window = z.window } in
       let g = load_reaches o q flow shaped naming row (state_in w temps entered) s up access r.i r.offset z.from z.to read t.base base.0 base.1 t.named
-          (λ signed Place Owns v cell place owns. cells r.i r.offset t.base signed Place Owns v sees (record { named = t.named; alive = r.alive }) cell place owns) small p.bases t.among in
+      (λ signed Place Owns v cell place owns. cells r.i r.offset t.base signed Place Owns v sees (record { named = t.named; alive = r.alive }) cell place owns) small p.bases t.among in
       rw z.is (relabelled (class_in kind) _ relabel g)
 
   pub relabel_scalar : (kind : declared.Scalar) (x : Value I) (v : Scalar) (cs : List Content) → scalar_in kind cs ≡ Some v → StandsScalar stands naming w.memory x v → StandsScalar stands naming w.memory (record x { labels = labels_of (class_in kind) x.labels }) v

@@ -1,5 +1,5 @@
 -- What the machine has read where its load goes on, or stops at an indeterminate byte.
-use Rattle.std.proofs.Common.{◌≡◌, ℕ, zero, suc, ◌+◌, ◌<◌, ◌≤◌, Bool, true, false, cond, not, ◌&&◌, ◌||◌, Option, Some, None, List, [], ◌∷◌, ◌++◌, length, arith, subst, sym, refl, ap, ◌∙◌, inl, inr, ◌⊎◌}
+use Rattle.std.proofs.Common.{◌≡◌, ℕ, ◌+◌, ◌≤◌, true, false, ◌&&◌, Option, Some, None, List, [], ◌∷◌, ◌++◌, length, arith, subst, sym, refl, ap, ◌∙◌, inl, inr, ◌⊎◌}
 use Rattle.std.specs.Prelude.{nat_le}
 use Rattle.std.proofs.lemmas.Bool.{cases_Bool}
 use Rattle.std.proofs.lemmas.List.{length-append, append_cancel_left}
@@ -10,12 +10,12 @@ use Rattle.c_layout.specs.declared.leaf_lists.Class.TheVariants.{Char}
 use Rattle.flow_program.specs.declared.machine_instructions.Scalar as declared
 use Rattle.store_domain.specs.ClassNumbers.{same_class}
 use Rattle.lib_models_memory.specs.ScalarSizes.{class_bytes}
-use Rattle.lib_models_memory.specs.Bytes.{MachinePointer, null, into, Content, Byte}
+use Rattle.lib_models_memory.specs.Bytes.{MachinePointer, null, into, Content}
 use Rattle.lib_models_memory.specs.Instances.{Life, live, ended, freed, bytes_at, life_at}
 use Rattle.lib_models_memory.specs.Scalars.{Scalar, pointer}
 use Rattle.lib_models_effects.specs.Worlds.{World, Why, Reply, goes, stops, Left, Violated, behind, violating, noted, stopped_by}
 use Rattle.lib_models_effects.specs.ScalarBytes.{region, contents}
-use Rattle.lib_models_effects.specs.Touches.{Spot, touched, touched_by, touched_live, is_allocated, is_literal, storage_at}
+use Rattle.lib_models_effects.specs.Touches.{Spot, touched, touched_by, touched_live, is_allocated, storage_at}
 use Rattle.lib_models_effects.specs.Accesses.{class_in, is_seen_as, bytes_seen, has_blank, scalar_in, given, is_unsigned, read_blank, read_contents, load_at, load_through, load, points_into_freed}
 use Rattle.store_domain_sound.proofs.Reading.{behind_goes, IsTouched, touched_goes}
 

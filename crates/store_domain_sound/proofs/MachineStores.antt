@@ -1,9 +1,9 @@
 -- What a store of a class other than char does to memory.
-use Rattle.std.proofs.Common.{◌≡◌, ℕ, zero, suc, ◌+◌, ◌-◌, ◌*◌, ◌/◌, ◌%◌, ◌<◌, ◌≤◌, Bool, true, false, cond, not, ◌&&◌, ◌||◌, Option, Some, None, List, [], ◌∷◌, ◌++◌, length, take, drop, arith, subst, sym, refl, ap, ◌∙◌, inl, inr, ◌⊎◌}
-use Rattle.std.specs.Prelude.{slice_get, slice_set, set, ◌==◌}
+use Rattle.std.proofs.Common.{◌≡◌, ℕ, zero, suc, ◌+◌, ◌-◌, ◌/◌, ◌<◌, ◌≤◌, Bool, true, false, ◌||◌, Option, Some, None, List, [], ◌∷◌, ◌++◌, length, take, drop, arith, subst, sym, refl, ap, ◌∙◌, inl, inr}
+use Rattle.std.specs.Prelude.{slice_get, set, ◌==◌}
 use Rattle.std.proofs.lemmas.Bool.{cases_Bool, cases_eq, cases_lt, and_parts, eqb-true}
 use Rattle.std.proofs.lemmas.List.{length-take, length-drop, length-append, length-set}
-use Rattle.std.proofs.lemmas.Option.{slice_get_past, slice_get_within}
+use Rattle.std.proofs.lemmas.Option.{slice_get_within}
 use Rattle.c_layout.specs.declared.data_model.Model.{Model}
 use Rattle.c_layout.specs.declared.leaf_lists.Class.{Class}
 use Rattle.c_layout.specs.declared.leaf_lists.Class.TheVariants.{Char}
@@ -11,19 +11,19 @@ use Rattle.flow_program.specs.declared.machine_instructions.Scalar as declared
 use Rattle.lib_models_memory.specs.Labels.{Labels}
 use Rattle.store_domain.specs.ClassNumbers.{same_class}
 use Rattle.lib_models_memory.specs.ScalarSizes.{class_bytes}
-use Rattle.lib_models_memory.specs.Bytes.{MachinePointer, null, into, Content, indeterminate, number, part, Tag, Byte}
-use Rattle.lib_models_memory.specs.Instances.{Memory, Instance, Storage, Life, live, bytes_of, bytes_at, byte_at, life_of, life_at}
-use Rattle.lib_models_memory.specs.Tags.{tag_of, fits_tag, fit_from, is_tag}
+use Rattle.lib_models_memory.specs.Bytes.{MachinePointer, null, into, Content, Tag, Byte}
+use Rattle.lib_models_memory.specs.Instances.{Memory, Instance, live, bytes_of, bytes_at, byte_at, life_of, life_at}
+use Rattle.lib_models_memory.specs.Tags.{tag_of, fits_tag, fit_from}
 use Rattle.lib_models_memory.specs.Scalars.{Scalar, integer, pointer}
 use Rattle.store_domain_meaning.specs.SoundMemory.{IsPointerIn, IsWithin}
-use Rattle.lib_models_effects.specs.Worlds.{World, Reply, goes, stops, behind, with_memory, Left, Stuck}
-use Rattle.lib_models_effects.specs.ScalarBytes.{number_bytes, parts_from, pointer_bytes, bits_in, scalar_bytes, filled, tagged_from, replaced, refilled, region}
-use Rattle.lib_models_effects.specs.Touches.{Spot, touched, is_allocated, is_literal, storage_of, storage_at, with_bytes, set_bytes}
-use Rattle.lib_models_effects.specs.Accesses.{class_in, is_seen_as, bytes_seen, stored_bytes, stored, may_store, store_at, store_through, store}
+use Rattle.lib_models_effects.specs.Worlds.{World, Reply, goes, stops, Left, Stuck}
+use Rattle.lib_models_effects.specs.ScalarBytes.{number_bytes, parts_from, bits_in, scalar_bytes, filled, tagged_from, replaced, refilled, region}
+use Rattle.lib_models_effects.specs.Touches.{Spot, touched, is_allocated, is_literal, storage_of, storage_at, set_bytes}
+use Rattle.lib_models_effects.specs.Accesses.{class_in, is_seen_as, stored_bytes, stored, may_store, store_at, store_through, store}
 use Rattle.lib_models_effects.specs.Operands.{is_of_kind}
 use Rattle.store_domain_sound.proofs.Classes.{same_class_is}
-use Rattle.store_domain_sound.proofs.Slices.{get_take, get_drop, get_left, get_right, get_there, get_set_same, get_set_other}
-use Rattle.store_domain_sound.proofs.Reading.{behind_goes, IsTouched, touched_goes, fit_at, region_at, region_length}
+use Rattle.store_domain_sound.proofs.Slices.{get_drop, get_left, get_right, get_there, get_set_same, get_set_other}
+use Rattle.store_domain_sound.proofs.Reading.{behind_goes, touched_goes, fit_at, region_at, region_length}
 
 -- memory after a store of a class other than char: these contents, under the tags of the class
 pub record IsStore (old new : Memory) (i offset : ℕ) (class : Class) (size : ℕ) (cs : List Content) : Type 0 where
@@ -244,12 +244,12 @@ through_goes m kind p v r w u wide inside h =
     let sto : storage_at w.memory spot.instance ≡ it.0.storage = ap storage_of it.1 in
     let lng : length cs ≡ size = scalar_length size v in
     let kept : is_allocated it.0.storage ≡ false → (k : ℕ) → k < size → (x : Byte) × (slice_get it.0.bytes (spot.offset + k) ≡ Some x) × (x.tag ≡ tag_of class k) =
-        λ e k z. tags_kept it.0.bytes spot.offset size class wide (omega arith)
-          (subst (λ o. fit_from false class 0 (region (bytes_of o) spot.offset size) ≡ true) it.1 (seen_wide class _ wide (may_or _ _ g.0 (ap is_allocated sto ∙ e)))) k z in
+    λ e k z. tags_kept it.0.bytes spot.offset size class wide (omega arith)
+    (subst (λ o. fit_from false class 0 (region (bytes_of o) spot.offset size) ≡ true) it.1 (seen_wide class _ wide (may_or _ _ g.0 (ap is_allocated sto ∙ e)))) k z in
     let by : BytesStored it.0.bytes (stored_bytes (is_allocated (storage_at w.memory spot.instance)) class (bytes_at w.memory spot.instance) spot.offset cs) spot.offset class size cs =
-        subst (λ z. BytesStored it.0.bytes (stored_bytes (is_allocated (storage_at w.memory spot.instance)) class (bytes_at w.memory spot.instance) spot.offset cs) spot.offset class z cs) lng
-        (subst (λ x. BytesStored it.0.bytes (stored_bytes (is_allocated (storage_at w.memory spot.instance)) class x spot.offset cs) spot.offset class (length cs) cs) (sym (ap bytes_of it.1))
-          (stored_is (is_allocated (storage_at w.memory spot.instance)) it.0.bytes spot.offset class cs wide (omega arith) (λ e k z. kept (sym (ap is_allocated sto) ∙ e) k (omega arith)))) in
+    subst (λ z. BytesStored it.0.bytes (stored_bytes (is_allocated (storage_at w.memory spot.instance)) class (bytes_at w.memory spot.instance) spot.offset cs) spot.offset class z cs) lng
+    (subst (λ x. BytesStored it.0.bytes (stored_bytes (is_allocated (storage_at w.memory spot.instance)) class x spot.offset cs) spot.offset class (length cs) cs) (sym (ap bytes_of it.1))
+    (stored_is (is_allocated (storage_at w.memory spot.instance)) it.0.bytes spot.offset class cs wide (omega arith) (λ e k z. kept (sym (ap is_allocated sto) ∙ e) k (omega arith)))) in
     let made = is_store w.memory spot.instance spot.offset class size cs it.0 it.1 _ by lng (omega arith) kept in
     let mem : u.memory ≡ set w.memory spot.instance (record it.0 { bytes = stored_bytes (is_allocated (storage_at w.memory spot.instance)) class (bytes_at w.memory spot.instance) spot.offset cs }) = ap (λ z. z.memory) g.1 ∙ set_is w.memory spot.instance it.0 _ it.1 in
     record {

@@ -1,9 +1,8 @@
 -- Memory stays sound behind a load and behind a store.
-use Rattle.std.proofs.Common.{◌≡◌, ℕ, zero, suc, ◌+◌, ◌<◌, ◌≤◌, Bool, true, false, cond, not, ◌&&◌, ◌||◌, Option, Some, None, List, [], ◌∷◌, length, arith, subst, sym, refl, ap, ◌∙◌, inl, inr}
+use Rattle.std.proofs.Common.{◌≡◌, ℕ, ◌<◌, Bool, true, false, cond, ◌&&◌, Option, Some, None, List, [], ◌∷◌, arith, subst, sym, refl, ap, ◌∙◌, inl, inr}
 use Rattle.std.specs.Prelude.{slice_get, set}
 use Rattle.std.proofs.lemmas.Bool.{cases_Bool, true≢false}
 use Rattle.c_layout.specs.declared.data_model.Model.{Model}
-use Rattle.c_layout.specs.Leaves.{class_of}
 use Rattle.c_layout.specs.declared.leaf_lists.Class.{Class}
 use Rattle.c_layout.specs.declared.leaf_lists.Class.TheVariants.{Char}
 use Rattle.c_layout.specs.declared.shapes.BaseInfo.{BaseInfo}
@@ -11,19 +10,19 @@ use Rattle.flow_program.specs.declared.machine_instructions.Scalar.TheVariants a
 use Rattle.flow_program.specs.declared.machine_instructions.Scalar as declared
 use Rattle.lib_models_memory.specs.Labels.{Labels}
 use Rattle.lib_models_memory.specs.ScalarSizes.{same_class, class_bytes}
-use Rattle.lib_models_memory.specs.Bytes.{MachinePointer, null, into, Content, indeterminate, number, part, Byte}
-use Rattle.lib_models_memory.specs.Instances.{Memory, Life, live, ended, freed, Instance, bytes_at, byte_at, bytes_of, life_at}
+use Rattle.lib_models_memory.specs.Bytes.{MachinePointer, null, Content, indeterminate, number, part, Byte}
+use Rattle.lib_models_memory.specs.Instances.{live, ended, bytes_at, byte_at, bytes_of, life_at}
 use Rattle.lib_models_memory.specs.Scalars.{Scalar, integer, pointer}
-use Rattle.lib_models_effects.specs.Worlds.{World, Reply, goes, stops, Stuck, Left}
+use Rattle.lib_models_effects.specs.Worlds.{World, Reply, goes, stops, Stuck}
 use Rattle.lib_models_effects.specs.Operands.{is_of_kind}
-use Rattle.lib_models_effects.specs.ScalarBytes.{scalar_bytes, bits_in, refilled, region, contents}
+use Rattle.lib_models_effects.specs.ScalarBytes.{scalar_bytes, bits_in, refilled, region}
 use Rattle.lib_models_effects.specs.Touches.{Spot, touched, is_allocated, storage_at, set_bytes}
-use Rattle.lib_models_effects.specs.Accesses.{class_in, numbers_in, pointer_in, pointer_by, pointer_of_parts, are_parts, are_zeros, scalar_in, load, load_at, load_through, given, read_contents, read_blank, store, store_at, store_through, stored, stored_bytes, may_store}
+use Rattle.lib_models_effects.specs.Accesses.{class_in, numbers_in, pointer_in, pointer_by, are_parts, are_zeros, scalar_in, store, store_at, store_through, stored_bytes}
 use Rattle.store_domain_meaning.specs.ValueMeaning.{Naming}
 use Rattle.store_domain_meaning.specs.SoundMemory.{IsMemoryOf, IsPointerIn, IsScalarIn, IsNamed, IsContentIn, IsContentNamed}
 use Rattle.store_domain_sound.specs.Scalars.{IsScalarNamed}
 use Rattle.store_domain_sound.specs.Shapes.{AreShaped}
-use Rattle.store_domain_sound.specs.MemoryStatements.{LoadKeepsSound, LoadKeeps, StoreKeeps}
+use Rattle.store_domain_sound.specs.MemoryStatements.{LoadKeeps, StoreKeeps}
 use Rattle.store_domain_sound.proofs.Slices.{get_map}
 use Rattle.store_domain_sound.proofs.Reading.{behind_goes, touched_goes, region_at}
 use Rattle.store_domain_sound.proofs.MachineLoads.{HasRead, load_goes, load_same}
@@ -118,9 +117,9 @@ char_through m bases naming w u p kind v t char of_kind sane h =
     let g = store_spot m class v t spot w u (subst (λ z. store_at m class v spot z ≡ goes t u) s.same b.3) in
     let it = instance_in (slice_get w.memory spot.instance) s.alive in
     let bytes : stored_bytes (is_allocated (storage_at w.memory spot.instance)) class (bytes_at w.memory spot.instance) spot.offset cs ≡ refilled it.0.bytes spot.offset cs =
-        char_bytes (is_allocated (storage_at w.memory spot.instance)) class (bytes_at w.memory spot.instance) spot.offset cs char ∙ ap (λ z. refilled (bytes_of z) spot.offset cs) it.1 in
+    char_bytes (is_allocated (storage_at w.memory spot.instance)) class (bytes_at w.memory spot.instance) spot.offset cs char ∙ ap (λ z. refilled (bytes_of z) spot.offset cs) it.1 in
     let mem : u.memory ≡ set w.memory spot.instance (record it.0 { bytes = refilled it.0.bytes spot.offset cs }) =
-        ap (λ z. z.memory) g.1 ∙ (ap (set_bytes w.memory spot.instance) bytes ∙ set_is w.memory spot.instance it.0 (refilled it.0.bytes spot.offset cs) it.1) in
+    ap (λ z. z.memory) g.1 ∙ (ap (set_bytes w.memory spot.instance) bytes ∙ set_is w.memory spot.instance it.0 (refilled it.0.bytes spot.offset cs) it.1) in
     subst (IsMemoryOf m bases naming) (sym mem) (refill_sane m bases naming (is_refill w.memory spot.instance spot.offset cs it.0 it.1) (char_numbers kind v size char of_kind) sane)
 
 char_keeps : (m : Model) (bases : List BaseInfo) (naming : Naming) (w u : World) (p : MachinePointer) (kind : declared.Scalar) (v t : Scalar) → same_class (class_in kind) Char ≡ true → IsMemoryOf m bases naming w.memory → store m kind (pointer p) v w ≡ goes t u → IsMemoryOf m bases naming u.memory

@@ -1,17 +1,16 @@
 -- Values whose bounds are near stay as they are, and so do their joins.
-use Rattle.std.proofs.Common.{◌≡◌, ℕ, ◌^◌, Bool, true, false, cond, not, ◌||◌, Option, Some, None, arith, subst, sym, refl, ap, ◌∙◌, inl, inr, List}
-use Rattle.std.specs.Prelude.{ℤ, pos, neg_ℤ, ◌≤ℤ◌, int_lt}
+use Rattle.std.proofs.Common.{◌≡◌, ℕ, ◌^◌, true, false, Some, None, arith, subst, sym, refl, ap, ◌∙◌, inl, inr, List}
+use Rattle.std.specs.Prelude.{ℤ, pos, neg_ℤ, ◌≤ℤ◌}
 use Rattle.std.proofs.lemmas.Int.{ints}
 use Rattle.std.proofs.lemmas.Bool.{cases_Bool}
 use Rattle.std.proofs.lemmas.Option.{same_Some}
 use Rattle.cc_base.specs.Lattices.{LatticeOf, OrderLaws}
 use Rattle.cc_base.specs.IntegerDomains.{IntegersOf, BoundLaws, IsNear}
 use Rattle.cc_base.specs.NumberRanges.{Range}
-use Rattle.pointer_domain.specs.declared.pointer_sets.Pointers.{Pointers}
 use Rattle.value_domain.specs.Values.{value_lattice}
 use Rattle.value_domain.specs.declared.values.Value.{Value}
 use Rattle.value_domain.specs.declared.row_cells.Cell.{Cell}
-use Rattle.store_domain.specs.NearValues.{is_near, near_part, part_near, near_number, near_pointer, near_value}
+use Rattle.store_domain.specs.NearValues.{is_near, near_part, part_near, near_number, near_value}
 use Rattle.store_domain.specs.RowPositions.{cell_at, value_in, value_at}
 
 -- near bounds are changed by nothing

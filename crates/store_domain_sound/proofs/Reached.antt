@@ -1,34 +1,30 @@
 -- A load of a class other than char reaches a cell of the class at each place.
-use Rattle.std.proofs.Common.{◌≡◌, ℕ, zero, suc, ◌+◌, ◌<◌, ◌≤◌, Bool, true, false, cond, not, ◌&&◌, ◌||◌, Option, Some, None, List, [], ◌∷◌, length, arith, subst, sym, refl, ap, ◌∙◌, inl, inr, ◌⊎◌}
-use Rattle.std.specs.Prelude.{slice_get, ℤ, nat_lt, count_by}
-use Rattle.std.proofs.lemmas.Bool.{cases_Bool, and_from, lt-ltb}
+use Rattle.std.proofs.Common.{◌≡◌, ℕ, ◌≤◌, Bool, true, false, Option, Some, None, List, arith, refl, inl, inr, ◌⊎◌}
+use Rattle.std.specs.Prelude.{slice_get, count_by}
+use Rattle.std.proofs.lemmas.Bool.{and_from}
 use Rattle.cc_base.specs.Lattices.{LatticeOf, OrderLaws}
 use Rattle.cc_base.specs.IntegerDomains.{IntegersOf}
 use Rattle.c_layout.specs.declared.data_model.Model.{Model}
-use Rattle.c_layout.specs.declared.leaf_lists.Class.{Class}
 use Rattle.c_layout.specs.declared.leaf_lists.Class.TheVariants.{Char}
-use Rattle.c_layout.specs.declared.leaf_lists.Leaf.{Leaf}
 use Rattle.c_layout.specs.declared.shapes.BaseInfo.{BaseInfo}
-use Rattle.pointer_domain.specs.BaseSets.{bases_has}
 use Rattle.pointer_domain.specs.declared.base_sets.Bases.{Bases}
 use Rattle.value_domain.specs.Values.{value_lattice}
 use Rattle.value_domain.specs.declared.values.Value.{Value}
 use Rattle.value_domain.specs.declared.row_cells.Cell.{Cell}
-use Rattle.store_domain.specs.declared.access_windows.Window.{Window}
 use Rattle.store_domain.specs.declared.cell_reads.Access.{Access}
-use Rattle.store_domain.specs.CellReads.{as_read, joined}
+use Rattle.store_domain.specs.CellReads.{as_read}
 use Rattle.store_domain.specs.ClassNumbers.{same_class, class_number}
 use Rattle.store_domain.specs.RowPositions.{leaf_position, class_position, value_at}
-use Rattle.store_domain.specs.LeafSelection.{is_selected, has_place_in, has_stray}
-use Rattle.store_domain.specs.LiveBases.{is_live_in, has_base, may_be_live}
-use Rattle.store_domain.specs.Loads.{read_leaf, load_leaves, load_class_cell, load_own, load_base, load_bases, read_base, read_base_if, reaches_class}
-use Rattle.store_domain_meaning.specs.Places.{IsPlaceOf, IsLeafPlace}
+use Rattle.store_domain.specs.LeafSelection.{is_selected, has_stray}
+use Rattle.store_domain.specs.LiveBases.{is_live_in}
+use Rattle.store_domain.specs.Loads.{read_leaf, load_leaves, load_class_cell, load_own, load_base, load_bases, read_base, read_base_if}
+use Rattle.store_domain_meaning.specs.Places.{IsLeafPlace}
 use Rattle.store_domain_sound.specs.Gives.{Gives}
 use Rattle.store_domain_sound.specs.Shapes.{IsShaped, at_offset}
-use Rattle.store_domain_sound.proofs.Walks.{walk_keeps, walk_meets}
+use Rattle.store_domain_sound.proofs.Walks.{walk_meets}
 use Rattle.store_domain_sound.proofs.Found.{given_left, given_by_right, if_keeps, if_gives}
 use Rattle.store_domain_sound.proofs.Classes.{is_same_class}
-use Rattle.store_domain_sound.proofs.Selected.{place_selected, is_stray, counted_place, uncounted_place}
+use Rattle.store_domain_sound.proofs.Selected.{place_selected, is_stray}
 
 module _ {I : Type 0} {l : LatticeOf I} (o : OrderLaws l) (n : IntegersOf I) {P : Value I → Type 0} (up : (x y : Value I) → (value_lattice l).leq x y ≡ true → P x → P y) (m : Model) (row : List (Cell I)) (access : Access) (offset : ℕ) (from : access.window.lo ≤ offset) (to : offset ≤ access.window.hi) where
   module _ (base : BaseInfo) (shaped : IsShaped base) where

@@ -1,29 +1,21 @@
 -- What the machine sees at a place from which it reads.
-use Rattle.std.proofs.Common.{◌≡◌, ℕ, zero, suc, ◌+◌, ◌-◌, ◌<◌, ◌≤◌, Bool, true, false, cond, not, ◌&&◌, ◌||◌, Option, Some, None, List, [], ◌∷◌, ◌++◌, length, take, drop, arith, subst, sym, refl, ap, ◌∙◌, inl, inr}
-use Rattle.std.specs.Prelude.{slice_get, map, nat_le, ◌==◌}
-use Rattle.std.proofs.lemmas.Bool.{cases_Bool, and_parts, eqb-true, leb-true, or_cases}
-use Rattle.std.proofs.lemmas.List.{length-take, length-drop, length-map, length-append, append-nil, append_cancel_left}
-use Rattle.cc_base.specs.declared.diagnostics.Rule.{Rule}
+use Rattle.std.proofs.Common.{◌≡◌, ℕ, zero, suc, ◌+◌, ◌<◌, ◌≤◌, Bool, true, false, ◌&&◌, Option, Some, None, List, [], ◌∷◌, length, drop, arith, subst, sym, refl, ap, ◌∙◌, inl, inr}
+use Rattle.std.specs.Prelude.{slice_get, nat_le}
+use Rattle.std.proofs.lemmas.Bool.{cases_Bool, and_parts, eqb-true, leb-true}
+use Rattle.std.proofs.lemmas.List.{length-take, length-drop}
 use Rattle.cc_base.specs.declared.diagnostics.Rule.TheVariants as rule
-use Rattle.c_layout.specs.declared.data_model.Model.{Model}
 use Rattle.c_layout.specs.declared.leaf_lists.Class.{Class}
-use Rattle.c_layout.specs.declared.leaf_lists.Class.TheVariants.{Char, Pointer}
-use Rattle.flow_program.specs.declared.machine_instructions.Scalar.TheVariants as of
-use Rattle.flow_program.specs.declared.machine_instructions.Scalar as declared
-use Rattle.store_domain.specs.ClassNumbers.{same_class, is_pointer}
-use Rattle.lib_models_memory.specs.ScalarSizes.{class_bytes}
 use Rattle.lib_models_memory.specs.Bytes.{MachinePointer, null, into, Content, indeterminate, number, part, Tag, Byte}
 use Rattle.lib_models_memory.specs.Instances.{Memory, Life, live, ended, freed, bytes_at, byte_at, life_at}
 use Rattle.lib_models_memory.specs.Numbers.{Labelled}
-use Rattle.store_domain_meaning.specs.Matching.{Fits, Matched, number_in, Holds}
+use Rattle.store_domain_meaning.specs.Matching.{Fits, Matched, number_in}
 use Rattle.lib_models_memory.specs.Tags.{fits_tag, fit_from}
-use Rattle.lib_models_memory.specs.Scalars.{Scalar, integer, pointer}
-use Rattle.lib_models_effects.specs.Worlds.{World, Reply, goes, stops, behind, violating, stopped_by}
+use Rattle.lib_models_effects.specs.Worlds.{World, Reply, goes, stops, behind, stopped_by}
 use Rattle.lib_models_effects.specs.ScalarBytes.{region, contents}
-use Rattle.lib_models_effects.specs.Touches.{Spot, touched, touched_by, touched_live, is_literal, is_allocated, storage_at}
-use Rattle.lib_models_effects.specs.Accesses.{class_in, is_seen_as, bytes_seen, has_blank, is_blank, numbers_in, and_number, scalar_in, given, read_blank, read_contents, load_at, load}
+use Rattle.lib_models_effects.specs.Touches.{Spot, touched, touched_by, touched_live, is_literal, storage_at}
+use Rattle.lib_models_effects.specs.Accesses.{has_blank, numbers_in, and_number}
 use Rattle.store_domain_sound.proofs.Classes.{same_class_is}
-use Rattle.store_domain_sound.proofs.Slices.{get_take, get_drop, get_map, get_there}
+use Rattle.store_domain_sound.proofs.Slices.{get_take, get_drop, get_map}
 
 -- ---- steps that go on
 

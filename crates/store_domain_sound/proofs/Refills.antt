@@ -1,5 +1,5 @@
 -- Memory whose bytes got other contents under their own tags, as by a store of a character, is sound.
-use Rattle.std.proofs.Common.{◌≡◌, ℕ, zero, suc, ◌+◌, ◌-◌, ◌<◌, ◌≤◌, Bool, true, false, Option, Some, None, List, [], ◌∷◌, ◌++◌, length, take, drop, arith, subst, sym, refl, ap, ◌∙◌, inl, inr, ◌⊎◌}
+use Rattle.std.proofs.Common.{◌≡◌, ℕ, zero, suc, ◌<◌, Option, Some, List, [], ◌∷◌, length, take, drop, arith, subst, sym, refl, ap, ◌∙◌, inl, inr, ◌⊎◌}
 use Rattle.std.specs.Prelude.{slice_get, set}
 use Rattle.std.proofs.lemmas.Bool.{cases_eq}
 use Rattle.std.proofs.lemmas.List.{length-take, length-drop, length-append, length-set}
@@ -7,8 +7,8 @@ use Rattle.std.proofs.lemmas.Option.{same_Some, slice_get_within}
 use Rattle.c_layout.specs.declared.data_model.Model.{Model}
 use Rattle.c_layout.specs.declared.shapes.BaseInfo.{BaseInfo}
 use Rattle.lib_models_memory.specs.Labels.{Labels}
-use Rattle.lib_models_memory.specs.Bytes.{Content, number, Tag, Byte}
-use Rattle.lib_models_memory.specs.Instances.{Memory, Instance, freed, bytes_of, bytes_at, byte_at, life_of, life_at}
+use Rattle.lib_models_memory.specs.Bytes.{Content, number, Byte}
+use Rattle.lib_models_memory.specs.Instances.{Memory, Instance, bytes_of, byte_at, life_of}
 use Rattle.lib_models_effects.specs.ScalarBytes.{filled, refilled}
 use Rattle.lib_models_effects.specs.Touches.{storage_of, storage_at}
 use Rattle.store_domain_meaning.specs.ValueMeaning.{Naming}

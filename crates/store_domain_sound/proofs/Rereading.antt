@@ -1,5 +1,5 @@
 -- The number of bytes under one signedness, converted, is that under the other.
-use Rattle.std.proofs.Common.{◌≡◌, ℕ, zero, suc, ◌+◌, ◌-◌, ◌*◌, ◌%◌, ◌^◌, ◌<◌, ◌≤◌, Bool, true, false, cond, Option, Some, None, List, [], ◌∷◌, length, arith, subst, sym, refl, ap, ◌∙◌, inl, inr, ◌⊎◌}
+use Rattle.std.proofs.Common.{◌≡◌, ℕ, zero, suc, ◌+◌, ◌-◌, ◌*◌, ◌%◌, ◌^◌, ◌<◌, Bool, true, false, cond, Some, List, [], ◌∷◌, length, arith, subst, refl, ap, ◌∙◌, inl, inr, ◌⊎◌}
 use Rattle.std.specs.Prelude.{slice_get, ℤ, pos, negsuc, ◌+ℤ◌, ◌-ℤ◌, nat_lt}
 use Rattle.std.specs.Int.{int_rem_euclid}
 use Rattle.std.proofs.lemmas.Int.{ints, int_rem_euclid_is}
@@ -7,8 +7,8 @@ use Rattle.std.proofs.lemmas.Nat.{pow-add}
 use Rattle.std.proofs.Math.Nat.{mod-eq_of_lt, add-mod_right}
 use Rattle.std.proofs.lemmas.Bool.{cases_Bool, ltb-true, ltb-false}
 use Rattle.cc_base.specs.declared.int_types.IntType.{IntType}
-use Rattle.cc_base.specs.IntegerTypes.{is_size, least_of, modulus, wrap_into}
-use Rattle.lib_models_memory.specs.Numbers.{Labelled, unsigned_of, signed_of, number_of}
+use Rattle.cc_base.specs.IntegerTypes.{wrap_into}
+use Rattle.lib_models_memory.specs.Numbers.{Labelled, unsigned_of, number_of}
 
 pub AreBytes : List Labelled → Type 0
 AreBytes ns = (k : ℕ) (n : Labelled) → slice_get ns k ≡ Some n → n.number < 256

@@ -1,14 +1,14 @@
 -- The cells that an access reaches: a leaf at each of its places, and a class cell elsewhere.
-use Rattle.std.proofs.Common.{◌≡◌, ℕ, zero, suc, ◌+◌, ◌-◌, ◌*◌, ◌/◌, ◌<◌, ◌≤◌, Bool, true, false, cond, ◌&&◌, ◌||◌, ◌⊎◌, Option, Some, None, List, [], ◌∷◌, length, arith, subst, sym, refl, inl, inr, ap, ◌∙◌}
-use Rattle.std.specs.Prelude.{slice_get, nat_le, nat_lt, ◌==◌, count_by, not}
+use Rattle.std.proofs.Common.{◌≡◌, ℕ, zero, suc, ◌+◌, ◌-◌, ◌*◌, ◌/◌, ◌<◌, ◌≤◌, Bool, true, false, cond, ◌&&◌, ◌||◌, Some, List, arith, subst, sym, refl, inl, inr, ap}
+use Rattle.std.specs.Prelude.{slice_get, nat_le, nat_lt, ◌==◌, count_by}
 use Rattle.std.proofs.Math.Nat.{div-lt_iff_lt-mul, le-div_iff_mul-le}
-use Rattle.std.proofs.lemmas.Bool.{cases_Bool, and_parts, and_from, eqb-true, eq-eqb, le-leb, leb-true, ltb-true, lt-ltb, cases_eq, cases_lt, or_cases, or_parts}
+use Rattle.std.proofs.lemmas.Bool.{cases_Bool, and_parts, and_from, eqb-true, eq-eqb, le-leb, ltb-true, lt-ltb, cases_eq}
 use Rattle.std.proofs.lemmas.Bool.Decides.{nat_tests}
 use Rattle.c_layout.specs.declared.leaf_lists.Class.{Class}
 use Rattle.c_layout.specs.declared.leaf_lists.Leaf.{Leaf}
 use Rattle.store_domain.specs.declared.access_windows.Window.{Window}
 use Rattle.store_domain.specs.ClassNumbers.{same_class}
-use Rattle.store_domain.specs.LeafSelection.{places_before, turns_into, has_place_in, is_selected, selected_count, has_stray}
+use Rattle.store_domain.specs.LeafSelection.{places_before, turns_into, has_place_in, is_selected, has_stray}
 use Rattle.store_domain_meaning.specs.Places.{IsPlaceOf, IsLeafPlace}
 use Rattle.store_domain_sound.specs.Shapes.{at_offset}
 use Rattle.store_domain_sound.proofs.Classes.{count_some, count_none, count_either, same_class_is, is_same_class}
@@ -88,7 +88,7 @@ module _ (leaves : List Leaf) (class : Class) (few : (x : ℕ) → count_by (at_
   is_stray w z single h k e =
       let a = fewer_in w.lo (suc (w.hi - w.lo)) z h (omega arith) e in
       let b = count_either (λ leaf. is_selected leaf class w) (in_offsets class w.lo (suc (w.hi - w.lo))) (λ leaf. false) leaves (λ (j : ℕ) (leaf : Leaf) (f : slice_get leaves j ≡ Some leaf) (g : is_selected leaf class w ≡ true). let p = and_parts (same_class leaf.class class) (has_place_in leaf w) g in
-          or_first _ false (and_from _ _ p.0 (single_in leaf w (single j leaf f) (omega arith) p.1))) in
+      or_first _ false (and_from _ _ p.0 (single_in leaf w (single j leaf f) (omega arith) p.1))) in
       let c : count_by {X = Leaf} (λ leaf. false) leaves ≡ 0 = count_never {X = Leaf} (λ leaf. false) leaves _ refl (λ (leaf : Leaf) (g : false ≡ true). cc) in
       le-leb _ _ (omega arith)
 

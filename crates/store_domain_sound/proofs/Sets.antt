@@ -1,7 +1,7 @@
 -- The bases that a store reaches.
-use Rattle.std.proofs.Common.{◌≡◌, ℕ, zero, suc, ◌+◌, ◌/◌, ◌%◌, ◌<◌, ◌≤◌, Bool, true, false, cond, not, ◌&&◌, ◌||◌, Option, Some, None, List, [], ◌∷◌, length, arith, subst, sym, refl, ap, ◌∙◌, inl, inr, ◌⊎◌}
+use Rattle.std.proofs.Common.{◌≡◌, ℕ, suc, ◌+◌, ◌/◌, ◌%◌, ◌<◌, ◌≤◌, Bool, true, false, cond, ◌||◌, Some, List, [], ◌∷◌, length, arith, subst, sym, refl, ap, ◌∙◌, inl, inr}
 use Rattle.std.specs.Prelude.{slice_get, nat_lt, ◌==◌}
-use Rattle.std.proofs.lemmas.Bool.{cases_Bool, and_parts, and_from, or_cases, or_left, or_right, lt-ltb, ltb-true, cases_eq, true≢false}
+use Rattle.std.proofs.lemmas.Bool.{cases_Bool, and_parts, and_from, or_cases, or_right, lt-ltb, ltb-true, cases_eq, true≢false}
 use Rattle.std.proofs.lemmas.Option.{slice_get_within, same_Some}
 use Rattle.std.specs.Int.{bit_at}
 use Rattle.std.proofs.lemmas.Nat.Bits.{bit_at-zero}
@@ -9,11 +9,11 @@ use Rattle.cc_base.specs.Lattices.{LatticeOf}
 use Rattle.cc_base.specs.IntegerDomains.{IntegersOf}
 use Rattle.c_layout.specs.declared.shapes.BaseInfo.{BaseInfo}
 use Rattle.pointer_domain.specs.declared.base_sets.Bases.{Bases}
-use Rattle.pointer_domain.specs.BaseSets.{no_base, word_of, bases_has, bases_with, bases_union, bases_count, bases_within}
+use Rattle.pointer_domain.specs.BaseSets.{no_base, word_of, bases_has, bases_with, bases_union, bases_within}
 use Rattle.pointer_domain.specs.BaseFacts.{union_has, within_has, with_has_same, with_has_other}
 use Rattle.value_domain.specs.declared.row_cells.Cell.{Cell}
 use Rattle.store_domain.specs.Walks.{walk}
-use Rattle.store_domain.specs.LiveBases.{most_bases, is_single_kind, is_literal_kind, only_base, has_base, with_base_if, add_single, single_bases, is_writable_in, add_writable, writable_of, is_one_instance, is_live_in, add_live, live_of}
+use Rattle.store_domain.specs.LiveBases.{most_bases, is_single_kind, is_literal_kind, only_base, has_base, with_base_if, add_single, single_bases, is_writable_in, add_writable, is_live_in, add_live, live_of}
 use Rattle.store_domain.specs.Stores.{reached_of}
 use Rattle.store_domain_sound.proofs.Walks.{walk_meets}
 
@@ -83,10 +83,10 @@ module _ (bases : List BaseInfo) (b : ℕ) (base : BaseInfo) (at : slice_get bas
   single_walk start (x ∷ xs) found h k g = single_walk (start + 1) xs (add_single x start found)
       (λ j y e. subst (λ z. slice_get bases z ≡ Some y) (omega arith) (h (suc j) y e))
       (single_if (is_single_kind x.kind) start found k (λ d e.
-        let f : slice_get bases (start + 0) ≡ Some x = h 0 x refl in
-        let i : b ≡ start + 0 = omega arith in
-        let w : base ≡ x = same_Some base x (sym at ∙ (ap (slice_get bases) i ∙ f)) in
-        subst (λ z. is_single_kind z.kind ≡ true) (sym w) e)) g
+      let f : slice_get bases (start + 0) ≡ Some x = h 0 x refl in
+      let i : b ≡ start + 0 = omega arith in
+      let w : base ≡ x = same_Some base x (sym at ∙ (ap (slice_get bases) i ∙ f)) in
+      subst (λ z. is_single_kind z.kind ≡ true) (sym w) e)) g
 
   -- a set whose bases are all single ones
   pub is_single : (set : Bases) → bases_within set (single_bases bases) ≡ true → bases_has set b ≡ true → is_single_kind base.kind ≡ true

@@ -1,54 +1,32 @@
 -- The cells behind a store of a class other than char stand for the new memory.
-use Rattle.std.proofs.Common.{◌≡◌, ℕ, zero, suc, ◌+◌, ◌<◌, ◌≤◌, Bool, true, false, cond, not, ◌&&◌, ◌||◌, Option, Some, None, List, [], ◌∷◌, length, arith, subst, sym, refl, ap, ◌∙◌, inl, inr, ◌⊎◌}
-use Rattle.std.specs.Prelude.{slice_get, ℤ, ◌==◌, nat_lt, count_by}
-use Rattle.std.proofs.lemmas.Bool.{cases_Bool, and_parts, and_from, true≢false, eqb-true}
-use Rattle.std.proofs.lemmas.Option.{same_Some, slice_get_within}
+use Rattle.std.proofs.Common.{◌≡◌, ℕ, ◌+◌, ◌<◌, ◌≤◌, Bool, true, false, cond, List, length, subst, sym, refl}
+use Rattle.std.specs.Prelude.{ℤ}
 use Rattle.cc_base.specs.Lattices.{LatticeOf, OrderLaws}
 use Rattle.cc_base.specs.IntegerDomains.{IntegersOf, BoundLaws, RangeLaws}
-use Rattle.c_layout.specs.declared.data_model.Model.{Model}
 use Rattle.c_layout.specs.declared.leaf_lists.Class.{Class}
-use Rattle.c_layout.specs.declared.leaf_lists.Class.TheVariants.{Char}
-use Rattle.c_layout.specs.declared.leaf_lists.Leaf.{Leaf}
-use Rattle.c_layout.specs.declared.shapes.BaseInfo.{BaseInfo}
 use Rattle.flow_program.specs.declared.machine_instructions.Scalar as declared
 use Rattle.flow_program.specs.declared.programs.Flow.{Flow}
-use Rattle.pointer_domain.specs.declared.base_sets.Bases.{Bases}
 use Rattle.value_domain.specs.Values.{value_lattice, value_order}
 use Rattle.value_domain.specs.declared.values.Value.{Value}
 use Rattle.value_domain.specs.declared.row_cells.Cell.{Cell}
-use Rattle.store_domain.specs.declared.access_windows.Window.{Window}
-use Rattle.store_domain.specs.declared.cell_reads.Access.{Access}
-use Rattle.store_domain.specs.declared.stores.Write.{Write}
-use Rattle.store_domain.specs.AccessWindows.{window_is_one}
-use Rattle.store_domain.specs.ClassNumbers.{same_class, class_number, class_at, is_pointer}
 use Rattle.lib_models_memory.specs.ScalarSizes.{class_bytes}
 use Rattle.store_domain.specs.NearValues.{near_value}
-use Rattle.store_domain.specs.RowPositions.{leaf_position, class_position, value_at}
-use Rattle.store_domain.specs.LeafSelection.{is_selected, has_place_in, has_stray}
-use Rattle.store_domain.specs.LiveBases.{has_base}
-use Rattle.store_domain.specs.Loads.{reaches_class}
-use Rattle.store_domain.specs.Stores.{stored_value, cell_value, is_strong, store_all}
-use Rattle.lib_models_memory.specs.Bytes.{Content}
+use Rattle.store_domain.specs.RowPositions.{value_at}
 use Rattle.lib_models_memory.specs.Instances.{Memory, bytes_at}
-use Rattle.lib_models_memory.specs.Numbers.{Labelled, number_of}
-use Rattle.store_domain_meaning.specs.Matching.{Holds}
-use Rattle.store_domain_meaning.specs.Places.{IsPlaceOf, IsLeafPlace, OwnedByLeaf, OwnedByClass, IsClassPlace}
+use Rattle.lib_models_memory.specs.Numbers.{number_of}
 use Rattle.lib_models_memory.specs.Scalars.{Scalar}
-use Rattle.store_domain_meaning.specs.ValueMeaning.{Naming, StandsScalar, StandsContent}
-use Rattle.store_domain_meaning.specs.RowMeaning.{IsLiveOf, StandsCell, StandsLeaf, StandsClass}
+use Rattle.store_domain_meaning.specs.ValueMeaning.{Naming, StandsScalar}
+use Rattle.store_domain_meaning.specs.RowMeaning.{IsLiveOf, StandsCell}
 use Rattle.lib_models_effects.specs.Accesses.{class_in}
 use Rattle.lib_models_effects.specs.ScalarBytes.{scalar_bytes}
 use Rattle.cc_base.specs.IntegerLaws.{SoundLaws}
-use Rattle.store_domain_sound.specs.Shapes.{IsShaped, AreShaped, AreLaid, at_offset}
 use Rattle.store_domain_sound.proofs.Larger.{ValueBelow, value_below, content_larger}
-use Rattle.store_domain_sound.proofs.Classes.{is_same_class, same_class_is, class_small, class_number_back, class_above}
-use Rattle.store_domain_sound.proofs.Selected.{place_selected, is_stray, counted_place, uncounted_place}
-use Rattle.store_domain_sound.specs.Scalars.{signed_in, IsOfKind}
+use Rattle.store_domain_sound.specs.Scalars.{IsOfKind}
 use Rattle.store_domain_sound.proofs.MachineStores.{IsStore}
-use Rattle.store_domain_sound.proofs.Frames.{alike, cell_stored}
+use Rattle.store_domain_sound.proofs.Frames.{cell_stored}
 use Rattle.store_domain_sound.proofs.Near.{IsNearValue, near_is, value_at_near, join_near}
 use Rattle.store_domain_sound.proofs.FreshValues.{cell_of, fresh_number, fresh_content, cell_near}
-use Rattle.store_domain_sound.proofs.StoreValues.{written, leaf_value, class_value}
+use Rattle.store_domain_sound.proofs.StoreValues.{written}
 
 module _ {I : Type 0} {l : LatticeOf I} {n : IntegersOf I} {stands : I → ℤ → Type 0} (o : OrderLaws l) (q : BoundLaws l n stands) (c : SoundLaws l n stands) (flow : Flow) (naming : Naming) {old new : Memory} {i offset : ℕ} (kind : declared.Scalar) (v : Scalar) (of_kind : IsOfKind kind v) (x : Value I) (st : StandsScalar stands naming old x v) (s : IsStore old new i offset (class_in kind) (class_bytes flow.model (class_in kind)) (scalar_bytes (class_bytes flow.model (class_in kind)) v)) where
   -- a cell that the store does not reach

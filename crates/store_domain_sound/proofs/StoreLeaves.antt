@@ -1,57 +1,45 @@
 -- The leaves and class cells of a row behind a store of a class other than char.
-use Rattle.std.proofs.Common.{◌≡◌, ℕ, zero, suc, ◌+◌, ◌<◌, ◌≤◌, Bool, true, false, cond, not, ◌&&◌, ◌||◌, Option, Some, None, List, [], ◌∷◌, length, arith, subst, sym, refl, ap, ◌∙◌, inl, inr, ◌⊎◌}
+use Rattle.std.proofs.Common.{◌≡◌, ℕ, zero, suc, ◌+◌, ◌<◌, ◌≤◌, Bool, true, false, cond, ◌&&◌, Some, List, length, arith, subst, sym, refl, ap, ◌∙◌, inl, inr}
 use Rattle.std.specs.Prelude.{slice_get, ℤ, ◌==◌, nat_lt, count_by, ◌*◌, nat_le, ◌-◌}
-use Rattle.std.proofs.lemmas.Bool.{cases_Bool, and_parts, and_from, true≢false, eqb-true, cases_eq, or_from, leb-true, ltb-true}
+use Rattle.std.proofs.lemmas.Bool.{cases_Bool, and_parts, and_from, true≢false, eqb-true, cases_eq, leb-true, ltb-true}
 use Rattle.std.proofs.lemmas.Option.{same_Some, slice_get_within}
 use Rattle.cc_base.specs.Lattices.{LatticeOf, OrderLaws}
 use Rattle.cc_base.specs.IntegerDomains.{IntegersOf, BoundLaws, RangeLaws}
-use Rattle.c_layout.specs.declared.data_model.Model.{Model}
-use Rattle.c_layout.specs.declared.leaf_lists.Class.{Class}
 use Rattle.c_layout.specs.declared.leaf_lists.Class.TheVariants.{Char}
 use Rattle.c_layout.specs.declared.leaf_lists.Leaf.{Leaf}
 use Rattle.c_layout.specs.declared.shapes.BaseInfo.{BaseInfo}
 use Rattle.flow_program.specs.declared.machine_instructions.Scalar as declared
 use Rattle.flow_program.specs.declared.programs.Flow.{Flow}
 use Rattle.pointer_domain.specs.declared.base_sets.Bases.{Bases}
-use Rattle.value_domain.specs.Values.{value_lattice, value_order}
 use Rattle.value_domain.specs.declared.values.Value.{Value}
 use Rattle.value_domain.specs.declared.row_cells.Cell.{Cell}
 use Rattle.store_domain.specs.declared.access_windows.Window.{Window}
-use Rattle.store_domain.specs.declared.cell_reads.Access.{Access}
 use Rattle.store_domain.specs.declared.stores.Write.{Write}
 use Rattle.store_domain.specs.AccessWindows.{window_is_one}
-use Rattle.store_domain.specs.ClassNumbers.{same_class, class_number, class_at, is_pointer}
+use Rattle.store_domain.specs.ClassNumbers.{same_class, class_number, class_at}
 use Rattle.lib_models_memory.specs.ScalarSizes.{class_bytes}
-use Rattle.store_domain.specs.NearValues.{near_value}
 use Rattle.store_domain.specs.RowPositions.{leaf_position, class_position, value_at}
 use Rattle.store_domain.specs.LeafSelection.{is_selected, has_place_in, has_stray}
 use Rattle.store_domain.specs.LiveBases.{has_base, is_single_kind}
 use Rattle.store_domain.specs.Loads.{reaches_class}
 use Rattle.store_domain.specs.Stores.{stored_value, cell_value, is_strong, store_all}
-use Rattle.lib_models_memory.specs.Bytes.{Content}
-use Rattle.lib_models_memory.specs.Instances.{Memory, bytes_at, live, ended, life_at}
-use Rattle.lib_models_memory.specs.Numbers.{Labelled, number_of}
-use Rattle.store_domain_meaning.specs.Matching.{Holds}
+use Rattle.lib_models_memory.specs.Instances.{Memory, live, ended, life_at}
 use Rattle.store_domain_meaning.specs.Places.{IsPlaceOf, IsLeafPlace, OwnedByLeaf, OwnedByClass, IsClassPlace}
 use Rattle.lib_models_memory.specs.Scalars.{Scalar}
-use Rattle.store_domain_meaning.specs.ValueMeaning.{Naming, StandsScalar, StandsContent}
+use Rattle.store_domain_meaning.specs.ValueMeaning.{Naming, StandsScalar}
 use Rattle.store_domain_meaning.specs.RowMeaning.{IsLiveOf, StandsCell, StandsLeaf, StandsClass, MachineState, StandsFor}
 use Rattle.lib_models_effects.specs.Accesses.{class_in}
 use Rattle.lib_models_effects.specs.ScalarBytes.{scalar_bytes}
 use Rattle.cc_base.specs.IntegerLaws.{SoundLaws}
-use Rattle.store_domain_sound.specs.Shapes.{IsShaped, AreShaped, AreLaid, at_offset}
-use Rattle.store_domain_sound.proofs.Larger.{ValueBelow, value_below, content_larger}
-use Rattle.store_domain_sound.proofs.Classes.{is_same_class, same_class_is, class_small, class_number_back, class_above}
-use Rattle.store_domain_sound.proofs.Selected.{place_selected, is_stray, counted_place, uncounted_place, single_in}
+use Rattle.store_domain_sound.specs.Shapes.{AreShaped, AreLaid, at_offset}
+use Rattle.store_domain_sound.proofs.Classes.{is_same_class, same_class_is, class_small, class_number_back}
+use Rattle.store_domain_sound.proofs.Selected.{place_selected, is_stray, counted_place, single_in}
 use Rattle.store_domain_sound.specs.Scalars.{signed_in, IsOfKind}
 use Rattle.store_domain_sound.proofs.MachineStores.{IsStore}
-use Rattle.store_domain_sound.proofs.Frames.{alike, cell_stored}
-use Rattle.store_domain_sound.proofs.Near.{IsNearValue, near_is, value_at_near, join_near}
-use Rattle.store_domain_sound.proofs.FreshValues.{cell_of, fresh_number, fresh_content, cell_near}
+use Rattle.store_domain_sound.proofs.Near.{IsNearValue}
 use Rattle.store_domain_sound.proofs.StoreValues.{written, same_value, leaf_value, class_value}
 use Rattle.store_domain_sound.proofs.StoreRows.{leaf_is, class_is, other_class_after}
 use Rattle.store_domain_sound.proofs.StoreCells.{cell_apart, cell_written}
-use Rattle.store_domain_meaning.specs.SoundMemory.{IsMemoryOf}
 use Rattle.c_layout.specs.declared.shapes.BaseKind.TheVariants.{Older}
 use Rattle.flow_program.specs.WellFormed.{base_values}
 
@@ -142,17 +130,17 @@ module _ {I : Type 0} {l : LatticeOf I} {n : IntegersOf I} {stands : I → ℤ �
   leaf_stands d j other leaf e f = elim (cases_Bool (has_base set d && is_selected leaf (class_in kind) window)) [
     | inr miss ↦ subst (StandsLeaf stands flow naming new d leaf) (sym (leaf_value l n flow.model flow.bases.items behind laid set the_write (class_small (class_in kind)) wide row d other j leaf e f (in_row d other j leaf e f) ∙ rw miss refl))
         (cell_apart o q c flow naming kind v of_kind x st u d leaf.class leaf.signed (λ size z. IsPlaceOf leaf z) (OwnedByLeaf flow.model leaf) (value_at l n row (leaf_position other j)) (s.leaves d j other leaf e f)
-          (λ h k p. leaf_missed d other j leaf e f miss h k p)
-          (λ h k z p. leaf_missed d other j leaf e f miss h k (let w = p.there in subst (IsPlaceOf leaf) (omega arith) p.place)))
+        (λ h k p. leaf_missed d other j leaf e f miss h k p)
+        (λ h k z p. leaf_missed d other j leaf e f miss h k (let w = p.there in subst (IsPlaceOf leaf) (omega arith) p.place)))
     | inl hit ↦ (let p = and_parts (has_base set d) (is_selected leaf (class_in kind) window) hit in
         let k : leaf.class ≡ class_in kind = same_class_is _ _ (and_parts (same_class leaf.class (class_in kind)) (has_place_in leaf window) p.1).0 in
         subst (StandsLeaf stands flow naming new d leaf) (sym (leaf_value l n flow.model flow.bases.items behind laid set the_write (class_small (class_in kind)) wide row d other j leaf e f (in_row d other j leaf e f) ∙ rw hit refl))
         (subst (λ z. StandsCell stands flow naming new d z leaf.signed (λ size a. IsPlaceOf leaf a) (OwnedByLeaf flow.model leaf) (written l n flow.model (value_at l n row (leaf_position other j)) (cell_value n flow.model the_write leaf.signed) (is_strong leaf the_write))) (sym k)
-          (cell_written o q c flow naming kind v of_kind x st u r near row d (leaf_position other j) leaf.signed (is_strong leaf the_write) (λ size a. IsPlaceOf leaf a) (OwnedByLeaf flow.model leaf)
-            (subst (λ z. StandsCell stands flow naming state.memory d z leaf.signed (λ size a. IsPlaceOf leaf a) (OwnedByLeaf flow.model leaf) (value_at l n row (leaf_position other j))) k (s.leaves d j other leaf e f))
-            (λ h i2 a al pl. let t = strong_place leaf p.1 h in let w = place_is leaf a t.0 pl in let y = t.1 in (strong_instance d other e p.0 (and_parts alone (window_is_one window && (leaf.count == 1)) h).0 i2 al, omega arith))
-            (λ h i2 a z al ow. let t = strong_place leaf p.1 h in let w = place_is leaf ow.start t.0 ow.place in let y = t.1 in let g = ow.there in let sm : z < class_bytes flow.model (class_in kind) = subst (λ cl. z < class_bytes flow.model cl) k ow.small in
-              (strong_instance d other e p.0 (and_parts alone (window_is_one window && (leaf.count == 1)) h).0 i2 al, omega arith, omega arith)))))
+        (cell_written o q c flow naming kind v of_kind x st u r near row d (leaf_position other j) leaf.signed (is_strong leaf the_write) (λ size a. IsPlaceOf leaf a) (OwnedByLeaf flow.model leaf)
+        (subst (λ z. StandsCell stands flow naming state.memory d z leaf.signed (λ size a. IsPlaceOf leaf a) (OwnedByLeaf flow.model leaf) (value_at l n row (leaf_position other j))) k (s.leaves d j other leaf e f))
+        (λ h i2 a al pl. let t = strong_place leaf p.1 h in let w = place_is leaf a t.0 pl in let y = t.1 in (strong_instance d other e p.0 (and_parts alone (window_is_one window && (leaf.count == 1)) h).0 i2 al, omega arith))
+        (λ h i2 a z al ow. let t = strong_place leaf p.1 h in let w = place_is leaf ow.start t.0 ow.place in let y = t.1 in let g = ow.there in let sm : z < class_bytes flow.model (class_in kind) = subst (λ cl. z < class_bytes flow.model cl) k ow.small in
+        (strong_instance d other e p.0 (and_parts alone (window_is_one window && (leaf.count == 1)) h).0 i2 al, omega arith, omega arith)))))
   ]
 
   -- ---- class cells
@@ -169,8 +157,8 @@ module _ {I : Type 0} {l : LatticeOf I} {n : IntegersOf I} {stands : I → ℤ �
   own_class_stands d other e heap old = elim (cases_Bool (has_base set d && reaches_class other (the_write).access)) [
     | inr miss ↦ subst (StandsClass stands flow naming new d other (class_in kind)) (sym (class_value l n flow.model flow.bases.items behind laid set the_write (class_small (class_in kind)) wide row d other e heap (class_in_row d other e heap (class_number (class_in kind)) (class_small (class_in kind))) ∙ rw miss refl))
         (cell_apart o q c flow naming kind v of_kind x st u d (class_in kind) true (IsClassPlace flow.model other.shape.cells (class_in kind)) (OwnedByClass flow.model other.shape.cells (class_in kind)) (value_at l n row (class_position other (class_number (class_in kind)))) old
-          (λ h k p. class_missed d other e heap miss h p.no_leaf)
-          (λ h k z p. class_missed d other e heap miss h (p.no_leaf offset refl)))
+        (λ h k p. class_missed d other e heap miss h p.no_leaf)
+        (λ h k z p. class_missed d other e heap miss h (p.no_leaf offset refl)))
     | inl hit ↦ subst (StandsClass stands flow naming new d other (class_in kind)) (sym (class_value l n flow.model flow.bases.items behind laid set the_write (class_small (class_in kind)) wide row d other e heap (class_in_row d other e heap (class_number (class_in kind)) (class_small (class_in kind))) ∙ rw hit refl))
         (cell_written o q c flow naming kind v of_kind x st u r near row d (class_position other (class_number (class_in kind))) true false (IsClassPlace flow.model other.shape.cells (class_in kind)) (OwnedByClass flow.model other.shape.cells (class_in kind)) old (λ h. cc) (λ h. cc))
   ]
@@ -179,11 +167,11 @@ module _ {I : Type 0} {l : LatticeOf I} {n : IntegersOf I} {stands : I → ℤ �
   class_stands d cn other e heap h = elim (cases_eq cn (class_number (class_in kind))) [
     | inl f ↦ (let k : class_at cn ≡ class_in kind = ap class_at f ∙ class_number_back (class_in kind) in
         let a : StandsClass stands flow naming state.memory d other (class_in kind) (value_at l n row (class_position other (class_number (class_in kind)))) =
-            subst (λ z. StandsClass stands flow naming state.memory d other (class_in kind) (value_at l n row (class_position other z))) f (subst (λ z. StandsClass stands flow naming state.memory d other z (value_at l n row (class_position other cn))) k (s.classes d cn other e heap h)) in
+        subst (λ z. StandsClass stands flow naming state.memory d other (class_in kind) (value_at l n row (class_position other z))) f (subst (λ z. StandsClass stands flow naming state.memory d other z (value_at l n row (class_position other cn))) k (s.classes d cn other e heap h)) in
         subst (λ z. StandsClass stands flow naming new d other z (value_at l n (store_all l n flow.model flow.bases.items set the_write row) (class_position other cn))) (sym k)
         (subst (λ z. StandsClass stands flow naming new d other (class_in kind) (value_at l n (store_all l n flow.model flow.bases.items set the_write row) (class_position other z))) (sym f) (own_class_stands d other e heap a)))
     | inr f ↦ (let ne : class_at cn ≡ class_in kind → ⊥ = λ k. f (sym (number_at cn h) ∙ ap class_number k) in
         subst (StandsClass stands flow naming new d other (class_at cn)) (sym (same_value l n row _ (class_position other cn) (other_class_after l n flow.model flow.bases.items behind laid set the_write (class_small (class_in kind)) wide d other cn e heap h f row)))
         (cell_apart o q c flow naming kind v of_kind x st u d (class_at cn) true (IsClassPlace flow.model other.shape.cells (class_at cn)) (OwnedByClass flow.model other.shape.cells (class_at cn)) (value_at l n row (class_position other cn)) (s.classes d cn other e heap h)
-          (λ a k p. ne k) (λ a k z p. ne k)))
+        (λ a k p. ne k) (λ a k z p. ne k)))
   ]

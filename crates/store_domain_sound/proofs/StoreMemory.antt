@@ -1,26 +1,25 @@
 -- Memory is sound behind a store of a class other than char.
-use Rattle.std.proofs.Common.{◌≡◌, ℕ, zero, suc, ◌+◌, ◌-◌, ◌<◌, ◌≤◌, Bool, true, false, cond, Option, Some, None, List, [], ◌∷◌, length, arith, subst, sym, refl, ap, ◌∙◌, inl, inr, ◌⊎◌}
+use Rattle.std.proofs.Common.{◌≡◌, ℕ, ◌+◌, ◌-◌, ◌<◌, false, Option, Some, List, length, arith, subst, sym, refl, ap, ◌∙◌, inl, inr, ◌⊎◌}
 use Rattle.std.specs.Prelude.{slice_get}
-use Rattle.std.proofs.lemmas.Bool.{cases_Bool, true≢false}
+use Rattle.std.proofs.lemmas.Bool.{true≢false}
 use Rattle.std.proofs.lemmas.Option.{same_Some, slice_get_within}
 use Rattle.c_layout.specs.declared.data_model.Model.{Model}
-use Rattle.c_layout.specs.declared.leaf_lists.Class.{Class}
-use Rattle.c_layout.specs.declared.leaf_lists.Class.TheVariants.{Char, Pointer}
+use Rattle.c_layout.specs.declared.leaf_lists.Class.TheVariants.{Pointer}
 use Rattle.c_layout.specs.declared.shapes.BaseInfo.{BaseInfo}
 use Rattle.flow_program.specs.declared.machine_instructions.Scalar.TheVariants as of
 use Rattle.flow_program.specs.declared.machine_instructions.Scalar as declared
 use Rattle.lib_models_memory.specs.ScalarSizes.{class_bytes}
 use Rattle.lib_models_memory.specs.Bytes.{MachinePointer, null, into, Content, indeterminate, number, part, Tag, Byte}
-use Rattle.lib_models_memory.specs.Instances.{Memory, Instance, live, ended, freed, bytes_of, bytes_at, byte_at, life_of, life_at}
-use Rattle.lib_models_memory.specs.Tags.{tag_of, tag_at}
+use Rattle.lib_models_memory.specs.Instances.{Memory, Instance, bytes_of, bytes_at, byte_at, life_of, life_at}
+use Rattle.lib_models_memory.specs.Tags.{tag_of}
 use Rattle.lib_models_memory.specs.Scalars.{Scalar, integer, pointer}
 use Rattle.store_domain_meaning.specs.ValueMeaning.{Naming}
-use Rattle.store_domain_meaning.specs.SoundMemory.{storage_for, IsInstanceOf, IsFreedRightly, IsMemoryOf, IsPointerIn, IsScalarIn, IsContentIn, IsNamed, IsContentNamed}
+use Rattle.store_domain_meaning.specs.SoundMemory.{IsInstanceOf, IsFreedRightly, IsMemoryOf, IsPointerIn, IsScalarIn, IsContentIn, IsContentNamed}
 use Rattle.lib_models_effects.specs.ScalarBytes.{scalar_bytes, bits_in}
 use Rattle.lib_models_effects.specs.Touches.{is_allocated, storage_of, storage_at}
 use Rattle.lib_models_effects.specs.Accesses.{class_in}
 use Rattle.lib_models_memory.specs.Labels.{no_labels}
-use Rattle.store_domain_sound.specs.Shapes.{IsShaped, AreShaped}
+use Rattle.store_domain_sound.specs.Shapes.{AreShaped}
 use Rattle.store_domain_sound.specs.Scalars.{IsOfKind, IsScalarNamed}
 use Rattle.store_domain_sound.proofs.Slices.{get_there}
 use Rattle.store_domain_sound.proofs.MachineStores.{IsStore}

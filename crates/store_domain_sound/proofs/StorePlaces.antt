@@ -1,27 +1,22 @@
 -- There is something to store, and a place for it.
-use Rattle.std.proofs.Common.{◌≡◌, ℕ, zero, suc, ◌+◌, ◌/◌, ◌%◌, ◌<◌, ◌≤◌, Bool, true, false, cond, not, ◌&&◌, ◌||◌, Option, Some, None, List, [], ◌∷◌, length, arith, subst, sym, refl, ap, ◌∙◌, inl, inr, ◌⊎◌}
-use Rattle.std.specs.Prelude.{slice_get, ℤ, ◌==◌, is_none, count_by}
+use Rattle.std.proofs.Common.{◌≡◌, ℕ, zero, suc, ◌/◌, ◌%◌, Bool, true, false, cond, not, ◌&&◌, ◌||◌, Some, List, arith, sym, refl, ap, ◌∙◌}
+use Rattle.std.specs.Prelude.{slice_get, ℤ, ◌==◌, is_none}
 use Rattle.std.specs.Int.{bit_at}
 use Rattle.std.proofs.lemmas.Nat.Bits.{bit_at-zero}
-use Rattle.std.proofs.lemmas.Bool.{cases_Bool, and_parts, and_from, true≢false, eqb-true, or_left, or_right, false_from_ne_true, ne_eqb}
+use Rattle.std.proofs.lemmas.Bool.{and_parts, and_from, true≢false, eqb-true, or_left, or_right, false_from_ne_true, ne_eqb}
 use Rattle.cc_base.specs.Lattices.{LatticeOf}
 use Rattle.cc_base.specs.IntegerDomains.{IntegersOf, BoundLaws}
-use Rattle.cc_base.specs.NumberRanges.{Range}
 use Rattle.c_layout.specs.declared.data_model.Model.{Model}
-use Rattle.c_layout.specs.declared.leaf_lists.Class.{Class}
-use Rattle.c_layout.specs.declared.leaf_lists.Class.TheVariants.{Pointer}
 use Rattle.c_layout.specs.declared.leaf_lists.Leaf.{Leaf}
 use Rattle.c_layout.specs.declared.shapes.BaseInfo.{BaseInfo}
 use Rattle.flow_program.specs.declared.machine_instructions.Scalar.TheVariants as of
 use Rattle.flow_program.specs.declared.machine_instructions.Scalar as declared
 use Rattle.pointer_domain.specs.declared.base_sets.Bases.{Bases}
 use Rattle.pointer_domain.specs.declared.pointer_sets.Pointers.{Pointers}
-use Rattle.pointer_domain.specs.BaseSets.{no_base, word_of, bases_has, bases_empty}
+use Rattle.pointer_domain.specs.BaseSets.{word_of, bases_has, bases_empty}
 use Rattle.pointer_domain.specs.PointerTables.{is_any}
 use Rattle.value_domain.specs.declared.values.Value.{Value}
-use Rattle.store_domain.specs.declared.access_windows.Window.{Window}
 use Rattle.store_domain.specs.declared.cell_reads.Access.{Access}
-use Rattle.store_domain.specs.ClassNumbers.{same_class, is_pointer}
 use Rattle.store_domain.specs.LeafSelection.{is_selected, selected_count}
 use Rattle.store_domain.specs.LiveBases.{has_base}
 use Rattle.store_domain.specs.Loads.{reaches_class}

@@ -1,12 +1,11 @@
 -- What a store of a class other than char makes of each position of a row.
-use Rattle.std.proofs.Common.{◌≡◌, ℕ, zero, suc, ◌+◌, ◌-◌, ◌^◌, ◌<◌, ◌≤◌, Bool, true, false, cond, not, ◌&&◌, Option, Some, None, List, [], ◌∷◌, length, arith, subst, sym, refl, ap, ◌∙◌, inl, inr, ◌⊎◌}
-use Rattle.std.specs.Prelude.{slice_get, set, is_some}
+use Rattle.std.proofs.Common.{◌≡◌, ℕ, ◌+◌, ◌-◌, ◌^◌, ◌<◌, ◌≤◌, Bool, true, false, cond, Option, Some, List, length, arith, sym, refl, ap, ◌∙◌, inl, inr}
+use Rattle.std.specs.Prelude.{slice_get, is_some}
 use Rattle.std.proofs.lemmas.Bool.{cases_Bool, and_parts, true≢false}
 use Rattle.std.proofs.lemmas.Option.{slice_get_within}
 use Rattle.cc_base.specs.Lattices.{LatticeOf}
 use Rattle.cc_base.specs.IntegerDomains.{IntegersOf}
 use Rattle.c_layout.specs.declared.data_model.Model.{Model}
-use Rattle.c_layout.specs.declared.leaf_lists.Class.{Class}
 use Rattle.c_layout.specs.declared.leaf_lists.Class.TheVariants.{Char}
 use Rattle.c_layout.specs.declared.leaf_lists.Leaf.{Leaf}
 use Rattle.c_layout.specs.declared.shapes.BaseInfo.{BaseInfo}
@@ -16,20 +15,19 @@ use Rattle.pointer_domain.specs.declared.base_sets.Bases.{Bases}
 use Rattle.value_domain.specs.Values.{value_lattice}
 use Rattle.value_domain.specs.declared.values.Value as values
 use Rattle.value_domain.specs.declared.row_cells.Cell.{Cell}
-use Rattle.value_domain.specs.declared.row_cells.Cell.TheVariants.{Nothing, Value, First, State, Mixed}
+use Rattle.value_domain.specs.declared.row_cells.Cell.TheVariants.{Value, First}
 use Rattle.store_domain.specs.declared.access_windows.Window.{Window}
 use Rattle.store_domain.specs.declared.cell_reads.Access.{Access}
 use Rattle.store_domain.specs.declared.stores.Write.{Write}
 use Rattle.store_domain.specs.ClassNumbers.{same_class, class_number}
-use Rattle.store_domain.specs.NearValues.{near_value}
-use Rattle.store_domain.specs.RowPositions.{capped, leaf_position, class_position, class_count, zero_position, state_position, cell_at, value_in, value_at, zero_in, zero_at, state_at, put_value, join_value, write_value, put_zero}
+use Rattle.store_domain.specs.RowPositions.{leaf_position, class_position, zero_position, state_position, cell_at, value_at, join_value, write_value}
 use Rattle.store_domain.specs.LeafSelection.{is_selected}
 use Rattle.store_domain.specs.LiveBases.{has_base}
 use Rattle.store_domain.specs.FirstZeroWrites.{zero_target, forget_target, forget_part, forget_zeros, any_zero}
 use Rattle.store_domain.specs.Loads.{reaches_class}
 use Rattle.store_domain.specs.Stores.{cell_value, is_strong, store_leaf_at, store_leaf, store_leaves, store_class_cell, store_own, store_wider, store_base, store_if, store_to, store_all}
 use Rattle.store_domain_sound.specs.Shapes.{AreLaid}
-use Rattle.store_domain_sound.proofs.Only.{Leaves, Only, only_leaves, only_more, only_same, only_put, only_cond, only_if, only_then, cell_put, only_walk, Turned, walk_turn}
+use Rattle.store_domain_sound.proofs.Only.{Leaves, Only, only_leaves, only_more, only_same, only_put, only_cond, only_if, only_then, only_walk, Turned, walk_turn}
 
 -- ---- positions
 
@@ -58,8 +56,8 @@ module _ {I : Type 0} (l : LatticeOf I) (n : IntegersOf I) (m : Model) where
   leaf_only write leaf p =
       only_cond p (p + 1) (is_selected leaf write.access.class write.access.window) _ (λ row. row)
       (only_cond p (p + 1) (is_strong leaf write) _ _
-        (only_put p (p + 1) p (λ row. Value (cell_value n m write leaf.signed)) (omega arith) (omega arith))
-        (only_put p (p + 1) p (λ row. Value ((value_lattice l).join (value_at l n row p) (cell_value n m write leaf.signed))) (omega arith) (omega arith)))
+      (only_put p (p + 1) p (λ row. Value (cell_value n m write leaf.signed)) (omega arith) (omega arith))
+      (only_put p (p + 1) p (λ row. Value ((value_lattice l).join (value_at l n row p) (cell_value n m write leaf.signed))) (omega arith) (omega arith)))
       (only_same p (p + 1))
 
   pub leaves_only : (base : BaseInfo) (write : Write I) → Fits base → Only base.first (base.first + length base.shape.cells) (store_leaves l n m base write)
@@ -80,9 +78,9 @@ module _ {I : Type 0} (l : LatticeOf I) (n : IntegersOf I) (m : Model) where
   unfolding store_class_cell
   class_only base write f small = only_if _ _ (reaches_class base write.access) _ (λ row. row)
       (λ r. let e = heap_if_reached base write.access r in
-        let k : cond {A = ℕ} base.shape.heap 6 0 ≡ 6 = rw e in
-        let p = class_is base (class_number write.access.class) f (omega arith) in
-        only_more _ _ (λ row. join_value l n row (class_position base (class_number write.access.class)) (cell_value n m write true)) (omega arith) (omega arith) (join_only (class_position base (class_number write.access.class)) (cell_value n m write true)))
+      let k : cond {A = ℕ} base.shape.heap 6 0 ≡ 6 = rw e in
+      let p = class_is base (class_number write.access.class) f (omega arith) in
+      only_more _ _ (λ row. join_value l n row (class_position base (class_number write.access.class)) (cell_value n m write true)) (omega arith) (omega arith) (join_only (class_position base (class_number write.access.class)) (cell_value n m write true)))
       (λ r. only_same _ _)
 
   forget_only : (p : ℕ) (b : Option _) → Only p (p + 1) (λ row. forget_target l n row p b)
@@ -110,7 +108,7 @@ module _ {I : Type 0} (l : LatticeOf I) (n : IntegersOf I) (m : Model) where
   base_only base write f small wide = only_if _ _ (same_class write.access.class Char) _ (λ row. store_wider l n base write.access.window (store_own l n m base write row))
       (λ e. absurd (true≢false (sym e ∙ wide)))
       (λ e. only_then _ _ (store_own l n m base write) (store_wider l n base write.access.window)
-        (only_more _ _ _ (omega arith) (omega arith) (own_only base write f small)) (only_more _ _ _ (omega arith) (omega arith) (wider_only base write.access.window f)))
+      (only_more _ _ _ (omega arith) (omega arith) (own_only base write f small)) (only_more _ _ _ (omega arith) (omega arith) (wider_only base write.access.window f)))
 
   pub if_only : (lo hi : ℕ) (wanted : Bool) (base : BaseInfo) (write : Write I) → Only lo hi (store_base l n m base write) → Only lo hi (store_if l n m wanted write base)
   unfolding store_if

@@ -1,70 +1,55 @@
 -- A store of a class other than char is stood for.
-use Rattle.std.proofs.Common.{◌≡◌, ℕ, zero, suc, ◌+◌, ◌<◌, ◌≤◌, Bool, true, false, cond, not, ◌&&◌, ◌||◌, Option, Some, None, List, [], ◌∷◌, length, arith, subst, sym, refl, ap, ◌∙◌, inl, inr, ◌⊎◌, take, drop, ◌-◌}
-use Rattle.std.specs.Prelude.{slice_get, ℤ, ◌==◌, nat_lt, count_by, ◌*◌, nat_le, ◌-◌}
-use Rattle.std.proofs.lemmas.Bool.{cases_Bool, and_parts, and_from, true≢false, eqb-true, cases_eq, or_from, leb-true, ltb-true, lt-ltb}
+use Rattle.std.proofs.Common.{◌≡◌, ℕ, zero, suc, ◌+◌, ◌<◌, ◌≤◌, Bool, true, false, Some, None, List, length, arith, subst, sym, refl, ap, ◌∙◌, inl, inr, drop, ◌-◌}
+use Rattle.std.specs.Prelude.{slice_get, ℤ, ◌==◌, nat_lt, count_by, ◌-◌}
+use Rattle.std.proofs.lemmas.Bool.{and_parts, and_from, true≢false, eqb-true, ltb-true, lt-ltb}
 use Rattle.std.proofs.lemmas.Option.{same_Some, slice_get_within}
 use Rattle.cc_base.specs.Lattices.{LatticeOf, OrderLaws}
 use Rattle.cc_base.specs.IntegerDomains.{IntegersOf, BoundLaws, RangeLaws}
-use Rattle.c_layout.specs.declared.data_model.Model.{Model}
 use Rattle.c_layout.specs.declared.leaf_lists.Class.{Class}
 use Rattle.c_layout.specs.declared.leaf_lists.Class.TheVariants.{Char}
-use Rattle.c_layout.specs.declared.leaf_lists.Leaf.{Leaf}
 use Rattle.c_layout.specs.declared.shapes.BaseInfo.{BaseInfo}
 use Rattle.flow_program.specs.declared.machine_instructions.Scalar as declared
 use Rattle.flow_program.specs.declared.programs.Flow.{Flow}
 use Rattle.pointer_domain.specs.declared.base_sets.Bases.{Bases}
-use Rattle.value_domain.specs.Values.{value_lattice, value_order}
 use Rattle.value_domain.specs.declared.values.Value.{Value}
 use Rattle.value_domain.specs.declared.row_cells.Cell.{Cell}
 use Rattle.store_domain.specs.declared.access_windows.Window.{Window}
 use Rattle.store_domain.specs.declared.cell_reads.Access.{Access}
 use Rattle.store_domain.specs.declared.stores.Write.{Write}
-use Rattle.store_domain.specs.AccessWindows.{window_is_one, last_offset, window_of}
-use Rattle.store_domain.specs.ClassNumbers.{same_class, class_number, class_at, is_pointer}
+use Rattle.store_domain.specs.AccessWindows.{last_offset}
+use Rattle.store_domain.specs.ClassNumbers.{same_class}
 use Rattle.lib_models_memory.specs.ScalarSizes.{class_bytes}
-use Rattle.store_domain.specs.NearValues.{near_value}
-use Rattle.store_domain.specs.RowPositions.{leaf_position, class_position, value_at, zero_position, state_position, zero_at, state_at}
-use Rattle.store_domain.specs.LeafSelection.{is_selected, has_place_in, has_stray}
-use Rattle.store_domain.specs.LiveBases.{has_base, is_single_kind, most_bases, is_live_in, may_be_live, is_literal_kind, is_one_instance, single_bases}
-use Rattle.store_domain.specs.Loads.{reaches_class}
-use Rattle.store_domain.specs.Stores.{stored_value, cell_value, is_strong, store_all, reached_of, write_to, any_place, has_own_place, is_nothing, can_store, store_access, store as abstract_store}
+use Rattle.store_domain.specs.RowPositions.{zero_position, state_position, zero_at, state_at}
+use Rattle.store_domain.specs.LeafSelection.{has_stray}
+use Rattle.store_domain.specs.LiveBases.{has_base, most_bases, is_live_in, may_be_live, is_literal_kind, is_one_instance, single_bases}
+use Rattle.store_domain.specs.Stores.{stored_value, store_all, reached_of, any_place, has_own_place, is_nothing, can_store, store_access, store as abstract_store}
 use Rattle.lib_models_memory.specs.Bytes.{Content, MachinePointer, null, into, Tag, Byte}
-use Rattle.lib_models_memory.specs.Instances.{Memory, bytes_at, live, ended, life_at, Instance, Storage, Life, freed, bytes_of, byte_at}
-use Rattle.lib_models_memory.specs.Numbers.{Labelled, number_of}
-use Rattle.store_domain_meaning.specs.Matching.{Holds}
-use Rattle.store_domain_meaning.specs.Places.{IsPlaceOf, IsLeafPlace, OwnedByLeaf, OwnedByClass, IsClassPlace}
+use Rattle.lib_models_memory.specs.Instances.{Memory, bytes_at, live, ended, life_at, Life, freed, bytes_of, byte_at}
 use Rattle.lib_models_memory.specs.Scalars.{Scalar, integer, pointer}
-use Rattle.store_domain_meaning.specs.ValueMeaning.{Naming, StandsScalar, StandsContent, StandsInto, StandsByLife, StandsPointer, StandsState, StandsZero}
-use Rattle.store_domain_meaning.specs.RowMeaning.{IsLiveOf, StandsCell, StandsLeaf, StandsClass, MachineState, StandsFor, array_of, array_bytes}
+use Rattle.store_domain_meaning.specs.ValueMeaning.{Naming, StandsScalar, StandsInto, StandsByLife, StandsPointer, StandsState, StandsZero}
+use Rattle.store_domain_meaning.specs.RowMeaning.{IsLiveOf, MachineState, StandsFor, array_of, array_bytes}
 use Rattle.lib_models_effects.specs.Accesses.{class_in, store}
 use Rattle.lib_models_effects.specs.ScalarBytes.{scalar_bytes}
 use Rattle.cc_base.specs.IntegerLaws.{SoundLaws}
 use Rattle.store_domain_sound.specs.Shapes.{IsShaped, AreShaped, AreLaid, at_offset, HasTexts}
-use Rattle.store_domain_sound.proofs.Larger.{ValueBelow, value_below, content_larger}
-use Rattle.store_domain_sound.proofs.Classes.{is_same_class, same_class_is, class_small, class_number_back, class_above}
-use Rattle.store_domain_sound.proofs.Selected.{place_selected, is_stray, counted_place, uncounted_place, single_in}
+use Rattle.store_domain_sound.proofs.Classes.{is_same_class, class_small, class_above}
+use Rattle.store_domain_sound.proofs.Selected.{place_selected, is_stray, counted_place}
 use Rattle.store_domain_sound.specs.Scalars.{signed_in, IsOfKind, IsScalarNamed}
-use Rattle.store_domain_sound.proofs.MachineStores.{IsStore, HasStored, store_goes}
-use Rattle.store_domain_sound.proofs.Frames.{alike, cell_stored, scalar_moves, scalar_in_moves, live_moves, in_or_out}
-use Rattle.store_domain_sound.proofs.Near.{IsNearValue, near_is, value_at_near, join_near}
-use Rattle.store_domain_sound.proofs.FreshValues.{cell_of, fresh_number, fresh_content, cell_near}
-use Rattle.store_domain_sound.proofs.StoreValues.{written, same_value, leaf_value, class_value, same_zero, same_state}
-use Rattle.store_domain_sound.proofs.StoreRows.{leaf_is, class_is, other_class_after, zero_is, state_after, object_zero_after, heap_zero_after, behind_keeps}
-use Rattle.store_domain_sound.proofs.StoreCells.{cell_apart, cell_written}
-use Rattle.store_domain_meaning.specs.SoundMemory.{IsMemoryOf, IsWithin, IsPointerIn, IsScalarIn, IsInstanceOf, IsNamed, storage_for}
+use Rattle.store_domain_sound.proofs.MachineStores.{IsStore, store_goes}
+use Rattle.store_domain_sound.proofs.Frames.{alike, scalar_moves, scalar_in_moves, live_moves, in_or_out}
+use Rattle.store_domain_sound.proofs.Near.{IsNearValue}
+use Rattle.store_domain_sound.proofs.StoreValues.{same_value, same_zero, same_state}
+use Rattle.store_domain_sound.proofs.StoreRows.{zero_is, state_after, object_zero_after, heap_zero_after, behind_keeps}
+use Rattle.store_domain_meaning.specs.SoundMemory.{IsWithin, IsPointerIn, IsScalarIn, IsNamed, storage_for}
 use Rattle.c_layout.specs.declared.shapes.BaseKind.TheVariants.{Older, Static, Automatic, Literal, Newest}
-use Rattle.flow_program.specs.WellFormed.{base_values}
-
-use Rattle.cc_base.specs.declared.diagnostics.Rule.TheVariants as rule
 use Rattle.c_layout.specs.declared.shapes.ZeroPart.{ZeroPart}
 use Rattle.c_layout.specs.declared.shapes.BaseKind.{BaseKind}
 use Rattle.pointer_domain.specs.declared.pointer_sets.Pointers.{Pointers}
 use Rattle.pointer_domain.specs.BaseSets.{bases_has, bases_count, bases_within}
 use Rattle.abstract_steps_checks.specs.Temporaries.{temp_position, temp_value}
 use Rattle.value_domain.specs.declared.alloc_states.AllocState.{AllocState}
-use Rattle.lib_models_memory.specs.Tags.{tag_of, tag_at}
-use Rattle.store_domain_meaning.specs.FirstZeroBytes.{first_zero}
-use Rattle.lib_models_effects.specs.Worlds.{World, Reply, goes}
+use Rattle.lib_models_memory.specs.Tags.{tag_of}
+use Rattle.lib_models_effects.specs.Worlds.{World, goes}
 use Rattle.lib_models_effects.specs.Touches.{is_literal, is_allocated, storage_of, storage_at}
 use Rattle.store_domain_sound.specs.Gives.{Gives}
 use Rattle.store_domain_sound.proofs.Slices.{get_there}
@@ -177,7 +162,7 @@ module _ {I : Type 0} {l : LatticeOf I} {n : IntegersOf I} {stands : I → ℤ �
         let k = same_state l n row after (state_position other) (state_after l n flow.model flow.bases.items behind laid set write (class_small (class_in kind)) wide d other e heap row) in
         subst (λ y. StandsState stands naming new y (life_at new j) (length (bytes_at new j))) (sym k)
         (subst (λ y. StandsState stands naming new (state_at l n row (state_position other)) (life_at new j) y) (sym (u.lengths j))
-          (subst (λ y. StandsState stands naming new (state_at l n row (state_position other)) y (length (bytes_at state.memory j))) (sym (u.lives j)) (state_by (state_at l n row (state_position other)) (life_at state.memory j) (length (bytes_at state.memory j)) (s.states d j other e heap h))))
+        (subst (λ y. StandsState stands naming new (state_at l n row (state_position other)) y (length (bytes_at state.memory j))) (sym (u.lives j)) (state_by (state_at l n row (state_position other)) (life_at state.memory j) (length (bytes_at state.memory j)) (s.states d j other e heap h))))
 
     temp_stands : (t : ℕ) (scalar : Scalar) → state.temps t ≡ Some scalar → StandsScalar stands naming new (temp_value l n flow after t) scalar
     temp_stands t scalar e =

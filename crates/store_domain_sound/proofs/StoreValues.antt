@@ -1,7 +1,6 @@
 -- The values behind a store of a class other than char.
-use Rattle.std.proofs.Common.{◌≡◌, ℕ, zero, suc, ◌+◌, ◌<◌, ◌≤◌, Bool, true, false, cond, not, ◌&&◌, Option, Some, None, List, [], ◌∷◌, length, arith, subst, sym, refl, ap, ◌∙◌, inl, inr, ◌⊎◌}
+use Rattle.std.proofs.Common.{◌≡◌, ℕ, ◌<◌, Bool, true, false, cond, ◌&&◌, Some, List, length, arith, subst, sym, refl, ap, ◌∙◌}
 use Rattle.std.specs.Prelude.{slice_get, set}
-use Rattle.std.proofs.lemmas.Bool.{cases_Bool}
 use Rattle.cc_base.specs.Lattices.{LatticeOf}
 use Rattle.cc_base.specs.IntegerDomains.{IntegersOf}
 use Rattle.c_layout.specs.declared.data_model.Model.{Model}
@@ -12,18 +11,18 @@ use Rattle.pointer_domain.specs.declared.base_sets.Bases.{Bases}
 use Rattle.value_domain.specs.Values.{value_lattice}
 use Rattle.value_domain.specs.declared.values.Value as values
 use Rattle.value_domain.specs.declared.row_cells.Cell.{Cell}
-use Rattle.value_domain.specs.declared.row_cells.Cell.TheVariants.{Nothing, Value, First, State, Mixed}
+use Rattle.value_domain.specs.declared.row_cells.Cell.TheVariants.{Value}
 use Rattle.store_domain.specs.declared.stores.Write.{Write}
 use Rattle.store_domain.specs.ClassNumbers.{same_class, class_number}
 use Rattle.store_domain.specs.NearValues.{near_value}
-use Rattle.store_domain.specs.RowPositions.{leaf_position, class_position, cell_at, value_in, value_at, zero_at, state_at, put_value, join_value, write_value}
+use Rattle.store_domain.specs.RowPositions.{leaf_position, class_position, cell_at, value_in, value_at, zero_at, state_at, join_value, write_value}
 use Rattle.store_domain.specs.LeafSelection.{is_selected}
 use Rattle.store_domain.specs.LiveBases.{has_base}
 use Rattle.store_domain.specs.Loads.{reaches_class}
 use Rattle.store_domain.specs.Stores.{cell_value, is_strong, store_leaf_at, store_leaf, store_class_cell, store_all}
 use Rattle.store_domain_sound.specs.Shapes.{AreLaid}
-use Rattle.store_domain_sound.proofs.Only.{Turned, cell_put}
-use Rattle.store_domain_sound.proofs.StoreRows.{leaf_after, class_after, stays_after}
+use Rattle.store_domain_sound.proofs.Only.{cell_put}
+use Rattle.store_domain_sound.proofs.StoreRows.{leaf_after, class_after}
 
 module _ {I : Type 0} (l : LatticeOf I) (n : IntegersOf I) where
   pub same_value : (row after : List (Cell I)) (p : ℕ) → cell_at after p ≡ cell_at row p → value_at l n after p ≡ value_at l n row p

@@ -1,31 +1,26 @@
 -- The first zeros behind a store of a class other than char.
-use Rattle.std.proofs.Common.{◌≡◌, ℕ, zero, suc, ◌+◌, ◌-◌, ◌^◌, ◌<◌, ◌≤◌, Bool, true, false, cond, not, ◌&&◌, Option, Some, None, List, [], ◌∷◌, length, take, drop, arith, subst, sym, refl, ap, ◌∙◌, inl, inr, ◌⊎◌}
-use Rattle.std.specs.Prelude.{slice_get, set, ℤ, pos, neg_ℤ, ◌≤ℤ◌, is_some, int_le, min, max, nat_le}
+use Rattle.std.proofs.Common.{◌≡◌, ℕ, zero, suc, ◌+◌, ◌-◌, ◌^◌, ◌<◌, ◌≤◌, Bool, true, false, cond, Option, Some, None, List, [], ◌∷◌, length, take, drop, arith, subst, sym, refl, ap, ◌∙◌, inl, inr, ◌⊎◌}
+use Rattle.std.specs.Prelude.{slice_get, ℤ, pos, ◌≤ℤ◌, is_some, int_le, min, max, nat_le}
 use Rattle.std.proofs.lemmas.Int.{ints}
-use Rattle.std.proofs.lemmas.Bool.{cases_Bool, cases_lt, cases_eq, true≢false, le-leb}
-use Rattle.std.proofs.lemmas.Option.{same_Some, slice_get_within, slice_get_past}
+use Rattle.std.proofs.lemmas.Bool.{cases_Bool, cases_lt, le-leb}
+use Rattle.std.proofs.lemmas.Option.{same_Some}
 use Rattle.cc_base.specs.Lattices.{LatticeOf, OrderLaws}
 use Rattle.cc_base.specs.IntegerDomains.{IntegersOf, BoundLaws, between_or_least}
-use Rattle.c_layout.specs.declared.data_model.Model.{Model}
-use Rattle.c_layout.specs.declared.leaf_lists.Class.{Class}
-use Rattle.c_layout.specs.declared.leaf_lists.Class.TheVariants.{Char}
-use Rattle.c_layout.specs.declared.shapes.BaseInfo.{BaseInfo}
 use Rattle.c_layout.specs.declared.shapes.ZeroPart.{ZeroPart}
 use Rattle.string_domain.specs.declared.first_zeros.FirstZero.{FirstZero}
 use Rattle.string_domain.specs.FirstZeros.{the_end, zero_of}
 use Rattle.value_domain.specs.declared.row_cells.Cell.{Cell}
 use Rattle.value_domain.specs.declared.row_cells.Cell.TheVariants.{First}
 use Rattle.store_domain.specs.declared.access_windows.Window.{Window}
-use Rattle.store_domain.specs.AccessWindows.{last_offset, window_between, window_between_if, window_met}
+use Rattle.store_domain.specs.AccessWindows.{last_offset}
 use Rattle.store_domain.specs.NearValues.{near_number}
 use Rattle.store_domain.specs.RowPositions.{cell_at, zero_in, zero_at, put_zero}
-use Rattle.store_domain.specs.FirstZeroWrites.{zero_target, target_at, has_no_bytes, last_of, forget_target, any_zero}
+use Rattle.store_domain.specs.FirstZeroWrites.{zero_target, forget_target, any_zero}
 use Rattle.lib_models_memory.specs.Bytes.{Byte}
-use Rattle.lib_models_memory.specs.Instances.{Memory, bytes_at}
+use Rattle.lib_models_memory.specs.Instances.{Memory}
 use Rattle.store_domain_meaning.specs.FirstZeroBytes.{Seen, unknown, end, character, seen_as, one_more, zero_by, first_zero, zero_offset}
 use Rattle.store_domain_meaning.specs.ValueMeaning.{Naming, StandsZero}
-use Rattle.store_domain_meaning.specs.RowMeaning.{array_of, array_bytes}
-use Rattle.store_domain_sound.proofs.Slices.{get_take, get_drop, get_there}
+use Rattle.store_domain_sound.proofs.Slices.{get_drop}
 use Rattle.store_domain_sound.proofs.Only.{cell_put, Turned}
 use Rattle.store_domain_sound.proofs.Near.{near_number_from}
 use Rattle.store_domain_sound.proofs.StoreValues.{same_zero}

@@ -1,6 +1,6 @@
 -- A window that lies in an array of characters up to its first zero has determinate bytes alone.
-use Rattle.std.proofs.Common.{◌≡◌, ℕ, zero, suc, ◌+◌, ◌-◌, ◌<◌, ◌≤◌, Bool, true, false, cond, not, ◌&&◌, ◌||◌, Option, Some, None, List, [], ◌∷◌, length, take, drop, arith, subst, sym, refl, ap, ◌∙◌, inl, inr, ◌⊎◌}
-use Rattle.std.specs.Prelude.{slice_get, ℤ, pos, ◌≤ℤ◌, ◌^◌, int_le, nat_le, max, min}
+use Rattle.std.proofs.Common.{◌≡◌, ℕ, zero, suc, ◌+◌, ◌-◌, ◌≤◌, Bool, true, false, cond, not, ◌||◌, Option, Some, None, List, [], ◌∷◌, drop, arith, subst, sym, refl, ap, ◌∙◌, inl, inr, ◌⊎◌}
+use Rattle.std.specs.Prelude.{slice_get, ℤ, pos, ◌≤ℤ◌, int_le, nat_le, max, min}
 use Rattle.std.specs.Ordering.{int_eq}
 use Rattle.std.proofs.lemmas.Int.{ints}
 use Rattle.std.proofs.lemmas.Bool.{cases_Bool, and_parts, leb-true}
@@ -14,22 +14,19 @@ use Rattle.c_layout.specs.declared.shapes.BaseInfo.{BaseInfo}
 use Rattle.c_layout.specs.declared.shapes.ZeroPart.{ZeroPart}
 use Rattle.flow_program.specs.declared.programs.Flow.{Flow}
 use Rattle.string_domain.specs.FirstZeros.{the_end}
-use Rattle.string_domain.specs.declared.first_zeros.FirstZero.{FirstZero}
 use Rattle.value_domain.specs.declared.row_cells.Cell.{Cell}
 use Rattle.value_domain.specs.declared.values.Value.{Value}
 use Rattle.store_domain.specs.declared.access_windows.Window.{Window}
-use Rattle.store_domain.specs.declared.first_zero_writes.ZeroTarget.{ZeroTarget}
 use Rattle.store_domain.specs.Walks.{walk}
 use Rattle.store_domain.specs.ClassNumbers.{is_pointer}
-use Rattle.store_domain.specs.CellReads.{as_read, same_sign, byte_read, only_flag, whole_range}
-use Rattle.store_domain.specs.ScalarTypes.{kind_of}
+use Rattle.store_domain.specs.CellReads.{as_read, same_sign, byte_read, only_flag}
 use Rattle.store_domain.specs.NearValues.{is_near, near_part, part_near, near_number}
 use Rattle.store_domain.specs.RowPositions.{cell_at, zero_in, zero_at, zero_position}
-use Rattle.store_domain.specs.AccessWindows.{window_met, window_from, window_lies_within}
-use Rattle.store_domain.specs.FirstZeroWrites.{last_of, has_no_bytes, target_at, zero_target, if_whole, covered, first_covered, covering_part, lies_up_to, is_determinate_before}
+use Rattle.store_domain.specs.AccessWindows.{window_from, window_lies_within}
+use Rattle.store_domain.specs.FirstZeroWrites.{last_of, has_no_bytes, covered, first_covered, covering_part, lies_up_to}
 use Rattle.store_domain.specs.Loads.{is_text, is_text_in}
 use Rattle.lib_models_memory.specs.Bytes.{Content, indeterminate, number, part, Byte}
-use Rattle.lib_models_memory.specs.Instances.{Memory, byte_at, bytes_at}
+use Rattle.lib_models_memory.specs.Instances.{byte_at, bytes_at}
 use Rattle.store_domain_meaning.specs.FirstZeroBytes.{one_more, first_zero, zero_offset}
 use Rattle.store_domain_meaning.specs.ValueMeaning.{Naming}
 use Rattle.store_domain_meaning.specs.RowMeaning.{MachineState, IsLiveOf, StandsFor, array_of, array_bytes}

@@ -1,5 +1,5 @@
 -- The rule at which a touch of the machine stops is admitted.
-use Rattle.std.proofs.Common.{◌≡◌, ℕ, ◌+◌, ◌-◌, ◌<◌, ◌≤◌, Bool, true, false, cond, not, ◌&&◌, ◌||◌, Option, Some, None, List, [], ◌∷◌, ◌++◌, length, arith, subst, sym, refl, ap, ◌∙◌, inl, inr, ◌⊎◌}
+use Rattle.std.proofs.Common.{◌≡◌, ℕ, ◌+◌, ◌<◌, ◌≤◌, Bool, true, false, ◌&&◌, ◌||◌, Option, Some, None, List, [], ◌∷◌, ◌++◌, length, arith, subst, sym, refl, ap, ◌∙◌, inl, inr, ◌⊎◌}
 use Rattle.std.specs.Prelude.{slice_get, ℤ, pos, ◌+ℤ◌, ◌-ℤ◌, ◌≤ℤ◌, int_lt, nat_le, nat_lt, is_none}
 use Rattle.std.proofs.lemmas.Int.{ints}
 use Rattle.std.proofs.lemmas.Bool.{cases_Bool, and_from, and_parts, or_left, or_right, lt-ltb, leb-true}
@@ -7,8 +7,8 @@ use Rattle.std.proofs.lemmas.Bool.Decides.{nat_tests}
 use Rattle.std.proofs.lemmas.List.{append_cancel_left}
 use Rattle.std.proofs.lemmas.Option.{slice_get_within}
 use Rattle.cc_base.specs.Lattices.{LatticeOf, OrderLaws}
-use Rattle.cc_base.specs.IntegerDomains.{IntegersOf, BoundLaws, of_range, between_or_least}
-use Rattle.cc_base.specs.NumberRanges.{Range, range_sum, range_met, upper_or}
+use Rattle.cc_base.specs.IntegerDomains.{IntegersOf, BoundLaws, of_range}
+use Rattle.cc_base.specs.NumberRanges.{Range, range_sum}
 use Rattle.cc_base.specs.declared.diagnostics.Rule.{Rule}
 use Rattle.cc_base.specs.declared.diagnostics.Rule.TheVariants as rule
 use Rattle.c_layout.specs.declared.shapes.BaseInfo.{BaseInfo}
@@ -21,16 +21,15 @@ use Rattle.pointer_domain.specs.declared.pointer_sets.Pointers.{Pointers}
 use Rattle.pointer_domain.specs.BaseSets.{bases_has, bases_empty}
 use Rattle.pointer_domain.specs.PointerTables.{length_above}
 use Rattle.value_domain.specs.declared.row_cells.Cell.{Cell}
-use Rattle.value_domain.specs.declared.values.Value.{Value}
 use Rattle.store_domain.specs.RowPositions.{state_at, state_position}
-use Rattle.store_domain.specs.LiveBases.{has_base, most_bases, may_be_live, is_live_in, live_of, any_freed, is_literal_kind}
-use Rattle.abstract_steps_checks.specs.Touches.{leaves_bounds_at, leaves_bounds, span_of, is_literal_or, any_literal, is_nowhere, into_bases, places_within, touched_inside, touch_violations, touch_live, touch}
+use Rattle.store_domain.specs.LiveBases.{has_base, most_bases, may_be_live, live_of, any_freed, is_literal_kind}
+use Rattle.abstract_steps_checks.specs.Touches.{leaves_bounds_at, span_of, is_literal_or, any_literal, is_nowhere, places_within, touched_inside, touch_violations, touch}
 use Rattle.abstract_steps_checks.specs.ViolationSets.{violates}
 use Rattle.lib_models_memory.specs.ScalarSizes.{class_bytes}
 use Rattle.lib_models_memory.specs.Bytes.{MachinePointer, null, into}
-use Rattle.lib_models_memory.specs.Instances.{Memory, Life, live, ended, freed, Instance, bytes_at, life_at}
+use Rattle.lib_models_memory.specs.Instances.{Life, live, ended, freed, bytes_at, life_at}
 use Rattle.lib_models_memory.specs.Scalars.{Scalar, pointer}
-use Rattle.lib_models_effects.specs.Worlds.{World, Reply, goes, stops, stopped_by, world_of}
+use Rattle.lib_models_effects.specs.Worlds.{World, goes, stopped_by, world_of}
 use Rattle.lib_models_effects.specs.Touches.{Spot, touched, touched_by, touched_live, is_literal, storage_of, storage_at}
 use Rattle.lib_models_effects.specs.Accesses.{class_in, load}
 use Rattle.store_domain_meaning.specs.ValueMeaning.{Naming, StandsInto, StandsByLife, StandsPointer, StandsState}
@@ -122,8 +121,8 @@ module _ {I : Type 0} {l : LatticeOf I} {n : IntegersOf I} {stands : I → ℤ �
         let few = shaped.few in
         let top = slice_get_within flow.bases.items st.base base e in
         let may : may_be_live l n base row ≡ true = live_if base.shape.heap _ (λ h.
-            let y = s.states st.base i base e h st.named in
-            (subst (λ z. StandsState stands naming w.memory (state_at l n row (state_position base)) z (length (bytes_at w.memory i))) alive y).1) in
+        let y = s.states st.base i base e h st.named in
+        (subst (λ z. StandsState stands naming w.memory (state_at l n row (state_position base)) z (length (bytes_at w.memory i))) alive y).1) in
         in_live l n flow.bases.items shaped.few row p.bases st.base base e (and_from _ _ (and_from _ _ (lt-ltb _ _ (omega arith)) st.among) may)
 
     some_live : bases_empty live_set ≡ false
@@ -156,8 +155,8 @@ module _ {I : Type 0} {l : LatticeOf I} {n : IntegersOf I} {stands : I → ℤ �
         let lit : is_literal_kind base.0.kind ≡ true = literal_kind base.0.kind (ap is_literal (sym k.storage) ∙ (ap (λ a. is_literal (storage_of a)) (sym it.1) ∙ f.1)) in
         let set : (touched_inside l n p live_set 0 size).bases ≡ live_set = rw (is_somewhere above below) refl in
         and_from _ _ f.0 (subst (λ y. any_literal flow.bases.items y ≡ true) (sym set)
-          (walk_meets (λ r. r ≡ true) (is_literal_or live_set) (λ y at r g. or_left r _ g) 0 flow.bases.items false st.base st.base base.0 base.1 (omega arith)
-            (λ r. or_right r _ (and_from _ _ (in_set base.0 base.1) lit))))
+        (walk_meets (λ r. r ≡ true) (is_literal_or live_set) (λ y at r g. or_left r _ g) 0 flow.bases.items false st.base st.base base.0 base.1 (omega arith)
+        (λ r. or_right r _ (and_from _ _ (in_set base.0 base.1) lit))))
 
     live_admitted : (r : Rule) → touched_live w i offset lo hi size writes ≡ stopped_by w r → Admits r
     live_admitted r h = elim (cases_Bool (nat_le lo offset && nat_le (offset + size) hi)) [

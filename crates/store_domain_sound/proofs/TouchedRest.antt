@@ -1,8 +1,8 @@
 -- The pointers that go on behind a touch stand for the machine's.
-use Rattle.std.proofs.Common.{◌≡◌, ℕ, ◌+◌, ◌-◌, ◌<◌, ◌≤◌, Bool, true, false, cond, not, ◌&&◌, ◌||◌, Option, Some, None, List, length, arith, subst, sym, refl, ap, ◌∙◌, inl, inr}
-use Rattle.std.specs.Prelude.{slice_get, ℤ, pos, neg_ℤ, ◌+ℤ◌, ◌-ℤ◌, ◌≤ℤ◌, ◌^◌, nat_lt, is_none}
+use Rattle.std.proofs.Common.{◌≡◌, ℕ, ◌+◌, ◌≤◌, Bool, true, false, ◌&&◌, Option, Some, List, length, arith, subst, sym, refl, ap, ◌∙◌, inl, inr}
+use Rattle.std.specs.Prelude.{slice_get, ℤ, pos, neg_ℤ, ◌-ℤ◌, ◌≤ℤ◌, ◌^◌, nat_lt}
 use Rattle.std.proofs.lemmas.Int.{ints}
-use Rattle.std.proofs.lemmas.Bool.{cases_Bool, and_from, and_parts, lt-ltb, false_from_ne_true, true≢false}
+use Rattle.std.proofs.lemmas.Bool.{cases_Bool, and_from, and_parts, lt-ltb}
 use Rattle.std.proofs.lemmas.Option.{slice_get_within}
 use Rattle.cc_base.specs.Lattices.{LatticeOf, OrderLaws}
 use Rattle.cc_base.specs.IntegerDomains.{IntegersOf, BoundLaws}
@@ -13,15 +13,14 @@ use Rattle.c_layout.specs.declared.shapes.BaseKind.TheVariants.{Static, Automati
 use Rattle.flow_program.specs.declared.programs.Flow.{Flow}
 use Rattle.pointer_domain.specs.declared.base_sets.Bases.{Bases}
 use Rattle.pointer_domain.specs.declared.pointer_sets.Pointers.{Pointers}
-use Rattle.pointer_domain.specs.BaseSets.{bases_has, bases_empty}
+use Rattle.pointer_domain.specs.BaseSets.{bases_has}
 use Rattle.pointer_domain.specs.PointerTables.{length_above}
 use Rattle.value_domain.specs.declared.row_cells.Cell.{Cell}
-use Rattle.store_domain.specs.AccessWindows.{last_offset}
-use Rattle.store_domain.specs.NearValues.{is_near, near_part, near_number, near_pointer}
-use Rattle.store_domain.specs.LiveBases.{has_base, most_bases, is_live_in, live_of, is_literal_kind, may_be_live, writable_of}
-use Rattle.abstract_steps_checks.specs.Touches.{is_nowhere, into_bases, places_within, touched_inside, kept_of, touched_rest, touch_live, touch}
-use Rattle.lib_models_memory.specs.Bytes.{MachinePointer, null, into}
-use Rattle.lib_models_memory.specs.Instances.{Life, live, ended, freed, bytes_at, life_at}
+use Rattle.store_domain.specs.NearValues.{is_near, near_number}
+use Rattle.store_domain.specs.LiveBases.{most_bases, is_live_in, live_of, is_literal_kind, may_be_live}
+use Rattle.abstract_steps_checks.specs.Touches.{is_nowhere, places_within, kept_of, touch}
+use Rattle.lib_models_memory.specs.Bytes.{MachinePointer}
+use Rattle.lib_models_memory.specs.Instances.{live, bytes_at, life_at}
 use Rattle.lib_models_memory.specs.Scalars.{Scalar}
 use Rattle.lib_models_effects.specs.Worlds.{World, goes}
 use Rattle.lib_models_effects.specs.Touches.{Spot, touched, is_literal, storage_of, storage_at}
@@ -32,8 +31,8 @@ use Rattle.store_domain.specs.RowPositions.{state_at, state_position}
 use Rattle.store_domain_sound.specs.Shapes.{AreShaped}
 use Rattle.store_domain_sound.specs.Statements.{state_in}
 use Rattle.store_domain_sound.proofs.Slices.{get_there}
-use Rattle.store_domain_sound.proofs.Windows.{RangeHas, met_has}
-use Rattle.store_domain_sound.proofs.Reading.{IsTouched, touched_goes}
+use Rattle.store_domain_sound.proofs.Windows.{met_has}
+use Rattle.store_domain_sound.proofs.Reading.{touched_goes}
 use Rattle.store_domain_sound.proofs.LoadSound.{instance_there, live_if}
 use Rattle.store_domain_sound.proofs.Sets.{in_live, in_reached}
 use Rattle.store_domain_sound.proofs.StorePlaces.{not_empty}
@@ -68,8 +67,8 @@ module _ {I : Type 0} {l : LatticeOf I} {n : IntegersOf I} {stands : I → ℤ �
         let few = shaped.few in
         let top = slice_get_within flow.bases.items st.base base e in
         let may : may_be_live l n base row ≡ true = live_if base.shape.heap _ (λ h.
-            let y = s.states st.base i base e h st.named in
-            (subst (λ z. StandsState stands naming w.memory (state_at l n row (state_position base)) z (length (bytes_at w.memory i))) alive y).1) in
+        let y = s.states st.base i base e h st.named in
+        (subst (λ z. StandsState stands naming w.memory (state_at l n row (state_position base)) z (length (bytes_at w.memory i))) alive y).1) in
         and_from _ _ (and_from _ _ (lt-ltb _ _ (omega arith)) st.among) may
 
     in_set : (base : BaseInfo) → slice_get flow.bases.items st.base ≡ Some base → bases_has live_set st.base ≡ true
@@ -122,4 +121,4 @@ module _ {I : Type 0} {l : LatticeOf I} {n : IntegersOf I} {stands : I → ℤ �
       let z : StandsInto stands naming w.memory p spot.instance spot.offset t.lo t.hi = subst (λ k. StandsByLife stands naming w.memory p k spot.instance spot.offset t.lo t.hi) t.alive y in
       subst (StandsPointer stands naming w.memory (touch l n flow.bases.items row p 0 size writes).rest) (sym t.pointer)
       (subst (λ k. StandsByLife stands naming w.memory (touch l n flow.bases.items row p 0 size writes).rest k spot.instance spot.offset t.lo t.hi) (sym t.alive)
-        (rest_into spot.instance spot.offset t.lo t.hi t.alive z ins t.below t.plain))
+      (rest_into spot.instance spot.offset t.lo t.hi t.alive z ins t.below t.plain))

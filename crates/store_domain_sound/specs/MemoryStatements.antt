@@ -10,7 +10,6 @@ use Rattle.lib_models_effects.specs.Accesses.{load, store}
 use Rattle.store_domain_meaning.specs.ValueMeaning.{Naming}
 use Rattle.store_domain_meaning.specs.SoundMemory.{IsMemoryOf, IsPointerIn, IsScalarIn, IsNamed}
 use Rattle.store_domain_sound.specs.Scalars.{IsScalarNamed}
-use Rattle.store_domain_sound.specs.Shapes.{AreShaped}
 
 -- a load leaves memory as it is, and what it gives points into it, to what has a base or has ended
 pub record LoadKeepsSound (m : Model) (bases : List BaseInfo) (naming : Naming) (w u : World) (at : MachinePointer) (kind : declared.Scalar) (v : Scalar) : Type 0 where

@@ -1,6 +1,6 @@
 -- What the bases of a flow have to be like.
 use Rattle.flow_program.specs.WellFormed.{base_values}
-use Rattle.std.specs.Prelude.{◌≡◌, ◌<◌, ◌≤◌, ◌+◌, ◌-◌, ◌^◌, ◌⊎◌, ℕ, Bool, true, false, ◌&&◌, ◌==◌, Option, Some, None, List, length, slice_get, count_by}
+use Rattle.std.specs.Prelude.{◌≡◌, ◌<◌, ◌≤◌, ◌+◌, ◌-◌, ◌^◌, ◌⊎◌, ℕ, Bool, true, false, ◌&&◌, ◌==◌, Some, None, List, length, slice_get, count_by}
 use Rattle.flow_program.specs.declared.programs.Flow.{Flow}
 use Rattle.c_layout.specs.declared.data_model.Model.{Model}
 use Rattle.c_layout.specs.declared.shapes.ZeroPart.{ZeroPart}

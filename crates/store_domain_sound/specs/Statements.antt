@@ -1,10 +1,9 @@
 -- A row that stands for the machine's state stands for it after a load and after a store.
-use Rattle.std.specs.Prelude.{◌≡◌, ◌≤◌, ◌-◌, ℕ, ℤ, true, false, Option, Some, List, length, slice_get}
+use Rattle.std.specs.Prelude.{◌≡◌, ℕ, ℤ, true, false, Option, List, length}
 use Rattle.cc_base.specs.Lattices.{LatticeOf}
 use Rattle.cc_base.specs.IntegerDomains.{IntegersOf}
 use Rattle.cc_base.specs.declared.diagnostics.Rule.TheVariants as rule
 use Rattle.c_layout.specs.declared.leaf_lists.Class.TheVariants.{Char}
-use Rattle.c_layout.specs.declared.shapes.BaseInfo.{BaseInfo}
 use Rattle.flow_program.specs.declared.machine_instructions.Scalar as declared
 use Rattle.flow_program.specs.declared.programs.Flow.{Flow}
 use Rattle.pointer_domain.specs.declared.pointer_sets.Pointers.{Pointers}
