@@ -38,3 +38,4 @@ pub mod MemorySound
 pub mod TouchSound
 pub mod Texts
 pub mod TouchedRest
+pub mod Padding
