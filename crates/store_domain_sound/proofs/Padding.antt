@@ -1,7 +1,7 @@
 -- A window that has an offset of no leaf's byte has more offsets than bytes of leaves, where no byte is counted twice.
 use Rattle.std.proofs.Common.{◌≡◌, ℕ, zero, suc, ◌+◌, ◌-◌, ◌*◌, ◌/◌, ◌%◌, ◌<◌, ◌≤◌, Bool, true, false, cond, ◌&&◌, ◌||◌, Option, Some, None, List, [], ◌∷◌, arith, subst, sym, refl, ap, ◌∙◌, inl, inr}
 use Rattle.std.specs.Prelude.{nat_lt, nat_le, ◌==◌, min, slice_get}
-use Rattle.std.proofs.lemmas.Bool.{cases_Bool, cases_lt, and_from, le-leb, leb-true, lt-ltb, lt-leb, le-ltb, or_from, or_left, ne_eqb, cond-true, cond-false}
+use Rattle.std.proofs.lemmas.Bool.{cases_lt, and_from, le-leb, lt-ltb, lt-leb, le-ltb, or_from, or_left, ne_eqb, cond-true, cond-false}
 use Rattle.std.proofs.lemmas.Nat.{div-add-mod', div_below, le-div}
 use Rattle.std.proofs.Math.Nat.{mod-lt}
 use Rattle.c_layout.specs.declared.data_model.Model.{Model}
@@ -9,10 +9,10 @@ use Rattle.c_layout.specs.declared.leaf_lists.Leaf.{Leaf}
 use Rattle.c_layout.specs.declared.shapes.BaseInfo.{BaseInfo}
 use Rattle.store_domain.specs.Walks.{walk}
 use Rattle.store_domain.specs.RowPositions.{capped}
-use Rattle.store_domain.specs.LeafSelection.{turn_bytes, bytes_behind, bytes_below, covered_more, covered_bytes, window_end, meets_padding}
+use Rattle.store_domain.specs.LeafSelection.{turn_bytes, bytes_behind, bytes_below, covered_more, covered_bytes, window_end}
 use Rattle.lib_models_memory.specs.ScalarSizes.{class_bytes}
 use Rattle.lib_models_memory.specs.Bytes.{Tag}
-use Rattle.lib_models_memory.specs.Tags.{tag_of, stride_tag, distance_tag, leaf_tag, or_tag, tag_at}
+use Rattle.lib_models_memory.specs.Tags.{distance_tag, leaf_tag, or_tag, tag_at}
 use Rattle.store_domain_sound.specs.Shapes.{AreShaped, CountsOnce, SeesPadding}
 
 -- ---- one leaf
