@@ -39,3 +39,4 @@ pub mod TouchSound
 pub mod Texts
 pub mod TouchedRest
 pub mod Padding
+pub mod WorkedShapes
