@@ -1,6 +1,6 @@
 -- Worked bases: an object of an int and a pointer, and an allocation of one int, are shaped as the theorems ask.
-use Rattle.std.proofs.Common.{◌≡◌, ℕ, zero, suc, ◌+◌, ◌<◌, ◌≤◌, Bool, true, false, cond, ◌&&◌, Option, Some, None, List, [], ◌∷◌, arith, subst, sym, refl, ap, ◌∙◌}
-use Rattle.std.specs.Prelude.{slice_get, count_by, ◌==◌}
+use Rattle.std.proofs.Common.{◌≡◌, ℕ, zero, suc, ◌<◌, ◌≤◌, Bool, true, false, cond, Some, None, [], ◌∷◌, arith, subst, sym, refl, ap}
+use Rattle.std.specs.Prelude.{slice_get, count_by}
 use Rattle.std.proofs.lemmas.List.Sums.{sum_by-cons}
 use Rattle.std.proofs.lemmas.Option.{same_Some}
 use Rattle.c_layout.specs.declared.leaf_lists.Class.{Class}
@@ -8,7 +8,6 @@ use Rattle.c_layout.specs.declared.leaf_lists.Class.TheVariants as class
 use Rattle.c_layout.specs.declared.leaf_lists.Leaf.{Leaf}
 use Rattle.c_layout.specs.declared.shapes.BaseInfo.{BaseInfo}
 use Rattle.c_layout.specs.declared.shapes.BaseKind.TheVariants as kind
-use Rattle.store_domain.specs.ClassNumbers.{same_class}
 use Rattle.store_domain_sound.specs.Shapes.{at_offset, IsShaped, AreShaped}
 
 abbrev object : BaseInfo
