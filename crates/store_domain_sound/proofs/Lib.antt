@@ -38,3 +38,5 @@ pub mod MemorySound
 pub mod TouchSound
 pub mod Texts
 pub mod TouchedRest
+pub mod Padding
+pub mod WorkedShapes

@@ -11,7 +11,7 @@ use Rattle.c_layout.specs.declared.leaf_lists.Leaf.{Leaf}
 use Rattle.c_layout.specs.declared.shapes.BaseInfo.{BaseInfo}
 use Rattle.store_domain.specs.ClassNumbers.{same_class}
 use Rattle.store_domain.specs.declared.access_windows.Window.{Window}
-use Rattle.store_domain.specs.LeafSelection.{meets_padding}
+use Rattle.store_domain.specs.LeafSelection.{covered_bytes, meets_padding}
 use Rattle.store_domain.specs.LiveBases.{most_bases}
 use Rattle.store_domain_meaning.specs.SoundMemory.{storage_for}
 use Rattle.lib_models_effects.specs.Touches.{is_allocated}
@@ -41,6 +41,10 @@ pub record AreLaid (bases : List BaseInfo) (behind : ℕ) : Type 0 where
 pub record HasTexts (m : Model) (base : BaseInfo) : Type 0 where
   pub texts : base.shape.heap ≡ false → (p : ℕ) (zeros : ZeroPart) → slice_get base.shape.zeros p ≡ Some zeros → (size : ℕ) × (zeros.size ≡ Some size) × ((o : ℕ) → zeros.offset ≤ o → o < zeros.offset + size → tag_at m base.shape.cells o ≡ tag_of Char 0)
   pub heaps : base.shape.heap ≡ true → (p : ℕ) (zeros : ZeroPart) → slice_get base.shape.zeros p ≡ Some zeros → (zeros.size ≡ None) × (zeros.offset ≡ 0)
+
+-- each byte is counted for one leaf at most
+abbrev pub CountsOnce : Model → BaseInfo → Type 0
+CountsOnce m base = (x : ℕ) → covered_bytes m base.shape.cells x (x + 1) ≤ 1
 
 -- where a window has an offset of an object that is that of no leaf's byte, the counts of bytes say so
 abbrev pub SeesPadding : Model → List BaseInfo → Type 0

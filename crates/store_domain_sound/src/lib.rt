@@ -5,5 +5,5 @@ mod theorems;
 
 pub use theorems::{
     character_loads_are_sound, freed_pointers_show, loads_are_sound, memory_stays_sound,
-    stores_are_sound, touches_are_sound, violations_are_admitted,
+    padding_is_seen, stores_are_sound, touches_are_sound, violations_are_admitted,
 };

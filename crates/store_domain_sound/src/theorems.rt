@@ -3,9 +3,9 @@
 ghost use Rattle.cc_base.specs.IntegerLaws.{SoundLaws};
 ghost use Rattle.c_layout.specs.declared.data_model.Model.{Model};
 ghost use Rattle.c_layout.specs.declared.shapes.BaseInfo.{BaseInfo};
-ghost use Rattle.std.specs.Prelude.{List};
+ghost use Rattle.std.specs.Prelude.{◌≡◌, ℕ, Some, List, slice_get};
 ghost use Rattle.store_domain_sound.specs.MemoryStatements.{LoadKeeps, StoreKeeps};
-ghost use Rattle.store_domain_sound.specs.Shapes.{AreShaped};
+ghost use Rattle.store_domain_sound.specs.Shapes.{AreShaped, CountsOnce, SeesPadding};
 ghost use Rattle.store_domain_sound.specs.TouchStatements.{TouchAdmits, LoadAdmits, TouchStands};
 ghost use Rattle.store_domain_sound.specs.Statements.{LoadStands, BlankStands, CharacterStands, BlankCharacterStands, FreedShows, StoreStands};
 
@@ -23,6 +23,11 @@ pub fn memory_stays_sound()
 pub fn loads_are_sound<I: IntDomain>()
     ensures loads { SoundLaws I.lattice I.numbers I.stands → LoadStands I.lattice I.numbers I.stands }
     ensures blanks { SoundLaws I.lattice I.numbers I.stands → BlankStands I.lattice I.numbers I.stands }
+{}
+
+/// The counts of bytes see padding where no byte is counted for two leaves.
+pub fn padding_is_seen()
+    ensures { (m : Model) (bases : List BaseInfo) → AreShaped bases → ((b : ℕ) (base : BaseInfo) → slice_get bases b ≡ Some base → CountsOnce m base) → SeesPadding m bases }
 {}
 
 /// A load of a character gives a value that stands for what the machine loads, or says that it may be indeterminate where the
