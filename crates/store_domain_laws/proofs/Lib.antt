@@ -25,6 +25,8 @@ pub mod Regular
 pub mod PlainShapes
 pub mod WorkedBases
 pub mod Consistent
+pub mod ConsistentPointers
 pub mod ConsistentStores
 pub mod ConsistentLives
+pub mod ConsistentSpelling
 pub mod Together

@@ -11,7 +11,7 @@ use Rattle.value_domain_laws.proofs.Parts.{pointer_parts}
 use Rattle.store_domain_laws.specs.TopCells.{top_value}
 use Rattle.store_domain_laws.specs.TopRows.{top_row}
 use Rattle.store_domain_laws.specs.Placements.{EachFrom, IsPlaced, IsRegular}
-use Rattle.store_domain_laws.specs.StoreLaws.{IsLayout, IsLoadMonotone, IsStoreMonotone, IsFreeMonotone, IsForgetMonotone, IsClearMonotone, IsLeaveMonotone, IsSpellMonotone, IsRenewMonotone, IsStoreConsistent}
+use Rattle.store_domain_laws.specs.StoreLaws.{IsLayout, IsLoadMonotone, IsStoreMonotone, IsFreeMonotone, IsForgetMonotone, IsClearMonotone, IsLeaveMonotone, IsSpellMonotone, IsRenewMonotone, IsStoreConsistent, IsSpellConsistent}
 use Rattle.store_domain_laws.proofs.Loads.{load_monotone}
 use Rattle.store_domain_laws.proofs.Stores.{store_monotone}
 use Rattle.store_domain_laws.proofs.Freeing.{free_monotone}
@@ -20,6 +20,7 @@ use Rattle.store_domain_laws.proofs.ObjectLives.{row_greatest, forget_monotone, 
 use Rattle.store_domain_laws.proofs.Spelling.{spell_monotone}
 use Rattle.store_domain_laws.proofs.Allocations.{renew_monotone}
 use Rattle.store_domain_laws.proofs.ConsistentStores.{store_kept}
+use Rattle.store_domain_laws.proofs.ConsistentSpelling.{spell_even}
 
 both_each : {K : Type 0} (P Q : K → ℕ → Type 0) (at : ℕ) (ks : List K) → EachFrom P at ks → EachFrom Q at ks → EachFrom (λ k i. P k i × Q k i) at ks
 both_each P Q at [] e f = tt
@@ -58,3 +59,6 @@ module _ {I : Type 0} {l : LatticeOf I} {n : IntegersOf I} {stands : I → ℤ �
 
   pub stores_consistent : RangeLaws l n → IsStoreConsistent l n m bases all temps
   stores_consistent f r own even p class signed v t w c = store_kept o b all (top_row n all bases temps) f m bases placed class signed v (w, c) t r (record { own = own; even = even }) p
+
+  pub spells_consistent : IsSpellConsistent l n m bases all temps
+  spells_consistent r own even number offset room text e = spell_even o b all (top_row n all bases temps) offset text e bases placed number room r (record { own = own; even = even })

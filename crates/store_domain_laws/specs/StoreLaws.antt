@@ -110,9 +110,14 @@ module _ {I : Type 0} (l : LatticeOf I) (n : IntegersOf I) (m : Model) (bases : 
   IsStoreConsistent = (r : List (Cell I)) → row_leq (cell_lattice l) r (top_row n all bases temps) ≡ true → AreConsistent n r → (p : Pointers I) (class : Class) (signed : Bool) (v : Value I) → (value_lattice l).leq v (top_value n all) ≡ true → AreWords v.pointer.bases → is_consistent n v.pointer ≡ true
       → IsLeftConsistent n (store l n m bases p class signed v r)
 
+  -- a text of bytes that is written into an array of an own row of consistent pointer parts leaves such a row
+  abbrev pub IsSpellConsistent : Type 0
+  IsSpellConsistent = (r : List (Cell I)) → row_leq (cell_lattice l) r (top_row n all bases temps) ≡ true → AreConsistent n r → (number offset room : ℕ) (text : List ℕ) → AreBytes text → AreConsistent n (spell l n bases number offset room text r)
+
 module _ {I : Type 0} (l : LatticeOf I) (n : IntegersOf I) (bases : List BaseInfo) where
-  -- what is freed, forgotten or cleared in a row of consistent pointer parts leaves such a row
+  -- what is freed, forgotten, cleared or left in a row of consistent pointer parts leaves such a row
   pub record AreLivesConsistent : Type 0 where
     pub freed : (r : List (Cell I)) (p : Pointers I) → AreConsistent n r → AreConsistent n (free l n bases p r)
     pub forgotten : (r : List (Cell I)) (number : ℕ) → AreConsistent n r → AreConsistent n (forget l n bases number r)
     pub cleared : (r : List (Cell I)) (number : ℕ) → AreConsistent n r → AreConsistent n (clear l n bases number r)
+    pub left : (r : List (Cell I)) (number : ℕ) → AreConsistent n r → AreConsistent n (leave l bases number r)
