@@ -197,7 +197,7 @@ module _ {I : Type 0} {l : LatticeOf I} {n : IntegersOf I} {stands : I → ℤ �
           ((state_order o).transitive (state_at l n r from) y ((state_lattice l).join x y) (state_at_monotone o b top r s from j t) ((state_order o).join_right x y)))
           ((state_order o).join_least x y (top_state n) (state_at_top o b top r s to j u) (state_at_top o b top r s from j t))
 
-      base_joined : (r s : List (Cell I)) → RowsBelow l top r s → RowsBelow l top (join_base l n new old r) (join_base l n new old s)
+      pub base_joined : (r s : List (Cell I)) → RowsBelow l top r s → RowsBelow l top (join_base l n new old r) (join_base l n new old s)
       unfolding join_base
       base_joined r s j = state_joined (join_zeros l n new old (join_values l n new old r)) (join_zeros l n new old (join_values l n new old s))
           (zeros_joined (join_values l n new old r) (join_values l n new old s) (values_joined r s j))

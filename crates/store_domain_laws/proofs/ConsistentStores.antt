@@ -74,7 +74,7 @@ module _ {I : Type 0} {l : LatticeOf I} {n : IntegersOf I} {stands : I → ℤ �
   in_even (State s) h = even_bare o b false false
   in_even Mixed h = even_bare o b false false
 
-  either_even : (t : Bool) (v : values.Value I) (x : I) → IsEven n v.pointer → IsEven n (cond t v (record v { num = x })).pointer
+  pub either_even : (t : Bool) (v : values.Value I) (x : I) → IsEven n v.pointer → IsEven n (cond t v (record v { num = x })).pointer
   either_even true v x h = h
   either_even false v x h = h
 

@@ -29,4 +29,5 @@ pub mod ConsistentPointers
 pub mod ConsistentStores
 pub mod ConsistentLives
 pub mod ConsistentSpelling
+pub mod ConsistentAllocations
 pub mod Together

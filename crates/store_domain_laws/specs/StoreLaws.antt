@@ -114,6 +114,12 @@ module _ {I : Type 0} (l : LatticeOf I) (n : IntegersOf I) (m : Model) (bases : 
   abbrev pub IsSpellConsistent : Type 0
   IsSpellConsistent = (r : List (Cell I)) → row_leq (cell_lattice l) r (top_row n all bases temps) ≡ true → AreConsistent n r → (number offset room : ℕ) (text : List ℕ) → AreBytes text → AreConsistent n (spell l n bases number offset room text r)
 
+  -- an allocation at a site of which the own row's sets may have the older base, in an own row of consistent pointer parts,
+  -- leaves such a row
+  abbrev pub IsRenewConsistent : Type 0
+  IsRenewConsistent = (r : List (Cell I)) → row_leq (cell_lattice l) r (top_row n all bases temps) ≡ true → AreConsistent n r → (newest older : ℕ) → bases_has all older ≡ true
+      → ((new old : BaseInfo) → slice_get bases newest ≡ Some new → slice_get bases older ≡ Some old → IsSite new old) → (size : I) (fresh : Fresh I) → AreConsistent n (renew l n m bases newest older size fresh r)
+
 module _ {I : Type 0} (l : LatticeOf I) (n : IntegersOf I) (bases : List BaseInfo) where
   -- what is freed, forgotten, cleared or left in a row of consistent pointer parts leaves such a row
   pub record AreLivesConsistent : Type 0 where

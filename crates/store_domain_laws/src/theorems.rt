@@ -7,7 +7,7 @@ ghost use Rattle.pointer_domain.specs.declared.base_sets.Bases.{Bases};
 ghost use Rattle.store_domain_laws.specs.TopRows.{top_row};
 ghost use Rattle.store_domain_laws.specs.Placements.{IsRegular};
 ghost use Rattle.store_domain_laws.specs.PlainShapes.{is_plain};
-ghost use Rattle.store_domain_laws.specs.StoreLaws.{IsLayout, IsLoadMonotone, IsStoreMonotone, IsFreeMonotone, IsForgetMonotone, IsClearMonotone, IsLeaveMonotone, IsSpellMonotone, IsRenewMonotone, IsStoreConsistent, IsSpellConsistent, AreLivesConsistent};
+ghost use Rattle.store_domain_laws.specs.StoreLaws.{IsLayout, IsLoadMonotone, IsStoreMonotone, IsFreeMonotone, IsForgetMonotone, IsClearMonotone, IsLeaveMonotone, IsSpellMonotone, IsRenewMonotone, IsStoreConsistent, IsSpellConsistent, IsRenewConsistent, AreLivesConsistent};
 
 use cc_base::IntDomain;
 
@@ -63,4 +63,9 @@ pub fn lives_are_consistent<I: IntDomain>()
 /// A text of bytes that is written into an array of an own row of consistent pointer parts leaves such a row.
 pub fn spells_are_consistent<I: IntDomain>()
     ensures { (m : Model) (bases : List BaseInfo) → IsLayout m bases → (all : Bases) (temps : ℕ) → length (top_row I.numbers all bases temps) < 2 ^ 64 → IsSpellConsistent I.lattice I.numbers m bases all temps }
+{}
+
+/// An allocation in an own row of consistent pointer parts leaves such a row.
+pub fn renewals_are_consistent<I: IntDomain>()
+    ensures { MonotoneLaws I.lattice I.numbers → (m : Model) (bases : List BaseInfo) → IsLayout m bases → (all : Bases) (temps : ℕ) → length (top_row I.numbers all bases temps) < 2 ^ 64 → IsRenewConsistent I.lattice I.numbers m bases all temps }
 {}
