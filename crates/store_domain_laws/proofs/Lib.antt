@@ -19,6 +19,7 @@ pub mod OwnValues
 pub mod ObjectLives
 pub mod Spelling
 pub mod OldBytes
+pub mod NoInstances
 pub mod Allocations
 pub mod PlacesOfLeaves
 pub mod Regular

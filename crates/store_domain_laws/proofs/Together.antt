@@ -56,7 +56,7 @@ module _ {I : Type 0} {l : LatticeOf I} {n : IntegersOf I} {stands : I → ℤ �
   spells r s j number offset room text k e = spell_monotone o b all (top_row n all bases temps) offset text e bases placed number room k r s j
 
   pub renews : RangeLaws l n → MonotoneLaws l n → IsRenewMonotone l n m bases all temps
-  renews f g r s j c newest older has places x y k t e fresh more w i = renew_monotone o b all (top_row n all bases temps) f g m bases placed (row_greatest n all bases temps) newest older has places r s j c x y k t e fresh more w i
+  renews f g r s j c newest older has places x y k t fresh more w i = renew_monotone o b all (top_row n all bases temps) f g m bases placed (row_greatest n all bases temps) newest older has h places r s j c x y k t fresh more w i
 
   pub stores_consistent : RangeLaws l n → IsStoreConsistent l n m bases all temps
   stores_consistent f r own even p class signed v t w c = store_kept o b all (top_row n all bases temps) f m bases placed class signed v (w, c) t r (record { own = own; even = even }) p

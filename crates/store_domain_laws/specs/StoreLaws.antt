@@ -97,12 +97,12 @@ module _ {I : Type 0} (l : LatticeOf I) (n : IntegersOf I) (m : Model) (bases : 
   abbrev pub IsSpellMonotone : Type 0
   IsSpellMonotone = (r s : List (Cell I)) → RowsBelow l (top_row n all bases temps) r s → (number offset room : ℕ) (text : List ℕ) → room ≤ 2 ^ 64 → AreBytes text → RowsBelow l (top_row n all bases temps) (spell l n bases number offset room text r) (spell l n bases number offset room text s)
 
-  -- an allocation at a site of which the own row's sets may have the older base, of a size that is there, where the
-  -- pointers of the smaller row are consistent
+  -- an allocation at a site of which the own row's sets may have the older base, where the pointers of the smaller row
+  -- are consistent; no size left in the smaller row makes no instance, which is below a fresh one
   abbrev pub IsRenewMonotone : Type 0
   IsRenewMonotone = (r s : List (Cell I)) → RowsBelow l (top_row n all bases temps) r s → AreConsistent n r → (newest older : ℕ) → bases_has all older ≡ true
       → ((new old : BaseInfo) → slice_get bases newest ≡ Some new → slice_get bases older ≡ Some old → IsSite new old)
-      → (x y : I) → l.leq x y ≡ true → l.leq y (n.between (pos 0) the_end) ≡ true → is_some (n.bounds x) ≡ true
+      → (x y : I) → l.leq x y ≡ true → l.leq y (n.between (pos 0) the_end) ≡ true
       → (fresh more : Fresh I) → IsFreshOfWords fresh → FreshBelow l fresh more → RowsBelow l (top_row n all bases temps) (renew l n m bases newest older x fresh r) (renew l n m bases newest older y more s)
 
   -- a store of an own value with a consistent pointer part into an own row of such ones leaves such a row
