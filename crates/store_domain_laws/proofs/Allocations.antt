@@ -1,5 +1,5 @@
 -- Allocations: the newest base becomes part of the older one, and a fresh instance takes its place.
-use Rattle.std.specs.Prelude.{◌≡◌, ℕ, ◌/◌, ◌%◌, ◌^◌, ◌<◌, ℤ, pos, ◌≤ℤ◌, Bool, true, false, cond, ◌&&◌, bit_or, Option, Some, None, is_some, List, [], ◌∷◌, length, map, slice_get, refl}
+use Rattle.std.specs.Prelude.{◌≡◌, ℕ, ◌/◌, ◌%◌, ◌^◌, ◌<◌, ℤ, pos, ◌≤ℤ◌, Bool, true, false, cond, ◌&&◌, bit_or, Option, Some, None, List, [], ◌∷◌, length, map, slice_get, refl}
 use Rattle.std.proofs.Common.{arith, sym, subst}
 use Rattle.std.proofs.lemmas.Bool.{and_parts, and_from, and_right}
 use Rattle.cc_base.specs.Lattices.{LatticeOf, OrderLaws}

@@ -1,5 +1,5 @@
 -- Allocations leave consistent rows.
-use Rattle.std.specs.Prelude.{◌≡◌, ℕ, ◌+◌, ◌<◌, ℤ, Bool, true, false, cond, ◌&&◌, Option, Some, None, List, [], ◌∷◌, length, map, slice_get, refl}
+use Rattle.std.specs.Prelude.{◌≡◌, ℕ, ◌<◌, ℤ, Bool, true, false, cond, ◌&&◌, Option, Some, None, List, [], ◌∷◌, length, map, slice_get, refl}
 use Rattle.std.proofs.Common.{arith}
 use Rattle.cc_base.specs.Lattices.{LatticeOf, OrderLaws}
 use Rattle.cc_base.specs.NumberRanges.{Range}
@@ -9,7 +9,7 @@ use Rattle.c_layout.specs.declared.data_model.Model.{Model}
 use Rattle.c_layout.specs.declared.leaf_lists.Class.{Class}
 use Rattle.c_layout.specs.declared.shapes.BaseInfo.{BaseInfo}
 use Rattle.pointer_domain.specs.BaseSets.{bases_has}
-use Rattle.pointer_domain.specs.PointerLattice.{pointer_order, pointers_leq}
+use Rattle.pointer_domain.specs.PointerLattice.{pointer_order}
 use Rattle.pointer_domain.specs.declared.base_sets.Bases.{Bases}
 use Rattle.string_domain.specs.FirstZeros.{zero_lattice}
 use Rattle.value_domain.specs.declared.values.Value as values
@@ -22,7 +22,7 @@ use Rattle.store_domain.specs.declared.allocation.Fresh.{Fresh}
 use Rattle.store_domain.specs.declared.allocation.Fresh.TheVariants.{Blank, Zero, Old}
 use Rattle.store_domain.specs.ClassNumbers.{class_number, class_at, same_class, is_pointer}
 use Rattle.store_domain.specs.LiveBases.{has_base}
-use Rattle.store_domain.specs.Freeing.{free_base_if, free_base, free_bases}
+use Rattle.store_domain.specs.Freeing.{free_base, free_bases}
 use Rattle.store_domain.specs.FirstZeroWrites.{set_zeros}
 use Rattle.store_domain.specs.ObjectLives.{set_values}
 use Rattle.store_domain.specs.RowPositions.{cell_at, leaf_position, class_position, zero_position, state_position, value_count, value_at, zero_at, state_at, join_zero}

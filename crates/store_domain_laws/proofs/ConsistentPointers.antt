@@ -14,7 +14,7 @@ use Rattle.pointer_domain.specs.declared.pointer_sets.Pointers.{Pointers}
 use Rattle.store_domain.specs.LiveBases.{most_bases}
 use Rattle.store_domain.specs.ObjectLives.{ended_pointer}
 use Rattle.store_domain.specs.Allocations.{is_named, site_of, renamed}
-use Rattle.value_domain_laws.specs.Consistency.{AreWords, is_consistent}
+use Rattle.value_domain_laws.specs.Consistency.{AreWords}
 use Rattle.value_domain_laws.proofs.BaseChanges.{has_none}
 use Rattle.store_domain_laws.proofs.Consistent.{IsEven, even_bare, some_parts, from_some}
 
