@@ -40,7 +40,7 @@ pub fn spells_are_monotone<I: IntDomain>()
 {}
 
 /// An allocation of a larger size, with larger old pointers, in a larger own row leaves a larger row, and an own one, where
-/// the pointers of the smaller row are consistent; no size left in the smaller row makes no instance, which is below a fresh one.
+/// the pointers of the smaller row are consistent; where no size is left, no instance is made, which is below a fresh one.
 pub fn renewals_are_monotone<I: IntDomain>()
     ensures { MonotoneLaws I.lattice I.numbers → (m : Model) (bases : List BaseInfo) → IsLayout m bases → (all : Bases) (temps : ℕ) → length (top_row I.numbers all bases temps) < 2 ^ 64 → IsRenewMonotone I.lattice I.numbers m bases all temps }
 {}
