@@ -1,5 +1,5 @@
 -- Allocations: the newest base becomes part of the older one, and a fresh instance takes its place.
-use Rattle.std.specs.Prelude.{◌≡◌, ℕ, ◌/◌, ◌%◌, ◌^◌, ◌<◌, ℤ, pos, ◌≤ℤ◌, Bool, true, false, cond, ◌&&◌, bit_or, Option, Some, None, is_some, List, [], ◌∷◌, length, map, slice_get, refl}
+use Rattle.std.specs.Prelude.{◌≡◌, ℕ, ◌/◌, ◌%◌, ◌^◌, ◌<◌, ℤ, pos, ◌≤ℤ◌, Bool, true, false, cond, ◌&&◌, bit_or, Option, Some, None, List, [], ◌∷◌, length, map, slice_get, refl}
 use Rattle.std.proofs.Common.{arith, sym, subst}
 use Rattle.std.proofs.lemmas.Bool.{and_parts, and_from, and_right}
 use Rattle.cc_base.specs.Lattices.{LatticeOf, OrderLaws}
@@ -49,6 +49,7 @@ use Rattle.store_domain_laws.proofs.FirstZeros.{zero_at_monotone, zero_at_top}
 use Rattle.store_domain_laws.proofs.Freeing.{state_at_monotone, state_at_top, free_pair, off}
 use Rattle.store_domain_laws.proofs.OwnValues.{each_get, value_placed, value_put, zero_put, zeros_pair}
 use Rattle.store_domain_laws.proofs.ObjectLives.{IsGreatest, AreGreatest, without_within, with_pointer, either_top}
+use Rattle.store_domain_laws.proofs.NoInstances.{both_nothing, nothing_made}
 use Rattle.store_domain_laws.proofs.OldBytes.{fresh_own, fresh_zero_monotone, fresh_zero_top}
 
 -- a set with one base more stays within a set that has it
@@ -197,7 +198,7 @@ module _ {I : Type 0} {l : LatticeOf I} {n : IntegersOf I} {stands : I → ℤ �
           ((state_order o).transitive (state_at l n r from) y ((state_lattice l).join x y) (state_at_monotone o b top r s from j t) ((state_order o).join_right x y)))
           ((state_order o).join_least x y (top_state n) (state_at_top o b top r s to j u) (state_at_top o b top r s from j t))
 
-      base_joined : (r s : List (Cell I)) → RowsBelow l top r s → RowsBelow l top (join_base l n new old r) (join_base l n new old s)
+      pub base_joined : (r s : List (Cell I)) → RowsBelow l top r s → RowsBelow l top (join_base l n new old r) (join_base l n new old s)
       unfolding join_base
       base_joined r s j = state_joined (join_zeros l n new old (join_values l n new old r)) (join_zeros l n new old (join_values l n new old s))
           (zeros_joined (join_values l n new old r) (join_values l n new old s) (values_joined r s j))
@@ -231,14 +232,15 @@ module _ {I : Type 0} {l : LatticeOf I} {n : IntegersOf I} {stands : I → ℤ �
             (fresh_values l n m bases new fresh r) (fresh_values l n m bases new more s) (values_fresh r s j))
             (and_from _ _ k refl) (and_from _ _ t refl)
 
-        made_at : (u v : Range) → RangeBelow u v → is_some u ≡ true → (r s : List (Cell I)) → RowsBelow l top r s → RowsBelow l top (make_of l n m bases new x fresh u r) (make_of l n m bases new y more v s)
-        made_at None v i e r s j = cc
-        made_at (Some u) None i e r s j = absurd i
-        made_at (Some u) (Some v) i e r s j = instance_made u.0 v.0 i.0 r s j
+        made_at : length top < 2 ^ 64 → (u v : Range) → RangeBelow u v → (r s : List (Cell I)) → RowsBelow l top r s → RowsBelow l top (make_of l n m bases new x fresh u r) (make_of l n m bases new y more v s)
+        made_at short None None i r s j = both_nothing o b all top new p heap r s j
+        made_at short None (Some v) i r s j = nothing_made o b all top new p heap f g m bases each fresh more h short y t v.0 r s j
+        made_at short (Some u) None i r s j = absurd i
+        made_at short (Some u) (Some v) i r s j = instance_made u.0 v.0 i.0 r s j
 
-        fresh_made : is_some (n.bounds x) ≡ true → (r s : List (Cell I)) → RowsBelow l top r s → RowsBelow l top (make_fresh l n m bases new x fresh r) (make_fresh l n m bases new y more s)
+        fresh_made : length top < 2 ^ 64 → (r s : List (Cell I)) → RowsBelow l top r s → RowsBelow l top (make_fresh l n m bases new x fresh r) (make_fresh l n m bases new y more s)
         unfolding make_fresh
-        fresh_made e r s j = made_at (n.bounds x) (n.bounds y) (bounds_monotone b x y k) e r s j
+        fresh_made short r s j = made_at short (n.bounds x) (n.bounds y) (bounds_monotone b x y k) r s j
 
     -- ---- the old instances, perhaps freed
 
@@ -268,18 +270,18 @@ module _ {I : Type 0} {l : LatticeOf I} {n : IntegersOf I} {stands : I → ℤ �
 
     -- ---- the call
 
-    module _ (f : RangeLaws l n) (g : MonotoneLaws l n) (m : Model) (bases : List BaseInfo) (each : EachFrom (λ base number. IsPlaced n all top base) 0 bases) (x y : I) (k : l.leq x y ≡ true) (t : l.leq y (n.between (pos 0) the_end) ≡ true) (e : is_some (n.bounds x) ≡ true) (fresh more : Fresh I) where
+    module _ (f : RangeLaws l n) (g : MonotoneLaws l n) (m : Model) (bases : List BaseInfo) (each : EachFrom (λ base number. IsPlaced n all top base) 0 bases) (x y : I) (k : l.leq x y ≡ true) (t : l.leq y (n.between (pos 0) the_end) ≡ true) (fresh more : Fresh I) (short : length top < 2 ^ 64) where
       all_replaced : (new : BaseInfo) → IsPlaced n all top new → new.shape.heap ≡ true → FreshBelow l fresh more → (r s : List (Cell I)) → RowsBelow l top r s → RowsBelow l top (replaced l n m bases new x fresh r) (replaced l n m bases new y more s)
       unfolding replaced
-      all_replaced new p heap h r s j = old_freed bases each fresh more h (make_fresh l n m bases new x fresh r) (make_fresh l n m bases new y more s) (fresh_made f g m bases each new p heap fresh more h x y k t e r s j)
+      all_replaced new p heap h r s j = old_freed bases each fresh more h (make_fresh l n m bases new x fresh r) (make_fresh l n m bases new y more s) (fresh_made f g m bases each new p heap fresh more h x y k t short r s j)
 
-    module _ (f : RangeLaws l n) (g : MonotoneLaws l n) (m : Model) (bases : List BaseInfo) (each : EachFrom (λ base number. IsPlaced n all top base) 0 bases) (greatest : AreGreatest n all top) (newest older : ℕ) (has : bases_has all older ≡ true) where
+    module _ (f : RangeLaws l n) (g : MonotoneLaws l n) (m : Model) (bases : List BaseInfo) (each : EachFrom (λ base number. IsPlaced n all top base) 0 bases) (greatest : AreGreatest n all top) (newest older : ℕ) (has : bases_has all older ≡ true) (short : length top < 2 ^ 64) where
       -- over the two bases that the numbers name
       pub renew_monotone : ((new old : BaseInfo) → slice_get bases newest ≡ Some new → slice_get bases older ≡ Some old → IsSite new old) → (r s : List (Cell I)) → RowsBelow l top r s → AreConsistent n r
-          → (x y : I) → l.leq x y ≡ true → l.leq y (n.between (pos 0) the_end) ≡ true → is_some (n.bounds x) ≡ true → (fresh more : Fresh I) → IsFreshOfWords fresh → FreshBelow l fresh more
+          → (x y : I) → l.leq x y ≡ true → l.leq y (n.between (pos 0) the_end) ≡ true → (fresh more : Fresh I) → IsFreshOfWords fresh → FreshBelow l fresh more
           → RowsBelow l top (renew l n m bases newest older x fresh r) (renew l n m bases newest older y more s)
       unfolding renew renew_site
-      renew_monotone places r s j c x y k t e fresh more w h = by_found (slice_get bases newest) (slice_get bases older) refl refl
+      renew_monotone places r s j c x y k t fresh more w h = by_found (slice_get bases newest) (slice_get bases older) refl refl
         where
           by_found : (new old : Option BaseInfo) → slice_get bases newest ≡ new → slice_get bases older ≡ old → RowsBelow l top (renew_found l n m bases (site_of newest older) x fresh new old r) (renew_found l n m bases (site_of newest older) y more new old s)
           by_found None old u v = j
@@ -289,6 +291,6 @@ module _ {I : Type 0} {l : LatticeOf I} {n : IntegersOf I} {stands : I → ℤ �
               let p = each_get (λ base number. IsPlaced n all top base) 0 newest bases new each u in
               let q = each_get (λ base number. IsPlaced n all top base) 0 older bases old each v in
               let named = renamed_row all newest older has top r s greatest c j in
-              all_replaced f g m bases each x y k t e (renamed_fresh (site_of newest older) fresh) (renamed_fresh (site_of newest older) more) new p place.new_heap (renamed_below newest older fresh more w h)
+              all_replaced f g m bases each x y k t (renamed_fresh (site_of newest older) fresh) (renamed_fresh (site_of newest older) more) short new p place.new_heap (renamed_below newest older fresh more w h)
               (join_base l n new old (map (renamed_cell (site_of newest older)) r)) (join_base l n new old (map (renamed_cell (site_of newest older)) s))
               (base_joined new old p q place (map (renamed_cell (site_of newest older)) r) (map (renamed_cell (site_of newest older)) s) named)

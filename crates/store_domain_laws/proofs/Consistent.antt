@@ -89,10 +89,10 @@ module _ {I : Type 0} {l : LatticeOf I} {n : IntegersOf I} {stands : I → ℤ �
     len : is_none (n.bounds p.len) ≡ true
     part : p.part ≡ false
 
-  record SomePlace (p : Pointers I) : Type 0 where
-    lo : is_some (n.bounds p.lo) ≡ true
-    rel : is_some (n.bounds p.rel) ≡ true
-    len : is_some (n.bounds p.len) ≡ true
+  pub record SomePlace (p : Pointers I) : Type 0 where
+    pub lo : is_some (n.bounds p.lo) ≡ true
+    pub rel : is_some (n.bounds p.rel) ≡ true
+    pub len : is_some (n.bounds p.len) ≡ true
 
   no_parts : (p : Pointers I) → bases_empty p.bases ≡ true → is_consistent n p ≡ true → NoPlace p
   no_parts p e h =
@@ -102,7 +102,7 @@ module _ {I : Type 0} {l : LatticeOf I} {n : IntegersOf I} {stands : I → ℤ �
       let d = and_parts (is_none (n.bounds p.len)) (not p.part) c.1 in
       record { lo = a.0; rel = c.0; len = d.0; part = not-true p.part d.1 }
 
-  some_parts : (p : Pointers I) → bases_empty p.bases ≡ false → is_consistent n p ≡ true → SomePlace p
+  pub some_parts : (p : Pointers I) → bases_empty p.bases ≡ false → is_consistent n p ≡ true → SomePlace p
   some_parts p e h =
       let f : is_somewhere n p ≡ true = subst (λ c. cond c (is_nowhere n p) (is_somewhere n p) ≡ true) e h in
       let a = and_parts (is_some (n.bounds p.lo)) (is_some (n.bounds p.rel) && is_some (n.bounds p.len)) f in
@@ -112,7 +112,7 @@ module _ {I : Type 0} {l : LatticeOf I} {n : IntegersOf I} {stands : I → ℤ �
   from_no : (p : Pointers I) → bases_empty p.bases ≡ true → NoPlace p → is_consistent n p ≡ true
   from_no p e k = subst (λ c. cond c (is_nowhere n p) (is_somewhere n p) ≡ true) (sym e) (and_from _ _ k.lo (and_from _ _ k.rel (and_from _ _ k.len (not_from_false p.part k.part))))
 
-  from_some : (p : Pointers I) → bases_empty p.bases ≡ false → SomePlace p → is_consistent n p ≡ true
+  pub from_some : (p : Pointers I) → bases_empty p.bases ≡ false → SomePlace p → is_consistent n p ≡ true
   from_some p e k = subst (λ c. cond c (is_nowhere n p) (is_somewhere n p) ≡ true) (sym e) (and_from _ _ k.lo (and_from _ _ k.rel k.len))
 
   join_consistent : (p q : Pointers I) → is_consistent n p ≡ true → is_consistent n q ≡ true → is_consistent n (pointers_join l p q) ≡ true

@@ -1,5 +1,5 @@
--- Objects that are freed, forgotten and cleared leave consistent rows.
-use Rattle.std.specs.Prelude.{ℕ, ℤ, pos, Bool, true, false, cond, not, ◌&&◌, Option, Some, None, List, length, slice_get}
+-- Objects that are freed, forgotten, cleared and left leave consistent rows.
+use Rattle.std.specs.Prelude.{ℕ, ℤ, pos, Bool, true, false, cond, not, ◌&&◌, Option, Some, None, List, [], ◌∷◌, length, map, slice_get}
 use Rattle.std.proofs.Common.{arith}
 use Rattle.cc_base.specs.Lattices.{LatticeOf, OrderLaws}
 use Rattle.cc_base.specs.IntegerDomains.{IntegersOf, BoundLaws}
@@ -9,7 +9,9 @@ use Rattle.pointer_domain.specs.declared.pointer_sets.Pointers.{Pointers}
 use Rattle.string_domain.specs.declared.first_zeros.FirstZero.{FirstZero}
 use Rattle.value_domain.specs.declared.values.Value as values
 use Rattle.value_domain.specs.declared.row_cells.Cell.{Cell}
-use Rattle.value_domain.specs.declared.row_cells.Cell.TheVariants.{Value, First, State}
+use Rattle.value_domain.specs.declared.row_cells.Cell.TheVariants.{Nothing, Value, First, State, Mixed}
+use Rattle.value_domain.specs.Values.{value_lattice}
+use Rattle.string_domain.specs.FirstZeros.{zero_lattice}
 use Rattle.value_domain.specs.ValueTables.{blank_value, number_value, pointer_value}
 use Rattle.value_domain.specs.LabelSets.{no_labels}
 use Rattle.store_domain.specs.ClassNumbers.{is_pointer}
@@ -18,13 +20,14 @@ use Rattle.store_domain.specs.ByteWrites.{null_pointer}
 use Rattle.store_domain.specs.RowPositions.{leaf_position, zero_position, state_position, state_at, value_count}
 use Rattle.store_domain.specs.FirstZeroWrites.{no_zero, zero_first, set_part, set_zeros}
 use Rattle.store_domain.specs.Freeing.{is_heap_in, freed_state, free_base_if, free_base, free_bases, free}
-use Rattle.store_domain.specs.ObjectLives.{set_cell, set_values, blank_object, at_base, forget, zero_value, clear_leaf, clear_leaves, clear_object, clear}
-use Rattle.store_domain_laws.specs.ConsistentRows.{AreConsistent}
+use Rattle.store_domain.specs.ObjectLives.{set_cell, set_values, blank_object, at_base, forget, zero_value, clear_leaf, clear_leaves, clear_object, clear, ended_cell, leave_object, leave}
+use Rattle.store_domain_laws.specs.ConsistentRows.{IsConsistentCell, AreConsistent}
 use Rattle.store_domain_laws.proofs.PairedSteps.{walk_pair, turns_pair, any_each}
 use Rattle.store_domain_laws.proofs.Consistent.{IsEven, even_bare, set_keeps}
+use Rattle.store_domain_laws.proofs.ConsistentPointers.{ended_pointer_even}
 
 module _ {I : Type 0} {l : LatticeOf I} {n : IntegersOf I} {stands : I → ℤ → Type 0} (o : OrderLaws l) (b : BoundLaws l n stands) where
-  freed_at : (wanted surely : Bool) (base : BaseInfo) (row : List (Cell I)) → AreConsistent n row → AreConsistent n (free_base_if l n wanted surely base row)
+  pub freed_at : (wanted surely : Bool) (base : BaseInfo) (row : List (Cell I)) → AreConsistent n row → AreConsistent n (free_base_if l n wanted surely base row)
   unfolding free_base_if
   freed_at true surely base row h = set_keeps n row (state_position base) (State (freed_state surely (state_at l n row (state_position base)))) h tt
   freed_at false surely base row h = h
@@ -36,17 +39,17 @@ module _ {I : Type 0} {l : LatticeOf I} {n : IntegersOf I} {stands : I → ℤ �
       walk_pair (λ base number. Unit {0}) (λ x y. AreConsistent n x) (free_base l n p.bases surely) (free_base l n p.bases surely)
       (λ base number x y e j. freed_at (is_heap_in p.bases base number) surely base x j) 0 bases row row (any_each 0 bases) h
 
-  zeros_even : (base : BaseInfo) (f : FirstZero I) (row : List (Cell I)) → AreConsistent n row → AreConsistent n (set_zeros base f row)
+  pub zeros_even : (base : BaseInfo) (f : FirstZero I) (row : List (Cell I)) → AreConsistent n row → AreConsistent n (set_zeros base f row)
   unfolding set_zeros
   zeros_even base f row h = turns_pair (λ x y. AreConsistent n x) (set_part base f) (set_part base f) (length base.shape.zeros)
       (λ at x y e j. set_keeps n x (zero_position base at) (First f) j tt) (length base.shape.zeros) row row (omega arith) h
 
-  values_even : (base : BaseInfo) (v : values.Value I) → IsEven n v.pointer → (row : List (Cell I)) → AreConsistent n row → AreConsistent n (set_values base v row)
+  pub values_even : (base : BaseInfo) (v : values.Value I) → IsEven n v.pointer → (row : List (Cell I)) → AreConsistent n row → AreConsistent n (set_values base v row)
   unfolding set_values
   values_even base v k row h = turns_pair (λ x y. AreConsistent n x) (set_cell base v) (set_cell base v) (value_count base)
       (λ at x y e j. set_keeps n x (leaf_position base at) (Value v) j k) (value_count base) row row (omega arith) h
 
-  zero_even : (class : Class) → IsEven n (zero_value l n class).pointer
+  pub zero_even : (class : Class) → IsEven n (zero_value l n class).pointer
   zero_even class = by_class (is_pointer class)
     where
       by_class : (q : Bool) → IsEven n (cond q (pointer_value l (null_pointer l)) (number_value l (n.one (pos 0)) no_labels)).pointer
@@ -63,6 +66,26 @@ module _ {I : Type 0} {l : LatticeOf I} {n : IntegersOf I} {stands : I → ℤ �
       (walk_pair (λ leaf at. Unit {0}) (λ x y. AreConsistent n x) (clear_leaf l n base) (clear_leaf l n base)
       (λ leaf at x y e j. set_keeps n x (leaf_position base at) (Value (zero_value l n leaf.class)) j (zero_even leaf.class)) 0 base.shape.cells row row (any_each 0 base.shape.cells) h)
 
+  -- ---- left
+
+  cell_even : (number : ℕ) (c : Cell I) → IsConsistentCell n c → IsConsistentCell n (ended_cell l number c)
+  cell_even number Nothing h = tt
+  cell_even number (Value v) h = ended_pointer_even o b number v.pointer h
+  cell_even number (First f) h = tt
+  cell_even number (State s) h = tt
+  cell_even number Mixed h = tt
+
+  row_even : (number : ℕ) (row : List (Cell I)) → AreConsistent n row → AreConsistent n (map (ended_cell l number) row)
+  row_even number [] h = tt
+  row_even number (c ∷ cs) h = (cell_even number c h.0, row_even number cs h.1)
+
+  left_even : (number : ℕ) (base : BaseInfo) (row : List (Cell I)) → AreConsistent n row → AreConsistent n (leave_object l number base row)
+  unfolding leave_object
+  left_even number base row h = zeros_even base ((zero_lattice l).least) (set_values base ((value_lattice l).least) (map (ended_cell l number) row))
+      (values_even base ((value_lattice l).least) (even_bare o b false false) (map (ended_cell l number) row) (row_even number row h))
+
+  -- ---- the object of a number
+
   at_even : (change : BaseInfo → List (Cell I) → List (Cell I)) → ((base : BaseInfo) (row : List (Cell I)) → AreConsistent n row → AreConsistent n (change base row)) → (found : Option BaseInfo) (row : List (Cell I)) → AreConsistent n row → AreConsistent n (at_base change found row)
   at_even change f None row h = h
   at_even change f (Some base) row h = f base row h
@@ -74,3 +97,7 @@ module _ {I : Type 0} {l : LatticeOf I} {n : IntegersOf I} {stands : I → ℤ �
   pub clear_even : (bases : List BaseInfo) (number : ℕ) (row : List (Cell I)) → AreConsistent n row → AreConsistent n (clear l n bases number row)
   unfolding clear
   clear_even bases number row h = at_even (clear_object l n) cleared_even (slice_get bases number) row h
+
+  pub leave_even : (bases : List BaseInfo) (number : ℕ) (row : List (Cell I)) → AreConsistent n row → AreConsistent n (leave l bases number row)
+  unfolding leave
+  leave_even bases number row h = at_even (leave_object l number) (left_even number) (slice_get bases number) row h

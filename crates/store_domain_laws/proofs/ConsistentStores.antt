@@ -63,7 +63,7 @@ same_truths t = and_from _ _ (same (can_hold t)) (same (can_fail t))
     same false = refl
 
 module _ {I : Type 0} {l : LatticeOf I} {n : IntegersOf I} {stands : I → ℤ → Type 0} (o : OrderLaws l) (b : BoundLaws l n stands) where
-  row_reflexive : (row : List (Cell I)) → row_leq (cell_lattice l) row row ≡ true
+  pub row_reflexive : (row : List (Cell I)) → row_leq (cell_lattice l) row row ≡ true
   row_reflexive [] = refl
   row_reflexive (c ∷ cs) = and_from _ _ ((cell_order o).reflexive c) (row_reflexive cs)
 
@@ -74,7 +74,7 @@ module _ {I : Type 0} {l : LatticeOf I} {n : IntegersOf I} {stands : I → ℤ �
   in_even (State s) h = even_bare o b false false
   in_even Mixed h = even_bare o b false false
 
-  either_even : (t : Bool) (v : values.Value I) (x : I) → IsEven n v.pointer → IsEven n (cond t v (record v { num = x })).pointer
+  pub either_even : (t : Bool) (v : values.Value I) (x : I) → IsEven n v.pointer → IsEven n (cond t v (record v { num = x })).pointer
   either_even true v x h = h
   either_even false v x h = h
 
@@ -84,25 +84,25 @@ module _ {I : Type 0} {l : LatticeOf I} {n : IntegersOf I} {stands : I → ℤ �
       pub own : row_leq (cell_lattice l) row top ≡ true
       pub even : AreConsistent n row
 
-    pair_of : (row : List (Cell I)) → IsKept row → RowsBelow l top row row
+    pub pair_of : (row : List (Cell I)) → IsKept row → RowsBelow l top row row
     pair_of row k = record { small = row_reflexive row; large = k.own }
 
-    at_even : (i : ℕ) → cell_at top i ≡ Value (top_value n all) → (row : List (Cell I)) → IsKept row → IsEven n (value_at l n row i).pointer
+    pub at_even : (i : ℕ) → cell_at top i ≡ Value (top_value n all) → (row : List (Cell I)) → IsKept row → IsEven n (value_at l n row i).pointer
     at_even i e row k = subst (λ v. IsEven n v.pointer) (sym (value_at_is o b all top row row i (row_reflexive row) k.own e)) (in_even (cell_at row i) (at_keeps n row i k.even))
 
-    either_kept : (t : Bool) (x y : List (Cell I)) → IsKept x → IsKept y → IsKept (cond t x y)
+    pub either_kept : (t : Bool) (x y : List (Cell I)) → IsKept x → IsKept y → IsKept (cond t x y)
     either_kept true x y h k = h
     either_kept false x y h k = k
 
     module _ (i : ℕ) (e : cell_at top i ≡ Value (top_value n all)) (v : values.Value I) (h : IsEven n v.pointer) (t : (value_lattice l).leq v (top_value n all) ≡ true) (row : List (Cell I)) (k : IsKept row) where
-      joined_kept : IsKept (join_value l n row i v)
+      pub joined_kept : IsKept (join_value l n row i v)
       unfolding join_value
       joined_kept = record {
         own = (join_pair o b all top i e row row v v (pair_of row k) ((value_order o).reflexive v) t).large;
         even = set_keeps n row i (Value ((value_lattice l).join (value_at l n row i) v)) k.even (even_join o b (value_at l n row i).pointer v.pointer (at_even i e row k) h);
       }
 
-      put_kept : IsKept (set row i (Value v))
+      pub put_kept : IsKept (set row i (Value v))
       put_kept = record { own = (strong_pair o b all top i e row row v v (pair_of row k) ((value_order o).reflexive v) t).large; even = set_keeps n row i (Value v) k.even h }
 
       written_kept : (strong : Bool) → IsKept (write_value l n row i v strong)

@@ -19,12 +19,16 @@ pub mod OwnValues
 pub mod ObjectLives
 pub mod Spelling
 pub mod OldBytes
+pub mod NoInstances
 pub mod Allocations
 pub mod PlacesOfLeaves
 pub mod Regular
 pub mod PlainShapes
 pub mod WorkedBases
 pub mod Consistent
+pub mod ConsistentPointers
 pub mod ConsistentStores
 pub mod ConsistentLives
+pub mod ConsistentSpelling
+pub mod ConsistentAllocations
 pub mod Together

@@ -31,7 +31,7 @@ byte_of (c ∷ cs) zero h = h.0
 byte_of (c ∷ cs) (suc at) h = byte_of cs at h.1
 
 module _ {I : Type 0} {l : LatticeOf I} {n : IntegersOf I} {stands : I → ℤ → Type 0} (o : OrderLaws l) (b : BoundLaws l n stands) where
-  character_top : (text : List ℕ) (at : ℕ) (signed : Bool) → AreBytes text → l.leq (number_of n (character text at) signed) (top_number n) ≡ true
+  pub character_top : (text : List ℕ) (at : ℕ) (signed : Bool) → AreBytes text → l.leq (number_of n (character text at) signed) (top_number n) ≡ true
   character_top text at signed h =
       let c = byte_of text at h in
       cond_both (signed && nat_le 128 (character text at)) (pos (character text at) -ℤ pos 256) (pos (character text at)) (λ z. l.leq (n.one z) (top_number n) ≡ true)
@@ -42,7 +42,7 @@ module _ {I : Type 0} {l : LatticeOf I} {n : IntegersOf I} {stands : I → ℤ �
   hull_step leaf offset text at found h k = cond_both (begins_at leaf (capped (offset + at))) (l.join found (number_of n (character text at) leaf.signed)) found (λ x. l.leq x (top_number n) ≡ true)
       (λ e. o.join_least found (number_of n (character text at) leaf.signed) (top_number n) k (character_top text at leaf.signed h)) (λ e. k)
 
-  hull_top : (leaf : Leaf) (offset count : ℕ) (text : List ℕ) → AreBytes text → l.leq (hull l n leaf offset count text) (top_number n) ≡ true
+  pub hull_top : (leaf : Leaf) (offset count : ℕ) (text : List ℕ) → AreBytes text → l.leq (hull l n leaf offset count text) (top_number n) ≡ true
   unfolding hull
   hull_top leaf offset count text h = turns_pair (λ x y. l.leq x (top_number n) ≡ true) (hull_more l n leaf offset text) (hull_more l n leaf offset text) count
       (λ at x y e k. hull_step leaf offset text at x h k) count l.least l.least (omega arith) (o.least_below (top_number n))

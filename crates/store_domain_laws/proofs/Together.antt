@@ -11,7 +11,7 @@ use Rattle.value_domain_laws.proofs.Parts.{pointer_parts}
 use Rattle.store_domain_laws.specs.TopCells.{top_value}
 use Rattle.store_domain_laws.specs.TopRows.{top_row}
 use Rattle.store_domain_laws.specs.Placements.{EachFrom, IsPlaced, IsRegular}
-use Rattle.store_domain_laws.specs.StoreLaws.{IsLayout, IsLoadMonotone, IsStoreMonotone, IsFreeMonotone, IsForgetMonotone, IsClearMonotone, IsLeaveMonotone, IsSpellMonotone, IsRenewMonotone, IsStoreConsistent}
+use Rattle.store_domain_laws.specs.StoreLaws.{IsLayout, IsLoadMonotone, IsStoreMonotone, IsFreeMonotone, IsForgetMonotone, IsClearMonotone, IsLeaveMonotone, IsSpellMonotone, IsRenewMonotone, IsStoreConsistent, IsSpellConsistent, IsRenewConsistent}
 use Rattle.store_domain_laws.proofs.Loads.{load_monotone}
 use Rattle.store_domain_laws.proofs.Stores.{store_monotone}
 use Rattle.store_domain_laws.proofs.Freeing.{free_monotone}
@@ -20,6 +20,8 @@ use Rattle.store_domain_laws.proofs.ObjectLives.{row_greatest, forget_monotone, 
 use Rattle.store_domain_laws.proofs.Spelling.{spell_monotone}
 use Rattle.store_domain_laws.proofs.Allocations.{renew_monotone}
 use Rattle.store_domain_laws.proofs.ConsistentStores.{store_kept}
+use Rattle.store_domain_laws.proofs.ConsistentSpelling.{spell_even}
+use Rattle.store_domain_laws.proofs.ConsistentAllocations.{renew_even}
 
 both_each : {K : Type 0} (P Q : K → ℕ → Type 0) (at : ℕ) (ks : List K) → EachFrom P at ks → EachFrom Q at ks → EachFrom (λ k i. P k i × Q k i) at ks
 both_each P Q at [] e f = tt
@@ -54,7 +56,13 @@ module _ {I : Type 0} {l : LatticeOf I} {n : IntegersOf I} {stands : I → ℤ �
   spells r s j number offset room text k e = spell_monotone o b all (top_row n all bases temps) offset text e bases placed number room k r s j
 
   pub renews : RangeLaws l n → MonotoneLaws l n → IsRenewMonotone l n m bases all temps
-  renews f g r s j c newest older has places x y k t e fresh more w i = renew_monotone o b all (top_row n all bases temps) f g m bases placed (row_greatest n all bases temps) newest older has places r s j c x y k t e fresh more w i
+  renews f g r s j c newest older has places x y k t fresh more w i = renew_monotone o b all (top_row n all bases temps) f g m bases placed (row_greatest n all bases temps) newest older has h places r s j c x y k t fresh more w i
 
   pub stores_consistent : RangeLaws l n → IsStoreConsistent l n m bases all temps
   stores_consistent f r own even p class signed v t w c = store_kept o b all (top_row n all bases temps) f m bases placed class signed v (w, c) t r (record { own = own; even = even }) p
+
+  pub spells_consistent : IsSpellConsistent l n m bases all temps
+  spells_consistent r own even number offset room text e = spell_even o b all (top_row n all bases temps) offset text e bases placed number room r (record { own = own; even = even })
+
+  pub renews_consistent : RangeLaws l n → MonotoneLaws l n → IsRenewConsistent l n m bases all temps
+  renews_consistent f g r own even newest older has places size fresh = renew_even o b all (top_row n all bases temps) f g m bases placed (row_greatest n all bases temps) newest older has places size fresh r (record { own = own; even = even })

@@ -1,5 +1,5 @@
 -- The calls of the store grow with the row and with their arguments, and leave own rows.
-use Rattle.std.specs.Prelude.{◌≡◌, ℕ, ◌^◌, ◌<◌, ◌≤◌, pos, Bool, true, is_some, Some, List, [], ◌∷◌, length, slice_get}
+use Rattle.std.specs.Prelude.{◌≡◌, ℕ, ◌^◌, ◌<◌, ◌≤◌, pos, Bool, true, Some, List, [], ◌∷◌, length, slice_get}
 use Rattle.cc_base.specs.Lattices.{LatticeOf}
 use Rattle.cc_base.specs.IntegerDomains.{IntegersOf}
 use Rattle.c_layout.specs.declared.data_model.Model.{Model}
@@ -97,12 +97,12 @@ module _ {I : Type 0} (l : LatticeOf I) (n : IntegersOf I) (m : Model) (bases : 
   abbrev pub IsSpellMonotone : Type 0
   IsSpellMonotone = (r s : List (Cell I)) → RowsBelow l (top_row n all bases temps) r s → (number offset room : ℕ) (text : List ℕ) → room ≤ 2 ^ 64 → AreBytes text → RowsBelow l (top_row n all bases temps) (spell l n bases number offset room text r) (spell l n bases number offset room text s)
 
-  -- an allocation at a site of which the own row's sets may have the older base, of a size that is there, where the
-  -- pointers of the smaller row are consistent
+  -- an allocation at a site of which the own row's sets may have the older base, where the pointers of the smaller row
+  -- are consistent; no size left in the smaller row makes no instance, which is below a fresh one
   abbrev pub IsRenewMonotone : Type 0
   IsRenewMonotone = (r s : List (Cell I)) → RowsBelow l (top_row n all bases temps) r s → AreConsistent n r → (newest older : ℕ) → bases_has all older ≡ true
       → ((new old : BaseInfo) → slice_get bases newest ≡ Some new → slice_get bases older ≡ Some old → IsSite new old)
-      → (x y : I) → l.leq x y ≡ true → l.leq y (n.between (pos 0) the_end) ≡ true → is_some (n.bounds x) ≡ true
+      → (x y : I) → l.leq x y ≡ true → l.leq y (n.between (pos 0) the_end) ≡ true
       → (fresh more : Fresh I) → IsFreshOfWords fresh → FreshBelow l fresh more → RowsBelow l (top_row n all bases temps) (renew l n m bases newest older x fresh r) (renew l n m bases newest older y more s)
 
   -- a store of an own value with a consistent pointer part into an own row of such ones leaves such a row
@@ -110,9 +110,20 @@ module _ {I : Type 0} (l : LatticeOf I) (n : IntegersOf I) (m : Model) (bases : 
   IsStoreConsistent = (r : List (Cell I)) → row_leq (cell_lattice l) r (top_row n all bases temps) ≡ true → AreConsistent n r → (p : Pointers I) (class : Class) (signed : Bool) (v : Value I) → (value_lattice l).leq v (top_value n all) ≡ true → AreWords v.pointer.bases → is_consistent n v.pointer ≡ true
       → IsLeftConsistent n (store l n m bases p class signed v r)
 
+  -- a text of bytes that is written into an array of an own row of consistent pointer parts leaves such a row
+  abbrev pub IsSpellConsistent : Type 0
+  IsSpellConsistent = (r : List (Cell I)) → row_leq (cell_lattice l) r (top_row n all bases temps) ≡ true → AreConsistent n r → (number offset room : ℕ) (text : List ℕ) → AreBytes text → AreConsistent n (spell l n bases number offset room text r)
+
+  -- an allocation at a site of which the own row's sets may have the older base, in an own row of consistent pointer parts,
+  -- leaves such a row
+  abbrev pub IsRenewConsistent : Type 0
+  IsRenewConsistent = (r : List (Cell I)) → row_leq (cell_lattice l) r (top_row n all bases temps) ≡ true → AreConsistent n r → (newest older : ℕ) → bases_has all older ≡ true
+      → ((new old : BaseInfo) → slice_get bases newest ≡ Some new → slice_get bases older ≡ Some old → IsSite new old) → (size : I) (fresh : Fresh I) → AreConsistent n (renew l n m bases newest older size fresh r)
+
 module _ {I : Type 0} (l : LatticeOf I) (n : IntegersOf I) (bases : List BaseInfo) where
-  -- what is freed, forgotten or cleared in a row of consistent pointer parts leaves such a row
+  -- what is freed, forgotten, cleared or left in a row of consistent pointer parts leaves such a row
   pub record AreLivesConsistent : Type 0 where
     pub freed : (r : List (Cell I)) (p : Pointers I) → AreConsistent n r → AreConsistent n (free l n bases p r)
     pub forgotten : (r : List (Cell I)) (number : ℕ) → AreConsistent n r → AreConsistent n (forget l n bases number r)
     pub cleared : (r : List (Cell I)) (number : ℕ) → AreConsistent n r → AreConsistent n (clear l n bases number r)
+    pub left : (r : List (Cell I)) (number : ℕ) → AreConsistent n r → AreConsistent n (leave l bases number r)

@@ -7,7 +7,7 @@ ghost use Rattle.pointer_domain.specs.declared.base_sets.Bases.{Bases};
 ghost use Rattle.store_domain_laws.specs.TopRows.{top_row};
 ghost use Rattle.store_domain_laws.specs.Placements.{IsRegular};
 ghost use Rattle.store_domain_laws.specs.PlainShapes.{is_plain};
-ghost use Rattle.store_domain_laws.specs.StoreLaws.{IsLayout, IsLoadMonotone, IsStoreMonotone, IsFreeMonotone, IsForgetMonotone, IsClearMonotone, IsLeaveMonotone, IsSpellMonotone, IsRenewMonotone, IsStoreConsistent, AreLivesConsistent};
+ghost use Rattle.store_domain_laws.specs.StoreLaws.{IsLayout, IsLoadMonotone, IsStoreMonotone, IsFreeMonotone, IsForgetMonotone, IsClearMonotone, IsLeaveMonotone, IsSpellMonotone, IsRenewMonotone, IsStoreConsistent, IsSpellConsistent, IsRenewConsistent, AreLivesConsistent};
 
 use cc_base::IntDomain;
 
@@ -40,7 +40,7 @@ pub fn spells_are_monotone<I: IntDomain>()
 {}
 
 /// An allocation of a larger size, with larger old pointers, in a larger own row leaves a larger row, and an own one, where
-/// some size is left and the pointers of the smaller row are consistent.
+/// the pointers of the smaller row are consistent; where no size is left, no instance is made, which is below a fresh one.
 pub fn renewals_are_monotone<I: IntDomain>()
     ensures { MonotoneLaws I.lattice I.numbers → (m : Model) (bases : List BaseInfo) → IsLayout m bases → (all : Bases) (temps : ℕ) → length (top_row I.numbers all bases temps) < 2 ^ 64 → IsRenewMonotone I.lattice I.numbers m bases all temps }
 {}
@@ -55,7 +55,17 @@ pub fn stores_are_consistent<I: IntDomain>()
     ensures { (m : Model) (bases : List BaseInfo) → IsLayout m bases → (all : Bases) (temps : ℕ) → length (top_row I.numbers all bases temps) < 2 ^ 64 → IsStoreConsistent I.lattice I.numbers m bases all temps }
 {}
 
-/// What is freed, entered, forgotten or cleared in a row of consistent pointer parts leaves such a row.
+/// What is freed, entered, forgotten, cleared or left in a row of consistent pointer parts leaves such a row.
 pub fn lives_are_consistent<I: IntDomain>()
     ensures { (bases : List BaseInfo) → AreLivesConsistent I.lattice I.numbers bases }
+{}
+
+/// A text of bytes that is written into an array of an own row of consistent pointer parts leaves such a row.
+pub fn spells_are_consistent<I: IntDomain>()
+    ensures { (m : Model) (bases : List BaseInfo) → IsLayout m bases → (all : Bases) (temps : ℕ) → length (top_row I.numbers all bases temps) < 2 ^ 64 → IsSpellConsistent I.lattice I.numbers m bases all temps }
+{}
+
+/// An allocation in an own row of consistent pointer parts leaves such a row.
+pub fn renewals_are_consistent<I: IntDomain>()
+    ensures { MonotoneLaws I.lattice I.numbers → (m : Model) (bases : List BaseInfo) → IsLayout m bases → (all : Bases) (temps : ℕ) → length (top_row I.numbers all bases temps) < 2 ^ 64 → IsRenewConsistent I.lattice I.numbers m bases all temps }
 {}
