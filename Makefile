@@ -1,12 +1,13 @@
 # make                      the program: proved already where `rt ci` has run, else built by tools/build.py
 # make check                everything from nothing: proofs, must-fail edits, tests (`rt ci`)
 # make docs                 links, names and examples of README.md and docs/ (tools/check-docs.sh)
-# make install PREFIX=..    the program, its man page and the examples
+# make install PREFIX=DIR   the program, its man page and the examples; DIR from the root
+# make clean                what was made: the program is made anew only where it is not there
 
 PREFIX = /usr/local
 PROGRAM = crates/ccheck_main/out/ccheck_main
 
-.PHONY: all check docs install
+.PHONY: all check clean docs install
 
 all: $(PROGRAM)
 
@@ -15,6 +16,9 @@ $(PROGRAM):
 
 check:
 	rt ci
+
+clean:
+	rm -rf crates/*/out
 
 docs: $(PROGRAM)
 	tools/check-docs.sh
