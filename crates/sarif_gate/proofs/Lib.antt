@@ -8,4 +8,8 @@ pub mod Lines
 pub mod Plain
 pub mod RoundTrip
 pub mod OwnReports
+pub mod Reading
+pub mod ValueLists
+pub mod Streaming
+pub mod Turns
 pub mod Rows

@@ -4,4 +4,5 @@ pub mod Reports
 pub mod Baselines
 pub mod Comparing
 pub mod Keys
+pub mod Streams
 pub mod Laws

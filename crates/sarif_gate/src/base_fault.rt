@@ -31,3 +31,14 @@ impl<T: Drop> From<AllocFailed<T>> for BaseFault {
         BaseFault::Memory
     }
 }
+
+impl From<json::Invalid> for BaseFault {
+    ghost use Rattle.std.specs.Prelude.{◌≡◌};
+    ghost use Rattle.sarif_gate.specs.declared.base_fault.BaseFault.TheVariants as fault;
+
+    ghost from_gives = { λ _ e. e ≡ fault.Shape };
+
+    fn from(_invalid: json::Invalid) -> BaseFault {
+        BaseFault::Shape
+    }
+}

@@ -1,194 +1,134 @@
 //! Reports of other runs and of other producers, read as lists of what is known.
-ghost use Rattle.std.specs.Prelude.{◌≡◌, ◌++◌, Some, None, Err, IfOk, OnOk, option_map};
-ghost use Rattle.serde_json.specs.View.{view, items_view};
+ghost use Rattle.std.specs.Prelude.{◌≡◌, ◌<◌, length, Some, None, Err, IfOk, OnOk, option_map, option_and_then};
+ghost use Rattle.json.specs.Json.{value, members};
+ghost use Rattle.serde_json.specs.Data.{Data, Members, no_members, put};
+ghost use Rattle.serde_json.specs.Read.{of_json, of_members, converted, read};
+ghost use Rattle.serde_json.specs.View.{view};
+ghost use Rattle.json.specs.Token.{Token as SpecToken};
+ghost use Rattle.std.specs.Prelude.{List};
 ghost use Rattle.sarif_gate.specs.declared.base_fault.BaseFault.TheVariants.{Shape};
-ghost use Rattle.sarif_gate.specs.Baselines.{text_at, position, position_at, location_of, uri_at, file_at, region_position, rule_of, known_from, known_at, known_of, results_known, run_results, runs_known, has_version, runs_of, value_of, baseline_read};
+ghost use Rattle.sarif_gate.specs.Baselines.{baseline_of, baseline_read};
+ghost use Rattle.sarif_gate.specs.Streams.{is_version, Holds, known_in};
 
 use crate::base_fault::BaseFault;
+use crate::json_values::read_value;
 use crate::known_results::Known;
-use crate::rule_tags::rule_tagged;
-use crate::uris::file_of_uri;
-use cc_base::{Rule, Text};
+use crate::streamed_results::{begins_object, read_run_list};
+use json::{Reader, Scratch};
 use serde_json::Value;
-use std::alloc::{AllocError, Global};
+use std::alloc::Global;
 
-/// The text at a key.
-fn text_at<'v>(value: &'v Value, key: &str) -> Option<&'v str>
-    ensures { option_map (λ s. s.now) result ≡ text_at key.now (view value.now) }
-{
-    value.get(key).and_then(Value::as_str)
+/// How deep arrays and objects of a report may nest.
+const MAX_DEPTH: usize = 127;
+
+/// What the members of a report have said.
+#[derive(Drop)]
+pub(crate) struct Report {
+    /// Whether the version is the one that is read.
+    is_of_version: bool,
+    /// What the runs say is known; nothing where there is no list of them.
+    known: Option<Vec<Known>>,
 }
 
-/// A line or a column.
-fn position(number: u64) -> Option<u64>
-    ensures { result ≡ position number }
+/// Whether a value is the version that is read.
+fn is_version(version: &Value) -> bool
+    ensures { result ≡ is_version (view version.now) }
 {
-    if 1 <= number && number <= u64::from(u32::MAX) {
-        Some(number)
-    } else {
-        None
-    }
-}
-
-/// The line or the column at a key.
-fn position_at(value: &Value, key: &str) -> Option<u64>
-    ensures { result ≡ position_at key.now (view value.now) }
-{
-    let number = value.get(key).and_then(Value::as_u64)?;
-    position(number)
-}
-
-/// The first location of a result.
-fn location_of(value: &Value) -> Option<&Value>
-    ensures { option_map (λ v. view v.now) result ≡ location_of (view value.now) }
-{
-    let locations = value.get("locations")?;
-    let first = locations.get(0usize)?;
-    first.get("physicalLocation")
-}
-
-/// The uri of a location.
-fn uri_at(location: &Value) -> Option<&str>
-    ensures { option_map (λ s. s.now) result ≡ uri_at (view location.now) }
-{
-    let artifact = location.get("artifactLocation")?;
-    text_at(artifact, "uri")
-}
-
-/// The line or the column of a location.
-fn region_position(location: &Value, key: &str) -> Option<u64>
-    ensures { result ≡ region_position key.now (view location.now) }
-{
-    let region = location.get("region")?;
-    position_at(region, key)
-}
-
-/// The name of the file of a location.
-fn file_at(alloc: Global, location: &Value) -> Result<Option<Text>, AllocError>
-    ensures { IfOk result (λ o. o ≡ file_at (view location.now)) }
-{
-    match uri_at(location) {
-        Some(uri) => file_of_uri(alloc, uri),
-        None => Ok(None),
-    }
-}
-
-/// The rule of a result.
-fn rule_of(value: &Value) -> Option<Rule>
-    ensures { result ≡ rule_of (view value.now) }
-{
-    let tag = text_at(value, "ruleId")?;
-    rule_tagged(tag)
-}
-
-/// All four parts, or nothing.
-fn known_from(
-    file: Option<Text>,
-    line: Option<u64>,
-    col: Option<u64>,
-    rule: Option<Rule>,
-) -> Option<Known>
-    ensures { result ≡ known_from file line col rule }
-{
-    match (file, line, col, rule) {
-        (Some(file), Some(line), Some(col), Some(rule)) => Some(Known {
-            file,
-            line,
-            col,
-            rule,
-        }),
-        _ => None,
-    }
-}
-
-/// What a result at a location says is known.
-fn known_at(
-    alloc: Global,
-    location: &Value,
-    rule: Option<Rule>,
-) -> Result<Option<Known>, AllocError>
-    ensures { IfOk result (λ o. o ≡ known_at (view location.now) rule) }
-{
-    let file = file_at(alloc, location)?;
-    let line = region_position(location, "startLine");
-    let col = region_position(location, "startColumn");
-    Ok(known_from(file, line, col, rule))
-}
-
-/// What a result says is known; nothing where it is passed over.
-fn known_of(alloc: Global, value: &Value) -> Result<Option<Known>, AllocError>
-    ensures { IfOk result (λ o. o ≡ known_of (view value.now)) }
-{
-    match location_of(value) {
-        Some(location) => known_at(alloc, location, rule_of(value)),
-        None => Ok(None),
-    }
-}
-
-/// Adds what the results of a run say is known.
-fn push_results(alloc: Global, known: &mut Vec<Known>, results: &[Value]) -> Result<(), AllocError>
-    ensures { OnOk result (known.new.items ≡ known.old.items ++ results_known (items_view results.now)) }
-{
-    for value in results {
-        if let Some(entry) = known_of(alloc, value)? {
-            known.push(entry)?;
-        }
-    }
-    Ok(())
-}
-
-/// Adds what a run says is known.
-fn push_run(alloc: Global, known: &mut Vec<Known>, run: &Value) -> Result<(), AllocError>
-    ensures { OnOk result (known.new.items ≡ known.old.items ++ results_known (run_results (view run.now))) }
-{
-    match run.get("results").and_then(Value::as_array) {
-        Some(results) => push_results(alloc, known, results),
-        None => Ok(()),
-    }
-}
-
-/// What the runs say is known.
-fn runs_known(alloc: Global, runs: &[Value]) -> Result<Vec<Known>, AllocError>
-    ensures { IfOk result (λ v. v.items ≡ runs_known (items_view runs.now)) }
-{
-    let mut known = Vec::new(alloc);
-    for run in runs {
-        push_run(alloc, &mut known, run)?;
-    }
-    Ok(known)
-}
-
-/// Whether a report is of the version that is read.
-fn has_version(report: &Value) -> bool
-    ensures { result ≡ has_version (view report.now) }
-{
-    match text_at(report, "version") {
-        Some(version) => version == "2.1.0",
+    match version.as_str() {
+        Some(text) => text == "2.1.0",
         None => false,
     }
 }
 
-/// The runs of a report; nothing where it has not the shape of one.
-fn runs_of(report: &Value) -> Option<&Vec<Value>>
-    ensures { option_map (λ v. items_view v.now.items) result ≡ runs_of (view report.now) }
+/// Whether the next value is the version that is read.
+fn read_version(alloc: Global, reader: &mut Reader<'_>, depth: usize) -> Result<bool, BaseFault>
+    ensures ok { IfOk result (λ b. (d : Data) × (converted of_json (value depth reader.old) ≡ Some (d, reader.new)) × (b ≡ is_version d)) }
+    ensures shorter { OnOk result (length reader.new < length reader.old) }
+    ensures shape { result ≡ Err Shape → converted of_json (value depth reader.old) ≡ None }
 {
-    if has_version(report) {
-        report.get("runs").and_then(Value::as_array)
+    let version = read_value(alloc, reader, depth)?;
+    Ok(is_version(&version))
+}
+
+/// Reads a member of a report. Of members of one name the last one counts.
+fn read_member(
+    alloc: Global,
+    report: &mut Report,
+    key: &str,
+    reader: &mut Reader<'_>,
+    depth: usize,
+) -> Result<(), BaseFault>
+    ensures ok { OnOk result ((d : Data) × (converted of_json (value depth reader.old) ≡ Some (d, reader.new))
+        × ((ms : Members) → Holds report.old ms → Holds report.new (put key.now d ms))) }
+    ensures shorter { OnOk result (length reader.new < length reader.old) }
+    ensures shape { result ≡ Err Shape → converted of_json (value depth reader.old) ≡ None }
+{
+    if key == "version" {
+        report.is_of_version = read_version(alloc, reader, depth)?;
+    } else if key == "runs" {
+        report.known = read_run_list(alloc, reader, depth)?;
     } else {
-        None
+        drop(read_value(alloc, reader, depth)?);
+    }
+    Ok(())
+}
+
+/// Reads the members of a report, up to the brace that closes it.
+fn read_members(alloc: Global, reader: &mut Reader<'_>, depth: usize) -> Result<Report, BaseFault>
+    ensures ok { IfOk result (λ r. (ms : Members)
+        × (converted (λ all. of_members all no_members) (members (value depth) (length reader.old) reader.old) ≡ Some (ms, reader.new))
+        × Holds r ms) }
+    ensures shorter { OnOk result (length reader.new < length reader.old) }
+    ensures shape { result ≡ Err Shape → converted (λ all. of_members all no_members) (members (value depth) (length reader.old) reader.old) ≡ None }
+{
+    let mut report = Report {
+        is_of_version: false,
+        known: None,
+    };
+    'members: while let Some(key) = reader.next_key()? {
+        read_member(alloc, &mut report, key, reader, depth)?;
+    }
+    Ok(report)
+}
+
+/// Reads a report. `Shape` where there is no value, or one that is no object.
+fn read_report(alloc: Global, reader: &mut Reader<'_>, depth: usize) -> Result<Report, BaseFault>
+    ensures ok { IfOk result (λ r. (d : Data) × (converted of_json (value depth reader.old) ≡ Some (d, reader.new)) × (known_in r ≡ baseline_of d)) }
+    ensures shape { result ≡ Err Shape → (d : Data) → (rest : List SpecToken) → converted of_json (value depth reader.old) ≡ Some (d, rest) → baseline_of d ≡ None }
+{
+    let token = reader.next().ok_or(BaseFault::Shape)?;
+    if !begins_object(token) {
+        Err(BaseFault::Shape)
+    } else if depth == 0 {
+        Err(BaseFault::Shape)
+    } else {
+        read_members(alloc, reader, depth - 1)
     }
 }
 
-/// The value that bytes are.
-fn value_of(alloc: Global, bytes: &[u8]) -> Result<Value, BaseFault>
-    ensures ok { IfOk result (λ v. value_of bytes.now ≡ Some (view v)) }
-    ensures shape { result ≡ Err Shape → value_of bytes.now ≡ None }
+/// What a report says is known; `Shape` where it has not the shape of one.
+fn known_in(report: Report) -> Result<Vec<Known>, BaseFault>
+    ensures ok { IfOk result (λ v. known_in report ≡ Some v.items) }
+    ensures shape { result ≡ Err Shape → known_in report ≡ None }
 {
-    match Value::from_slice(alloc, bytes) {
-        Ok(value) => Ok(value),
-        Err(error) if error.is_memory() => Err(BaseFault::Memory),
-        Err(_) => Err(BaseFault::Shape),
+    match report.known {
+        Some(known) if report.is_of_version => Ok(known),
+        _ => Err(BaseFault::Shape),
     }
+}
+
+/// What a text says is known.
+fn read_text(alloc: Global, text: &str) -> Result<Vec<Known>, BaseFault>
+    ensures ok { IfOk result (λ v. option_and_then baseline_of (read text.now) ≡ Some v.items) }
+    ensures shape { result ≡ Err Shape → option_and_then baseline_of (read text.now) ≡ None }
+{
+    let mut scratch = Scratch::new(alloc);
+    let mut reader = Reader::new(text, &mut scratch)?;
+    let report = read_report(alloc, &mut reader, MAX_DEPTH)?;
+    if reader.next().is_some() {
+        return Err(BaseFault::Shape);
+    }
+    known_in(report)
 }
 
 /// What a report says is known: the four parts of each result, in order, of every run. A result that
@@ -199,9 +139,8 @@ pub fn read_sarif(alloc: Global, bytes: &[u8]) -> Result<Vec<Known>, BaseFault>
     ensures ok { IfOk result (λ v. baseline_read bytes.now ≡ Some v.items) }
     ensures shape { result ≡ Err Shape → baseline_read bytes.now ≡ None }
 {
-    let report = value_of(alloc, bytes)?;
-    match runs_of(&report) {
-        Some(runs) => Ok(runs_known(alloc, runs)?),
-        None => Err(BaseFault::Shape),
+    match str::from_utf8(bytes) {
+        Ok(text) => read_text(alloc, text),
+        Err(_) => Err(BaseFault::Shape),
     }
 }

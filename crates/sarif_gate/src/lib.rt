@@ -4,9 +4,13 @@
 mod base_fault;
 mod baseline;
 mod fresh_diagnostics;
+mod json_numbers;
+mod json_values;
 mod known_results;
 mod report;
 mod rule_tags;
+mod single_results;
+mod streamed_results;
 mod theorems;
 mod uris;
 

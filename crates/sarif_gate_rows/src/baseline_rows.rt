@@ -32,6 +32,52 @@ fn what_is_no_report(rt: HostRuntime) -> Result<(), Fail> {
     expect_known(&rt, rt.alloc(), &SHAPES)
 }
 
+/// Members of one name, of which the last one counts, and numbers that no float holds.
+const REPEATED: [(&str, &str); 10] = [
+    (
+        "{\"version\":\"2.1.0\",\"runs\":[{\"results\":[{\"ruleId\":\"diverr\",\"locations\":[{\"physicalLocation\":{\"artifactLocation\":{\"uri\":\"a.c\"},\"region\":{\"startLine\":1,\"startColumn\":40}}}]}],\"results\":[{\"ruleId\":\"diverr\",\"locations\":[{\"physicalLocation\":{\"artifactLocation\":{\"uri\":\"a.c\"},\"region\":{\"startLine\":2,\"startColumn\":40}}}]}]}]}",
+        "a.c:2:40:diverr ",
+    ),
+    (
+        "{\"version\":\"2.1.0\",\"runs\":[{\"results\":[{\"ruleId\":\"diverr\",\"locations\":[{\"physicalLocation\":{\"artifactLocation\":{\"uri\":\"a.c\"},\"region\":{\"startLine\":1,\"startColumn\":40}}}]}],\"res\\u0075lts\":[{\"ruleId\":\"diverr\",\"locations\":[{\"physicalLocation\":{\"artifactLocation\":{\"uri\":\"a.c\"},\"region\":{\"startLine\":2,\"startColumn\":40}}}]}]}]}",
+        "a.c:2:40:diverr ",
+    ),
+    (
+        "{\"version\":\"2.1.0\",\"runs\":[{\"results\":[{\"ruleId\":\"diverr\",\"locations\":[{\"physicalLocation\":{\"artifactLocation\":{\"uri\":\"a.c\"},\"region\":{\"startLine\":1,\"startColumn\":40}}}]}],\"results\":3}]}",
+        "",
+    ),
+    (
+        "{\"version\":\"2.1.0\",\"runs\":[{\"results\":[{\"ruleId\":\"diverr\",\"locations\":[{\"physicalLocation\":{\"artifactLocation\":{\"uri\":\"a.c\"},\"region\":{\"startLine\":1,\"startColumn\":40}}}]}]},{\"results\":[{\"ruleId\":\"diverr\",\"locations\":[{\"physicalLocation\":{\"artifactLocation\":{\"uri\":\"a.c\"},\"region\":{\"startLine\":2,\"startColumn\":40}}}]}],\"results\":[]}]}",
+        "a.c:1:40:diverr ",
+    ),
+    (
+        "{\"version\":\"2.1.0\",\"runs\":[{\"results\":[{\"ruleId\":\"diverr\",\"locations\":[{\"physicalLocation\":{\"artifactLocation\":{\"uri\":\"a.c\"},\"region\":{\"startLine\":1,\"startColumn\":40}}}]}]}],\"runs\":[{\"results\":[{\"ruleId\":\"diverr\",\"locations\":[{\"physicalLocation\":{\"artifactLocation\":{\"uri\":\"a.c\"},\"region\":{\"startLine\":2,\"startColumn\":40}}}]}]}]}",
+        "a.c:2:40:diverr ",
+    ),
+    (
+        "{\"runs\":[{\"results\":[{\"ruleId\":\"diverr\",\"locations\":[{\"physicalLocation\":{\"artifactLocation\":{\"uri\":\"a.c\"},\"region\":{\"startLine\":1,\"startColumn\":40}}}]}]}],\"version\":\"2.1.0\"}",
+        "a.c:1:40:diverr ",
+    ),
+    ("{\"version\":\"2.1.0\",\"runs\":3,\"runs\":[]}", ""),
+    (
+        "{\"version\":\"2.1.0\",\"runs\":[{\"results\":[{\"ruleId\":\"diverr\",\"locations\":[{\"physicalLocation\":{\"artifactLocation\":{\"uri\":\"a.c\"},\"region\":{\"startLine\":1,\"startColumn\":40}}}]}]}],\"runs\":null}",
+        "shape",
+    ),
+    (
+        "{\"version\":\"2.1.0\",\"runs\":[{\"results\":[{\"ruleId\":\"diverr\",\"locations\":[{\"physicalLocation\":{\"artifactLocation\":{\"uri\":\"a.c\"},\"region\":{\"startLine\":1,\"startColumn\":40}}}]},{\"rank\":1e999}]}]}",
+        "shape",
+    ),
+    (
+        "{\"version\":\"2.1.0\",\"runs\":[{\"results\":[{\"ruleId\":\"diverr\",\"locations\":[{\"physicalLocation\":{\"artifactLocation\":{\"uri\":\"a.c\"},\"region\":{\"startLine\":1,\"startColumn\":40}}}]}]}],\"more\":-1e999}",
+        "shape",
+    ),
+];
+
+#[test]
+fn the_last_member_of_a_name_counts(rt: HostRuntime) -> Result<(), Fail> {
+    expect_known(&rt, rt.alloc(), &REPEATED)
+}
+
 /// Reports of other producers.
 const LENIENT: [(&str, &str); 11] = [
     ("{\"version\":\"2.1.0\",\"runs\":[]}", ""),

@@ -1,0 +1,46 @@
+use Rattle.std.proofs.Common.{◌≡◌, ◌-◌, ◌<◌, ◌∷◌, ◌++◌, [], length, Some, None, option_map, unwrap_or, refl, sym, ap, ◌∙◌, arith, append-nil}
+use Rattle.std.proofs.lemmas.Result.{on_ok_weaker}
+use Rattle.json.specs.Json.{parse_map, items, members, value}
+use Rattle.json.specs.Reads.{token_of}
+use Rattle.serde_json.specs.Data.{array, object, no_items, no_members}
+use Rattle.serde_json.specs.Find.{as_array}
+use Rattle.serde_json.specs.Read.{of_json, of_items, of_members, converted}
+use Rattle.serde_json.specs.View.{view}
+use Rattle.sarif_gate.specs.Baselines.{results_known, run_results, runs_known}
+use Rattle.sarif_gate.specs.Streams.{begins_list, begins_object}
+use Rattle.sarif_gate.proofs.Streaming.{no_token, no_list, no_object, no_results, list_opened, object_opened, list_too_deep, object_too_deep}
+use Rattle.sarif_gate.proofs.streamed_results.push_result_list.Goals as goal
+
+pub returns-in_err-token-clause-shape : goal.returns-in_err-token-clause-shape
+returns-in_err-token-clause-shape c refused =
+    let empty : c.args.reader.now ≡ [] = grind arith in
+    ap (λ ts. converted of_json (value c.args.depth ts)) empty ∙ no_token c.args.depth
+
+pub returns-in_ok-value_behind-clause-ok : goal.returns-in_ok-value_behind-clause-ok
+returns-in_ok-value_behind-clause-ok c =
+    let first : c.args.reader.now ≡ token_of c.in_ok-token.token ∷ c.next.new.self = grind arith in
+    let at = ap (λ ts. converted of_json (value c.args.depth ts)) first in
+    let d = view c.in_ok-value_behind.field-0 in
+    let read = c.in_ok-value_behind.ensures.ok in
+    let none = no_list c.args.depth (token_of c.in_ok-token.token) c.next.new.self c.value_behind.new.reader d (sym c.if-not-begins_list.ensures) read in
+    (d, at ∙ read, sym (ap (λ o. c.args.known.now.items ++ results_known (unwrap_or o no_items)) none ∙ append-nil c.args.known.now.items))
+
+pub returns-then-depth-eq0-clause-shape : goal.returns-then-depth-eq0-clause-shape
+returns-then-depth-eq0-clause-shape c refused =
+    let first : c.args.reader.now ≡ token_of c.in_ok-token.token ∷ c.next.new.self = grind arith in
+    let at = ap (λ ts. converted of_json (value c.args.depth ts)) first in
+    at ∙ list_too_deep c.args.depth (token_of c.in_ok-token.token) c.next.new.self (sym c.if-not-begins_list.ensures) (omega arith)
+
+pub returns-else-depth-eq0-clause-ok : goal.returns-else-depth-eq0-clause-ok
+returns-else-depth-eq0-clause-ok c =
+    let first : c.args.reader.now ≡ token_of c.in_ok-token.token ∷ c.next.new.self = grind arith in
+    let at = ap (λ ts. converted of_json (value c.args.depth ts)) first in
+    let opened = list_opened c.args.depth (token_of c.in_ok-token.token) c.next.new.self (sym c.if-not-begins_list.ensures) (omega arith) in
+    on_ok_weaker c.push_results.result (λ found. (array found.0, at ∙ opened ∙ ap (parse_map array) found.1, found.2)) c.push_results.ensures.ok
+
+pub returns-else-depth-eq0-clause-shape : goal.returns-else-depth-eq0-clause-shape
+returns-else-depth-eq0-clause-shape c refused =
+    let first : c.args.reader.now ≡ token_of c.in_ok-token.token ∷ c.next.new.self = grind arith in
+    let at = ap (λ ts. converted of_json (value c.args.depth ts)) first in
+    let opened = list_opened c.args.depth (token_of c.in_ok-token.token) c.next.new.self (sym c.if-not-begins_list.ensures) (omega arith) in
+    at ∙ opened ∙ ap (parse_map array) (c.push_results.ensures.shape refused)
