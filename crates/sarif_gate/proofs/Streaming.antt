@@ -1,17 +1,15 @@
 -- Parts of a report, read one by one.
-use Rattle.std.proofs.Common.{◌≡◌, ℕ, ◌<◌, ◌-◌, List, [], ◌∷◌, ◌++◌, length, take, Bool, true, false, Option, Some, None, option_map, option_and_then, unwrap_or, bytes_eq, codes, refl, sym, ap, ◌∙◌, subst, append-nil, append_assoc, option_to_list, true≢false}
+use Rattle.std.proofs.Common.{◌≡◌, ℕ, ◌<◌, ◌-◌, List, [], ◌∷◌, ◌++◌, length, true, false, Option, Some, None, option_map, option_and_then, refl, sym, ap, ◌∙◌, subst, append_assoc, option_to_list, true≢false}
 use Rattle.std.specs.Prelude.{⊤}
-use Rattle.std.proofs.lemmas.Slice.Eq.{bytes_eq-Decides}
 use Rattle.json.specs.Token.{Token}
 use Rattle.json.specs.Json as json
 use Rattle.json.specs.Json.{parse_map, items, members, value}
 use Rattle.json.proofs.Grammar.{value_is, value-begin_array, value-begin_object}
-use Rattle.serde_json.specs.Data.{Data, null, boolean, number, string, array, object, Items, no_items, item, Members, no_members, put}
-use Rattle.serde_json.specs.Find.{as_array, as_object, get_member}
+use Rattle.serde_json.specs.Data.{Data, null, boolean, number, string, array, object, Items, no_items, item, Members, no_members}
+use Rattle.serde_json.specs.Find.{as_array, as_object}
 use Rattle.serde_json.specs.Read.{of_json, of_items, of_members, converted, number_of}
-use Rattle.serde_json.proofs.Views.{get_member-put, get_member-put_other}
 use Rattle.sarif_gate.specs.declared.known_results.Known.{Known}
-use Rattle.sarif_gate.specs.Baselines.{known_of, results_known, run_results, runs_known, baseline_of}
+use Rattle.sarif_gate.specs.Baselines.{known_of, results_known, run_results, baseline_of}
 use Rattle.sarif_gate.specs.Streams.{begins_list, begins_object}
 use Rattle.sarif_gate.proofs.Reading.{item_read, whole, converted_object, converted_array}
 

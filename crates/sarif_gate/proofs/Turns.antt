@@ -1,5 +1,5 @@
 -- What a member that is read makes of what was kept.
-use Rattle.std.proofs.Common.{◌≡◌, ℕ, ◌≤◌, List, [], ◌∷◌, ◌++◌, length, take, Bool, true, false, Option, Some, None, option_map, option_and_then, unwrap_or, bytes_eq, codes, refl, sym, ap, ◌∙◌, subst, arith, append-nil, true≢false, take_all}
+use Rattle.std.proofs.Common.{◌≡◌, ℕ, List, ◌++◌, length, take, Bool, true, false, Option, Some, None, option_map, option_and_then, unwrap_or, bytes_eq, codes, refl, sym, ap, ◌∙◌, arith, true≢false, take_all}
 use Rattle.std.proofs.lemmas.List.{take-append-le}
 use Rattle.std.specs.Prelude.{if◌then◌else◌}
 use Rattle.std.proofs.lemmas.Slice.Eq.{bytes_eq-Decides}
@@ -8,7 +8,7 @@ use Rattle.serde_json.specs.Find.{as_str, as_array, get_member}
 use Rattle.serde_json.proofs.Views.{get_member-put, get_member-put_other}
 use Rattle.sarif_gate.specs.declared.known_results.Known.{Known}
 use Rattle.sarif_gate.specs.declared.baseline.Report.{Report}
-use Rattle.sarif_gate.specs.Baselines.{results_known, run_results, runs_known, runs_of, baseline_of, has_version}
+use Rattle.sarif_gate.specs.Baselines.{results_known, run_results, runs_known, baseline_of, has_version}
 use Rattle.sarif_gate.specs.Streams.{is_version, list_known, Holds, known_in}
 
 -- the member of a name, once another one was put

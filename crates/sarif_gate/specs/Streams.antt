@@ -1,5 +1,5 @@
 -- What is kept of a report while its text is read.
-use Rattle.std.specs.Prelude.{◌≡◌, ℕ, List, Bool, true, false, if◌then◌else◌, Option, None, option_map, option_and_then, unwrap_or, bytes_eq, codes}
+use Rattle.std.specs.Prelude.{◌≡◌, List, Bool, true, false, if◌then◌else◌, Option, None, option_map, option_and_then, unwrap_or, bytes_eq, codes}
 use Rattle.json.specs.Token.{Token}
 use Rattle.serde_json.specs.Data.{Data, Members, object}
 use Rattle.serde_json.specs.Find.{as_str, as_array, get_member}

@@ -1,14 +1,10 @@
-use Rattle.std.proofs.Common.{Option, subst, ◌≡◌, ◌-◌, ◌<◌, ◌∷◌, ◌++◌, [], length, Some, None, option_map, unwrap_or, refl, sym, ap, ◌∙◌, arith, append-nil}
+use Rattle.std.proofs.Common.{Option, subst, ◌≡◌, ◌∷◌, [], Some, None, sym, ap, ◌∙◌, arith}
 use Rattle.std.specs.Prelude.{⊤}
 use Rattle.std.proofs.lemmas.Result.{IfOk-weaker}
-use Rattle.json.specs.Json.{parse_map, items, members, value}
+use Rattle.json.specs.Json.{parse_map, value}
 use Rattle.json.specs.Reads.{token_of}
-use Rattle.serde_json.specs.Data.{array, object, no_items, no_members}
-use Rattle.serde_json.specs.Find.{as_array}
-use Rattle.serde_json.specs.Read.{of_json, of_items, of_members, converted}
-use Rattle.serde_json.specs.View.{view}
-use Rattle.sarif_gate.specs.Baselines.{results_known, run_results, runs_known}
-use Rattle.sarif_gate.specs.Streams.{begins_list, begins_object}
+use Rattle.serde_json.specs.Data.{object}
+use Rattle.serde_json.specs.Read.{of_json, converted}
 use Rattle.sarif_gate.proofs.Streaming.{no_token, no_object, no_report, object_opened, object_too_deep}
 use Rattle.sarif_gate.proofs.Turns.{all_known}
 use Rattle.sarif_gate.proofs.baseline.read_report.Goals as goal

@@ -1,4 +1,4 @@
-use Rattle.std.proofs.Common.{◌≡◌, arith}
+use Rattle.std.proofs.Common.{arith}
 use Rattle.json.specs.Lex.{tokens}
 use Rattle.json.specs.Json.{value}
 use Rattle.sarif_gate.proofs.Streaming.{no_report_in}

@@ -1,9 +1,8 @@
-use Rattle.std.proofs.Common.{◌≡◌, ℕ, ◌-◌, ◌<◌, ◌++◌, length, None, sym, ap, ◌∙◌, arith, append-nil, refl}
+use Rattle.std.proofs.Common.{◌≡◌, ◌-◌, ◌<◌, length, None, sym, ap, ◌∙◌, arith, append-nil, refl}
 use Rattle.json.specs.Json.{parse_map, after_end_array, items, value}
-use Rattle.serde_json.specs.Data.{Items, no_items, item}
+use Rattle.serde_json.specs.Data.{no_items, item}
 use Rattle.serde_json.specs.Read.{of_items, converted}
 use Rattle.serde_json.specs.View.{view}
-use Rattle.sarif_gate.specs.Baselines.{results_known}
 use Rattle.sarif_gate.proofs.Reading.{item_refused, items_over}
 use Rattle.sarif_gate.proofs.Streaming.{items_turn, results_turn, unchanged}
 use Rattle.sarif_gate.proofs.streamed_results.push_results.Goals as goal

@@ -1,14 +1,12 @@
-use Rattle.std.proofs.Common.{◌≡◌, ◌-◌, ◌<◌, ◌∷◌, ◌++◌, [], length, Some, None, option_map, unwrap_or, refl, sym, ap, ◌∙◌, arith, append-nil}
+use Rattle.std.proofs.Common.{◌≡◌, ◌∷◌, ◌++◌, [], sym, ap, ◌∙◌, arith, append-nil}
 use Rattle.std.proofs.lemmas.Result.{on_ok_weaker}
-use Rattle.json.specs.Json.{parse_map, items, members, value}
+use Rattle.json.specs.Json.{parse_map, value}
 use Rattle.json.specs.Reads.{token_of}
-use Rattle.serde_json.specs.Data.{array, object, no_items, no_members}
-use Rattle.serde_json.specs.Find.{as_array}
-use Rattle.serde_json.specs.Read.{of_json, of_items, of_members, converted}
+use Rattle.serde_json.specs.Data.{object}
+use Rattle.serde_json.specs.Read.{of_json, converted}
 use Rattle.serde_json.specs.View.{view}
-use Rattle.sarif_gate.specs.Baselines.{results_known, run_results, runs_known}
-use Rattle.sarif_gate.specs.Streams.{begins_list, begins_object}
-use Rattle.sarif_gate.proofs.Streaming.{no_token, no_list, no_object, no_results, list_opened, object_opened, list_too_deep, object_too_deep}
+use Rattle.sarif_gate.specs.Baselines.{results_known}
+use Rattle.sarif_gate.proofs.Streaming.{no_token, no_object, no_results, object_opened, object_too_deep}
 use Rattle.sarif_gate.proofs.streamed_results.push_run.Goals as goal
 
 pub returns-in_err-token-clause-shape : goal.returns-in_err-token-clause-shape

@@ -1,6 +1,6 @@
-use Rattle.std.proofs.Common.{◌≡◌, ℕ, ◌-◌, ◌<◌, ◌++◌, length, None, sym, ap, ◌∙◌, arith, append_assoc, append-nil, refl}
+use Rattle.std.proofs.Common.{◌≡◌, ◌-◌, ◌<◌, ◌++◌, length, None, sym, ap, ◌∙◌, arith, append_assoc, append-nil, refl}
 use Rattle.json.specs.Json.{parse_map, after_end_array, items, value}
-use Rattle.serde_json.specs.Data.{Items, no_items, item}
+use Rattle.serde_json.specs.Data.{no_items, item}
 use Rattle.serde_json.specs.Read.{of_items, converted}
 use Rattle.sarif_gate.specs.Baselines.{results_known, run_results, runs_known}
 use Rattle.sarif_gate.proofs.Reading.{item_read, item_refused, items_over}
