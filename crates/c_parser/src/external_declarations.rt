@@ -51,10 +51,7 @@ fn declared_name(
     ensures found { IfOk result (λ n. FoundBare typedefs.old budget (init_declarator_view n.tree) n.height reader.old reader.new) }
     ensures names { IfOk result (λ n. typedefs.new ≡ with_declared gives typedefs.old (init_declarator_view n.tree)) }
 {
-    let scope = Scope {
-        alloc,
-        typedefs,
-    };
+    let scope = Scope { alloc, typedefs };
     let found = file_declarator(scope, reader, budget)?;
     put_in_force(alloc, typedefs, &found.tree, gives)?;
     Ok(found)
