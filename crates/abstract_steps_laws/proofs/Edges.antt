@@ -1,15 +1,14 @@
 -- Edges in rising rows.
-use Rattle.std.specs.Prelude.{◌≡◌, ℕ, ◌^◌, ◌-◌, ℤ, pos, negsuc, ◌≤ℤ◌, int_le, Bool, true, false, cond, not, ◌||◌, ◌&&◌, Option, Some, None, List, [], ◌∷◌, slice_get, refl}
+use Rattle.std.specs.Prelude.{◌≡◌, ℕ, ℤ, ◌≤ℤ◌, int_le, Bool, true, false, cond, not, ◌||◌, ◌&&◌, Option, Some, None, List, slice_get, refl}
 use Rattle.std.specs.Ordering.{int_eq}
-use Rattle.std.proofs.Common.{arith, sym, subst, ap, ◌∙◌, inl, inr}
+use Rattle.std.proofs.Common.{arith, subst, inl, inr}
 use Rattle.std.proofs.lemmas.Int.{ints}
-use Rattle.std.proofs.lemmas.Bool.{and_parts, and_from, or_cases, cases_Bool, not-true}
+use Rattle.std.proofs.lemmas.Bool.{and_parts, and_from, or_cases, not-true}
 use Rattle.std.proofs.lemmas.Bool.Decides.{Decides-int_eq}
 use Rattle.cc_base.specs.Lattices.{LatticeOf, OrderLaws}
 use Rattle.cc_base.specs.NumberRanges.{Range}
 use Rattle.cc_base.specs.IntegerDomains.{IntegersOf, BoundLaws, RangeLaws}
 use Rattle.cc_base.specs.IntegerLaws.{MonotoneLaws, tri_leq}
-use Rattle.cc_base.specs.Truths.{can_hold, can_fail}
 use Rattle.cc_base.specs.declared.integer_operators.Tri.{Tri}
 use Rattle.flow_program.specs.declared.programs.Flow.{Flow}
 use Rattle.flow_program.specs.declared.flow_edges.Edge.{Edge}
@@ -17,22 +16,20 @@ use Rattle.flow_program.specs.declared.flow_edges.EdgeKind.{EdgeKind}
 use Rattle.flow_program.specs.declared.flow_edges.EdgeKind.TheVariants as kind
 use Rattle.flow_program.specs.declared.flow_edges.Test.{Test}
 use Rattle.flow_program.specs.declared.flow_edges.CaseTest.{CaseTest}
-use Rattle.flow_program.specs.WellFormed.{names_of, is_number, has_temp, is_common, fits_side, fits_test, fits_taken, fits_object, fits_edge}
+use Rattle.flow_program.specs.WellFormed.{names_of, is_number, has_temp, is_common, fits_side, fits_test, fits_taken, fits_edge}
 use Rattle.pointer_domain.specs.declared.base_sets.Bases.{Bases}
-use Rattle.value_domain.specs.declared.values.Value.{Value}
 use Rattle.value_domain.specs.declared.row_cells.Cell.{Cell}
 use Rattle.value_domain.specs.LabelSets.{no_labels, labels_order}
 use Rattle.value_domain.specs.ValueTables.{number_value, pointer_value, value_truth}
 use Rattle.store_domain.specs.ByteWrites.{null_pointer}
-use Rattle.value_domain_laws.proofs.Flags.{Sets, holds_sets, fails_sets, or_sets, and_sets, not_sets}
+use Rattle.value_domain_laws.proofs.Flags.{Sets, holds_sets, fails_sets}
 use Rattle.value_domain_laws.proofs.Ranges.{RangeBelow, bounds_monotone}
 use Rattle.value_domain_laws.proofs.Leaving.{AreOrdered}
 use Rattle.value_domain_laws.proofs.ValueOperations.{truth_monotone}
 use Rattle.store_domain_laws.specs.TopRows.{top_row}
-use Rattle.abstract_steps_checks.specs.Temporaries.{temp_value, put_temp}
-use Rattle.abstract_steps.specs.Refinements.{refine, refine_case}
+use Rattle.abstract_steps_checks.specs.Temporaries.{temp_value}
 use Rattle.abstract_steps.specs.Edges.{deciding_temp, line_call, truth_can_be, includes, has_label, is_other_than, can_be, put_kept, refine_if, kept_behind, behind_test, branch_edge, switched, refine_named_case, refine_object, case_edge, no_line_edge, line_edge, follow, follow_if, edge}
-use Rattle.abstract_steps_laws_values.specs.RisingRows.{RowsRise, LeftRise}
+use Rattle.abstract_steps_laws_values.specs.RisingRows.{LeftRise}
 use Rattle.abstract_steps_laws_values.specs.LaidOut.{IsLaidOut}
 use Rattle.abstract_steps_laws_values.specs.StepLaws.{FlowRows, Rises}
 use Rattle.abstract_steps_laws_values.proofs.RisingCells.{left_if}

@@ -1,5 +1,5 @@
 -- The steps and edges of a program leave something in each cell.
-use Rattle.std.specs.Prelude.{◌≡◌, ℕ, suc, ℤ, Bool, true, false, cond, not, ◌&&◌, ◌||◌, Option, Some, None, is_none, is_some, List, [], ◌∷◌, slice_get, refl}
+use Rattle.std.specs.Prelude.{◌≡◌, ℕ, suc, ℤ, Bool, true, false, cond, ◌&&◌, ◌||◌, Option, Some, None, is_none, is_some, List, [], ◌∷◌, slice_get, refl}
 use Rattle.cc_base.specs.Lattices.{LatticeOf}
 use Rattle.cc_base.specs.IntegerDomains.{IntegersOf}
 use Rattle.cc_base.specs.IntegerTypes.{is_size}
@@ -23,8 +23,7 @@ use Rattle.flow_program.specs.declared.machine_instructions.Operation.TheVariant
 use Rattle.flow_program.specs.declared.machine_instructions.Scalar.{Scalar}
 use Rattle.flow_program.specs.declared.machine_instructions.Scalar.TheVariants as scalar
 use Rattle.pointer_domain.specs.declared.pointer_sets.Pointers.{Pointers}
-use Rattle.pointer_domain.specs.BaseSets.{bases_empty}
-use Rattle.pointer_domain.specs.PointerTables.{is_any, shifted}
+use Rattle.pointer_domain.specs.PointerTables.{is_any}
 use Rattle.value_domain.specs.declared.values.Value as values
 use Rattle.value_domain.specs.declared.row_cells.Cell.{Cell}
 use Rattle.value_domain.specs.declared.row_cells.Cell.TheVariants.{Value}
@@ -34,14 +33,14 @@ use Rattle.abstract_steps_checks.specs.Temporaries.{temp_position, put_temp}
 use Rattle.abstract_steps_values.specs.ResultTemps.{put_number, put_truth, put_pointer}
 use Rattle.abstract_steps_values.specs.Scalars.{class_of}
 use Rattle.abstract_steps_values.specs.IntegerSteps.{constant_step, binary_step, unary_step, compare_step, not_step, put_converted, convert_value, convert_step}
-use Rattle.abstract_steps_values.specs.PointerSteps.{is_short, address_in, address_step, narrow_touched, narrow_step, put_moved, shift_by, shift_step, difference_between, difference_step, relation_step}
+use Rattle.abstract_steps_values.specs.PointerSteps.{is_short, address_in, address_step, narrow_touched, narrow_step, put_moved, shift_by, shift_step, difference_step, relation_step}
 use Rattle.abstract_steps_instructions.specs.MemorySteps.{put_read, put_loaded, load_step, move_temp, moved_behind, store_to, store_step, kept_target, copy_between, copy_step}
-use Rattle.abstract_steps_instructions.specs.CallSteps.{line_goes_on, write_line, call_step}
+use Rattle.abstract_steps_instructions.specs.CallSteps.{line_goes_on}
 use Rattle.abstract_steps_instructions.specs.Steps.{operate}
-use Rattle.abstract_steps.specs.Refinements.{object_position, mirrored, is_same_object, side_value, refined, met, has_number, labelled_number, with_number, named_by, put_at, put_side, refine_one, refine_two, refine_sides, refine_values, refine_integers, tested_value, refine_pointer_at, refine_pointer, refine_named, refine_in, refine, put_case, refine_value, refine_case_at, refine_case}
+use Rattle.abstract_steps.specs.Refinements.{object_position, mirrored, is_same_object, side_value, refined, met, has_number, labelled_number, with_number, named_by, put_at, put_side, refine_one, refine_two, refine_sides, refine_values, refine_integers, refine_pointer_at, refine_pointer, refine_named, refine_in, refine, put_case, refine_value, refine_case_at, refine_case}
 use Rattle.abstract_steps.specs.Edges.{deciding_temp, switched, is_other_than, line_call, put_kept, refine_if, kept_behind, behind_test, branch_edge, refine_named_case, refine_object, case_edge, no_line_edge, line_edge, follow, follow_if, edge}
-use Rattle.abstract_steps_system.specs.BlockPasses.{row_behind, rows_behind, block_end, instructions_in, instructions_of}
-use Rattle.abstract_steps_laws.specs.FilledRows.{IsFilled, AreFilled, IsLeftFilled, Fills, LeavesFilled}
+use Rattle.abstract_steps_system.specs.BlockPasses.{rows_behind, block_end, instructions_in, instructions_of}
+use Rattle.abstract_steps_laws.specs.FilledRows.{AreFilled, IsLeftFilled, Fills, LeavesFilled}
 use Rattle.abstract_steps_laws.specs.ProgramLaws.{IsRising, IsRisingEdge, AreRising}
 use Rattle.abstract_steps_laws.proofs.FilledSteps.{fill_set, store_fills, forget_fills, clear_fills, leave_fills, spell_fills}
 

@@ -1,15 +1,13 @@
 -- What is written leaves something in each cell.
-use Rattle.std.specs.Prelude.{◌≡◌, ℕ, zero, suc, ◌+◌, ℤ, pos, Bool, true, false, cond, ◌&&◌, not, Option, Some, None, is_some, is_none, List, [], ◌∷◌, length, set, map, slice_get}
+use Rattle.std.specs.Prelude.{ℕ, zero, suc, ◌+◌, Bool, true, false, cond, Option, Some, None, is_some, List, [], ◌∷◌, length, set, map, slice_get}
 use Rattle.cc_base.specs.Lattices.{LatticeOf}
 use Rattle.cc_base.specs.NumberRanges.{Range}
 use Rattle.cc_base.specs.IntegerDomains.{IntegersOf}
-use Rattle.cc_base.specs.declared.integer_operators.Rel.TheVariants.{Eq}
 use Rattle.cc_base.specs.declared.integer_operators.Tri.{Tri}
 use Rattle.c_layout.specs.declared.data_model.Model.{Model}
 use Rattle.c_layout.specs.declared.leaf_lists.Class.{Class}
 use Rattle.c_layout.specs.declared.leaf_lists.Leaf.{Leaf}
 use Rattle.c_layout.specs.declared.shapes.BaseInfo.{BaseInfo}
-use Rattle.c_layout.specs.declared.shapes.ZeroPart.{ZeroPart}
 use Rattle.pointer_domain.specs.declared.base_sets.Bases.{Bases}
 use Rattle.pointer_domain.specs.declared.pointer_sets.Pointers.{Pointers}
 use Rattle.string_domain.specs.declared.first_zeros.FirstZero.{FirstZero}
@@ -20,7 +18,6 @@ use Rattle.value_domain.specs.declared.row_cells.Cell.TheVariants.{Nothing, Valu
 use Rattle.store_domain.specs.declared.access_windows.Window.{Window}
 use Rattle.store_domain.specs.declared.allocation.Fresh.{Fresh}
 use Rattle.store_domain.specs.declared.allocation.Fresh.TheVariants.{Blank, Zero, Old}
-use Rattle.store_domain.specs.declared.cell_reads.Access.{Access}
 use Rattle.store_domain.specs.declared.first_zero_writes.ZeroTarget.{ZeroTarget}
 use Rattle.store_domain.specs.declared.stores.Write.{Write}
 use Rattle.store_domain.specs.Walks.{walk, turns}
@@ -30,7 +27,7 @@ use Rattle.store_domain.specs.AccessWindows.{window_of}
 use Rattle.store_domain.specs.ScalarTypes.{class_bytes}
 use Rattle.store_domain.specs.Stores.{store_leaf_at, store_leaf, store_leaves, store_class_cell, store_other_leaf_at, store_other_leaf, store_other_leaves, store_other_class, store_other_classes, store_other_bytes, store_own, store_character, store_wider, store_base, store_if, store_to, store_all, store_access, store_within, store}
 use Rattle.store_domain.specs.ObjectLives.{set_cell, set_values, blank_object, at_base, forget, clear_leaf, clear_leaves, clear_object, clear, ended_cell, leave_object, leave}
-use Rattle.store_domain.specs.Spelling.{is_one_place, is_spelled, one_character, characters, spell_cell, spell_leaf_at, spell_leaf, spell_leaves, spell_part_at, spell_part, spell_zero, spell_object, spell}
+use Rattle.store_domain.specs.Spelling.{is_one_place, is_spelled, one_character, characters, spell_cell, spell_leaf_at, spell_leaf, spell_leaves, spell_part, spell_zero, spell_object, spell}
 use Rattle.store_domain.specs.Freeing.{free_base_if, free_base, free_bases, free}
 use Rattle.store_domain.specs.Allocations.{site_of, renamed_cell, join_cell, join_values, join_part, join_zeros, join_state, join_base, fresh_cell, fresh_leaf, fresh_leaves, fresh_class, fresh_classes, fresh_values, make_instance, make_nothing, make_of, make_fresh, free_old, replaced, renew_site, renew_found, renew}
 use Rattle.abstract_steps_laws.specs.FilledRows.{IsFilled, AreFilled, IsLeftFilled, Fills, LeavesFilled}

@@ -1,15 +1,15 @@
 -- Own rows in order are rising rows, and rising rows stay in order where they are made own ones.
-use Rattle.std.specs.Prelude.{◌≡◌, ℕ, zero, suc, ◌+◌, ◌-◌, ◌^◌, ◌<◌, ◌≤◌, ◌==◌, ℤ, pos, negsuc, ◌≤ℤ◌, int_le, Bool, true, false, cond, not, ◌&&◌, min, Option, Some, None, is_none, is_some, List, [], ◌∷◌, ◌++◌, length, replicate, refl}
+use Rattle.std.specs.Prelude.{◌≡◌, ℕ, zero, suc, ◌+◌, ◌-◌, ◌^◌, ◌<◌, ℤ, pos, negsuc, ◌≤ℤ◌, int_le, Bool, true, false, cond, not, ◌&&◌, min, Some, None, is_none, is_some, List, [], ◌∷◌, ◌++◌, length, replicate, refl}
 use Rattle.std.specs.Int.{int_min, int_max}
 use Rattle.std.specs.List.{list_all, list_any}
 use Rattle.std.proofs.Common.{arith, sym, subst, subst₂, ap, ◌∙◌, inl, inr, append_assoc}
 use lib.Signed.{≤ℤ_refl}
 use Rattle.std.proofs.lemmas.Int.{ints, clamps}
-use Rattle.std.proofs.lemmas.Bool.{and_parts, and_from, cond_both, cond-true, cond-false, cases_Bool, or_cases, not-true, false_from_ne_true, not_from_false}
+use Rattle.std.proofs.lemmas.Bool.{and_parts, and_from, cond_both, cond-true, or_cases, not-true}
 use Rattle.cc_base.specs.Lattices.{LatticeOf, OrderLaws, HeightLaws}
 use Rattle.cc_base.specs.LatticeParts.{flag_leq}
 use Rattle.cc_base.specs.NumberRanges.{Range, range_met}
-use Rattle.cc_base.specs.Rows.{row_leq, reached_leq}
+use Rattle.cc_base.specs.Rows.{row_leq}
 use Rattle.cc_base.specs.IntegerDomains.{IntegersOf, BoundLaws, of_range}
 use Rattle.c_layout.specs.declared.shapes.BaseInfo.{BaseInfo}
 use Rattle.flow_program.specs.WellFormed.{base_cells, base_values, all_values}
@@ -17,7 +17,7 @@ use Rattle.pointer_domain.specs.declared.base_sets.Bases.{Bases}
 use Rattle.pointer_domain.specs.declared.pointer_sets.Pointers.{Pointers}
 use Rattle.pointer_domain.specs.BaseSets.{no_base, bases_within, bases_empty}
 use Rattle.pointer_domain.specs.BaseLattice.{bases_lattice, bases_order}
-use Rattle.pointer_domain.specs.PointerLattice.{no_pointer, pointers_leq, pointer_lattice, pointer_order}
+use Rattle.pointer_domain.specs.PointerLattice.{no_pointer, pointers_leq, pointer_lattice}
 use Rattle.string_domain.specs.declared.first_zeros.FirstZero.{FirstZero}
 use Rattle.string_domain.specs.FirstZeros.{zero_lattice, the_end}
 use Rattle.value_domain.specs.declared.values.Value as values
@@ -28,7 +28,7 @@ use Rattle.value_domain.specs.declared.row_cells.Cell.TheVariants.{Nothing, Valu
 use Rattle.value_domain.specs.Values.{value_lattice}
 use Rattle.value_domain.specs.Cells.{cell_lattice, cell_leq}
 use Rattle.value_domain_laws.specs.Consistency.{AreWords}
-use Rattle.value_domain_laws.proofs.Flags.{Sets, flag_sets, and_sets, not_sets, or_left, or_right}
+use Rattle.value_domain_laws.proofs.Flags.{Sets, and_sets, not_sets, or_left, or_right}
 use Rattle.value_domain_laws.proofs.Parts.{PointersBelow, pointer_parts, pointers_below, value_parts, value_below}
 use Rattle.value_domain_laws.proofs.Ranges.{RangeBelow, met_monotone, bounds_monotone, of_range_monotone}
 use Rattle.value_domain_laws.proofs.Bases.{empty_below, empty_within}
@@ -38,16 +38,14 @@ use Rattle.store_domain_laws.specs.ConsistentRows.{IsConsistentCell, AreConsiste
 use Rattle.store_domain_laws.proofs.AddedRanges.{below_of_bounds}
 use Rattle.store_domain_laws.proofs.CellReads.{labels_top}
 use Rattle.store_domain_laws.proofs.FirstZeros.{zero_near}
-use Rattle.store_domain_laws.proofs.Freeing.{StateBelow}
 use Rattle.abstract_steps_rows.specs.declared.cell_kinds.CellKind.{CellKind}
 use Rattle.abstract_steps_rows.specs.declared.cell_kinds.CellKind.TheVariants as kind
 use Rattle.abstract_steps_rows.specs.declared.own_cells.Reach.{Reach}
 use Rattle.abstract_steps_rows.specs.CellKinds.{before, state_before, values_of, run_before, all_kinds, first_kind, kinds_behind}
-use Rattle.abstract_steps_rows.specs.EndLaws.{HasEnds, EndLaws}
+use Rattle.abstract_steps_rows.specs.EndLaws.{EndLaws}
 use Rattle.abstract_steps_rows.specs.OwnRows.{is_nowhere, is_somewhere, is_consistent, is_own_pointer, is_known_value, is_known_first, is_known_state, is_own_cell, are_own_cells}
-use Rattle.abstract_steps_rows.specs.FittedRows.{list_ends, count_ends, ranges_both, cut_to, number_fit, count_fit, bases_fit, if_somewhere, pointer_fit, value_fit, first_fit, state_fit, cell_made, cell_fit, cells_fit}
+use Rattle.abstract_steps_rows.specs.FittedRows.{list_ends, count_ends, ranges_both, cut_to, number_fit, count_fit, bases_fit, if_somewhere, pointer_fit, value_fit, first_fit, state_fit, cell_fit, cells_fit}
 use Rattle.abstract_steps_laws_values.proofs.OwnBases.{words_less}
-use Rattle.abstract_steps_laws_values.proofs.Touches.{near_bounds}
 use Rattle.abstract_steps_laws_values.proofs.IntegerChecks.{some_more}
 use Rattle.abstract_steps_laws.specs.FilledRows.{IsFilled, AreFilled}
 use Rattle.abstract_steps_laws.specs.SystemLaws.{is_near_number, IsNearList}
@@ -73,25 +71,37 @@ any_above a c (m ∷ list) h e = elim (or_cases (int_le a m) (list_any (λ m. in
     more f h = grind (arith, ints)
 
 -- a number that is above one of the list is above the least of all
-least_above : (a : ℤ) (list : List ℤ) → list_all is_near_number list ≡ true → list_any (λ m. int_le m a) list ≡ true → negsuc (2 ^ 64 - 1) ≤ℤ a
-least_above a [] h e = absurd (cc)
-least_above a (m ∷ list) h e =
-    let p = and_parts (is_near_number m) (list_all is_near_number list) h in
-    let q = and_parts (int_le (negsuc (2 ^ 64 - 1)) m) (int_le m (pos (2 ^ 64))) p.0 in
-    elim (or_cases (int_le m a) (list_any (λ m. int_le m a) list) e) [ inl f ↦ between f q.0 | inr f ↦ least_above a list p.1 f ]
+least_above : (c a : ℤ) (list : List ℤ) → list_all (is_near_number c) list ≡ true → list_any (λ m. int_le m a) list ≡ true → c ≤ℤ a
+least_above c a [] h e = absurd (cc)
+least_above c a (m ∷ list) h e =
+    let p = and_parts (is_near_number c m) (list_all (is_near_number c) list) h in
+    let q = and_parts (int_le c m) (int_le m (pos (2 ^ 64))) p.0 in
+    elim (or_cases (int_le m a) (list_any (λ m. int_le m a) list) e) [ inl f ↦ between f q.0 | inr f ↦ least_above c a list p.1 f ]
   where
-    between : int_le m a ≡ true → int_le (negsuc (2 ^ 64 - 1)) m ≡ true → negsuc (2 ^ 64 - 1) ≤ℤ a
+    between : int_le m a ≡ true → int_le c m ≡ true → c ≤ℤ a
     between f g = grind (arith, ints)
 
-greatest_below : (a : ℤ) (list : List ℤ) → list_all is_near_number list ≡ true → list_any (λ m. int_le a m) list ≡ true → a ≤ℤ pos (2 ^ 64)
-greatest_below a [] h e = absurd (cc)
-greatest_below a (m ∷ list) h e =
-    let p = and_parts (is_near_number m) (list_all is_near_number list) h in
-    let q = and_parts (int_le (negsuc (2 ^ 64 - 1)) m) (int_le m (pos (2 ^ 64))) p.0 in
-    elim (or_cases (int_le a m) (list_any (λ m. int_le a m) list) e) [ inl f ↦ between f q.1 | inr f ↦ greatest_below a list p.1 f ]
+greatest_below : (c a : ℤ) (list : List ℤ) → list_all (is_near_number c) list ≡ true → list_any (λ m. int_le a m) list ≡ true → a ≤ℤ pos (2 ^ 64)
+greatest_below c a [] h e = absurd (cc)
+greatest_below c a (m ∷ list) h e =
+    let p = and_parts (is_near_number c m) (list_all (is_near_number c) list) h in
+    let q = and_parts (int_le c m) (int_le m (pos (2 ^ 64))) p.0 in
+    elim (or_cases (int_le a m) (list_any (λ m. int_le a m) list) e) [ inl f ↦ between f q.1 | inr f ↦ greatest_below c a list p.1 f ]
   where
     between : int_le a m ≡ true → int_le m (pos (2 ^ 64)) ≡ true → a ≤ℤ pos (2 ^ 64)
     between f g = grind (arith, ints)
+
+-- a range with a lesser lower end
+lower_end : (r : Range) (c d e : ℤ) → d ≤ℤ c → RangeBelow r (Some (c, e)) → RangeBelow r (Some (d, e))
+lower_end None c d e h k = tt
+lower_end (Some p) c d e h k = (less p.0 c d h k.0, k.1)
+  where
+    less : (a c d : ℤ) → d ≤ℤ c → c ≤ℤ a → d ≤ℤ a
+    less a c d h k = omega (arith, ints)
+
+and_fails : {A : Type 0} (c : Bool) (x y : A) → cond (c && false) x y ≡ y
+and_fails true x y = refl
+and_fails false x y = refl
 
 -- a proper range within two lies in what they have in common
 met_above : (r s : Range) (c d : ℤ) → ((p : ℤ × ℤ) → r ≡ Some p → p.0 ≤ℤ p.1) → RangeBelow r s → RangeBelow r (Some (c, d)) → RangeBelow r (range_met s c d)
@@ -108,21 +118,24 @@ empty_is : (s : Bases) → bases_empty s ≡ true → s ≡ no_base
 empty_is s e = bases_order.antisymmetric s no_base (empty_within s no_base e) (bases_order.least_below s)
 
 module _ {I : Type 0} {l : LatticeOf I} {n : IntegersOf I} {stands : I → ℤ → Type 0} (o : OrderLaws l) (g : HeightLaws l) (b : BoundLaws l n stands) (ends : EndLaws l n) (list : List ℤ) (near : IsNearList l n list) (reach : Reach I) (low : l.leq reach.counts (n.between (pos 0) the_end) ≡ true) (words : AreWords reach.bases) where
-  -- ---- numbers within the list are near, and near numbers within it
+  -- ---- numbers within the list are near, and those between its ends are within it
+
+  within_bounds : (x : I) → l.within list x ≡ true → RangeBelow (n.bounds x) (Some (near.least, pos (2 ^ 64)))
+  within_bounds x h = at (n.bounds x) refl
+    where
+      at : (r : Range) → n.bounds x ≡ r → RangeBelow r (Some (near.least, pos (2 ^ 64)))
+      at None e = tt
+      at (Some p) e = let q = ends.within_ends list x p.0 p.1 e h in (least_above near.least p.0 list near.numbers q.lower, greatest_below near.least p.1 list near.numbers q.upper)
 
   within_near : (x : I) → l.within list x ≡ true → l.leq x (top_number n) ≡ true
-  within_near x h = below_of_bounds o b x (negsuc (2 ^ 64 - 1)) (pos (2 ^ 64)) (at (n.bounds x) refl)
-    where
-      at : (r : Range) → n.bounds x ≡ r → RangeBelow r (Some (negsuc (2 ^ 64 - 1), pos (2 ^ 64)))
-      at None e = tt
-      at (Some p) e = let q = ends.within_ends list x p.0 p.1 e h in (least_above p.0 list near.numbers q.lower, greatest_below p.1 list near.numbers q.upper)
+  within_near x h = below_of_bounds o b x (negsuc (2 ^ 64 - 1)) (pos (2 ^ 64)) (lower_end (n.bounds x) near.least (negsuc (2 ^ 64 - 1)) (pos (2 ^ 64)) near.near (within_bounds x h))
 
-  near_within : (x : I) → l.leq x (top_number n) ≡ true → l.within list x ≡ true
-  near_within x h = at (n.bounds x) refl (near_bounds o b reach.bases x h)
+  bounds_within : (x : I) → RangeBelow (n.bounds x) (Some (near.least, pos (2 ^ 64))) → l.within list x ≡ true
+  bounds_within x h = at (n.bounds x) refl h
     where
-      at : (r : Range) → n.bounds x ≡ r → RangeBelow r (Some (negsuc (2 ^ 64 - 1), pos (2 ^ 64))) → l.within list x ≡ true
+      at : (r : Range) → n.bounds x ≡ r → RangeBelow r (Some (near.least, pos (2 ^ 64))) → l.within list x ≡ true
       at None e k = subst (λ z. l.within list z ≡ true) (sym (b.only_least x e)) (g.least_within list)
-      at (Some p) e k = ends.ends_within list x p.0 p.1 e (record { lower = any_below (negsuc (2 ^ 64 - 1)) p.0 list k.0 near.ends.lower; upper = any_above (pos (2 ^ 64)) p.1 list k.1 near.ends.upper })
+      at (Some p) e k = ends.ends_within list x p.0 p.1 e (record { lower = any_below near.least p.0 list k.0 near.ends.lower; upper = any_above (pos (2 ^ 64)) p.1 list k.1 near.ends.upper })
 
   counts_near : (x : I) → l.leq x reach.counts ≡ true → l.leq x (n.between (pos 0) the_end) ≡ true
   counts_near x h = o.transitive x reach.counts (n.between (pos 0) the_end) h low
@@ -203,20 +216,36 @@ module _ {I : Type 0} {l : LatticeOf I} {n : IntegersOf I} {stands : I → ℤ �
 
   -- ---- numbers and pointers made own ones
 
-  number_same : (x : I) → l.leq x (top_number n) ≡ true → number_fit l n list x ≡ x
-  number_same x h = cond-true (l.within list x) x (cut_to l n (list_ends list) x) (near_within x h)
+  number_same : (x : I) → l.within list x ≡ true → number_fit l n list x ≡ x
+  number_same x h = cond-true (l.within list x) x (cut_to l n (list_ends list) x) h
+
+  number_is : (x : I) → number_fit l n list x ≡ cond (l.within list x) x (of_range l n (range_met (n.bounds x) near.least (pos (2 ^ 64))))
+  number_is x = ap (λ r. cond (l.within list x) x (of_range l n (ranges_both (n.bounds x) r))) near.range
+
+  counts_met : (c : ℤ) → c ≤ℤ pos 0 → range_met (Some (c, pos (2 ^ 64))) (pos 0) the_end ≡ Some (pos 0, the_end)
+  counts_met (pos zero) h = refl
+  counts_met (pos (suc c)) h = absurd (omega (arith, ints))
+  counts_met (negsuc c) h = refl
 
   ends_are : count_ends list ≡ Some (pos 0, the_end)
-  ends_are = ap (λ r. range_met r (pos 0) the_end) near.range
+  ends_are = ap (λ r. range_met r (pos 0) the_end) near.range ∙ counts_met near.least near.zero
 
   cut_is : (x : I) → cut_to l n (count_ends list) x ≡ of_range l n (range_met (n.bounds x) (pos 0) the_end)
   cut_is x = ap (λ r. of_range l n (ranges_both (n.bounds x) r)) ends_are
 
-  -- where numbers are near, to be cut or not is decided by the counts
-  count_is : (x : I) → l.leq x (top_number n) ≡ true → count_fit l n list reach x ≡ cond (l.leq x reach.counts) x (of_range l n (range_met (n.bounds x) (pos 0) the_end))
-  count_is x h =
-      let w = near_within x h in
-      ap (λ c. cond (c && l.leq x reach.counts) x (cut_to l n (count_ends list) x)) w ∙ ap (λ y. cond (l.leq x reach.counts) x y) (cut_is x)
+  count_bounds : (x : I) → l.leq x reach.counts ≡ true → RangeBelow (n.bounds x) (Some (pos 0, the_end))
+  count_bounds x h = subst (λ r. RangeBelow (n.bounds x) r) (b.between_bounds (pos 0) the_end (omega (arith, ints))) (bounds_monotone b x (n.between (pos 0) the_end) (counts_near x h))
+
+  count_within : (x : I) → l.leq x reach.counts ≡ true → l.within list x ≡ true
+  count_within x h = bounds_within x (lower_end (n.bounds x) (pos 0) near.least (pos (2 ^ 64)) near.zero (count_bounds x h))
+
+  -- counts are within the list, so to be cut or not is decided by them
+  count_is : (x : I) → count_fit l n list reach x ≡ cond (l.leq x reach.counts) x (of_range l n (range_met (n.bounds x) (pos 0) the_end))
+  count_is x = by_count (l.leq x reach.counts) refl
+    where
+      by_count : (c : Bool) → l.leq x reach.counts ≡ c → cond (l.within list x && c) x (cut_to l n (count_ends list) x) ≡ cond c x (of_range l n (range_met (n.bounds x) (pos 0) the_end))
+      by_count true e = ap (λ w. cond (w && true) x (cut_to l n (count_ends list) x)) (count_within x e)
+      by_count false e = and_fails (l.within list x) x (cut_to l n (count_ends list) x) ∙ cut_is x
 
   bounds_below : (x : I) (r : Range) → RangeBelow (n.bounds x) r → l.leq x (of_range l n r) ≡ true
   bounds_below x r h = o.transitive x (of_range l n (n.bounds x)) (of_range l n r) (at (n.bounds x) refl) (of_range_monotone o b (n.bounds x) r h)
@@ -229,23 +258,22 @@ module _ {I : Type 0} {l : LatticeOf I} {n : IntegersOf I} {stands : I → ℤ �
   proper_at : (x : I) (p : ℤ × ℤ) → n.bounds x ≡ Some p → p.0 ≤ℤ p.1
   proper_at x p e = b.proper x p.0 p.1 e
 
-  count_bounds : (x : I) → l.leq x reach.counts ≡ true → RangeBelow (n.bounds x) (Some (pos 0, the_end))
-  count_bounds x h = subst (λ r. RangeBelow (n.bounds x) r) (b.between_bounds (pos 0) the_end (omega (arith, ints))) (bounds_monotone b x (n.between (pos 0) the_end) (counts_near x h))
-
-  cut_rises : (x y : I) → l.leq x y ≡ true → l.leq (cond (l.leq x reach.counts) x (of_range l n (range_met (n.bounds x) (pos 0) the_end))) (cond (l.leq y reach.counts) y (of_range l n (range_met (n.bounds y) (pos 0) the_end))) ≡ true
-  cut_rises x y h = by_counts (l.leq x reach.counts) (l.leq y reach.counts) refl (λ e. o.transitive x y reach.counts h e)
+  -- numbers cut between two ends where they fail a test that passes only numbers between these
+  cut_rises : (test : I → Bool) (c d : ℤ) → ((x y : I) → l.leq x y ≡ true → test y ≡ true → test x ≡ true) → ((x : I) → test x ≡ true → RangeBelow (n.bounds x) (Some (c, d))) → (x y : I) → l.leq x y ≡ true
+      → l.leq (cond (test x) x (of_range l n (range_met (n.bounds x) c d))) (cond (test y) y (of_range l n (range_met (n.bounds y) c d))) ≡ true
+  cut_rises test c d fewer between x y h = by_tests (test x) (test y) refl (λ e. fewer x y h e)
     where
-      by_counts : (a c : Bool) → l.leq x reach.counts ≡ a → (c ≡ true → l.leq x reach.counts ≡ true) → l.leq (cond a x (of_range l n (range_met (n.bounds x) (pos 0) the_end))) (cond c y (of_range l n (range_met (n.bounds y) (pos 0) the_end))) ≡ true
-      by_counts true true e k = h
-      by_counts true false e k = bounds_below x (range_met (n.bounds y) (pos 0) the_end) (met_above (n.bounds x) (n.bounds y) (pos 0) the_end (proper_at x) (bounds_monotone b x y h) (count_bounds x e))
-      by_counts false true e k = absurd (let z = k refl in cc)
-      by_counts false false e k = of_range_monotone o b (range_met (n.bounds x) (pos 0) the_end) (range_met (n.bounds y) (pos 0) the_end) (met_monotone (n.bounds x) (n.bounds y) (pos 0) the_end (pos 0) the_end (bounds_monotone b x y h) (≤ℤ_refl (pos 0)) (≤ℤ_refl the_end))
+      by_tests : (p q : Bool) → test x ≡ p → (q ≡ true → test x ≡ true) → l.leq (cond p x (of_range l n (range_met (n.bounds x) c d))) (cond q y (of_range l n (range_met (n.bounds y) c d))) ≡ true
+      by_tests true true e k = h
+      by_tests true false e k = bounds_below x (range_met (n.bounds y) c d) (met_above (n.bounds x) (n.bounds y) c d (proper_at x) (bounds_monotone b x y h) (between x e))
+      by_tests false true e k = absurd (let z = k refl in cc)
+      by_tests false false e k = of_range_monotone o b (range_met (n.bounds x) c d) (range_met (n.bounds y) c d) (met_monotone (n.bounds x) (n.bounds y) c d c d (bounds_monotone b x y h) (≤ℤ_refl c) (≤ℤ_refl d))
 
-  count_rises : (x y : I) → l.leq x y ≡ true → l.leq y (top_number n) ≡ true → l.leq (count_fit l n list reach x) (count_fit l n list reach y) ≡ true
-  count_rises x y h k = subst₂ (λ u v. l.leq u v ≡ true) (sym (count_is x (o.transitive x y (top_number n) h k))) (sym (count_is y k)) (cut_rises x y h)
+  count_rises : (x y : I) → l.leq x y ≡ true → l.leq (count_fit l n list reach x) (count_fit l n list reach y) ≡ true
+  count_rises x y h = subst₂ (λ u v. l.leq u v ≡ true) (sym (count_is x)) (sym (count_is y)) (cut_rises (λ z. l.leq z reach.counts) (pos 0) the_end (λ u v e k. o.transitive u v reach.counts e k) count_bounds x y h)
 
-  number_rises : (x y : I) → l.leq x y ≡ true → l.leq y (top_number n) ≡ true → l.leq (number_fit l n list x) (number_fit l n list y) ≡ true
-  number_rises x y h k = subst₂ (λ u v. l.leq u v ≡ true) (sym (number_same x (o.transitive x y (top_number n) h k))) (sym (number_same y k)) h
+  number_rises : (x y : I) → l.leq x y ≡ true → l.leq (number_fit l n list x) (number_fit l n list y) ≡ true
+  number_rises x y h = subst₂ (λ u v. l.leq u v ≡ true) (sym (number_is x)) (sym (number_is y)) (cut_rises (l.within list) near.least (pos (2 ^ 64)) (ends.smaller_within list) within_bounds x y h)
 
   bases_same : (s : Bases) → bases_within s reach.bases ≡ true → bases_fit reach s ≡ s
   bases_same s h = cond-true (bases_within s reach.bases) s reach.bases h
@@ -271,9 +299,9 @@ module _ {I : Type 0} {l : LatticeOf I} {n : IntegersOf I} {stands : I → ℤ �
       (record q { bases = bases_fit reach q.bases; lo = count_fit l n list reach q.lo; rel = number_fit l n list q.rel; len = count_fit l n list reach q.len })
       (record {
         bases = subst₂ (λ s t. bases_within s t ≡ true) (sym (bases_same p.bases (bases_order.transitive p.bases q.bases reach.bases h.bases k.bases))) (sym (bases_same q.bases k.bases)) h.bases;
-        lo = count_rises p.lo q.lo h.lo k.lo;
-        rel = number_rises p.rel q.rel h.rel k.rel;
-        len = count_rises p.len q.len h.len k.len;
+        lo = count_rises p.lo q.lo h.lo;
+        rel = number_rises p.rel q.rel h.rel;
+        len = count_rises p.len q.len h.len;
         part = h.part;
         null = h.null;
         ended = h.ended;
@@ -284,7 +312,7 @@ module _ {I : Type 0} {l : LatticeOf I} {n : IntegersOf I} {stands : I → ℤ �
       let p = value_parts l v w h in
       let q = value_parts l w (top_value n reach.bases) k in
       value_below l (value_fit l n list reach v) (value_fit l n list reach w) (record {
-        num = number_rises v.num w.num p.num q.num;
+        num = number_rises v.num w.num p.num;
         pointer = pointer_rises v.pointer w.pointer (pointer_parts l v.pointer w.pointer p.pointer) (pointer_parts l w.pointer (top_value n reach.bases).pointer q.pointer);
         indeterminate = p.indeterminate;
         labels = p.labels;
@@ -293,7 +321,7 @@ module _ {I : Type 0} {l : LatticeOf I} {n : IntegersOf I} {stands : I → ℤ �
   -- ---- own ones stay as they are
 
   count_same : (x : I) → l.leq x reach.counts ≡ true → count_fit l n list reach x ≡ x
-  count_same x h = count_is x (count_top x h) ∙ cond-true (l.leq x reach.counts) x (of_range l n (range_met (n.bounds x) (pos 0) the_end)) h
+  count_same x h = count_is x ∙ cond-true (l.leq x reach.counts) x (of_range l n (range_met (n.bounds x) (pos 0) the_end)) h
 
   none_is : (x : I) (r : Range) → n.bounds x ≡ r → is_none r ≡ true → x ≡ l.least
   none_is x None e h = b.only_least x e
@@ -326,10 +354,12 @@ module _ {I : Type 0} {l : LatticeOf I} {n : IntegersOf I} {stands : I → ℤ �
       let a = and_parts (bases_within p.bases reach.bases) (is_consistent n p && (l.leq p.lo reach.counts && l.leq p.len reach.counts)) k in
       let c = and_parts (is_consistent n p) (l.leq p.lo reach.counts && l.leq p.len reach.counts) a.1 in
       let d = and_parts (l.leq p.lo reach.counts) (l.leq p.len reach.counts) c.1 in
-      let t = pointer_parts l p (top_value n reach.bases).pointer (pointer_top p h k) in
+      let t = and_parts (bases_lattice.within list p.bases) _ h in
+      let f = and_parts (l.within list p.lo) _ t.1 in
+      let q = and_parts (l.within list p.rel) _ f.1 in
       let e0 = bases_same p.bases a.0 in
       let e1 = count_same p.lo d.0 in
-      let e2 = number_same p.rel t.rel in
+      let e2 = number_same p.rel q.0 in
       let e3 = count_same p.len d.1 in
       let same : record p { bases = bases_fit reach p.bases; lo = count_fit l n list reach p.lo; rel = number_fit l n list p.rel; len = count_fit l n list reach p.len } ≡ p = λ i. record p { bases = e0 i; lo = e1 i; rel = e2 i; len = e3 i } in
       ap (if_somewhere l n) same ∙ if_same p c.0
@@ -339,7 +369,7 @@ module _ {I : Type 0} {l : LatticeOf I} {n : IntegersOf I} {stands : I → ℤ �
       let a = and_parts ((value_lattice l).within list v) (is_own_pointer l n reach v.pointer) h in
       let c = and_parts (l.within list v.num) _ a.0 in
       let d = and_parts ((pointer_lattice l).within list v.pointer) _ c.1 in
-      let e0 = number_same v.num (within_near v.num c.0) in
+      let e0 = number_same v.num c.0 in
       let e1 = pointer_same v.pointer d.0 a.1 in
       λ i. record v { num = e0 i; pointer = e1 i }
 
@@ -359,16 +389,12 @@ module _ {I : Type 0} {l : LatticeOf I} {n : IntegersOf I} {stands : I → ℤ �
   state_fit_is s = cond_both (is_known_state l list reach s) (State s) (State (state_fit l n list reach s)) (λ c. c ≡ State (state_fit l n list reach s))
       (λ e. let a = and_parts ((state_lattice l).within list s) (l.leq s.size reach.counts) e in let t = count_same s.size a.1 in λ i. State (record s { size = sym t i })) (λ e. refl)
 
-  zero_top_near : (f : FirstZero I) → l.leq f.at (top_zero n).at ≡ true → l.leq f.at (top_number n) ≡ true
-  zero_top_near f h = o.transitive f.at (n.between (pos 0) the_end) (top_number n) h (zero_near o b)
-
   fit_rises : (k : CellKind) (x y : Cell I) → IsFilled x → cell_leq l x y ≡ true → cell_leq l y (top_cell k) ≡ true → cell_leq l (cell_fit l n list reach k x) (cell_fit l n list reach k y) ≡ true
   fit_rises kind.Value (Value v) (Value w) f h k = subst₂ (λ c d. cell_leq l c d ≡ true) (sym (value_fit_is v)) (sym (value_fit_is w)) (value_rises v w h k)
-  fit_rises kind.First (First u) (First w) f h k = subst₂ (λ c d. cell_leq l c d ≡ true) (sym (first_fit_is u)) (sym (first_fit_is w)) (count_rises u.at w.at h (zero_top_near w k))
+  fit_rises kind.First (First u) (First w) f h k = subst₂ (λ c d. cell_leq l c d ≡ true) (sym (first_fit_is u)) (sym (first_fit_is w)) (count_rises u.at w.at h)
   fit_rises kind.State (State u) (State w) f h k =
       let a = and_parts (l.leq u.size w.size) (flag_leq u.live w.live && flag_leq u.freed w.freed) h in
-      let c = and_parts (l.leq w.size (top_state n).size) _ k in
-      subst₂ (λ c d. cell_leq l c d ≡ true) (sym (state_fit_is u)) (sym (state_fit_is w)) (and_from _ _ (count_rises u.size w.size a.0 (o.transitive w.size (n.between (pos 0) the_end) (top_number n) c.0 (zero_near o b))) a.1)
+      subst₂ (λ c d. cell_leq l c d ≡ true) (sym (state_fit_is u)) (sym (state_fit_is w)) (and_from _ _ (count_rises u.size w.size a.0) a.1)
   fit_rises kind.Value Nothing y f h j = absurd f
   fit_rises kind.Value (Value v) Nothing f h j = absurd (cc)
   fit_rises kind.Value (Value v) (First w) f h j = absurd (cc)

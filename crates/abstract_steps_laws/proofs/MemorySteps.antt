@@ -1,11 +1,9 @@
 -- Loads and stores, and copies of structs where these grow, in rising rows.
-use Rattle.std.specs.Prelude.{◌≡◌, ℕ, ◌+◌, ◌^◌, ◌<◌, ℤ, Bool, true, false, cond, not, ◌||◌, ◌&&◌, Option, Some, None, List, length, refl}
-use Rattle.std.proofs.Common.{arith, sym, subst}
-use Rattle.std.proofs.lemmas.Bool.{and_parts, and_from}
+use Rattle.std.specs.Prelude.{◌≡◌, ℕ, ◌^◌, ◌<◌, ℤ, Bool, true, false, cond, Option, Some, None, List, length, refl}
+use Rattle.std.proofs.Common.{arith}
 use Rattle.cc_base.specs.Lattices.{LatticeOf, OrderLaws}
 use Rattle.cc_base.specs.IntegerDomains.{IntegersOf, BoundLaws, RangeLaws}
 use Rattle.cc_base.specs.IntegerLaws.{MonotoneLaws}
-use Rattle.c_layout.specs.declared.leaf_lists.Class.{Class}
 use Rattle.flow_program.specs.declared.programs.Flow.{Flow}
 use Rattle.flow_program.specs.declared.machine_instructions.Scalar.{Scalar}
 use Rattle.flow_program.specs.declared.machine_instructions.Scalar.TheVariants as scalar
@@ -29,21 +27,19 @@ use Rattle.store_domain_laws.specs.RowsBelow.{ReadBelow, StoresBelow}
 use Rattle.store_domain_laws.specs.ConsistentRows.{IsLeftConsistent}
 use Rattle.store_domain_laws.proofs.Together.{loads, stores, stores_consistent}
 use Rattle.abstract_steps_checks.specs.declared.touches.Touched.{Touched}
-use Rattle.abstract_steps_checks.specs.declared.violation_sets.Violations.{Violations}
-use Rattle.abstract_steps_checks.specs.ViolationSets.{no_violations, violations_union}
+use Rattle.abstract_steps_checks.specs.ViolationSets.{violations_union}
 use Rattle.abstract_steps_checks.specs.Touches.{touch}
-use Rattle.abstract_steps_checks.specs.Temporaries.{temp_value, put_temp}
+use Rattle.abstract_steps_checks.specs.Temporaries.{temp_value}
 use Rattle.abstract_steps_values.specs.Scalars.{class_of, minds_blank}
-use Rattle.abstract_steps_values.specs.ResultTemps.{put_number, put_pointer}
-use Rattle.abstract_steps_instructions.specs.MemorySteps.{struct_size, touch_scalar, loaded, is_blank, is_freed, blank_or_freed, read_violations, load_touched, load_violations, put_read, put_loaded, load_step, move_temp, moved_behind, store_violations, store_to, store_step, touch_struct, both_touched, copy_violations, copy_touched, kept_target, copy_between, copy_step}
-use Rattle.abstract_steps_laws_values.specs.RisingRows.{RowsRise, LeftRise, PointersRise, ValuesRise}
+use Rattle.abstract_steps_instructions.specs.MemorySteps.{struct_size, touch_scalar, loaded, is_blank, is_freed, blank_or_freed, read_violations, load_violations, put_read, put_loaded, load_step, move_temp, moved_behind, store_to, store_step, touch_struct, both_touched, copy_violations, copy_touched, kept_target, copy_between, copy_step}
+use Rattle.abstract_steps_laws_values.specs.RisingRows.{LeftRise, PointersRise, ValuesRise}
 use Rattle.abstract_steps_laws_values.specs.LaidOut.{IsLaidOut}
 use Rattle.abstract_steps_laws_values.specs.ViolationsBelow.{ViolationsBelow}
 use Rattle.abstract_steps_laws_values.specs.StepLaws.{FlowRows, Rises, Violates}
 use Rattle.abstract_steps_laws_values.proofs.RisingCells.{small_own, own_bases}
 use Rattle.abstract_steps_laws_values.proofs.OwnBases.{words_less}
 use Rattle.abstract_steps_laws_values.proofs.TempPlaces.{row_length}
-use Rattle.abstract_steps_laws_values.proofs.Results.{value_small, number_rises, pointer_rises, part_rises, num_rises, num_near, labels_rise, of_pointer, parts_rise, temp_rises, put_temp_rises, number_put, pointer_put}
+use Rattle.abstract_steps_laws_values.proofs.Results.{value_small, number_rises, pointer_rises, num_rises, num_near, labels_rise, of_pointer, parts_rise, temp_rises, put_temp_rises, number_put, pointer_put}
 use Rattle.abstract_steps_laws_values.proofs.LiveParts.{freed_more}
 use Rattle.abstract_steps_laws_values.proofs.Touches.{touch_rises, touch_violates, placed_bases}
 use Rattle.abstract_steps_laws_values.proofs.ViolationOrder.{none_below, union_below, union_left, reads_below}

@@ -1,5 +1,5 @@
 -- Instructions in rising rows, and the rules that they may violate.
-use Rattle.std.specs.Prelude.{◌≡◌, ℕ, ◌^◌, ◌-◌, ◌≤◌, ℤ, pos, negsuc, ◌≤ℤ◌, int_le, Bool, true, false, cond, ◌&&◌, Option, Some, None, List, slice_get, refl}
+use Rattle.std.specs.Prelude.{◌≡◌, ℕ, ◌^◌, ◌-◌, ◌≤◌, ℤ, pos, negsuc, ◌≤ℤ◌, int_le, true, cond, ◌&&◌, Option, Some, None, List, slice_get, refl}
 use Rattle.std.specs.List.{list_all}
 use Rattle.std.proofs.Common.{arith}
 use Rattle.std.proofs.lemmas.Int.{ints}
@@ -18,7 +18,6 @@ use Rattle.flow_program.specs.declared.machine_instructions.Operation.TheVariant
 use Rattle.flow_program.specs.BaseShapes.{is_extent}
 use Rattle.flow_program.specs.WellFormed.{names_of, is_number, is_site, is_optional_extent, fits_operation, has_result, has_temp, is_declared, kind_at, reaches, has_local}
 use Rattle.pointer_domain.specs.declared.base_sets.Bases.{Bases}
-use Rattle.value_domain.specs.declared.row_cells.Cell.{Cell}
 use Rattle.store_domain.specs.ObjectLives.{forget, leave, clear}
 use Rattle.store_domain.specs.Spelling.{spell}
 use Rattle.store_domain_laws.specs.TopRows.{top_row}
@@ -27,22 +26,19 @@ use Rattle.store_domain_laws.specs.Placements.{EachFrom}
 use Rattle.store_domain_laws.proofs.OwnValues.{each_get}
 use Rattle.store_domain_laws.proofs.Together.{forgets, clears, leaves, spells, spells_consistent}
 use Rattle.store_domain_laws.proofs.ConsistentLives.{forget_even, clear_even, leave_even}
-use Rattle.abstract_steps_checks.specs.declared.violation_sets.Violations.{Violations}
 use Rattle.abstract_steps_checks.specs.ViolationSets.{no_violations}
 use Rattle.abstract_steps_instructions.specs.CallSteps.{line_goes_on}
 use Rattle.abstract_steps_instructions.specs.Steps.{operate, operate_if, step_in, step}
 use Rattle.abstract_steps_instructions.specs.StepViolations.{relation_violations, operation_violations, violations_of, violations_in, violations_at}
-use Rattle.abstract_steps_laws_values.specs.RisingRows.{RowsRise, LeftRise}
 use Rattle.abstract_steps_laws_values.specs.LaidOut.{IsLaidOut}
-use Rattle.abstract_steps_laws_values.specs.ViolationsBelow.{ViolationsBelow}
-use Rattle.abstract_steps_laws_values.specs.StepLaws.{FlowRows, Rises, Violates, IntegerStepsRise, IntegerChecksRise, PointerStepsRise, PointerChecksRise}
+use Rattle.abstract_steps_laws_values.specs.StepLaws.{Rises, Violates, IntegerStepsRise, PointerStepsRise}
 use Rattle.abstract_steps_laws_values.proofs.RisingCells.{small_own, left_if}
 use Rattle.abstract_steps_laws_values.proofs.ViolationOrder.{same_below}
 use Rattle.abstract_steps_laws_values.proofs.IntegerSteps.{integer_steps}
 use Rattle.abstract_steps_laws_values.proofs.IntegerChecks.{integer_checks}
 use Rattle.abstract_steps_laws_values.proofs.PointerSteps.{extents, pointer_steps, pointer_checks}
-use Rattle.abstract_steps_laws.specs.MemoryLaws.{MemoryStepsRise, MemoryChecksRise}
-use Rattle.abstract_steps_laws.specs.CallLaws.{CallRises, LineRises, CopyRises}
+use Rattle.abstract_steps_laws.specs.MemoryLaws.{MemoryStepsRise}
+use Rattle.abstract_steps_laws.specs.CallLaws.{LineRises}
 use Rattle.abstract_steps_laws.specs.ProgramLaws.{HasBytes, IsNamed, IsRising, AreRising}
 use Rattle.abstract_steps_laws.proofs.MemorySteps.{row_near, copy_rises, memory_steps, memory_checks}
 

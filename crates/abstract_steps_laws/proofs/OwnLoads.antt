@@ -1,6 +1,6 @@
 -- What is loaded from an own row is an own value, and from one of consistent pointer parts it has such a part.
 use Rattle.std.specs.Prelude.{◌≡◌, ℕ, ◌+◌, ◌<◌, ℤ, Bool, true, false, cond, not, ◌||◌, ◌&&◌, Option, Some, None, List, length, refl}
-use Rattle.std.proofs.Common.{arith, sym, subst}
+use Rattle.std.proofs.Common.{arith}
 use Rattle.std.proofs.lemmas.Bool.{and_parts}
 use Rattle.cc_base.specs.Lattices.{LatticeOf, OrderLaws}
 use Rattle.cc_base.specs.IntegerDomains.{IntegersOf, BoundLaws, RangeLaws}
@@ -38,7 +38,7 @@ use Rattle.store_domain_laws.proofs.OwnValues.{blank_top}
 use Rattle.store_domain_laws.proofs.CellReads.{labels_top, whole_top, read_top}
 use Rattle.store_domain_laws.proofs.Loads.{class_small}
 use Rattle.store_domain_laws.proofs.Consistent.{IsEven, even_join, even_bare}
-use Rattle.store_domain_laws.proofs.ConsistentStores.{IsKept, row_reflexive, at_even, either_even}
+use Rattle.store_domain_laws.proofs.ConsistentStores.{row_reflexive, at_even, either_even}
 
 flag_top : (p : Bool) → flag_leq p true ≡ true
 flag_top true = refl

@@ -1,13 +1,10 @@
 -- What a test on an edge tells of the objects that it names, in rising rows.
-use Rattle.std.specs.Prelude.{◌≡◌, ℕ, ◌+◌, ◌^◌, ◌-◌, ◌<◌, ℤ, pos, negsuc, ◌≤ℤ◌, Bool, true, false, cond, not, ◌||◌, ◌&&◌, Option, Some, None, is_none, is_some, List, length, slice_get, refl, ◌⊎◌}
-use Rattle.std.proofs.Common.{arith, sym, subst, inl, inr}
+use Rattle.std.specs.Prelude.{◌≡◌, ℕ, ℤ, Bool, true, false, cond, not, ◌||◌, ◌&&◌, Option, Some, None, is_some, List, slice_get, refl}
+use Rattle.std.proofs.Common.{sym, subst, inl}
 use lib.Signed.{≤ℤ_refl}
-use Rattle.std.proofs.lemmas.Int.{ints}
-use Rattle.std.proofs.lemmas.Bool.{and_parts, and_from}
 use Rattle.cc_base.specs.Lattices.{LatticeOf, OrderLaws}
-use Rattle.cc_base.specs.LatticeParts.{flag_leq}
 use Rattle.cc_base.specs.NumberRanges.{Range, range_met}
-use Rattle.cc_base.specs.IntegerDomains.{IntegersOf, BoundLaws, RangeLaws, of_range}
+use Rattle.cc_base.specs.IntegerDomains.{IntegersOf, BoundLaws, RangeLaws}
 use Rattle.cc_base.specs.IntegerLaws.{MonotoneLaws}
 use Rattle.cc_base.specs.IntegerTypes.{is_size}
 use Rattle.cc_base.specs.declared.int_types.IntType.{IntType}
@@ -21,20 +18,14 @@ use Rattle.flow_program.specs.declared.flow_edges.Test.{Test}
 use Rattle.flow_program.specs.WellFormed.{is_number, fits_side, names_of}
 use Rattle.pointer_domain.specs.declared.base_sets.Bases.{Bases}
 use Rattle.pointer_domain.specs.declared.pointer_sets.Pointers.{Pointers}
-use Rattle.pointer_domain.specs.BaseSets.{no_base}
-use Rattle.pointer_domain.specs.BaseLattice.{bases_order}
-use Rattle.pointer_domain.specs.PointerLattice.{pointers_leq}
 use Rattle.value_domain.specs.declared.label_sets.Labels.{Labels}
 use Rattle.value_domain.specs.declared.values.Value as values
 use Rattle.value_domain.specs.declared.row_cells.Cell.{Cell}
 use Rattle.value_domain.specs.declared.row_cells.Cell.TheVariants.{Value}
-use Rattle.value_domain.specs.Values.{value_lattice}
 use Rattle.value_domain.specs.LabelSets.{no_labels, labels_leq, labels_order, is_unlabelled, dropped_labels}
 use Rattle.value_domain.specs.ValueTables.{number_value, range_fits}
-use Rattle.store_domain.specs.NearValues.{near_value}
-use Rattle.store_domain.specs.RowPositions.{cell_at, leaf_position, value_at, put_value}
-use Rattle.value_domain_laws.specs.Consistency.{is_consistent}
-use Rattle.value_domain_laws.proofs.Flags.{Sets, flag_sets, sets_flag, or_sets, and_sets, not_sets, same_flag}
+use Rattle.store_domain.specs.RowPositions.{cell_at, value_at, put_value}
+use Rattle.value_domain_laws.proofs.Flags.{Sets, or_sets, and_sets, not_sets}
 use Rattle.value_domain_laws.proofs.Parts.{LabelsBelow, label_parts, labels_below, value_parts, value_below, pointer_parts, pointers_below}
 use Rattle.value_domain_laws.proofs.Ranges.{RangeBelow, met_monotone, bounds_monotone, of_range_monotone}
 use Rattle.value_domain_laws.proofs.Leaving.{AreOrdered, fits_less}
@@ -45,9 +36,8 @@ use Rattle.store_domain_laws.specs.Placements.{IsPlaced}
 use Rattle.store_domain_laws.proofs.CellReads.{labels_top}
 use Rattle.store_domain_laws.proofs.NearCells.{near_value_is}
 use Rattle.store_domain_laws.proofs.OwnValues.{each_get}
-use Rattle.abstract_steps_checks.specs.Temporaries.{temp_value}
-use Rattle.abstract_steps.specs.Refinements.{position_of, object_position, mirrored, refined_labels, common_labels, is_same_object, if_null, named_by, number_side, value_of_object, side_value, fits, refined_number, refined, met_number, met, put_at, put_side, has_number, refine_one, refine_two, refine_sides, refine_values, refine_integers, only_null, not_null, tested_pointer, tested_value, refine_pointer_at, refine_pointer, refine_named, refine_in, refine, labelled_number, with_number, put_case, refine_value, refine_case_at, refine_case}
-use Rattle.abstract_steps_laws_values.specs.RisingRows.{RowsRise, LeftRise, PointersRise, ValuesRise}
+use Rattle.abstract_steps.specs.Refinements.{position_of, object_position, mirrored, refined_labels, common_labels, is_same_object, named_by, number_side, value_of_object, side_value, fits, refined_number, refined, met_number, met, put_at, put_side, has_number, refine_one, refine_two, refine_sides, refine_values, refine_integers, only_null, not_null, tested_pointer, tested_value, refine_pointer_at, refine_pointer, refine_named, refine_in, refine, labelled_number, with_number, put_case, refine_value, refine_case_at, refine_case}
+use Rattle.abstract_steps_laws_values.specs.RisingRows.{LeftRise, PointersRise, ValuesRise}
 use Rattle.abstract_steps_laws_values.specs.LaidOut.{IsLaidOut}
 use Rattle.abstract_steps_laws_values.specs.StepLaws.{FlowRows, Rises}
 use Rattle.abstract_steps_laws_values.proofs.RisingCells.{value_rises, put_rises, near_least_rises, left_if, left_same}
@@ -55,7 +45,7 @@ use Rattle.abstract_steps_laws_values.proofs.Results.{num_rises, num_near, label
 use Rattle.abstract_steps_laws_values.proofs.Touches.{met_near, placed_bases}
 use Rattle.abstract_steps_laws_values.proofs.IntegerSteps.{one_near}
 use Rattle.abstract_steps_laws_values.proofs.IntegerChecks.{some_more}
-use Rattle.abstract_steps_laws.specs.ProgramLaws.{HasLeaf, NamesLeaf, TestsLeaves}
+use Rattle.abstract_steps_laws.specs.ProgramLaws.{HasLeaf, NamesLeaf}
 use Rattle.abstract_steps_laws.proofs.Operations.{number_near}
 
 -- labels that are dropped are fewer

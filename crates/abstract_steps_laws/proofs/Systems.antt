@@ -1,6 +1,6 @@
 -- The system of a program is monotone.
-use Rattle.std.specs.Prelude.{◌≡◌, ℕ, zero, suc, ◌+◌, ◌^◌, ◌<◌, ◌≤◌, ◌==◌, ℤ, pos, Bool, true, false, Option, Some, None, List, [], ◌∷◌, length, slice_get, refl}
-use Rattle.std.proofs.Common.{arith, sym, subst, subst₂, ap, ◌∙◌}
+use Rattle.std.specs.Prelude.{◌≡◌, ℕ, suc, ℤ, true, Option, Some, None, List, [], ◌∷◌, length, slice_get, refl}
+use Rattle.std.proofs.Common.{arith, sym, subst, subst₂, ap}
 use Rattle.cc_base.specs.Lattices.{LatticeOf, OrderLaws, RoundLaws, HeightLaws}
 use Rattle.cc_base.specs.Machine.{IsMonotone}
 use Rattle.cc_base.specs.Rows.{row_leq, reached_leq}
@@ -10,22 +10,19 @@ use Rattle.cc_base.specs.IntegerLaws.{MonotoneLaws}
 use Rattle.flow_program.specs.declared.programs.Flow.{Flow}
 use Rattle.flow_program.specs.declared.basic_blocks.BasicBlock.{BasicBlock}
 use Rattle.flow_program.specs.declared.machine_instructions.Instruction.{Instruction}
-use Rattle.flow_program.specs.declared.machine_instructions.Operation.{Operation}
 use Rattle.flow_program.specs.WellFormed.{names_of, fits_operation}
 use Rattle.value_domain.specs.declared.row_cells.Cell.{Cell}
 use Rattle.value_domain.specs.Cells.{cell_lattice}
 use Rattle.store_domain_laws.specs.TopRows.{top_row}
-use Rattle.store_domain_laws.specs.ConsistentRows.{AreConsistent}
-use Rattle.abstract_steps.specs.Edges.{edge}
 use Rattle.abstract_steps_instructions.specs.Steps.{operate}
 use Rattle.abstract_steps_rows.specs.CellKinds.{all_kinds}
 use Rattle.abstract_steps_rows.specs.EndLaws.{EndLaws}
 use Rattle.abstract_steps_rows.specs.OwnRows.{program_bases, reach_of, is_own_row}
 use Rattle.abstract_steps_rows.specs.OwnLaws.{own_length, own_cells}
-use Rattle.abstract_steps_rows.specs.FittedRows.{cells_of, cells_fit, row_fit, reached_fit, all_cells}
+use Rattle.abstract_steps_rows.specs.FittedRows.{cells_fit, row_fit, reached_fit, all_cells}
 use Rattle.abstract_steps_system.specs.BlockPasses.{instructions_in, instructions_of, row_behind, rows_behind, block_end, edge_behind, edge_end}
 use Rattle.abstract_steps_system.specs.FlowMachines.{edge_at, through, flow_machine}
-use Rattle.abstract_steps_laws_values.specs.RisingRows.{RowsRise, LeftRise}
+use Rattle.abstract_steps_laws_values.specs.RisingRows.{LeftRise}
 use Rattle.abstract_steps_laws_values.specs.LaidOut.{IsLaidOut}
 use Rattle.abstract_steps_laws_values.specs.StepLaws.{FlowRows, Rises}
 use Rattle.abstract_steps_laws_values.proofs.TempPlaces.{row_length}
@@ -48,7 +45,7 @@ module _ {I : Type 0} {l : LatticeOf I} {n : IntegersOf I} {stands : I → ℤ �
       let m = laid.near in
       row_top o h b ends list near (reach_of l n list (length flow.bases.items)) near.counts laid.words flow.bases.items width flow.temps (omega arith) (omega arith)
 
-  own_rise : (r s : List (Cell I)) → IsOwn r → IsOwn s → row_leq (cell_lattice l) r s ≡ true → FlowRows l n (program_bases (length flow.bases.items)) flow r s
+  pub own_rise : (r s : List (Cell I)) → IsOwn r → IsOwn s → row_leq (cell_lattice l) r s ≡ true → FlowRows l n (program_bases (length flow.bases.items)) flow r s
   own_rise r s p q e =
       let cells = own_cells o k h b ends list flow.bases.items flow.width s q in
       record {

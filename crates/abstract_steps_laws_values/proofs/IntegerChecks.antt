@@ -1,6 +1,6 @@
 -- The rules that steps on integers may violate, in rising rows.
-use Rattle.std.specs.Prelude.{◌≡◌, ℕ, ℤ, pos, negsuc, ◌≤ℤ◌, int_le, int_lt, Bool, true, false, cond, not, ◌||◌, ◌&&◌, Some, None, is_some, List, refl}
-use Rattle.std.proofs.Common.{arith, inl, inr}
+use Rattle.std.specs.Prelude.{◌≡◌, ℤ, pos, negsuc, int_le, int_lt, Bool, true, not, ◌||◌, ◌&&◌, Some, None, is_some, refl}
+use Rattle.std.proofs.Common.{arith}
 use Rattle.std.proofs.lemmas.Int.{ints}
 use Rattle.std.proofs.lemmas.Bool.{and_parts, and_from}
 use Rattle.cc_base.specs.Lattices.{LatticeOf, OrderLaws}
@@ -13,26 +13,21 @@ use Rattle.cc_base.specs.declared.integer_operators.IntOp.{IntOp}
 use Rattle.cc_base.specs.declared.integer_operators.IntOp.TheVariants.{Add, Sub, Mul, Div, Rem, And, Or, Xor, Shl, Shr}
 use Rattle.cc_base.specs.declared.integer_operators.UnOp.{UnOp}
 use Rattle.flow_program.specs.declared.programs.Flow.{Flow}
-use Rattle.flow_program.specs.declared.machine_instructions.Amount.{Amount}
 use Rattle.pointer_domain.specs.declared.base_sets.Bases.{Bases}
 use Rattle.value_domain.specs.declared.label_sets.Labels.{Labels}
 use Rattle.value_domain.specs.declared.values.Value.{Value}
-use Rattle.value_domain.specs.declared.row_cells.Cell.{Cell}
 use Rattle.value_domain.specs.LabelSets.{is_unlabelled, labels_leq}
 use Rattle.value_domain.specs.ValueTables.{ranges_leave, negated_leave}
 use Rattle.value_domain_laws.proofs.Flags.{Sets, or_sets, and_sets, not_sets}
 use Rattle.value_domain_laws.proofs.Parts.{label_parts}
 use Rattle.value_domain_laws.proofs.Ranges.{RangeBelow, bounds_monotone}
 use Rattle.value_domain_laws.proofs.Leaving.{AreOrdered, leave_more, negated_more}
-use Rattle.abstract_steps_checks.specs.declared.violation_sets.Violations.{Violations}
 use Rattle.abstract_steps_checks.specs.ViolationSets.{no_violations}
-use Rattle.abstract_steps_checks.specs.IntegerChecks.{has_number, divides_least, division_violations, shifts_negative, leaves_signed, overflow_violations, ranges_violate, binary_violations, unary_violations, sink_violations, is_no_character, character_violations}
+use Rattle.abstract_steps_checks.specs.IntegerChecks.{has_number, divides_least, division_violations, shifts_negative, leaves_signed, overflow_violations, ranges_violate, binary_violations, unary_violations}
 use Rattle.abstract_steps_checks.specs.Temporaries.{temp_value, amount_value}
-use Rattle.abstract_steps_values.specs.IntegerSteps.{binary_checks, unary_checks}
-use Rattle.abstract_steps_laws_values.specs.RisingRows.{ValuesRise}
 use Rattle.abstract_steps_laws_values.specs.LaidOut.{IsLaidOut}
 use Rattle.abstract_steps_laws_values.specs.ViolationsBelow.{ViolationsBelow}
-use Rattle.abstract_steps_laws_values.specs.StepLaws.{FlowRows, Violates, IntegerChecksRise}
+use Rattle.abstract_steps_laws_values.specs.StepLaws.{IntegerChecksRise}
 use Rattle.abstract_steps_laws_values.proofs.ViolationOrder.{overflows_below, divides_below, same_below, same_way_below}
 use Rattle.abstract_steps_laws_values.proofs.Results.{num_rises, temp_rises}
 use Rattle.abstract_steps_laws_values.proofs.IntegerSteps.{amount_rises}

@@ -1,10 +1,9 @@
 -- Steps on integers, and conversions, in rising rows.
-use Rattle.std.specs.Prelude.{◌≡◌, ℕ, ◌^◌, ◌-◌, ◌==◌, ℤ, pos, negsuc, ◌≤ℤ◌, Bool, true, false, cond, ◌||◌, ◌&&◌, Option, Some, None, List, refl}
-use Rattle.std.proofs.Common.{arith, sym, subst, subst₂, ap, ◌∙◌, inl, inr}
+use Rattle.std.specs.Prelude.{◌≡◌, ℕ, ◌^◌, ◌-◌, ◌==◌, ℤ, pos, negsuc, ◌≤ℤ◌, Bool, true, false, Some, None, List, refl}
+use Rattle.std.proofs.Common.{arith, sym, subst, ◌∙◌, inl, inr}
 use Rattle.std.proofs.lemmas.Int.{ints}
-use Rattle.std.proofs.lemmas.Bool.{or_cases, eqb-true, and_from, cond_both}
+use Rattle.std.proofs.lemmas.Bool.{or_cases, eqb-true, and_from}
 use Rattle.cc_base.specs.Lattices.{LatticeOf, OrderLaws}
-use Rattle.cc_base.specs.LatticeParts.{flag_leq}
 use Rattle.cc_base.specs.NumberRanges.{Range}
 use Rattle.cc_base.specs.IntegerDomains.{IntegersOf, BoundLaws, RangeLaws}
 use Rattle.cc_base.specs.IntegerLaws.{MonotoneLaws, tri_leq}
@@ -22,19 +21,16 @@ use Rattle.flow_program.specs.declared.machine_instructions.Amount.TheVariants.{
 use Rattle.flow_program.specs.declared.machine_instructions.Scalar.{Scalar}
 use Rattle.flow_program.specs.declared.machine_instructions.Scalar.TheVariants as scalar
 use Rattle.pointer_domain.specs.declared.base_sets.Bases.{Bases}
-use Rattle.value_domain.specs.declared.label_sets.Labels.{Labels}
 use Rattle.value_domain.specs.declared.values.Value.{Value}
 use Rattle.value_domain.specs.declared.row_cells.Cell.{Cell}
-use Rattle.value_domain.specs.LabelSets.{no_labels, labels_leq, labels_order, operated_labels, negated_labels, converted_labels}
-use Rattle.value_domain.specs.Values.{value_lattice}
-use Rattle.value_domain.specs.ValueTables.{number_value, value_arith, value_unary, value_convert, value_truth, ranges_leave, negated_leave, range_fits}
-use Rattle.store_domain.specs.ByteWrites.{null_pointer}
+use Rattle.value_domain.specs.LabelSets.{no_labels, labels_order}
+use Rattle.value_domain.specs.ValueTables.{number_value, value_arith, value_unary, value_convert, value_truth}
 use Rattle.store_domain.specs.NearValues.{near_value}
-use Rattle.value_domain_laws.proofs.Flags.{Sets, sets_flag, holds_sets, fails_sets}
+use Rattle.value_domain_laws.proofs.Flags.{sets_flag, holds_sets, fails_sets}
 use Rattle.value_domain_laws.proofs.Parts.{value_parts}
 use Rattle.value_domain_laws.proofs.Ranges.{RangeBelow}
 use Rattle.value_domain_laws.proofs.ValueOperations.{arith_monotone, unary_monotone, convert_monotone, truth_monotone}
-use Rattle.store_domain_laws.specs.TopCells.{top_number, top_value}
+use Rattle.store_domain_laws.specs.TopCells.{top_number}
 use Rattle.store_domain_laws.specs.TopRows.{top_row}
 use Rattle.store_domain_laws.proofs.AddedRanges.{below_of_bounds}
 use Rattle.store_domain_laws.proofs.NearCells.{near_value_is}
@@ -42,10 +38,10 @@ use Rattle.store_domain_laws.proofs.OwnValues.{one_within}
 use Rattle.abstract_steps_checks.specs.Temporaries.{temp_value, amount_value}
 use Rattle.abstract_steps_values.specs.ResultTemps.{negated}
 use Rattle.abstract_steps_values.specs.IntegerSteps.{constant_step, binary_step, unary_step, compare_step, not_step, put_converted, converted_pointer, convert_value, convert_step}
-use Rattle.abstract_steps_laws_values.specs.RisingRows.{RowsRise, LeftRise, PointersRise, ValuesRise}
+use Rattle.abstract_steps_laws_values.specs.RisingRows.{LeftRise, PointersRise, ValuesRise}
 use Rattle.abstract_steps_laws_values.specs.LaidOut.{IsLaidOut}
 use Rattle.abstract_steps_laws_values.specs.StepLaws.{FlowRows, Rises, IntegerStepsRise}
-use Rattle.abstract_steps_laws_values.proofs.RisingCells.{left_if, left_same}
+use Rattle.abstract_steps_laws_values.proofs.RisingCells.{left_same}
 use Rattle.abstract_steps_laws_values.proofs.Results.{number_rises, part_rises, num_rises, null_rises, temp_rises, number_put, pointer_put, truth_put}
 
 -- ---- all numbers of a type lie from -2^64 to 2^64

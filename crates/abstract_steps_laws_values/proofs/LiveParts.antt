@@ -1,19 +1,17 @@
 -- Which bases of a set may be live, freed or literals, in rising rows.
-use Rattle.std.specs.Prelude.{◌≡◌, ℕ, ◌+◌, ◌<◌, ◌≤◌, ℤ, Bool, true, false, ◌&&◌, ◌||◌, List, [], ◌∷◌, length, refl}
-use Rattle.std.proofs.Common.{arith, sym, subst}
+use Rattle.std.specs.Prelude.{◌≡◌, ℕ, ◌<◌, ℤ, Bool, true, false, ◌&&◌, List, length, refl}
+use Rattle.std.proofs.Common.{arith}
 use Rattle.std.proofs.lemmas.Bool.{and_parts, false_from_ne_true}
 use Rattle.cc_base.specs.Lattices.{LatticeOf, OrderLaws}
 use Rattle.cc_base.specs.IntegerDomains.{IntegersOf, BoundLaws}
 use Rattle.cc_base.specs.LatticeParts.{flag_leq}
 use Rattle.c_layout.specs.declared.shapes.BaseInfo.{BaseInfo}
 use Rattle.pointer_domain.specs.declared.base_sets.Bases.{Bases}
-use Rattle.pointer_domain.specs.BaseSets.{no_base, bases_within, bases_empty, bases_has, bases_union}
+use Rattle.pointer_domain.specs.BaseSets.{no_base, bases_within, bases_empty, bases_has}
 use Rattle.pointer_domain.specs.BaseLattice.{bases_order}
 use Rattle.value_domain.specs.declared.row_cells.Cell.{Cell}
-use Rattle.store_domain.specs.Walks.{walk}
 use Rattle.store_domain.specs.RowPositions.{state_at, state_position}
-use Rattle.store_domain.specs.LiveBases.{most_bases, only_base, has_base, with_base_if, is_literal_kind, is_live_in, add_live, live_of, is_writable_in, add_writable, writable_of, may_be_live, may_be_freed, is_freed_or, any_freed}
-use Rattle.store_domain_laws.specs.TopCells.{top_state}
+use Rattle.store_domain.specs.LiveBases.{only_base, has_base, with_base_if, is_literal_kind, is_live_in, add_live, live_of, is_writable_in, add_writable, writable_of, may_be_freed, is_freed_or, any_freed}
 use Rattle.store_domain_laws.specs.Placements.{EachFrom, IsPlaced}
 use Rattle.store_domain_laws.specs.RowsBelow.{RowsBelow}
 use Rattle.store_domain_laws.proofs.PairedSteps.{walk_pair, numbers_below, any_each}

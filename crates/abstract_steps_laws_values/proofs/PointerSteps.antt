@@ -1,11 +1,10 @@
 -- Steps that make pointers, move them and compare them, in rising rows.
-use Rattle.std.specs.Prelude.{◌≡◌, ℕ, zero, suc, ◌+◌, ◌^◌, ◌-◌, ◌<◌, ◌≤◌, ◌==◌, ℤ, pos, negsuc, ◌≤ℤ◌, ◌-ℤ◌, int_le, Bool, true, false, cond, not, ◌||◌, ◌&&◌, nat_le, Option, Some, None, is_none, is_some, List, [], ◌∷◌, length, slice_get, refl}
+use Rattle.std.specs.Prelude.{◌≡◌, ℕ, zero, suc, ◌+◌, ◌^◌, ◌-◌, ◌<◌, ◌≤◌, ◌==◌, ℤ, pos, negsuc, ◌≤ℤ◌, ◌-ℤ◌, int_le, Bool, true, false, cond, not, ◌||◌, ◌&&◌, Option, Some, None, is_none, is_some, List, [], ◌∷◌, length, slice_get, refl}
 use Rattle.std.specs.Int.{int_min, int_max}
 use Rattle.std.specs.Option.{unwrap_or}
-use Rattle.std.proofs.Common.{arith, sym, subst, subst₂, ap, ◌∙◌, inl, inr}
-use lib.Signed.{≤ℤ_refl}
+use Rattle.std.proofs.Common.{arith, sym, subst, ap, ◌∙◌, inl, inr}
 use Rattle.std.proofs.lemmas.Int.{ints, clamps}
-use Rattle.std.proofs.lemmas.Bool.{cases_Bool, cond-true, cond-false, and_parts, and_from, or_parts, or_cases, cond_both, leb-true, not-true, ne_eqb, eq-eqb, eqb-true, false_from_ne_true, not_from_false}
+use Rattle.std.proofs.lemmas.Bool.{cases_Bool, cond-true, cond-false, and_parts, and_from, or_cases, cond_both, leb-true, not-true, eqb-true}
 use Rattle.cc_base.specs.Lattices.{LatticeOf, OrderLaws}
 use Rattle.cc_base.specs.NumberRanges.{Range, range_between, range_sum, range_difference, range_times, range_over, range_met, upper_or}
 use Rattle.cc_base.specs.IntegerDomains.{IntegersOf, BoundLaws, RangeLaws, between_or_least, of_range}
@@ -25,48 +24,41 @@ use Rattle.pointer_domain.specs.declared.base_sets.Bases.{Bases}
 use Rattle.pointer_domain.specs.declared.pointer_sets.Pointers.{Pointers}
 use Rattle.pointer_domain.specs.BaseSets.{bases_empty, bases_within, bases_meet, bases_count}
 use Rattle.pointer_domain.specs.BaseLattice.{bases_order}
-use Rattle.pointer_domain.specs.PointerLattice.{no_pointer, pointers_leq, pointer_order}
-use Rattle.pointer_domain.specs.PointerTables.{longest, the_end, offsets, length_above, moved_to, shifted, part_starts, part_at, narrowed, is_any, same_one_base, pointers_equal, pointers_compare, pointers_difference}
+use Rattle.pointer_domain.specs.PointerLattice.{pointers_leq, pointer_order}
+use Rattle.pointer_domain.specs.PointerTables.{longest, the_end, offsets, length_above, moved_to, shifted, part_starts, part_at, narrowed, is_any, same_one_base, pointers_difference}
 use Rattle.value_domain.specs.declared.label_sets.Labels.{Labels}
-use Rattle.value_domain.specs.declared.values.Value.{Value}
 use Rattle.value_domain.specs.declared.row_cells.Cell.{Cell}
 use Rattle.value_domain.specs.LabelSets.{no_labels, labels_order, is_unlabelled, labels_leq}
-use Rattle.value_domain.specs.ValueTables.{number_value}
-use Rattle.store_domain.specs.NearValues.{near_number}
 use Rattle.store_domain.specs.ScalarTypes.{kind_of}
 use Rattle.store_domain.specs.LiveBases.{only_base, single_bases}
 use Rattle.value_domain_laws.specs.Consistency.{is_consistent}
 use Rattle.value_domain_laws.specs.Consistency as consistency
 use Rattle.value_domain_laws.proofs.Flags.{Sets, flag_sets, or_sets, and_sets, not_sets}
-use Rattle.value_domain_laws.proofs.Parts.{PointersBelow, pointer_parts, pointers_below, value_parts}
-use Rattle.value_domain_laws.proofs.Ranges.{RangeBelow, range_refl, sum_monotone, difference_monotone, times_monotone, met_monotone, bounds_monotone, of_range_monotone}
+use Rattle.value_domain_laws.proofs.Parts.{PointersBelow, pointer_parts, pointers_below}
+use Rattle.value_domain_laws.proofs.Ranges.{RangeBelow, range_refl, sum_monotone, difference_monotone, times_monotone, bounds_monotone, of_range_monotone}
 use Rattle.value_domain_laws.proofs.Bases.{empty_below, one_base, no_count, sets_meet}
 use Rattle.value_domain_laws.proofs.Moves.{shift_monotone, narrow_monotone, pointers_compared, difference_rises}
 use Rattle.value_domain_laws.proofs.Equality.{equal_monotone}
 use Rattle.store_domain_laws.specs.TopCells.{top_number, top_value}
 use Rattle.store_domain_laws.specs.TopRows.{top_row}
-use Rattle.store_domain_laws.specs.Placements.{EachFrom, IsPlaced}
+use Rattle.store_domain_laws.specs.Placements.{EachFrom}
 use Rattle.store_domain_laws.proofs.CellReads.{size_is}
 use Rattle.store_domain_laws.proofs.Consistent.{some_parts, from_some, even_bare}
-use Rattle.store_domain_laws.proofs.NearCells.{near_is, near_monotone}
+use Rattle.store_domain_laws.proofs.NearCells.{near_monotone}
 use Rattle.store_domain_laws.proofs.OwnValues.{each_get}
 use Rattle.store_domain_laws.proofs.StorePlaces.{any_monotone}
-use Rattle.store_domain_laws.proofs.TopRows.{all_placed}
-use Rattle.abstract_steps_checks.specs.declared.pointer_checks.Compared.{Compared}
 use Rattle.abstract_steps_checks.specs.PointerChecks.{moves_outside, shift_violations, are_alike, check_same_instance}
 use Rattle.abstract_steps_checks.specs.ViolationSets.{no_violations}
 use Rattle.abstract_steps_checks.specs.Temporaries.{temp_value, amount_value}
-use Rattle.abstract_steps_values.specs.ResultTemps.{negated, put_pointer}
-use Rattle.abstract_steps_values.specs.PointerSteps.{is_short, address_of, address_in, address_step, touch_part, narrow_violations, narrow_touched, narrow_step, backwards_by, signed_amount, shift_checks, put_moved, shift_by, shift_step, compare_both, comparison_violations, equality_violations, has_difference, difference_of, difference_between, difference_step, equality, ordered, relation, relation_step}
-use Rattle.abstract_steps_laws_values.specs.RisingRows.{RowsRise, LeftRise, PointersRise, ValuesRise}
+use Rattle.abstract_steps_values.specs.PointerSteps.{is_short, address_of, address_in, address_step, touch_part, narrow_violations, narrow_touched, narrow_step, backwards_by, signed_amount, shift_checks, put_moved, shift_by, shift_step, comparison_violations, equality_violations, has_difference, difference_of, difference_between, difference_step, equality, ordered, relation, relation_step}
+use Rattle.abstract_steps_laws_values.specs.RisingRows.{LeftRise, PointersRise}
 use Rattle.abstract_steps_laws_values.specs.LaidOut.{IsLaidOut}
 use Rattle.abstract_steps_laws_values.specs.ViolationsBelow.{ViolationsBelow}
 use Rattle.abstract_steps_laws_values.specs.StepLaws.{FlowRows, Rises, Violates, PointerStepsRise, PointerChecksRise}
 use Rattle.abstract_steps_laws_values.proofs.RisingCells.{left_if, left_unless, left_same}
-use Rattle.abstract_steps_laws_values.proofs.TempPlaces.{row_length}
-use Rattle.abstract_steps_laws_values.proofs.Results.{number_rises, none_rises, part_rises, num_rises, num_near, labels_rise, of_pointer, parts_rise, temp_rises, number_put, pointer_put_if, pointer_put, truth_put}
-use Rattle.abstract_steps_laws_values.proofs.Touches.{outside_more, near_bounds, range_near, met_below, touch_rises, touch_violates, placed_bases}
-use Rattle.abstract_steps_laws_values.proofs.IntegerSteps.{near_ends, negated_rises, type_near, one_near, amount_rises}
+use Rattle.abstract_steps_laws_values.proofs.Results.{number_rises, part_rises, num_rises, num_near, labels_rise, of_pointer, parts_rise, temp_rises, number_put, pointer_put_if, pointer_put, truth_put}
+use Rattle.abstract_steps_laws_values.proofs.Touches.{outside_more, near_bounds, range_near, touch_rises, touch_violates, placed_bases}
+use Rattle.abstract_steps_laws_values.proofs.IntegerSteps.{near_ends, negated_rises, one_near, amount_rises}
 use Rattle.abstract_steps_laws_values.proofs.IntegerChecks.{labelled_more}
 use Rattle.abstract_steps_laws_values.proofs.ViolationOrder.{compares_below, moves_below, points_below, same_below, same_way_below}
 

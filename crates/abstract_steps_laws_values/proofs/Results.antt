@@ -1,6 +1,6 @@
 -- Results that are put into temporaries.
-use Rattle.std.specs.Prelude.{◌≡◌, ℕ, ◌^◌, ◌-◌, ℤ, pos, negsuc, ◌≤ℤ◌, Bool, true, false, not, cond, ◌||◌, Option, Some, None, is_none, List, refl}
-use Rattle.std.proofs.Common.{arith, sym, subst}
+use Rattle.std.specs.Prelude.{◌≡◌, ℕ, ◌^◌, ◌-◌, ℤ, pos, negsuc, Bool, true, false, ◌||◌, Some, is_none, List, refl}
+use Rattle.std.proofs.Common.{arith}
 use Rattle.std.proofs.lemmas.Int.{ints}
 use Rattle.cc_base.specs.Lattices.{LatticeOf, OrderLaws}
 use Rattle.cc_base.specs.LatticeParts.{flag_leq}
@@ -11,7 +11,6 @@ use Rattle.cc_base.specs.declared.integer_operators.Tri.TheVariants.{Yes, No, Bo
 use Rattle.flow_program.specs.declared.programs.Flow.{Flow}
 use Rattle.pointer_domain.specs.declared.base_sets.Bases.{Bases}
 use Rattle.pointer_domain.specs.declared.pointer_sets.Pointers.{Pointers}
-use Rattle.pointer_domain.specs.BaseSets.{bases_empty}
 use Rattle.pointer_domain.specs.BaseLattice.{bases_order}
 use Rattle.pointer_domain.specs.PointerLattice.{no_pointer, pointer_order, pointers_leq}
 use Rattle.pointer_domain.specs.PointerTables.{is_any}
@@ -22,7 +21,7 @@ use Rattle.value_domain.specs.LabelSets.{no_labels, labels_leq, labels_order}
 use Rattle.value_domain.specs.Values.{value_lattice, value_order}
 use Rattle.value_domain.specs.ValueTables.{number_value, pointer_value, truth_number, truth_value}
 use Rattle.store_domain.specs.ByteWrites.{null_pointer}
-use Rattle.value_domain_laws.proofs.Flags.{Sets, flag_sets, or_sets}
+use Rattle.value_domain_laws.proofs.Flags.{flag_sets, or_sets}
 use Rattle.value_domain_laws.proofs.Parts.{PointersBelow, pointer_parts, pointers_below, value_parts, value_below}
 use Rattle.value_domain_laws.proofs.ValueOperations.{of_truth_monotone}
 use Rattle.store_domain_laws.specs.TopCells.{top_number, top_value}

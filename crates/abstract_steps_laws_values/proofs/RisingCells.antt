@@ -1,19 +1,18 @@
 -- Cells of rising rows that are read and written.
-use Rattle.std.specs.Prelude.{◌≡◌, ℕ, ◌+◌, ◌^◌, ◌≤◌, ℤ, Bool, true, false, cond, ◌||◌, Option, Some, None, List, length, set, refl, ◌⊎◌}
+use Rattle.std.specs.Prelude.{◌≡◌, ℕ, ◌≤◌, ℤ, Bool, true, false, cond, Option, None, List, length, refl, ◌⊎◌}
 use Rattle.std.proofs.Common.{arith, sym, subst, subst₂, ap, ◌∙◌, inl, inr}
 use Rattle.std.proofs.lemmas.List.{set_past}
 use Rattle.cc_base.specs.Lattices.{LatticeOf, OrderLaws}
 use Rattle.cc_base.specs.IntegerDomains.{IntegersOf, BoundLaws}
 use Rattle.cc_base.specs.RowLaws.{row_leq-length}
 use Rattle.pointer_domain.specs.declared.base_sets.Bases.{Bases}
-use Rattle.pointer_domain.specs.declared.pointer_sets.Pointers.{Pointers}
 use Rattle.pointer_domain.specs.BaseSets.{bases_within}
 use Rattle.pointer_domain.specs.BaseLattice.{bases_order}
 use Rattle.value_domain_laws.specs.Consistency.{AreWords}
 use Rattle.value_domain_laws.proofs.Parts.{pointer_parts, value_parts}
 use Rattle.value_domain.specs.declared.values.Value as values
 use Rattle.value_domain.specs.declared.row_cells.Cell.{Cell}
-use Rattle.value_domain.specs.declared.row_cells.Cell.TheVariants.{Nothing, Value}
+use Rattle.value_domain.specs.declared.row_cells.Cell.TheVariants.{Value}
 use Rattle.value_domain.specs.Values.{value_lattice, value_order}
 use Rattle.value_domain.specs.Cells.{cell_lattice, cell_order}
 use Rattle.cc_base.specs.Rows.{row_leq}
@@ -21,13 +20,11 @@ use Rattle.cc_base.specs.RowLaws.{row_leq-trans}
 use Rattle.store_domain.specs.NearValues.{near_value}
 use Rattle.store_domain.specs.RowPositions.{cell_at, value_in, value_at, put_value}
 use Rattle.store_domain_laws.specs.TopCells.{top_value}
-use Rattle.store_domain_laws.specs.RowsBelow.{RowsBelow}
-use Rattle.store_domain_laws.specs.ConsistentRows.{AreConsistent}
 use Rattle.store_domain_laws.proofs.NearCells.{near_value_is, value_at_top, value_at_monotone}
 use Rattle.store_domain_laws.proofs.OwnValues.{value_put}
 use Rattle.store_domain_laws.proofs.Consistent.{even_bare, set_keeps}
 use Rattle.store_domain_laws.proofs.ConsistentStores.{at_even}
-use Rattle.abstract_steps_laws_values.specs.RisingRows.{RowsRise, LeftRise, PointersRise, ValuesRise}
+use Rattle.abstract_steps_laws_values.specs.RisingRows.{RowsRise, LeftRise, ValuesRise}
 use Rattle.abstract_steps_laws_values.proofs.TempPlaces.{at_past}
 use Rattle.abstract_steps_laws_values.proofs.OwnBases.{words_less}
 

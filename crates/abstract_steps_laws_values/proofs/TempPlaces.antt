@@ -1,6 +1,6 @@
 -- Where the greatest row has the temporaries.
-use Rattle.std.specs.Prelude.{◌≡◌, ℕ, zero, suc, ◌+◌, ◌-◌, ◌^◌, ◌<◌, ◌≤◌, cond, List, [], ◌∷◌, ◌++◌, length, replicate, slice_get, refl, ◌⊎◌}
-use Rattle.std.proofs.Common.{arith, sym, subst, ap, ◌∙◌, inl, inr, length-append}
+use Rattle.std.specs.Prelude.{◌≡◌, ℕ, zero, suc, ◌+◌, ◌<◌, ◌≤◌, cond, List, [], ◌∷◌, ◌++◌, length, replicate, refl, ◌⊎◌}
+use Rattle.std.proofs.Common.{arith, ap, ◌∙◌, inl, inr, length-append}
 use Rattle.std.proofs.lemmas.Bool.{cases_lt}
 use Rattle.cc_base.specs.IntegerDomains.{IntegersOf}
 use Rattle.c_layout.specs.declared.shapes.BaseInfo.{BaseInfo}

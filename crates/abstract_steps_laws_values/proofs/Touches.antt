@@ -1,10 +1,10 @@
 -- The touch of bytes through rising pointers in rising rows.
-use Rattle.std.specs.Prelude.{◌≡◌, ℕ, ◌+◌, ◌-◌, ◌^◌, ◌<◌, ℤ, pos, negsuc, ◌-ℤ◌, ◌≤ℤ◌, int_lt, int_le, Bool, true, false, cond, not, ◌&&◌, ◌||◌, Option, Some, None, is_none, is_some, List, [], length, replicate, refl}
+use Rattle.std.specs.Prelude.{◌≡◌, ℕ, ◌-◌, ◌^◌, ◌<◌, ℤ, pos, negsuc, ◌-ℤ◌, ◌≤ℤ◌, int_lt, int_le, Bool, true, false, cond, not, ◌&&◌, ◌||◌, Some, None, is_none, is_some, List, [], length, replicate, refl}
 use Rattle.std.specs.Int.{int_min, int_max}
-use Rattle.std.proofs.Common.{arith, sym, subst, subst₂, ap, inl, inr}
+use Rattle.std.proofs.Common.{arith, sym, subst, subst₂}
 use lib.Signed.{≤ℤ_refl}
 use Rattle.std.proofs.lemmas.Int.{ints, clamps}
-use Rattle.std.proofs.lemmas.Bool.{and_parts, and_from, or_cases, or_parts, cond_both, not-true, not_from_false, false_from_ne_true}
+use Rattle.std.proofs.lemmas.Bool.{and_parts, or_parts, cond_both, false_from_ne_true}
 use Rattle.cc_base.specs.Lattices.{LatticeOf, OrderLaws}
 use Rattle.cc_base.specs.IntegerDomains.{IntegersOf, BoundLaws, of_range}
 use Rattle.cc_base.specs.NumberRanges.{Range, range_sum, range_met}
@@ -13,14 +13,13 @@ use Rattle.flow_program.specs.declared.programs.Flow.{Flow}
 use Rattle.pointer_domain.specs.declared.base_sets.Bases.{Bases}
 use Rattle.pointer_domain.specs.declared.pointer_sets.Pointers.{Pointers}
 use Rattle.pointer_domain.specs.BaseSets.{bases_within, bases_empty}
-use Rattle.pointer_domain.specs.BaseLattice.{bases_order}
 use Rattle.pointer_domain.specs.PointerLattice.{no_pointer, pointers_leq, pointer_order}
 use Rattle.pointer_domain.specs.PointerTables.{length_above}
 use Rattle.value_domain.specs.declared.row_cells.Cell.{Cell}
 use Rattle.value_domain.specs.declared.row_cells.Cell.TheVariants.{Value}
 use Rattle.store_domain.specs.NearValues.{near_pointer}
-use Rattle.store_domain.specs.LiveBases.{live_of, writable_of, any_freed, only_base}
-use Rattle.value_domain_laws.specs.Consistency.{AreWords, is_consistent}
+use Rattle.store_domain.specs.LiveBases.{live_of, any_freed, only_base}
+use Rattle.value_domain_laws.specs.Consistency.{is_consistent}
 use Rattle.value_domain_laws.specs.Consistency as consistency
 use Rattle.value_domain_laws.proofs.Flags.{Sets, flag_sets, or_sets, and_sets, not_sets}
 use Rattle.value_domain_laws.proofs.Parts.{PointersBelow, pointer_parts, pointers_below}
@@ -36,8 +35,7 @@ use Rattle.store_domain_laws.proofs.TopRows.{all_placed}
 use Rattle.abstract_steps_laws_values.specs.LaidOut.{IsLaidOut}
 use Rattle.abstract_steps_laws_values.proofs.TempPlaces.{row_length}
 use Rattle.store_domain_laws.proofs.Consistent.{some_parts, from_some}
-use Rattle.abstract_steps_checks.specs.declared.touches.Touched.{Touched}
-use Rattle.abstract_steps_checks.specs.Touches.{leaves_bounds_at, span_of, any_literal, kept_of, is_nowhere, into_bases, leaves_bounds, places_within, touched_inside, touch_violations, touched_rest, touch_live, touch}
+use Rattle.abstract_steps_checks.specs.Touches.{leaves_bounds_at, span_of, any_literal, kept_of, is_nowhere, into_bases, leaves_bounds, places_within, touched_inside, touch_violations, touched_rest, touch}
 use Rattle.abstract_steps_laws_values.specs.RisingRows.{RowsRise, PointersRise}
 use Rattle.abstract_steps_laws_values.specs.ViolationsBelow.{ViolationsBelow}
 use Rattle.abstract_steps_laws_values.proofs.Results.{smaller_own, none_rises, parts_rise}

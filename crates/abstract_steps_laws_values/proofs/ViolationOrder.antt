@@ -1,6 +1,5 @@
 -- Sets of rules in order.
 use Rattle.std.specs.Prelude.{◌≡◌, Bool, true, false, cond, refl}
-use Rattle.cc_base.specs.declared.diagnostics.Rule.{Rule}
 use Rattle.cc_base.specs.declared.diagnostics.Rule.TheVariants.{Accfree, Boolasgn, Chrsgnext, Dblfree, Diverr, Insufmem, Intoflow, Invptr, Libptr, Nonnullcs, Nullref, Ptrobj, Sizeofptr, Strmod, Swtchdflt, Taintsink, Uninitref, Xfree}
 use Rattle.value_domain_laws.proofs.Flags.{Sets, or_sets, or_left}
 use Rattle.abstract_steps_checks.specs.declared.violation_sets.Violations.{Violations}

@@ -1,8 +1,8 @@
 -- Leaves of folded arrays that stand apart share no byte.
-use Rattle.std.specs.Prelude.{◌≡◌, ℕ, zero, suc, ◌+◌, ◌-◌, ◌*◌, ◌%◌, ◌^◌, ◌≤◌, ◌<◌, ◌==◌, Bool, true, false, cond, ◌&&◌, nat_lt, nat_le, List, [], ◌∷◌, refl, ◌⊎◌}
+use Rattle.std.specs.Prelude.{◌≡◌, ℕ, ◌+◌, ◌-◌, ◌*◌, ◌%◌, ◌^◌, ◌≤◌, ◌<◌, ◌==◌, Bool, true, false, cond, ◌&&◌, nat_lt, nat_le, List, [], ◌∷◌, refl, ◌⊎◌}
 use Rattle.std.proofs.Common.{arith, sym, subst, ap, ◌∙◌, inl, inr}
-use Rattle.std.proofs.lemmas.Bool.{cases_lt, cases_Bool, cond_both, and_parts, leb-true, leb-false, ltb-true, eqb-true}
-use Rattle.std.proofs.lemmas.Nat.{div-mul-add, mod-mul-add, mul-add-lt}
+use Rattle.std.proofs.lemmas.Bool.{cases_lt, and_parts, leb-true, eqb-true}
+use Rattle.std.proofs.lemmas.Nat.{mod-mul-add, mul-add-lt}
 use Rattle.c_layout.specs.declared.data_model.Model.{Model}
 use Rattle.c_layout.specs.declared.leaf_lists.Leaf.{Leaf}
 use Rattle.flow_program.specs.BaseShapes.{is_extent, leaf_end, array_end, has_extents, is_stride, is_behind, is_beside, is_apart, follows, first_of, are_apart, nowhere, are_leaves}

@@ -1,13 +1,13 @@
 -- Bases of the shapes of well-formed programs are regular.
-use Rattle.std.specs.Prelude.{◌≡◌, ℕ, zero, suc, ◌+◌, ◌-◌, ◌*◌, ◌^◌, ◌≤◌, ◌<◌, ◌==◌, Bool, true, false, cond, not, ◌&&◌, nat_lt, nat_le, Option, Some, None, is_some, is_none, List, [], ◌∷◌, refl, ◌⊎◌}
+use Rattle.std.specs.Prelude.{◌≡◌, ℕ, ◌+◌, ◌-◌, ◌*◌, ◌^◌, ◌≤◌, ◌<◌, ◌==◌, Bool, true, false, cond, not, ◌&&◌, nat_lt, nat_le, Option, Some, None, is_some, List, [], ◌∷◌, refl}
 use Rattle.std.specs.List.{list_all}
-use Rattle.std.proofs.Common.{arith, sym, subst, ap, ◌∙◌, inl, inr}
-use Rattle.std.proofs.lemmas.Bool.{cases_lt, cond_both, and_parts, and_from, leb-true, leb-false, ltb-true, eqb-true, eq-eqb, le-leb, lt-ltb, not-true}
+use Rattle.std.proofs.Common.{arith, sym, subst, ap, ◌∙◌}
+use Rattle.std.proofs.lemmas.Bool.{and_parts, and_from, leb-true, leb-false, ltb-true, eqb-true, eq-eqb, le-leb, lt-ltb, not-true}
 use Rattle.c_layout.specs.declared.data_model.Model.{Model}
 use Rattle.c_layout.specs.declared.leaf_lists.Leaf.{Leaf}
 use Rattle.c_layout.specs.declared.shapes.BaseInfo.{BaseInfo}
 use Rattle.c_layout.specs.declared.shapes.ZeroPart.{ZeroPart}
-use Rattle.flow_program.specs.BaseShapes.{is_extent, ends_by, leaf_end, array_end, has_extents, is_stride, is_behind, is_beside, is_apart, follows, first_of, are_apart, nowhere, are_leaves, size_or_none, part_size, are_parts, goes_on, lie_over, is_whole_part, are_whole, is_heap, is_single, is_heap_base, is_declared_base, is_shaped}
+use Rattle.flow_program.specs.BaseShapes.{is_extent, ends_by, leaf_end, array_end, has_extents, is_stride, is_behind, is_beside, is_apart, follows, first_of, are_apart, nowhere, are_leaves, size_or_none, part_size, are_parts, goes_on, lie_over, are_whole, is_heap, is_single, is_heap_base, is_declared_base, is_shaped}
 use Rattle.c_layout.specs.Models.{is_model}
 use Rattle.flow_program.specs.ModelKinds as flow
 use Rattle.store_domain.specs.ScalarTypes.{class_bytes}
