@@ -17,7 +17,6 @@ use Rattle.value_domain.specs.ValueTables.{number_value, pointer_value}
 use Rattle.store_domain.specs.ScalarTypes.{class_bytes}
 use Rattle.store_domain.specs.ClassNumbers.{is_pointer}
 use Rattle.store_domain.specs.LiveBases.{any_freed}
-use Rattle.store_domain.specs.Loads.{load}
 use Rattle.store_domain.specs.Stores.{store}
 use Rattle.value_domain_laws.proofs.Flags.{Sets, flag_sets, and_sets}
 use Rattle.value_domain_laws.proofs.Parts.{value_parts, pointer_parts}

@@ -30,8 +30,8 @@ pub fn edges_and_instructions_are_monotone<I: IntDomain>()
     ensures { MonotoneLaws I.lattice I.numbers → (all : Bases) (flow : Flow) → IsLaidOut all flow → IsNamed flow → AreRising I.lattice I.numbers all flow → StepsRise I.lattice I.numbers all flow }
 {}
 
-/// The system of such a program is monotone, where rows are cut to numbers from -2^64 to 2^64: so a solver's map is the least
-/// inductive one.
+/// The system of such a program is monotone, where rows are cut between the ends of a list that goes from a number not below
+/// -2^64 up to 2^64: so a solver's map is the least inductive one.
 pub fn systems_are_monotone<I: Bounded>()
     ensures { MonotoneLaws I.lattice I.numbers → (flow : Flow) (list : List ℤ) → IsNearList I.lattice I.numbers list → IsLaidOut (program_bases (length flow.bases.items)) flow → IsNamed flow → AreRising I.lattice I.numbers (program_bases (length flow.bases.items)) flow → IsMonotone (cell_lattice I.lattice) (flow_machine I.lattice I.numbers flow list) }
 {}
