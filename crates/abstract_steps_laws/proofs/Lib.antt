@@ -1,0 +1,9 @@
+pub mod OwnLoads
+pub mod MemorySteps
+pub mod Operations
+pub mod Refinements
+pub mod Edges
+pub mod FilledSteps
+pub mod FilledProgram
+pub mod FittedOrder
+pub mod Systems

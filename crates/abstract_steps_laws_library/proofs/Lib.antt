@@ -1,0 +1,6 @@
+pub mod OutsideRows
+pub mod ResultCalls
+pub mod CharacterCalls
+pub mod AllocationCalls
+pub mod HeapBases
+pub mod Releases

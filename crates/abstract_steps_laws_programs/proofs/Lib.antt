@@ -1,0 +1,6 @@
+pub mod WellFormed
+pub mod Sites
+pub mod SimplePrograms
+pub mod NearLists
+pub mod NearPrograms
+pub mod IntervalSystems

@@ -1,0 +1,9 @@
+//! Laws of the abstract steps of well-formed programs.
+#![tactic(auto)]
+
+mod theorems;
+
+pub use theorems::{
+    simple_programs_are_monotone, systems_of_intervals_are_monotone, thresholds_are_near,
+    well_formed_programs_are_laid_out, well_formed_programs_are_monotone,
+};

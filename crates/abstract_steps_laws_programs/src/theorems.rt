@@ -1,0 +1,55 @@
+//! Well-formed programs meet the premises of the laws of their steps, so the systems of those whose library calls and copies
+//! of structs grow with the row are monotone.
+ghost use Rattle.std.specs.Prelude.{◌≡◌, ◌≤◌, ◌<◌, ◌^◌, ℤ, true, List, length};
+ghost use Rattle.cc_base.specs.IntegerLaws.{MonotoneLaws};
+ghost use Rattle.cc_base.specs.Machine.{IsMonotone};
+ghost use Rattle.cc_base.specs.Ascending.{is_ascending};
+ghost use Rattle.cc_base.specs.declared.limit_table.Limits.{Limits};
+ghost use Rattle.interval_domain.specs.IntervalLattice.{interval_lattice};
+ghost use Rattle.interval_domain.specs.IntervalNumbers.{interval_numbers};
+ghost use Rattle.flow_program.specs.WellFormed.{is_well_formed};
+ghost use Rattle.flow_program.specs.Nearest.{AreThresholds};
+ghost use Rattle.flow_program.specs.StructNumbers.{flow_numbers};
+ghost use Rattle.flow_program.specs.ThresholdNumbers.{limits_of};
+ghost use Rattle.flow_program.specs.declared.programs.Flow.{Flow};
+ghost use Rattle.value_domain.specs.Cells.{cell_lattice};
+ghost use Rattle.abstract_steps_rows.specs.OwnRows.{program_bases};
+ghost use Rattle.abstract_steps_system.specs.FlowMachines.{flow_machine};
+ghost use Rattle.abstract_steps_laws_values.specs.LaidOut.{IsLaidOut};
+ghost use Rattle.abstract_steps_laws.specs.ProgramLaws.{AreRising};
+ghost use Rattle.abstract_steps_laws.specs.SystemLaws.{IsNearList};
+ghost use Rattle.abstract_steps_laws_programs.specs.Texts.{HasScalars};
+ghost use Rattle.abstract_steps_laws_programs.specs.SimplePrograms.{IsSimple};
+ghost use Rattle.abstract_steps_laws_programs.specs.NearNumbers.{HasNearMembers};
+
+use abstract_steps_rows::Bounded;
+
+/// The rows of a well-formed program are those of its bases and temporaries, and its bases are regular.
+pub fn well_formed_programs_are_laid_out()
+    ensures { (limits : Limits) (flow : Flow) → is_well_formed limits flow ≡ true → limits.pool < 2 ^ 64 → IsLaidOut (program_bases (length flow.bases.items)) flow }
+{}
+
+/// The system of a well-formed program is monotone where its library calls and its copies of structs are, so a solver's map is
+/// the least inductive one.
+pub fn well_formed_programs_are_monotone<I: Bounded>()
+    ensures { MonotoneLaws I.lattice I.numbers → (limits : Limits) (flow : Flow) (list : List ℤ) → is_well_formed limits flow ≡ true → limits.pool < 2 ^ 64 → HasScalars flow → IsNearList I.lattice I.numbers list → AreRising I.lattice I.numbers (program_bases (length flow.bases.items)) flow → IsMonotone (cell_lattice I.lattice) (flow_machine I.lattice I.numbers flow list) }
+{}
+
+/// The system of a well-formed program is monotone where the program copies no structs and calls no functions of the library
+/// but `malloc`, `realloc`, `free`, those that end the program, `getchar`, `putchar` and those on characters.
+pub fn simple_programs_are_monotone<I: Bounded>()
+    ensures { MonotoneLaws I.lattice I.numbers → (limits : Limits) (flow : Flow) (list : List ℤ) → is_well_formed limits flow ≡ true → limits.pool < 2 ^ 64 → length flow.bases.items ≤ 1016 → HasScalars flow → IsSimple flow → IsNearList I.lattice I.numbers list → IsMonotone (cell_lattice I.lattice) (flow_machine I.lattice I.numbers flow list) }
+{}
+
+/// The thresholds of a well-formed program go from a number that is not below -2^64 up to 2^64 and have 0, so rows of intervals
+/// are cut between them in order.
+pub fn thresholds_are_near()
+    ensures { (limits : Limits) (flow : Flow) (list : List ℤ) → is_well_formed limits flow ≡ true → HasNearMembers flow → AreThresholds (limits_of flow.model) (flow_numbers flow) list → is_ascending list ≡ true → IsNearList interval_lattice interval_numbers list }
+{}
+
+/// The system over intervals is monotone, of a well-formed program whose library calls and copies of structs grow with the
+/// row, and so of one that has no copies and only such calls as simple programs have.
+pub fn systems_of_intervals_are_monotone()
+    ensures programs { (limits : Limits) (flow : Flow) (list : List ℤ) → is_well_formed limits flow ≡ true → limits.pool < 2 ^ 64 → HasScalars flow → IsNearList interval_lattice interval_numbers list → AreRising interval_lattice interval_numbers (program_bases (length flow.bases.items)) flow → IsMonotone (cell_lattice interval_lattice) (flow_machine interval_lattice interval_numbers flow list) }
+    ensures simple { (limits : Limits) (flow : Flow) (list : List ℤ) → is_well_formed limits flow ≡ true → limits.pool < 2 ^ 64 → length flow.bases.items ≤ 1016 → HasScalars flow → IsSimple flow → IsNearList interval_lattice interval_numbers list → IsMonotone (cell_lattice interval_lattice) (flow_machine interval_lattice interval_numbers flow list) }
+{}

@@ -1,0 +1,10 @@
+pub mod OwnBases
+pub mod TempPlaces
+pub mod RisingCells
+pub mod Results
+pub mod ViolationOrder
+pub mod LiveParts
+pub mod Touches
+pub mod IntegerSteps
+pub mod IntegerChecks
+pub mod PointerSteps

@@ -1,0 +1,4 @@
+pub mod RisingRows
+pub mod LaidOut
+pub mod ViolationsBelow
+pub mod StepLaws

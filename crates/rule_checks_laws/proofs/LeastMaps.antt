@@ -1,0 +1,31 @@
+-- What the least inductive maps of well-formed programs admit.
+use Rattle.std.specs.Prelude.{◌≡◌, ◌^◌, ◌≤◌, ◌<◌, ℤ, true, List, length}
+use Rattle.std.proofs.Common.{sym, ◌∙◌}
+use Rattle.cc_base.specs.declared.limit_table.Limits.{Limits}
+use Rattle.flow_program.specs.WellFormed.{is_well_formed}
+use Rattle.flow_program.specs.declared.programs.Flow.{Flow}
+use Rattle.interval_domain.specs.IntervalLattice.{interval_lattice, interval_order, interval_rounding, interval_heights}
+use Rattle.interval_domain.specs.IntervalNumbers.{interval_numbers, interval_bounding, interval_ranges}
+use Rattle.interval_domain_laws.proofs.Operations.{interval_monotone}
+use Rattle.abstract_steps_rows.specs.IntervalEnds.{interval_ends}
+use Rattle.abstract_steps_rows.specs.OwnRows.{program_bases}
+use Rattle.rule_checks.specs.AdmittedRules.{map_pairs}
+use Rattle.abstract_steps_laws.specs.ProgramLaws.{AreRising}
+use Rattle.abstract_steps_laws.specs.SystemLaws.{IsNearList}
+use Rattle.abstract_steps_laws_programs.specs.Texts.{HasScalars}
+use Rattle.abstract_steps_laws_programs.specs.SimplePrograms.{IsSimple}
+use Rattle.abstract_steps_laws_programs.proofs.WellFormed.{laid_out, all_named}
+use Rattle.abstract_steps_laws_programs.proofs.Sites.{all_sites}
+use Rattle.abstract_steps_laws_programs.proofs.SimplePrograms.{simple_rises}
+use Rattle.rule_checks_laws.specs.LeastMaps.{AdmitsLeast}
+use Rattle.rule_checks_laws.proofs.FewestPairs.{in_from, contains_in, map_more}
+
+module _ (limits : Limits) (flow : Flow) (list : List ℤ) (h : is_well_formed limits flow ≡ true) (few : limits.pool < 2 ^ 64) (scalars : HasScalars flow) (near : IsNearList interval_lattice interval_numbers list) where
+  pub admits_least : AreRising interval_lattice interval_numbers (program_bases (length flow.bases.items)) flow → AdmitsLeast flow list
+  admits_least rising rows other p least q d e = contains_in (map_pairs interval_lattice interval_numbers flow other) d
+      (map_more interval_order interval_rounding interval_heights interval_bounding interval_monotone interval_ranges interval_ends flow list near (laid_out limits flow h few) (all_named limits flow h scalars) rising
+      rows other (p.size ∙ sym q.size) (λ at. p.own at) (λ at. q.own at) (λ at. least other q at) d
+      (in_from (map_pairs interval_lattice interval_numbers flow rows) d e))
+
+  pub simple_admits_least : length flow.bases.items ≤ 1016 → IsSimple flow → AdmitsLeast flow list
+  simple_admits_least bases simple = admits_least (simple_rises interval_order interval_bounding interval_monotone interval_ranges (program_bases (length flow.bases.items)) flow (laid_out limits flow h few) (all_sites limits flow h bases) simple)
