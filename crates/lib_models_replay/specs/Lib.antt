@@ -1,0 +1,4 @@
+pub mod WorldViews
+pub mod Reaches
+pub mod Allocations
+pub mod Scans
