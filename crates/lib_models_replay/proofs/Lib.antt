@@ -1,2 +1,3 @@
 pub mod Halts
 pub mod Made
+pub mod ScalarTypes

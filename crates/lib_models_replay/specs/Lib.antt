@@ -2,3 +2,4 @@ pub mod WorldViews
 pub mod Reaches
 pub mod Allocations
 pub mod Scans
+pub mod ScalarKinds

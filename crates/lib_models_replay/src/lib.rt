@@ -2,8 +2,10 @@
 //! violations: effects of the machines, as calls.
 #![tactic(auto)]
 
+mod access_steps;
 mod allocation_calls;
 mod character_calls;
+mod integer_steps;
 mod library_checks;
 mod memory_calls;
 mod object_steps;
@@ -12,8 +14,10 @@ mod string_calls;
 mod string_scans;
 mod worlds;
 
+pub use access_steps::{load, store};
 pub use allocation_calls::{calloc, free, malloc};
 pub use character_calls::{getchar, putchar};
+pub use integer_steps::{compare_numbers, convert, negation, pointer_from};
 pub use library_checks::{Reach, fitting, reached, writable};
 pub use memory_calls::memset;
 pub use object_steps::{clear, enter, forget, leave};
