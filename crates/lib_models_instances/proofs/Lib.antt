@@ -1,0 +1,3 @@
+pub mod ByteSteps
+pub mod InstanceSteps
+pub mod NumberSteps

@@ -1,0 +1,16 @@
+-- What scans of strings of a program are to the machines.
+use Rattle.std.specs.Prelude.{ℕ, ◌+◌}
+use Rattle.lib_models_effects.specs.LibraryChecks.{Scanned, ends, unended, broken}
+use Rattle.lib_models_replay.specs.declared.string_scans.Scan.{Scan}
+use Rattle.lib_models_replay.specs.declared.string_scans.Scan.TheVariants as scan
+
+abbrev pub scan_view : Scan → Scanned
+scan_view (scan.Ends n) = ends n
+scan_view scan.Unended = unended
+scan_view scan.Broken = broken
+
+-- what a scan comes to behind so many characters
+abbrev pub behind_characters : ℕ → Scanned → Scanned
+behind_characters k (ends n) = ends (k + n)
+behind_characters k unended = unended
+behind_characters k broken = broken

@@ -1,0 +1,53 @@
+//! The lengths of strings.
+ghost use Rattle.std.specs.Prelude.{◌≡◌, ℕ};
+ghost use Rattle.lib_models_effects.specs.LibraryChecks as machine;
+ghost use Rattle.lib_models_effects.specs.ScalarBytes.{contents};
+ghost use Rattle.lib_models_instances.specs.ByteViews.{bytes_view};
+ghost use Rattle.lib_models_replay.specs.WorldViews.{world_view, ComesTo};
+ghost use Rattle.lib_models_replay.specs.Reaches.{reach_view};
+ghost use Rattle.lib_models_replay.specs.Scans.{scan_view};
+
+use crate::library_checks::Reach;
+use crate::worlds::{Cause, Halt, World7};
+use cc_base::Rule;
+use lib_models_instances::{Byte7, Content7};
+
+/// What a string comes to.
+#[derive(Clone, Copy)]
+pub(crate) enum Scan {
+    /// A zero byte behind so many characters.
+    Ends(u64),
+    /// No zero byte before an indeterminate one or the end.
+    Unended,
+    /// A part of a pointer, which is no character.
+    Broken,
+}
+
+/// What the string comes to that begins with these bytes.
+fn scanned(bytes: &[Byte7]) -> Scan
+    ensures { scan_view result ≡ machine.scanned (contents (bytes_view bytes.now)) }
+{
+    for (k, byte) in bytes.iter().enumerate() {
+        match byte.content {
+            Content7::Blank => return Scan::Unended,
+            Content7::Part(_, _) => return Scan::Broken,
+            Content7::Number(n, _) => {
+                if n == 0 {
+                    return Scan::Ends(k as u64);
+                }
+            }
+        }
+    }
+    Scan::Unended
+}
+
+/// The length of the string that a pointer reaches.
+pub fn string_length(w: &mut World7, reach: Reach) -> Result<u64, Halt>
+    ensures { ComesTo (λ (n : ℕ). n) (machine.string_length (reach_view reach) (world_view w.old)) result (world_view w.new) }
+{
+    match scanned(w.memory.region(reach.spot, reach.room)) {
+        Scan::Ends(n) => Ok(n),
+        Scan::Unended => Err(w.stopped_by(Rule::Nonnullcs)),
+        Scan::Broken => Err(Halt::Stops(Cause::Left)),
+    }
+}
