@@ -22,12 +22,12 @@ GREATEST = 2 ** 64
 MOST_BASES = 1016
 
 
-def in_range(text, least):
+def in_range(text):
     """Whether a range is none, or ascends within its ends."""
     if text == '-':
         return True
     low, high = map(int, text.split(':'))
-    return least <= low <= high <= GREATEST
+    return -GREATEST <= low <= high <= GREATEST
 
 
 def is_value(words):
@@ -35,8 +35,7 @@ def is_value(words):
     somewhere = bases != '0'
     told = number != '-' or '1' in (indeterminate, null, ended) or labels != '0' or somewhere
     return (told and int(bases, 16) < 2 ** MOST_BASES
-            and in_range(number, -GREATEST) and in_range(relative, -GREATEST)
-            and in_range(low, 0) and in_range(length, 0)
+            and all(map(in_range, (number, low, relative, length)))
             and all((x != '-') == somewhere for x in (low, relative, length))
             and (somewhere or part == '0'))
 
@@ -46,10 +45,10 @@ def cell_at(line):
     if match := VALUE.fullmatch(line):
         return int(match[1]) if is_value(match.groups()[1:]) else None
     if match := FIRST.fullmatch(line):
-        return int(match[1]) if match[2] != '-' and in_range(match[2], 0) else None
+        return int(match[1]) if match[2] != '-' and in_range(match[2]) else None
     if match := STATE.fullmatch(line):
         told = match[2] != '-' or '1' in (match[3], match[4])
-        return int(match[1]) if told and in_range(match[2], 0) else None
+        return int(match[1]) if told and in_range(match[2]) else None
     return None
 
 

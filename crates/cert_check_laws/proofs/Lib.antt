@@ -1,0 +1,4 @@
+pub mod VerdictProofs
+pub mod LineProofs
+pub mod RowProofs
+pub mod TextProofs

@@ -1,0 +1,28 @@
+-- The text of a map that was found is a certificate.
+use Rattle.std.specs.Prelude.{◌≡◌, ℤ, true, List, Option, Result, Ok, Err, IfOk}
+use Rattle.std.proofs.Common.{subst}
+use Rattle.cc_base.specs.Machine.{IsMonotone}
+use Rattle.cc_base.specs.InductiveMap.{IsInductive, IsLeast}
+use Rattle.flow_program.specs.declared.programs.Flow.{Flow}
+use Rattle.value_domain.specs.declared.row_cells.Cell.{Cell}
+use Rattle.interval_domain.specs.declared.intervals.Interval.{Interval}
+use Rattle.interval_domain.specs.IntervalLattice.{interval_lattice}
+use Rattle.interval_domain.specs.IntervalNumbers.{interval_numbers}
+use Rattle.abstract_steps_system.specs.FlowMachines.{has_start}
+use Rattle.flow_analysis.specs.Analyses.{row_lattice, machine_of}
+use Rattle.cert_check_text.specs.LineWords.{Bytes}
+use Rattle.cert_check_maps.specs.MapTexts.{text_of_map}
+use Rattle.cert_check_programs.specs.Certificates.{IsCertificate}
+
+-- a map of a program's system with numbers of a list
+pub record IsSolved (flow : Flow) (list : List ℤ) (rows : List (Option (List (Cell Interval)))) : Type 0 where
+  pub inductive : IsInductive row_lattice (machine_of flow list) rows
+  pub least : IsMonotone row_lattice (machine_of flow list) → IsLeast row_lattice (machine_of flow list) rows
+
+pub solved_as : (flow flow' : Flow) (list list' : List ℤ) (rows : List (Option (List (Cell Interval)))) → flow ≡ flow' → list ≡ list' → IsInductive row_lattice (machine_of flow list) rows → (IsMonotone row_lattice (machine_of flow list) → IsLeast row_lattice (machine_of flow list) rows) → IsSolved flow' list' rows
+solved_as flow flow' list list' rows e f i l =
+    subst (λ z. IsSolved flow' z rows) f (subst (λ z. IsSolved z list rows) e (record { inductive = i; least = l }))
+
+pub certified : {V E : Type 0} (items : V → Bytes) (flow : Flow) (list : List ℤ) (rows : List (Option (List (Cell Interval)))) → has_start interval_lattice interval_numbers flow ≡ true → IsSolved flow list rows → (result : Result V E) → IfOk result (λ v. items v ≡ text_of_map flow rows) → IfOk result (λ v. IsCertificate flow list (items v))
+certified items flow list rows start s (Ok v) h = record { rows = rows; started = start; inductive = s.inductive; least = s.least; is_text = h }
+certified items flow list rows start s (Err e) h = tt

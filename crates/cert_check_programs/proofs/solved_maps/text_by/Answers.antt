@@ -1,0 +1,9 @@
+use Rattle.fixpoint_engine.specs.RowMap.{rows_in}
+use Rattle.cert_check_programs.proofs.Solved.{solved_as, certified}
+use Rattle.cert_check_programs.proofs.solved_maps.text_by.Goals as goal
+
+pub returns-clause-text : goal.returns-clause-text
+returns-clause-text g c =
+    certified (λ v. v.items) c.args.flow.now c.args.list.now (rows_in c.solve.new.pool c.solve.new.map) c.requires.started
+    (solved_as c.system-equations.result.flow.now c.args.flow.now c.system-equations.result.list.now c.args.list.now (rows_in c.solve.new.pool c.solve.new.map) c.system-equations.ensures.flow c.system-equations.ensures.list c.solve.ensures.inductive c.solve.ensures.least)
+    c.write_cert-text.result c.write_cert-text.ensures

@@ -1,0 +1,95 @@
+//! The text of the map that the solver finds.
+ghost use Rattle.std.specs.Prelude.{◌≡◌, ◌+◌, ◌<◌, ◌≤◌, true, length, None, IfOk};
+ghost use Rattle.std.proofs.Common.{replicate};
+ghost use Rattle.row_pool.specs.Pool.{free_count};
+ghost use Rattle.interval_domain.specs.IntervalLattice.{interval_lattice};
+ghost use Rattle.interval_domain.specs.IntervalNumbers.{interval_numbers};
+ghost use Rattle.abstract_steps_system.specs.SystemChecks.{is_system};
+ghost use Rattle.abstract_steps_system.specs.FlowMachines.{has_start};
+ghost use Rattle.cert_check_programs.specs.Certificates.{IsCertificate};
+
+use abstract_steps_system::{FlowSystem, has_start, is_system, system};
+use cc_base::{Lattice, Memory, Steps, Thresholds};
+use cert_check_maps::write_cert;
+use fixpoint_engine::{drop_map, new_map, release, solve};
+use flow_program::Flow;
+use interval_domain::Interval;
+use row_pool::{Row, RowPool};
+use std::alloc::Global;
+use std::marker::Brand;
+use std::sync::ledger::{Blank, Ledger};
+use value_domain::Cell;
+
+/// Fills the map, which holds no row, writes its text, and gives its rows back.
+fn text_by<L: Ledger>(
+    alloc: Global,
+    flow: &Flow,
+    list: &Thresholds,
+    pool: &mut RowPool<Cell<Interval>>,
+    map: &mut [Option<Row>],
+    steps: &mut Steps<L>,
+) -> Result<Vec<u8>, Memory>
+    requires valid { is_system flow.now ≡ true }
+    requires started { has_start interval_lattice interval_numbers flow.now ≡ true }
+    requires width { pool.old.width ≡ flow.now.width }
+    requires vacant { map.old ≡ replicate (length flow.now.blocks.items) None }
+    requires room { length flow.now.blocks.items + 2 ≤ free_count pool.old }
+    ensures vacant { map.new ≡ replicate (length map.old) None }
+    ensures text { IfOk result (λ text. IsCertificate flow.now list.now text.items) }
+{
+    let equations: FlowSystem<Interval> = system(flow, list);
+    solve(&equations, pool, map, steps);
+    let text = write_cert(alloc, flow, pool, map);
+    release(pool, map);
+    text
+}
+
+/// Whether each static initializer of a program has its place.
+pub fn starts(alloc: Global, flow: &Flow) -> Result<bool, Memory>
+    ensures { IfOk result (λ held. held ≡ has_start interval_lattice interval_numbers flow.now) }
+{
+    let mut row = vec![in alloc; Cell::<Interval>::bottom(); flow.width as usize]?;
+    Ok(has_start(flow, row.as_mut_slice()))
+}
+
+/// The text for a program whose blocks and edges make a system and whose static initializers have
+/// their places.
+#[tactic(auto, using(flow_analysis::specs::Counts::few_blocks))]
+fn text_in<L: Ledger>(
+    alloc: Global,
+    flow: &Flow,
+    list: &Thresholds,
+    blank: Blank,
+) -> Result<Vec<u8>, Memory>
+    requires name { blank.name ≡ L.name }
+    requires parts { blank.parts ≡ L.parts }
+    requires some { 0 < blank.parts }
+    requires valid { is_system flow.now ≡ true }
+    requires started { has_start interval_lattice interval_numbers flow.now ≡ true }
+    ensures { IfOk result (λ text. IsCertificate flow.now list.now text.items) }
+{
+    let mut steps = Steps::<L>::start(blank);
+    let blocks = flow.blocks.len() as u32;
+    let mut pool = RowPool::new(alloc, blocks + 2, flow.width, Cell::bottom())?;
+    let mut map = new_map(alloc, blocks)?;
+    let text = text_by(alloc, flow, list, &mut pool, map.as_mut_slice(), &mut steps);
+    drop_map(map);
+    text
+}
+
+/// The text of an inductive map of a program, with intervals whose bounds are rounded to the numbers
+/// of a list at heads.
+///
+/// # Errors
+///
+/// Out of memory, and a program whose blocks and edges make no system or with a static initializer
+/// that has no place.
+pub fn prove_program(alloc: Global, flow: &Flow, list: &Thresholds) -> Result<Vec<u8>, Memory>
+    ensures { IfOk result (λ text. IsCertificate flow.now list.now text.items) }
+{
+    if is_system(flow) && starts(alloc, flow)? {
+        text_in::<Brand>(alloc, flow, list, Blank::new(1))
+    } else {
+        Err(Memory)
+    }
+}
