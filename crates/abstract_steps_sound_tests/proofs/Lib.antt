@@ -1,0 +1,4 @@
+pub mod ScalarCells
+pub mod Relabelling
+pub mod TestSteps
+pub mod TestSides

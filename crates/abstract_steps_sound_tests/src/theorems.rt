@@ -1,0 +1,12 @@
+//! Where a row stands for a state that agrees with a test, what the test makes of the row stands for what it makes of the state.
+//! There is no row only where no state agrees with the test.
+ghost use Rattle.cc_base.specs.IntegerLaws.{SoundLaws};
+ghost use Rattle.flow_program.specs.declared.programs.Flow.{Flow};
+ghost use Rattle.abstract_steps_sound_tests.specs.ScalarObjects.{IntegerTestsAreSound};
+
+use cc_base::IntDomain;
+
+/// Relations of integers, where each object that is named is one scalar, and both sides do not name one object.
+pub fn integer_tests_are_sound<I: IntDomain>()
+    ensures { (flow : Flow) → SoundLaws I.lattice I.numbers I.stands → IntegerTestsAreSound I.lattice I.numbers I.stands flow }
+{}
