@@ -2,3 +2,4 @@ pub mod ScalarCells
 pub mod Relabelling
 pub mod TestSteps
 pub mod TestSides
+pub mod CaseSteps

@@ -117,7 +117,7 @@ stays_rewrite memory i = record {
   own = λ o b e. record { old = b; there = e; tag = refl };
 }
 
-set_relabels : (m : Model) (g : Labels → Labels) (i : ℕ) (kind : _) (memory : Memory) (it : Instance) → slice_get memory i ≡ Some it → length it.bytes ≤ scalar_size m kind → IsRelabelling memory (object_relabelled m g i kind memory) i g
+pub set_relabels : (m : Model) (g : Labels → Labels) (i : ℕ) (kind : _) (memory : Memory) (it : Instance) → slice_get memory i ≡ Some it → length it.bytes ≤ scalar_size m kind → IsRelabelling memory (object_relabelled m g i kind memory) i g
 unfolding byte_at
 set_relabels m g i kind memory it at short =
     let n : ℕ = scalar_size m kind in

@@ -11,14 +11,16 @@ use Rattle.flow_program.specs.declared.flow_edges.Side.{Side}
 use Rattle.flow_program.specs.declared.flow_edges.Side.TheVariants as side
 use Rattle.flow_program.specs.declared.flow_edges.Test.{Test}
 use Rattle.flow_program.specs.declared.machine_instructions.Scalar as declared
+use Rattle.flow_program.specs.declared.machine_instructions.Scalar.TheVariants as of
 use Rattle.flow_program.specs.declared.programs.Flow.{Flow}
 use Rattle.abstract_steps.specs.Refinements.{is_same_object}
 use Rattle.lib_models_memory.specs.ScalarSizes.{class_bytes}
 use Rattle.lib_models_effects.specs.Accesses.{class_in}
 use Rattle.lib_models_effects.specs.Tests.{scalar_size}
+use Rattle.flow_program_machine.specs.FlowEdges.{integer_in}
 use Rattle.store_domain_sound.specs.Scalars.{signed_in}
 use Rattle.store_domain_sound_programs.specs.Premises.{HasPremises}
-use Rattle.abstract_steps_sound_edges.specs.EdgeSteps.{TestIsSound}
+use Rattle.abstract_steps_sound_edges.specs.EdgeSteps.{TestIsSound, CaseIsSound}
 
 -- a base of one scalar of the kind, and of nothing else
 pub record IsScalarObject (flow : Flow) (b : ℕ) (kind : declared.Scalar) : Type 0 where
@@ -39,6 +41,12 @@ NamesScalar flow (side.Object b kind) = IsScalarObject flow b kind
 NamesScalar flow (side.Number z) = is_number z ≡ true
 NamesScalar flow side.Null = Unit {0}
 
+-- an object that is switched on: one integer of its own type
+pub record IsCaseObject (flow : Flow) (b : ℕ) : Type 0 where
+  pub info : BaseInfo
+  pub is : slice_get flow.bases.items b ≡ Some info
+  pub scalar : IsScalarObject flow b (of.Int (integer_in info))
+
 -- a test on integers of two sides, of which both are scalars, and not one object
 pub record IsIntegerTest (flow : Flow) (test : Test) : Type 0 where
   pub left : NamesScalar flow test.left
@@ -51,3 +59,6 @@ pub record IsIntegerTest (flow : Flow) (test : Test) : Type 0 where
 module _ {I : Type 0} (l : LatticeOf I) (n : IntegersOf I) (stands : I → ℤ → Type 0) (flow : Flow) where
   abbrev pub IntegerTestsAreSound : Type 0
   IntegerTestsAreSound = HasPremises flow → (test : Test) → IsIntegerTest flow test → TestIsSound l n stands flow (Some test)
+
+  abbrev pub CasesAreSound : Type 0
+  CasesAreSound = HasPremises flow → (value : ℤ) (b : ℕ) → IsCaseObject flow b → CaseIsSound l n stands flow value (Some b)

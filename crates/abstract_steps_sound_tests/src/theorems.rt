@@ -2,11 +2,16 @@
 //! There is no row only where no state agrees with the test.
 ghost use Rattle.cc_base.specs.IntegerLaws.{SoundLaws};
 ghost use Rattle.flow_program.specs.declared.programs.Flow.{Flow};
-ghost use Rattle.abstract_steps_sound_tests.specs.ScalarObjects.{IntegerTestsAreSound};
+ghost use Rattle.abstract_steps_sound_tests.specs.ScalarObjects.{IntegerTestsAreSound, CasesAreSound};
 
 use cc_base::IntDomain;
 
 /// Relations of integers, where each object that is named is one scalar, and both sides do not name one object.
 pub fn integer_tests_are_sound<I: IntDomain>()
     ensures { (flow : Flow) → SoundLaws I.lattice I.numbers I.stands → IntegerTestsAreSound I.lattice I.numbers I.stands flow }
+{}
+
+/// Cases of a switch, where the object that is switched on is one integer.
+pub fn cases_are_sound<I: IntDomain>()
+    ensures { (flow : Flow) → CasesAreSound I.lattice I.numbers I.stands flow }
 {}
