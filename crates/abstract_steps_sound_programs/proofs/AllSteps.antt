@@ -1,5 +1,5 @@
 -- All instructions are sound where those are on which it is open.
-use Rattle.std.proofs.Common.{◌≡◌, true, subst, refl, sym, inl, inr}
+use Rattle.std.proofs.Common.{◌≡◌, ℕ, true, Option, Some, None, subst, refl, sym, inl, inr}
 use Rattle.std.specs.Prelude.{ℤ}
 use Rattle.std.proofs.lemmas.Bool.{cases_Bool}
 use Rattle.cc_base.specs.Lattices.{LatticeOf, OrderLaws}
@@ -7,7 +7,10 @@ use Rattle.cc_base.specs.IntegerDomains.{IntegersOf, BoundLaws, RangeLaws}
 use Rattle.cc_base.specs.IntegerLaws.{SoundLaws}
 use Rattle.cc_base.specs.declared.limit_table.Limits.{Limits}
 use Rattle.c_layout.specs.declared.leaf_lists.Class.TheVariants.{Char}
-use Rattle.flow_program.specs.WellFormed.{names_of, fits_operation}
+use Rattle.flow_program.specs.WellFormed.{names_of, fits_operation, is_well_formed}
+use Rattle.flow_program.specs.declared.flow_edges.EdgeKind.{EdgeKind}
+use Rattle.flow_program.specs.declared.flow_edges.EdgeKind.TheVariants as kind
+use Rattle.flow_program.specs.declared.flow_edges.Test.{Test}
 use Rattle.flow_program.specs.declared.machine_instructions.Operation.{Operation}
 use Rattle.flow_program.specs.declared.machine_instructions.Operation.TheVariants as op
 use Rattle.flow_program.specs.declared.programs.Flow.{Flow}
@@ -21,13 +24,16 @@ use Rattle.abstract_steps_sound.proofs.PointerSteps.{pointer_step_sound}
 use Rattle.abstract_steps_sound_memory.proofs.LoadSteps.{load_sound}
 use Rattle.abstract_steps_sound_memory.proofs.StoreSteps.{store_sound}
 use Rattle.abstract_steps_sound_objects.proofs.Forgetting.{forget_sound}
+use Rattle.abstract_steps_sound_clear.proofs.Clearing.{clear_sound}
 use Rattle.abstract_steps_covered.specs.SoundEnds.{GoesOn, EndsBlock, EndIsSound, EndsAreSound, StepsGoOnSoundly, EndsGoOnSoundly}
-use Rattle.abstract_steps_sound_edges.specs.EdgeSteps.{IsPlainEnd, TestsAreSound}
+use Rattle.abstract_steps_sound_edges.specs.EdgeSteps.{IsPlainEnd, TestIsSound, CaseIsSound, KindIsSound, TestsAreSound}
 use Rattle.abstract_steps_sound_edges.proofs.EdgeSteps.{end_sound}
-use Rattle.abstract_steps_sound_programs.specs.OpenSteps.{IsOpenStep, IsOpenEnd}
+use Rattle.abstract_steps_sound_tests.proofs.TestSides.{test_sound}
+use Rattle.abstract_steps_sound_tests.proofs.CaseSteps.{case_sound}
+use Rattle.abstract_steps_sound_programs.specs.OpenSteps.{IsOpenStep, IsOpenEnd, TestIsProved, CaseIsProved, KindIsProved, OpenTestsAreSound}
 
 module _ {I : Type 0} {l : LatticeOf I} {n : IntegersOf I} {stands : I → ℤ → Type 0} (o : OrderLaws l) (q : BoundLaws l n stands) (c : SoundLaws l n stands) (ranges : RangeLaws l n) (flow : Flow) (p : HasPremises flow) where
-  module _ (open_sound : AreSound l n stands flow IsOpenStep) where
+  module _ (limits : Limits) (good : is_well_formed limits flow ≡ true) (open_sound : AreSound l n stands flow IsOpenStep) where
     pub steps_go_on : StepsGoOnSoundly l n stands flow
     steps_go_on naming row s i goes fits typed r = by_operation i goes fits typed
       where
@@ -53,7 +59,7 @@ module _ {I : Type 0} {l : LatticeOf I} {n : IntegersOf I} {stands : I → ℤ �
         by_operation (op.Library to name arguments site size) h f t = open_sound naming row s (op.Library to name arguments site size) tt f t r
         by_operation (op.Enter base) h f t = open_sound naming row s (op.Enter base) tt f t r
         by_operation (op.Leave base) h f t = open_sound naming row s (op.Leave base) tt f t r
-        by_operation (op.Clear base) h f t = open_sound naming row s (op.Clear base) tt f t r
+        by_operation (op.Clear base) h f t = clear_sound q flow p limits good naming row s r base f
         by_operation (op.Spell base offset room text) h f t = open_sound naming row s (op.Spell base offset room text) tt f t r
         by_operation op.Jump h f t = cc
         by_operation (op.Branch temp kind) h f t = cc
@@ -94,3 +100,24 @@ module _ {I : Type 0} {l : LatticeOf I} {n : IntegersOf I} {stands : I → ℤ �
         by_operation (op.Forget base) e = absurd (subst EndsBlock e ends refl)
         by_operation (op.Clear base) e = absurd (subst EndsBlock e ends refl)
         by_operation (op.Spell base offset room text) e = absurd (subst EndsBlock e ends refl)
+
+  -- ---- tests
+
+  test_proved : (t : Option Test) → TestIsProved flow t → TestIsSound l n stands flow t
+  test_proved None h = tt
+  test_proved (Some t) h = λ naming row s r. test_sound o q c flow p naming row s r t h
+
+  case_proved : (value : ℤ) (b : Option ℕ) → CaseIsProved flow b → CaseIsSound l n stands flow value b
+  case_proved value None h = tt
+  case_proved value (Some b) h = λ naming row s r. case_sound o q flow p naming row s r value b h
+
+  kind_proved : (k : EdgeKind) → KindIsProved flow k → KindIsSound l n stands flow k
+  kind_proved (kind.When truth test kept) h = test_proved test h
+  kind_proved (kind.Case test) h = case_proved test.value test.object h
+  kind_proved kind.Jump h = tt
+  kind_proved (kind.Other values) h = tt
+  kind_proved kind.NoLine h = tt
+  kind_proved kind.Line h = tt
+
+  pub tests_sound : OpenTestsAreSound l n stands flow → TestsAreSound l n stands flow
+  tests_sound h number e is = elim (h number e is) [ inl f ↦ kind_proved e.kind f | inr f ↦ f ]
