@@ -3,3 +3,4 @@ pub mod Relabelling
 pub mod TestSteps
 pub mod TestSides
 pub mod CaseSteps
+pub mod PointerTests

@@ -1,5 +1,5 @@
 -- Objects that tests on edges name: each is one scalar, of the kind that the test reads.
-use Rattle.std.specs.Prelude.{◌≡◌, ℕ, ℤ, true, false, Some, [], ◌∷◌, slice_get}
+use Rattle.std.specs.Prelude.{◌≡◌, ℕ, ℤ, true, false, Some, None, [], ◌∷◌, slice_get}
 use Rattle.cc_base.specs.Lattices.{LatticeOf}
 use Rattle.cc_base.specs.IntegerDomains.{IntegersOf}
 use Rattle.cc_base.specs.IntegerTypes.{is_size}
@@ -13,7 +13,7 @@ use Rattle.flow_program.specs.declared.flow_edges.Test.{Test}
 use Rattle.flow_program.specs.declared.machine_instructions.Scalar as declared
 use Rattle.flow_program.specs.declared.machine_instructions.Scalar.TheVariants as of
 use Rattle.flow_program.specs.declared.programs.Flow.{Flow}
-use Rattle.abstract_steps.specs.Refinements.{is_same_object}
+use Rattle.abstract_steps.specs.Refinements.{is_same_object, named_by}
 use Rattle.lib_models_memory.specs.ScalarSizes.{class_bytes}
 use Rattle.lib_models_effects.specs.Accesses.{class_in}
 use Rattle.lib_models_effects.specs.Tests.{scalar_size}
@@ -56,9 +56,17 @@ pub record IsIntegerTest (flow : Flow) (test : Test) : Type 0 where
   pub is : test.common ≡ Some common
   pub size : is_size common.bytes ≡ true
 
+-- a test of pointers other than of an object against a null constant: it refines nothing
+pub record IsPointerTest (test : Test) : Type 0 where
+  pub is : test.common ≡ None
+  pub plain : named_by test.left test.right ≡ None
+
 module _ {I : Type 0} (l : LatticeOf I) (n : IntegersOf I) (stands : I → ℤ → Type 0) (flow : Flow) where
   abbrev pub IntegerTestsAreSound : Type 0
   IntegerTestsAreSound = HasPremises flow → (test : Test) → IsIntegerTest flow test → TestIsSound l n stands flow (Some test)
+
+  abbrev pub PointerTestsAreSound : Type 0
+  PointerTestsAreSound = (test : Test) → IsPointerTest test → TestIsSound l n stands flow (Some test)
 
   abbrev pub CasesAreSound : Type 0
   CasesAreSound = HasPremises flow → (value : ℤ) (b : ℕ) → IsCaseObject flow b → CaseIsSound l n stands flow value (Some b)

@@ -1,6 +1,6 @@
-//! Tests of integers, and cases of a switch, on edges of the analysis are sound.
+//! Tests of integers and pointers, and cases of a switch, on edges of the analysis are sound.
 #![tactic(auto)]
 
 mod theorems;
 
-pub use theorems::{cases_are_sound, integer_tests_are_sound};
+pub use theorems::{cases_are_sound, integer_tests_are_sound, pointer_tests_are_sound};

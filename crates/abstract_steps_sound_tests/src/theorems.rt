@@ -2,7 +2,7 @@
 //! There is no row only where no state agrees with the test.
 ghost use Rattle.cc_base.specs.IntegerLaws.{SoundLaws};
 ghost use Rattle.flow_program.specs.declared.programs.Flow.{Flow};
-ghost use Rattle.abstract_steps_sound_tests.specs.ScalarObjects.{IntegerTestsAreSound, CasesAreSound};
+ghost use Rattle.abstract_steps_sound_tests.specs.ScalarObjects.{IntegerTestsAreSound, PointerTestsAreSound, CasesAreSound};
 
 use cc_base::IntDomain;
 
@@ -14,4 +14,9 @@ pub fn integer_tests_are_sound<I: IntDomain>()
 /// Cases of a switch, where the object that is switched on is one integer.
 pub fn cases_are_sound<I: IntDomain>()
     ensures { (flow : Flow) → CasesAreSound I.lattice I.numbers I.stands flow }
+{}
+
+/// Relations of pointers, other than of an object against a null constant.
+pub fn pointer_tests_are_sound<I: IntDomain>()
+    ensures { (flow : Flow) → PointerTestsAreSound I.lattice I.numbers I.stands flow }
 {}
