@@ -4,3 +4,4 @@ pub mod TestSteps
 pub mod TestSides
 pub mod CaseSteps
 pub mod PointerTests
+pub mod NullTests

@@ -109,7 +109,7 @@ pub record IsRelabelling (old new : Memory) (i : ℕ) (g : Labels → Labels) : 
   pub rewrite : IsRewrite old new i
   pub each : (o : ℕ) (b : Byte) → byte_at new i o ≡ Some b → (x : Byte) × (byte_at old i o ≡ Some x) × (b.content ≡ relabelled g x.content)
 
-stays_rewrite : (memory : Memory) (i : ℕ) → IsRewrite memory memory i
+pub stays_rewrite : (memory : Memory) (i : ℕ) → IsRewrite memory memory i
 stays_rewrite memory i = record {
   alike = record { lives = λ j. refl; lengths = λ j. refl; made = refl };
   storages = λ j. refl;

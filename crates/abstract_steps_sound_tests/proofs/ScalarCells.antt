@@ -117,7 +117,7 @@ single_leaf : (leaf other : Leaf) (k : ℕ) → slice_get (leaf ∷ []) k ≡ So
 single_leaf leaf other zero e = same_Some leaf other e
 single_leaf leaf other (suc k) e = cc
 
-not_older : (flow : Flow) (b : ℕ) (kind : _) (t : IsScalarObject flow b kind) → t.info.kind ≡ Older → ⊥
+pub not_older : (flow : Flow) (b : ℕ) (kind : _) (t : IsScalarObject flow b kind) → t.info.kind ≡ Older → ⊥
 not_older flow b kind t e = true≢false (sym t.declared ∙ ap (λ z. is_declared (Some z)) e)
 
 module _ {I : Type 0} {l : LatticeOf I} {n : IntegersOf I} {stands : I → ℤ → Type 0} (q : BoundLaws l n stands) (flow : Flow) (p : HasPremises flow) (naming : Naming) (row : List (Cell I)) (long : length row ≡ flow.width) (state : MachineState) (s : StandsFor l n stands flow naming row state)

@@ -61,12 +61,23 @@ pub record IsPointerTest (test : Test) : Type 0 where
   pub is : test.common ≡ None
   pub plain : named_by test.left test.right ≡ None
 
+-- a test of an object that is one pointer against a null constant
+pub record IsNullTest (flow : Flow) (test : Test) : Type 0 where
+  pub base : ℕ
+  pub object : IsScalarObject flow base of.Pointer
+  pub left : test.left ≡ side.Object base of.Pointer
+  pub right : test.right ≡ side.Null
+  pub is : test.common ≡ None
+
 module _ {I : Type 0} (l : LatticeOf I) (n : IntegersOf I) (stands : I → ℤ → Type 0) (flow : Flow) where
   abbrev pub IntegerTestsAreSound : Type 0
   IntegerTestsAreSound = HasPremises flow → (test : Test) → IsIntegerTest flow test → TestIsSound l n stands flow (Some test)
 
   abbrev pub PointerTestsAreSound : Type 0
   PointerTestsAreSound = (test : Test) → IsPointerTest test → TestIsSound l n stands flow (Some test)
+
+  abbrev pub NullTestsAreSound : Type 0
+  NullTestsAreSound = HasPremises flow → (test : Test) → IsNullTest flow test → TestIsSound l n stands flow (Some test)
 
   abbrev pub CasesAreSound : Type 0
   CasesAreSound = HasPremises flow → (value : ℤ) (b : ℕ) → IsCaseObject flow b → CaseIsSound l n stands flow value (Some b)

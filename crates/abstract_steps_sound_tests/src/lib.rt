@@ -3,4 +3,6 @@
 
 mod theorems;
 
-pub use theorems::{cases_are_sound, integer_tests_are_sound, pointer_tests_are_sound};
+pub use theorems::{
+    cases_are_sound, integer_tests_are_sound, null_tests_are_sound, pointer_tests_are_sound,
+};

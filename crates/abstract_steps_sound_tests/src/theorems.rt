@@ -2,7 +2,7 @@
 //! There is no row only where no state agrees with the test.
 ghost use Rattle.cc_base.specs.IntegerLaws.{SoundLaws};
 ghost use Rattle.flow_program.specs.declared.programs.Flow.{Flow};
-ghost use Rattle.abstract_steps_sound_tests.specs.ScalarObjects.{IntegerTestsAreSound, PointerTestsAreSound, CasesAreSound};
+ghost use Rattle.abstract_steps_sound_tests.specs.ScalarObjects.{IntegerTestsAreSound, PointerTestsAreSound, NullTestsAreSound, CasesAreSound};
 
 use cc_base::IntDomain;
 
@@ -19,4 +19,9 @@ pub fn cases_are_sound<I: IntDomain>()
 /// Relations of pointers, other than of an object against a null constant.
 pub fn pointer_tests_are_sound<I: IntDomain>()
     ensures { (flow : Flow) → PointerTestsAreSound I.lattice I.numbers I.stands flow }
+{}
+
+/// Relations of a pointer object and a null constant.
+pub fn null_tests_are_sound<I: IntDomain>()
+    ensures { (flow : Flow) → NullTestsAreSound I.lattice I.numbers I.stands flow }
 {}
