@@ -25,10 +25,13 @@ use Rattle.abstract_steps_sound_memory.proofs.LoadSteps.{load_sound}
 use Rattle.abstract_steps_sound_memory.proofs.StoreSteps.{store_sound}
 use Rattle.abstract_steps_sound_objects.proofs.Forgetting.{forget_sound}
 use Rattle.abstract_steps_sound_clear.proofs.Clearing.{clear_sound}
+use Rattle.abstract_steps_sound_leave.proofs.Leaving.{leave_sound}
 use Rattle.abstract_steps_covered.specs.SoundEnds.{GoesOn, EndsBlock, EndIsSound, EndsAreSound, StepsGoOnSoundly, EndsGoOnSoundly}
 use Rattle.abstract_steps_sound_edges.specs.EdgeSteps.{IsPlainEnd, TestIsSound, CaseIsSound, KindIsSound, TestsAreSound}
 use Rattle.abstract_steps_sound_edges.proofs.EdgeSteps.{end_sound}
 use Rattle.abstract_steps_sound_tests.proofs.TestSides.{test_sound}
+use Rattle.abstract_steps_sound_tests.proofs.PointerTests.{pointer_test_sound}
+use Rattle.abstract_steps_sound_tests.proofs.NullTests.{null_test_sound}
 use Rattle.abstract_steps_sound_tests.proofs.CaseSteps.{case_sound}
 use Rattle.abstract_steps_sound_programs.specs.OpenSteps.{IsOpenStep, IsOpenEnd, TestIsProved, CaseIsProved, KindIsProved, OpenTestsAreSound}
 
@@ -58,7 +61,7 @@ module _ {I : Type 0} {l : LatticeOf I} {n : IntegersOf I} {stands : I → ℤ �
         by_operation (op.Copy to from index) h f t = open_sound naming row s (op.Copy to from index) tt f t r
         by_operation (op.Library to name arguments site size) h f t = open_sound naming row s (op.Library to name arguments site size) tt f t r
         by_operation (op.Enter base) h f t = open_sound naming row s (op.Enter base) tt f t r
-        by_operation (op.Leave base) h f t = open_sound naming row s (op.Leave base) tt f t r
+        by_operation (op.Leave base) h f t = leave_sound flow p naming row s r base f
         by_operation (op.Clear base) h f t = clear_sound q flow p limits good naming row s r base f
         by_operation (op.Spell base offset room text) h f t = open_sound naming row s (op.Spell base offset room text) tt f t r
         by_operation op.Jump h f t = cc
@@ -105,7 +108,13 @@ module _ {I : Type 0} {l : LatticeOf I} {n : IntegersOf I} {stands : I → ℤ �
 
   test_proved : (t : Option Test) → TestIsProved flow t → TestIsSound l n stands flow t
   test_proved None h = tt
-  test_proved (Some t) h = λ naming row s r. test_sound o q c flow p naming row s r t h
+  test_proved (Some t) h = elim h [
+    | inl f ↦ λ naming row s r. test_sound o q c flow p naming row s r t f
+    | inr g ↦ elim g [
+      | inl f ↦ λ naming row s r. pointer_test_sound flow naming row s r t f
+      | inr f ↦ λ naming row s r. null_test_sound q flow p naming row s r t f
+    ]
+  ]
 
   case_proved : (value : ℤ) (b : Option ℕ) → CaseIsProved flow b → CaseIsSound l n stands flow value b
   case_proved value None h = tt

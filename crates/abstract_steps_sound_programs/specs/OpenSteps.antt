@@ -22,15 +22,14 @@ use Rattle.abstract_steps_sound.specs.SoundSteps.{AreSound}
 use Rattle.abstract_steps_covered.specs.SoundEnds.{EndsAreSound}
 use Rattle.abstract_steps_covered.specs.Covering.{Begins, Carries, HasTypedRuns, row_before, Admits}
 use Rattle.abstract_steps_sound_edges.specs.EdgeSteps.{KindIsSound}
-use Rattle.abstract_steps_sound_tests.specs.ScalarObjects.{IsIntegerTest, IsCaseObject}
+use Rattle.abstract_steps_sound_tests.specs.ScalarObjects.{IsIntegerTest, IsPointerTest, IsNullTest, IsCaseObject}
 
--- stores of characters, copies of structs, calls of the library, and entering, leaving and spelling objects
+-- stores of characters, copies of structs, calls of the library, and entering and spelling objects
 abbrev pub IsOpenStep : Operation → Type 0
 IsOpenStep (op.Store to from kind kept) = same_class (class_in kind) Char ≡ true
 IsOpenStep (op.Copy to from index) = Unit {0}
 IsOpenStep (op.Library to name arguments site size) = Unit {0}
 IsOpenStep (op.Enter base) = Unit {0}
-IsOpenStep (op.Leave base) = Unit {0}
 IsOpenStep (op.Spell base offset room text) = Unit {0}
 IsOpenStep _ = ⊥
 
@@ -39,10 +38,10 @@ abbrev pub IsOpenEnd : Operation → Type 0
 IsOpenEnd (op.ReadLine to text count stream) = Unit {0}
 IsOpenEnd _ = ⊥
 
--- tests of integers of two objects or numbers, and cases of an integer object
+-- tests of integers of two objects or numbers, tests of pointers, and cases of an integer object
 abbrev pub TestIsProved : Flow → Option Test → Type 0
 TestIsProved flow None = Unit {0}
-TestIsProved flow (Some test) = IsIntegerTest flow test
+TestIsProved flow (Some test) = IsIntegerTest flow test ⊎ IsPointerTest test ⊎ IsNullTest flow test
 
 abbrev pub CaseIsProved : Flow → Option ℕ → Type 0
 CaseIsProved flow None = Unit {0}
