@@ -1,0 +1,4 @@
+pub mod Blocks
+pub mod GoingOn
+pub mod AdmittedPairs
+pub mod Covering

@@ -1,0 +1,58 @@
+-- When a map from blocks to rows covers each run of a program.
+use Rattle.std.specs.Prelude.{◌≡◌, ℕ, ℤ, true, List, [], ◌∷◌, length, take, Option, Some, slice_get}
+use Rattle.std.specs.List.{Contains}
+use Rattle.cc_base.specs.InductiveMap.{row_at}
+use Rattle.cc_base.specs.Lattices.{LatticeOf}
+use Rattle.cc_base.specs.IntegerDomains.{IntegersOf}
+use Rattle.cc_base.specs.declared.diagnostics.Place.{Place}
+use Rattle.cc_base.specs.declared.diagnostics.Rule.{Rule}
+use Rattle.cc_base.specs.declared.limit_table.Limits.{Limits}
+use Rattle.c_layout.specs.CheckedUnits.{UnitView}
+use Rattle.flow_program.specs.WellFormed.{is_well_formed}
+use Rattle.flow_program.specs.declared.flow_edges.Edge.{Edge}
+use Rattle.flow_program.specs.declared.machine_instructions.Instruction.{Instruction}
+use Rattle.flow_program.specs.declared.programs.Flow.{Flow}
+use Rattle.value_domain.specs.declared.row_cells.Cell.{Cell}
+use Rattle.abstract_steps.specs.Edges.{edge}
+use Rattle.rule_checks.specs.AdmittedRules.{instructions_of, row_behind, map_pairs}
+use Rattle.lib_models_effects.specs.Worlds.{Violation}
+use Rattle.flow_program_views.specs.ProgramViews.{flow_view}
+use Rattle.flow_program_machine.specs.FlowStates.{Standing, running}
+use Rattle.flow_program_machine.specs.FlowSteps.{flow_steps}
+use Rattle.flow_program_machine.specs.FlowStarts.{flow_begin}
+use Rattle.store_domain_meaning.specs.Coverage.{EachRunIsCovered}
+use Rattle.abstract_steps_sound.specs.OperandTypes.{HasOperands}
+use Rattle.abstract_steps_sound.specs.SoundSteps.{StandsBehind}
+use Rattle.abstract_steps_covered.specs.SoundEnds.{StepsGoOnSoundly, EndsGoOnSoundly}
+
+module _ {I : Type 0} (l : LatticeOf I) (n : IntegersOf I) (flow : Flow) where
+  -- the row behind instructions in order
+  abbrev pub rows_behind : Option (List (Cell I)) → List Instruction → Option (List (Cell I))
+  rows_behind row [] = row
+  rows_behind row (i ∷ is) = rows_behind (row_behind l n flow i row) is
+
+  -- the row before an instruction of a block
+  abbrev pub row_before : List (Option (List (Cell I))) → ℕ → ℕ → Option (List (Cell I))
+  row_before rows block at = rows_behind (row_at rows block) (take at (instructions_of flow block))
+
+  -- the map admits the rule at the place
+  abbrev pub Admits : List (Option (List (Cell I))) → Place → Rule → Type 0
+  Admits rows place rule = Contains (map_pairs l n flow rows) (record { place = place; rule = rule })
+
+-- in each run operands are such as their instructions suppose
+abbrev pub HasTypedRuns : Flow → UnitView → Type 0
+HasTypedRuns flow u = (draws : List ℤ) (steps : ℕ) (s : Standing) (found : List Violation) (i : Instruction) → flow_steps (flow_view flow) steps (flow_begin u (flow_view flow) draws) ≡ running s found → slice_get (instructions_of flow s.block) s.at ≡ Some i → HasOperands i.operation s.temps
+
+module _ {I : Type 0} (l : LatticeOf I) (n : IntegersOf I) (stands : I → ℤ → Type 0) (flow : Flow) where
+  -- the row of the entry stands for the state in which a run begins
+  abbrev pub Begins : UnitView → List (Option (List (Cell I))) → Type 0
+  Begins u rows = (draws : List ℤ) (s : Standing) → flow_begin u (flow_view flow) draws ≡ running s [] → StandsBehind l n stands flow (row_at rows 0) s
+
+  -- where the row that comes along an edge stands for a state, so does the row of the block that the edge enters
+  abbrev pub Carries : List (Option (List (Cell I))) → Type 0
+  Carries rows = (number : ℕ) (e : Edge) (row : List (Cell I)) (s : Standing) → slice_get flow.edges.items number ≡ Some e → row_before l n flow rows e.from (length (instructions_of flow e.from)) ≡ Some row → StandsBehind l n stands flow (edge l n flow row number) s → StandsBehind l n stands flow (row_at rows e.to) s
+
+  -- where each instruction is sound, each run is covered by a map that begins with it and carries it on
+  abbrev pub IsCoveredByLaws : Type 0
+  IsCoveredByLaws = (limits : Limits) → is_well_formed limits flow ≡ true → StepsGoOnSoundly l n stands flow → EndsGoOnSoundly l n stands flow limits
+      → (u : UnitView) (rows : List (Option (List (Cell I)))) → Begins u rows → Carries rows → HasTypedRuns flow u → EachRunIsCovered l n stands flow (row_before l n flow rows) (Admits l n flow rows) u

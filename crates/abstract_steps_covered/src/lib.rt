@@ -1,0 +1,6 @@
+//! Each run of a program is covered by a closed map of rows, where its instructions are sound.
+#![tactic(auto)]
+
+mod theorems;
+
+pub use theorems::runs_are_covered;

@@ -1,0 +1,13 @@
+//! A map from blocks to rows covers each run of a well-formed program: the row before the next instruction stands for the state
+//! there, and what the run has violated is admitted. This is by induction over the steps of a run, from laws on single
+//! instructions, of which some are proved elsewhere and some are open.
+ghost use Rattle.abstract_steps_covered.specs.Covering.{IsCoveredByLaws};
+ghost use Rattle.flow_program.specs.declared.programs.Flow.{Flow};
+
+use cc_base::IntDomain;
+
+/// Where each instruction is sound, where the map begins with the states in which runs begin and is carried along edges, and where
+/// operands are of their instructions' types.
+pub fn runs_are_covered<I: IntDomain>()
+    ensures { (flow : Flow) → IsCoveredByLaws I.lattice I.numbers I.stands flow }
+{}

@@ -1,0 +1,5 @@
+pub mod Rewrites
+pub mod ObjectRows
+pub mod SetCells
+pub mod WholeObjects
+pub mod Forgetting

@@ -1,0 +1,13 @@
+//! All laws on single instructions that are proved, in one statement: a map from blocks to rows that begins with the states in which
+//! runs begin, and is carried along edges, covers each run of a well-formed program, where the analysis is sound on the
+//! instructions on which that is open, and on the tests of edges that are not among those that are proved.
+ghost use Rattle.cc_base.specs.IntegerLaws.{SoundLaws};
+ghost use Rattle.flow_program.specs.declared.programs.Flow.{Flow};
+ghost use Rattle.abstract_steps_sound_programs.specs.OpenSteps.{CoversButForOpenSteps};
+
+use cc_base::IntDomain;
+
+/// Open are stores of characters, copies of structs, calls of the library, and entering and spelling objects.
+pub fn runs_are_covered_but_for_open_steps<I: IntDomain>()
+    ensures { (flow : Flow) → SoundLaws I.lattice I.numbers I.stands → CoversButForOpenSteps I.lattice I.numbers I.stands flow }
+{}
