@@ -31,8 +31,9 @@ fn with_text(alloc: Global, unit: &str, cert: Vec<u8>) -> Result<Answer, Halt>
     ensures fault { IsErrOf result Halt.ReadFault → ⊥ }
     ensures called { IfOk result (λ a. AnswersText cert.items unit.now a.status a.text.items) }
 {
-    if cert.len() > 1_048_576 {
-        let answer = cert_too_long(alloc, unit, cert.len())?;
+    let count = cert.len();
+    if count > 1_048_576 {
+        let answer = cert_too_long(alloc, unit, count)?;
         Ok(answer)
     } else {
         Ok(Answer {
