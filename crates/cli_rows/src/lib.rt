@@ -4,6 +4,8 @@
 #[cfg(test)]
 mod call;
 #[cfg(test)]
+mod certificate_rows;
+#[cfg(test)]
 mod command_rows;
 #[cfg(test)]
 mod devices;

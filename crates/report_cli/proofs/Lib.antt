@@ -3,3 +3,4 @@ pub mod Choosing
 pub mod Called
 pub mod Staging
 pub mod Gating
+pub mod Certified

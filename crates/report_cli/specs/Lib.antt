@@ -1,8 +1,10 @@
 pub mod Stages
 pub mod Judging
 pub mod Baselines
+pub mod Certifying
 pub mod Verdicts
 pub mod Answering
 pub mod Outcomes
 pub mod Choices
 pub mod Gates
+pub mod CertAnswers

@@ -1,5 +1,5 @@
 -- What words and files call for, and what the program tells then.
-use Rattle.std.specs.Prelude.{◌≡◌, ◌≤◌, ◌⊎◌, ℕ, true, List, [], ◌∷◌, length, Option, Some, None, Result, Ok, Err, codes, IsUtf8}
+use Rattle.std.specs.Prelude.{◌≡◌, ◌<◌, ◌≤◌, ◌⊎◌, ℕ, true, List, [], ◌∷◌, length, Option, Some, None, Result, Ok, Err, codes, IsUtf8}
 use Rattle.toml.specs.Parse.{parse_document}
 use Rattle.cc_base.specs.Outside.{Files, Holds, HoldsTooLong, Lacks, Rose, RoseBeyond}
 use Rattle.cc_base.specs.DiagnosticOrder.{IsOrderedSet}
@@ -28,13 +28,15 @@ use Rattle.report_cli_texts.specs.Reports.{Bytes, file_name, report_of}
 use Rattle.report_cli.specs.Stages.{stage_of}
 use Rattle.report_cli.specs.Baselines.{HasBaseline, NoBaseline, IsFreshOf}
 use Rattle.report_cli.specs.Judging.{SettingView, judging, Judgement, IsJudged, RefusesUnit}
+use Rattle.report_cli.specs.Certifying.{cert_reason, IsProved, CertAnswer, shows, refuses, IsVerifiedUnit, HasFile}
+use Rattle.cert_check.specs.declared.verdicts.CertFault.{CertFault}
 use Rattle.report_cli.specs.declared.stages.Stage.{Stage}
 use Rattle.report_cli.specs.declared.stages.Stage.TheVariants as stage
 use Rattle.report_cli_texts.specs.JsonReports.{json_of}
 use Rattle.sarif_gate.specs.Reports.{sarif_of}
 use Rattle.report_cli_texts.specs.Summaries.{summary_of}
 use Rattle.report_cli_texts.specs.Refusals.{refusal_line, refusal_status}
-use Rattle.report_cli_texts.specs.FixedTexts.{help_text, version_text, words_refused_text, no_file_text, too_long_text, no_model_text, no_baseline_text}
+use Rattle.report_cli_texts.specs.FixedTexts.{help_text, version_text, words_refused_text, no_file_text, too_long_text, no_model_text, no_baseline_text, cert_too_long_text, cert_refused_text}
 
 -- one for each kind of answer that has a text
 pub data Verdict : Type 0 where
@@ -55,6 +57,12 @@ pub data Verdict : Type 0 where
   reported : (form : Format) (names : List Bytes) (unit : Bytes) (diags : List Diag) → Verdict
   -- the unit that was made is accepted
   summed : (unit : Bytes) (bases cells : ℕ) (diags : List Diag) → Verdict
+  -- the certificate of the unit
+  proved : (text : Bytes) → Verdict
+  -- the certificate of the unit is too long
+  proved_past : (unit : Bytes) (count : ℕ) → Verdict
+  -- a certificate is refused
+  cert_refused : (name : Bytes) (why : CertFault) → Verdict
 
 -- 1 where there is a diagnostic
 abbrev pub report_status : List Diag → ℕ
@@ -72,6 +80,9 @@ status_of (no_baseline name) = 3
 status_of (refused file why) = refusal_status why.refusal
 status_of (reported form names unit diags) = report_status diags
 status_of (summed unit bases cells diags) = report_status diags
+status_of (proved text) = 0
+status_of (proved_past unit count) = 8
+status_of (cert_refused name why) = 9
 
 abbrev pub report_in : Format → List Bytes → Bytes → List Diag → Bytes
 report_in format.Text names unit diags = report_of names unit diags
@@ -89,6 +100,9 @@ text_of (no_baseline name) = no_baseline_text name
 text_of (refused file why) = refusal_line file why.place why.refusal
 text_of (reported form names unit diags) = report_in form names unit diags
 text_of (summed unit bases cells diags) = summary_of unit bases cells diags
+text_of (proved text) = text
+text_of (proved_past unit count) = cert_too_long_text unit count
+text_of (cert_refused name why) = cert_refused_text name (cert_reason why)
 
 -- a status and a text are those of a verdict that is called for
 pub record Tells (P : Verdict → Type 0) (status : ℕ) (text : Bytes) : Type 0 where
@@ -270,6 +284,47 @@ AnswersFresh seen c base m _ = ⊥
 abbrev pub AnswersGate : Seen → CommandView → Bytes → Model → Verdict → Type 0
 AnswersGate seen c base m v = IsBehind (FromFiles seen.files c.dirs m c.unit) m seen (λ later. RefusesBase later base v) ⊎ AnswersFresh seen c base m v
 
+-- ---- certificates
+
+-- how `prove` and `verify` judge a unit under a model: no loop is unrolled
+abbrev pub cert_setting : CommandView → Model → SettingView
+cert_setting c m = judging m c.entry None
+
+-- the text is a certificate of the accepted unit, of so many bytes at most
+pub record IsProof (given : Gives) (s : SettingView) (text : Bytes) : Type 0 where
+  pub names : List Bytes
+  pub expanded : Unit7
+  pub is_expanded : IsExpanded given s.model names expanded
+  pub proved : IsProved expanded s text
+
+-- what `prove` tells of a unit under a model
+abbrev pub AnswersProve : Seen → CommandView → Model → Verdict → Type 0
+AnswersProve seen c m (absent name) = (name ≡ c.unit) × Lacks seen.files c.unit (Rose seen.faults seen.faults_now)
+AnswersProve seen c m (refused file why) = IsRefusal (FromFiles seen.files c.dirs m c.unit) seen c.dirs (cert_setting c m) c.unit file why
+AnswersProve seen c m (proved text) = IsProof (FromFiles seen.files c.dirs m c.unit) (cert_setting c m) text × (length text ≤ 1048576)
+AnswersProve seen c m (proved_past unit count) = (unit ≡ c.unit) × (text : Bytes) × IsProof (FromFiles seen.files c.dirs m c.unit) (cert_setting c m) text × (count ≡ length text) × (1048576 < count)
+AnswersProve seen c m _ = ⊥
+
+-- what the text of a file comes to for the accepted unit
+pub record IsCheckedBy (given : Gives) (files : Option Files) (cert : Bytes) (s : SettingView) (names : List Bytes) (verified : CertAnswer) : Type 0 where
+  pub expanded : Unit7
+  pub is_expanded : IsExpanded given s.model names expanded
+  pub bytes : Bytes
+  pub held : Holds files cert bytes
+  pub verifies : IsVerifiedUnit expanded s bytes verified
+
+-- what `verify` tells of a unit under a model, where it has its certificate
+abbrev pub AnswersChecked : Seen → CommandView → Bytes → Model → Verdict → Type 0
+AnswersChecked seen c cert m (absent name) = (name ≡ c.unit) × Lacks seen.files c.unit (Rose seen.faults seen.faults_now)
+AnswersChecked seen c cert m (refused file why) = IsRefusal (With (HasFile seen.files cert) (FromFiles seen.files c.dirs m c.unit)) seen c.dirs (cert_setting c m) c.unit file why
+AnswersChecked seen c cert m (reported form names unit diags) = (form ≡ format.Text) × (unit ≡ c.unit) × IsCheckedBy (FromFiles seen.files c.dirs m c.unit) seen.files cert (cert_setting c m) names (shows diags)
+AnswersChecked seen c cert m (cert_refused name why) = (name ≡ cert) × (names : List Bytes) × IsCheckedBy (FromFiles seen.files c.dirs m c.unit) seen.files cert (cert_setting c m) names (refuses why)
+AnswersChecked seen c cert m _ = ⊥
+
+-- what `verify` tells of a unit under a model
+abbrev pub AnswersVerify : Seen → CommandView → Bytes → Model → Verdict → Type 0
+AnswersVerify seen c cert m v = IsBehind (FromFiles seen.files c.dirs m c.unit) m seen (λ later. RefusesFile later cert v) ⊎ AnswersChecked seen c cert m v
+
 -- ---- the whole
 
 -- under the model that is found first, the unit is answered by what follows
@@ -287,3 +342,5 @@ IsVerdict seen asked.Refused v = v ≡ words_refused
 IsVerdict seen (asked.Check c) v = RefusesModel seen c.model v ⊎ Under seen c.model (λ later m. AnswersUnit later c m v)
 IsVerdict seen (asked.Load c) v = RefusesModel seen c.model v ⊎ Under seen c.model (λ later m. AnswersLoad later c m v)
 IsVerdict seen (asked.Gate c base) v = RefusesModel seen c.model v ⊎ Under seen c.model (λ later m. AnswersGate later c base m v)
+IsVerdict seen (asked.Prove c) v = RefusesModel seen c.model v ⊎ Under seen c.model (λ later m. AnswersProve later c m v)
+IsVerdict seen (asked.Verify c cert) v = RefusesModel seen c.model v ⊎ Under seen c.model (λ later m. AnswersVerify later c cert m v)

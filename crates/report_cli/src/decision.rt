@@ -9,6 +9,7 @@ ghost use Rattle.report_cli.specs.Verdicts.{load_setting, report_status, report_
 ghost use Rattle.report_cli.specs.Answering.{AnswersFault, AnswersStop, AnswersOwn, AnswersReport, AnswersSummary, AnswersJudged, AnswersMade};
 ghost use Rattle.cc_base.specs.declared.refusals.Stop.TheVariants as stops;
 
+use crate::certificate_decision::{answer_prove, answer_verify};
 use crate::gate_decision::answer_gate;
 use crate::model_choice::{ModelChoice, choose_model};
 use crate::stages::{Stage, stage_of};
@@ -311,5 +312,7 @@ pub(crate) fn decide<T: Tree>(alloc: Global, words: &[String], tree: &mut T) -> 
         Request::Check(command) => answer_check(alloc, &command, tree),
         Request::Load(command) => answer_load(alloc, &command, tree),
         Request::Gate(gate) => answer_gate(alloc, &gate, tree),
+        Request::Prove(command) => answer_prove(alloc, &command, tree),
+        Request::Verify(asked) => answer_verify(alloc, &asked, tree),
     }
 }

@@ -2,6 +2,7 @@
 #![tactic(auto)]
 
 mod baseline_files;
+mod certificate_decision;
 mod decision;
 mod further_files;
 mod gate_decision;
@@ -9,6 +10,7 @@ mod model_choice;
 mod program;
 mod stages;
 mod unit_answers;
+mod unit_certificates;
 
 pub use program::run;
 pub use report_cli_texts::{load_unit, report_json, report_text};

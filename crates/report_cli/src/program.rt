@@ -13,14 +13,15 @@ use std::alloc::Global;
 ///
 /// | status | when |
 /// |---|---|
-/// | 0, 1 | the unit is accepted; 1 where there is a diagnostic |
+/// | 0, 1 | the unit is accepted; 1 where a diagnostic is printed |
 /// | 2 | the unit is refused |
 /// | 3 | the words, the model file or the baseline are refused |
-/// | 4 | the unit's file, the model file or the baseline is not held |
+/// | 4 | the unit's file, the model file, the baseline or the certificate is not held |
 /// | 5 | a read failed; nothing is put |
 /// | 6 | the write failed; a prefix of the text went out |
 /// | 7 | want of memory; nothing is put |
 /// | 8 | a limit is passed |
+/// | 9 | the certificate is refused |
 pub fn run<T: Tree, S: Sink>(alloc: Global, words: &[String], tree: &mut T, out: &mut S) -> u8
     ensures answer { Answers (seen_of (T.files tree.old) (T.faults tree.old) (T.faults tree.new) (T.taken tree.old) (T.taken tree.new)) (asked (map string_bytes words.now)) (took (S.written out.old) (S.written out.new) (S.faults out.old) (S.faults out.new) (S.calls out.old) (S.calls out.new)) result }
     ensures files { T.files tree.new ≡ T.files tree.old }

@@ -86,7 +86,7 @@ fn judge_program(
     })
 }
 
-fn parsed(alloc: Global, unit: &Unit7, setting: Setting) -> Result<Tree7, Stop>
+pub(crate) fn parsed(alloc: Global, unit: &Unit7, setting: Setting) -> Result<Tree7, Stop>
     ensures parsed { IfOk result (IsParsed unit.now) }
     ensures stops { IfErr result (StopsUnit unit.now (setting_view setting.entry)) }
 {
@@ -96,7 +96,12 @@ fn parsed(alloc: Global, unit: &Unit7, setting: Setting) -> Result<Tree7, Stop>
     }
 }
 
-fn typed(alloc: Global, unit: &Unit7, tree: &Tree7, setting: Setting) -> Result<Checked, Stop>
+pub(crate) fn typed(
+    alloc: Global,
+    unit: &Unit7,
+    tree: &Tree7,
+    setting: Setting,
+) -> Result<Checked, Stop>
     requires model { is_model setting.model.now ≡ true }
     requires parsed { IsParsed unit.now tree.now }
     ensures typed { IfOk result (IsTyped (setting_view setting.entry) tree.now) }
@@ -108,7 +113,7 @@ fn typed(alloc: Global, unit: &Unit7, tree: &Tree7, setting: Setting) -> Result<
     }
 }
 
-fn lowered(
+pub(crate) fn lowered(
     alloc: Global,
     unit: &Unit7,
     tree: &Tree7,

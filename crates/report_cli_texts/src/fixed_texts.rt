@@ -1,6 +1,6 @@
 //! The texts of the command line itself.
 ghost use Rattle.std.specs.Prelude.{◌≡◌, IfOk};
-ghost use Rattle.report_cli_texts.specs.FixedTexts.{help_text, version_text, words_refused_text, no_file_text, too_long_text, no_model_text, no_baseline_text};
+ghost use Rattle.report_cli_texts.specs.FixedTexts.{help_text, version_text, words_refused_text, no_file_text, too_long_text, no_model_text, no_baseline_text, cert_too_long_text, cert_refused_text};
 
 use crate::answers::Answer;
 use std::alloc::{AllocError, Global};
@@ -11,11 +11,14 @@ const HELP: &str = "ccheck: a static analyser for C
 Usage: ccheck VERB UNIT [DIR]... [OPTIONS]
 
 Verbs:
-  check  analyse UNIT, with headers searched in each DIR, and print the places
-         where it may break a rule
-  gate   the same, without the diagnostics that the file of --base holds
-  load   make a unit from --seed and --count, analyse it under the name UNIT,
-         and print a summary
+  check   analyse UNIT, with headers searched in each DIR, and print the places
+          where it may break a rule
+  gate    the same, without the diagnostics that the file of --base holds
+  load    make a unit from --seed and --count, analyse it under the name UNIT,
+          and print a summary
+  prove   analyse UNIT, and print the map that is found as a certificate
+  verify  check the certificate of --cert for UNIT without the solver, and print
+          the places where UNIT may break a rule on runs by its map
 
 Options, each at most once; a verb takes those of others and leaves them unused:
   --model NAME_OR_FILE  lp64, ilp32, llp64, or a TOML file with a data model
@@ -25,6 +28,7 @@ Options, each at most once; a verb takes those of others and leaves them unused:
   --turns K             0 to 64: so many turns of each loop are analysed one by
                         one, for check [default: none is]
   --base FILE           a SARIF report, for gate, which needs it
+  --cert FILE           a certificate, for verify, which needs it
   --seed N              0 to 2147483647, for load [default: 1]
   --count N             1 to 300, for load [default: 10]
   -h, --help            this text, as the only word
@@ -56,7 +60,7 @@ Status:
   1  accepted, with diagnostics    6  a write failed
   2  the unit is refused           7  out of memory, nothing is written
   3  words or a file are refused   8  a limit is passed
-  4  no such file
+  4  no such file                  9  a certificate is refused
 ";
 
 fn fixed(alloc: Global, status: u8, text: &str) -> Result<Answer, AllocError>
@@ -125,4 +129,22 @@ pub fn no_baseline(alloc: Global, name: &str) -> Result<Answer, AllocError>
 {
     let line = format!(in alloc; "ccheck: {name}: BaseShape\n")?;
     fixed(alloc, 3, line.as_str())
+}
+
+/// A certificate of a unit that is too long to be printed, with how many bytes it has.
+pub fn cert_too_long(alloc: Global, unit: &str, count: usize) -> Result<Answer, AllocError>
+    ensures status { IfOk result (λ a. a.status ≡ 8) }
+    ensures text { IfOk result (λ a. a.text.items ≡ cert_too_long_text unit.now count) }
+{
+    let line = format!(in alloc; "{unit}:1:1: limit: CertTooLong {count}/1048576\n")?;
+    fixed(alloc, 8, line.as_str())
+}
+
+/// A certificate that is refused, with the reason.
+pub fn cert_refused(alloc: Global, name: &str, reason: &str) -> Result<Answer, AllocError>
+    ensures status { IfOk result (λ a. a.status ≡ 9) }
+    ensures text { IfOk result (λ a. a.text.items ≡ cert_refused_text name.now reason.now) }
+{
+    let line = format!(in alloc; "{name}: refused: {reason}\n")?;
+    fixed(alloc, 9, line.as_str())
 }

@@ -43,6 +43,8 @@ pub data Asked : Type 0 where
   Check : (command : CommandView) → Asked
   Load : (command : CommandView) → Asked
   Gate : (command : CommandView) → (base : Bytes) → Asked
+  Prove : (command : CommandView) → Asked
+  Verify : (command : CommandView) → (cert : Bytes) → Asked
   Refused : Asked
 
 abbrev pub asked_by : Request → Asked
@@ -51,6 +53,8 @@ asked_by request.Version = Version
 asked_by (request.Check c) = Check (command_view c)
 asked_by (request.Load c) = Load (command_view c)
 asked_by (request.Gate g) = Gate (command_view g.command) (string_bytes g.base)
+asked_by (request.Prove c) = Prove (command_view c)
+asked_by (request.Verify v) = Verify (command_view v.command) (string_bytes v.cert)
 asked_by request.Refused = Refused
 
 abbrev pub is_text : Bytes → Bytes → Bool
@@ -91,8 +95,17 @@ abbrev pub gate_in : Option Bytes → CommandView → Asked
 gate_in None c = Refused
 gate_in (Some base) c = Gate c base
 
+-- a verification needs the name of its certificate
+abbrev pub verify_in : Option Bytes → CommandView → Asked
+verify_in None c = Refused
+verify_in (Some cert) c = Verify c cert
+
+-- the verbs on certificates
+abbrev pub certificate_verb : Bytes → List Row → CommandView → Asked
+certificate_verb verb rows c = if is_text verb (codes "prove") then Prove c else (if is_text verb (codes "verify") then verify_in (first_of (codes "cert") rows) c else Refused)
+
 abbrev pub verb_of : Bytes → List Row → CommandView → Asked
-verb_of verb rows c = if is_text verb (codes "check") then Check c else (if is_text verb (codes "load") then Load c else (if is_text verb (codes "gate") then gate_in (first_of (codes "base") rows) c else Refused))
+verb_of verb rows c = if is_text verb (codes "check") then Check c else (if is_text verb (codes "load") then Load c else (if is_text verb (codes "gate") then gate_in (first_of (codes "base") rows) c else certificate_verb verb rows c))
 
 -- the turns that are asked for, where an option asks for some; none where they are out of range
 abbrev pub turns_named : Option Bytes → Option (Option ℕ)

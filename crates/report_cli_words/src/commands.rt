@@ -40,6 +40,13 @@ pub struct Gate {
     pub base: String,
 }
 
+/// What a verification is asked for: a unit, and the name of the file with its certificate.
+#[derive(Drop)]
+pub struct Verification {
+    pub command: Command,
+    pub cert: String,
+}
+
 /// What is asked for.
 #[derive(Drop)]
 pub enum Request {
@@ -53,6 +60,10 @@ pub enum Request {
     Load(Command),
     /// `gate`: a unit is analysed, and what a baseline holds is left out of its report.
     Gate(Gate),
+    /// `prove`: a unit is analysed, and the map that was found is printed as a certificate.
+    Prove(Command),
+    /// `verify`: a certificate of a unit is checked, and the unit is judged by its map.
+    Verify(Verification),
     /// The words are refused.
     Refused,
 }

@@ -2,11 +2,11 @@
 ghost use Rattle.std.specs.Prelude.{◌≡◌, IfOk, Some, map, string_bytes, codes};
 ghost use Rattle.clap.specs.Matches.{found_of};
 ghost use Rattle.clap.specs.Walk.{rows_of, first_of};
-ghost use Rattle.report_cli_words.specs.Requests.{is_only, format_named, turns_named, text_in, texts_in, command_in, gate_in, command_view, values_in, asked_in, asked_by, is_memory_kind, asked, asked_of_command};
+ghost use Rattle.report_cli_words.specs.Requests.{is_only, format_named, turns_named, text_in, texts_in, command_in, gate_in, verify_in, command_view, values_in, certificate_verb, asked_in, asked_by, is_memory_kind, asked, asked_of_command};
 ghost use Rattle.clap.specs.Values.{kind_of};
 
 use crate::clap_command::command;
-use crate::commands::{Command, Format, Gate, Request};
+use crate::commands::{Command, Format, Gate, Request, Verification};
 use crate::numbers::number_within;
 use cc_base::Memory;
 use clap::error::ErrorKind;
@@ -153,6 +153,41 @@ fn gate_of(alloc: Global, matches: &ArgMatches, values: OptionValues) -> Result<
     }
 }
 
+/// What `verify` asks for; refused where no option names a certificate.
+fn verify_of(
+    alloc: Global,
+    matches: &ArgMatches,
+    values: OptionValues,
+) -> Result<Request, AllocError>
+    ensures { IfOk result (λ r. asked_by r ≡ verify_in (first_of (codes "cert") (rows_of (found_of matches.now))) (command_in (rows_of (found_of matches.now)) values)) }
+{
+    match matches.get_str("cert") {
+        Some(name) => Ok(Request::Verify(Verification {
+            command: command_of(alloc, matches, values)?,
+            cert: String::from_str(alloc, name)?,
+        })),
+        None => Ok(Request::Refused),
+    }
+}
+
+/// What the verbs on certificates ask for.
+fn certificate_request(
+    alloc: Global,
+    matches: &ArgMatches,
+    values: OptionValues,
+    verb: &str,
+) -> Result<Request, AllocError>
+    ensures { IfOk result (λ r. asked_by r ≡ certificate_verb verb.now (rows_of (found_of matches.now)) (command_in (rows_of (found_of matches.now)) values)) }
+{
+    if verb == "prove" {
+        Ok(Request::Prove(command_of(alloc, matches, values)?))
+    } else if verb == "verify" {
+        verify_of(alloc, matches, values)
+    } else {
+        Ok(Request::Refused)
+    }
+}
+
 fn request_of(alloc: Global, matches: &ArgMatches) -> Result<Request, AllocError>
     ensures { IfOk result (λ r. asked_by r ≡ asked_in (rows_of (found_of matches.now))) }
 {
@@ -167,7 +202,7 @@ fn request_of(alloc: Global, matches: &ArgMatches) -> Result<Request, AllocError
     } else if verb == "gate" {
         gate_of(alloc, matches, values)
     } else {
-        Ok(Request::Refused)
+        certificate_request(alloc, matches, values, verb)
     }
 }
 
