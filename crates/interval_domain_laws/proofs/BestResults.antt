@@ -20,13 +20,13 @@ use Rattle.interval_domain.specs.Arithmetic.{into, quotients_by, halved, halved_
 use Rattle.interval_domain.specs.Blocks.{least_of_four_is, greatest_of_four_is}
 use Rattle.interval_domain.specs.Best.{IsLeastWith, GivesOf, true_le, into_best}
 use Rattle.interval_domain_laws.specs.BestResults.{IsBest}
-use Rattle.interval_domain_laws.proofs.Kit.{some_same, of_type}
-use Rattle.interval_domain_laws.proofs.Corners.{low, high, low_high}
-use Rattle.interval_domain_laws.proofs.Bits.{wrap_own}
-use Rattle.interval_domain_laws.proofs.Products.{products_stands}
-use Rattle.interval_domain_laws.proofs.Quotients.{below_zero, above_zero, quotients_stands}
-use Rattle.interval_domain_laws.proofs.Shifts.{shifted_right_stands}
-use Rattle.interval_domain_laws.proofs.Operations.{mirrored_stands}
+use Rattle.interval_domain_laws.specs.Kit.{some_same, of_type}
+use Rattle.interval_domain_laws.specs.Corners.{low, high, low_high}
+use Rattle.interval_domain_laws.specs.Bits.{wrap_own}
+use Rattle.interval_domain_laws.specs.Products.{products_stands}
+use Rattle.interval_domain_laws.specs.Quotients.{below_zero, above_zero, quotients_stands}
+use Rattle.interval_domain_laws.specs.Shifts.{shifted_right_stands}
+use Rattle.interval_domain_laws.specs.Operations.{mirrored_stands}
 use Rattle.interval_domain_laws.proofs.Single.{at_lo, at_hi, stands_among, between_has, number_of_type, clamped_least, met_below, corners_least}
 
 -- ---- what the machine gives

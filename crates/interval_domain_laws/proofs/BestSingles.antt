@@ -20,9 +20,9 @@ use Rattle.interval_domain.specs.IntervalOrder.{interval_leq, interval_join, leq
 use Rattle.interval_domain.specs.Arithmetic.{into, clamped, met, products, quotients, quotients_by, remainder, remainders, remainders_by, if_of_type, with_bits, and_bound, or_bound, is_of_type, is_single, are_single, scaled, scaled_by, shifted_left, counts, arith_spans}
 use Rattle.interval_domain.specs.Best.{GivesOfTwo, true_le, into_best, sums_best, differences_best}
 use Rattle.interval_domain_laws.specs.BestResults.{IsBest, are_operands}
-use Rattle.interval_domain_laws.proofs.Kit.{single_below, clamped_single_below, met_monotone}
-use Rattle.interval_domain_laws.proofs.Quotients.{below_zero, above_zero}
-use Rattle.interval_domain_laws.proofs.Operations.{spans_stand}
+use Rattle.interval_domain_laws.specs.Kit.{single_below, clamped_single_below, met_monotone}
+use Rattle.interval_domain_laws.specs.Quotients.{below_zero, above_zero}
+use Rattle.interval_domain_laws.specs.Operations.{spans_stand}
 use Rattle.interval_domain_laws.proofs.Single.{only, is_only, only_single, has_only, at_lo, number_of_type}
 use Rattle.interval_domain_laws.proofs.BestResults.{joined_least, quotient_comes, right_shifts_best}
 

@@ -17,8 +17,8 @@ use Rattle.interval_domain.specs.IntervalOrder.{interval_leq}
 use Rattle.interval_domain.specs.Arithmetic.{clamped, corners, met, is_of_type, is_single}
 use Rattle.interval_domain.specs.Blocks.{least_of_four_is, greatest_of_four_is}
 use Rattle.interval_domain.specs.Best.{le_true, below_if}
-use Rattle.interval_domain_laws.proofs.Kit.{in_type_between}
-use Rattle.interval_domain_laws.proofs.Corners.{low, high}
+use Rattle.interval_domain_laws.specs.Kit.{in_type_between}
+use Rattle.interval_domain_laws.specs.Corners.{low, high}
 
 abbrev pub only : ℤ → Span
 only a = record { lo = a; hi = a; ordered = ≤ℤ_refl a }

@@ -1,2 +1,11 @@
 pub mod BestResults
 pub mod NotBest
+pub mod Kit
+pub mod Corners
+pub mod Products
+pub mod Quotients
+pub mod Remainders
+pub mod Bits
+pub mod Shifts
+pub mod Relations
+pub mod Operations

@@ -20,7 +20,7 @@ use Rattle.interval_domain.specs.IntervalNumbers.{wrap_in, size_of_range}
 use Rattle.interval_domain.specs.Arithmetic.{conjunctions, disjunctions, exclusives, if_of_type, is_of_type, are_single, bits_in, with_bits, and_bound, or_bound, ones_above, clamped, whole}
 use Rattle.interval_domain.specs.Best.{le_true, true_le, stands_between}
 use Rattle.interval_domain.proofs.Ranges.{range_facts}
-use Rattle.interval_domain_laws.proofs.Kit.{Within, clamped_monotone, clamped_whole, single_below, same_single}
+use Rattle.interval_domain_laws.specs.Kit.{Within, clamped_monotone, clamped_whole, single_below, same_single}
 
 -- ---- the bits of a number that is not below zero
 

@@ -11,7 +11,7 @@ use Rattle.interval_domain.specs.IntervalOrder.{interval_leq}
 use Rattle.interval_domain.specs.Arithmetic.{least_of_four, greatest_of_four, corners}
 use Rattle.interval_domain.specs.Blocks.{Bounding, four_lie, least_of_four_is, greatest_of_four_is}
 use Rattle.interval_domain.specs.Best.{stands_between}
-use Rattle.interval_domain_laws.proofs.Kit.{Within, within_stands, between_monotone}
+use Rattle.interval_domain_laws.specs.Kit.{Within, within_stands, between_monotone}
 
 -- z lies between x and y, whichever is the lesser
 pub record LiesAmong (x y z : ℤ) : Type 0 where

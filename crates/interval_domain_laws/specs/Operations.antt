@@ -19,13 +19,13 @@ use Rattle.interval_domain.specs.IntervalLattice.{interval_lattice}
 use Rattle.interval_domain.specs.IntervalNumbers.{interval_numbers}
 use Rattle.interval_domain.specs.Arithmetic.{arith_spans, interval_arith, unary_span, interval_unary, interval_convert}
 use Rattle.interval_domain.specs.Best.{conversions_best}
-use Rattle.interval_domain_laws.proofs.Kit.{some_same, Within, within, within_stands, clamped_monotone, clamped_stands, into_monotone, into_stands, least_monotone, of_type, in_type_between}
-use Rattle.interval_domain_laws.proofs.Products.{sums_monotone, sums_stands, differences_monotone, differences_stands, products_monotone, products_stands}
-use Rattle.interval_domain_laws.proofs.Quotients.{quotients_monotone, quotients_stands}
-use Rattle.interval_domain_laws.proofs.Remainders.{remainders_monotone, remainders_stands}
-use Rattle.interval_domain_laws.proofs.Bits.{conjunctions_monotone, conjunctions_stands, disjunctions_monotone, disjunctions_stands, exclusives_monotone, exclusives_stands}
-use Rattle.interval_domain_laws.proofs.Shifts.{shifted_left_monotone, shifted_left_stands, shifted_right_monotone, shifted_right_stands}
-use Rattle.interval_domain_laws.proofs.Relations.{compare_monotone, compare_holds, compare_fails, compare_never, refine_monotone, refine_stands}
+use Rattle.interval_domain_laws.specs.Kit.{some_same, Within, within, within_stands, clamped_monotone, clamped_stands, into_monotone, into_stands, least_monotone, of_type, in_type_between}
+use Rattle.interval_domain_laws.specs.Products.{sums_monotone, sums_stands, differences_monotone, differences_stands, products_monotone, products_stands}
+use Rattle.interval_domain_laws.specs.Quotients.{quotients_monotone, quotients_stands}
+use Rattle.interval_domain_laws.specs.Remainders.{remainders_monotone, remainders_stands}
+use Rattle.interval_domain_laws.specs.Bits.{conjunctions_monotone, conjunctions_stands, disjunctions_monotone, disjunctions_stands, exclusives_monotone, exclusives_stands}
+use Rattle.interval_domain_laws.specs.Shifts.{shifted_left_monotone, shifted_left_stands, shifted_right_monotone, shifted_right_stands}
+use Rattle.interval_domain_laws.specs.Relations.{compare_monotone, compare_holds, compare_fails, compare_never, refine_monotone, refine_stands}
 
 -- ---- larger operands
 

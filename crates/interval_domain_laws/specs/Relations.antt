@@ -18,7 +18,7 @@ use Rattle.interval_domain.specs.Spans.{Stands}
 use Rattle.interval_domain.specs.IntervalOrder.{interval_leq}
 use Rattle.interval_domain.specs.Relations as relation
 use Rattle.interval_domain.specs.BestRelations.{SomePair, pair_from, pair_to, refined_best}
-use Rattle.interval_domain_laws.proofs.Kit.{Within, within, within_stands, least_monotone}
+use Rattle.interval_domain_laws.specs.Kit.{Within, within, within_stands, least_monotone}
 
 -- ---- truth values
 

@@ -12,8 +12,8 @@ use Rattle.interval_domain.specs.declared.intervals.Interval.TheVariants.{Of}
 use Rattle.interval_domain.specs.Spans.{Stands}
 use Rattle.interval_domain.specs.IntervalOrder.{interval_leq}
 use Rattle.interval_domain.specs.Arithmetic.{sums, differences, products}
-use Rattle.interval_domain_laws.proofs.Kit.{Within, into_monotone, into_stands}
-use Rattle.interval_domain_laws.proofs.Corners.{LiesAmong, among_rising, among_falling, HasExtremesAtEnds, corners_bound, low_high, low_falls, high_rises}
+use Rattle.interval_domain_laws.specs.Kit.{Within, into_monotone, into_stands}
+use Rattle.interval_domain_laws.specs.Corners.{LiesAmong, among_rising, among_falling, HasExtremesAtEnds, corners_bound, low_high, low_falls, high_rises}
 
 -- ---- + and -
 

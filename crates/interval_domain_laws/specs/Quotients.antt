@@ -18,8 +18,8 @@ use Rattle.interval_domain.specs.IntervalOrder.{interval_leq, interval_join, leq
 use Rattle.interval_domain.specs.Arithmetic.{quotients, quotients_by, IsApart}
 use Rattle.interval_domain.specs.Best.{stands_between}
 use Rattle.interval_domain.proofs.Made.{is_below, is_above}
-use Rattle.interval_domain_laws.proofs.Kit.{rises, falls, some_same, Within, within, between_monotone, met_monotone, met_stands, join_monotone}
-use Rattle.interval_domain_laws.proofs.Corners.{LiesAmong, among_rising, among_falling, HasExtremesAtEnds, corners_monotone, corners_stands}
+use Rattle.interval_domain_laws.specs.Kit.{rises, falls, some_same, Within, within, between_monotone, met_monotone, met_stands, join_monotone}
+use Rattle.interval_domain_laws.specs.Corners.{LiesAmong, among_rising, among_falling, HasExtremesAtEnds, corners_monotone, corners_stands}
 
 -- ---- dividends
 

@@ -20,7 +20,7 @@ use Rattle.interval_domain.specs.Arithmetic.{remainders, remainders_by, remainde
 use Rattle.interval_domain.specs.Best.{stands_between}
 use Rattle.interval_domain.proofs.Made.{are_apart}
 use Rattle.interval_domain.proofs.Ranges.{range_facts}
-use Rattle.interval_domain_laws.proofs.Kit.{lt_true, lt_false, some_same, Within, within, between_monotone, clamped_monotone, clamped_stands, clamped_single_below, same_single, of_type, in_type_between}
+use Rattle.interval_domain_laws.specs.Kit.{lt_true, lt_false, some_same, Within, within, between_monotone, clamped_monotone, clamped_stands, clamped_single_below, same_single, of_type, in_type_between}
 
 eq_true : (a b : ℤ) → int_eq a b ≡ true → a ≡ b
 eq_true a b h = (Decides-int_eq a b).0 h

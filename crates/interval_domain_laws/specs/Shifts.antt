@@ -18,8 +18,8 @@ use Rattle.interval_domain.specs.IntervalOrder.{interval_leq}
 use Rattle.interval_domain.specs.Arithmetic.{shifted_left, shifted_right, scaled, scaled_by, halved, halved_by, counts}
 use Rattle.interval_domain.specs.Best.{le_true, stands_between}
 use Rattle.interval_domain.proofs.Ranges.{range_facts}
-use Rattle.interval_domain_laws.proofs.Kit.{lt_true, lt_false, rises, falls, some_same, Within, within, between_monotone, into_monotone, into_stands, met_monotone, met_stands, of_type, in_type_between}
-use Rattle.interval_domain_laws.proofs.Corners.{LiesAmong, among_rising, among_falling, HasExtremesAtEnds, corners_monotone, corners_stands}
+use Rattle.interval_domain_laws.specs.Kit.{lt_true, lt_false, rises, falls, some_same, Within, within, between_monotone, into_monotone, into_stands, met_monotone, met_stands, of_type, in_type_between}
+use Rattle.interval_domain_laws.specs.Corners.{LiesAmong, among_rising, among_falling, HasExtremesAtEnds, corners_monotone, corners_stands}
 
 -- no number is below zero
 abbrev IsNatural : Interval → Type 0
