@@ -1,12 +1,12 @@
 -- External declarations (6.9), and the typedef names that they put in force.
-use Rattle.std.specs.Prelude.{◌≡◌, ◌+◌, ◌≤◌, ℕ, Bool, true, false, max, List, [], ◌∷◌, ◌++◌, take, drop, Option, Some, None, Ok}
+use Rattle.std.specs.Prelude.{◌≡◌, ◌+◌, ◌≤◌, ℕ, Bool, true, false, max, List, [], ◌∷◌, take, drop, Option, Some, None, Ok}
 use Rattle.cc_base.specs.declared.lexemes.Token.{Token}
 use Rattle.c_layout.specs.declared.data_model.Model.{Model}
 use Rattle.c_layout.specs.DeclarationTrees.{NameView, InitDeclaratorView, Prototype, ExternalTree, Declared, Defined, spec_trees, statement_trees}
 use Rattle.c_parser_tokens.specs.Classes.{classified}
 use Rattle.c_parser_tokens.specs.declared.terminals.Terminal.{Terminal}
 use Rattle.c_parser_tokens.specs.declared.terminals.Punctuator.TheVariants as p
-use Rattle.c_parser_expressions.specs.Fronts.{first_place, IsSign}
+use Rattle.c_parser_expressions.specs.Fronts.{first_place, IsSign, with_text}
 use Rattle.c_parser_declarations.specs.Declarations.{Initializes, IsFunction, name_of, init_height, function_height}
 use Rattle.c_parser_declarations.specs.Lists.{highest}
 use Rattle.c_parser_declarations.specs.Specifiers.{IsSpec, spec_height}
@@ -18,7 +18,7 @@ use Rattle.c_parser.specs.Statements.{IsBlock, block_height}
 
 abbrev pub with_name : List (List ℕ) → Option NameView → List (List ℕ)
 with_name known None = known
-with_name known (Some name) = known ++ (name.text ∷ [])
+with_name known (Some name) = with_text known name.text
 
 -- those behind a declarator; it `gives` its name where `typedef` stands among the specifiers
 abbrev pub with_declared : Bool → List (List ℕ) → InitDeclaratorView → List (List ℕ)

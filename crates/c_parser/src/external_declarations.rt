@@ -9,9 +9,9 @@ ghost use Rattle.c_parser.specs.Findings.{FoundLast, FoundBehind, FoundNamed, Fo
 use crate::statements::block;
 use c_layout::{External, InitDeclarator, SpecWord};
 use c_parser_declarations::{file_declarator, initialized, is_typedef, named_by, specifiers};
-use c_parser_expressions::{Parsed, Reader, Scope, Trouble, inner, made};
+use c_parser_expressions::{Parsed, Reader, Scope, Trouble, TypedefNames, inner, made};
 use c_parser_tokens::Punctuator;
-use cc_base::{Place, Text};
+use cc_base::Place;
 use std::alloc::{AllocError, Global};
 
 /// The first token and the specifiers of an external declaration.
@@ -25,17 +25,17 @@ struct Head {
 /// Puts the declarator's name in force, where it `gives` it as a typedef name.
 fn put_in_force(
     alloc: Global,
-    typedefs: &mut Vec<Text>,
+    typedefs: &mut TypedefNames,
     declared: &InitDeclarator,
     gives: bool,
 ) -> Result<(), AllocError>
-    ensures { IfOk result (λ _. typedefs.new.items ≡ with_declared gives typedefs.old.items (init_declarator_view declared.now)) }
+    ensures { IfOk result (λ _. typedefs.new ≡ with_declared gives typedefs.old (init_declarator_view declared.now)) }
 {
     if !gives {
         return Ok(());
     }
     match named_by(declared) {
-        Some(name) => Ok(typedefs.push(name.text.copy(alloc)?)?),
+        Some(name) => typedefs.add(alloc, name.text.as_bytes()),
         None => Ok(()),
     }
 }
@@ -43,17 +43,17 @@ fn put_in_force(
 /// A declarator without initializer. Behind it its name is in force, where it is a typedef name.
 fn declared_name(
     alloc: Global,
-    typedefs: &mut Vec<Text>,
+    typedefs: &mut TypedefNames,
     reader: &mut Reader<'_>,
     gives: bool,
     budget: u32,
 ) -> Result<Parsed<InitDeclarator>, Trouble>
-    ensures found { IfOk result (λ n. FoundBare typedefs.old.items budget (init_declarator_view n.tree) n.height reader.old reader.new) }
-    ensures names { IfOk result (λ n. typedefs.new.items ≡ with_declared gives typedefs.old.items (init_declarator_view n.tree)) }
+    ensures found { IfOk result (λ n. FoundBare typedefs.old budget (init_declarator_view n.tree) n.height reader.old reader.new) }
+    ensures names { IfOk result (λ n. typedefs.new ≡ with_declared gives typedefs.old (init_declarator_view n.tree)) }
 {
     let scope = Scope {
         alloc,
-        typedefs: typedefs.as_slice(),
+        typedefs,
     };
     let found = file_declarator(scope, reader, budget)?;
     put_in_force(alloc, typedefs, &found.tree, gives)?;
@@ -63,7 +63,7 @@ fn declared_name(
 /// A declarator with the initializer that stands next, if one does.
 fn completed(
     alloc: Global,
-    typedefs: &[Text],
+    typedefs: &TypedefNames,
     reader: &mut Reader<'_>,
     declared: Parsed<InitDeclarator>,
     budget: u32,
@@ -78,13 +78,13 @@ fn completed(
 /// `found`, and the greatest height is the answer.
 fn further_declarators(
     alloc: Global,
-    typedefs: &mut Vec<Text>,
+    typedefs: &mut TypedefNames,
     reader: &mut Reader<'_>,
     gives: bool,
     found: &mut Vec<InitDeclarator>,
     budget: u32,
 ) -> Result<u32, Trouble>
-    ensures { IfOk result (λ h. FoundLast gives typedefs.old.items typedefs.new.items budget (map init_declarator_view found.old.items) (map init_declarator_view found.new.items) h reader.old reader.new) }
+    ensures { IfOk result (λ h. FoundLast gives typedefs.old typedefs.new budget (map init_declarator_view found.old.items) (map init_declarator_view found.new.items) h reader.old reader.new) }
 {
     let mut height = 0u32;
     for _turn in 0..reader.left() {
@@ -92,7 +92,7 @@ fn further_declarators(
             break;
         }
         let name = declared_name(alloc, typedefs, reader, gives, budget)?;
-        let next = completed(alloc, typedefs.as_slice(), reader, name, budget)?;
+        let next = completed(alloc, typedefs, reader, name, budget)?;
         height = height.max(next.height);
         found.push(next.tree)?;
     }
@@ -103,17 +103,17 @@ fn further_declarators(
 /// A declaration, behind its first declarator without initializer.
 fn declaration(
     alloc: Global,
-    typedefs: &mut Vec<Text>,
+    typedefs: &mut TypedefNames,
     reader: &mut Reader<'_>,
     head: Head,
     name: Parsed<InitDeclarator>,
     budget: u32,
 ) -> Result<Parsed<External>, Trouble>
-    ensures { IfOk result (λ n. FoundBehind typedefs.old.items typedefs.new.items budget head.place (map spec_tree head.words.items) head.height (init_declarator_view name.tree) name.height (external_tree n.tree) n.height reader.old reader.new) }
+    ensures { IfOk result (λ n. FoundBehind typedefs.old typedefs.new budget head.place (map spec_tree head.words.items) head.height (init_declarator_view name.tree) name.height (external_tree n.tree) n.height reader.old reader.new) }
 {
     let parts = inner(budget)?;
     let gives = is_typedef(head.words.as_slice());
-    let first = completed(alloc, typedefs.as_slice(), reader, name, parts)?;
+    let first = completed(alloc, typedefs, reader, name, parts)?;
     let mut found = Vec::new(alloc);
     found.push(first.tree)?;
     let further = further_declarators(alloc, typedefs, reader, gives, &mut found, parts)?;
@@ -127,7 +127,7 @@ fn declaration(
 /// The definition of a function, behind its declarator.
 fn definition(
     alloc: Global,
-    typedefs: &[Text],
+    typedefs: &TypedefNames,
     reader: &mut Reader<'_>,
     head: Head,
     name: Parsed<InitDeclarator>,
@@ -151,7 +151,7 @@ fn definition(
 /// The first token and the specifiers.
 fn read_head(
     alloc: Global,
-    typedefs: &[Text],
+    typedefs: &TypedefNames,
     reader: &mut Reader<'_>,
     budget: u32,
 ) -> Result<Head, Trouble>
@@ -181,17 +181,17 @@ fn nameless(alloc: Global, head: Head, budget: u32) -> Result<Parsed<External>, 
 /// An external declaration with declarators, behind its specifiers.
 fn with_declarators(
     alloc: Global,
-    typedefs: &mut Vec<Text>,
+    typedefs: &mut TypedefNames,
     reader: &mut Reader<'_>,
     head: Head,
     budget: u32,
 ) -> Result<Parsed<External>, Trouble>
-    ensures { IfOk result (λ n. FoundNamed typedefs.old.items typedefs.new.items budget head.place (map spec_tree head.words.items) head.height (external_tree n.tree) n.height reader.old reader.new) }
+    ensures { IfOk result (λ n. FoundNamed typedefs.old typedefs.new budget head.place (map spec_tree head.words.items) head.height (external_tree n.tree) n.height reader.old reader.new) }
 {
     let gives = is_typedef(head.words.as_slice());
     let name = declared_name(alloc, typedefs, reader, gives, inner(budget)?)?;
     if reader.is_at(Punctuator::LeftBrace) {
-        let found = definition(alloc, typedefs.as_slice(), reader, head, name, budget)?;
+        let found = definition(alloc, typedefs, reader, head, name, budget)?;
         return Ok(found);
     }
     let found = declaration(alloc, typedefs, reader, head, name, budget)?;
@@ -205,13 +205,13 @@ fn with_declarators(
 /// `Syntax` where none of a height of at most `budget` stands next, or want of memory.
 pub fn external(
     alloc: Global,
-    typedefs: &mut Vec<Text>,
+    typedefs: &mut TypedefNames,
     reader: &mut Reader<'_>,
     budget: u32,
 ) -> Result<Parsed<External>, Trouble>
-    ensures { IfOk result (λ n. FoundExternal typedefs.old.items typedefs.new.items budget (external_tree n.tree) n.height reader.old reader.new) }
+    ensures { IfOk result (λ n. FoundExternal typedefs.old typedefs.new budget (external_tree n.tree) n.height reader.old reader.new) }
 {
-    let head = read_head(alloc, typedefs.as_slice(), reader, inner(budget)?)?;
+    let head = read_head(alloc, typedefs, reader, inner(budget)?)?;
     if reader.accept(Punctuator::Semicolon) {
         let found = nameless(alloc, head, budget)?;
         return Ok(found);

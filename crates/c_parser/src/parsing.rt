@@ -9,19 +9,19 @@ ghost use Rattle.c_parser_tokens.specs.Classes.{classified};
 use crate::external_declarations::external;
 use crate::pieces::piece_length;
 use c_layout::{External, Tree7, Unit7};
-use c_parser_expressions::{GREATEST_HEIGHT, Reader, Trouble};
+use c_parser_expressions::{GREATEST_HEIGHT, Reader, Trouble, TypedefNames};
 use c_parser_tokens::{Terminal, classify};
-use cc_base::{Fault, Place, Refusal, Stop, Text};
+use cc_base::{Fault, Place, Refusal, Stop};
 use std::alloc::Global;
 
 /// The external declaration that a piece is.
 fn piece_tree(
     alloc: Global,
-    typedefs: &mut Vec<Text>,
+    typedefs: &mut TypedefNames,
     piece: &[Terminal],
 ) -> Result<External, Trouble>
-    ensures piece { IfOk result (λ e. IsPiece typedefs.old.items (external_tree e) piece.now) }
-    ensures names { IfOk result (λ e. typedefs.new.items ≡ in_force typedefs.old.items (external_tree e)) }
+    ensures piece { IfOk result (λ e. IsPiece typedefs.old (external_tree e) piece.now) }
+    ensures names { IfOk result (λ e. typedefs.new ≡ in_force typedefs.old (external_tree e)) }
 {
     let mut reader = Reader::new(piece);
     let found = external(alloc, typedefs, &mut reader, GREATEST_HEIGHT)?;
@@ -48,12 +48,12 @@ fn stop_of(trouble: Trouble, place: Place) -> Stop
 /// The external declaration that the piece at a place is.
 fn external_at(
     alloc: Global,
-    typedefs: &mut Vec<Text>,
+    typedefs: &mut TypedefNames,
     piece: &[Terminal],
     place: Place,
 ) -> Result<External, Stop>
-    ensures piece { IfOk result (λ e. IsPiece typedefs.old.items (external_tree e) piece.now) }
-    ensures names { IfOk result (λ e. typedefs.new.items ≡ in_force typedefs.old.items (external_tree e)) }
+    ensures piece { IfOk result (λ e. IsPiece typedefs.old (external_tree e) piece.now) }
+    ensures names { IfOk result (λ e. typedefs.new ≡ in_force typedefs.old (external_tree e)) }
     ensures place { IfErr result (StopsAt place) }
 {
     match piece_tree(alloc, typedefs, piece) {
@@ -68,7 +68,7 @@ fn externals(alloc: Global, terminals: &[Terminal]) -> Result<Vec<External>, Sto
     ensures place { IfErr result (StopsAtPiece terminals.now) }
 {
     let mut found = Vec::new(alloc);
-    let mut typedefs = Vec::new(alloc);
+    let mut typedefs = TypedefNames::new(alloc);
     let mut rest = terminals;
     while let [first, ..] = rest {
         let (piece, behind) = rest.split_at(piece_length(rest));

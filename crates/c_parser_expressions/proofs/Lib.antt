@@ -5,3 +5,4 @@ pub mod Listing
 pub mod Productions
 mod Rows
 pub mod Suffixes
+pub mod NameTexts

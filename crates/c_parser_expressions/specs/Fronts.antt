@@ -2,6 +2,7 @@
 use Rattle.std.specs.Prelude.{◌≡◌, ℕ, Bool, true, false, ◌&&◌, not, List, [], ◌∷◌, nat_eq}
 use Rattle.std.specs.List.{list_any}
 use Rattle.std.specs.Cmp.Lexicographic.{pointwise}
+use Rattle.indexmap.specs.IndexSet.{insert_key}
 use Rattle.cc_base.specs.declared.diagnostics.Place.{Place}
 use Rattle.c_layout.specs.declared.syntax_tree.expressions.Constant.{Constant}
 use Rattle.c_parser_tokens.specs.declared.terminals.Terminal.{Terminal}
@@ -43,7 +44,11 @@ pub record IsWord (word : Keyword) (ts rest : List Terminal) : Type 0 where
 
 -- whether a name is among the typedef names in force
 abbrev pub is_typedef : List (List ℕ) → List ℕ → Bool
-is_typedef known name = list_any (λ other. pointwise nat_eq other name) known
+is_typedef known name = list_any (pointwise nat_eq name) known
+
+-- the typedef names with one more, behind the others if it is new
+abbrev pub with_text : List (List ℕ) → List ℕ → List (List ℕ)
+with_text known name = insert_key (pointwise nat_eq) known name
 
 abbrev pub is_identifier : Symbol → Bool
 is_identifier symbol.Identifier = true

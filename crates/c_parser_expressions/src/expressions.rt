@@ -98,7 +98,8 @@ pub fn assignment(
     };
     let place = reader.expect(sign)?;
     let right = assignment(scope, reader, inner(budget)?)?;
-    assign_node(scope.alloc, place, op, left, right, budget)
+    let whole = assign_node(scope.alloc, place, op, left, right, budget)?;
+    Ok(whole)
 }
 
 /// An expression. Its height is at most `budget`.

@@ -15,6 +15,7 @@ mod terminal_reader;
 mod type_name_parts;
 mod type_name_words;
 mod type_names;
+mod typedef_names;
 mod unary_expressions;
 
 pub use expressions::{assignment, conditional, expression};
@@ -22,3 +23,4 @@ pub use heights::{GREATEST_HEIGHT, Parsed, Trouble, inner, made};
 pub use pointer_stars::{is_one_star, stars};
 pub use specifier_words::{SpecifierCounts, is_qualifier, type_word};
 pub use terminal_reader::{Reader, Scope};
+pub use typedef_names::TypedefNames;

@@ -1,9 +1,10 @@
 //! The terminals that are still to be read.
 ghost use Rattle.std.specs.Prelude.{◌≡◌, length, IfOk, IsTrue, ◌↔◌};
 ghost use Rattle.std.specs.Bool.{OnTrue, OnFalse};
-ghost use Rattle.c_parser_expressions.specs.Fronts.{first_symbol, first_place, first_text, behind_first, is_typedef, is_identifier, is_typedef_first, is_identifier_first, is_specifier, begins_specifiers, IsSign, IsWord, IsName, IsTypedefName, IsConstant, IsLiteral};
+ghost use Rattle.c_parser_expressions.specs.Fronts.{first_symbol, first_place, first_text, behind_first, is_identifier, is_typedef_first, is_identifier_first, is_specifier, begins_specifiers, IsSign, IsWord, IsName, IsTypedefName, IsConstant, IsLiteral};
 
 use crate::heights::Trouble;
+use crate::typedef_names::TypedefNames;
 use c_layout::{Constant, Name};
 use c_parser_tokens::{Keyword, Punctuator, Symbol, Terminal};
 use cc_base::{Place, Text};
@@ -14,7 +15,7 @@ use std::marker::Model;
 #[derive(Clone, Copy)]
 pub struct Scope<'a> {
     pub alloc: Global,
-    pub typedefs: &'a [Text],
+    pub typedefs: &'a TypedefNames,
 }
 
 /// A list of terminals of which the first is read next.
@@ -62,13 +63,6 @@ fn is_first(rest: &[Terminal], sign: Punctuator) -> bool
     }
 }
 
-/// Whether a name is among these.
-fn is_among(typedefs: &[Text], name: &[u8]) -> bool
-    ensures { result ≡ is_typedef typedefs.now name.now }
-{
-    typedefs.iter().any(|known| known.as_bytes() == name)
-}
-
 /// Whether an identifier stands at the front.
 fn is_identifier(rest: &[Terminal]) -> bool
     ensures { result ≡ is_identifier (first_symbol rest.now) }
@@ -87,10 +81,10 @@ fn first_text(rest: &[Terminal]) -> &[u8]
 }
 
 /// Whether a typedef name stands at the front.
-fn is_typedef_first(rest: &[Terminal], typedefs: &[Text]) -> bool
+fn is_typedef_first(rest: &[Terminal], typedefs: &TypedefNames) -> bool
     ensures { result ≡ is_typedef_first typedefs.now rest.now }
 {
-    is_identifier(rest) && is_among(typedefs, first_text(rest))
+    is_identifier(rest) && typedefs.has(first_text(rest))
 }
 
 /// Whether a keyword stands among declaration specifiers.
@@ -120,7 +114,7 @@ fn is_specifier(word: Keyword) -> bool
 }
 
 /// Whether declaration specifiers begin at the front.
-fn begins_specifiers(rest: &[Terminal], typedefs: &[Text]) -> bool
+fn begins_specifiers(rest: &[Terminal], typedefs: &TypedefNames) -> bool
     ensures { result ≡ begins_specifiers typedefs.now rest.now }
 {
     match first_symbol(rest) {
@@ -270,7 +264,7 @@ impl<'a> Reader<'a> {
     pub fn is_at_identifier(&self, scope: Scope<'_>) -> bool
         ensures { result ≡ is_identifier_first scope.entry.typedefs.now self.now }
     {
-        is_identifier(self.rest) && !is_among(scope.typedefs, first_text(self.rest))
+        is_identifier(self.rest) && !scope.typedefs.has(first_text(self.rest))
     }
 
     /// Whether the next terminal is a typedef name.

@@ -1,8 +1,10 @@
-use Rattle.c_parser_expressions.specs.Findings.{layer_of}
+use Rattle.std.proofs.Common.{sym, ap, ◌∙◌}
+use Rattle.c_layout.specs.SyntaxTrees.{tree_of}
+use Rattle.c_parser_expressions.specs.Findings.{layer_of, is_unary}
 use Rattle.c_parser_expressions.proofs.Arguments.{last_one}
 use Rattle.c_parser_expressions.proofs.Climbing.{last, more}
 use Rattle.c_parser_expressions.proofs.Layers.{one_length, arrays_found, around, enclosed, plain, declared}
-use Rattle.c_parser_expressions.proofs.Productions.{as_conditional}
+use Rattle.c_parser_expressions.proofs.Productions.{as_conditional, assigned}
 use Rattle.c_parser_expressions.proofs.+expressions.Goals as goal
 
 pub expressions::binary-returns-in_default : goal.expressions::binary-returns-in_default
@@ -18,6 +20,11 @@ expressions::binary-loop-turn-preserved t c =
 
 pub expressions::conditional-returns-then-not-is_at : goal.expressions::conditional-returns-then-not-is_at
 expressions::conditional-returns-then-not-is_at t c = as_conditional c.in_ok-condition.ensures
+
+pub expressions::assignment-returns : goal.expressions::assignment-returns
+expressions::assignment-returns t c =
+    assigned c.in_ok-left.ensures (sym (c.if-not-is_unary.ensures ∙ ap (λ x. is_unary (tree_of x)) c.deref.ensures)) (sym c.in-Some-assign_sign.ensures) c.in_ok-place.ensures.place c.in_ok-place.ensures.sign c.in_ok-right.ensures
+    c.in_ok-whole.ensures.tree c.in_ok-whole.ensures.height.0 c.in_ok-whole.ensures.height.1
 
 pub postfix_expressions::some_arguments-returns-then-not-accept : goal.postfix_expressions::some_arguments-returns-then-not-accept
 postfix_expressions::some_arguments-returns-then-not-accept t c =

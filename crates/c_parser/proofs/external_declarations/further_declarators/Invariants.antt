@@ -5,4 +5,4 @@ use Rattle.c_parser.proofs.external_declarations.further_declarators.Given as go
 
 abbrev pub invariant-loop-turn : goal.invariant-loop-turn
 invariant-loop-turn l =
-    FoundFurther l.gives l.fn.typedefs.items l.typedefs.items l.budget (map init_declarator_view l.fn.found.items) (map init_declarator_view l.found.items) l.height l.fn.reader l.reader
+    FoundFurther l.gives l.fn.typedefs l.typedefs l.budget (map init_declarator_view l.fn.found.items) (map init_declarator_view l.found.items) l.height l.fn.reader l.reader

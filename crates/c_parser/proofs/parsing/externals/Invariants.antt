@@ -5,7 +5,7 @@ use Rattle.c_parser.specs.Pieces.{left_behind}
 use Rattle.c_parser.proofs.parsing.externals.Given as goal
 
 abbrev pub invariant-loop-rest : goal.invariant-loop-rest
-invariant-loop-rest l = (left_behind (length l.found.items) l.terminals ≡ l.rest) × FoundPieces (map external_tree l.found.items) l.typedefs.items l.terminals l.rest
+invariant-loop-rest l = (left_behind (length l.found.items) l.terminals ≡ l.rest) × FoundPieces (map external_tree l.found.items) l.typedefs l.terminals l.rest
 
 abbrev pub decreases-loop-rest : goal.decreases-loop-rest
 decreases-loop-rest l = length l.rest
