@@ -1,0 +1,14 @@
+pub mod Stops
+pub mod Lifts
+pub mod Begins
+pub mod Postfixes
+pub mod Unaries
+pub mod Operators
+pub mod Shrinking
+pub mod Calls
+pub mod Expressions
+pub mod Words
+pub mod Stars
+pub mod Arrays
+pub mod Declarators
+pub mod TypeNames

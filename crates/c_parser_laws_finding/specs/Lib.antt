@@ -1,0 +1,4 @@
+pub mod Readings
+pub mod ExpressionReaders
+pub mod Found
+pub mod TypeNameReaders
