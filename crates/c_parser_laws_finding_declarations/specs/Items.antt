@@ -5,11 +5,7 @@ use Rattle.c_parser_tokens.specs.declared.terminals.Punctuator.TheVariants as p
 use Rattle.c_parser_tokens.specs.declared.terminals.Symbol.{Symbol}
 use Rattle.c_parser_tokens.specs.declared.terminals.Symbol.TheVariants as symbol
 use Rattle.c_parser_expressions.specs.Fronts.{first_symbol, behind_first}
-use Rattle.c_parser_laws_finding.specs.Readings.{is_comma}
-
-abbrev pub is_right_brace : Symbol → Bool
-is_right_brace (symbol.Punctuator p.RightBrace) = true
-is_right_brace _ = false
+use Rattle.c_parser_laws_finding.specs.Readings.{is_comma, is_right_brace}
 
 -- what was read, its height, and the terminals behind it
 pub record GotItem (X : Type 0) : Type 0 where
