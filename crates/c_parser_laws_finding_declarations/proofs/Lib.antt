@@ -1,2 +1,4 @@
 pub mod Lists
 pub mod Initializers
+pub mod Suffixes
+pub mod Declarators

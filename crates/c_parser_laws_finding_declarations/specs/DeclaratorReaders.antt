@@ -6,7 +6,8 @@ use Rattle.c_parser_expressions.specs.Fronts.{first_symbol, first_place, first_t
 use Rattle.c_parser_expressions.specs.TypeNames.{is_one_star}
 use Rattle.c_parser_laws_finding.specs.Readings.{Got, Reading, is_left_parenthesis, is_right_parenthesis, is_left_bracket, is_right_bracket}
 use Rattle.c_parser_laws_finding.specs.ExpressionReaders.{Readers}
-use Rattle.c_parser_laws_finding.specs.TypeNameReaders.{GotStars, stars}
+use Rattle.c_parser_laws_finding.specs.Found.{inside}
+use Rattle.c_parser_laws_finding.specs.TypeNameReaders.{GotStars, stars, names_of}
 use Rattle.c_parser_laws_finding_declarations.specs.Items.{GotItem, item_of, after_item}
 
 -- ---- brackets
@@ -127,3 +128,12 @@ behind_stars known b i d qs ts =
 
 abbrev pub any_declarator : List (List ℕ) → ℕ → Readers → (List Terminal → Option GotParts) → List Terminal → Option GotParts
 any_declarator known b i d ts = behind_stars known b i d (stars (length ts) ts).stars (stars (length ts) ts).rest
+
+-- the readers of expressions of what stands inside
+abbrev pub readers_inside : List (List ℕ) → ℕ → Readers
+readers_inside known b = inside (names_of known) known b
+
+-- a declarator or an abstract one, within a budget
+abbrev pub declarators : List (List ℕ) → ℕ → List Terminal → Option GotParts
+declarators known zero = any_declarator known zero (readers_inside known zero) (λ ts. None)
+declarators known (suc b) = any_declarator known (suc b) (readers_inside known (suc b)) (declarators known b)
