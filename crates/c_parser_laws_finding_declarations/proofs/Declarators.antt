@@ -165,3 +165,65 @@ innermost_read known layer (Some n) b ts rest (some, a, c, qs, is, arrays) end s
     short : (a : List Terminal) → length (behind_first a) ≤ length a
     short [] = omega arith
     short (t ∷ ts) = omega arith
+
+core_shrinks : (known : List (List ℕ)) (name : Option NameView) (ts rest : List Terminal) → Core known name ts rest → length rest ≤ length ts
+core_shrinks known None ts rest same = let here : rest ≡ ts = same in rw here (omega arith)
+core_shrinks known (Some n) [] rest is = rw is.behind (omega arith)
+core_shrinks known (Some n) (t ∷ ts) rest is = rw is.behind (omega arith)
+
+pub layers_shrink : (known : List (List ℕ)) (inner : List DeclaratorLayerView) (layer : DeclaratorLayerView) (name : Option NameView) (ts rest : List Terminal) → Layers inner layer known name ts rest → length rest ≤ length ts
+layers_shrink known [] layer name ts rest (some, a, c, qs, core-is, arrays) =
+    let one = stars_few layer.stars ts a qs in let two = core_shrinks known name a c core-is in let three = suffixes_few known layer.arrays c rest arrays in omega arith
+layers_shrink known (next ∷ inner) layer name ts rest (a, c, d, e, qs, opens, inside-is, shut, arrays) =
+    let one = stars_few layer.stars ts a qs in
+    let two = length_behind a c opens in
+    let three = layers_shrink known inner next name c d inside-is in
+    let four = length_behind d e shut in
+    let five = suffixes_few known layer.arrays e rest arrays in
+    omega arith
+
+closing_ends : {ts rest : List Terminal} → IsSign p.RightParenthesis ts rest → DeclaratorEnds ts
+closing_ends is = rw is.symbol refl
+
+opening_star : {ts rest : List Terminal} → IsSign p.LeftParenthesis ts rest → NoStar ts
+opening_star is = record { star = rw is.symbol refl; qualifier = rw is.symbol refl }
+
+outer_read : (known : List (List ℕ)) (inner : List DeclaratorLayerView) (next layer : DeclaratorLayerView) (name : Option NameView) → IsDeclaratorRead known inner next name → IsDeclaratorRead known (next ∷ inner) layer name
+outer_read known inner next layer None reads b ts rest (a, c, d, e, qs, opens, inside-is, shut, arrays) end small room =
+    let one = stars_read layer ts a qs (opening_star opens) in
+    let first = stars_few layer.stars ts a qs in
+    let opening = length_behind a c opens in
+    let from : Layers inner next known None (behind_first a) d = rw opens.behind at inside-is in
+    let high = flat_high (layers_height inner next None) layer.arrays in
+    let length-at : length (behind_first a) + 1 ≡ length a = rw opens.behind at opening in
+    let two = read_inside known inner next None reads b (behind_first a) d from (closing_ends shut) (omega arith) (omega arith) in
+    let shrink = layers_shrink known inner next None (behind_first a) d from in
+    let closing = length_behind d e shut in
+    let arrays-at : Chain (IsSuffix known) layer.arrays (behind_first d) rest = rw shut.behind at arrays in
+    let closing-at : length (behind_first d) + 1 ≡ length d = rw shut.behind at closing in
+    let few = suffixes_few known layer.arrays (behind_first d) rest arrays-at in
+    let three = suffixes_read known b layer.arrays (length (behind_first d)) (layers_height inner next None) (layers_height inner next None) (behind_first d) rest arrays-at (end_bracket (first_symbol rest) end) (low_flat (layers_height inner next None) b layer.arrays (omega arith)) (omega arith) (omega arith) in
+    let fits = below (flat (layers_height inner next None) layer.arrays) b (omega arith) in
+    by_inside known b ts ∙ rw (one, opens.symbol, two, shut.symbol, three, fits) refl
+outer_read known inner next layer (Some n) reads b ts rest (a, c, d, e, qs, opens, inside-is, shut, arrays) end small room =
+    let one = stars_read layer ts a qs (opening_star opens) in
+    let first = stars_few layer.stars ts a qs in
+    let opening = length_behind a c opens in
+    let from : Layers inner next known (Some n) (behind_first a) d = rw opens.behind at inside-is in
+    let steps = named_low b layer.stars (climbed (layers_height inner next (Some n) + 1) layer.arrays) small in
+    let high = climbed_high (layers_height inner next (Some n) + 1) layer.arrays in
+    let length-at : length (behind_first a) + 1 ≡ length a = rw opens.behind at opening in
+    let two = read_inside known inner next (Some n) reads b (behind_first a) d from (closing_ends shut) (omega arith) (omega arith) in
+    let shrink = layers_shrink known inner next (Some n) (behind_first a) d from in
+    let closing = length_behind d e shut in
+    let arrays-at : Chain (IsSuffix known) layer.arrays (behind_first d) rest = rw shut.behind at arrays in
+    let closing-at : length (behind_first d) + 1 ≡ length d = rw shut.behind at closing in
+    let few = suffixes_few known layer.arrays (behind_first d) rest arrays-at in
+    let three = suffixes_read known b layer.arrays (length (behind_first d)) (layers_height inner next (Some n) + 1) (layers_height inner next (Some n) + 1) (behind_first d) rest arrays-at (end_bracket (first_symbol rest) end) (low_climbed (layers_height inner next (Some n) + 1) b layer.arrays steps) (omega arith) (omega arith) in
+    let enclosed-fits = below (layers_height inner next (Some n)) b (omega arith) in
+    let fits = named_fits b layer.stars (climbed (layers_height inner next (Some n) + 1) layer.arrays) small in
+    by_inside known b ts ∙ rw (one, opens.symbol, two, shut.symbol, enclosed-fits, three, fits) refl
+
+pub declarators_read : (known : List (List ℕ)) (inner : List DeclaratorLayerView) (layer : DeclaratorLayerView) (name : Option NameView) → IsDeclaratorRead known inner layer name
+declarators_read known [] layer name = innermost_read known layer name
+declarators_read known (next ∷ inner) layer name = outer_read known inner next layer name (declarators_read known inner next name)
