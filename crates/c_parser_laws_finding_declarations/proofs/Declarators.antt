@@ -14,7 +14,7 @@ use Rattle.c_parser_laws_finding.specs.Readings.{is_left_parenthesis, is_left_br
 use Rattle.c_parser_laws_finding.specs.TypeNameReaders.{is_star, stars}
 use Rattle.c_parser_laws_finding.proofs.Shrinking.{length_behind}
 use Rattle.c_parser_laws_finding.proofs.Stars.{NoStar, stars_are, stars_few}
-use Rattle.c_parser_laws_finding_declarations.specs.DeclaratorReaders.{GotParts, GotSuffixes, parts_of, name_at, within, above, named_height, stars_height, innermost_height, abstract_height, layer_height, is_nothing, layer_of, layered, core, behind_stars, any_declarator, readers_inside, declarators}
+use Rattle.c_parser_laws_finding_declarations.specs.DeclaratorReaders.{GotParts, GotSuffixes, parts_of, name_at, within, above, named_height, stars_height, innermost_height, abstract_height, layer_height, is_nothing, layer_of, layered, core, behind_stars, any_declarator, readers_inside, declarators, declarators_inside, whole, parameter_declarator, named_declarator, declarator, declarator_list}
 use Rattle.c_parser_laws_finding_declarations.proofs.Suffixes.{AllLow, suffixes_read, suffixes_few, low_flat, low_climbed, flat_high, climbed_high}
 
 -- ---- what ends a declarator
@@ -72,7 +72,7 @@ chain_behind known (s ∷ more) ts rest (a, is, all) end =
 stars_read : (layer : DeclaratorLayerView) (ts a : List Terminal) → Stars layer.stars ts a → NoStar a → stars (length ts) ts ≡ record { stars = layer.stars; rest = a }
 stars_read layer ts a all stop = let few = stars_few layer.stars ts a all in stars_are layer.stars (length ts) ts a all stop (omega arith)
 
-name_is : (known : List (List ℕ)) (n : NameView) (ts rest : List Terminal) → IsName known n.at n.text ts rest → n ≡ name_at ts
+pub name_is : (known : List (List ℕ)) (n : NameView) (ts rest : List Terminal) → IsName known n.at n.text ts rest → n ≡ name_at ts
 name_is known n ts rest is = λ i. record { at = is.place i; text = is.spelled i }
 
 -- ---- heights
@@ -87,16 +87,12 @@ IsDeclaratorRead known inner layer name =
     (b : ℕ) (ts rest : List Terminal) → Layers inner layer known name ts rest → DeclaratorEnds rest → layers_height inner layer name ≤ b → b + length ts < 4294967295 →
     declarators known b ts ≡ Some (parts_of (layer ∷ inner) name (layers_height inner layer name) rest)
 
-abbrev inside : List (List ℕ) → ℕ → List Terminal → Option GotParts
-inside known zero = λ ts. None
-inside known (suc b) = declarators known b
-
-by_inside : (known : List (List ℕ)) (b : ℕ) (ts : List Terminal) → declarators known b ts ≡ any_declarator known b (readers_inside known b) (inside known b) ts
+pub by_inside : (known : List (List ℕ)) (b : ℕ) (ts : List Terminal) → declarators known b ts ≡ any_declarator known b (readers_inside known b) (declarators_inside known b) ts
 by_inside known zero ts = refl
 by_inside known (suc b) ts = refl
 
 read_inside : (known : List (List ℕ)) (inner : List DeclaratorLayerView) (layer : DeclaratorLayerView) (name : Option NameView) → IsDeclaratorRead known inner layer name → (b : ℕ) (ts rest : List Terminal) → Layers inner layer known name ts rest → DeclaratorEnds rest → layers_height inner layer name < b → b + length ts < 4294967295 →
-    inside known b ts ≡ Some (parts_of (layer ∷ inner) name (layers_height inner layer name) rest)
+    declarators_inside known b ts ≡ Some (parts_of (layer ∷ inner) name (layers_height inner layer name) rest)
 read_inside known inner layer name reads zero ts rest all end small room = absurd (omega arith)
 read_inside known inner layer name reads (suc b) ts rest all end small room = reads b ts rest all end (omega arith) (omega arith)
 

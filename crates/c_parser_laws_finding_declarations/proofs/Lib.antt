@@ -2,3 +2,4 @@ pub mod Lists
 pub mod Initializers
 pub mod Suffixes
 pub mod Declarators
+pub mod Named

@@ -8,7 +8,7 @@ use Rattle.c_parser_laws_finding.specs.Readings.{Got, Reading, is_left_parenthes
 use Rattle.c_parser_laws_finding.specs.ExpressionReaders.{Readers}
 use Rattle.c_parser_laws_finding.specs.Found.{inside}
 use Rattle.c_parser_laws_finding.specs.TypeNameReaders.{GotStars, stars, names_of}
-use Rattle.c_parser_laws_finding_declarations.specs.Items.{GotItem, item_of, after_item}
+use Rattle.c_parser_laws_finding_declarations.specs.Items.{Item, GotItem, item_of, after_item, listed}
 
 -- ---- brackets
 
@@ -137,3 +137,26 @@ readers_inside known b = inside (names_of known) known b
 abbrev pub declarators : List (List ℕ) → ℕ → List Terminal → Option GotParts
 declarators known zero = any_declarator known zero (readers_inside known zero) (λ ts. None)
 declarators known (suc b) = any_declarator known (suc b) (readers_inside known (suc b)) (declarators known b)
+
+-- the reader of declarators inside
+abbrev pub declarators_inside : List (List ℕ) → ℕ → List Terminal → Option GotParts
+declarators_inside known zero = λ ts. None
+declarators_inside known (suc b) = declarators known b
+
+-- a declarator or an abstract one as a whole
+abbrev pub whole : GotParts → Option (GotItem DeclaratorView)
+whole g = Some (item_of (record { layers = g.layers; name = g.name }) g.height g.rest)
+
+abbrev pub parameter_declarator : List (List ℕ) → ℕ → Item DeclaratorView
+parameter_declarator known b ts = after_parts (declarators known b ts) whole
+
+-- a declarator, which has a name, behind these stars
+abbrev pub named_declarator : List (List ℕ) → ℕ → List ℕ → Item DeclaratorView
+named_declarator known b qs ts = after_parts (behind_stars known b (readers_inside known b) (declarators_inside known b) qs ts) (λ g. cond (is_some g.name) (whole g) None)
+
+abbrev pub declarator : List (List ℕ) → ℕ → Item DeclaratorView
+declarator known b ts = named_declarator known b (stars (length ts) ts).stars (stars (length ts) ts).rest
+
+-- one or more, with commas between them
+abbrev pub declarator_list : List (List ℕ) → ℕ → Item (List DeclaratorView)
+declarator_list known b ts = listed (declarator known b) (length ts) ts
