@@ -56,12 +56,12 @@ end_name known ts off = rw off refl
 -- ---- what stands behind the stars
 
 -- what begins brackets or ends the declarator
-record Behind (known : List (List ℕ)) (ts : List Terminal) : Type 0 where
-  no_star : NoStar ts
-  no_parenthesis : is_left_parenthesis (first_symbol ts) ≡ false
-  no_name : is_identifier_first known ts ≡ false
+pub record Behind (known : List (List ℕ)) (ts : List Terminal) : Type 0 where
+  pub no_star : NoStar ts
+  pub no_parenthesis : is_left_parenthesis (first_symbol ts) ≡ false
+  pub no_name : is_identifier_first known ts ≡ false
 
-chain_behind : (known : List (List ℕ)) (arrays : List SuffixView) (ts rest : List Terminal) → Chain (IsSuffix known) arrays ts rest → DeclaratorEnds rest → Behind known ts
+pub chain_behind : (known : List (List ℕ)) (arrays : List SuffixView) (ts rest : List Terminal) → Chain (IsSuffix known) arrays ts rest → DeclaratorEnds rest → Behind known ts
 chain_behind known [] ts rest same end =
     let here : rest ≡ ts = same in
     let end-at : is_end (first_symbol ts) ≡ true = rw here at end in
@@ -69,7 +69,7 @@ chain_behind known [] ts rest same end =
 chain_behind known (s ∷ more) ts rest (a, is, all) end =
     record { no_star = record { star = rw is.opens.symbol refl; qualifier = rw is.opens.symbol refl }; no_parenthesis = rw is.opens.symbol refl; no_name = rw is.opens.symbol refl }
 
-stars_read : (layer : DeclaratorLayerView) (ts a : List Terminal) → Stars layer.stars ts a → NoStar a → stars (length ts) ts ≡ record { stars = layer.stars; rest = a }
+pub stars_read : (layer : DeclaratorLayerView) (ts a : List Terminal) → Stars layer.stars ts a → NoStar a → stars (length ts) ts ≡ record { stars = layer.stars; rest = a }
 stars_read layer ts a all stop = let few = stars_few layer.stars ts a all in stars_are layer.stars (length ts) ts a all stop (omega arith)
 
 pub name_is : (known : List (List ℕ)) (n : NameView) (ts rest : List Terminal) → IsName known n.at n.text ts rest → n ≡ name_at ts
@@ -178,10 +178,10 @@ layers_shrink known (next ∷ inner) layer name ts rest (a, c, d, e, qs, opens, 
     let five = suffixes_few known layer.arrays e rest arrays in
     omega arith
 
-closing_ends : {ts rest : List Terminal} → IsSign p.RightParenthesis ts rest → DeclaratorEnds ts
+pub closing_ends : {ts rest : List Terminal} → IsSign p.RightParenthesis ts rest → DeclaratorEnds ts
 closing_ends is = rw is.symbol refl
 
-opening_star : {ts rest : List Terminal} → IsSign p.LeftParenthesis ts rest → NoStar ts
+pub opening_star : {ts rest : List Terminal} → IsSign p.LeftParenthesis ts rest → NoStar ts
 opening_star is = record { star = rw is.symbol refl; qualifier = rw is.symbol refl }
 
 outer_read : (known : List (List ℕ)) (inner : List DeclaratorLayerView) (next layer : DeclaratorLayerView) (name : Option NameView) → IsDeclaratorRead known inner next name → IsDeclaratorRead known (next ∷ inner) layer name

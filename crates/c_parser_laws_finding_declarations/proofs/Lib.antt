@@ -6,3 +6,5 @@ pub mod Named
 pub mod Enumerators
 pub mod Beginnings
 pub mod Specifiers
+pub mod Parameters
+pub mod Declarations
