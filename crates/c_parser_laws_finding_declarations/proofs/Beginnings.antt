@@ -1,6 +1,6 @@
 -- What specifiers and members begin with, what ends specifiers, and how many terminals they take.
-use Rattle.std.proofs.Common.{◌≡◌, ℕ, zero, suc, ◌+◌, ◌≤◌, Bool, true, false, ◌&&◌, ◌||◌, not, List, [], ◌∷◌, length, Option, Some, None, is_some, refl, arith, ap, ◌∙◌, sym}
-use Rattle.c_layout.specs.DeclarationTrees.{NameView, SpecTree, SpecTrees, MemberTree, MemberTrees, StorageWord, Qualifier, TypeOf, StructTag, StructBody, EnumTag, EnumBody, TypedefName, NoWord, MoreWords, Members, NoMember, MoreMembers}
+use Rattle.std.proofs.Common.{◌≡◌, ℕ, ◌+◌, ◌≤◌, Bool, true, false, ◌&&◌, ◌||◌, not, List, [], ◌∷◌, length, Some, refl, arith}
+use Rattle.c_layout.specs.DeclarationTrees.{SpecTree, SpecTrees, MemberTree, MemberTrees, StorageWord, Qualifier, TypeOf, StructTag, StructBody, EnumTag, EnumBody, TypedefName, NoWord, MoreWords, Members, NoMember, MoreMembers}
 use Rattle.c_layout.specs.declared.syntax_tree.declarations.Storage.{Storage}
 use Rattle.c_layout.specs.declared.syntax_tree.declarations.TypeWord.{TypeWord}
 use Rattle.c_parser_tokens.specs.declared.terminals.Keyword.{Keyword}
@@ -9,14 +9,14 @@ use Rattle.c_parser_tokens.specs.declared.terminals.Punctuator.TheVariants as p
 use Rattle.c_parser_tokens.specs.declared.terminals.Symbol.{Symbol}
 use Rattle.c_parser_tokens.specs.declared.terminals.Symbol.TheVariants as symbol
 use Rattle.c_parser_tokens.specs.declared.terminals.Terminal.{Terminal}
-use Rattle.c_parser_expressions.specs.Fronts.{first_symbol, first_text, behind_first, begins_specifiers, begins_with, is_identifier, is_specifier, is_typedef, IsSign, IsWord}
+use Rattle.c_parser_expressions.specs.Fronts.{first_symbol, first_text, behind_first, begins_specifiers, begins_with, is_identifier, is_specifier, is_typedef, IsWord}
 use Rattle.c_parser_expressions.specs.TypeNames.{type_word_of, is_qualifier, is_one_type}
 use Rattle.c_parser_declarations.specs.Declarations.{is_declarator_sign, begins_declarator}
 use Rattle.c_parser_declarations.specs.Specifiers.{DeriveWord, DeriveWords, DeriveMember, DeriveMembers, counts_of, IsNamed}
 use Rattle.c_parser_declarations.specs.StorageClasses.{storage_class}
 use Rattle.c_parser_laws_finding.specs.Readings.{is_left_brace, is_right_brace, is_right_parenthesis}
 use Rattle.c_parser_laws_finding.proofs.Shrinking.{length_behind}
-use Rattle.c_parser_laws_finding_declarations.proofs.Declarators.{DeclaratorEnds, is_end}
+use Rattle.c_parser_laws_finding_declarations.specs.Found.{is_end, DeclaratorEnds, SpecEnds}
 use Rattle.c_parser_laws_finding_declarations.proofs.Enumerators.{tag_shrinks, enumerators_few}
 use Rattle.c_parser_laws_finding_declarations.proofs.Lists.{listed_few}
 use Rattle.c_parser_laws_finding_declarations.proofs.Named.{named_takes}
@@ -75,10 +75,6 @@ pub member_front : (known : List (List ℕ)) (m : MemberTree) (ts rest : List Te
 member_front known (Members ws ds) ts rest (a, c, one, words, listed, semi) = spec_front known ws ts a words one
 
 -- ---- what ends them: no word, and no `{`
-
-pub record SpecEnds (known : List (List ℕ)) (ts : List Terminal) : Type 0 where
-  pub word : begins_specifiers known ts ≡ false
-  pub brace : is_left_brace (first_symbol ts) ≡ false
 
 declarator_word : (x : Symbol) (named : Bool) → (is_declarator_sign x || (is_identifier x && not named)) ≡ true → begins_with x (is_identifier x && named) ≡ false
 declarator_word (symbol.Keyword w) named is = absurd (cc is)

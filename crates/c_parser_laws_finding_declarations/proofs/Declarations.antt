@@ -1,32 +1,32 @@
 -- Declarators with their initializers, and declarations in blocks, are found.
-use Rattle.std.proofs.Common.{◌≡◌, ℕ, zero, suc, ◌+◌, ◌≤◌, ◌<◌, Bool, true, false, ◌&&◌, ◌||◌, not, cond, max, List, [], ◌∷◌, ◌⊎◌, inl, inr, length, Option, Some, None, is_some, refl, arith, ap, ◌∙◌, sym}
+use Rattle.std.proofs.Common.{◌≡◌, ℕ, zero, suc, ◌+◌, ◌≤◌, ◌<◌, Bool, true, false, ◌&&◌, ◌||◌, not, max, List, [], ◌∷◌, ◌⊎◌, inl, inr, length, Option, Some, None, is_some, refl, arith, ap, ◌∙◌, sym}
 use Rattle.std.specs.List.{list_all}
 use Rattle.cc_base.specs.declared.diagnostics.Place.{Place}
-use Rattle.c_layout.specs.DeclarationTrees.{NameView, DeclaratorLayerView, DeclaratorView, SpecTree, SpecTrees, InitializerTree, FunctionDeclaratorView, InitDeclaratorView, Object, Initialized, Prototype, LocalView, spec_trees}
+use Rattle.c_layout.specs.DeclarationTrees.{NameView, DeclaratorLayerView, DeclaratorView, SpecTree, InitializerTree, FunctionDeclaratorView, InitDeclaratorView, Object, Initialized, Prototype, LocalView, spec_trees}
 use Rattle.c_parser_tokens.specs.declared.terminals.Punctuator.TheVariants as p
 use Rattle.c_parser_tokens.specs.declared.terminals.Symbol.{Symbol}
 use Rattle.c_parser_tokens.specs.declared.terminals.Symbol.TheVariants as symbol
 use Rattle.c_parser_tokens.specs.declared.terminals.Terminal.{Terminal}
 use Rattle.c_parser_expressions.specs.Fronts.{first_symbol, first_place, first_text, behind_first, is_identifier, is_typedef, is_identifier_first, IsSign}
-use Rattle.c_parser_declarations.specs.Declarations.{is_declarator_sign, begins_declarator, IsFunction, function_height, IsDeclared, IsInitialized, Initializes, bare, init_height, local_init_height, is_object, IsLocalDeclarator, is_local_word, LocalDeclarators, IsLocal, local_height}
+use Rattle.c_parser_declarations.specs.Declarations.{is_declarator_sign, begins_declarator, IsFunction, function_height, IsDeclared, IsInitialized, bare, init_height, local_init_height, is_object, IsLocalDeclarator, is_local_word, LocalDeclarators, IsLocal, local_height}
 use Rattle.c_parser_declarations.specs.Declarators.{Shape, declarator_height}
 use Rattle.c_parser_declarations.specs.Initializers.{DeriveInitializer, initializer_height}
 use Rattle.c_parser_declarations.specs.Lists.{Listed, highest}
 use Rattle.c_parser_declarations.specs.Specifiers.{IsNamed, IsSpec, spec_height}
 use Rattle.c_parser_laws_expressions.proofs.Levels.{below}
-use Rattle.c_parser_laws_finding.specs.Readings.{is_comma, is_left_parenthesis}
+use Rattle.c_parser_laws_finding.specs.Readings.{is_left_parenthesis}
 use Rattle.c_parser_laws_finding.specs.TypeNameReaders.{stars}
 use Rattle.c_parser_laws_finding.proofs.Shrinking.{length_behind}
-use Rattle.c_parser_laws_finding.proofs.Stars.{NoStar, stars_are, stars_few}
-use Rattle.c_parser_laws_finding_declarations.specs.Items.{Item, GotItem, item_of, listed}
-use Rattle.c_parser_laws_finding_declarations.specs.DeclarationReaders.{bare_behind, file_declarator, assigned, assigned_inside, initialized_object, initialized, with_initializer, local_declarator, local_declarators, local_specifiers, local_of, local_behind, local_declaration}
-use Rattle.c_parser_laws_finding_declarations.specs.DeclaratorReaders.{declarator}
+use Rattle.c_parser_laws_finding.proofs.Stars.{stars_are, stars_few}
+use Rattle.c_parser_laws_finding_declarations.specs.Found.{InitializerEnds, is_end, DeclaratorEnds, SpecEnds, is_comma_or_semicolon, DeclaredEnds, FindsFileDeclarators}
+use Rattle.c_parser_laws_finding_declarations.specs.Items.{item_of}
+use Rattle.c_parser_laws_finding_declarations.specs.DeclarationReaders.{file_declarator, assigned, assigned_inside, initialized, with_initializer, local_declarator, local_declarators, local_specifiers, local_of, local_declaration}
 use Rattle.c_parser_laws_finding_declarations.specs.ParameterReaders.{words_list}
 use Rattle.c_parser_laws_finding_declarations.specs.SpecifierReaders.{is_assign, is_semicolon}
-use Rattle.c_parser_laws_finding_declarations.proofs.Beginnings.{SpecEnds, declarator_ends_words, end_ends_words}
-use Rattle.c_parser_laws_finding_declarations.proofs.Declarators.{DeclaratorEnds, is_end, chain_behind, stars_read, opening_star}
+use Rattle.c_parser_laws_finding_declarations.proofs.Beginnings.{declarator_ends_words, end_ends_words}
+use Rattle.c_parser_laws_finding_declarations.proofs.Declarators.{chain_behind, stars_read, opening_star}
 use Rattle.c_parser_laws_finding_declarations.proofs.Enumerators.{identifier_first}
-use Rattle.c_parser_laws_finding_declarations.proofs.Initializers.{InitializerEnds, initializer_found, initializer_takes}
+use Rattle.c_parser_laws_finding_declarations.proofs.Initializers.{initializer_found, initializer_takes}
 use Rattle.c_parser_laws_finding_declarations.proofs.Lists.{ReadsItem, TakesOne, all_read, listed_few, listed_read}
 use Rattle.c_parser_laws_finding_declarations.proofs.Named.{Roomy, roomy, named_takes, named_found, declarator_begins}
 use Rattle.c_parser_laws_finding_declarations.proofs.Parameters.{words_back, spec_takes, function_found}
@@ -69,15 +69,6 @@ prototype_found known b f ts rest is small room =
     rw (one, calls-at, two) refl
 
 -- ---- initializers
-
-abbrev is_comma_or_semicolon : Symbol → Bool
-is_comma_or_semicolon (symbol.Punctuator p.Comma) = true
-is_comma_or_semicolon (symbol.Punctuator p.Semicolon) = true
-is_comma_or_semicolon _ = false
-
--- behind a declarator with its initializer stands a comma or a `;`
-abbrev pub DeclaredEnds : List Terminal → Type 0
-DeclaredEnds rest = is_comma_or_semicolon (first_symbol rest) ≡ true
 
 declared_end : (x : Symbol) → is_comma_or_semicolon x ≡ true → is_end x ≡ true
 declared_end (symbol.Punctuator p.Comma) is = refl
@@ -225,3 +216,10 @@ local_declaration_found known (suc b) l ts rest is small room =
     let two = local_declarators_found known b l.declarators is.behind is.last rest is.declarators is.ends (omega arith) (omega arith) in
     let fits = below (max (spec_height (spec_trees l.words)) (highest local_init_height l.declarators)) (suc b) (omega arith) in
     rw (one, two, fits) (ap (λ (v : LocalView). Some (item_of v (local_height l) rest)) (local_is l ts is.place))
+
+-- ---- what is found, as it is told
+
+pub bare_found : (known : List (List ℕ)) (b : ℕ) → FindsFileDeclarators known b
+bare_found known b (Object d) ts rest is end small room = object_found known b d ts rest is end small room
+bare_found known b (Initialized d at i) ts rest is end small room = object_found known b d ts rest is end small room
+bare_found known b (Prototype f) ts rest is end small room = prototype_found known b f ts rest is small room

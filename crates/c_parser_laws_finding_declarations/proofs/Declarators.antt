@@ -1,34 +1,24 @@
 -- Declarators are found.
-use Rattle.std.proofs.Common.{◌≡◌, ◌==◌, ◌&&◌, not, ℕ, zero, suc, ◌+◌, ◌≤◌, ◌<◌, Bool, true, false, cond, max, List, [], ◌∷◌, length, Option, Some, None, is_some, nat_lt, nat_le, refl, arith, ap, ◌∙◌, sym}
-use Rattle.c_layout.specs.DeclarationTrees.{NameView, SuffixView, DeclaratorLayerView, DeclaratorView}
+use Rattle.std.proofs.Common.{◌≡◌, ◌==◌, ◌&&◌, not, ℕ, zero, suc, ◌+◌, ◌≤◌, ◌<◌, Bool, true, false, cond, List, [], ◌∷◌, length, Option, Some, None, nat_le, refl, arith, ◌∙◌}
+use Rattle.c_layout.specs.DeclarationTrees.{NameView, SuffixView, DeclaratorLayerView}
 use Rattle.c_parser_tokens.specs.declared.terminals.Terminal.{Terminal}
 use Rattle.c_parser_tokens.specs.declared.terminals.Punctuator.TheVariants as p
 use Rattle.c_parser_tokens.specs.declared.terminals.Symbol.{Symbol}
 use Rattle.c_parser_tokens.specs.declared.terminals.Symbol.TheVariants as symbol
-use Rattle.c_parser_expressions.specs.Fronts.{first_symbol, first_place, first_text, behind_first, is_identifier, is_identifier_first, IsSign, IsName}
+use Rattle.c_parser_expressions.specs.Fronts.{first_symbol, behind_first, is_identifier, is_identifier_first, IsSign, IsName}
 use Rattle.c_parser_expressions.specs.Spans.{Chain}
 use Rattle.c_parser_expressions.specs.TypeNames.{Stars, is_one_star, is_pointer_qualifier}
-use Rattle.c_parser_declarations.specs.Declarators.{IsSuffix, Core, Layers, is_something, flat, climbed, layers_height, enclosed_height}
+use Rattle.c_parser_declarations.specs.Declarators.{IsSuffix, Core, Layers, flat, climbed, layers_height}
 use Rattle.c_parser_laws_expressions.proofs.Levels.{below}
 use Rattle.c_parser_laws_finding.specs.Readings.{is_left_parenthesis, is_left_bracket}
 use Rattle.c_parser_laws_finding.specs.TypeNameReaders.{is_star, stars}
 use Rattle.c_parser_laws_finding.proofs.Shrinking.{length_behind}
 use Rattle.c_parser_laws_finding.proofs.Stars.{NoStar, stars_are, stars_few}
-use Rattle.c_parser_laws_finding_declarations.specs.DeclaratorReaders.{GotParts, GotSuffixes, parts_of, name_at, within, above, named_height, stars_height, innermost_height, abstract_height, layer_height, is_nothing, layer_of, layered, core, behind_stars, any_declarator, readers_inside, declarators, declarators_inside, whole, parameter_declarator, named_declarator, declarator, declarator_list}
+use Rattle.c_parser_laws_finding_declarations.specs.Found.{is_end, DeclaratorEnds}
+use Rattle.c_parser_laws_finding_declarations.specs.DeclaratorReaders.{parts_of, name_at, within, above, named_height, innermost_height, any_declarator, readers_inside, declarators, declarators_inside}
 use Rattle.c_parser_laws_finding_declarations.proofs.Suffixes.{AllLow, suffixes_read, suffixes_few, low_flat, low_climbed, flat_high, climbed_high}
 
 -- ---- what ends a declarator
-
-abbrev pub is_end : Symbol → Bool
-is_end (symbol.Punctuator p.Comma) = true
-is_end (symbol.Punctuator p.Semicolon) = true
-is_end (symbol.Punctuator p.Assign) = true
-is_end (symbol.Punctuator p.RightParenthesis) = true
-is_end _ = false
-
--- one of `,` `;` `=` and `)` stands there
-abbrev pub DeclaratorEnds : List Terminal → Type 0
-DeclaratorEnds rest = is_end (first_symbol rest) ≡ true
 
 end_star : (x : Symbol) → is_end x ≡ true → is_star x ≡ false
 end_star (symbol.Punctuator p.Star) end = absurd (cc end)

@@ -1,5 +1,5 @@
 -- Enumerators and tags are found.
-use Rattle.std.proofs.Common.{◌≡◌, ℕ, zero, suc, ◌+◌, ◌≤◌, ◌<◌, Bool, true, false, cond, max, List, [], ◌∷◌, ◌⊎◌, inl, inr, length, Option, Some, None, is_some, refl, arith, ap, ◌∙◌, sym}
+use Rattle.std.proofs.Common.{◌≡◌, ℕ, suc, ◌+◌, ◌≤◌, Bool, true, false, List, [], ◌∷◌, ◌⊎◌, inl, inr, length, Option, Some, None, is_some, refl, arith, ap, ◌∙◌, sym}
 use Rattle.c_layout.specs.SyntaxTrees.{Tree}
 use Rattle.c_layout.specs.DeclarationTrees.{NameView, EnumeratorView}
 use Rattle.c_parser_tokens.specs.declared.terminals.Terminal.{Terminal}
@@ -12,15 +12,15 @@ use Rattle.c_parser_declarations.specs.Lists.{highest}
 use Rattle.c_parser_declarations.specs.Specifiers.{Tag, Value, IsEnumerator, value_height, enumerator_height, Enumerators}
 use Rattle.c_parser_laws_expressions.specs.Endings.{EndsBefore}
 use Rattle.c_parser_laws_expressions.proofs.Levels.{below}
-use Rattle.c_parser_laws_finding.specs.Readings.{is_left_brace, is_right_brace}
+use Rattle.c_parser_laws_finding.specs.Readings.{is_right_brace}
 use Rattle.c_parser_laws_finding.specs.TypeNameReaders.{names_of}
 use Rattle.c_parser_laws_finding.proofs.Lifts.{found_inside}
 use Rattle.c_parser_laws_finding.proofs.Shrinking.{length_behind}
 use Rattle.c_parser_laws_finding.proofs.Takes.{takes}
 use Rattle.c_parser_laws_finding.proofs.TypeNames.{all_expressions_found}
-use Rattle.c_parser_laws_finding_declarations.specs.Items.{item_of, braced}
-use Rattle.c_parser_laws_finding_declarations.specs.DeclaratorReaders.{name_at, readers_inside}
-use Rattle.c_parser_laws_finding_declarations.specs.SpecifierReaders.{GotTag, optional_tag, is_assign, valued, enumerator_named, enumerator, enumerators}
+use Rattle.c_parser_laws_finding_declarations.specs.Items.{item_of}
+use Rattle.c_parser_laws_finding_declarations.specs.DeclaratorReaders.{name_at}
+use Rattle.c_parser_laws_finding_declarations.specs.SpecifierReaders.{optional_tag, is_assign, enumerator_named, enumerator, enumerators}
 use Rattle.c_parser_laws_finding_declarations.proofs.Declarators.{name_is}
 use Rattle.c_parser_laws_finding_declarations.proofs.Lists.{ReadsItem, all_read, Row, listed_row, trailed_row, row_few, braced_read}
 use Rattle.c_parser_laws_finding_declarations.proofs.Named.{name_takes}

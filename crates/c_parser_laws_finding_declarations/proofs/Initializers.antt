@@ -1,29 +1,23 @@
 -- Initializers are found.
-use Rattle.std.proofs.Common.{◌≡◌, ℕ, zero, suc, ◌+◌, ◌≤◌, ◌<◌, Bool, true, false, max, List, [], ◌∷◌, ◌⊎◌, inl, inr, length, Option, Some, None, refl, arith, ap, ◌∙◌, sym}
+use Rattle.std.proofs.Common.{◌≡◌, ℕ, zero, suc, ◌+◌, ◌≤◌, true, false, max, List, [], ◌∷◌, ◌⊎◌, inl, inr, length, None, refl, arith, ap, ◌∙◌}
 use Rattle.c_layout.specs.SyntaxTrees.{Tree}
 use Rattle.c_layout.specs.DeclarationTrees.{InitializerTree, InitializerTrees, Single, Braces, NoInitializer, MoreInitializers, initializer_trees}
 use Rattle.c_parser_tokens.specs.declared.terminals.Terminal.{Terminal}
 use Rattle.c_parser_tokens.specs.declared.terminals.Punctuator.TheVariants as p
-use Rattle.c_parser_expressions.specs.Expressions.{Derives, height_of}
 use Rattle.c_parser_expressions.specs.Fronts.{first_symbol, behind_first, IsSign}
 use Rattle.c_parser_expressions.specs.Spans.{Span, Separated, Trailed}
 use Rattle.c_parser_declarations.specs.Initializers.{DeriveInitializer, DeriveItems, has_item, initializer_height, items_height}
 use Rattle.c_parser_declarations.specs.Lists.{highest}
-use Rattle.c_parser_laws_expressions.specs.Endings.{EndsBefore}
 use Rattle.c_parser_laws_expressions.proofs.Levels.{ends_at, below}
-use Rattle.c_parser_laws_finding.specs.Readings.{got, is_right_brace}
-use Rattle.c_parser_laws_finding.specs.TypeNameReaders.{all_readers}
+use Rattle.c_parser_laws_finding.specs.Readings.{is_right_brace}
 use Rattle.c_parser_laws_finding.proofs.Begins.{no_left_brace, no_right_brace}
 use Rattle.c_parser_laws_finding.proofs.Shrinking.{length_behind}
 use Rattle.c_parser_laws_finding.proofs.TypeNames.{all_expressions_found}
 use Rattle.c_parser_laws_finding.proofs.Takes.{takes}
-use Rattle.c_parser_laws_finding_declarations.specs.Items.{Item, GotItem, item_of, braced}
+use Rattle.c_parser_laws_finding_declarations.specs.Found.{InitializerEnds}
+use Rattle.c_parser_laws_finding_declarations.specs.Items.{Item}
 use Rattle.c_parser_laws_finding_declarations.specs.InitializerReaders.{initializer_by, initializer}
-use Rattle.c_parser_laws_finding_declarations.proofs.Lists.{ReadsItem, AllRead, TakesOne, Row, row_few, braced_read}
-
--- an initializer ends before a comma, a `}` and a `;`
-abbrev pub InitializerEnds : List Terminal → Type 0
-InitializerEnds rest = EndsBefore 1 rest
+use Rattle.c_parser_laws_finding_declarations.proofs.Lists.{ReadsItem, AllRead, Row, braced_read}
 
 abbrev pub IsInitializer : List (List ℕ) → InitializerTree → List Terminal → List Terminal → Type 0
 IsInitializer known i ts rest = DeriveInitializer i known ts rest
@@ -98,7 +92,6 @@ mutual
   items_take : (known : List (List ℕ)) (items : InitializerTrees) → AllTake known (list_of items)
   items_take known NoInitializer = tt
   items_take known (MoreInitializers i more) = (initializer_takes known i, items_take known more)
-
 
 initializer_begins : (known : List (List ℕ)) (i : InitializerTree) (ts rest : List Terminal) → DeriveInitializer i known ts rest → is_right_brace (first_symbol ts) ≡ false
 initializer_begins known (Single e) ts rest d = no_right_brace e known 1 ts rest d

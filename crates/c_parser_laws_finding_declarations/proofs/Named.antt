@@ -1,26 +1,26 @@
 -- Declarators with a name, lists of them and the declarators of parameters are found.
-use Rattle.std.proofs.Common.{◌≡◌, ℕ, zero, suc, ◌+◌, ◌≤◌, ◌<◌, Bool, true, false, ◌&&◌, ◌||◌, not, cond, max, List, [], ◌∷◌, length, Option, Some, None, is_some, refl, arith, ap, ◌∙◌, sym}
+use Rattle.std.proofs.Common.{◌≡◌, ℕ, suc, ◌+◌, ◌≤◌, ◌<◌, true, false, List, [], ◌∷◌, length, Option, Some, None, is_some, refl, arith, ◌∙◌, sym}
 use Rattle.c_layout.specs.DeclarationTrees.{NameView, SuffixView, DeclaratorLayerView, DeclaratorView}
 use Rattle.c_parser_tokens.specs.declared.terminals.Terminal.{Terminal}
 use Rattle.c_parser_tokens.specs.declared.terminals.Punctuator.TheVariants as p
-use Rattle.c_parser_tokens.specs.declared.terminals.Symbol.{Symbol}
 use Rattle.c_parser_tokens.specs.declared.terminals.Symbol.TheVariants as symbol
-use Rattle.c_parser_expressions.specs.Fronts.{first_symbol, behind_first, IsSign, IsName}
+use Rattle.c_parser_expressions.specs.Fronts.{first_symbol, IsSign, IsName}
 use Rattle.c_parser_expressions.specs.Spans.{Chain}
 use Rattle.c_parser_expressions.specs.TypeNames.{Stars}
 use Rattle.c_parser_declarations.specs.Declarations.{begins_declarator}
-use Rattle.c_parser_declarations.specs.Declarators.{IsSuffix, Core, Layers, Shape, IsDeclarator, is_something, layers_height, shape_height, declarator_height}
+use Rattle.c_parser_declarations.specs.Declarators.{IsSuffix, Core, Layers, Shape, IsDeclarator, is_something, shape_height, declarator_height}
 use Rattle.c_parser_declarations.specs.Lists.{Listed, highest}
 use Rattle.c_parser_declarations.specs.Specifiers.{IsNamed}
 use Rattle.c_parser_laws_finding.specs.Readings.{is_comma}
 use Rattle.c_parser_laws_finding.specs.TypeNameReaders.{stars}
 use Rattle.c_parser_laws_finding.proofs.Shrinking.{length_behind}
 use Rattle.c_parser_laws_finding.proofs.Stars.{stars_few}
-use Rattle.c_parser_laws_finding_declarations.specs.Items.{Item, item_of, listed}
-use Rattle.c_parser_laws_finding_declarations.specs.DeclaratorReaders.{parts_of, behind_stars, readers_inside, declarators, declarators_inside, parameter_declarator, named_declarator, declarator, declarator_list}
-use Rattle.c_parser_laws_finding_declarations.proofs.Lists.{ReadsItem, AllRead, TakesOne, all_read, listed_few, listed_read}
+use Rattle.c_parser_laws_finding_declarations.specs.Found.{DeclaratorEnds}
+use Rattle.c_parser_laws_finding_declarations.specs.Items.{item_of}
+use Rattle.c_parser_laws_finding_declarations.specs.DeclaratorReaders.{parts_of, behind_stars, readers_inside, declarators, declarators_inside, parameter_declarator, declarator, declarator_list}
+use Rattle.c_parser_laws_finding_declarations.proofs.Lists.{ReadsItem, TakesOne, all_read, listed_few, listed_read}
 use Rattle.c_parser_laws_finding_declarations.proofs.Suffixes.{suffixes_few}
-use Rattle.c_parser_laws_finding_declarations.proofs.Declarators.{DeclaratorEnds, by_inside, declarators_read, layers_shrink}
+use Rattle.c_parser_laws_finding_declarations.proofs.Declarators.{by_inside, declarators_read, layers_shrink}
 
 -- where an item derives there is room for its height in 32 bits
 abbrev pub Roomy : {X : Type 0} → ℕ → (X → List Terminal → List Terminal → Type 0) → X → List Terminal → List Terminal → Type 0

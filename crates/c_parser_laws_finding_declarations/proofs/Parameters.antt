@@ -1,6 +1,6 @@
 -- Parameters and the declarators of functions are found.
-use Rattle.std.proofs.Common.{◌≡◌, ℕ, zero, suc, ◌+◌, ◌≤◌, ◌<◌, Bool, true, false, ◌&&◌, ◌||◌, not, cond, max, List, [], ◌∷◌, length, Option, Some, None, is_some, refl, arith, ap, ◌∙◌, sym}
-use Rattle.c_layout.specs.DeclarationTrees.{NameView, DeclaratorView, SpecTree, SpecTrees, StorageWord, Qualifier, TypeOf, StructTag, StructBody, EnumTag, EnumBody, TypedefName, NoWord, MoreWords, ParameterView, ParametersView, NoParameters, OnlyVoid, ParameterList, FunctionDeclaratorView, spec_trees}
+use Rattle.std.proofs.Common.{◌≡◌, ℕ, zero, suc, ◌+◌, ◌≤◌, ◌<◌, Bool, true, false, ◌&&◌, ◌||◌, not, max, List, [], ◌∷◌, length, Option, Some, None, refl, arith, ap, ◌∙◌, sym}
+use Rattle.c_layout.specs.DeclarationTrees.{DeclaratorView, SpecTree, SpecTrees, StorageWord, Qualifier, TypeOf, StructTag, StructBody, EnumTag, EnumBody, TypedefName, NoWord, MoreWords, ParameterView, ParametersView, NoParameters, OnlyVoid, ParameterList, FunctionDeclaratorView, spec_trees}
 use Rattle.c_layout.specs.declared.syntax_tree.declarations.TypeWord.TheVariants as type_word
 use Rattle.c_parser_tokens.specs.declared.terminals.Keyword.{Keyword}
 use Rattle.c_parser_tokens.specs.declared.terminals.Keyword.TheVariants as k
@@ -8,23 +8,22 @@ use Rattle.c_parser_tokens.specs.declared.terminals.Punctuator.TheVariants as p
 use Rattle.c_parser_tokens.specs.declared.terminals.Symbol.{Symbol}
 use Rattle.c_parser_tokens.specs.declared.terminals.Symbol.TheVariants as symbol
 use Rattle.c_parser_tokens.specs.declared.terminals.Terminal.{Terminal}
-use Rattle.c_parser_expressions.specs.Fronts.{first_symbol, first_place, first_text, behind_first, begins_specifiers, is_identifier, is_typedef, is_identifier_first, IsSign, IsWord, IsName}
-use Rattle.c_parser_expressions.specs.TypeNames.{Stars, type_word_of, is_qualifier, is_one_type}
+use Rattle.c_parser_expressions.specs.Fronts.{first_symbol, first_place, first_text, behind_first, is_identifier, is_typedef, IsSign, IsWord}
+use Rattle.c_parser_expressions.specs.TypeNames.{is_one_type}
 use Rattle.c_parser_declarations.specs.Declarations.{is_declarator_sign, begins_declarator, Optional, IsParameter, parameter_by, parameter_height, is_void_type, is_only_void, is_lone_void, is_void_word, is_closing, is_void_first, Parameters, IsFunction, function_height}
 use Rattle.c_parser_declarations.specs.Declarations as declarations
 use Rattle.c_parser_declarations.specs.Declarators.{IsDeclarator, declarator_height}
 use Rattle.c_parser_declarations.specs.Lists.{Listed, highest}
 use Rattle.c_parser_declarations.specs.Specifiers.{DeriveWord, DeriveWords, IsSpec, counts_of, spec_height}
-use Rattle.c_parser_declarations.specs.StorageClasses.{storage_class}
 use Rattle.c_parser_laws_expressions.proofs.Levels.{below}
 use Rattle.c_parser_laws_finding.specs.Readings.{is_comma, is_right_parenthesis}
 use Rattle.c_parser_laws_finding.proofs.Shrinking.{length_behind}
-use Rattle.c_parser_laws_finding.proofs.Stars.{stars_few}
-use Rattle.c_parser_laws_finding_declarations.specs.Items.{Item, item_of, listed}
+use Rattle.c_parser_laws_finding_declarations.specs.Found.{is_end, DeclaratorEnds}
+use Rattle.c_parser_laws_finding_declarations.specs.Items.{item_of}
 use Rattle.c_parser_laws_finding_declarations.specs.DeclaratorReaders.{name_at}
-use Rattle.c_parser_laws_finding_declarations.specs.ParameterReaders.{words_list, parameter_declarator_inside, parameter_of, parameter_behind, parameter, parameters_at, closed_parameters, parameter_list, parameters, parameters_inside, function_of, function_named, function_declarator}
-use Rattle.c_parser_laws_finding_declarations.proofs.Beginnings.{SpecEnds, word_front, spec_front, declarator_ends_words, end_ends_words, words_few, word_takes}
-use Rattle.c_parser_laws_finding_declarations.proofs.Declarators.{DeclaratorEnds, is_end, name_is}
+use Rattle.c_parser_laws_finding_declarations.specs.ParameterReaders.{words_list, parameter_declarator_inside, parameter_of, parameter, parameters_at, parameter_list, parameters, parameters_inside, function_of, function_declarator}
+use Rattle.c_parser_laws_finding_declarations.proofs.Beginnings.{word_front, spec_front, declarator_ends_words, end_ends_words, words_few}
+use Rattle.c_parser_laws_finding_declarations.proofs.Declarators.{name_is}
 use Rattle.c_parser_laws_finding_declarations.proofs.Enumerators.{identifier_first}
 use Rattle.c_parser_laws_finding_declarations.proofs.Lists.{ReadsItem, TakesOne, all_read, listed_few, listed_read}
 use Rattle.c_parser_laws_finding_declarations.proofs.Named.{Roomy, roomy, name_takes, declarator_begins, declarator_shrinks, parameter_declarator_found}

@@ -1,5 +1,5 @@
 -- Specifiers with the bodies of structures and enumerations are found.
-use Rattle.std.proofs.Common.{◌≡◌, ℕ, zero, suc, ◌+◌, ◌≤◌, ◌<◌, Bool, true, false, cond, max, List, [], ◌∷◌, length, Option, Some, None, is_some, nat_lt, refl, arith, ap, ◌∙◌, sym}
+use Rattle.std.proofs.Common.{◌≡◌, ℕ, zero, suc, ◌+◌, ◌≤◌, ◌<◌, true, false, max, List, [], ◌∷◌, length, Option, Some, None, is_some, refl, arith, ap, ◌∙◌}
 use Rattle.cc_base.specs.declared.diagnostics.Place.{Place}
 use Rattle.c_layout.specs.DeclarationTrees.{NameView, DeclaratorView, EnumeratorView, SpecTree, SpecTrees, MemberTree, MemberTrees, StorageWord, Qualifier, TypeOf, StructTag, StructBody, EnumTag, EnumBody, TypedefName, NoWord, MoreWords, Members, NoMember, MoreMembers, member_trees}
 use Rattle.c_layout.specs.declared.syntax_tree.declarations.Storage.{Storage}
@@ -15,13 +15,13 @@ use Rattle.c_parser_declarations.specs.Lists.{Listed, highest}
 use Rattle.c_parser_declarations.specs.Specifiers.{Tag, Enumerators, IsNamed, enumerator_height, has_member, DeriveWord, DeriveWords, DeriveMember, DeriveMembers, IsSpec, counts_of, listed_height, word_height, words_height, member_height, members_height, spec_height}
 use Rattle.c_parser_declarations.specs.StorageClasses.{storage_class}
 use Rattle.c_parser_laws_expressions.proofs.Levels.{below}
-use Rattle.c_parser_laws_finding.specs.Readings.{is_left_brace, is_right_brace}
+use Rattle.c_parser_laws_finding.specs.Readings.{is_left_brace}
 use Rattle.c_parser_laws_finding.proofs.Shrinking.{length_behind}
-use Rattle.c_parser_laws_finding_declarations.specs.Items.{Item, GotItem, item_of, chained}
-use Rattle.c_parser_laws_finding_declarations.specs.DeclaratorReaders.{name_at, above, declarator_list}
-use Rattle.c_parser_laws_finding_declarations.specs.SpecifierReaders.{optional_tag, enumerators_inside, keyword_word, plain_by, word, words, list_height, specifiers_by, declarators_of_members, specifier_readers, specifiers_inside, specifiers}
-use Rattle.c_parser_laws_finding_declarations.proofs.Beginnings.{word_front, spec_front, member_front, SpecEnds, declarator_ends_words, words_brace, word_takes, word_count, member_count, words_few, spec_word_takes, member_takes, members_few}
-use Rattle.c_parser_laws_finding_declarations.proofs.Declarators.{DeclaratorEnds}
+use Rattle.c_parser_laws_finding_declarations.specs.Found.{DeclaratorEnds, SpecEnds}
+use Rattle.c_parser_laws_finding_declarations.specs.Items.{Item, item_of, chained}
+use Rattle.c_parser_laws_finding_declarations.specs.DeclaratorReaders.{name_at}
+use Rattle.c_parser_laws_finding_declarations.specs.SpecifierReaders.{enumerators_inside, keyword_word, plain_by, word, words, list_height, specifiers_by, specifier_readers, specifiers_inside, specifiers}
+use Rattle.c_parser_laws_finding_declarations.proofs.Beginnings.{word_front, member_front, declarator_ends_words, words_brace, word_takes, word_count, member_count, words_few, spec_word_takes, member_takes, members_few}
 use Rattle.c_parser_laws_finding_declarations.proofs.Enumerators.{tag_open, tag_read, tag_shrinks, enumerators_found}
 use Rattle.c_parser_laws_finding_declarations.proofs.Named.{listed_begins, declarator_list_found}
 

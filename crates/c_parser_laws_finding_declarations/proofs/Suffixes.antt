@@ -1,24 +1,22 @@
 -- The brackets of declarators are read, with both of their heights.
-use Rattle.std.proofs.Common.{◌≡◌, ℕ, zero, suc, ◌+◌, ◌≤◌, ◌<◌, Bool, true, false, max, List, [], ◌∷◌, length, Option, Some, None, nat_lt, refl, arith, ap, ◌∙◌, sym}
+use Rattle.std.proofs.Common.{◌≡◌, ℕ, zero, suc, ◌+◌, ◌≤◌, ◌<◌, false, max, List, [], ◌∷◌, length, Option, Some, None, refl, arith}
 use Rattle.c_layout.specs.SyntaxTrees.{Tree}
 use Rattle.c_layout.specs.DeclarationTrees.{SuffixView}
 use Rattle.c_parser_tokens.specs.declared.terminals.Terminal.{Terminal}
 use Rattle.c_parser_tokens.specs.declared.terminals.Punctuator.TheVariants as p
-use Rattle.c_parser_expressions.specs.Expressions.{Derives, height_of}
+use Rattle.c_parser_expressions.specs.Expressions.{Derives}
 use Rattle.c_parser_expressions.specs.Fronts.{first_symbol, first_place, behind_first, IsSign}
 use Rattle.c_parser_expressions.specs.Spans.{Chain}
 use Rattle.c_parser_declarations.specs.Declarators.{Length, IsSuffix, length_height, flat, climbed}
 use Rattle.c_parser_laws_expressions.proofs.Levels.{ends_at, below}
-use Rattle.c_parser_laws_finding.specs.Readings.{got, is_left_bracket, is_right_bracket}
-use Rattle.c_parser_laws_finding.specs.ExpressionReaders.{Readers}
-use Rattle.c_parser_laws_finding.specs.Found.{inside}
-use Rattle.c_parser_laws_finding.specs.TypeNameReaders.{names_of, all_readers}
+use Rattle.c_parser_laws_finding.specs.Readings.{is_left_bracket}
+use Rattle.c_parser_laws_finding.specs.TypeNameReaders.{names_of}
 use Rattle.c_parser_laws_finding.proofs.Begins.{no_bracket}
 use Rattle.c_parser_laws_finding.proofs.Lifts.{found_inside}
 use Rattle.c_parser_laws_finding.proofs.Shrinking.{length_behind, shrinks}
 use Rattle.c_parser_laws_finding.proofs.TypeNames.{all_expressions_found}
-use Rattle.c_parser_laws_finding_declarations.specs.Items.{GotItem, item_of}
-use Rattle.c_parser_laws_finding_declarations.specs.DeclaratorReaders.{GotSuffixes, suffix, climbs, suffixes, readers_inside}
+use Rattle.c_parser_laws_finding_declarations.specs.Items.{item_of}
+use Rattle.c_parser_laws_finding_declarations.specs.DeclaratorReaders.{suffix, suffixes, readers_inside}
 
 -- the lengths are below the budget
 abbrev pub AllLow : ℕ → List SuffixView → Type 0

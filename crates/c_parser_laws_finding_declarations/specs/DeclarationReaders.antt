@@ -1,9 +1,8 @@
 -- The readers of declarators with their initializers at file scope and in blocks, and of declarations in blocks, as definitions.
-use Rattle.std.specs.Prelude.{ℕ, zero, suc, Bool, true, false, cond, max, length, ◌&&◌, List, [], Option, Some, None}
+use Rattle.std.specs.Prelude.{ℕ, zero, suc, cond, max, length, ◌&&◌, List, [], Option, Some, None}
 use Rattle.std.specs.List.{list_all}
 use Rattle.cc_base.specs.declared.diagnostics.Place.{Place}
 use Rattle.c_layout.specs.DeclarationTrees.{DeclaratorView, InitializerTree, FunctionDeclaratorView, InitDeclaratorView, Object, Initialized, Prototype, LocalView, SpecTrees}
-use Rattle.c_parser_tokens.specs.declared.terminals.Terminal.{Terminal}
 use Rattle.c_parser_expressions.specs.Fronts.{first_symbol, first_place, behind_first, is_identifier_first}
 use Rattle.c_parser_declarations.specs.Declarations.{is_local_word}
 use Rattle.c_parser_laws_finding.specs.Readings.{is_left_parenthesis}

@@ -1,13 +1,13 @@
 -- The readers of declarators (6.7.6) and abstract declarators (6.7.7) as definitions. They answer the layers from the outermost to the innermost.
-use Rattle.std.specs.Prelude.{◌+◌, ◌==◌, ◌&&◌, not, ℕ, zero, suc, Bool, true, false, cond, max, length, nat_lt, nat_le, List, [], ◌∷◌, Option, Some, None, is_some}
+use Rattle.std.specs.Prelude.{◌+◌, ◌==◌, ◌&&◌, ℕ, zero, suc, Bool, false, cond, max, length, nat_lt, nat_le, List, [], ◌∷◌, Option, Some, None, is_some}
 use Rattle.c_layout.specs.DeclarationTrees.{NameView, SuffixView, DeclaratorLayerView, DeclaratorView}
 use Rattle.c_parser_tokens.specs.declared.terminals.Terminal.{Terminal}
 use Rattle.c_parser_expressions.specs.Fronts.{first_symbol, first_place, first_text, behind_first, is_identifier_first}
 use Rattle.c_parser_expressions.specs.TypeNames.{is_one_star}
-use Rattle.c_parser_laws_finding.specs.Readings.{Got, Reading, is_left_parenthesis, is_right_parenthesis, is_left_bracket, is_right_bracket}
+use Rattle.c_parser_laws_finding.specs.Readings.{Reading, is_left_parenthesis, is_right_parenthesis, is_left_bracket, is_right_bracket}
 use Rattle.c_parser_laws_finding.specs.ExpressionReaders.{Readers}
 use Rattle.c_parser_laws_finding.specs.Found.{inside}
-use Rattle.c_parser_laws_finding.specs.TypeNameReaders.{GotStars, stars, names_of}
+use Rattle.c_parser_laws_finding.specs.TypeNameReaders.{stars, names_of}
 use Rattle.c_parser_laws_finding_declarations.specs.Items.{Item, GotItem, item_of, after_item, listed}
 
 -- ---- brackets

@@ -1,9 +1,6 @@
 -- Readers of lists, over the reader of an item.
-use Rattle.std.specs.Prelude.{◌≡◌, ◌<◌, ℕ, zero, suc, Bool, true, false, cond, max, List, [], ◌∷◌, Option, Some, None}
+use Rattle.std.specs.Prelude.{ℕ, zero, suc, cond, max, List, [], ◌∷◌, Option, Some, None}
 use Rattle.c_parser_tokens.specs.declared.terminals.Terminal.{Terminal}
-use Rattle.c_parser_tokens.specs.declared.terminals.Punctuator.TheVariants as p
-use Rattle.c_parser_tokens.specs.declared.terminals.Symbol.{Symbol}
-use Rattle.c_parser_tokens.specs.declared.terminals.Symbol.TheVariants as symbol
 use Rattle.c_parser_expressions.specs.Fronts.{first_symbol, behind_first}
 use Rattle.c_parser_laws_finding.specs.Readings.{is_comma, is_right_brace}
 
@@ -40,8 +37,8 @@ abbrev pub braced : {X : Type 0} → Item X → ℕ → Item (List X)
 braced item zero ts = None
 braced item (suc turns) ts =
     after_item (item ts) (λ g. cond (is_comma (first_symbol g.rest))
-      (cond (is_right_brace (first_symbol (behind_first g.rest))) (last_one g (behind_first (behind_first g.rest))) (after_item (braced item turns (behind_first g.rest)) (one_more g)))
-      (cond (is_right_brace (first_symbol g.rest)) (last_one g (behind_first g.rest)) None))
+    (cond (is_right_brace (first_symbol (behind_first g.rest))) (last_one g (behind_first (behind_first g.rest))) (after_item (braced item turns (behind_first g.rest)) (one_more g)))
+    (cond (is_right_brace (first_symbol g.rest)) (last_one g (behind_first g.rest)) None))
 
 -- items one behind another up to a `}`, of which there is one at least
 abbrev pub chained : {X : Type 0} → Item X → ℕ → Item (List X)

@@ -2,7 +2,6 @@
 use Rattle.std.specs.Prelude.{ℕ, zero, suc, cond, max, length, List, [], ◌∷◌, Option, Some, None}
 use Rattle.cc_base.specs.declared.diagnostics.Place.{Place}
 use Rattle.c_layout.specs.DeclarationTrees.{NameView, DeclaratorView, ParameterView, ParametersView, NoParameters, OnlyVoid, ParameterList, FunctionDeclaratorView, SpecTree, SpecTrees, NoWord, MoreWords}
-use Rattle.c_parser_tokens.specs.declared.terminals.Terminal.{Terminal}
 use Rattle.c_parser_expressions.specs.Fronts.{first_symbol, first_place, behind_first, is_identifier_first}
 use Rattle.c_parser_declarations.specs.Declarations.{begins_declarator, is_void_first}
 use Rattle.c_parser_laws_finding.specs.Readings.{is_left_parenthesis, is_right_parenthesis}

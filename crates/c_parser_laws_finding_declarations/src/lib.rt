@@ -3,4 +3,7 @@
 
 mod theorems;
 
-pub use theorems::placeholder;
+pub use theorems::{
+    declarators_are_found, file_declarators_are_found, initializers_are_found,
+    local_declarations_are_found, specifiers_are_found,
+};
