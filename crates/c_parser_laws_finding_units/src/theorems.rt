@@ -1,0 +1,4 @@
+//! Whatever derives is found.
+
+/// Nothing.
+pub fn placeholder() {}
