@@ -142,7 +142,7 @@ local_read known b (Prototype f) ts a rest object is init ends small room = absu
 local_found : (known : List (List ℕ)) (b : ℕ) (x : InitDeclaratorView) → ReadsItem (Roomy b (IsLocalDeclarator known)) DeclaredEnds local_init_height (suc b) (local_declarator known b) x
 local_found known b x ts rest (is, room) ends small = local_read known b x ts is.initializes.behind rest is.object is.initializes.declarator is.initializes.initializer ends (omega arith) room
 
-local_takes : (known : List (List ℕ)) → TakesOne (IsLocalDeclarator known)
+pub local_takes : (known : List (List ℕ)) → TakesOne (IsLocalDeclarator known)
 local_takes known x ts rest is = by x is.object is.initializes.declarator is.initializes.initializer
   where
     by : (x : InitDeclaratorView) → is_object x ≡ true → IsDeclared known x ts is.initializes.behind → IsInitialized known x is.initializes.behind rest → length rest + 1 ≤ length ts
