@@ -1,2 +1,4 @@
 pub mod Fronts
 pub mod Statements
+pub mod Blocks
+pub mod Externals

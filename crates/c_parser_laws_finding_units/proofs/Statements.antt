@@ -64,7 +64,7 @@ parenthesis_read known b (Some e) ts last rest d shut small =
     let one = (found_inside (names_of known) known e (all_expressions_found known e) b).expression ts last d (ends_at 0 shut (omega arith)) small in
     rw (off, one, shut.symbol, shut.behind) refl
 
-local_read : (known : List (List ℕ)) (b : ℕ) (l : LocalView) (ts rest : List Terminal) → IsLocal known l ts rest → local_height l < b → b + length ts < 4294967295 → local_inside known b ts ≡ Some (item_of l (local_height l) rest)
+pub local_read : (known : List (List ℕ)) (b : ℕ) (l : LocalView) (ts rest : List Terminal) → IsLocal known l ts rest → local_height l < b → b + length ts < 4294967295 → local_inside known b ts ≡ Some (item_of l (local_height l) rest)
 local_read known zero l ts rest is small room = absurd (omega arith)
 local_read known (suc b) l ts rest is small room = local_declaration_found known b l ts rest is (omega arith) (omega arith)
 
@@ -84,7 +84,7 @@ clause_read known b (Declares l) ts rest is small room =
 
 -- ---- by what a statement begins with
 
-by_symbol : (known : List (List ℕ)) (b : ℕ) (ts : List Terminal) (x : Symbol) → first_symbol ts ≡ x → statement known b ts ≡ statement_by known b (readers_inside known b) (statement_inside known b) ts x
+pub by_symbol : (known : List (List ℕ)) (b : ℕ) (ts : List Terminal) (x : Symbol) → first_symbol ts ≡ x → statement known b ts ≡ statement_by known b (readers_inside known b) (statement_inside known b) ts x
 by_symbol known zero ts x at = rw at refl
 by_symbol known (suc b) ts x at = rw at refl
 
@@ -92,15 +92,15 @@ by_word : (known : List (List ℕ)) (b : ℕ) (w : Keyword) (ts a : List Termina
 by_word known b w ts a front = by_symbol known b ts (symbol.Keyword w) front.symbol
 
 -- what the reader of statements inside answers
-abbrev Body : List (List ℕ) → ℕ → StatementTree → List Terminal → List Terminal → Type 0
+abbrev pub Body : List (List ℕ) → ℕ → StatementTree → List Terminal → List Terminal → Type 0
 Body known b s ts rest = statement_inside known b ts ≡ Some (item_of s (statement_height s) rest)
 
-abbrev Answer : List (List ℕ) → ℕ → StatementTree → List Terminal → List Terminal → Type 0
+abbrev pub Answer : List (List ℕ) → ℕ → StatementTree → List Terminal → List Terminal → Type 0
 Answer known b s ts rest = statement known b ts ≡ Some (item_of s (statement_height s) rest)
 
 -- ---- labels
 
-label_read : (known : List (List ℕ)) (b : ℕ) (name : NameView) (s : StatementTree) (ts a c rest : List Terminal) → IsName known name.at name.text ts a → IsSign p.Colon a c → Body known b s c rest → statement_height s < b → Answer known b (Label name s) ts rest
+pub label_read : (known : List (List ℕ)) (b : ℕ) (name : NameView) (s : StatementTree) (ts a c rest : List Terminal) → IsName known name.at name.text ts a → IsSign p.Colon a c → Body known b s c rest → statement_height s < b → Answer known b (Label name s) ts rest
 label_read known b name s ts a c rest is colon body small =
     let colon-at : IsSign p.Colon (behind_first ts) c = rw is.behind at colon in
     let body-at : Body known b s (behind_first (behind_first ts)) rest = rw colon-at.behind at body in
@@ -111,7 +111,7 @@ label_read known b name s ts a c rest is colon body small =
     let same = name_is known name ts a is in
     by_symbol known b ts symbol.Identifier is.symbol ∙ rw (brace, label, body-at, fits, same) refl
 
-case_read : (known : List (List ℕ)) (b : ℕ) (at : Place) (e : Tree) (s : StatementTree) (ts a c d rest : List Terminal) → at ≡ first_place ts → IsWord k.Case ts a → Derives e known 2 a c → IsSign p.Colon c d → Body known b s d rest → max (height_of e) (statement_height s) < b → Answer known b (Case at e s) ts rest
+pub case_read : (known : List (List ℕ)) (b : ℕ) (at : Place) (e : Tree) (s : StatementTree) (ts a c d rest : List Terminal) → at ≡ first_place ts → IsWord k.Case ts a → Derives e known 2 a c → IsSign p.Colon c d → Body known b s d rest → max (height_of e) (statement_height s) < b → Answer known b (Case at e s) ts rest
 case_read known b at e s ts a c d rest place front value colon body small =
     let from : Derives e known 2 (behind_first ts) c = rw front.behind at value in
     let one = (found_inside (names_of known) known e (all_expressions_found known e) b).conditional (behind_first ts) c from (ends_at 2 colon (omega arith)) (omega arith) in
@@ -119,7 +119,7 @@ case_read known b at e s ts a c d rest place front value colon body small =
     let fits = below (max (height_of e) (statement_height s)) b small in
     by_word known b k.Case ts a front ∙ rw (one, colon.symbol, body-at, fits, place) refl
 
-default_read : (known : List (List ℕ)) (b : ℕ) (at : Place) (s : StatementTree) (ts a c rest : List Terminal) → at ≡ first_place ts → IsWord k.Default ts a → IsSign p.Colon a c → Body known b s c rest → statement_height s < b → Answer known b (Default at s) ts rest
+pub default_read : (known : List (List ℕ)) (b : ℕ) (at : Place) (s : StatementTree) (ts a c rest : List Terminal) → at ≡ first_place ts → IsWord k.Default ts a → IsSign p.Colon a c → Body known b s c rest → statement_height s < b → Answer known b (Default at s) ts rest
 default_read known b at s ts a c rest place front colon body small =
     let colon-at : IsSign p.Colon (behind_first ts) c = rw front.behind at colon in
     let body-at : Body known b s (behind_first (behind_first ts)) rest = rw colon-at.behind at body in
@@ -131,39 +131,39 @@ default_read known b at s ts a c rest place front colon body small =
 tested : (known : List (List ℕ)) (b : ℕ) (w : Keyword) (e : Tree) (ts a c : List Terminal) → IsWord w ts a → Condition known e a c → height_of e < b → condition (readers_inside known b) (behind_first ts) ≡ Some (item_of e (height_of e) c)
 tested known b w e ts a c front test small = let from : Condition known e (behind_first ts) c = rw front.behind at test in condition_read known b e (behind_first ts) c from small
 
-if_read : (known : List (List ℕ)) (b : ℕ) (at : Place) (e : Tree) (s : StatementTree) (ts a c rest : List Terminal) → at ≡ first_place ts → IsWord k.If ts a → Condition known e a c → Body known b s c rest → is_else (first_symbol rest) ≡ false → max (height_of e) (statement_height s) < b → Answer known b (If at e s) ts rest
+pub if_read : (known : List (List ℕ)) (b : ℕ) (at : Place) (e : Tree) (s : StatementTree) (ts a c rest : List Terminal) → at ≡ first_place ts → IsWord k.If ts a → Condition known e a c → Body known b s c rest → is_else (first_symbol rest) ≡ false → max (height_of e) (statement_height s) < b → Answer known b (If at e s) ts rest
 if_read known b at e s ts a c rest place front test body none small =
     let one = tested known b k.If e ts a c front test (omega arith) in
     let fits = below (max (height_of e) (statement_height s)) b small in
     by_word known b k.If ts a front ∙ rw (one, body, none, fits, place) refl
 
-if_else_read : (known : List (List ℕ)) (b : ℕ) (at : Place) (e : Tree) (s t : StatementTree) (ts a c d f rest : List Terminal) → at ≡ first_place ts → IsWord k.If ts a → Condition known e a c → Body known b s c d → IsWord k.Else d f → Body known b t f rest → max (max (height_of e) (statement_height s)) (statement_height t) < b → Answer known b (IfElse at e s t) ts rest
+pub if_else_read : (known : List (List ℕ)) (b : ℕ) (at : Place) (e : Tree) (s t : StatementTree) (ts a c d f rest : List Terminal) → at ≡ first_place ts → IsWord k.If ts a → Condition known e a c → Body known b s c d → IsWord k.Else d f → Body known b t f rest → max (max (height_of e) (statement_height s)) (statement_height t) < b → Answer known b (IfElse at e s t) ts rest
 if_else_read known b at e s t ts a c d f rest place front test body other second small =
     let one = tested known b k.If e ts a c front test (omega arith) in
     let second-at : Body known b t (behind_first d) rest = rw other.behind at second in
     let fits = below (max (max (height_of e) (statement_height s)) (statement_height t)) b small in
     by_word known b k.If ts a front ∙ rw (one, body, other.symbol, second-at, fits, place) refl
 
-switch_read : (known : List (List ℕ)) (b : ℕ) (at : Place) (e : Tree) (s : StatementTree) (ts a c rest : List Terminal) → at ≡ first_place ts → IsWord k.Switch ts a → Condition known e a c → Body known b s c rest → max (height_of e) (statement_height s) < b → Answer known b (Switch at e s) ts rest
+pub switch_read : (known : List (List ℕ)) (b : ℕ) (at : Place) (e : Tree) (s : StatementTree) (ts a c rest : List Terminal) → at ≡ first_place ts → IsWord k.Switch ts a → Condition known e a c → Body known b s c rest → max (height_of e) (statement_height s) < b → Answer known b (Switch at e s) ts rest
 switch_read known b at e s ts a c rest place front test body small =
     let one = tested known b k.Switch e ts a c front test (omega arith) in
     let fits = below (max (height_of e) (statement_height s)) b small in
     by_word known b k.Switch ts a front ∙ rw (one, body, fits, place) refl
 
-while_read : (known : List (List ℕ)) (b : ℕ) (at : Place) (e : Tree) (s : StatementTree) (ts a c rest : List Terminal) → at ≡ first_place ts → IsWord k.While ts a → Condition known e a c → Body known b s c rest → max (height_of e) (statement_height s) < b → Answer known b (While at e s) ts rest
+pub while_read : (known : List (List ℕ)) (b : ℕ) (at : Place) (e : Tree) (s : StatementTree) (ts a c rest : List Terminal) → at ≡ first_place ts → IsWord k.While ts a → Condition known e a c → Body known b s c rest → max (height_of e) (statement_height s) < b → Answer known b (While at e s) ts rest
 while_read known b at e s ts a c rest place front test body small =
     let one = tested known b k.While e ts a c front test (omega arith) in
     let fits = below (max (height_of e) (statement_height s)) b small in
     by_word known b k.While ts a front ∙ rw (one, body, fits, place) refl
 
-do_read : (known : List (List ℕ)) (b : ℕ) (at : Place) (e : Tree) (s : StatementTree) (ts a c d f rest : List Terminal) → at ≡ first_place ts → IsWord k.Do ts a → Body known b s a c → IsWord k.While c d → Condition known e d f → IsSign p.Semicolon f rest → max (statement_height s) (height_of e) < b → Answer known b (Do at s e) ts rest
+pub do_read : (known : List (List ℕ)) (b : ℕ) (at : Place) (e : Tree) (s : StatementTree) (ts a c d f rest : List Terminal) → at ≡ first_place ts → IsWord k.Do ts a → Body known b s a c → IsWord k.While c d → Condition known e d f → IsSign p.Semicolon f rest → max (statement_height s) (height_of e) < b → Answer known b (Do at s e) ts rest
 do_read known b at e s ts a c d f rest place front body again test semi small =
     let body-at : Body known b s (behind_first ts) c = rw front.behind at body in
     let one = tested known b k.While e c d f again test (omega arith) in
     let fits = below (max (statement_height s) (height_of e)) b small in
     by_word known b k.Do ts a front ∙ rw (body-at, again.symbol, one, semi.symbol, semi.behind, fits, place) refl
 
-for_read : (known : List (List ℕ)) (b : ℕ) (at : Place) (first : ForFirstView) (test step : Option Tree) (s : StatementTree) (ts a c d e f g h rest : List Terminal) → at ≡ first_place ts → IsWord k.For ts a → IsSign p.LeftParenthesis a c → FirstClause known first c d → Maybe known test d e → IsSign p.Semicolon e f → Maybe known step f g → IsSign p.RightParenthesis g h → Body known b s h rest → b + length c < 4294967295 →
+pub for_read : (known : List (List ℕ)) (b : ℕ) (at : Place) (first : ForFirstView) (test step : Option Tree) (s : StatementTree) (ts a c d e f g h rest : List Terminal) → at ≡ first_place ts → IsWord k.For ts a → IsSign p.LeftParenthesis a c → FirstClause known first c d → Maybe known test d e → IsSign p.Semicolon e f → Maybe known step f g → IsSign p.RightParenthesis g h → Body known b s h rest → b + length c < 4294967295 →
     max (max (max (first_height first) (maybe_height test)) (maybe_height step)) (statement_height s) < b → Answer known b (For at first test step s) ts rest
 for_read known b at first test step s ts a c d e f g h rest place front opens first-is test-is semi step-is shut body room small =
     let opens-at : IsSign p.LeftParenthesis (behind_first ts) c = rw front.behind at opens in
@@ -175,7 +175,7 @@ for_read known b at first test step s ts a c d e f g h rest place front opens fi
 
 -- ---- jumps and expressions
 
-goto_read : (known : List (List ℕ)) (b : ℕ) (at : Place) (name : NameView) (ts a c rest : List Terminal) → at ≡ first_place ts → IsWord k.Goto ts a → IsName known name.at name.text a c → IsSign p.Semicolon c rest → 1 ≤ b → Answer known b (Goto at name) ts rest
+pub goto_read : (known : List (List ℕ)) (b : ℕ) (at : Place) (name : NameView) (ts a c rest : List Terminal) → at ≡ first_place ts → IsWord k.Goto ts a → IsName known name.at name.text a c → IsSign p.Semicolon c rest → 1 ≤ b → Answer known b (Goto at name) ts rest
 goto_read known b at name ts a c rest place front is semi small =
     let from : IsName known name.at name.text (behind_first ts) c = rw front.behind at is in
     let first = identifier_first name (behind_first ts) c from in
@@ -184,19 +184,19 @@ goto_read known b at name ts a c rest place front is semi small =
     let same = name_is known name (behind_first ts) c from in
     by_word known b k.Goto ts a front ∙ rw (first, semi-at.symbol, semi-at.behind, fits, place, same) refl
 
-continue_read : (known : List (List ℕ)) (b : ℕ) (at : Place) (ts a rest : List Terminal) → at ≡ first_place ts → IsWord k.Continue ts a → IsSign p.Semicolon a rest → 1 ≤ b → Answer known b (Continue at) ts rest
+pub continue_read : (known : List (List ℕ)) (b : ℕ) (at : Place) (ts a rest : List Terminal) → at ≡ first_place ts → IsWord k.Continue ts a → IsSign p.Semicolon a rest → 1 ≤ b → Answer known b (Continue at) ts rest
 continue_read known b at ts a rest place front semi small =
     let semi-at : IsSign p.Semicolon (behind_first ts) rest = rw front.behind at semi in
     let fits = below 0 b (omega arith) in
     by_word known b k.Continue ts a front ∙ rw (semi-at.symbol, semi-at.behind, fits, place) refl
 
-break_read : (known : List (List ℕ)) (b : ℕ) (at : Place) (ts a rest : List Terminal) → at ≡ first_place ts → IsWord k.Break ts a → IsSign p.Semicolon a rest → 1 ≤ b → Answer known b (Break at) ts rest
+pub break_read : (known : List (List ℕ)) (b : ℕ) (at : Place) (ts a rest : List Terminal) → at ≡ first_place ts → IsWord k.Break ts a → IsSign p.Semicolon a rest → 1 ≤ b → Answer known b (Break at) ts rest
 break_read known b at ts a rest place front semi small =
     let semi-at : IsSign p.Semicolon (behind_first ts) rest = rw front.behind at semi in
     let fits = below 0 b (omega arith) in
     by_word known b k.Break ts a front ∙ rw (semi-at.symbol, semi-at.behind, fits, place) refl
 
-return_read : (known : List (List ℕ)) (b : ℕ) (at : Place) (e : Option Tree) (ts a c rest : List Terminal) → at ≡ first_place ts → IsWord k.Return ts a → Maybe known e a c → IsSign p.Semicolon c rest → maybe_height e < b → Answer known b (Return at e) ts rest
+pub return_read : (known : List (List ℕ)) (b : ℕ) (at : Place) (e : Option Tree) (ts a c rest : List Terminal) → at ≡ first_place ts → IsWord k.Return ts a → Maybe known e a c → IsSign p.Semicolon c rest → maybe_height e < b → Answer known b (Return at e) ts rest
 return_read known b at e ts a c rest place front value semi small =
     let one : optional_expression is_semicolon (readers_inside known b) (behind_first ts) ≡ Some (item_of e (maybe_height e) rest) = rw front.behind at (semicolon_read known b e a c rest value semi small) in
     let fits = below (maybe_height e) b small in
@@ -208,7 +208,7 @@ value_by known b i s ts (symbol.Keyword k.Sizeof) off brace label = refl
 value_by known b i s ts (symbol.Keyword w) off brace label = absurd (cc off)
 value_by known b i s ts _ off brace label = rw (brace, label) refl
 
-value_read : (known : List (List ℕ)) (b : ℕ) (at : Place) (e : Option Tree) (ts a rest : List Terminal) → at ≡ first_place ts → Maybe known e ts a → IsSign p.Semicolon a rest → expression_height e ≤ b → Answer known b (Expression at e) ts rest
+pub value_read : (known : List (List ℕ)) (b : ℕ) (at : Place) (e : Option Tree) (ts a rest : List Terminal) → at ≡ first_place ts → Maybe known e ts a → IsSign p.Semicolon a rest → expression_height e ≤ b → Answer known b (Expression at e) ts rest
 value_read known b at None ts a rest place same semi small =
     let here : a ≡ ts = same in
     let semi-at : IsSign p.Semicolon ts rest = rw here at semi in

@@ -1,0 +1,34 @@
+-- Which statements, external declarations and units the readers find: those that derive, within the budget, before what
+-- may stand behind them.
+use Rattle.std.specs.Prelude.{◌≡◌, ◌≤◌, ℕ, true, false, List, [], Some}
+use Rattle.c_layout.specs.DeclarationTrees.{StatementTree, ExternalTree, statement_trees}
+use Rattle.c_parser_tokens.specs.declared.terminals.Terminal.{Terminal}
+use Rattle.c_parser_expressions.specs.Fronts.{first_symbol}
+use Rattle.c_parser.specs.Externals.{IsExternal, external_height, IsPiece, ArePieces}
+use Rattle.c_parser.specs.Findings.{is_else}
+use Rattle.c_parser.specs.Statements.{is_statement, is_open, DeriveStatement, statement_height, IsBlock, block_height}
+use Rattle.c_parser_laws_finding_declarations.specs.Found.{HasRoom}
+use Rattle.c_parser_laws_finding_declarations.specs.Items.{item_of}
+use Rattle.c_parser_laws_finding_units.specs.StatementReaders.{statement, statement_inside, block}
+use Rattle.c_parser_laws_finding_units.specs.UnitReaders.{external, piece, unit}
+
+-- no `else` stands behind a statement that would take it
+abbrev pub StatementEnds : StatementTree → List Terminal → Type 0
+StatementEnds s rest = is_open s ≡ true → is_else (first_symbol rest) ≡ false
+
+abbrev pub FindsStatements : List (List ℕ) → ℕ → Type 0
+FindsStatements known b =
+    (s : StatementTree) (ts rest : List Terminal) → DeriveStatement s known ts rest → is_statement s ≡ true → StatementEnds s rest → statement_height s ≤ b → HasRoom b ts → statement known b ts ≡ Some (item_of s (statement_height s) rest)
+
+abbrev pub FindsBlocks : List (List ℕ) → ℕ → Type 0
+FindsBlocks known b =
+    (items : List StatementTree) (ts rest : List Terminal) → IsBlock known (statement_trees items) ts rest → block_height (statement_trees items) ≤ b → HasRoom b ts →
+    block known b (statement_inside known b) ts ≡ Some (item_of items (block_height (statement_trees items)) rest)
+
+abbrev pub FindsExternals : List (List ℕ) → ℕ → Type 0
+FindsExternals known b =
+    (e : ExternalTree) (ts rest : List Terminal) → IsExternal known e ts rest → external_height e ≤ b → HasRoom b ts → external known b ts ≡ Some (item_of e (external_height e) rest)
+
+-- a unit whose pieces derive is read
+abbrev pub FindsUnits : Type 0
+FindsUnits = (es : List ExternalTree) (ts : List Terminal) → ArePieces es [] ts [] → HasRoom 256 ts → unit ts ≡ Some es
