@@ -1,19 +1,18 @@
 -- Statements with statements in them, and blocks, are found.
-use Rattle.std.proofs.Common.{◌≡◌, ℕ, zero, suc, ◌+◌, ◌≤◌, ◌<◌, Bool, true, false, not, cond, max, List, [], ◌∷◌, length, Option, Some, None, refl, arith, sym, ap, ◌∙◌}
+use Rattle.std.proofs.Common.{◌≡◌, ℕ, zero, suc, ◌+◌, ◌≤◌, ◌<◌, Bool, true, false, not, List, [], ◌∷◌, length, Some, refl, arith, sym, ap, ◌∙◌}
 use Rattle.cc_base.specs.declared.diagnostics.Place.{Place}
 use Rattle.c_layout.specs.DeclarationTrees.{StatementTree, StatementTrees, Declaration, Label, Case, Default, Block, Expression, If, IfElse, Switch, While, Do, For, Goto, Continue, Break, Return, NoStatement, MoreStatements, statement_trees}
-use Rattle.c_parser_tokens.specs.declared.terminals.Keyword.TheVariants as k
 use Rattle.c_parser_tokens.specs.declared.terminals.Punctuator.TheVariants as p
 use Rattle.c_parser_tokens.specs.declared.terminals.Symbol.TheVariants as symbol
 use Rattle.c_parser_tokens.specs.declared.terminals.Terminal.{Terminal}
 use Rattle.c_parser_expressions.specs.Fronts.{first_symbol, first_place, behind_first, begins_specifiers, IsSign}
 use Rattle.c_parser.specs.Findings.{is_else}
-use Rattle.c_parser.specs.Statements.{is_statement, is_open, DeriveStatement, DeriveStatements, statement_height, statements_height, IsBlock, block_height}
+use Rattle.c_parser.specs.Statements.{is_statement, DeriveStatement, DeriveStatements, statement_height, statements_height, IsBlock, block_height}
 use Rattle.c_parser_laws_expressions.proofs.Levels.{below}
-use Rattle.c_parser_laws_finding.specs.Readings.{is_left_brace, is_right_brace}
+use Rattle.c_parser_laws_finding.specs.Readings.{is_left_brace}
 use Rattle.c_parser_laws_finding.proofs.Shrinking.{length_behind}
 use Rattle.c_parser_laws_finding.proofs.Takes.{takes}
-use Rattle.c_parser_laws_finding_declarations.specs.Items.{Item, item_of}
+use Rattle.c_parser_laws_finding_declarations.specs.Items.{item_of}
 use Rattle.c_parser_laws_finding_declarations.specs.DeclaratorReaders.{readers_inside}
 use Rattle.c_parser_laws_finding_declarations.proofs.Beginnings.{word_takes}
 use Rattle.c_parser_laws_finding_declarations.proofs.Named.{name_takes}

@@ -1,7 +1,7 @@
 -- External declarations are found.
-use Rattle.std.proofs.Common.{◌≡◌, ℕ, zero, suc, ◌+◌, ◌≤◌, ◌<◌, Bool, true, false, ◌&&◌, ◌||◌, not, cond, max, List, [], ◌∷◌, length, Option, Some, None, refl, arith, sym, ap, ◌∙◌}
+use Rattle.std.proofs.Common.{◌≡◌, ℕ, zero, suc, ◌+◌, ◌≤◌, ◌<◌, Bool, true, false, ◌&&◌, ◌||◌, not, max, List, [], ◌∷◌, length, Option, Some, refl, arith, ap, ◌∙◌}
 use Rattle.cc_base.specs.declared.diagnostics.Place.{Place}
-use Rattle.c_layout.specs.DeclarationTrees.{NameView, SpecTree, SpecTrees, StatementTree, ParametersView, NoParameters, OnlyVoid, ParameterList, FunctionDeclaratorView, InitDeclaratorView, Object, Initialized, Prototype, ExternalTree, Declared, Defined, spec_trees, statement_trees}
+use Rattle.c_layout.specs.DeclarationTrees.{SpecTree, SpecTrees, StatementTree, ParametersView, NoParameters, OnlyVoid, ParameterList, FunctionDeclaratorView, InitDeclaratorView, Object, Initialized, Prototype, ExternalTree, Declared, Defined, spec_trees, statement_trees}
 use Rattle.c_parser_tokens.specs.declared.terminals.Punctuator.TheVariants as p
 use Rattle.c_parser_tokens.specs.declared.terminals.Symbol.{Symbol}
 use Rattle.c_parser_tokens.specs.declared.terminals.Symbol.TheVariants as symbol
@@ -12,7 +12,7 @@ use Rattle.c_parser_declarations.specs.Declarations.{is_declarator_sign, begins_
 use Rattle.c_parser_declarations.specs.Lists.{highest}
 use Rattle.c_parser_declarations.specs.Specifiers.{IsSpec, spec_height}
 use Rattle.c_parser_declarations.specs.StorageClasses as classes
-use Rattle.c_parser.specs.Externals.{with_declared, IsFileDeclarator, Further, FileDeclarators, IsExternal, external_height}
+use Rattle.c_parser.specs.Externals.{with_declared, IsFileDeclarator, Further, IsExternal, external_height}
 use Rattle.c_parser.specs.Statements.{IsBlock, block_height}
 use Rattle.c_parser_laws_expressions.proofs.Levels.{below}
 use Rattle.c_parser_laws_finding.specs.Readings.{is_comma, is_left_brace}
@@ -22,7 +22,7 @@ use Rattle.c_parser_laws_finding_declarations.specs.DeclarationReaders.{file_dec
 use Rattle.c_parser_laws_finding_declarations.specs.Found.{is_end, DeclaratorEnds, BareEnds, SpecEnds, is_comma_or_semicolon, DeclaredEnds}
 use Rattle.c_parser_laws_finding_declarations.specs.Items.{Item, GotItem, item_of, after_item, one_more}
 use Rattle.c_parser_laws_finding_declarations.specs.ParameterReaders.{words_list}
-use Rattle.c_parser_laws_finding_declarations.specs.SpecifierReaders.{is_semicolon, specifiers}
+use Rattle.c_parser_laws_finding_declarations.specs.SpecifierReaders.{is_semicolon}
 use Rattle.c_parser_laws_finding_declarations.proofs.Beginnings.{declarator_ends_words, end_ends_words, word_takes}
 use Rattle.c_parser_laws_finding_declarations.proofs.Declarations.{bare_found, prototype_found, initialized_found}
 use Rattle.c_parser_laws_finding_declarations.proofs.Initializers.{initializer_takes}
@@ -141,11 +141,11 @@ completed_read : (gives : Bool) (b : ℕ) (known : List (List ℕ)) (more : List
 completed_read gives b known more d ds h ts rest last is ends small tail =
     let one = initialized_found (with_declared gives known d) b d ts rest is ends small in
     let first : completed gives b known more (Bare d ts) ≡ after_item (initialized (with_declared gives known d) b (Bare d ts)) (λ x. after_item (more (with_declared gives known d) x.rest) (one_more x)) =
-      ap (λ (names : List (List ℕ)). after_item (initialized names b (Bare d ts)) (λ x. after_item (more names x.rest) (one_more x))) (bare_names gives known d) in
+    ap (λ (names : List (List ℕ)). after_item (initialized names b (Bare d ts)) (λ x. after_item (more names x.rest) (one_more x))) (bare_names gives known d) in
     let second : after_item (initialized (with_declared gives known d) b (Bare d ts)) (λ x. after_item (more (with_declared gives known d) x.rest) (one_more x)) ≡ after_item (more (with_declared gives known d) rest) (one_more (item_of d (init_height d) rest)) =
-      ap (λ (v : Option (GotItem InitDeclaratorView)). after_item v (λ x. after_item (more (with_declared gives known d) x.rest) (one_more x))) one in
+    ap (λ (v : Option (GotItem InitDeclaratorView)). after_item v (λ x. after_item (more (with_declared gives known d) x.rest) (one_more x))) one in
     let third : after_item (more (with_declared gives known d) rest) (one_more (item_of d (init_height d) rest)) ≡ Some (item_of (d ∷ ds) (max (init_height d) h) last) =
-      ap (λ (v : Option (GotItem (List InitDeclaratorView))). after_item v (one_more (item_of d (init_height d) rest))) tail in
+    ap (λ (v : Option (GotItem (List InitDeclaratorView))). after_item v (one_more (item_of d (init_height d) rest))) tail in
     first ∙ second ∙ third
 
 no_more : (ts rest : List Terminal) → IsSign p.Semicolon ts rest → no_declarator ts ≡ Some (item_of [] 0 rest)
@@ -199,7 +199,7 @@ declaration_read known b at words d ds ts a c last rest is more semi small room 
     let ends = further_ends (classes.is_typedef words) ds (with_declared (classes.is_typedef words) known d) c last rest more semi in
     let tail = further_read (classes.is_typedef words) b ds (with_declared (classes.is_typedef words) known d) (length c) c last rest more semi (omega arith) (omega arith) (omega arith) in
     let all : declarators_behind (classes.is_typedef words) b known (Bare d is.behind) ≡ Some (item_of (d ∷ ds) (highest init_height (d ∷ ds)) rest) =
-      completed_read (classes.is_typedef words) b known (λ names v. further (classes.is_typedef words) b (length v) names v) d ds (highest init_height ds) is.behind c rest is.initializer ends (omega arith) tail in
+    completed_read (classes.is_typedef words) b known (λ names v. further (classes.is_typedef words) b (length v) names v) d ds (highest init_height ds) is.behind c rest is.initializer ends (omega arith) tail in
     let back : classes.is_typedef (words_list (spec_trees words)) ≡ classes.is_typedef words = ap classes.is_typedef (words_back words) in
     let all-at : declarators_behind (classes.is_typedef (words_list (spec_trees words))) b known (Bare d is.behind) ≡ Some (item_of (d ∷ ds) (highest init_height (d ∷ ds)) rest) = ap (λ (gives : Bool). declarators_behind gives b known (Bare d is.behind)) back ∙ all in
     let fits = below (max (spec_height (spec_trees words)) (highest init_height (d ∷ ds))) (suc b) (omega arith) in
@@ -212,7 +212,7 @@ definition_read known b at words f body a c rest is small room =
     let back : with_declared (classes.is_typedef (words_list (spec_trees words))) known (Prototype f) ≡ with_declared (classes.is_typedef words) known (Prototype f) = ap (λ (ws : List SpecTree). with_declared (classes.is_typedef ws) known (Prototype f)) (words_back words) in
     let all = block_found (with_declared (classes.is_typedef words) known (Prototype f)) b body c rest is (omega arith) room in
     let all-at : block (with_declared (classes.is_typedef (words_list (spec_trees words))) known (Prototype f)) b (statement_inside (with_declared (classes.is_typedef (words_list (spec_trees words))) known (Prototype f)) b) c ≡ Some (item_of body (block_height (statement_trees body)) rest) =
-      ap (λ (names : List (List ℕ)). block names b (statement_inside names b) c) back ∙ all in
+    ap (λ (names : List (List ℕ)). block names b (statement_inside names b) c) back ∙ all in
     let fits = below (max (max (spec_height (spec_trees words)) (function_height f)) (block_height (statement_trees body))) (suc b) (omega arith) in
     let words-are = words_back words in
     rw (all-at, fits, words-are) refl

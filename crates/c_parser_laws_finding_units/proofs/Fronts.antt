@@ -13,15 +13,15 @@ use Rattle.c_parser_tokens.specs.declared.terminals.Symbol.{Symbol}
 use Rattle.c_parser_tokens.specs.declared.terminals.Symbol.TheVariants as symbol
 use Rattle.c_parser_tokens.specs.declared.terminals.Terminal.{Terminal}
 use Rattle.c_parser_expressions.specs.Expressions.{Derives}
-use Rattle.c_parser_expressions.specs.Fronts.{first_symbol, first_place, first_text, behind_first, begins_specifiers, is_identifier, is_typedef, is_identifier_first, is_specifier, IsSign, IsWord, IsName}
+use Rattle.c_parser_expressions.specs.Fronts.{first_symbol, first_place, first_text, behind_first, begins_specifiers, is_identifier, is_typedef, is_specifier, IsSign, IsWord, IsName}
 use Rattle.c_parser_expressions.specs.Levels.{step_sign, unary_sign}
 use Rattle.c_parser_declarations.specs.Declarations.{IsLocalDeclarator, LocalDeclarators, IsLocal}
 use Rattle.c_parser.specs.Findings.{is_else}
 use Rattle.c_parser.specs.Statements.{Maybe, Condition, FirstClause, is_statement, DeriveStatement, DeriveStatements}
 use Rattle.c_parser_laws_expressions.proofs.Levels.{ends_at}
 use Rattle.c_parser_laws_expressions.proofs.Unique.{one_expression}
-use Rattle.c_parser_laws_finding.specs.Readings.{is_right_brace, is_right_parenthesis, is_left_brace, is_colon}
-use Rattle.c_parser_laws_finding.proofs.Begins.{no_specifiers, no_left_brace, no_right_brace}
+use Rattle.c_parser_laws_finding.specs.Readings.{is_right_brace, is_colon}
+use Rattle.c_parser_laws_finding.proofs.Begins.{no_specifiers, no_right_brace}
 use Rattle.c_parser_laws_finding.proofs.Shrinking.{length_behind}
 use Rattle.c_parser_laws_finding.proofs.Takes.{takes}
 use Rattle.c_parser_laws_finding_declarations.specs.SpecifierReaders.{is_semicolon}

@@ -2,3 +2,4 @@ pub mod Fronts
 pub mod Statements
 pub mod Blocks
 pub mod Externals
+pub mod Units

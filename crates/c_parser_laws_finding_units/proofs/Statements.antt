@@ -1,8 +1,8 @@
 -- Statements and blocks are found.
-use Rattle.std.proofs.Common.{◌≡◌, ℕ, zero, suc, ◌+◌, ◌≤◌, ◌<◌, Bool, true, false, ◌&&◌, not, cond, max, List, [], ◌∷◌, length, Option, Some, None, refl, arith, sym, ap, ◌∙◌}
+use Rattle.std.proofs.Common.{◌≡◌, ℕ, zero, suc, ◌+◌, ◌≤◌, ◌<◌, true, false, max, List, length, Option, Some, None, refl, arith, ◌∙◌}
 use Rattle.cc_base.specs.declared.diagnostics.Place.{Place}
 use Rattle.c_layout.specs.SyntaxTrees.{Tree}
-use Rattle.c_layout.specs.DeclarationTrees.{NameView, LocalView, ForFirstView, NoClause, Clause, Declares, StatementTree, StatementTrees, Declaration, Label, Case, Default, Block, Expression, If, IfElse, Switch, While, Do, For, Goto, Continue, Break, Return, NoStatement, MoreStatements, statement_trees}
+use Rattle.c_layout.specs.DeclarationTrees.{NameView, LocalView, ForFirstView, NoClause, Clause, Declares, StatementTree, Label, Case, Default, Expression, If, IfElse, Switch, While, Do, For, Goto, Continue, Break, Return}
 use Rattle.c_parser_tokens.specs.declared.terminals.Keyword.{Keyword}
 use Rattle.c_parser_tokens.specs.declared.terminals.Keyword.TheVariants as k
 use Rattle.c_parser_tokens.specs.declared.terminals.Punctuator.TheVariants as p
@@ -10,30 +10,25 @@ use Rattle.c_parser_tokens.specs.declared.terminals.Symbol.{Symbol}
 use Rattle.c_parser_tokens.specs.declared.terminals.Symbol.TheVariants as symbol
 use Rattle.c_parser_tokens.specs.declared.terminals.Terminal.{Terminal}
 use Rattle.c_parser_expressions.specs.Expressions.{Derives, height_of}
-use Rattle.c_parser_expressions.specs.Fronts.{first_symbol, first_place, behind_first, is_identifier_first, begins_specifiers, IsSign, IsWord, IsName}
+use Rattle.c_parser_expressions.specs.Fronts.{first_symbol, first_place, behind_first, begins_specifiers, IsSign, IsWord, IsName}
 use Rattle.c_parser_declarations.specs.Declarations.{IsLocal, local_height}
 use Rattle.c_parser.specs.Findings.{is_else}
-use Rattle.c_parser.specs.Statements.{Maybe, Condition, FirstClause, is_statement, is_open, DeriveStatement, DeriveStatements, maybe_height, first_height, expression_height, statement_height, statements_height, IsBlock, block_height}
-use Rattle.c_parser_laws_expressions.specs.Endings.{EndsBefore}
+use Rattle.c_parser.specs.Statements.{Maybe, Condition, FirstClause, maybe_height, first_height, expression_height, statement_height}
 use Rattle.c_parser_laws_expressions.proofs.Levels.{ends_at, below}
-use Rattle.c_parser_laws_finding.specs.Readings.{is_left_brace, is_right_brace, is_right_parenthesis, is_colon}
+use Rattle.c_parser_laws_finding.specs.Readings.{is_left_brace, is_right_parenthesis}
 use Rattle.c_parser_laws_finding.specs.ExpressionReaders.{Readers}
 use Rattle.c_parser_laws_finding.specs.TypeNameReaders.{names_of}
 use Rattle.c_parser_laws_finding.proofs.Begins.{no_specifiers, no_left_brace, no_parenthesis}
 use Rattle.c_parser_laws_finding.proofs.Lifts.{found_inside}
-use Rattle.c_parser_laws_finding.proofs.Shrinking.{length_behind}
-use Rattle.c_parser_laws_finding.proofs.Takes.{takes}
 use Rattle.c_parser_laws_finding.proofs.TypeNames.{all_expressions_found}
-use Rattle.c_parser_laws_finding_declarations.specs.Items.{Item, GotItem, item_of}
-use Rattle.c_parser_laws_finding_declarations.specs.DeclaratorReaders.{name_at, readers_inside}
-use Rattle.c_parser_laws_finding_declarations.specs.SpecifierReaders.{raised, is_semicolon}
-use Rattle.c_parser_laws_finding_declarations.proofs.Beginnings.{word_takes}
+use Rattle.c_parser_laws_finding_declarations.specs.Items.{Item, item_of}
+use Rattle.c_parser_laws_finding_declarations.specs.DeclaratorReaders.{readers_inside}
+use Rattle.c_parser_laws_finding_declarations.specs.SpecifierReaders.{is_semicolon}
 use Rattle.c_parser_laws_finding_declarations.proofs.Declarations.{local_declaration_found}
 use Rattle.c_parser_laws_finding_declarations.proofs.Declarators.{name_is}
 use Rattle.c_parser_laws_finding_declarations.proofs.Enumerators.{identifier_first}
-use Rattle.c_parser_laws_finding_declarations.proofs.Named.{name_takes}
-use Rattle.c_parser_laws_finding_units.specs.StatementReaders.{condition, optional_expression, local_inside, for_first, value_statement, block_item, block_items, block, other_statement, is_label, statement_by, statement, statement_inside}
-use Rattle.c_parser_laws_finding_units.proofs.Fronts.{is_odd, no_odd, no_semicolon, no_label, item_front, local_front, condition_shrinks, clause_shrinks, clauses_shrink, statement_count, statement_takes, statements_few}
+use Rattle.c_parser_laws_finding_units.specs.StatementReaders.{condition, optional_expression, local_inside, for_first, value_statement, is_label, statement_by, statement, statement_inside}
+use Rattle.c_parser_laws_finding_units.proofs.Fronts.{is_odd, no_odd, no_semicolon, no_label, local_front}
 
 -- ---- what statements are made of besides statements
 

@@ -1,12 +1,17 @@
 -- Which statements, external declarations and units the readers find: those that derive, within the budget, before what
 -- may stand behind them.
-use Rattle.std.specs.Prelude.{◌≡◌, ◌≤◌, ℕ, true, false, List, [], Some}
+use Rattle.std.specs.Prelude.{◌≡◌, ◌≤◌, ℕ, true, false, List, [], take, Some, None, Ok}
+use Rattle.cc_base.specs.declared.lexemes.Token.{Token}
+use Rattle.c_layout.specs.declared.data_model.Model.{Model}
 use Rattle.c_layout.specs.DeclarationTrees.{StatementTree, ExternalTree, statement_trees}
+use Rattle.c_parser_tokens.specs.Classes.{classified}
 use Rattle.c_parser_tokens.specs.declared.terminals.Terminal.{Terminal}
 use Rattle.c_parser_expressions.specs.Fronts.{first_symbol}
-use Rattle.c_parser.specs.Externals.{IsExternal, external_height, IsPiece, ArePieces}
+use Rattle.c_parser.specs.Externals.{in_force_behind, IsExternal, external_height, ArePieces, IsUnit}
 use Rattle.c_parser.specs.Findings.{is_else}
+use Rattle.c_parser.specs.Pieces.{piece_length}
 use Rattle.c_parser.specs.Statements.{is_statement, is_open, DeriveStatement, statement_height, IsBlock, block_height}
+use Rattle.c_parser_laws.specs.FirstRefusals.{IsRefusedAt}
 use Rattle.c_parser_laws_finding_declarations.specs.Found.{HasRoom}
 use Rattle.c_parser_laws_finding_declarations.specs.Items.{item_of}
 use Rattle.c_parser_laws_finding_units.specs.StatementReaders.{statement, statement_inside, block}
@@ -29,6 +34,11 @@ abbrev pub FindsExternals : List (List ℕ) → ℕ → Type 0
 FindsExternals known b =
     (e : ExternalTree) (ts rest : List Terminal) → IsExternal known e ts rest → external_height e ≤ b → HasRoom b ts → external known b ts ≡ Some (item_of e (external_height e) rest)
 
--- a unit whose pieces derive is read
+-- a unit with a tree is read
 abbrev pub FindsUnits : Type 0
-FindsUnits = (es : List ExternalTree) (ts : List Terminal) → ArePieces es [] ts [] → HasRoom 256 ts → unit ts ≡ Some es
+FindsUnits = (model : Model) (tokens : List Token) (ts : List Terminal) (es : List ExternalTree) → classified model tokens ≡ Ok ts → IsUnit model tokens es → HasRoom 256 ts → unit ts ≡ Some es
+
+-- behind pieces that derive, a piece that is not read is the first without a derivation
+abbrev pub RefusesRightly : Type 0
+RefusesRightly =
+    (before : List ExternalTree) (ts rest : List Terminal) → ArePieces before [] ts rest → (rest ≡ [] → ⊥) → HasRoom 256 ts → piece (in_force_behind [] before) (take (piece_length rest) rest) ≡ None → IsRefusedAt ts rest

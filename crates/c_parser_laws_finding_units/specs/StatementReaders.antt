@@ -1,5 +1,5 @@
 -- The readers of statements and blocks (6.8) as definitions.
-use Rattle.std.specs.Prelude.{◌+◌, ◌&&◌, ℕ, zero, suc, Bool, true, false, cond, max, length, List, [], ◌∷◌, Option, Some, None}
+use Rattle.std.specs.Prelude.{◌&&◌, ℕ, zero, suc, Bool, true, false, cond, max, length, List, [], Option, Some, None}
 use Rattle.c_layout.specs.SyntaxTrees.{Tree}
 use Rattle.c_layout.specs.DeclarationTrees.{LocalView, ForFirstView, NoClause, Clause, Declares, StatementTree, Declaration, Label, Case, Default, Block, Expression, If, IfElse, Switch, While, Do, For, Goto, Continue, Break, Return, statement_trees}
 use Rattle.c_parser_tokens.specs.declared.terminals.Keyword.{Keyword}
@@ -9,7 +9,7 @@ use Rattle.c_parser_tokens.specs.declared.terminals.Symbol.TheVariants as symbol
 use Rattle.c_parser_tokens.specs.declared.terminals.Terminal.{Terminal}
 use Rattle.c_parser_expressions.specs.Fronts.{first_symbol, first_place, behind_first, is_identifier_first, begins_specifiers}
 use Rattle.c_parser.specs.Findings.{is_else}
-use Rattle.c_parser_laws_finding.specs.Readings.{Got, Reading, is_left_parenthesis, is_right_parenthesis, is_left_brace, is_right_brace, is_colon}
+use Rattle.c_parser_laws_finding.specs.Readings.{Reading, is_left_parenthesis, is_right_parenthesis, is_left_brace, is_right_brace, is_colon}
 use Rattle.c_parser_laws_finding.specs.ExpressionReaders.{Readers}
 use Rattle.c_parser_laws_finding_declarations.specs.Items.{Item, GotItem, item_of, after_item, one_more}
 use Rattle.c_parser_laws_finding_declarations.specs.DeclarationReaders.{local_declaration}

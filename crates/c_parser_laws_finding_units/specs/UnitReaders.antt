@@ -1,7 +1,7 @@
 -- The readers of external declarations (6.9), pieces and units as definitions.
-use Rattle.std.specs.Prelude.{ℕ, zero, suc, Bool, true, false, cond, max, length, List, [], ◌∷◌, take, drop, Option, Some, None}
+use Rattle.std.specs.Prelude.{ℕ, zero, suc, Bool, cond, max, length, List, [], ◌∷◌, take, drop, Option, Some, None}
 use Rattle.cc_base.specs.declared.diagnostics.Place.{Place}
-use Rattle.c_layout.specs.DeclarationTrees.{SpecTree, SpecTrees, StatementTree, FunctionDeclaratorView, InitDeclaratorView, Object, Initialized, Prototype, ExternalTree, Declared, Defined}
+use Rattle.c_layout.specs.DeclarationTrees.{SpecTrees, StatementTree, FunctionDeclaratorView, InitDeclaratorView, Object, Initialized, Prototype, ExternalTree, Declared, Defined}
 use Rattle.c_parser_tokens.specs.declared.terminals.Terminal.{Terminal}
 use Rattle.c_parser_expressions.specs.Fronts.{first_symbol, first_place, behind_first}
 use Rattle.c_parser_declarations.specs.StorageClasses.{is_typedef}

@@ -3,4 +3,7 @@
 
 mod theorems;
 
-pub use theorems::placeholder;
+pub use theorems::{
+    external_declarations_are_found, refused_pieces_have_no_derivation, statements_are_found,
+    units_are_found,
+};
