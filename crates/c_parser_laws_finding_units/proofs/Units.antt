@@ -10,7 +10,7 @@ use Rattle.c_parser.specs.Externals.{in_force, in_force_behind, IsExternal, IsPi
 use Rattle.c_parser.specs.Pieces.{begun, behind, length_from, piece_length}
 use Rattle.c_parser_laws.specs.FirstRefusals.{IsRefusedAt}
 use Rattle.c_parser_laws_finding_declarations.proofs.Beginnings.{spec_front}
-use Rattle.c_parser_laws_finding_units.specs.UnitReaders.{piece, pieces, unit}
+use Rattle.c_parser_laws_finding_units.specs.UnitReaders.{piece, pieces, unit, unread_pieces, unread}
 use Rattle.c_parser_laws_finding_units.proofs.Externals.{external_found}
 
 -- ---- pieces
@@ -86,8 +86,43 @@ left_short (e ∷ es) known ts rest (one, all) =
     let tail = left_short es (in_force known e) (drop (piece_length ts) ts) rest all in
     omega arith
 
-pub refused : (before : List ExternalTree) (ts rest : List Terminal) → ArePieces before [] ts rest → (rest ≡ [] → ⊥) → 256 + length ts < 4294967295 → piece (in_force_behind [] before) (take (piece_length rest) rest) ≡ None → IsRefusedAt ts rest
+-- so many pieces take as many terminals at least
+before_few : (before : List ExternalTree) (known : List (List ℕ)) (ts rest : List Terminal) → ArePieces before known ts rest → length before + length rest ≤ length ts
+before_few [] known ts rest same = let here : rest ≡ ts = same in rw here (omega arith)
+before_few (e ∷ es) known [] rest (one, all) = absurd (no_spec known e [] one.derives)
+before_few (e ∷ es) known (t ∷ ts) rest (one, all) =
+    let some = piece_some t ts in
+    let short = length-drop (piece_length (t ∷ ts)) (t ∷ ts) in
+    let tail = before_few es (in_force known e) (drop (piece_length (t ∷ ts)) (t ∷ ts)) rest all in
+    let here : length es + length rest ≤ length (t ∷ ts) - piece_length (t ∷ ts) = rw short at tail in
+    omega arith
+
+stops_at : (known : List (List ℕ)) (turns : ℕ) (ts : List Terminal) → (ts ≡ [] → ⊥) → 0 < turns → piece known (take (piece_length ts) ts) ≡ None → unread_pieces turns known ts ≡ ts
+stops_at known turns [] some enough none = absurd (some refl)
+stops_at known zero (t ∷ ts) some enough none = absurd (omega arith)
+stops_at known (suc turns) (t ∷ ts) some enough none = rw none refl
+
+read_to : (before : List ExternalTree) (known : List (List ℕ)) (turns : ℕ) (ts rest : List Terminal) → ArePieces before known ts rest → (rest ≡ [] → ⊥) → 256 + length ts < 4294967295 → length before < turns → piece (in_force_behind known before) (take (piece_length rest) rest) ≡ None → unread_pieces turns known ts ≡ rest
+read_to [] known turns ts rest same some room enough none =
+    let here : rest ≡ ts = same in
+    stops_at known turns ts (λ empty. some (here ∙ empty)) enough (rw here at none) ∙ sym here
+read_to (e ∷ es) known zero ts rest all some room enough none = absurd (omega arith)
+read_to (e ∷ es) known (suc turns) [] rest (one, all) some room enough none = absurd (no_spec known e [] one.derives)
+read_to (e ∷ es) known (suc turns) (t ∷ ts) rest (one, all) some room enough none =
+    let short = take_short (piece_length (t ∷ ts)) (t ∷ ts) in
+    let shorter = drop_short (piece_length (t ∷ ts)) (t ∷ ts) in
+    let first = piece_found known e (take (piece_length (t ∷ ts)) (t ∷ ts)) one (omega arith) in
+    let tail = read_to es (in_force known e) turns (drop (piece_length (t ∷ ts)) (t ∷ ts)) rest all some (omega arith) (omega arith) none in
+    rw first tail
+
+not_empty : (rest : List Terminal) → (rest ≡ [] → ⊥) → 1 ≤ length rest
+not_empty [] some = absurd (some refl)
+not_empty (t ∷ ts) some = omega arith
+
+pub refused : (before : List ExternalTree) (ts rest : List Terminal) → ArePieces before [] ts rest → (rest ≡ [] → ⊥) → 256 + length ts < 4294967295 → piece (in_force_behind [] before) (take (piece_length rest) rest) ≡ None → IsRefusedAt ts rest × (unread ts ≡ rest)
 refused before ts rest all some room none =
     let left = left_short before [] ts rest all in
     let short = take_short (piece_length rest) rest in
-    record { before = before; derive = all; some = some; none = λ e is. some_none (piece_found (in_force_behind [] before) e (take (piece_length rest) rest) is (omega arith)) none }
+    let few = before_few before [] ts rest all in
+    let has = not_empty rest some in
+    (record { before = before; derive = all; some = some; none = λ e is. some_none (piece_found (in_force_behind [] before) e (take (piece_length rest) rest) is (omega arith)) none }, read_to before [] (length ts) ts rest all some room (omega arith) none)

@@ -15,7 +15,7 @@ use Rattle.c_parser_laws.specs.FirstRefusals.{IsRefusedAt}
 use Rattle.c_parser_laws_finding_declarations.specs.Found.{HasRoom}
 use Rattle.c_parser_laws_finding_declarations.specs.Items.{item_of}
 use Rattle.c_parser_laws_finding_units.specs.StatementReaders.{statement, statement_inside, block}
-use Rattle.c_parser_laws_finding_units.specs.UnitReaders.{external, piece, unit}
+use Rattle.c_parser_laws_finding_units.specs.UnitReaders.{external, piece, unit, unread}
 
 -- no `else` stands behind a statement that would take it
 abbrev pub StatementEnds : StatementTree → List Terminal → Type 0
@@ -38,7 +38,7 @@ FindsExternals known b =
 abbrev pub FindsUnits : Type 0
 FindsUnits = (model : Model) (tokens : List Token) (ts : List Terminal) (es : List ExternalTree) → classified model tokens ≡ Ok ts → IsUnit model tokens es → HasRoom 256 ts → unit ts ≡ Some es
 
--- behind pieces that derive, a piece that is not read is the first without a derivation
+-- behind pieces that derive, a piece that is not read is the first without a derivation, and the readers stop there
 abbrev pub RefusesRightly : Type 0
 RefusesRightly =
-    (before : List ExternalTree) (ts rest : List Terminal) → ArePieces before [] ts rest → (rest ≡ [] → ⊥) → HasRoom 256 ts → piece (in_force_behind [] before) (take (piece_length rest) rest) ≡ None → IsRefusedAt ts rest
+    (before : List ExternalTree) (ts rest : List Terminal) → ArePieces before [] ts rest → (rest ≡ [] → ⊥) → HasRoom 256 ts → piece (in_force_behind [] before) (take (piece_length rest) rest) ≡ None → IsRefusedAt ts rest × (unread ts ≡ rest)

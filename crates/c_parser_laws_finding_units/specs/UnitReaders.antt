@@ -93,3 +93,17 @@ pieces (suc turns) known (t ∷ ts) =
 
 abbrev pub unit : List Terminal → Option (List ExternalTree)
 unit ts = pieces (length ts) [] ts
+
+abbrev pub behind_piece : Option ExternalTree → List Terminal → (ExternalTree → List Terminal) → List Terminal
+behind_piece None ts more = ts
+behind_piece (Some e) ts more = more e
+
+-- what is left at the first piece that is not read; nothing where all are
+abbrev pub unread_pieces : ℕ → List (List ℕ) → List Terminal → List Terminal
+unread_pieces turns known [] = []
+unread_pieces zero known (t ∷ ts) = t ∷ ts
+unread_pieces (suc turns) known (t ∷ ts) =
+    behind_piece (piece known (take (piece_length (t ∷ ts)) (t ∷ ts))) (t ∷ ts) (λ e. unread_pieces turns (in_force known e) (drop (piece_length (t ∷ ts)) (t ∷ ts)))
+
+abbrev pub unread : List Terminal → List Terminal
+unread ts = unread_pieces (length ts) [] ts
