@@ -15,7 +15,7 @@ use Rattle.c_parser_expressions.specs.Expressions.{Derives}
 use Rattle.c_parser_expressions.specs.Fronts.{first_symbol, behind_first, begins_specifiers, IsSign, IsName}
 use Rattle.c_parser_expressions.specs.Levels.{step_sign, unary_sign}
 use Rattle.c_parser_laws_expressions.proofs.Levels.{level_low, logical_low}
-use Rattle.c_parser_laws_finding.specs.Readings.{is_right_parenthesis, is_right_bracket}
+use Rattle.c_parser_laws_finding.specs.Readings.{is_right_parenthesis, is_right_bracket, is_left_brace, is_right_brace}
 use Rattle.c_parser_laws_finding.proofs.Lifts.{BeginsPostfix}
 
 -- ---- no expression begins as specifiers do
@@ -47,11 +47,13 @@ no_specifiers (Conditional at x y z) known l ts rest (level, a, b, c, d, place, 
 no_specifiers (Assign at op x y) known l ts rest (level, sign, sign-is, a, b, place, left, is, right) = no_specifiers x known 14 ts a left
 no_specifiers (Comma at x y) known l ts rest (level, a, b, place, left, comma, right) = no_specifiers x known 0 ts a left
 
--- ---- no expression begins with a `)` or a `]`
+-- ---- no expression begins with a `)`, a `]` or a brace
 
 is_close : Symbol → Bool
 is_close (symbol.Punctuator p.RightParenthesis) = true
 is_close (symbol.Punctuator p.RightBracket) = true
+is_close (symbol.Punctuator p.LeftBrace) = true
+is_close (symbol.Punctuator p.RightBrace) = true
 is_close _ = false
 
 step_opens : (op : StepOp) → is_close (symbol.Punctuator (step_sign op)) ≡ false
@@ -100,6 +102,22 @@ bracket_off : (s : Symbol) → is_close s ≡ false → is_right_bracket s ≡ f
 unfolding is_close
 bracket_off (symbol.Punctuator p.RightBracket) off = absurd (cc off)
 bracket_off _ off = refl
+
+left_brace_off : (s : Symbol) → is_close s ≡ false → is_left_brace s ≡ false
+unfolding is_close
+left_brace_off (symbol.Punctuator p.LeftBrace) off = absurd (cc off)
+left_brace_off _ off = refl
+
+right_brace_off : (s : Symbol) → is_close s ≡ false → is_right_brace s ≡ false
+unfolding is_close
+right_brace_off (symbol.Punctuator p.RightBrace) off = absurd (cc off)
+right_brace_off _ off = refl
+
+pub no_left_brace : (e : Tree) (known : List (List ℕ)) (l : ℕ) (ts rest : List Terminal) → Derives e known l ts rest → is_left_brace (first_symbol ts) ≡ false
+no_left_brace e known l ts rest d = left_brace_off (first_symbol ts) (no_close e known l ts rest d)
+
+pub no_right_brace : (e : Tree) (known : List (List ℕ)) (l : ℕ) (ts rest : List Terminal) → Derives e known l ts rest → is_right_brace (first_symbol ts) ≡ false
+no_right_brace e known l ts rest d = right_brace_off (first_symbol ts) (no_close e known l ts rest d)
 
 pub no_parenthesis : (e : Tree) (known : List (List ℕ)) (l : ℕ) (ts rest : List Terminal) → Derives e known l ts rest → is_right_parenthesis (first_symbol ts) ≡ false
 no_parenthesis e known l ts rest d = parenthesis_off (first_symbol ts) (no_close e known l ts rest d)

@@ -12,3 +12,4 @@ pub mod Stars
 pub mod Arrays
 pub mod Declarators
 pub mod TypeNames
+pub mod Takes

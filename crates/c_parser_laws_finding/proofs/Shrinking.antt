@@ -110,7 +110,7 @@ declarator_shrinks : (layers : List LayerView) (spans : List Span) (ts rest : Li
 declarator_shrinks [] spans ts rest all (none, same) = rw same (omega arith)
 declarator_shrinks (layer ∷ inner) spans ts rest all layers = layers_shrink inner layer spans ts rest all layers
 
-name_shrinks : (known : List (List ℕ)) (n : TypeNameView) (spans : List Span) (ts rest : List Terminal) → AllShrink spans → IsTypeName known n spans ts rest → IsNoLonger rest ts
+pub name_shrinks : (known : List (List ℕ)) (n : TypeNameView) (spans : List Span) (ts rest : List Terminal) → AllShrink spans → IsTypeName known n spans ts rest → IsNoLonger rest ts
 name_shrinks known n spans ts rest all is =
     let words = chain_shrinks (IsTypeNameWord known) (word_shrinks known) n.words ts is.behind is.words in
     let declarator = declarator_shrinks n.layers spans is.behind rest all is.declarator in

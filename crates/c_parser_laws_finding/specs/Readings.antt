@@ -75,6 +75,14 @@ abbrev pub is_right_bracket : Symbol → Bool
 is_right_bracket (symbol.Punctuator p.RightBracket) = true
 is_right_bracket _ = false
 
+abbrev pub is_left_brace : Symbol → Bool
+is_left_brace (symbol.Punctuator p.LeftBrace) = true
+is_left_brace _ = false
+
+abbrev pub is_right_brace : Symbol → Bool
+is_right_brace (symbol.Punctuator p.RightBrace) = true
+is_right_brace _ = false
+
 abbrev pub is_question : Symbol → Bool
 is_question (symbol.Punctuator p.Question) = true
 is_question _ = false

@@ -1,0 +1,10 @@
+pub mod Lists
+pub mod Initializers
+pub mod Suffixes
+pub mod Declarators
+pub mod Named
+pub mod Enumerators
+pub mod Beginnings
+pub mod Specifiers
+pub mod Parameters
+pub mod Declarations

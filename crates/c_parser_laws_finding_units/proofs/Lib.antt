@@ -1,0 +1,5 @@
+pub mod Fronts
+pub mod Statements
+pub mod Blocks
+pub mod Externals
+pub mod Units

@@ -1,0 +1,3 @@
+pub mod StatementReaders
+pub mod UnitReaders
+pub mod Found

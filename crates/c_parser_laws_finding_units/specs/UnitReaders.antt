@@ -1,0 +1,109 @@
+-- The readers of external declarations (6.9), pieces and units as definitions.
+use Rattle.std.specs.Prelude.{ℕ, zero, suc, Bool, cond, max, length, List, [], ◌∷◌, take, drop, Option, Some, None}
+use Rattle.cc_base.specs.declared.diagnostics.Place.{Place}
+use Rattle.c_layout.specs.DeclarationTrees.{SpecTrees, StatementTree, FunctionDeclaratorView, InitDeclaratorView, Object, Initialized, Prototype, ExternalTree, Declared, Defined}
+use Rattle.c_parser_tokens.specs.declared.terminals.Terminal.{Terminal}
+use Rattle.c_parser_expressions.specs.Fronts.{first_symbol, first_place, behind_first}
+use Rattle.c_parser_declarations.specs.StorageClasses.{is_typedef}
+use Rattle.c_parser.specs.Externals.{with_declared, in_force}
+use Rattle.c_parser.specs.Pieces.{piece_length}
+use Rattle.c_parser_laws_finding.specs.Readings.{is_comma, is_left_brace}
+use Rattle.c_parser_laws_finding_declarations.specs.Items.{Item, GotItem, item_of, after_item, one_more}
+use Rattle.c_parser_laws_finding_declarations.specs.DeclarationReaders.{file_declarator, initialized}
+use Rattle.c_parser_laws_finding_declarations.specs.ParameterReaders.{words_list}
+use Rattle.c_parser_laws_finding_declarations.specs.SpecifierReaders.{raised, is_semicolon, specifiers}
+use Rattle.c_parser_laws_finding_units.specs.StatementReaders.{block, statement_inside}
+
+-- ---- declarations. `b` is the budget of what stands inside, `gives` says that declarators give typedef names.
+
+abbrev pub no_declarator : Item (List InitDeclaratorView)
+no_declarator ts = cond (is_semicolon (first_symbol ts)) (Some (item_of [] 0 (behind_first ts))) None
+
+-- a declarator with its initializer, in which its own name may be in force, and what is read behind both
+abbrev pub completed : Bool → ℕ → List (List ℕ) → (List (List ℕ) → Item (List InitDeclaratorView)) → GotItem InitDeclaratorView → Option (GotItem (List InitDeclaratorView))
+completed gives b known more d =
+    after_item (initialized (with_declared gives known d.item) b d) (λ x. after_item (more (with_declared gives known d.item) x.rest) (one_more x))
+
+-- the declarators behind the first one, each behind a comma, with the `;`
+abbrev pub further : Bool → ℕ → ℕ → List (List ℕ) → Item (List InitDeclaratorView)
+further gives b zero known ts = no_declarator ts
+further gives b (suc turns) known ts =
+    cond (is_comma (first_symbol ts)) (after_item (file_declarator known b (behind_first ts)) (completed gives b known (further gives b turns))) (no_declarator ts)
+
+-- all of them, behind the first one without its initializer
+abbrev pub declarators_behind : Bool → ℕ → List (List ℕ) → GotItem InitDeclaratorView → Option (GotItem (List InitDeclaratorView))
+declarators_behind gives b known d = completed gives b known (λ names ts. further gives b (length ts) names ts) d
+
+abbrev pub declaration : ℕ → List (List ℕ) → Place → GotItem SpecTrees → GotItem InitDeclaratorView → Option (GotItem ExternalTree)
+declaration b known at ws d =
+    after_item (declarators_behind (is_typedef (words_list ws.item)) b known d) (λ ds. raised (suc b) (Declared at (words_list ws.item) ds.item) (max ws.height ds.height) ds.rest)
+
+-- ---- definitions of functions
+
+abbrev pub defined : ℕ → Place → GotItem SpecTrees → FunctionDeclaratorView → ℕ → GotItem (List StatementTree) → Option (GotItem ExternalTree)
+defined b at ws f h body = raised (suc b) (Defined at (words_list ws.item) f body.item) (max (max ws.height h) body.height) body.rest
+
+abbrev pub definition_of : ℕ → List (List ℕ) → Place → GotItem SpecTrees → InitDeclaratorView → ℕ → Item ExternalTree
+definition_of b known at ws (Prototype f) h ts = after_item (block known b (statement_inside known b) ts) (defined b at ws f h)
+definition_of b known at ws (Object d) h ts = None
+definition_of b known at ws (Initialized d equals i) h ts = None
+
+-- the declarator's name is in force in the body, where it is a typedef name
+abbrev pub definition : ℕ → List (List ℕ) → Place → GotItem SpecTrees → GotItem InitDeclaratorView → Option (GotItem ExternalTree)
+definition b known at ws d = definition_of b (with_declared (is_typedef (words_list ws.item)) known d.item) at ws d.item d.height d.rest
+
+-- ---- external declarations
+
+abbrev pub behind_declarator : ℕ → List (List ℕ) → Place → GotItem SpecTrees → GotItem InitDeclaratorView → Option (GotItem ExternalTree)
+behind_declarator b known at ws d = cond (is_left_brace (first_symbol d.rest)) (definition b known at ws d) (declaration b known at ws d)
+
+abbrev pub behind_specifiers : ℕ → List (List ℕ) → Place → GotItem SpecTrees → Option (GotItem ExternalTree)
+behind_specifiers b known at ws =
+    cond (is_semicolon (first_symbol ws.rest)) (raised (suc b) (Declared at (words_list ws.item) []) ws.height (behind_first ws.rest))
+    (after_item (file_declarator known b ws.rest) (behind_declarator b known at ws))
+
+abbrev pub external : List (List ℕ) → ℕ → Item ExternalTree
+external known zero ts = None
+external known (suc b) ts = after_item (specifiers known b ts) (behind_specifiers b known (first_place ts))
+
+-- ---- pieces and units
+
+abbrev pub complete : ExternalTree → List Terminal → Option ExternalTree
+complete e [] = Some e
+complete e (t ∷ ts) = None
+
+-- the external declaration that a piece is
+abbrev pub piece : List (List ℕ) → List Terminal → Option ExternalTree
+piece known ts = after_item (external known 256 ts) (λ g. complete g.item g.rest)
+
+abbrev pub with_external : ExternalTree → Option (List ExternalTree) → Option (List ExternalTree)
+with_external e None = None
+with_external e (Some es) = Some (e ∷ es)
+
+abbrev pub after_piece : Option ExternalTree → (ExternalTree → Option (List ExternalTree)) → Option (List ExternalTree)
+after_piece None more = None
+after_piece (Some e) more = with_external e (more e)
+
+-- the external declarations that the pieces of these terminals are, of which there are so many at most
+abbrev pub pieces : ℕ → List (List ℕ) → List Terminal → Option (List ExternalTree)
+pieces turns known [] = Some []
+pieces zero known (t ∷ ts) = None
+pieces (suc turns) known (t ∷ ts) =
+    after_piece (piece known (take (piece_length (t ∷ ts)) (t ∷ ts))) (λ e. pieces turns (in_force known e) (drop (piece_length (t ∷ ts)) (t ∷ ts)))
+
+abbrev pub unit : List Terminal → Option (List ExternalTree)
+unit ts = pieces (length ts) [] ts
+
+abbrev pub behind_piece : Option ExternalTree → List Terminal → (ExternalTree → List Terminal) → List Terminal
+behind_piece None ts more = ts
+behind_piece (Some e) ts more = more e
+
+-- what is left at the first piece that is not read; nothing where all are
+abbrev pub unread_pieces : ℕ → List (List ℕ) → List Terminal → List Terminal
+unread_pieces turns known [] = []
+unread_pieces zero known (t ∷ ts) = t ∷ ts
+unread_pieces (suc turns) known (t ∷ ts) =
+    behind_piece (piece known (take (piece_length (t ∷ ts)) (t ∷ ts))) (t ∷ ts) (λ e. unread_pieces turns (in_force known e) (drop (piece_length (t ∷ ts)) (t ∷ ts)))
+
+abbrev pub unread : List Terminal → List Terminal
+unread ts = unread_pieces (length ts) [] ts
