@@ -6,7 +6,7 @@ use Rattle.flow_program.specs.WellFormed.{is_well_formed}
 use Rattle.flow_program.specs.declared.programs.Flow.{Flow}
 use Rattle.interval_domain.specs.IntervalLattice.{interval_lattice, interval_order, interval_rounding, interval_heights}
 use Rattle.interval_domain.specs.IntervalNumbers.{interval_numbers, interval_bounding, interval_ranges}
-use Rattle.interval_domain_laws.proofs.Operations.{interval_monotone}
+use Rattle.interval_domain_laws.specs.Operations.{interval_monotone}
 use Rattle.abstract_steps_rows.specs.IntervalEnds.{interval_ends}
 use Rattle.abstract_steps_rows.specs.OwnRows.{program_bases}
 use Rattle.rule_checks.specs.AdmittedRules.{map_pairs}
