@@ -49,15 +49,10 @@ abbrev pub naming_too : Naming → ℕ → ℕ → Naming
 naming_too naming i b j = cond (j == i) (Some b) (naming j)
 
 pub names_too : (naming : Naming) (i b : ℕ) → NamesToo naming (naming_too naming i b) i b
-names_too naming i b = record { own = at_own (i == i) refl; others = λ j h. at_other j (j == i) refl h }
+names_too naming i b = record { own = ap (λ c. cond c (Some b) (naming i)) same; others = λ j h. at_other j (j == i) refl h }
   where
-    at_own : (c : Bool) → (i == i) ≡ c → cond c (Some b) (naming i) ≡ Some b
-    at_own true e = refl
-    at_own false e = absurd (differs i e)
-      where
-        differs : (k : ℕ) → (k == k) ≡ false → ⊥
-        differs zero f = cc
-        differs (suc k) f = differs k f
+    same : (i == i) ≡ true
+    same = grind arith
 
     at_other : (j : ℕ) (c : Bool) → (j == i) ≡ c → (j ≡ i → ⊥) → cond c (Some b) (naming j) ≡ naming j
     at_other j true e h = absurd (h (eqb-true j i e))

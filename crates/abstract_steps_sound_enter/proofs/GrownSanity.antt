@@ -55,7 +55,7 @@ module _ (m : Model) (bases : List BaseInfo) (naming : Naming) (old : Memory) (s
 
   pub own_byte : (o : ℕ) (x : Byte) → byte_at new (length old) o ≡ Some x → x ≡ record { content = indeterminate; tag = tag_at m cells o }
   unfolding byte_at
-  own_byte o x e = blank_byte m cells 0 info.size o o x refl (sym (ap (λ z. slice_get z o) own_bytes) ∙ e)
+  own_byte o x e = blank_byte m cells 0 info.size o o x (omega arith) (sym (ap (λ z. slice_get z o) own_bytes) ∙ e)
 
   own_base : (i d : ℕ) → i ≡ length old → new_naming i ≡ Some d → d ≡ b
   own_base i d e f = same_Some d b (sym f ∙ (ap new_naming e ∙ t.own))
@@ -82,7 +82,7 @@ module _ (m : Model) (bases : List BaseInfo) (naming : Naming) (old : Memory) (s
   fresh_instance = record {
     storage = ap storage_for (sym kind);
     size = λ h. blank_long m cells 0 info.size;
-    tags = λ h o x e. ap (λ z. z.tag) (blank_byte m cells 0 info.size o o x refl e);
+    tags = λ h o x e. ap (λ z. z.tag) (blank_byte m cells 0 info.size o o x (omega arith) e);
   }
 
   instance_by : (i d : ℕ) (base : BaseInfo) (it : Instance) → new_naming i ≡ Some d → slice_get bases d ≡ Some base → slice_get new i ≡ Some it → IsInstanceOf m base it
