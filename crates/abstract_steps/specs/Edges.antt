@@ -124,9 +124,13 @@ module _ {I : Type 0} where
 
   -- ---- the two edges of `fgets`
 
+  abbrev pub put_null : LatticeOf I → Flow → Option ℕ → List (Cell I) → List (Cell I)
+  put_null l flow None row = row
+  put_null l flow (Some temp) row = put_temp flow row temp (pointer_value l (null_pointer l))
+
   unfoldable pub no_line_edge : LatticeOf I → Flow → List (Cell I) → Option LineCall → Option (List (Cell I))
   no_line_edge l flow row None = None
-  no_line_edge l flow row (Some c) = Some (put_temp flow row c.to_temp (pointer_value l (null_pointer l)))
+  no_line_edge l flow row (Some c) = Some (put_null l flow c.to_temp row)
 
   unfoldable pub line_edge : LatticeOf I → IntegersOf I → Flow → List (Cell I) → Option LineCall → Option (List (Cell I))
   line_edge l n flow row None = None

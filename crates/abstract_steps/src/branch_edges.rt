@@ -1,7 +1,7 @@
 //! What an edge makes of the row at the end of its block.
 ghost use Rattle.std.specs.Prelude.{◌≡◌, true, false, Some, None, length};
 ghost use Rattle.std.specs.Option.{option_copied};
-ghost use Rattle.abstract_steps.specs.Edges.{last_instruction, deciding_operand, deciding_temp, truth_can_be, can_be, put_kept, refine_if, behind_test, branch_edge, switched, includes, refine_object, case_edge, has_label, is_other_than, line_of, line_call, no_line_edge, line_edge, follow, edge};
+ghost use Rattle.abstract_steps.specs.Edges.{last_instruction, deciding_operand, deciding_temp, truth_can_be, can_be, put_kept, refine_if, behind_test, branch_edge, put_null, switched, includes, refine_object, case_edge, has_label, is_other_than, line_of, line_call, no_line_edge, line_edge, follow, edge};
 
 use crate::refinements::{refine, refine_case};
 use abstract_steps_checks::{put_temp, temp_value};
@@ -202,10 +202,10 @@ fn is_other_than(range: Option<(i128, i128)>, labels: &[i128]) -> bool
     }
 }
 
-/// A call of `fgets`: the temporaries of its result and of its arguments.
+/// A call of `fgets`: the temporaries of its result, where it is kept, and of its arguments.
 #[derive(Clone, Copy)]
 struct LineCall {
-    to_temp: u32,
+    to_temp: Option<u32>,
     line: u32,
     count: u32,
     stream: u32,
@@ -235,6 +235,16 @@ fn line_call(flow: &Flow, block: u32) -> Option<LineCall>
     }
 }
 
+/// Puts null into a temporary, where there is one.
+fn put_null<I: IntDomain>(flow: &Flow, row: &mut [Cell<I>], to_temp: Option<u32>)
+    ensures length { length row.new ≡ length row.old }
+    ensures row { row.new ≡ put_null I.lattice flow.now to_temp row.old }
+{
+    if let Some(temp) = to_temp {
+        put_temp(flow, row, temp, Value::of_pointer(null_pointer()));
+    }
+}
+
 /// The edge of `fgets` where its answer is null.
 #[tactic(auto, unfolding(crate::specs::Edges::no_line_edge))]
 fn no_line_edge<I: IntDomain>(flow: &Flow, row: &mut [Cell<I>], call: Option<LineCall>) -> bool
@@ -245,7 +255,7 @@ fn no_line_edge<I: IntDomain>(flow: &Flow, row: &mut [Cell<I>], call: Option<Lin
     match call {
         None => false,
         Some(found) => {
-            put_temp(flow, row, found.to_temp, Value::of_pointer(null_pointer()));
+            put_null(flow, row, found.to_temp);
             true
         }
     }

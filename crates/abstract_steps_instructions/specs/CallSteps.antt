@@ -53,5 +53,5 @@ module _ {I : Type 0} where
   line_goes_on l n flow row line count stream = goes_on (planned_line l n flow row line count stream).effect
 
   -- the line that is read
-  unfoldable pub write_line : LatticeOf I → IntegersOf I → Flow → List (Cell I) → ℕ → ℕ → ℕ → ℕ → Option (List (Cell I))
-  write_line l n flow row to line count stream = apply l n flow (Some to) None (planned_line l n flow row line count stream).effect row
+  unfoldable pub write_line : LatticeOf I → IntegersOf I → Flow → List (Cell I) → Option ℕ → ℕ → ℕ → ℕ → Option (List (Cell I))
+  write_line l n flow row to line count stream = apply l n flow to None (planned_line l n flow row line count stream).effect row

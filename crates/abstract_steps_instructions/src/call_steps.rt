@@ -120,7 +120,7 @@ pub fn line_goes_on<I: IntDomain>(
 pub fn write_line<I: IntDomain>(
     flow: &Flow,
     row: &mut [Cell<I>],
-    to_temp: u32,
+    to_temp: Option<u32>,
     line: u32,
     count: u32,
     stream: u32,
@@ -130,5 +130,5 @@ pub fn write_line<I: IntDomain>(
     ensures unreached { result ≡ false → write_line I.lattice I.numbers flow.now row.old to_temp line count stream ≡ None }
 {
     let effect = planned_line(flow, row, line, count, stream).effect;
-    apply(flow, row, Some(to_temp), None, effect)
+    apply(flow, row, to_temp, None, effect)
 }

@@ -28,7 +28,7 @@ use Rattle.value_domain_laws.proofs.Leaving.{AreOrdered}
 use Rattle.value_domain_laws.proofs.ValueOperations.{truth_monotone}
 use Rattle.store_domain_laws.specs.TopRows.{top_row}
 use Rattle.abstract_steps_checks.specs.Temporaries.{temp_value}
-use Rattle.abstract_steps.specs.Edges.{deciding_temp, line_call, truth_can_be, includes, has_label, is_other_than, can_be, put_kept, refine_if, kept_behind, behind_test, branch_edge, switched, refine_named_case, refine_object, case_edge, no_line_edge, line_edge, follow, follow_if, edge}
+use Rattle.abstract_steps.specs.Edges.{deciding_temp, line_call, truth_can_be, includes, has_label, is_other_than, can_be, put_kept, refine_if, kept_behind, behind_test, branch_edge, put_null, switched, refine_named_case, refine_object, case_edge, no_line_edge, line_edge, follow, follow_if, edge}
 use Rattle.abstract_steps_laws_values.specs.RisingRows.{LeftRise}
 use Rattle.abstract_steps_laws_values.specs.LaidOut.{IsLaidOut}
 use Rattle.abstract_steps_laws_values.specs.StepLaws.{FlowRows, Rises}
@@ -137,11 +137,15 @@ module _ {I : Type 0} {l : LatticeOf I} {n : IntegersOf I} {stands : I → ℤ �
 
   -- ---- the two edges of `fgets`
 
+  put_null_rises : (to : Option ℕ) (r s : List (Cell I)) → FlowRows l n all flow r s → FlowRows l n all flow (put_null l flow to r) (put_null l flow to s)
+  put_null_rises None r s h = h
+  put_null_rises (Some temp) r s h = put_temp_rises o b all flow k r s h temp (pointer_value l (null_pointer l)) (pointer_value l (null_pointer l)) (pointer_rises o b all (null_pointer l) (null_pointer l) (null_rises o b all))
+
   no_line_rises : (from : ℕ) → Rises l n all flow (λ row. no_line_edge l flow row (line_call flow from))
   unfolding no_line_edge
   no_line_rises from r s h = elim (line_call flow from) as (λ c. LeftRise l n (top_row n all flow.bases.items flow.temps) (no_line_edge l flow r c) (no_line_edge l flow s c)) [
     | None ↦ tt
-    | Some c ↦ put_temp_rises o b all flow k r s h c.to_temp (pointer_value l (null_pointer l)) (pointer_value l (null_pointer l)) (pointer_rises o b all (null_pointer l) (null_pointer l) (null_rises o b all))
+    | Some c ↦ put_null_rises c.to_temp r s h
   ]
 
   line_rises : LineRises l n all flow → (from : ℕ) → Rises l n all flow (λ row. line_edge l n flow row (line_call flow from))

@@ -38,7 +38,7 @@ use Rattle.abstract_steps_instructions.specs.MemorySteps.{put_read, put_loaded, 
 use Rattle.abstract_steps_instructions.specs.CallSteps.{line_goes_on}
 use Rattle.abstract_steps_instructions.specs.Steps.{operate}
 use Rattle.abstract_steps.specs.Refinements.{object_position, mirrored, is_same_object, side_value, refined, met, has_number, labelled_number, with_number, named_by, put_at, put_side, refine_one, refine_two, refine_sides, refine_values, refine_integers, refine_pointer_at, refine_pointer, refine_named, refine_in, refine, put_case, refine_value, refine_case_at, refine_case}
-use Rattle.abstract_steps.specs.Edges.{deciding_temp, switched, is_other_than, line_call, put_kept, refine_if, kept_behind, behind_test, branch_edge, refine_named_case, refine_object, case_edge, no_line_edge, line_edge, follow, follow_if, edge}
+use Rattle.abstract_steps.specs.Edges.{deciding_temp, switched, is_other_than, line_call, put_kept, refine_if, kept_behind, behind_test, branch_edge, put_null, refine_named_case, refine_object, case_edge, no_line_edge, line_edge, follow, follow_if, edge}
 use Rattle.abstract_steps_system.specs.BlockPasses.{rows_behind, block_end, instructions_in, instructions_of}
 use Rattle.abstract_steps_laws.specs.FilledRows.{AreFilled, IsLeftFilled, Fills, LeavesFilled}
 use Rattle.abstract_steps_laws.specs.ProgramLaws.{IsRising, IsRisingEdge, AreRising}
@@ -220,13 +220,17 @@ module _ {I : Type 0} (l : LatticeOf I) (n : IntegersOf I) (all : Bases) (flow :
   named_case_fills None number row h = h
   named_case_fills (Some base) number row h = case_at_fills (object_position flow base) number row h
 
+  null_fills : (to : Option ℕ) (row : List (Cell I)) → AreFilled row → AreFilled (put_null l flow to row)
+  null_fills None row h = h
+  null_fills (Some temp) row h = temp_fills row h temp _
+
   follow_fills : (from : ℕ) (e : EdgeKind) → IsRisingEdge l n all flow e → LeavesFilled (λ row. follow l n flow row from e)
   unfolding follow branch_edge behind_test case_edge refine_object no_line_edge line_edge
   follow_fills from kind.Jump u row h = h
   follow_fills from (kind.When truth test kept) u row h = left_if _ _ (kept_fills kept _ (test_fills test row h))
   follow_fills from (kind.Case test) u row h = left_if _ _ (named_case_fills test.object test.value row h)
   follow_fills from (kind.Other labels) u row h = left_if (is_other_than (switched l n flow row (deciding_temp flow from)) labels.items) (Some row) h
-  follow_fills from kind.NoLine u row h = elim (line_call flow from) as (λ c. IsLeftFilled (no_line_edge l flow row c)) [ None ↦ tt | Some c ↦ temp_fills row h c.to_temp _ ]
+  follow_fills from kind.NoLine u row h = elim (line_call flow from) as (λ c. IsLeftFilled (no_line_edge l flow row c)) [ None ↦ tt | Some c ↦ null_fills c.to_temp row h ]
   follow_fills from kind.Line u row h = elim (line_call flow from) as (λ c. IsLeftFilled (line_edge l n flow row c)) [ None ↦ tt | Some c ↦ u.fills c.to_temp c.line c.count c.stream row h ]
 
   follow_if_fills : (e : Option Edge) → ((d : Edge) → e ≡ Some d → IsRisingEdge l n all flow d.kind) → LeavesFilled (λ row. follow_if l n flow row e)

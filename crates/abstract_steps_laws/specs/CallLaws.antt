@@ -27,8 +27,8 @@ module _ {I : Type 0} (l : LatticeOf I) (n : IntegersOf I) (all : Bases) (flow :
   pub record LineRises : Type 0 where
     pub on : (line count stream : ℕ) (r s : List (Cell I)) → FlowRows l n all flow r s → line_goes_on l n flow r line count stream ≡ true → line_goes_on l n flow s line count stream ≡ true
     pub checks : (line count stream : ℕ) → Violates l n all flow (λ row. line_violations l n flow row line count stream)
-    pub step : (to line count stream : ℕ) → Rises l n all flow (λ row. write_line l n flow row to line count stream)
-    pub fills : (to line count stream : ℕ) → LeavesFilled (λ row. write_line l n flow row to line count stream)
+    pub step : (to : Option ℕ) (line count stream : ℕ) → Rises l n all flow (λ row. write_line l n flow row to line count stream)
+    pub fills : (to : Option ℕ) (line count stream : ℕ) → LeavesFilled (λ row. write_line l n flow row to line count stream)
 
   -- copies of structs, through larger pointers
   pub record CopyRises : Type 0 where

@@ -1,6 +1,6 @@
 -- Differences and relations of pointers are sound.
 use Rattle.std.proofs.Common.{◌≡◌, ℕ, suc, ◌*◌, ◌/◌, ◌≤◌, ◌<◌, Bool, true, false, not, ◌||◌, ◌&&◌, Option, Some, List, [], length, arith, subst, sym, refl, ap, ◌∙◌, inl, inr}
-use Rattle.std.specs.Prelude.{ℤ, pos, negsuc, ◌-ℤ◌, ◌≤ℤ◌, int_div, slice_get, ◌==◌}
+use Rattle.std.specs.Prelude.{ℤ, pos, negsuc, ◌-ℤ◌, ◌≤ℤ◌, int_div, slice_get, ◌==◌, nat_lt}
 use Rattle.std.proofs.lemmas.Int.{ints}
 use Rattle.std.proofs.lemmas.Bool.{cases_Bool, cases_eq, and_parts, and_from, eqb-true, eqb-false, eq-eqb, ne_eqb, ltb-true, or_left, or_right, or_cases, or_parts, true≢false}
 use Rattle.std.proofs.Math.Nat.{mul-le-mul_left}
@@ -349,10 +349,14 @@ module _ {I : Type 0} {l : LatticeOf I} {n : IntegersOf I} {stands : I → ℤ �
 
   -- ---- the instructions
 
-  pub difference_sound : (to left right size : ℕ) → fits_operation (names_of flow) (op.Difference to left right size) ≡ true → 0 < size → StepIsSound l n stands flow row (op.Difference to left right size) s
+  pub difference_sound : (to left right size : ℕ) → fits_operation (names_of flow) (op.Difference to left right size) ≡ true → StepIsSound l n stands flow row (op.Difference to left right size) s
   unfolding operate difference_step operation_violations
-  difference_sound to left right size fits some =
-      let few = ltb-true to flow.temps (and_parts (has_temp (names_of flow) to) (has_temp (names_of flow) left && (has_temp (names_of flow) right && is_extent size)) fits).0 in
+  difference_sound to left right size fits =
+      let named = and_parts (has_temp (names_of flow) to) (has_temp (names_of flow) left && (has_temp (names_of flow) right && (is_extent size && nat_lt 0 size))) fits in
+      let few = ltb-true to flow.temps named.0 in
+      let at_right = and_parts (has_temp (names_of flow) left) (has_temp (names_of flow) right && (is_extent size && nat_lt 0 size)) named.1 in
+      let sized = and_parts (has_temp (names_of flow) right) (is_extent size && nat_lt 0 size) at_right.1 in
+      let some = ltb-true 0 size (and_parts (is_extent size) (nat_lt 0 size) sized.1).1 in
       let x : Value I = temp_value l n flow row left in
       let y : Value I = temp_value l n flow row right in
       if_some_good l n stands flow _ _ s r.begun (s.temps left) _ (λ v e.

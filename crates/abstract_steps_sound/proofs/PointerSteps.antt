@@ -25,6 +25,6 @@ module _ {I : Type 0} {l : LatticeOf I} {n : IntegersOf I} {stands : I → ℤ �
   pointer_step_sound (op.Address to base offset) is fits typed = address_sound o q flow p naming row s r to base offset fits
   pointer_step_sound (op.Narrow to from offset size) is fits typed = narrow_sound o q flow p naming row s r to from offset size fits
   pointer_step_sound (op.Shift to from by scale back) is fits typed = shift_sound o q flow p naming row s r to from by scale back fits
-  pointer_step_sound (op.Difference to left right size) is fits typed = difference_sound o q c flow p naming row s r to left right size fits typed
+  pointer_step_sound (op.Difference to left right size) is fits typed = difference_sound o q c flow p naming row s r to left right size fits
   pointer_step_sound (op.ComparePointers to rel left right) is fits typed = relation_sound o q c flow p naming row s r to rel left right fits
   pointer_step_sound i is fits typed = absurd (true≢false (sym is))

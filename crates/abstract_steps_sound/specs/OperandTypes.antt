@@ -1,6 +1,6 @@
 -- What instructions suppose of their operands: the rows of an analysis speak of numbers of the type alone, and neither
 -- the machine nor the checks of a program look at it.
-use Rattle.std.specs.Prelude.{◌≡◌, ◌<◌, ℕ, ℤ, true, Option, Some}
+use Rattle.std.specs.Prelude.{◌≡◌, ℕ, ℤ, true, Option, Some}
 use Rattle.cc_base.specs.IntegerTypes.{in_type}
 use Rattle.cc_base.specs.declared.int_types.IntType.{IntType}
 use Rattle.flow_program.specs.declared.machine_instructions.Scalar as declared
@@ -18,11 +18,10 @@ HasNumberOf kind v = (n : ℤ) (labels : Labels) → v ≡ Some (integer n label
 abbrev pub HasKind : declared.Scalar → Option Scalar → Type 0
 HasKind kind v = (x : Scalar) → v ≡ Some x → IsOfKind kind x
 
--- the left operand of an operator is of the operator's type, what is converted is of the type from which it is
--- converted, and pointers are subtracted in elements of some size
+-- the left operand of an operator is of the operator's type, and what is converted is of the type from which it is
+-- converted
 abbrev pub HasOperands : Operation → (ℕ → Option Scalar) → Type 0
 HasOperands (op.Binary to o left right kind) temps = HasNumberOf kind (temps left)
 HasOperands (op.Unary to o operand kind) temps = HasNumberOf kind (temps operand)
 HasOperands (op.Convert to operand from kind) temps = HasKind from (temps operand)
-HasOperands (op.Difference to left right size) temps = 0 < size
 HasOperands _ temps = Unit {0}

@@ -82,6 +82,9 @@ module _ {I : Type 0} (l : LatticeOf I) (b : ℕ) where
 clear_other : {A : Type 0} (f : ℕ → Option A) (b d : ℕ) (x : A) → clear_at f b d ≡ Some x → (d ≡ b → ⊥) × (f d ≡ Some x)
 clear_other f b d x e = grind arith
 
+clear_keeps : {A : Type 0} (f : ℕ → Option A) (b d : ℕ) (x : A) → (d ≡ b → ⊥) → f d ≡ Some x → clear_at f b d ≡ Some x
+clear_keeps f b d x h e = grind arith
+
 module _ {I : Type 0} {l : LatticeOf I} {n : IntegersOf I} {stands : I → ℤ → Type 0} (flow : Flow) (p : HasPremises flow) (naming : Naming) (row : List (Cell I)) (s : Standing) (r : IsReached l n stands flow naming row s)
     (b i : ℕ) (info : BaseInfo) (at : slice_get flow.bases.items b ≡ Some info) (entered : s.bases b ≡ Some i) (declared : info.shape.heap ≡ false) (kind : info.kind ≡ Older → ⊥) where
   abbrev old : Memory
@@ -239,6 +242,10 @@ module _ {I : Type 0} {l : LatticeOf I} {n : IntegersOf I} {stands : I → ℤ �
     sane = left_sane ends flow.model flow.bases.items naming r.stands_for.sane;
     held = record { within = λ t scalar e. scalar_left ends scalar (r.stands_for.held.within t scalar e); named = λ t x e. named_left ends naming x (r.stands_for.held.named t x e) };
     lives = record {
+      sole = λ d j base e a m h.
+          let k = not_ended ends j h in
+          let f = r.stands_for.lives.sole d j base e a m k.1 in
+          clear_keeps s.bases b d j (λ g. k.0 (same_Some j i (sym f ∙ (ap s.bases g ∙ entered)))) f;
       alive = λ d j e. let k = clear_other s.bases b d j e in ends.others j (λ f. k.0 (same_Some d b (sym (r.stands_for.lives.named d j k.1) ∙ (ap naming f ∙ named)))) ∙ r.stands_for.lives.alive d j k.1;
       named = λ d j e. let k = clear_other s.bases b d j e in r.stands_for.lives.named d j k.1;
     };

@@ -9,19 +9,19 @@ use Rattle.c_layout.specs.declared.leaf_lists.Leaf.{Leaf}
 use Rattle.c_layout.specs.declared.shapes.BaseInfo.{BaseInfo}
 use Rattle.c_layout.specs.declared.shapes.BaseKind.TheVariants.{Older}
 use Rattle.c_layout.specs.declared.shapes.ZeroPart.{ZeroPart}
-use Rattle.flow_program.specs.WellFormed.{base_cells, base_values, names_of, fits_operation}
+use Rattle.flow_program.specs.WellFormed.{base_values, names_of, fits_operation}
 use Rattle.flow_program.specs.declared.machine_instructions.Operation.{Operation}
 use Rattle.flow_program.specs.declared.machine_instructions.Operation.TheVariants as op
 use Rattle.flow_program.specs.declared.programs.Flow.{Flow}
 use Rattle.string_domain.specs.FirstZeros.{the_end}
 use Rattle.value_domain.specs.ValueTables.{blank_value}
 use Rattle.value_domain.specs.declared.row_cells.Cell.{Cell}
-use Rattle.value_domain.specs.declared.row_cells.Cell.TheVariants.{Value, First}
-use Rattle.store_domain.specs.FirstZeroWrites.{no_zero, set_zeros}
+use Rattle.value_domain.specs.declared.row_cells.Cell.TheVariants.{First}
+use Rattle.store_domain.specs.FirstZeroWrites.{no_zero}
 use Rattle.store_domain.specs.NearValues.{near_value}
-use Rattle.store_domain.specs.ObjectLives.{set_values, blank_object, at_base, forget}
+use Rattle.store_domain.specs.ObjectLives.{blank_object, at_base, forget}
 use Rattle.store_domain.specs.RowLengths.{forget_keeps}
-use Rattle.store_domain.specs.RowPositions.{leaf_position, zero_position, value_count, cell_at, value_in, value_at, zero_at}
+use Rattle.store_domain.specs.RowPositions.{leaf_position, zero_position, cell_at, value_at, zero_at}
 use Rattle.abstract_steps_checks.specs.ViolationSets.{no_violations}
 use Rattle.abstract_steps_instructions.specs.Steps.{operate}
 use Rattle.abstract_steps_instructions.specs.StepViolations.{operation_violations}
@@ -38,7 +38,6 @@ use Rattle.store_domain_meaning.specs.RowMeaning.{IsLiveOf, StandsLeaf, StandsFo
 use Rattle.store_domain_meaning.specs.Coverage.{state_of}
 use Rattle.store_domain_sound.proofs.Classes.{class_above}
 use Rattle.store_domain_sound.proofs.Slices.{get_take, get_drop, get_there}
-use Rattle.store_domain_sound.proofs.StoreRows.{leaf_is, zero_is}
 use Rattle.store_domain_sound_programs.specs.Premises.{HasPremises}
 use Rattle.abstract_steps_sound.specs.SoundSteps.{IsReached, StandsBehind, StepIsSound}
 use Rattle.abstract_steps_sound.proofs.Admitted.{none_admitted, same_admitted}
@@ -48,17 +47,17 @@ use Rattle.abstract_steps_sound.proofs.Replies.{if_some_good}
 use Rattle.abstract_steps_sound_objects.specs.ObjectSteps.{IsForget}
 use Rattle.abstract_steps_sound_objects.proofs.Rewrites.{rewrite_sane}
 use Rattle.abstract_steps_sound_objects.proofs.ObjectRows.{object_stands}
-use Rattle.abstract_steps_sound_objects.proofs.SetCells.{set_long, set_keeps, set_puts}
-use Rattle.abstract_steps_sound_objects.proofs.WholeObjects.{automatic_declared, automatic_storage, some_kind, named, alive, is_set, one_content, content_at, own_one, fits, cells_are, count_is, in_row, still_short}
+use Rattle.abstract_steps_sound_objects.proofs.BlankRows as blank
+use Rattle.abstract_steps_sound_objects.proofs.WholeObjects.{automatic_declared, automatic_storage, some_kind, named, alive, is_set, one_content, content_at, own_one, still_short}
 
-abbrev AreBlank : List Byte → Type 0
+abbrev pub AreBlank : List Byte → Type 0
 AreBlank bytes = (o : ℕ) (b : Byte) → slice_get bytes o ≡ Some b → b.content ≡ indeterminate
 
-blank_zero : (bytes : List Byte) → AreBlank bytes → first_zero bytes ≡ None
+pub blank_zero : (bytes : List Byte) → AreBlank bytes → first_zero bytes ≡ None
 blank_zero [] h = refl
 blank_zero (b ∷ bs) h = let e = h 0 b refl in rw e refl
 
-part_blank : (size : Option ℕ) (offset : ℕ) (bytes : List Byte) → AreBlank bytes → AreBlank (array_of size (drop offset bytes))
+pub part_blank : (size : Option ℕ) (offset : ℕ) (bytes : List Byte) → AreBlank bytes → AreBlank (array_of size (drop offset bytes))
 part_blank None offset bytes h o b e = h (offset + o) b (sym (get_drop offset bytes o (offset + o) refl) ∙ e)
 part_blank (Some n) offset bytes h o b e = let x = get_take n (drop offset bytes) o b e in h (offset + o) b (sym (get_drop offset bytes o (offset + o) refl) ∙ x.1)
 
@@ -67,8 +66,8 @@ module _ {I : Type 0} {l : LatticeOf I} {n : IntegersOf I} {stands : I → ℤ �
   abbrev new : Memory
   new = set_bytes s.world.memory i (all_of indeterminate (bytes_at s.world.memory i))
 
-  blank : AreBlank (bytes_at new i)
-  blank o x e = one_content q flow p naming row s r b i info at entered declared kind indeterminate o x e
+  all_blank : AreBlank (bytes_at new i)
+  all_blank o x e = one_content q flow p naming row s r b i info at entered declared kind indeterminate o x e
 
   blank_at : (o : ℕ) (x : Byte) → byte_at new i o ≡ Some x → x.content ≡ indeterminate
   blank_at o x e = content_at q flow p naming row s r b i info at entered declared kind indeterminate o x e
@@ -76,57 +75,17 @@ module _ {I : Type 0} {l : LatticeOf I} {n : IntegersOf I} {stands : I → ℤ �
   own_at : (k : ℕ) → IsLiveOf naming new b k → k ≡ i
   own_at k h = own_one q flow p naming row s r b i info at entered declared kind indeterminate k h
 
-  -- ---- the row
-
-  abbrev values_row : List (Cell I)
-  values_row = set_values info (blank_value l) row
-
   abbrev after : List (Cell I)
   after = blank_object l n info row
 
-  fitting : info.first + base_values info ≤ 2 ^ 64 - 1
-  fitting = fits q flow p naming row s r b i info at entered declared kind indeterminate
-
-  cells : base_cells info ≡ length info.shape.cells
-  cells = cells_are q flow p naming row s r b i info at entered declared kind indeterminate
-
-  count : value_count info ≡ length info.shape.cells
-  count = count_is q flow p naming row s r b i info at entered declared kind indeterminate
-
-  within : (x : ℕ) → x < info.first + base_values info → x < length row
-  within x h = in_row q flow p naming row s r b i info at entered declared kind indeterminate x h
-
   outside : (x : ℕ) → (info.first ≤ x → x < info.first + base_values info → ⊥) → cell_at after x ≡ cell_at row x
-  unfolding blank_object set_zeros set_values
-  outside x h =
-      let c = count in
-      let d = cells in
-      set_keeps (zero_position info) (First (no_zero n)) (length info.shape.zeros) values_row x (λ k small e. let f = zero_is info k fitting (omega (arith, small)) in h (omega (arith, e, f)) (omega (arith, e, f, small)))
-      ∙ set_keeps (leaf_position info) (Value (blank_value l)) (value_count info) row x (λ k small e. let f = leaf_is info k fitting (omega (arith, small, c)) in h (omega (arith, e, f)) (omega (arith, e, f, small, c, d)))
-
-  leaf_blank : (j : ℕ) → j < length info.shape.cells → value_at l n after (leaf_position info j) ≡ near_value l n (blank_value l)
-  unfolding blank_object set_zeros set_values value_at
-  leaf_blank j small =
-      let c = count in
-      let d = cells in
-      let x = leaf_is info j fitting small in
-      let keeps = set_keeps (zero_position info) (First (no_zero n)) (length info.shape.zeros) values_row (leaf_position info j) (λ k less e. let f = zero_is info k fitting (omega (arith, less)) in omega (arith, e, f, x, small, d)) in
-      let puts = set_puts (leaf_position info) (Value (blank_value l)) (value_count info) row j (omega (arith, small, c)) (within (leaf_position info j) (omega (arith, x, small, d))) in
-      ap (λ z. near_value l n (value_in l z)) (keeps ∙ puts)
-
-  zero_blank : (z : ℕ) → z < length info.shape.zeros → cell_at after (zero_position info z) ≡ First (no_zero n)
-  unfolding blank_object set_zeros set_values
-  zero_blank z small =
-      let x = zero_is info z fitting (omega (arith, small)) in
-      let long = set_long (leaf_position info) (Value (blank_value l)) (value_count info) row in
-      let here = within (zero_position info z) (omega (arith, x, small)) in
-      set_puts (zero_position info) (First (no_zero n)) (length info.shape.zeros) values_row z small (omega (arith, long, here))
+  outside x h = blank.outside flow p b info at declared l n row r.long x h
 
   -- ---- what the cells stand for
 
   own_leaves : (j : ℕ) (leaf : Leaf) → slice_get info.shape.cells j ≡ Some leaf → StandsLeaf stands flow naming new b leaf (value_at l n after (leaf_position info j))
   unfolding byte_at
-  own_leaves j leaf e = subst (StandsLeaf stands flow naming new b leaf) (sym (leaf_blank j (slice_get_within info.shape.cells j leaf e))) (record {
+  own_leaves j leaf e = subst (StandsLeaf stands flow naming new b leaf) (sym (blank.leaf_blank flow p b info at declared l n row r.long j (slice_get_within info.shape.cells j leaf e))) (record {
     whole = λ k o ns h place plain held.
         let own = own_at k h in
         let size = held.size in
@@ -146,8 +105,8 @@ module _ {I : Type 0} {l : LatticeOf I} {n : IntegersOf I} {stands : I → ℤ �
   own_zeros : (z : ℕ) (part : ZeroPart) → slice_get info.shape.zeros z ≡ Some part → StandsZero stands naming new (zero_at l n after (zero_position info z)) (array_bytes part (bytes_at new i))
   unfolding zero_at
   own_zeros z part e =
-      let c = zero_blank z (slice_get_within info.shape.zeros z part e) in
-      let f = blank_zero (array_bytes part (bytes_at new i)) (part_blank part.size part.offset (bytes_at new i) blank) in
+      let c = blank.zero_blank flow p b info at declared l n row r.long z (slice_get_within info.shape.zeros z part e) in
+      let f = blank_zero (array_bytes part (bytes_at new i)) (part_blank part.size part.offset (bytes_at new i) all_blank) in
       rw (c, f) (near_number_stands q (no_zero n).at the_end (record { from = omega (arith, ints); to = omega (arith, ints) }) (q.one_stands the_end))
 
   pub forgotten_stands : StandsFor l n stands flow naming after (record { memory = new; temps = s.temps; entered = s.bases })

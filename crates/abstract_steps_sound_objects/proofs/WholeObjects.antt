@@ -28,6 +28,7 @@ use Rattle.store_domain_sound_programs.specs.Premises.{HasPremises}
 use Rattle.abstract_steps_sound.specs.SoundSteps.{AreShort, IsReached}
 use Rattle.abstract_steps_sound_objects.proofs.Rewrites.{HaveTags, IsSet, set_rewrites}
 use Rattle.abstract_steps_sound_objects.proofs.ObjectRows.{own_instance}
+use Rattle.abstract_steps_sound_objects.proofs.BlankRows as blank
 
 -- ---- bytes of one content
 
@@ -95,16 +96,16 @@ module _ {I : Type 0} {l : LatticeOf I} {n : IntegersOf I} {stands : I → ℤ �
   -- ---- the row
 
   pub fits : info.first + base_values info ≤ 2 ^ 64 - 1
-  fits = let k = p.laid.laid.close b info at in let small = p.laid.laid.small in omega (arith, k, small)
+  fits = blank.fits flow p b info at declared
 
   pub cells_are : base_cells info ≡ length info.shape.cells
-  cells_are = let z : cond {A = ℕ} info.shape.heap 6 0 ≡ 0 = rw declared refl in omega (arith, z)
+  cells_are = blank.cells_are flow p b info at declared
 
   pub count_is : value_count info ≡ length info.shape.cells
-  count_is = let z : cond {A = ℕ} info.shape.heap 6 0 ≡ 0 = rw declared refl in let k = fits in omega (arith, z, k)
+  count_is = blank.count_is flow p b info at declared
 
   pub in_row : (x : ℕ) → x < info.first + base_values info → x < length row
-  in_row x h = let k = p.laid.laid.close b info at in let far = p.laid.long in let long = r.long in omega (arith, h, k, far, long)
+  in_row x h = blank.in_row flow p b info at declared l n row r.long x h
 
   pub still_short : AreShort flow.model new
   still_short j = subst (λ z. pos z ≤ℤ greatest_of (kind_of flow.model Pointer true)) (sym (is_set.rewrite.alike.lengths j)) (r.short j)

@@ -25,6 +25,7 @@ use Rattle.abstract_steps_sound_memory.proofs.LoadSteps.{load_sound}
 use Rattle.abstract_steps_sound_memory.proofs.StoreSteps.{store_sound}
 use Rattle.abstract_steps_sound_objects.proofs.Forgetting.{forget_sound}
 use Rattle.abstract_steps_sound_clear.proofs.Clearing.{clear_sound}
+use Rattle.abstract_steps_sound_enter.proofs.Entering.{enter_sound}
 use Rattle.abstract_steps_sound_leave.proofs.Leaving.{leave_sound}
 use Rattle.abstract_steps_covered.specs.SoundEnds.{GoesOn, EndsBlock, EndIsSound, EndsAreSound, StepsGoOnSoundly, EndsGoOnSoundly}
 use Rattle.abstract_steps_sound_edges.specs.EdgeSteps.{IsPlainEnd, TestIsSound, CaseIsSound, KindIsSound, TestsAreSound}
@@ -60,7 +61,7 @@ module _ {I : Type 0} {l : LatticeOf I} {n : IntegersOf I} {stands : I → ℤ �
         by_operation (op.Forget base) h f t = forget_sound q flow p naming row s r base f
         by_operation (op.Copy to from index) h f t = open_sound naming row s (op.Copy to from index) tt f t r
         by_operation (op.Library to name arguments site size) h f t = open_sound naming row s (op.Library to name arguments site size) tt f t r
-        by_operation (op.Enter base) h f t = open_sound naming row s (op.Enter base) tt f t r
+        by_operation (op.Enter base) h f t = enter_sound q flow p naming row s r base f
         by_operation (op.Leave base) h f t = leave_sound flow p naming row s r base f
         by_operation (op.Clear base) h f t = clear_sound q flow p limits good naming row s r base f
         by_operation (op.Spell base offset room text) h f t = open_sound naming row s (op.Spell base offset room text) tt f t r

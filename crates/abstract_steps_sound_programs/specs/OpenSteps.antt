@@ -24,12 +24,11 @@ use Rattle.abstract_steps_covered.specs.Covering.{Begins, Carries, HasTypedRuns,
 use Rattle.abstract_steps_sound_edges.specs.EdgeSteps.{KindIsSound}
 use Rattle.abstract_steps_sound_tests.specs.ScalarObjects.{IsIntegerTest, IsPointerTest, IsNullTest, IsCaseObject}
 
--- stores of characters, copies of structs, calls of the library, and entering and spelling objects
+-- stores of characters, copies of structs, calls of the library, and texts that are spelled
 abbrev pub IsOpenStep : Operation → Type 0
 IsOpenStep (op.Store to from kind kept) = same_class (class_in kind) Char ≡ true
 IsOpenStep (op.Copy to from index) = Unit {0}
 IsOpenStep (op.Library to name arguments site size) = Unit {0}
-IsOpenStep (op.Enter base) = Unit {0}
 IsOpenStep (op.Spell base offset room text) = Unit {0}
 IsOpenStep _ = ⊥
 

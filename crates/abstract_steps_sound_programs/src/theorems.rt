@@ -7,7 +7,7 @@ ghost use Rattle.abstract_steps_sound_programs.specs.OpenSteps.{CoversButForOpen
 
 use cc_base::IntDomain;
 
-/// Open are stores of characters, copies of structs, calls of the library, and entering and spelling objects.
+/// Open are stores of characters, copies of structs, calls of the library, and texts that are spelled.
 pub fn runs_are_covered_but_for_open_steps<I: IntDomain>()
     ensures { (flow : Flow) → SoundLaws I.lattice I.numbers I.stands → CoversButForOpenSteps I.lattice I.numbers I.stands flow }
 {}

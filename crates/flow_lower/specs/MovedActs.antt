@@ -87,5 +87,5 @@ moved d b (acts.Spell base offset room text) = spelled b offset room text
 moved d b acts.Jump = acts.Jump
 moved d b (acts.Branch from kind) = acts.Branch (temp d from) kind
 moved d b (acts.Switch from kind) = acts.Switch (temp d from) kind
-moved d b (acts.ReadLine to text count stream) = acts.ReadLine (temp d to) (temp d text) (temp d count) (temp d stream)
+moved d b (acts.ReadLine to text count stream) = acts.ReadLine (option_map (temp d) to) (temp d text) (temp d count) (temp d stream)
 moved d b acts.Stop = acts.Stop

@@ -236,7 +236,7 @@ impl Shifted {
             Operation::Branch(from, kind) => Ok(Operation::Branch(self.temp(*from), *kind)),
             Operation::Switch(from, kind) => Ok(Operation::Switch(self.temp(*from), *kind)),
             Operation::ReadLine(to, text, size, stream) => {
-                let (to, text) = (self.temp(*to), self.temp(*text));
+                let (to, text) = (self.result(*to), self.temp(*text));
                 Ok(Operation::ReadLine(to, text, self.temp(*size), self.temp(*stream)))
             }
             Operation::Stop => Ok(Operation::Stop),

@@ -104,7 +104,7 @@ abbrev pub read_targets : Bool → Targets → Targets
 read_targets wants_line targets = cond wants_line targets (flipped targets)
 
 abbrev pub read_condition : ReadView → Decision → Plan → Plan
-read_condition r decision p = read_line r.call.at r.call.arguments decision.depth (read_targets r.wants_line decision.targets).no (read_targets r.wants_line decision.targets).yes p
+read_condition r decision p = read_line r.call.at r.call.arguments decision.depth None (read_targets r.wants_line decision.targets).no (read_targets r.wants_line decision.targets).yes p
 
 abbrev pub tested : Option Test → Plan → Tested
 tested = tests.tested

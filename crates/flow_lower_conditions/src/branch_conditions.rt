@@ -273,6 +273,7 @@ fn read_condition<'a>(
         call.place,
         call.arguments,
         decision.depth,
+        None,
         targets.no,
         targets.yes,
     )

@@ -68,7 +68,7 @@ written (acts.Spell base offset room text) = 0
 written acts.Jump = 0
 written (acts.Branch from kind) = 0
 written (acts.Switch from kind) = 0
-written (acts.ReadLine to text count stream) = behind to 1
+written (acts.ReadLine to text count stream) = result_temps to
 written acts.Stop = 0
 
 -- the value of a call is in the first temporary of its arguments

@@ -198,7 +198,7 @@ fn written(operation: &Operation) -> u32
         Operation::Jump => 0,
         Operation::Branch(_, _) => 0,
         Operation::Switch(_, _) => 0,
-        Operation::ReadLine(to, _, _, _) => behind(*to, 1),
+        Operation::ReadLine(to, _, _, _) => result_temps(*to),
         Operation::Stop => 0,
     }
 }

@@ -74,12 +74,12 @@ plain_call s at function args target depth p = library_at at function args (targ
 abbrev pub line_exits : ℕ → ℕ → List ExitView
 line_exits none some = record { to = none; taken = NoLine } ∷ (record { to = some; taken = Line } ∷ [])
 
-abbrev pub read_line : Place → TermTrees → ℕ → ℕ → ℕ → Plan → Plan
-read_line at args depth none some p = ended at (ReadLine depth depth (behind depth 1) (behind depth 2)) (line_exits none some) (argued args depth p)
+abbrev pub read_line : Place → TermTrees → ℕ → Option ℕ → ℕ → ℕ → Plan → Plan
+read_line at args depth to none some p = ended at (ReadLine to depth (behind depth 1) (behind depth 2)) (line_exits none some) (argued args depth p)
 
 -- fgets for its value: both edges go to the block behind it
 abbrev pub line_value : Place → TermTrees → ℕ → Plan → Plan
-line_value at args depth p = begun p.labels (read_line at args depth p.labels p.labels (with_labels 1 p))
+line_value at args depth p = begun p.labels (read_line at args depth (Some depth) p.labels p.labels (with_labels 1 p))
 
 abbrev pub library_call : SettingView → Place → LibFn → TermTrees → Option Ty → ℕ → Plan → Plan
 library_call s at function args target depth p = cond (reads_line function) (line_value at args depth p) (plain_call s at function args target depth p)

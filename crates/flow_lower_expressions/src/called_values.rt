@@ -165,7 +165,7 @@ fn line_value<'a>(
     ensures { IfOk result (λ _. plan builder.new ≡ spec.line_value place (term_trees (map term_tree arguments.now)) depth (plan builder.old)) }
 {
     let after = builder.new_labels(1)?;
-    read_line(builder, place, arguments, depth, after, after)?;
+    read_line(builder, place, arguments, depth, Some(depth), after, after)?;
     builder.mark(after)
 }
 
@@ -210,13 +210,14 @@ pub fn read_line<'a>(
     place: Place,
     arguments: &'a [CheckedTerm],
     depth: u32,
+    to_temp: Option<u32>,
     none: u32,
     some: u32,
 ) -> Result<(), AllocError>
-    ensures { IfOk result (λ _. plan builder.new ≡ spec.read_line place (term_trees (map term_tree arguments.now)) depth none some (plan builder.old)) }
+    ensures { IfOk result (λ _. plan builder.new ≡ spec.read_line place (term_trees (map term_tree arguments.now)) depth to_temp none some (plan builder.old)) }
 {
     push_arguments(builder, arguments, depth)?;
     let exits = line_exits(builder.alloc, none, some)?;
-    let read = Operation::ReadLine(depth, depth, behind(depth, 1), behind(depth, 2));
+    let read = Operation::ReadLine(to_temp, depth, behind(depth, 1), behind(depth, 2));
     builder.close(place, read, exits)
 }

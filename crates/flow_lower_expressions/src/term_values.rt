@@ -271,16 +271,8 @@ pub fn term_works<'a>(
         TermForm::Comma(left, right) => comma(builder, left, right, depth, used),
         TermForm::Assign(lvalue, value) => assignment(builder, lvalue, value, depth, used),
         TermForm::Compound(op, kind, lvalue, value) => {
-            compound(
-                builder,
-                place,
-                meaning(*op),
-                kind,
-                lvalue,
-                value,
-                depth,
-                used,
-            )
+            let op = meaning(*op);
+            compound(builder, place, op, kind, lvalue, value, depth, used)
         }
         TermForm::CompoundShift(backward, size, lvalue, value) => {
             compound_shift(builder, place, *backward, *size, lvalue, value, depth, used)
@@ -293,25 +285,12 @@ pub fn term_works<'a>(
         }
         TermForm::Struct(lvalue) => builder.add(Work::Address(lvalue, depth)),
         TermForm::Call(function, arguments, is_used) => {
-            own_call(
-                builder,
-                place,
-                *function,
-                arguments.as_slice(),
-                *is_used,
-                depth,
-            )
+            let given = arguments.as_slice();
+            own_call(builder, place, *function, given, *is_used, depth)
         }
         TermForm::Library(function, arguments, target) => {
-            library_call(
-                cx,
-                builder,
-                place,
-                *function,
-                arguments.as_slice(),
-                target,
-                depth,
-            )
+            let given = arguments.as_slice();
+            library_call(cx, builder, place, *function, given, target, depth)
         }
     }
 }

@@ -166,7 +166,7 @@ fn conditions(rt: HostRuntime) -> Result<(), Fail> {
 }
 
 // A condition that compares fgets with a null constant: the edges, null and then success, go to
-// its targets, and the constant is no instruction.
+// its targets, the constant is no instruction, and the result is kept nowhere.
 #[test]
 fn line_condition(rt: HostRuntime) -> Result<(), Fail> {
     let unit = "\
@@ -187,7 +187,7 @@ fn line_condition(rt: HostRuntime) -> Result<(), Fail> {
         \x20 2:35 t0 = narrow t0 at 0 size 4\n\
         \x20 2:37 t1 = 4 s32\n\
         \x20 2:39 t2 = &b1+0\n\
-        \x20 2:29 t0 = fgets t0 t1 t2\n\
+        \x20 2:29 fgets t0 t1 t2\n\
         \x20 -> 2 no line\n\
         \x20 -> 3 line\n\
         block 2\n\

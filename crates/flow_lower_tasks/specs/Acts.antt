@@ -37,7 +37,7 @@ pub data Act : Type 0 where
   Jump : Act
   Branch : (from : ℕ) (kind : Scalar) → Act
   Switch : (from : ℕ) (kind : IntType) → Act
-  ReadLine : (to text count stream : ℕ) → Act
+  ReadLine : (to : Option ℕ) (text count stream : ℕ) → Act
   Stop : Act
 
 abbrev pub act : Operation → Act

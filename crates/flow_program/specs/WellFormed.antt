@@ -121,7 +121,7 @@ fits_operation n (op.Binary to o left right kind) = has_temp n to && (has_temp n
 fits_operation n (op.Unary to o from kind) = has_temp n to && (has_temp n from && is_int_type n.model kind)
 fits_operation n (op.Compare to rel left right) = has_temp n to && (has_temp n left && has_temp n right)
 fits_operation n (op.Not to from kind) = has_temp n to && (has_temp n from && is_scalar n.model kind)
-fits_operation n (op.Difference to left right size) = has_temp n to && (has_temp n left && (has_temp n right && is_extent size))
+fits_operation n (op.Difference to left right size) = has_temp n to && (has_temp n left && (has_temp n right && (is_extent size && nat_lt 0 size)))
 fits_operation n (op.ComparePointers to rel left right) = has_temp n to && (has_temp n left && has_temp n right)
 fits_operation n (op.Convert to from old new) = has_temp n to && (has_temp n from && (is_scalar n.model old && is_scalar n.model new))
 fits_operation n (op.Library to function arguments site size) = has_result n to && (list_all (has_temp n) arguments.items && (is_site n.bases site && is_optional_extent size))
@@ -133,7 +133,7 @@ fits_operation n (op.Spell b offset size text) = has_local n b && ((is_extent of
 fits_operation n op.Jump = true
 fits_operation n (op.Branch t kind) = has_temp n t && is_scalar n.model kind
 fits_operation n (op.Switch t kind) = has_temp n t && is_int_type n.model kind
-fits_operation n (op.ReadLine to text count stream) = has_temp n to && (has_temp n text && (has_temp n count && has_temp n stream))
+fits_operation n (op.ReadLine to text count stream) = has_result n to && (has_temp n text && (has_temp n count && has_temp n stream))
 fits_operation n op.Stop = true
 
 -- the edges with which an instruction ends its block, where it does

@@ -80,8 +80,9 @@ pub enum Operation {
     Branch(u32, Scalar),
     /// Ends its block with an edge for each case, in reading order, and one for all other values.
     Switch(u32, IntType),
-    /// A call of `fgets` with its three arguments. Ends its block with two edges: null, then success.
-    ReadLine(u32, u32, u32, u32),
+    /// A call of `fgets`: the temporary of its result, where more than a condition looks at it, and its
+    /// three arguments. Ends its block with two edges: null, then success.
+    ReadLine(Option<u32>, u32, u32, u32),
     /// Ends the run.
     Stop,
 }

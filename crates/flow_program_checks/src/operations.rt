@@ -148,7 +148,7 @@ fn fits_operation(flow: &Flow, operation: &Operation) -> bool
         Operation::Compare(to, _, a, b) => has_temp(flow, *to) && has_both(flow, *a, *b),
         Operation::Not(to, from, kind) => has_both(flow, *to, *from) && has_scalar(flow, *kind),
         Operation::Difference(to, a, b, size) => {
-            has_both(flow, *to, *a) && (has_temp(flow, *b) && is_extent(*size))
+            has_both(flow, *to, *a) && (has_temp(flow, *b) && (is_extent(*size) && 0 < *size))
         }
         Operation::ComparePointers(to, _, a, b) => has_temp(flow, *to) && has_both(flow, *a, *b),
         Operation::Convert(to, from, old, new) => {
@@ -168,7 +168,7 @@ fn fits_operation(flow: &Flow, operation: &Operation) -> bool
         Operation::Branch(from, kind) => has_temp(flow, *from) && has_scalar(flow, *kind),
         Operation::Switch(from, kind) => has_temp(flow, *from) && has_type(flow, *kind),
         Operation::ReadLine(to, text, count, stream) => {
-            has_both(flow, *to, *text) && has_both(flow, *count, *stream)
+            has_result(flow, *to) && (has_temp(flow, *text) && has_both(flow, *count, *stream))
         }
         Operation::Stop => true,
     }

@@ -64,6 +64,11 @@ with_temps s ts use_it = if_some s (values_of s.temps ts) use_it
 abbrev pub put : Standing → ℕ → Scalar → World → Standing
 put s to v w = record s { temps = put_at s.temps to v; world = w }
 
+-- where the value is kept
+abbrev pub put_if : Standing → Option ℕ → Scalar → World → Standing
+put_if s None v w = record s { world = w }
+put_if s (Some to) v w = put s to v w
+
 -- the run goes on behind the instruction
 abbrev pub next : Standing → Reply Standing
 next s = goes (record s { at = suc s.at }) s.world

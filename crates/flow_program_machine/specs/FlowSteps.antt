@@ -10,7 +10,7 @@ use Rattle.lib_models_effects.specs.LibraryCalls.{fgets}
 use Rattle.flow_lower_tasks.specs.Acts as act
 use Rattle.flow_lower_tasks.specs.Acts.{Act, Step}
 use Rattle.flow_program_views.specs.ProgramViews.{BlockView, FlowView}
-use Rattle.flow_program_machine.specs.FlowStates.{Standing, with_temp, with_temps, put, FlowRun, running, stopped}
+use Rattle.flow_program_machine.specs.FlowStates.{Standing, with_temp, with_temps, put_if, FlowRun, running, stopped}
 use Rattle.flow_program_machine.specs.FlowActs.{perform}
 use Rattle.flow_program_machine.specs.FlowEdges.{edge_taken, edges_of, along}
 
@@ -32,8 +32,8 @@ on_edge f s v = along f s (edge_taken v (edges_of f (block_of f s.block)))
 abbrev pub switching : FlowView → Standing → Scalar → Reply Standing
 switching f s v = with_number v s.world (λ n labels w. on_edge f s v)
 
-abbrev pub reading_line : FlowView → ℕ → Standing → List Scalar → Reply Standing
-reading_line f to s arguments = behind (fgets f.model arguments s.world) (λ v w. on_edge f (put s to v w) v)
+abbrev pub reading_line : FlowView → Option ℕ → Standing → List Scalar → Reply Standing
+reading_line f to s arguments = behind (fgets f.model arguments s.world) (λ v w. on_edge f (put_if s to v w) v)
 
 -- the last instruction of a block leads to one of its edges
 abbrev pub act_step : FlowView → Act → Standing → Reply Standing

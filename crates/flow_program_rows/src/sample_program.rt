@@ -65,7 +65,7 @@ fn blocks(alloc: Global) -> Result<Vec<BasicBlock>, AllocError> {
     let number = Operation::Constant(0, 7, int());
     let scalar = Scalar::Int(int());
     let load = Operation::Load(0, 1, scalar);
-    let line = Operation::ReadLine(2, 1, 0, 1);
+    let line = Operation::ReadLine(Some(2), 1, 0, 1);
     let mut list = Vec::new(alloc);
     list.push(block(alloc, Operation::Enter(1), Operation::Jump, 0, 1)?)?;
     list.push(block(alloc, load, Operation::Branch(0, scalar), 1, 2)?)?;

@@ -180,7 +180,10 @@ fn push_end(out: &mut String, operation: &Operation) -> Result<(), AllocError> {
             push_type(out, *kind)
         }
         Operation::ReadLine(to, text, size, stream) => {
-            write!(out, "t{to} = fgets t{text} t{size} t{stream}")
+            if let Some(to) = to {
+                write!(out, "t{to} = ")?;
+            }
+            write!(out, "fgets t{text} t{size} t{stream}")
         }
         _ => out.push_str("stop"),
     }

@@ -57,7 +57,7 @@ made n size = record { object = static_base.Object n; size = size; base = Some n
 
 abbrev flow : FlowView
 flow = record {
-  blocks = basic_block 0 2 (step 56 (act.Address 0 0 0) ∷ (step 56 (act.Narrow 0 0 0 4) ∷ (constant 58 1 4 ∷ (step 61 (act.Address 2 1 0) ∷ (step 50 (act.ReadLine 0 0 1 2) ∷ [])))))
+  blocks = basic_block 0 2 (step 56 (act.Address 0 0 0) ∷ (step 56 (act.Narrow 0 0 0 4) ∷ (constant 58 1 4 ∷ (step 61 (act.Address 2 1 0) ∷ (step 50 (act.ReadLine None 0 1 2) ∷ [])))))
       ∷ (basic_block 2 0 (constant 71 0 1 ∷ (step 64 act.Stop ∷ [])) ∷ (basic_block 2 0 (constant 80 0 2 ∷ (step 73 act.Stop ∷ [])) ∷ []));
   edges = record { from = 0; to = 2; taken = NoLine } ∷ (record { from = 0; to = 1; taken = Line } ∷ []);
   bases = characters 4 ∷ (characters 1 ∷ []);

@@ -59,7 +59,7 @@ module _ {I : Type 0} (l : LatticeOf I) (n : IntegersOf I) (stands : I → ℤ �
   pub record StandsFor (row : List (Cell I)) (state : MachineState) : Type 0 where
     pub sane : IsMemoryOf flow.model flow.bases.items naming state.memory
     pub held : AreScalarsOf naming state.memory state.temps
-    pub lives : AreEntered naming state.memory state.entered
+    pub lives : AreEntered flow.bases.items naming state.memory state.entered
     pub leaves : (b j : ℕ) (base : BaseInfo) (leaf : Leaf) → slice_get flow.bases.items b ≡ Some base → slice_get base.shape.cells j ≡ Some leaf → StandsLeaf stands flow naming state.memory b leaf (value_at l n row (leaf_position base j))
     pub classes : (b c : ℕ) (base : BaseInfo) → slice_get flow.bases.items b ≡ Some base → base.shape.heap ≡ true → c < 6 → StandsClass stands flow naming state.memory b base (class_at c) (value_at l n row (class_position base c))
     pub zeros : (b p i : ℕ) (base : BaseInfo) (part : ZeroPart) → slice_get flow.bases.items b ≡ Some base → slice_get base.shape.zeros p ≡ Some part → IsLiveOf naming state.memory b i → StandsZero stands naming state.memory (zero_at l n row (zero_position base p)) (array_bytes part (bytes_at state.memory i))

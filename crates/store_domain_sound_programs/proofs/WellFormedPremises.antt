@@ -1,5 +1,5 @@
 -- A well-formed program meets the premises of the theorems on the store.
-use Rattle.std.proofs.Common.{false, ◌≡◌, ℕ, ◌+◌, ◌*◌, ◌≤◌, true, ◌&&◌, Some, length, arith}
+use Rattle.std.proofs.Common.{false, ◌≡◌, ℕ, zero, suc, ◌+◌, ◌*◌, ◌^◌, ◌≤◌, true, ◌&&◌, Some, List, [], ◌∷◌, length, subst, arith}
 use Rattle.std.specs.Prelude.{slice_get, ◌==◌, nat_lt, nat_le}
 use Rattle.std.specs.List.{list_all}
 use Rattle.std.proofs.Math.Nat.{mul-le-mul_left}
@@ -10,10 +10,10 @@ use Rattle.c_layout.specs.declared.shapes.BaseInfo.{BaseInfo}
 use Rattle.c_layout.specs.Models.{is_model}
 use Rattle.c_layout.specs.StructViews.{structs_view}
 use Rattle.flow_program.specs.declared.programs.Flow.{Flow}
-use Rattle.flow_program.specs.BaseShapes.{is_shaped, are_sites, are_shaped}
+use Rattle.flow_program.specs.BaseShapes.{is_extent, is_shaped, are_sites, are_shaped}
 use Rattle.flow_program.specs.StaticStarts.{are_started}
 use Rattle.flow_program.specs.StructCounts.{are_counted}
-use Rattle.flow_program.specs.WellFormed.{are_blocks, fits_edge, are_placed, all_values, all_cells, all_instructions, is_initial_object, is_parameter, is_within, names_of, are_few, is_laid_out, is_well_formed}
+use Rattle.flow_program.specs.WellFormed.{are_blocks, fits_edge, are_placed, base_values, all_values, all_cells, all_instructions, is_initial_object, is_parameter, is_within, names_of, are_few, is_laid_out, is_well_formed}
 use Rattle.store_domain_sound.specs.Shapes.{AreShaped, CountsOnce, IsLaidOut}
 use Rattle.store_domain_sound.proofs.Padding.{padding_seen}
 use Rattle.store_domain_sound_programs.specs.Premises.{AreHeld, HasPremises}
@@ -57,6 +57,18 @@ row_below blocks width pool h =
     let b : width * (blocks + 2) ≡ (blocks + 2) * width = grind arith in
     omega (arith, a, b, h)
 
+base_sized : (first : ℕ) (bases : List BaseInfo) (b : ℕ) (base : BaseInfo) → are_placed first bases ≡ true → slice_get bases b ≡ Some base → base.size ≤ 2 ^ 30
+base_sized first [] b base h e = cc
+base_sized first (x ∷ xs) zero base h e =
+    let p = and_parts (x.first == first) (is_extent x.size && are_placed (first + base_values x) xs) h in
+    let q = and_parts (is_extent x.size) (are_placed (first + base_values x) xs) p.1 in
+    let d : x ≡ base = cc in
+    subst (λ z. z.size ≤ 2 ^ 30) d (leb-true x.size (2 ^ 30) q.0)
+base_sized first (x ∷ xs) (suc b) base h e =
+    let p = and_parts (x.first == first) (is_extent x.size && are_placed (first + base_values x) xs) h in
+    let q = and_parts (is_extent x.size) (are_placed (first + base_values x) xs) p.1 in
+    base_sized (first + base_values x) xs b base q.1 e
+
 pub meets_premises : (limits : Limits) (flow : Flow) → AreHeld limits → is_well_formed limits flow ≡ true → HasPremises flow
 meets_premises limits flow held h =
     let g = well_formed_good limits flow h in
@@ -76,7 +88,7 @@ meets_premises limits flow held h =
       temporaries = omega (arith, width);
       long = omega (arith, width);
     } in
-    record { shaped = shaped; once = once; padding = padding_seen flow.model flow.bases.items shaped once; laid = laid; temps = omega (arith, width); short = omega (arith, row, pool) }
+    record { shaped = shaped; once = once; sized = λ b base e. base_sized 0 flow.bases.items b base g.placed e; model = g.model; padding = padding_seen flow.model flow.bases.items shaped once; laid = laid; temps = omega (arith, width); short = omega (arith, row, pool) }
 
 pub standard_held : AreHeld standard_limits
 standard_held = record { bases = omega arith; pool = omega arith }

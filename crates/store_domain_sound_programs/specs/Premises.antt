@@ -1,6 +1,7 @@
 -- What theorems ask of a program's bases, and of limits within which programs are.
 use Rattle.std.specs.Prelude.{◌≡◌, ◌≤◌, ◌-◌, ◌^◌, ℕ, true, Some, slice_get}
 use Rattle.cc_base.specs.declared.limit_table.Limits.{Limits}
+use Rattle.c_layout.specs.Models.{is_model}
 use Rattle.c_layout.specs.declared.shapes.BaseInfo.{BaseInfo}
 use Rattle.flow_program.specs.declared.programs.Flow.{Flow}
 use Rattle.flow_program.specs.WellFormed.{is_well_formed}
@@ -16,6 +17,8 @@ pub record AreHeld (limits : Limits) : Type 0 where
 pub record HasPremises (flow : Flow) : Type 0 where
   pub shaped : AreShaped flow.bases.items
   pub once : (b : ℕ) (base : BaseInfo) → slice_get flow.bases.items b ≡ Some base → CountsOnce flow.model base
+  pub sized : (b : ℕ) (base : BaseInfo) → slice_get flow.bases.items b ≡ Some base → base.size ≤ 2 ^ 30
+  pub model : is_model flow.model ≡ true
   pub padding : SeesPadding flow.model flow.bases.items
   pub laid : IsLaidOut flow flow.width
   -- temporaries stand at the end of a row, and each position in it is a number of 64 bits

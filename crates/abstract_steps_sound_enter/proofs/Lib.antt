@@ -1,0 +1,3 @@
+pub mod GrownMemory
+pub mod GrownSanity
+pub mod Entering
