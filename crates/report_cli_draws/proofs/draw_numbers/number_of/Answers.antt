@@ -1,6 +1,5 @@
-use Rattle.std.proofs.Common.{◌≡◌, ◌∙◌, rules, List, ℕ, sym}
+use Rattle.std.proofs.Common.{◌≡◌, ◌∙◌, rules}
 use Rattle.std.specs.Str.Parse.{ParsesUnsigned}
-use Rattle.report_cli_draws.specs.DrawNumbers.{magnitude}
 use Rattle.report_cli_draws.proofs.Numerals.{number_read, plain_text}
 use Rattle.report_cli_draws.proofs.draw_numbers.number_of.Goals as goal
 

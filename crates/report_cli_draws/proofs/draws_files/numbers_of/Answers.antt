@@ -1,5 +1,5 @@
-use Rattle.std.proofs.Common.{rules, ◌≡◌, ◌∙◌, [], Some, true, false, ℕ, ◌+◌, ◌-◌, ◌<◌, ◌≤◌, length, take, drop, get_or, arith, sym}
-use Rattle.report_cli_draws.specs.DrawsFiles.{is_gap, joined, numbers_in, numbers_of, words_from}
+use Rattle.std.proofs.Common.{rules, ◌≡◌, true, ◌+◌, ◌<◌, ◌≤◌, length, get_or, arith, sym}
+use Rattle.report_cli_draws.specs.DrawsFiles.{is_gap}
 use Rattle.report_cli_draws.proofs.Joining.{gap_kept, byte_kept, end_kept}
 use Rattle.report_cli_draws.proofs.draws_files.numbers_of.Goals as goal
 use Rattle.report_cli_draws.proofs.draws_files.numbers_of.Goals.{then-is_gap+in_ok-add_word, else-is_gap}
