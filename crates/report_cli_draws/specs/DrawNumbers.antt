@@ -1,0 +1,32 @@
+-- The number that a word of a draws file spells: decimal digits without leading zeros, behind a minus where it is
+-- negative.
+use Rattle.std.specs.Prelude.{ℕ, ◌^◌, ℤ, pos, ◌-ℤ◌, Bool, false, cond, ◌&&◌, ◌==◌, nat_lt, nat_le, List, [], ◌∷◌, Option, Some, None}
+use Rattle.std.specs.Str.{all_ascii_digits}
+use Rattle.std.specs.Str.Parse.{digits_value}
+
+abbrev pub Bytes : Type 0
+Bytes = List ℕ
+
+-- digits, of which the first is no zero where there are more
+abbrev pub is_plain : Bytes → Bool
+is_plain [] = false
+is_plain (c ∷ []) = all_ascii_digits (c ∷ [])
+is_plain (c ∷ (d ∷ ds)) = nat_lt 48 c && all_ascii_digits (c ∷ (d ∷ ds))
+
+-- the number of such digits, below 2^64
+abbrev pub magnitude : Bytes → Option ℕ
+magnitude word = cond (is_plain word && nat_lt (digits_value 10 word) (2 ^ 64)) (Some (digits_value 10 word)) None
+
+abbrev pub positive : Option ℕ → Option ℤ
+positive None = None
+positive (Some n) = Some (pos n)
+
+-- a negative number is at least -2^63
+abbrev pub negative : Option ℕ → Option ℤ
+negative None = None
+negative (Some n) = cond (nat_le n (2 ^ 63)) (Some (pos 0 -ℤ pos n)) None
+
+-- the number of a word
+abbrev pub draw_of : Bytes → Option ℤ
+draw_of [] = None
+draw_of (c ∷ cs) = cond (c == 45) (negative (magnitude cs)) (positive (magnitude (c ∷ cs)))

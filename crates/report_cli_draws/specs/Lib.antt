@@ -1,0 +1,2 @@
+pub mod DrawNumbers
+pub mod DrawsFiles
