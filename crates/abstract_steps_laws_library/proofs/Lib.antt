@@ -1,4 +1,3 @@
-pub mod OutsideRows
 pub mod ResultCalls
 pub mod CharacterCalls
 pub mod AllocationCalls

@@ -1,5 +1,4 @@
-//! Library calls that grow with the row, over any domain of integers whose operations do. Those that read strings, and
-//! `calloc`, do not on all own rows: worked rows show it.
+//! Library calls that grow with the row, over any domain of integers whose operations do.
 ghost use Rattle.cc_base.specs.IntegerLaws.{MonotoneLaws};
 ghost use Rattle.flow_program.specs.declared.programs.Flow.{Flow};
 ghost use Rattle.pointer_domain.specs.declared.base_sets.Bases.{Bases};

@@ -1,34 +1,70 @@
 -- Worked rows of the definitions.
-use Rattle.std.specs.Prelude.{◌≡◌, refl, pos, Bool, true, false, Option, Some, None, List}
+use Rattle.std.specs.Prelude.{◌≡◌, refl, pos, negsuc, Bool, true, false, cond, Option, Some, None, List}
+use Rattle.std.proofs.Common.{subst, sym, ap}
 use Rattle.cc_base.specs.Lattices.{LatticeOf}
 use Rattle.cc_base.specs.IntegerDomains.{IntegersOf}
 use Rattle.cc_base.specs.NumberRanges.{Range}
 use Rattle.c_layout.specs.declared.shapes.ZeroPart.{ZeroPart}
-use Rattle.pointer_domain.specs.BaseSets.{no_base}
+use Rattle.pointer_domain.specs.BaseSets.{no_base, bases_empty}
 use Rattle.pointer_domain.specs.PointerLattice.{no_pointer}
 use Rattle.pointer_domain.specs.declared.pointer_sets.Pointers.{Pointers}
 use Rattle.string_domain.specs.declared.first_zeros.FirstZero.{FirstZero}
 use Rattle.string_domain.specs.FirstZeros.{zero_lattice}
 use Rattle.value_domain.specs.LabelSets.{no_labels}
+use Rattle.value_domain.specs.ValueTables.{pointer_value}
 use Rattle.value_domain.specs.declared.row_cells.Cell.{Cell}
-use Rattle.store_domain.specs.AccessWindows.{window_between}
+use Rattle.store_domain.specs.AccessWindows.{window_between, window_within}
 use Rattle.store_domain.specs.FirstZeroWrites.{any_zero}
 use Rattle.store_domain.specs.LiveBases.{only_base}
+use Rattle.abstract_steps_checks.specs.LibraryArguments.{within_bases}
 use Rattle.abstract_steps_checks.specs.declared.library_arguments.Argument.{Argument}
 use Rattle.abstract_steps_checks.specs.declared.violation_sets.Violations.{Violations}
 use Rattle.abstract_steps_checks.specs.ViolationSets.{no_violations}
+use Rattle.abstract_steps_library.specs.Allocations.{products}
 use Rattle.abstract_steps_library.specs.Calls.{Call}
-use Rattle.abstract_steps_library.specs.Outputs.{printed_trail}
+use Rattle.abstract_steps_library.specs.FillWrites.{holds_whole}
+use Rattle.abstract_steps_library.specs.MemoryCalls.{nothing_written}
+use Rattle.abstract_steps_library.specs.Outputs.{has_place, placed, printed_trail}
 use Rattle.abstract_steps_library.specs.Plans.{trail_of}
-use Rattle.abstract_steps_library.specs.StringCalls.{most_appended, reads_no_string}
+use Rattle.abstract_steps_library.specs.StringCalls.{most_appended, reads_no_string, window_from_offset}
 use Rattle.abstract_steps_library.specs.TextWrites.{rule_in, zero_after, zero_met}
+use Rattle.abstract_steps_library.specs.declared.call_plans.Effect.TheVariants as effect
 use Rattle.abstract_steps_library.specs.declared.call_plans.Trail.{Trail}
+use Rattle.abstract_steps_library.specs.declared.memory_calls.Target.{Target}
 use Rattle.abstract_steps_library.specs.declared.source_bytes.Characters.{Characters}
 use Rattle.abstract_steps_library.specs.declared.text_writes.TextWrite.{TextWrite}
 use Rattle.abstract_steps_library.specs.declared.text_writes.ZeroRule.{ZeroRule}
 use Rattle.abstract_steps_library.specs.declared.text_writes.ZeroRule.TheVariants.{Text, Append, Any}
 
+-- ---- calloc
+
+-- -5 elements of 2 bytes are none, and from -5 to 1 elements of from -3 to 2 bytes are 0 to 1 of 0 to 2
+no_product : products (Some (negsuc 4, negsuc 4)) (Some (pos 2, pos 2)) ≡ None
+no_product = refl
+
+large_product : products (Some (negsuc 4, pos 1)) (Some (negsuc 2, pos 2)) ≡ Some (pos 0, pos 2)
+large_product = refl
+
+-- ---- memset
+
+-- what has no size is covered
+no_size : holds_whole (pos 1) None ≡ true
+no_size = refl
+
+-- ---- places
+
+-- no offset is one of a byte, or one is
+before_all : window_within (Some (negsuc 0, negsuc 0)) ≡ None
+before_all = refl
+
+from_before : window_within (Some (negsuc 0, pos 0)) ≡ Some (window_between 0 0)
+from_before = refl
+
 -- ---- strcat
+
+-- a text that may begin before the window may be anywhere in it
+text_from_before : window_from_offset (window_between 0 3) (negsuc 1) ≡ Some (window_between 0 3)
+text_from_before = refl
 
 -- 4 bytes, of which a text of 1 or 2 characters is taken: 2 more characters and the zero
 room_for_two : most_appended (Some (pos 1, pos 2)) (Some (pos 2, pos 4)) ≡ pos 2
@@ -94,3 +130,24 @@ module _ {I : Type 0} (l : LatticeOf I) (n : IntegersOf I) (x : I) (old : FirstZ
   -- what may be a number or null is told, and goes on
   of_number_or_null : printed_trail true no_check null_given ≡ trail_of (record no_violations { nullref = true })
   of_number_or_null = refl
+
+  -- ---- pointers without a place, which are in no run, do not go on
+
+  of_place : (given : Argument I) → has_place n given.rest ≡ true → placed l n given ≡ given
+  of_place given e = ap (λ c. cond c given (record given { rest = within_bases l n given.rest no_base })) e
+
+  of_no_place : (given : Argument I) → has_place n given.rest ≡ false → bases_empty (placed l n given).rest.bases ≡ true
+  of_no_place given e = subst (λ c. bases_empty (cond c given (record given { rest = within_bases l n given.rest no_base })).rest.bases ≡ true) (sym e) refl
+
+  -- ---- writes of which no byte has a place
+
+  abbrev to_write : Pointers I → Range → Target I
+  to_write p count = record { trail = no_check; rest = p; count = count }
+
+  -- at least one byte
+  of_a_byte : (p : Pointers I) → nothing_written l (to_write p (Some (pos 1, pos 3))) ≡ effect.Unreached
+  of_a_byte p = refl
+
+  -- or none
+  of_no_byte : (p : Pointers I) → nothing_written l (to_write p (Some (pos 0, pos 3))) ≡ effect.Result (pointer_value l p)
+  of_no_byte p = refl

@@ -32,11 +32,19 @@ sized_trail size labels wanted = checked (trail_of (allocation_violations size l
 abbrev pub product_of : ℤ → ℤ → ℤ
 product_of a b = saturate_signed w128 (a *ℤ b)
 
--- the products of two ranges of numbers that are not negative
+-- the numbers that are not negative
+abbrev pub from_zero : Range → Range
+from_zero None = None
+from_zero (Some p) = range_met (Some p) (pos 0) p.1
+
+abbrev pub products_of : Range → Range → Range
+products_of None y = None
+products_of (Some p) None = None
+products_of (Some p) (Some q) = Some (product_of p.0 q.0, product_of p.1 q.1)
+
+-- the products of the numbers of two ranges that are not negative
 abbrev pub products : Range → Range → Range
-products None y = None
-products (Some p) None = None
-products (Some p) (Some q) = Some (product_of p.0 q.0, product_of p.1 q.1)
+products x y = products_of (from_zero x) (from_zero y)
 
 module _ {I : Type 0} where
   -- the sizes that an instance can have: those asked for, up to the greatest number of ptrdiff_t

@@ -45,7 +45,7 @@ is_covered m leaf write alone = is_covered_by m leaf alone write.sure
 
 -- at least so many bytes as the size
 abbrev pub holds_whole : ℤ → Range → Bool
-holds_whole least None = false
+holds_whole least None = true
 holds_whole least (Some size) = int_le size.1 least
 
 abbrev pub is_up_to_range : Window → Range → Bool

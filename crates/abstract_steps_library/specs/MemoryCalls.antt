@@ -67,10 +67,14 @@ module _ {I : Type 0} where
     count = need;
   }
 
+  -- no byte can be written: the call goes on where none need be
+  abbrev pub nothing_written : LatticeOf I → Target I → Effect I
+  nothing_written l target = cond (int_le (pos 1) (lower_of target.count)) effect.Unreached (effect.Result (pointer_value l target.rest))
+
   -- ---- memcpy and memmove
 
   abbrev pub copy_in_window : LatticeOf I → IntegersOf I → Call → List (Cell I) → Argument I → Target I → Option Window → Effect I
-  copy_in_window l n call row from target None = effect.Result (pointer_value l target.rest)
+  copy_in_window l n call row from target None = nothing_written l target
   copy_in_window l n call row from target (Some w) =
       effect.Copy (record {
         bases = writable_of call.flow.bases.items target.rest.bases;
@@ -115,8 +119,8 @@ module _ {I : Type 0} where
 
   abbrev pub fill_in_window : LatticeOf I → IntegersOf I → Call → Target I → Value I → Option Window → Option Window → Effect I
   fill_in_window l n call target c (Some w) (Some start) = fill_effect l n call target c w start
-  fill_in_window l n call target c None start = effect.Result (pointer_value l target.rest)
-  fill_in_window l n call target c (Some w) None = effect.Result (pointer_value l target.rest)
+  fill_in_window l n call target c None start = nothing_written l target
+  fill_in_window l n call target c (Some w) None = nothing_written l target
 
   abbrev pub fill_to : LatticeOf I → IntegersOf I → Call → Value I → Target I → Plan I
   fill_to l n call c target = planned target.trail (fill_in_window l n call target c (touched_window n target.rest target.count) (window_within (offsets n target.rest)))

@@ -6,16 +6,19 @@ use Rattle.cc_base.specs.IntegerTypes.{greatest_of}
 use Rattle.cc_base.specs.NumberRanges.{range_met}
 use Rattle.c_layout.specs.declared.data_model.Model.{Model}
 use Rattle.c_layout.specs.declared.leaf_lists.Class.TheVariants.{Char, Int, Pointer}
-use Rattle.pointer_domain.specs.BaseSets.{bases_empty}
+use Rattle.pointer_domain.specs.declared.pointer_sets.Pointers.{Pointers}
+use Rattle.pointer_domain.specs.BaseSets.{no_base, bases_empty}
+use Rattle.pointer_domain.specs.PointerTables.{offsets}
 use Rattle.value_domain.specs.declared.values.Value.{Value}
 use Rattle.value_domain.specs.declared.row_cells.Cell.{Cell}
 use Rattle.value_domain.specs.LabelSets.{no_labels, input_labels}
 use Rattle.value_domain.specs.ValueTables.{number_value}
+use Rattle.store_domain.specs.AccessWindows.{window_within}
 use Rattle.store_domain.specs.ScalarTypes.{kind_of}
 use Rattle.abstract_steps_checks.specs.declared.library_arguments.Argument.{Argument}
 use Rattle.abstract_steps_checks.specs.declared.string_scans.Scanned.{Scanned}
 use Rattle.abstract_steps_checks.specs.declared.violation_sets.Violations.{Violations}
-use Rattle.abstract_steps_checks.specs.LibraryArguments.{check_argument}
+use Rattle.abstract_steps_checks.specs.LibraryArguments.{check_argument, within_bases}
 use Rattle.abstract_steps_checks.specs.StringScans.{scan}
 use Rattle.abstract_steps_checks.specs.ViolationSets.{no_violations}
 use Rattle.abstract_steps_library.specs.Calls.{Call}
@@ -26,9 +29,17 @@ use Rattle.abstract_steps_library.specs.Plans.{trail_of, checked, planned, harml
 use Rattle.abstract_steps_library.specs.Arguments.{argument_value, string_violations}
 
 module _ {I : Type 0} where
+  -- some offset is one of a byte
+  abbrev pub has_place : IntegersOf I → Pointers I → Bool
+  has_place n p = is_some (window_within (offsets n p))
+
+  -- without a place nothing goes on: no run has such a pointer
+  abbrev pub placed : LatticeOf I → IntegersOf I → Argument I → Argument I
+  placed l n given = cond (has_place n given.rest) given (record given { rest = within_bases l n given.rest no_base })
+
   -- an argument that is a pointer, and what of it goes on
   abbrev pub argument_at : LatticeOf I → IntegersOf I → Call → List (Cell I) → ℕ → Argument I
-  argument_at l n call row at = check_argument l n call.flow.bases.items row (argument_value l n call row at).pointer
+  argument_at l n call row at = placed l n (check_argument l n call.flow.bases.items row (argument_value l n call row at).pointer)
 
   abbrev pub scan_at : LatticeOf I → IntegersOf I → Call → List (Cell I) → Argument I → Scanned I
   scan_at l n call row given = scan l n call.flow.bases.items row given.rest

@@ -1,5 +1,5 @@
 -- `strcpy`, `strncpy`, `strcat` and `fgets`.
-use Rattle.std.specs.Prelude.{◌^◌, ◌-◌, nat_lt, ℤ, pos, negsuc, ◌-ℤ◌, Bool, true, false, cond, not, ◌&&◌, ◌||◌, Option, Some, None, is_some, List}
+use Rattle.std.specs.Prelude.{◌^◌, ◌-◌, nat_lt, int_lt, ℤ, pos, negsuc, ◌-ℤ◌, Bool, true, false, cond, not, ◌&&◌, ◌||◌, Option, Some, None, is_some, List}
 use Rattle.std.specs.Int.{w128, saturate_signed}
 use Rattle.cc_base.specs.Lattices.{LatticeOf}
 use Rattle.cc_base.specs.IntegerDomains.{IntegersOf, of_range, between_or_least}
@@ -37,17 +37,21 @@ use Rattle.abstract_steps_library.specs.declared.text_writes.ZeroRule.TheVariant
 use Rattle.abstract_steps_library.specs.Plans.{trail_of, checked, planned}
 use Rattle.abstract_steps_library.specs.Arguments.{argument_value, string_violations}
 use Rattle.abstract_steps_library.specs.Outputs.{argument_at, scan_at, given_trail, scanned_trail}
-use Rattle.abstract_steps_library.specs.MemoryCalls.{room_trail, target_of, both_given, is_one_byte, lower_of}
+use Rattle.abstract_steps_library.specs.MemoryCalls.{room_trail, target_of, both_given, is_one_byte, lower_of, nothing_written}
 use Rattle.abstract_steps_library.specs.Sources.{characters_of, reads_blank_in}
 
 abbrev pub less_one : ℤ → ℤ
 less_one x = saturate_signed w128 (x -ℤ pos 1)
 
-abbrev pub window_from_offset : Window → ℤ → Option Window
-window_from_offset w (pos lo) = cond (nat_lt (2 ^ 64 - 1) lo) None (window_met w lo (2 ^ 64 - 1))
-window_from_offset w (negsuc k) = None
+abbrev pub window_from_place : Window → ℤ → Option Window
+window_from_place w (pos lo) = cond (nat_lt (2 ^ 64 - 1) lo) None (window_met w lo (2 ^ 64 - 1))
+window_from_place w (negsuc k) = None
 
 -- the bytes of a window from an offset on
+abbrev pub window_from_offset : Window → ℤ → Option Window
+window_from_offset w lo = cond (int_lt lo (pos 0)) (Some w) (window_from_place w lo)
+
+-- from the least of the offsets on
 abbrev pub window_behind : Option Window → Range → Option Window
 window_behind None start = None
 window_behind (Some w) None = None
@@ -68,12 +72,12 @@ module _ {I : Type 0} where
   one_less l n None = near_number l n l.least
   one_less l n (Some p) = near_number l n (of_range l n (Some (less_one p.0, less_one p.1)))
 
-  -- a text write of a target from the given start, or the result alone where no byte is written
+  -- a text write of a target from the given start, or nothing where no byte can be written
   abbrev pub text_effect : LatticeOf I → Call → Target I → Option Window → Option Window → Bool → Characters I → ZeroRule I → Effect I
   text_effect l call target (Some start) (Some w) one_byte characters rule =
       effect.Text (record { bases = writable_of call.flow.bases.items target.rest.bases; start = start; window = w; one_byte = one_byte; characters = characters; zero = rule }) (pointer_value l target.rest)
-  text_effect l call target None w one_byte characters rule = effect.Result (pointer_value l target.rest)
-  text_effect l call target (Some start) None one_byte characters rule = effect.Result (pointer_value l target.rest)
+  text_effect l call target None w one_byte characters rule = nothing_written l target
+  text_effect l call target (Some start) None one_byte characters rule = nothing_written l target
 
   -- from the first byte of the target on
   abbrev pub text_from_start : LatticeOf I → IntegersOf I → Call → Target I → Characters I → ZeroRule I → Plan I

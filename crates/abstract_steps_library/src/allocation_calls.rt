@@ -1,7 +1,7 @@
 //! `malloc`, `calloc`, `realloc` and `free` (7.22.3 of ISO/IEC 9899:2011).
 ghost use Rattle.std.specs.Prelude.{◌≡◌};
 ghost use Rattle.abstract_steps_library.specs.Calls.{call_view};
-ghost use Rattle.abstract_steps_library.specs.Allocations.{sized_trail, malloc_of, calloc_of, released, realloc_of, free_of, instance_size, plan_malloc, product_of, products, plan_calloc, plan_realloc, plan_free};
+ghost use Rattle.abstract_steps_library.specs.Allocations.{sized_trail, malloc_of, calloc_of, released, realloc_of, free_of, instance_size, plan_malloc, from_zero, product_of, products_of, products, plan_calloc, plan_realloc, plan_free};
 ghost use Rattle.pointer_domain.specs.PointerTables.{IsNearPointer};
 ghost use Rattle.cc_base.specs.IntegerDomains.{IsNear};
 
@@ -55,9 +55,25 @@ fn product(a: i128, b: i128) -> i128
     a.saturating_mul(b)
 }
 
-/// The products of two ranges of numbers that are not negative.
+/// The numbers that are not negative.
+fn from_zero(x: Option<(i128, i128)>) -> Option<(i128, i128)>
+    ensures { result ≡ from_zero x }
+{
+    match x {
+        None => None,
+        Some(p) => range_met(Some(p), 0, p.1),
+    }
+}
+
+/// The products of the numbers of two ranges that are not negative.
 fn products(x: Option<(i128, i128)>, y: Option<(i128, i128)>) -> Option<(i128, i128)>
     ensures { result ≡ products x y }
+{
+    products_of(from_zero(x), from_zero(y))
+}
+
+fn products_of(x: Option<(i128, i128)>, y: Option<(i128, i128)>) -> Option<(i128, i128)>
+    ensures { result ≡ products_of x y }
 {
     match (x, y) {
         (Some(p), Some(q)) => Some((product(p.0, q.0), product(p.1, q.1))),

@@ -135,7 +135,7 @@ fn holds_whole(least: i128, size: Option<(i128, i128)>) -> bool
     ensures { result ≡ holds_whole least size }
 {
     match size {
-        None => false,
+        None => true,
         Some(size) => size.1 <= least,
     }
 }

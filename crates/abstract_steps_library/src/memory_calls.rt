@@ -2,7 +2,7 @@
 ghost use Rattle.std.specs.Prelude.{◌≡◌};
 ghost use Rattle.abstract_steps_checks.specs.LibraryArguments.{cut_by_room};
 ghost use Rattle.abstract_steps_library.specs.Calls.{call_view};
-ghost use Rattle.abstract_steps_library.specs.MemoryCalls.{room_trail, target_of, plan_copy, sure_window, is_zero_byte, is_one_byte, lower_of, fill_trail, fill_effect, fill_in_window, fill_to, fill_given, plan_fill, copy_in_window, copy_to, both_given, copy_both};
+ghost use Rattle.abstract_steps_library.specs.MemoryCalls.{room_trail, target_of, nothing_written, plan_copy, sure_window, is_zero_byte, is_one_byte, lower_of, fill_trail, fill_effect, fill_in_window, fill_to, fill_given, plan_fill, copy_in_window, copy_to, both_given, copy_both};
 ghost use Rattle.pointer_domain.specs.PointerTables.{IsNearPointer};
 
 use crate::call_arguments::{Call, argument_value, literal_violations, room_violations};
@@ -63,7 +63,17 @@ pub fn check_literals<I: IntDomain>(
     }
 }
 
-/// The effect of a copy on a window; only the result where there is none.
+/// The effect where no byte can be written: the result, where none need be.
+pub fn nothing_written<I: IntDomain>(target: Target<I>) -> Effect<I>
+    ensures { result ≡ nothing_written I.lattice target }
+{
+    if lower_of(target.count) >= 1 {
+        return Effect::Unreached;
+    }
+    Effect::Result(Value::of_pointer(target.rest))
+}
+
+/// The effect of a copy on a window.
 fn copy_in_window<I: IntDomain>(
     call: Call,
     row: &[Cell<I>],
@@ -76,7 +86,7 @@ fn copy_in_window<I: IntDomain>(
 {
     let result = Value::of_pointer(target.rest);
     match window {
-        None => Effect::Result(result),
+        None => nothing_written(target),
         Some(window) => {
             let source = touched_window(from.rest, target.count);
             Effect::Copy(
@@ -222,7 +232,7 @@ fn fill_in_window<I: IntDomain>(
 {
     match (window, start) {
         (Some(w), Some(start)) => fill_effect(call, target, c, w, start),
-        _ => Effect::Result(Value::of_pointer(target.rest)),
+        _ => nothing_written(target),
     }
 }
 

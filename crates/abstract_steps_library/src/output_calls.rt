@@ -1,16 +1,17 @@
 //! Input, output and the end of the run (7.21 and 7.22.4 of ISO/IEC 9899:2011).
 ghost use Rattle.std.specs.Prelude.{◌≡◌};
 ghost use Rattle.abstract_steps_library.specs.Calls.{call_view};
-ghost use Rattle.abstract_steps_library.specs.Outputs.{plan_getchar, plan_putchar, pointer_trail, scan_trail, plan_puts, has_number, printed_trail, printed_trail_at, text_trail, text_trail_at, scan_violations, pointer_trails, scan_trails, plan_printf, plan_strlen, plan_strcmp, argument_at, scan_at, given_trail, scanned_trail, length_of, strlen_of};
+ghost use Rattle.abstract_steps_library.specs.Outputs.{plan_getchar, plan_putchar, pointer_trail, scan_trail, plan_puts, has_number, printed_trail, printed_trail_at, text_trail, text_trail_at, scan_violations, pointer_trails, scan_trails, plan_printf, plan_strlen, plan_strcmp, placed, argument_at, scan_at, given_trail, scanned_trail, length_of, strlen_of};
 ghost use Rattle.pointer_domain.specs.PointerTables.{IsNearPointer};
 ghost use Rattle.cc_base.specs.IntegerDomains.{IsNear};
 
 use crate::call_arguments::{Call, argument_value, string_violations};
 use crate::call_plans::{Effect, Plan, Trail, harmless, planned};
-use abstract_steps_checks::{Argument, Scanned, Violations, check_argument, scan};
+use abstract_steps_checks::{Argument, Scanned, Violations, check_argument, scan, within_bases};
 use c_layout::{Class, Model};
 use cc_base::{IntDomain, between_or_bottom, of_range, range_met};
-use store_domain::kind_of;
+use pointer_domain::Bases;
+use store_domain::{kind_of, window_within};
 use value_domain::{Cell, Labels, Value};
 
 /// `getchar`: a character or -1, with the labels of input.
@@ -34,13 +35,29 @@ pub fn plan_putchar<I: IntDomain>(model: &Model, c: Value<I>) -> Plan<I>
     harmless(Effect::Result(Value::of_number(num, c.labels)))
 }
 
+/// The pointers that go on have a place among the bytes: no run has one without.
+fn placed<I: IntDomain>(given: Argument<I>) -> Argument<I>
+    requires { IsNearPointer I.numbers given.rest }
+    ensures near { IsNearPointer I.numbers result.rest }
+    ensures value { result ≡ placed I.lattice I.numbers given }
+{
+    if window_within(given.rest.offsets()).is_some() {
+        return given;
+    }
+    Argument {
+        violations: given.violations,
+        rest: within_bases(given.rest, Bases::empty()),
+    }
+}
+
 /// An argument that is a pointer, and what of it goes on.
 pub fn argument_at<I: IntDomain>(call: Call, row: &[Cell<I>], at: usize) -> Argument<I>
     ensures near { IsNearPointer I.numbers result.rest }
     ensures value { result ≡ argument_at I.lattice I.numbers (call_view call.entry) row.now at }
 {
     let bases = call.flow.bases.as_slice();
-    check_argument(bases, row, argument_value(call, row, at).pointer)
+    let pointer = argument_value(call, row, at).pointer;
+    placed(check_argument(bases, row, pointer))
 }
 
 /// The scan of a string argument that was checked.
@@ -211,14 +228,13 @@ pub fn plan_strlen<I: IntDomain>(call: Call, row: &[Cell<I>]) -> Plan<I>
 pub fn plan_strcmp<I: IntDomain>(call: Call, row: &[Cell<I>]) -> Plan<I>
     ensures { result ≡ plan_strcmp I.lattice I.numbers (call_view call.entry) row.now }
 {
-    let bases = call.flow.bases.as_slice();
-    let left = check_argument(bases, row, argument_value(call, row, 0).pointer);
-    let right = check_argument(bases, row, argument_value(call, row, 1).pointer);
+    let left = argument_at(call, row, 0);
+    let right = argument_at(call, row, 1);
     let trail = Trail::start(left.violations);
     let trail = trail.check(Violations::none(), !left.rest.bases.is_empty());
     let trail = trail.check(right.violations, !right.rest.bases.is_empty());
-    let first = scan(bases, row, left.rest);
-    let second = scan(bases, row, right.rest);
+    let first = scan_at(call, row, left);
+    let second = scan_at(call, row, right);
     let trail = scanned_trail(scanned_trail(trail, first), second);
     planned(
         trail,

@@ -1,19 +1,20 @@
 //! `strcpy`, `strncpy`, `strcat` and `fgets`.
 ghost use Rattle.std.specs.Prelude.{◌≡◌, Some};
 ghost use Rattle.abstract_steps_library.specs.Calls.{call_view};
-ghost use Rattle.abstract_steps_library.specs.StringCalls.{one_more, one_less, text_effect, text_from_start, two_given, source_characters, strcpy_scanned, plan_strcpy, append_start, append_window, most_appended, appended, append_effect, strcat_of, strcat_to, strcat_place, strcat_scanned, plan_strcat, line_count, line_trail, line_rule, fgets_given, reads_no_string, plan_strncpy, input_characters, plan_fgets};
+ghost use Rattle.abstract_steps_library.specs.StringCalls.{one_more, one_less, text_effect, text_from_start, two_given, source_characters, strcpy_scanned, plan_strcpy, append_start, window_from_place, window_from_offset, append_window, most_appended, appended, append_effect, strcat_of, strcat_to, strcat_place, strcat_scanned, plan_strcat, line_count, line_trail, line_rule, fgets_given, reads_no_string, plan_strncpy, input_characters, plan_fgets};
 ghost use Rattle.pointer_domain.specs.PointerTables.{IsNearPointer};
 ghost use Rattle.cc_base.specs.IntegerDomains.{IsNear};
 
 use crate::call_arguments::{Call, argument_value, string_violations};
 use crate::call_plans::{Effect, Plan, Trail, planned};
-use crate::memory_calls::{Target, check_literals, check_room, is_one_byte, lower_of};
+use crate::memory_calls::{
+    Target, check_literals, check_room, is_one_byte, lower_of, nothing_written,
+};
 use crate::output_calls::{argument_at, given_trail, scan_at, scanned_trail};
 use crate::source_bytes::{Characters, characters_of, reads_blank};
 use crate::text_writes::{TextWrite, ZeroRule};
 use abstract_steps_checks::{
-    Argument, Scanned, Violations, check_argument, passes_room, scan, sink_violations,
-    touched_window, within_bases,
+    Argument, Scanned, Violations, passes_room, sink_violations, touched_window, within_bases,
 };
 use c_layout::{Class, Model};
 use cc_base::{IntDomain, between_or_bottom, of_range, range_met, upper_or};
@@ -39,7 +40,7 @@ fn one_less<I: IntDomain>(need: Option<(i128, i128)>) -> I
     }
 }
 
-/// A text write of a target from the given start, or the result alone where no byte is written.
+/// A text write of a target from the given start, or nothing where no byte can be written.
 fn text_effect<I: IntDomain>(
     call: Call,
     target: Target<I>,
@@ -64,7 +65,7 @@ fn text_effect<I: IntDomain>(
             },
             result,
         ),
-        _ => Effect::Result(result),
+        _ => nothing_written(target),
     }
 }
 
@@ -150,6 +151,24 @@ fn append_start<I: IntDomain>(p: Pointers<I>, there: I) -> Option<(i128, i128)>
     added_ranges(p.offsets(), there.bounds())
 }
 
+/// The bytes of a window from an offset on that is not below 0.
+fn window_from_place(whole: Window, lo: i128) -> Option<Window>
+    ensures { result ≡ window_from_place whole lo }
+{
+    let lo = u64::try_from(lo).ok()?;
+    whole.met(lo, u64::MAX)
+}
+
+/// The bytes of a window from an offset on.
+fn window_from_offset(whole: Window, lo: i128) -> Option<Window>
+    ensures { result ≡ window_from_offset whole lo }
+{
+    if lo < 0 {
+        return Some(whole);
+    }
+    window_from_place(whole, lo)
+}
+
 /// The bytes that `strcat` may write: those of the new text, up to the upper bound.
 fn append_window<I: IntDomain>(
     p: Pointers<I>,
@@ -162,8 +181,7 @@ fn append_window<I: IntDomain>(
 {
     let whole = touched_window(p, cut)?;
     let (lo, _) = append_start(p, there)?;
-    let lo = u64::try_from(lo).ok()?;
-    whole.met(lo, u64::MAX)
+    window_from_offset(whole, lo)
 }
 
 /// The greatest length of a text that is appended to those that are there, with its zero, in so many
@@ -300,15 +318,14 @@ fn reads_no_string<I: IntDomain>(
 pub fn plan_strncpy<I: IntDomain>(call: Call, row: &[Cell<I>]) -> Plan<I>
     ensures { result ≡ plan_strncpy I.lattice I.numbers (call_view call.entry) row.now }
 {
-    let bases = call.flow.bases.as_slice();
     let n = argument_value(call, row, 2);
     let count = n.num.bounds();
-    let to = check_argument(bases, row, argument_value(call, row, 0).pointer);
-    let from = check_argument(bases, row, argument_value(call, row, 1).pointer);
+    let to = argument_at(call, row, 0);
+    let from = argument_at(call, row, 1);
     let trail = Trail::start(sink_violations(n.labels));
     let trail = trail.check(to.violations, !to.rest.bases.is_empty());
     let trail = trail.check(from.violations, !from.rest.bases.is_empty());
-    let scanned = scan(bases, row, from.rest);
+    let scanned = scan_at(call, row, from);
     let no_string = reads_no_string(call, row, from.rest, scanned.unknown, count);
     let trail = trail.check(string_violations(no_string), true);
     let (trail, cut) = check_room(trail, to.rest, count);
