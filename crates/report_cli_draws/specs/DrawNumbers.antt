@@ -1,6 +1,6 @@
 -- The number that a word of a draws file spells: decimal digits without leading zeros, behind a minus where it is
 -- negative.
-use Rattle.std.specs.Prelude.{ℕ, ◌^◌, ℤ, pos, ◌-ℤ◌, Bool, false, cond, ◌&&◌, ◌==◌, nat_lt, nat_le, List, [], ◌∷◌, Option, Some, None}
+use Rattle.std.specs.Prelude.{◌≡◌, refl, codes, ℕ, ◌^◌, ◌-◌, ℤ, pos, ◌-ℤ◌, Bool, false, cond, ◌&&◌, ◌==◌, nat_lt, nat_le, List, [], ◌∷◌, Option, Some, None}
 use Rattle.std.specs.Str.{all_ascii_digits}
 use Rattle.std.specs.Str.Parse.{digits_value}
 
@@ -30,3 +30,28 @@ negative (Some n) = cond (nat_le n (2 ^ 63)) (Some (pos 0 -ℤ pos n)) None
 abbrev pub draw_of : Bytes → Option ℤ
 draw_of [] = None
 draw_of (c ∷ cs) = cond (c == 45) (negative (magnitude cs)) (positive (magnitude (c ∷ cs)))
+
+-- the least and the greatest number, those beyond, and other forms
+least : draw_of (codes "-9223372036854775808") ≡ Some (pos 0 -ℤ pos (2 ^ 63))
+least = refl
+
+too_small : draw_of (codes "-9223372036854775809") ≡ None
+too_small = refl
+
+greatest : draw_of (codes "18446744073709551615") ≡ Some (pos (2 ^ 64 - 1))
+greatest = refl
+
+too_great : draw_of (codes "18446744073709551616") ≡ None
+too_great = refl
+
+minus_zero : draw_of (codes "-0") ≡ Some (pos 0)
+minus_zero = refl
+
+leading_zero : draw_of (codes "065") ≡ None
+leading_zero = refl
+
+plus : draw_of (codes "+65") ≡ None
+plus = refl
+
+minus_alone : draw_of (codes "-") ≡ None
+minus_alone = refl

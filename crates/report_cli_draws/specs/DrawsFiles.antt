@@ -1,5 +1,5 @@
 -- The numbers of a draws file: words that blanks, tabs and line feeds set apart.
-use Rattle.std.specs.Prelude.{ℕ, ℤ, Bool, cond, ◌||◌, ◌==◌, nat_le, List, [], ◌∷◌, ◌++◌, length, Option, Some, None}
+use Rattle.std.specs.Prelude.{◌≡◌, refl, codes, ℕ, ℤ, pos, ◌-ℤ◌, Bool, cond, ◌||◌, ◌==◌, nat_le, List, [], ◌∷◌, ◌++◌, length, Option, Some, None}
 use Rattle.report_cli_draws.specs.DrawNumbers.{Bytes, draw_of}
 
 abbrev pub is_gap : ℕ → Bool
@@ -37,3 +37,16 @@ few (Some ns) = cond (nat_le (length ns) 65536) (Some ns) None
 -- what a text gives
 unfoldable pub draws_in : Bytes → Option (List ℤ)
 draws_in text = few (numbers_of (words_from [] text))
+
+-- numbers between any gaps, none, and a comma
+two : draws_in (codes "\n 65\t-1 \n") ≡ Some (pos 65 ∷ ((pos 0 -ℤ pos 1) ∷ []))
+unfolding draws_in
+two = refl
+
+none : draws_in (codes "\n") ≡ Some []
+unfolding draws_in
+none = refl
+
+comma : draws_in (codes "65,66") ≡ None
+unfolding draws_in
+comma = refl
