@@ -1,7 +1,11 @@
 //! Layers of abstract declarators put together (6.7.7).
-ghost use Rattle.std.specs.Prelude.{◌≡◌, ◌+◌, [], ◌∷◌, ◌++◌, max, map, reverse, IfOk};
-ghost use Rattle.c_layout.specs.SyntaxTrees.{tree_of, layer_view, type_name_view};
+ghost use Rattle.std.specs.Prelude.{◌≡◌, ◌+◌, ◌≤◌, ◌&&◌, false, List, [], ◌∷◌, ◌++◌, max, map, reverse, IfOk, IfErr};
+ghost use Rattle.c_layout.specs.SyntaxTrees.{trees, tree_of, layer_view, type_name_view};
 ghost use Rattle.c_parser_expressions.specs.Findings.{lengths_of, brackets_of, layer_of, layer_height, is_empty, IsSomething};
+ghost use Rattle.c_parser_expressions.specs.ReadingResults.{Reads, arrays_got, layers_got};
+ghost use Rattle.c_parser_expressions.specs.TypeNameReaders.{layered, declared};
+ghost use Rattle.c_parser_expressions.specs.TypeNames.{is_lone_star, words_height};
+ghost use Rattle.c_parser_tokens.specs.declared.terminals.Terminal.{Terminal};
 
 use crate::expression_nodes::add_expression;
 use crate::heights::{Parsed, Trouble, made};
@@ -48,7 +52,9 @@ fn layer_height(
     parts: u32,
     budget: u32,
 ) -> Result<u32, Trouble>
-    ensures { IfOk result (λ h. h ≡ layer_height is_innermost (layer_view layer.now) parts) }
+    ensures height { IfOk result (λ h. h ≡ layer_height is_innermost (layer_view layer.now) parts) }
+    ensures within { IfOk result (λ h. h ≤ budget) }
+    ensures refused { IfErr result (λ e. (is_innermost && is_lone_star (layer_view layer.now) ≡ false) × (budget ≤ parts)) }
 {
     if is_innermost && layer.arrays.is_empty() && is_one_star(layer.stars.as_slice()) {
         return Ok(0);
@@ -67,6 +73,7 @@ pub fn layered(
     ensures lengths { IfOk result (λ n. map tree_of n.tree.lengths.items ≡ map tree_of nested.tree.lengths.items ++ map tree_of arrays.tree.lengths.items) }
     ensures something { IfOk result (λ n. IsSomething (map layer_view nested.tree.layers.items) (layer_of stars.items arrays.tree.arrays.items)) }
     ensures height { IfOk result (λ n. n.height ≡ layer_height (is_empty (map layer_view nested.tree.layers.items)) (layer_of stars.items arrays.tree.arrays.items) (max nested.height arrays.height)) }
+    ensures read { (inside rest : List Terminal) → Reads result (λ n. layers_got n.tree n.height rest) (layered budget stars.items (layers_got nested.tree nested.height inside) (arrays_got arrays.tree arrays.height rest)) }
 {
     let Parsed {
         tree: AbstractParts {
@@ -104,6 +111,7 @@ pub fn plain_name(
     ensures name { IfOk result (λ n. type_name_view n.tree.value.name ≡ record { words = words.tree.items; layers = [] }) }
     ensures lengths { IfOk result (λ n. map tree_of n.tree.value.lengths.items ≡ []) }
     ensures height { IfOk result (λ n. n.height ≡ words.height) }
+    ensures memory { IfErr result (λ e. e ≡ Trouble.Memory) }
 {
     let name = TypeName {
         words: words.tree,
@@ -130,6 +138,7 @@ pub fn declared_name(
     ensures name { IfOk result (λ n. type_name_view n.tree.value.name ≡ record { words = words.tree.items; layers = reverse (map layer_view declarator.tree.layers.items) }) }
     ensures lengths { IfOk result (λ n. map tree_of n.tree.value.lengths.items ≡ map tree_of declarator.tree.lengths.items) }
     ensures height { IfOk result (λ n. n.height ≡ max words.height declarator.height + 1) }
+    ensures read { words.height ≡ words_height words.tree.items → (rest : List Terminal) → Reads result (λ n. record { name = type_name_view n.tree.value.name; lengths = trees (map tree_of n.tree.value.lengths.items); height = n.height; rest = rest }) (declared budget words.tree.items (layers_got declarator.tree declarator.height rest)) }
 {
     let height = made(budget, words.height.max(declarator.height))?;
     let AbstractParts {

@@ -1,8 +1,9 @@
 //! Nodes of trees, made of their parts. Each refuses where its height would pass the budget.
-ghost use Rattle.std.specs.Prelude.{◌≡◌, ◌+◌, ◌≤◌, [], ◌∷◌, ◌++◌, max, map, IfOk};
+ghost use Rattle.std.specs.Prelude.{◌≡◌, ◌+◌, ◌≤◌, [], ◌∷◌, ◌++◌, max, map, IfOk, IfErr};
 ghost use Rattle.c_layout.specs.SyntaxTrees as tree;
 ghost use Rattle.c_layout.specs.SyntaxTrees.{tree_of, trees, type_name_view};
 ghost use Rattle.c_parser_expressions.specs.Findings.{infix_tree};
+ghost use Rattle.c_parser_expressions.specs.ReadingResults.{OnSyntax};
 
 use crate::heights::{Parsed, Trouble, made};
 use crate::operators::Infix;
@@ -22,6 +23,7 @@ pub fn add_expression(list: &mut Vec<Expr>, node: Box<Expr>) -> Result<(), Alloc
 pub fn leaf_node(alloc: Global, leaf: Expr) -> Result<Parsed<Box<Expr>>, Trouble>
     ensures tree { IfOk result (λ n. tree_of n.tree.value ≡ tree_of leaf) }
     ensures height { IfOk result (λ n. n.height ≡ 0) }
+    ensures memory { IfErr result (λ e. e ≡ Trouble.Memory) }
 {
     Ok(Parsed {
         tree: Box::new(alloc, leaf)?,
@@ -40,6 +42,7 @@ pub fn infix_node(
 ) -> Result<Parsed<Box<Expr>>, Trouble>
     ensures tree { IfOk result (λ n. tree_of n.tree.value ≡ infix_tree op place (tree_of left.tree.value) (tree_of right.tree.value)) }
     ensures height { IfOk result (λ n. (n.height ≡ max left.height right.height + 1) × (n.height ≤ budget)) }
+    ensures refused { IfErr result (OnSyntax (budget ≤ max left.height right.height)) }
 {
     let height = made(budget, left.height.max(right.height))?;
     let tree = match op {
@@ -61,6 +64,7 @@ pub fn conditional_node(
 ) -> Result<Parsed<Box<Expr>>, Trouble>
     ensures tree { IfOk result (λ n. tree_of n.tree.value ≡ tree.Conditional place (tree_of condition.tree.value) (tree_of first.tree.value) (tree_of second.tree.value)) }
     ensures height { IfOk result (λ n. (n.height ≡ max (max condition.height first.height) second.height + 1) × (n.height ≤ budget)) }
+    ensures refused { IfErr result (OnSyntax (budget ≤ max (max condition.height first.height) second.height)) }
 {
     let parts = condition.height.max(first.height).max(second.height);
     let height = made(budget, parts)?;
@@ -80,6 +84,7 @@ pub fn assign_node(
 ) -> Result<Parsed<Box<Expr>>, Trouble>
     ensures tree { IfOk result (λ n. tree_of n.tree.value ≡ tree.Assign place op (tree_of left.tree.value) (tree_of right.tree.value)) }
     ensures height { IfOk result (λ n. (n.height ≡ max left.height right.height + 1) × (n.height ≤ budget)) }
+    ensures refused { IfErr result (OnSyntax (budget ≤ max left.height right.height)) }
 {
     let height = made(budget, left.height.max(right.height))?;
     let tree = Box::new(alloc, Expr::Assign(place, op, left.tree, right.tree))?;
@@ -96,6 +101,7 @@ pub fn comma_node(
 ) -> Result<Parsed<Box<Expr>>, Trouble>
     ensures tree { IfOk result (λ n. tree_of n.tree.value ≡ tree.Comma place (tree_of first.tree.value) (tree_of second.tree.value)) }
     ensures height { IfOk result (λ n. (n.height ≡ max first.height second.height + 1) × (n.height ≤ budget)) }
+    ensures refused { IfErr result (OnSyntax (budget ≤ max first.height second.height)) }
 {
     let height = made(budget, first.height.max(second.height))?;
     let tree = Box::new(alloc, Expr::Comma(place, first.tree, second.tree))?;
@@ -111,6 +117,7 @@ pub fn paren_node(
 ) -> Result<Parsed<Box<Expr>>, Trouble>
     ensures tree { IfOk result (λ n. tree_of n.tree.value ≡ tree.Paren place (tree_of operand.tree.value)) }
     ensures height { IfOk result (λ n. (n.height ≡ operand.height + 1) × (n.height ≤ budget)) }
+    ensures refused { IfErr result (OnSyntax (budget ≤ operand.height)) }
 {
     let height = made(budget, operand.height)?;
     let tree = Box::new(alloc, Expr::Paren(place, operand.tree))?;
@@ -127,6 +134,7 @@ pub fn prefix_node(
 ) -> Result<Parsed<Box<Expr>>, Trouble>
     ensures tree { IfOk result (λ n. tree_of n.tree.value ≡ tree.Prefix place op (tree_of operand.tree.value)) }
     ensures height { IfOk result (λ n. (n.height ≡ operand.height + 1) × (n.height ≤ budget)) }
+    ensures refused { IfErr result (OnSyntax (budget ≤ operand.height)) }
 {
     let height = made(budget, operand.height)?;
     let tree = Box::new(alloc, Expr::Prefix(place, op, operand.tree))?;
@@ -143,6 +151,7 @@ pub fn unary_node(
 ) -> Result<Parsed<Box<Expr>>, Trouble>
     ensures tree { IfOk result (λ n. tree_of n.tree.value ≡ tree.Unary place op (tree_of operand.tree.value)) }
     ensures height { IfOk result (λ n. (n.height ≡ operand.height + 1) × (n.height ≤ budget)) }
+    ensures refused { IfErr result (OnSyntax (budget ≤ operand.height)) }
 {
     let height = made(budget, operand.height)?;
     let tree = Box::new(alloc, Expr::Unary(place, op, operand.tree))?;
@@ -158,6 +167,7 @@ pub fn sizeof_node(
 ) -> Result<Parsed<Box<Expr>>, Trouble>
     ensures tree { IfOk result (λ n. tree_of n.tree.value ≡ tree.SizeofExpr place (tree_of operand.tree.value)) }
     ensures height { IfOk result (λ n. (n.height ≡ operand.height + 1) × (n.height ≤ budget)) }
+    ensures refused { IfErr result (OnSyntax (budget ≤ operand.height)) }
 {
     let height = made(budget, operand.height)?;
     let tree = Box::new(alloc, Expr::SizeofExpr(place, operand.tree))?;
@@ -174,6 +184,7 @@ pub fn cast_node(
 ) -> Result<Parsed<Box<Expr>>, Trouble>
     ensures tree { IfOk result (λ n. tree_of n.tree.value ≡ tree.Cast place (type_name_view named.tree.value.name) (trees (map tree_of named.tree.value.lengths.items)) (tree_of operand.tree.value)) }
     ensures height { IfOk result (λ n. (n.height ≡ max named.height operand.height + 1) × (n.height ≤ budget)) }
+    ensures refused { IfErr result (OnSyntax (budget ≤ max named.height operand.height)) }
 {
     let height = made(budget, named.height.max(operand.height))?;
     let TypeNameParts { name, lengths } = Box::into_inner(named.tree);
@@ -190,6 +201,7 @@ pub fn sizeof_type_node(
 ) -> Result<Parsed<Box<Expr>>, Trouble>
     ensures tree { IfOk result (λ n. tree_of n.tree.value ≡ tree.SizeofType place (type_name_view named.tree.value.name) (trees (map tree_of named.tree.value.lengths.items))) }
     ensures height { IfOk result (λ n. (n.height ≡ named.height + 1) × (n.height ≤ budget)) }
+    ensures refused { IfErr result (OnSyntax (budget ≤ named.height)) }
 {
     let height = made(budget, named.height)?;
     let TypeNameParts { name, lengths } = Box::into_inner(named.tree);
@@ -206,6 +218,7 @@ pub fn call_node(
 ) -> Result<Parsed<Box<Expr>>, Trouble>
     ensures tree { IfOk result (λ n. tree_of n.tree.value ≡ tree.Call name.place name.text (trees (map tree_of arguments.tree.items))) }
     ensures height { IfOk result (λ n. (n.height ≡ arguments.height + 1) × (n.height ≤ budget)) }
+    ensures refused { IfErr result (OnSyntax (budget ≤ arguments.height)) }
 {
     let height = made(budget, arguments.height)?;
     let Name { place, text } = name;

@@ -2,6 +2,9 @@
 ghost use Rattle.std.specs.Prelude.{◌≡◌, ◌<◌, ◌≤◌, IfOk};
 ghost use Rattle.c_layout.specs.SyntaxTrees.{tree_of};
 ghost use Rattle.c_parser_expressions.specs.Findings.{Found, FoundLevel, is_unary};
+ghost use Rattle.c_parser_expressions.specs.Readings.{got};
+ghost use Rattle.c_parser_expressions.specs.ReadingResults.{Reads};
+ghost use Rattle.c_parser_expressions.specs.TypeNameReaders.{all_readers};
 
 use crate::expression_nodes::{assign_node, comma_node, conditional_node, infix_node};
 use crate::heights::{Parsed, Trouble, inner};
@@ -23,7 +26,8 @@ fn binary(
 ) -> Result<Parsed<Box<Expr>>, Trouble>
     requires from { 0 < level }
     requires to { level ≤ 13 }
-    ensures { IfOk result (λ n. FoundLevel scope.entry.typedefs.now level budget (tree_of n.tree.value) n.height reader.old reader.new) }
+    ensures found { IfOk result (λ n. FoundLevel scope.entry.typedefs.now level budget (tree_of n.tree.value) n.height reader.old reader.new) }
+    ensures read { Reads result (λ n. got (tree_of n.tree.value) n.height reader.new) ((all_readers scope.entry.typedefs.now budget).binary level reader.old) }
 {
     let mut left = cast(scope, reader, budget)?;
     for _turn in 0..budget {
@@ -48,7 +52,8 @@ pub fn conditional(
     reader: &mut Reader<'_>,
     budget: u32,
 ) -> Result<Parsed<Box<Expr>>, Trouble>
-    ensures { IfOk result (λ n. Found scope.entry.typedefs.now 2 budget (tree_of n.tree.value) n.height reader.old reader.new) }
+    ensures found { IfOk result (λ n. Found scope.entry.typedefs.now 2 budget (tree_of n.tree.value) n.height reader.old reader.new) }
+    ensures read { Reads result (λ n. got (tree_of n.tree.value) n.height reader.new) ((all_readers scope.entry.typedefs.now budget).conditional reader.old) }
 {
     let condition = binary(scope, reader, LOGICAL_OR, budget)?;
     if !reader.is_at(Punctuator::Question) {
@@ -84,7 +89,8 @@ pub fn assignment(
     reader: &mut Reader<'_>,
     budget: u32,
 ) -> Result<Parsed<Box<Expr>>, Trouble>
-    ensures { IfOk result (λ n. Found scope.entry.typedefs.now 1 budget (tree_of n.tree.value) n.height reader.old reader.new) }
+    ensures found { IfOk result (λ n. Found scope.entry.typedefs.now 1 budget (tree_of n.tree.value) n.height reader.old reader.new) }
+    ensures read { Reads result (λ n. got (tree_of n.tree.value) n.height reader.new) ((all_readers scope.entry.typedefs.now budget).assignment reader.old) }
 {
     let left = conditional(scope, reader, budget)?;
     let Some(op) = assign_at(reader.peek()) else {
@@ -114,7 +120,8 @@ pub fn expression(
     reader: &mut Reader<'_>,
     budget: u32,
 ) -> Result<Parsed<Box<Expr>>, Trouble>
-    ensures { IfOk result (λ n. Found scope.entry.typedefs.now 0 budget (tree_of n.tree.value) n.height reader.old reader.new) }
+    ensures found { IfOk result (λ n. Found scope.entry.typedefs.now 0 budget (tree_of n.tree.value) n.height reader.old reader.new) }
+    ensures read { Reads result (λ n. got (tree_of n.tree.value) n.height reader.new) ((all_readers scope.entry.typedefs.now budget).expression reader.old) }
 {
     let mut found = assignment(scope, reader, budget)?;
     for _turn in 0..budget {

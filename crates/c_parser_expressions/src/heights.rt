@@ -1,5 +1,5 @@
 //! Heights of derivations.
-ghost use Rattle.std.specs.Prelude.{◌≡◌, ◌+◌, ◌≤◌, IfOk};
+ghost use Rattle.std.specs.Prelude.{◌≡◌, ◌+◌, ◌≤◌, IfOk, IfErr};
 
 use std::alloc::{AllocError, AllocFailed};
 
@@ -23,12 +23,22 @@ pub enum Trouble {
 }
 
 impl From<AllocError> for Trouble {
+    ghost use Rattle.std.specs.Prelude.{◌≡◌};
+    ghost use Rattle.c_parser_expressions.specs.declared.heights.Trouble.TheVariants as trouble;
+
+    ghost from_gives = { λ _ e. e ≡ trouble.Memory };
+
     fn from(_error: AllocError) -> Trouble {
         Trouble::Memory
     }
 }
 
 impl<T: Drop> From<AllocFailed<T>> for Trouble {
+    ghost use Rattle.std.specs.Prelude.{◌≡◌};
+    ghost use Rattle.c_parser_expressions.specs.declared.heights.Trouble.TheVariants as trouble;
+
+    ghost from_gives = { λ _ e. e ≡ trouble.Memory };
+
     fn from(_error: AllocFailed<T>) -> Trouble {
         Trouble::Memory
     }
@@ -36,7 +46,8 @@ impl<T: Drop> From<AllocFailed<T>> for Trouble {
 
 /// The budget of the parts of a production.
 pub fn inner(budget: u32) -> Result<u32, Trouble>
-    ensures { IfOk result (λ b. b + 1 ≡ budget) }
+    ensures inner { IfOk result (λ b. b + 1 ≡ budget) }
+    ensures refused { IfErr result (λ e. (e ≡ Trouble.Syntax) × (budget ≡ 0)) }
 {
     match budget.checked_sub(1) {
         Some(rest) => Ok(rest),
@@ -46,7 +57,8 @@ pub fn inner(budget: u32) -> Result<u32, Trouble>
 
 /// The height of a production whose parts have heights of at most `parts`.
 pub fn made(budget: u32, parts: u32) -> Result<u32, Trouble>
-    ensures { IfOk result (λ h. (h ≡ parts + 1) × (h ≤ budget)) }
+    ensures height { IfOk result (λ h. (h ≡ parts + 1) × (h ≤ budget)) }
+    ensures refused { IfErr result (λ e. (e ≡ Trouble.Syntax) × (budget ≤ parts)) }
 {
     if parts < budget {
         Ok(parts + 1)

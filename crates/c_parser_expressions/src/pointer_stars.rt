@@ -1,7 +1,9 @@
 //! The stars of declarators (6.7.6.1).
-ghost use Rattle.std.specs.Prelude.{◌≡◌, IfOk};
-ghost use Rattle.c_parser_expressions.specs.Fronts.{first_symbol};
+ghost use Rattle.std.specs.Prelude.{◌≡◌, ◌≢◌, length, IfOk, IfErr};
+ghost use Rattle.c_parser_expressions.specs.Fronts.{first_symbol, behind_first};
 ghost use Rattle.c_parser_expressions.specs.TypeNames.{is_pointer_qualifier, Qualifiers, IsStar, Stars, is_one_star};
+ghost use Rattle.c_parser_expressions.specs.ReadingResults.{OnSyntax};
+ghost use Rattle.c_parser_expressions.specs.TypeNameReaders.{qualified, stars};
 
 use crate::heights::Trouble;
 use crate::terminal_reader::Reader;
@@ -20,7 +22,9 @@ fn is_at_qualifier(reader: &Reader<'_>) -> bool
 
 /// How many of `const` and `restrict` stand next. More than a `u32` can count are want of memory.
 fn qualifiers(reader: &mut Reader<'_>) -> Result<u32, Trouble>
-    ensures { IfOk result (λ n. Qualifiers n reader.old reader.new) }
+    ensures found { IfOk result (λ n. Qualifiers n reader.old reader.new) }
+    ensures read { IfOk result (λ n. qualified reader.old ≡ (n, reader.new)) }
+    ensures memory { IfErr result (λ e. e ≡ Trouble.Memory) }
 {
     let mut count = 0u32;
     for _turn in 0..reader.left() {
@@ -38,7 +42,9 @@ fn qualifiers(reader: &mut Reader<'_>) -> Result<u32, Trouble>
 
 /// A star, with the number of qualifiers behind it.
 fn star(reader: &mut Reader<'_>) -> Result<u32, Trouble>
-    ensures { IfOk result (λ n. IsStar n reader.old reader.new) }
+    ensures found { IfOk result (λ n. IsStar n reader.old reader.new) }
+    ensures read { IfOk result (λ n. qualified (behind_first reader.old) ≡ (n, reader.new)) }
+    ensures refused { IfErr result (OnSyntax (first_symbol reader.old ≢ Symbol.Punctuator Punctuator.Star)) }
 {
     reader.expect(Punctuator::Star)?;
     qualifiers(reader)
@@ -46,7 +52,9 @@ fn star(reader: &mut Reader<'_>) -> Result<u32, Trouble>
 
 /// The stars that stand next, each with the number of qualifiers behind it.
 pub fn stars(alloc: Global, reader: &mut Reader<'_>) -> Result<Vec<u32>, Trouble>
-    ensures { IfOk result (λ v. Stars v.items reader.old reader.new) }
+    ensures found { IfOk result (λ v. Stars v.items reader.old reader.new) }
+    ensures read { IfOk result (λ v. stars (length reader.old) reader.old ≡ record { stars = v.items; rest = reader.new }) }
+    ensures memory { IfErr result (λ e. e ≡ Trouble.Memory) }
 {
     let mut found = Vec::new(alloc);
     for _turn in 0..reader.left() {

@@ -1,8 +1,13 @@
 //! Primary and postfix expressions (6.5.1, 6.5.2).
-ghost use Rattle.std.specs.Prelude.{◌≡◌, ◌≤◌, map, IfOk};
-ghost use Rattle.c_layout.specs.SyntaxTrees.{tree_of};
+ghost use Rattle.std.specs.Prelude.{◌≡◌, ◌≤◌, ℕ, cond, length, map, IfOk, Some, None};
+ghost use Rattle.c_layout.specs.SyntaxTrees.{trees, tree_of};
 ghost use Rattle.c_parser_expressions.specs.Findings.{Found, FoundSome, FoundArguments, FoundSuffix};
 ghost use Rattle.c_parser_expressions.specs.Levels.{goes_on};
+ghost use Rattle.c_parser_expressions.specs.Fronts.{first_symbol, is_identifier};
+ghost use Rattle.c_parser_expressions.specs.Readings.{got};
+ghost use Rattle.c_parser_expressions.specs.ReadingResults.{Reads, ReadsSuffix};
+ghost use Rattle.c_parser_expressions.specs.ExpressionReaders.{no_readers, some_arguments, arguments, name_or_call, parenthesized, primary_by, primary, subscript, suffix_by, suffix};
+ghost use Rattle.c_parser_expressions.specs.TypeNameReaders.{all_readers, readers_inside};
 
 use crate::expression_nodes::{add_expression, call_node, leaf_node, paren_node};
 use crate::expressions::{assignment, expression};
@@ -10,7 +15,7 @@ use crate::heights::{Parsed, Trouble, inner};
 use crate::operators::{step_at, step_sign};
 use crate::postfix_operators::{Suffix, suffix_node};
 use crate::terminal_reader::{Reader, Scope};
-use c_layout::{Expr, Name};
+use c_layout::{Constant, Expr, Name};
 use c_parser_tokens::{Punctuator, Symbol};
 
 /// One argument or more behind the `(` of a call, with the `)`.
@@ -21,7 +26,8 @@ fn some_arguments(
     reader: &mut Reader<'_>,
     budget: u32,
 ) -> Result<Parsed<Vec<Expr>>, Trouble>
-    ensures { IfOk result (λ n. FoundArguments scope.entry.typedefs.now budget (map tree_of n.tree.items) n.height reader.old reader.new) }
+    ensures found { IfOk result (λ n. FoundArguments scope.entry.typedefs.now budget (map tree_of n.tree.items) n.height reader.old reader.new) }
+    ensures read { Reads result (λ n. record { trees = trees (map tree_of n.tree.items); height = n.height; rest = reader.new }) (some_arguments (all_readers scope.entry.typedefs.now budget) (length reader.old) reader.old) }
 {
     let mut found = Vec::new(scope.alloc);
     let mut height = 0u32;
@@ -47,7 +53,8 @@ fn arguments(
     reader: &mut Reader<'_>,
     budget: u32,
 ) -> Result<Parsed<Vec<Expr>>, Trouble>
-    ensures { IfOk result (λ n. FoundArguments scope.entry.typedefs.now budget (map tree_of n.tree.items) n.height reader.old reader.new) }
+    ensures found { IfOk result (λ n. FoundArguments scope.entry.typedefs.now budget (map tree_of n.tree.items) n.height reader.old reader.new) }
+    ensures read { Reads result (λ n. record { trees = trees (map tree_of n.tree.items); height = n.height; rest = reader.new }) (arguments (all_readers scope.entry.typedefs.now budget) reader.old) }
 {
     if reader.accept(Punctuator::RightParenthesis) {
         return Ok(Parsed {
@@ -65,7 +72,8 @@ fn name_or_call(
     reader: &mut Reader<'_>,
     budget: u32,
 ) -> Result<Parsed<Box<Expr>>, Trouble>
-    ensures { IfOk result (λ n. Found scope.entry.typedefs.now 15 budget (tree_of n.tree.value) n.height reader.old reader.new) }
+    ensures found { IfOk result (λ n. Found scope.entry.typedefs.now 15 budget (tree_of n.tree.value) n.height reader.old reader.new) }
+    ensures read { Reads result (λ n. got (tree_of n.tree.value) n.height reader.new) (cond (is_identifier (first_symbol reader.old)) (name_or_call budget (readers_inside scope.entry.typedefs.now budget) scope.entry.typedefs.now reader.old) None) }
 {
     let name = reader.identifier(scope)?;
     if !reader.accept(Punctuator::LeftParenthesis) {
@@ -82,7 +90,8 @@ fn parenthesized(
     reader: &mut Reader<'_>,
     budget: u32,
 ) -> Result<Parsed<Box<Expr>>, Trouble>
-    ensures { IfOk result (λ n. Found scope.entry.typedefs.now 15 budget (tree_of n.tree.value) n.height reader.old reader.new) }
+    ensures found { IfOk result (λ n. Found scope.entry.typedefs.now 15 budget (tree_of n.tree.value) n.height reader.old reader.new) }
+    ensures read { Reads result (λ n. got (tree_of n.tree.value) n.height reader.new) (parenthesized budget (readers_inside scope.entry.typedefs.now budget) reader.old) }
 {
     let place = reader.expect(Punctuator::LeftParenthesis)?;
     let nested = expression(scope, reader, inner(budget)?)?;
@@ -96,7 +105,8 @@ fn literal(
     reader: &mut Reader<'_>,
     budget: u32,
 ) -> Result<Parsed<Box<Expr>>, Trouble>
-    ensures { IfOk result (λ n. Found scope.entry.typedefs.now 15 budget (tree_of n.tree.value) n.height reader.old reader.new) }
+    ensures found { IfOk result (λ n. Found scope.entry.typedefs.now 15 budget (tree_of n.tree.value) n.height reader.old reader.new) }
+    ensures read { first_symbol reader.old ≡ Symbol.Literal → Reads result (λ n. got (tree_of n.tree.value) n.height reader.new) (primary_by budget (readers_inside scope.entry.typedefs.now budget) scope.entry.typedefs.now reader.old Symbol.Literal) }
 {
     let Name { place, text } = reader.literal(scope.alloc)?;
     leaf_node(scope.alloc, Expr::Literal(place, text))
@@ -108,7 +118,8 @@ fn constant(
     reader: &mut Reader<'_>,
     budget: u32,
 ) -> Result<Parsed<Box<Expr>>, Trouble>
-    ensures { IfOk result (λ n. Found scope.entry.typedefs.now 15 budget (tree_of n.tree.value) n.height reader.old reader.new) }
+    ensures found { IfOk result (λ n. Found scope.entry.typedefs.now 15 budget (tree_of n.tree.value) n.height reader.old reader.new) }
+    ensures read { (value : Constant) → first_symbol reader.old ≡ Symbol.Constant value → Reads result (λ n. got (tree_of n.tree.value) n.height reader.new) (primary_by budget (readers_inside scope.entry.typedefs.now budget) scope.entry.typedefs.now reader.old (Symbol.Constant value)) }
 {
     let (place, value) = reader.constant()?;
     leaf_node(scope.alloc, Expr::Constant(place, value))
@@ -121,7 +132,8 @@ fn primary(
     reader: &mut Reader<'_>,
     budget: u32,
 ) -> Result<Parsed<Box<Expr>>, Trouble>
-    ensures { IfOk result (λ n. Found scope.entry.typedefs.now 15 budget (tree_of n.tree.value) n.height reader.old reader.new) }
+    ensures found { IfOk result (λ n. Found scope.entry.typedefs.now 15 budget (tree_of n.tree.value) n.height reader.old reader.new) }
+    ensures read { Reads result (λ n. got (tree_of n.tree.value) n.height reader.new) (primary budget (readers_inside scope.entry.typedefs.now budget) scope.entry.typedefs.now reader.old) }
 {
     match reader.peek() {
         Symbol::Constant(_) => constant(scope, reader, budget),
@@ -138,7 +150,8 @@ fn subscript(
     reader: &mut Reader<'_>,
     budget: u32,
 ) -> Result<Parsed<Suffix>, Trouble>
-    ensures { IfOk result (λ n. FoundSuffix scope.entry.typedefs.now n.tree n.height reader.old reader.new) }
+    ensures found { IfOk result (λ n. FoundSuffix scope.entry.typedefs.now n.tree n.height reader.old reader.new) }
+    ensures read { ReadsSuffix result budget (λ e h. subscript budget (readers_inside scope.entry.typedefs.now budget) (got e h reader.old)) reader.new }
 {
     let place = reader.expect(Punctuator::LeftBracket)?;
     let index = expression(scope, reader, inner(budget)?)?;
@@ -151,7 +164,8 @@ fn subscript(
 
 /// `.` and a member's name.
 fn member(scope: Scope<'_>, reader: &mut Reader<'_>) -> Result<Parsed<Suffix>, Trouble>
-    ensures { IfOk result (λ n. FoundSuffix scope.entry.typedefs.now n.tree n.height reader.old reader.new) }
+    ensures found { IfOk result (λ n. FoundSuffix scope.entry.typedefs.now n.tree n.height reader.old reader.new) }
+    ensures read { (budget : ℕ) → first_symbol reader.old ≡ Symbol.Punctuator Punctuator.Dot → ReadsSuffix result budget (λ e h. suffix_by budget no_readers scope.entry.typedefs.now (got e h reader.old) None (Symbol.Punctuator Punctuator.Dot)) reader.new }
 {
     let place = reader.expect(Punctuator::Dot)?;
     let name = reader.identifier(scope)?;
@@ -163,7 +177,8 @@ fn member(scope: Scope<'_>, reader: &mut Reader<'_>) -> Result<Parsed<Suffix>, T
 
 /// `->` and a member's name.
 fn arrow(scope: Scope<'_>, reader: &mut Reader<'_>) -> Result<Parsed<Suffix>, Trouble>
-    ensures { IfOk result (λ n. FoundSuffix scope.entry.typedefs.now n.tree n.height reader.old reader.new) }
+    ensures found { IfOk result (λ n. FoundSuffix scope.entry.typedefs.now n.tree n.height reader.old reader.new) }
+    ensures read { (budget : ℕ) → first_symbol reader.old ≡ Symbol.Punctuator Punctuator.Arrow → ReadsSuffix result budget (λ e h. suffix_by budget no_readers scope.entry.typedefs.now (got e h reader.old) None (Symbol.Punctuator Punctuator.Arrow)) reader.new }
 {
     let place = reader.expect(Punctuator::Arrow)?;
     let name = reader.identifier(scope)?;
@@ -193,7 +208,8 @@ fn goes_on(symbol: Symbol) -> bool
 /// The operator that stands next, behind an operand.
 #[cycle(expressions)]
 fn suffix(scope: Scope<'_>, reader: &mut Reader<'_>, budget: u32) -> Result<Parsed<Suffix>, Trouble>
-    ensures { IfOk result (λ n. FoundSuffix scope.entry.typedefs.now n.tree n.height reader.old reader.new) }
+    ensures found { IfOk result (λ n. FoundSuffix scope.entry.typedefs.now n.tree n.height reader.old reader.new) }
+    ensures read { ReadsSuffix result budget (λ e h. suffix budget (readers_inside scope.entry.typedefs.now budget) scope.entry.typedefs.now (got e h reader.old)) reader.new }
 {
     if let Some(op) = step_at(reader.peek()) {
         let place = reader.expect(step_sign(op))?;
@@ -217,7 +233,8 @@ pub fn postfix(
     reader: &mut Reader<'_>,
     budget: u32,
 ) -> Result<Parsed<Box<Expr>>, Trouble>
-    ensures { IfOk result (λ n. Found scope.entry.typedefs.now 15 budget (tree_of n.tree.value) n.height reader.old reader.new) }
+    ensures found { IfOk result (λ n. Found scope.entry.typedefs.now 15 budget (tree_of n.tree.value) n.height reader.old reader.new) }
+    ensures read { Reads result (λ n. got (tree_of n.tree.value) n.height reader.new) ((all_readers scope.entry.typedefs.now budget).postfix reader.old) }
 {
     let mut found = primary(scope, reader, budget)?;
     for _turn in 0..budget {

@@ -1,7 +1,8 @@
 //! What stands behind the operand of a postfix expression (6.5.2).
-ghost use Rattle.std.specs.Prelude.{◌≡◌, ◌+◌, ◌≤◌, max, IfOk};
+ghost use Rattle.std.specs.Prelude.{◌≡◌, ◌+◌, ◌≤◌, max, IfOk, IfErr};
 ghost use Rattle.c_layout.specs.SyntaxTrees.{tree_of};
 ghost use Rattle.c_parser_expressions.specs.Findings.{suffixed};
+ghost use Rattle.c_parser_expressions.specs.ReadingResults.{OnSyntax};
 
 use crate::heights::{Parsed, Trouble, made};
 use c_layout::{Expr, Name, StepOp};
@@ -30,6 +31,7 @@ pub fn suffix_node(
 ) -> Result<Parsed<Box<Expr>>, Trouble>
     ensures tree { IfOk result (λ n. tree_of n.tree.value ≡ suffixed suffix.tree (tree_of operand.tree.value)) }
     ensures height { IfOk result (λ n. (n.height ≡ max operand.height suffix.height + 1) × (n.height ≤ budget)) }
+    ensures refused { IfErr result (OnSyntax (budget ≤ max operand.height suffix.height)) }
 {
     let height = made(budget, operand.height.max(suffix.height))?;
     let tree = match suffix.tree {

@@ -1,7 +1,9 @@
 //! The terminals that are still to be read.
-ghost use Rattle.std.specs.Prelude.{◌≡◌, length, IfOk, IsTrue, ◌↔◌};
+ghost use Rattle.std.specs.Prelude.{◌≡◌, ◌≢◌, false, length, IfOk, IfErr, IsTrue, ◌↔◌};
 ghost use Rattle.std.specs.Bool.{OnTrue, OnFalse};
 ghost use Rattle.c_parser_expressions.specs.Fronts.{first_symbol, first_place, first_text, behind_first, is_identifier, is_typedef_first, is_identifier_first, is_specifier, begins_specifiers, IsSign, IsWord, IsName, IsTypedefName, IsConstant, IsLiteral};
+ghost use Rattle.c_parser_expressions.specs.ExpressionReaders.{opens_type_name};
+ghost use Rattle.c_parser_expressions.specs.ReadingResults.{OnSyntax};
 
 use crate::heights::Trouble;
 use crate::typedef_names::TypedefNames;
@@ -197,6 +199,7 @@ impl<'a> Reader<'a> {
     pub fn accept(&mut self, sign: Punctuator) -> bool
         ensures yes { OnTrue result (IsSign sign self.old self.new) }
         ensures no { OnFalse result (self.new ≡ self.old) }
+        ensures other { OnFalse result (first_symbol self.old ≢ Symbol.Punctuator sign) }
     {
         if self.is_at(sign) {
             self.take();
@@ -209,6 +212,7 @@ impl<'a> Reader<'a> {
     pub fn expect(&mut self, sign: Punctuator) -> Result<Place, Trouble>
         ensures place { IfOk result (λ at. at ≡ first_place self.old) }
         ensures sign { IfOk result (λ at. IsSign sign self.old self.new) }
+        ensures refused { IfErr result (λ e. (e ≡ Trouble.Syntax) × (first_symbol self.old ≢ Symbol.Punctuator sign)) }
     {
         if self.is_at(sign) {
             Ok(self.take())
@@ -221,6 +225,7 @@ impl<'a> Reader<'a> {
     pub fn expect_word(&mut self, word: Keyword) -> Result<Place, Trouble>
         ensures place { IfOk result (λ at. at ≡ first_place self.old) }
         ensures word { IfOk result (λ at. IsWord word self.old self.new) }
+        ensures refused { IfErr result (λ e. (e ≡ Trouble.Syntax) × (first_symbol self.old ≢ Symbol.Keyword word)) }
     {
         if self.is_at_word(word) {
             Ok(self.take())
@@ -231,7 +236,8 @@ impl<'a> Reader<'a> {
 
     /// Reads an integer or a character constant.
     pub fn constant(&mut self) -> Result<(Place, Constant), Trouble>
-        ensures { IfOk result (λ found. IsConstant found.0 found.1 self.old self.new) }
+        ensures found { IfOk result (λ found. IsConstant found.0 found.1 self.old self.new) }
+        ensures refused { IfErr result (λ e. (value : Constant) → first_symbol self.old ≢ Symbol.Constant value) }
     {
         match self.peek() {
             Symbol::Constant(value) => Ok((self.take(), value)),
@@ -252,7 +258,8 @@ impl<'a> Reader<'a> {
 
     /// Reads a string literal.
     pub fn literal(&mut self, alloc: Global) -> Result<Name, Trouble>
-        ensures { IfOk result (λ n. IsLiteral n.place n.text self.old self.new) }
+        ensures found { IfOk result (λ n. IsLiteral n.place n.text self.old self.new) }
+        ensures refused { IfErr result (OnSyntax (first_symbol self.old ≢ Symbol.Literal)) }
     {
         match self.peek() {
             Symbol::Literal => Ok(self.take_name(alloc)?),
@@ -276,7 +283,8 @@ impl<'a> Reader<'a> {
 
     /// Reads an identifier that is no typedef name.
     pub fn identifier(&mut self, scope: Scope<'_>) -> Result<Name, Trouble>
-        ensures { IfOk result (λ n. IsName scope.entry.typedefs.now n.place n.text self.old self.new) }
+        ensures found { IfOk result (λ n. IsName scope.entry.typedefs.now n.place n.text self.old self.new) }
+        ensures refused { IfErr result (OnSyntax (is_identifier_first scope.entry.typedefs.now self.old ≡ false)) }
     {
         if !self.is_at_identifier(scope) {
             return Err(Trouble::Syntax);
@@ -286,7 +294,8 @@ impl<'a> Reader<'a> {
 
     /// Reads a typedef name.
     pub fn typedef_name(&mut self, scope: Scope<'_>) -> Result<Name, Trouble>
-        ensures { IfOk result (λ n. IsTypedefName scope.entry.typedefs.now n.place n.text self.old self.new) }
+        ensures found { IfOk result (λ n. IsTypedefName scope.entry.typedefs.now n.place n.text self.old self.new) }
+        ensures refused { IfErr result (OnSyntax (is_typedef_first scope.entry.typedefs.now self.old ≡ false)) }
     {
         if !self.is_at_typedef(scope) {
             return Err(Trouble::Syntax);
@@ -302,13 +311,17 @@ impl<'a> Reader<'a> {
     }
 
     /// Whether `(` stands next, and behind it what begins a type name.
-    pub fn opens_type_name(&self, scope: Scope<'_>) -> bool {
+    pub fn opens_type_name(&self, scope: Scope<'_>) -> bool
+        ensures { result ≡ opens_type_name scope.entry.typedefs.now self.now }
+    {
         self.is_at(Punctuator::LeftParenthesis)
             && begins_specifiers(behind_first(self.rest), scope.typedefs)
     }
 
     /// Whether behind the next terminal `(` stands, and behind that what begins a type name.
-    pub fn is_before_type_name(&self, scope: Scope<'_>) -> bool {
+    pub fn is_before_type_name(&self, scope: Scope<'_>) -> bool
+        ensures { result ≡ opens_type_name scope.entry.typedefs.now (behind_first self.now) }
+    {
         self.is_before(Punctuator::LeftParenthesis)
             && begins_specifiers(behind_first(behind_first(self.rest)), scope.typedefs)
     }

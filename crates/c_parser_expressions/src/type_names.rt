@@ -1,9 +1,13 @@
 //! Type names and abstract declarators (6.7.7).
-ghost use Rattle.std.specs.Prelude.{◌≡◌, true, map, IfOk};
-ghost use Rattle.c_layout.specs.SyntaxTrees.{tree_of, layer_view, type_name_view};
+ghost use Rattle.std.specs.Prelude.{◌≡◌, true, length, map, List, Option, IfOk, MatchResult};
+ghost use Rattle.c_layout.specs.SyntaxTrees.{trees, tree_of, layer_view, type_name_view};
 ghost use Rattle.c_parser_expressions.specs.Findings.{FoundPair, FoundArrays, FoundLayers, FoundNested, FoundTypeName};
 ghost use Rattle.c_parser_expressions.specs.Spans.{Chain};
-ghost use Rattle.c_parser_expressions.specs.TypeNames.{IsTypeNameWord, words_height, is_one_type, counts_of};
+ghost use Rattle.c_parser_expressions.specs.TypeNames.{IsTypeNameWord, type_word_of, words_height, is_one_type, counts_of};
+ghost use Rattle.c_parser_expressions.specs.Fronts.{first_symbol};
+ghost use Rattle.c_parser_expressions.specs.ReadingResults.{Reads, Refuses, bracketed, with_pair, arrays_got, layers_got};
+ghost use Rattle.c_parser_expressions.specs.TypeNameReaders.{GotArrays, other_word, keyword_word, word_by, words, after_words, of_one_type, pair, after_arrays, pairs, nested, begins_abstract, all_readers, readers_inside};
+ghost use Rattle.c_parser_tokens.specs.declared.terminals.Terminal.{Terminal};
 
 use crate::abstract_layers::{add_brackets, declared_name, layered, plain_name};
 use crate::expressions::conditional;
@@ -18,7 +22,8 @@ use c_parser_tokens::{Keyword, Punctuator, Symbol};
 
 /// `struct` or `enum` with a tag and no body.
 fn tagged(scope: Scope<'_>, reader: &mut Reader<'_>, word: Keyword) -> Result<TypeNameWord, Trouble>
-    ensures { IfOk result (λ w. IsTypeNameWord scope.entry.typedefs.now w reader.old reader.new) }
+    ensures found { IfOk result (λ w. IsTypeNameWord scope.entry.typedefs.now w reader.old reader.new) }
+    ensures read { first_symbol reader.old ≡ Symbol.Keyword word → Reads result (λ w. record { word = w; rest = reader.new }) (other_word scope.entry.typedefs.now reader.old word) }
 {
     let place = reader.expect_word(word)?;
     let tag = reader.identifier(scope)?;
@@ -35,7 +40,8 @@ fn keyword_word(
     reader: &mut Reader<'_>,
     word: Keyword,
 ) -> Result<TypeNameWord, Trouble>
-    ensures { IfOk result (λ w. IsTypeNameWord scope.entry.typedefs.now w reader.old reader.new) }
+    ensures found { IfOk result (λ w. IsTypeNameWord scope.entry.typedefs.now w reader.old reader.new) }
+    ensures read { first_symbol reader.old ≡ Symbol.Keyword word → Reads result (λ w. record { word = w; rest = reader.new }) (keyword_word scope.entry.typedefs.now reader.old word (type_word_of word)) }
 {
     if let Some(named) = type_word(word) {
         return Ok(TypeNameWord::Type(reader.expect_word(word)?, named));
@@ -51,7 +57,8 @@ fn keyword_word(
 
 /// One word of a type name.
 fn type_name_word(scope: Scope<'_>, reader: &mut Reader<'_>) -> Result<TypeNameWord, Trouble>
-    ensures { IfOk result (λ w. IsTypeNameWord scope.entry.typedefs.now w reader.old reader.new) }
+    ensures found { IfOk result (λ w. IsTypeNameWord scope.entry.typedefs.now w reader.old reader.new) }
+    ensures read { Reads result (λ w. record { word = w; rest = reader.new }) (word_by scope.entry.typedefs.now reader.old (first_symbol reader.old)) }
 {
     match reader.peek() {
         Symbol::Keyword(word) => keyword_word(scope, reader, word),
@@ -67,6 +74,7 @@ fn type_name_words(
     ensures words { IfOk result (λ n. Chain (IsTypeNameWord scope.entry.typedefs.now) n.tree.items reader.old reader.new) }
     ensures one_type { IfOk result (λ n. is_one_type (counts_of n.tree.items) ≡ true) }
     ensures height { IfOk result (λ n. n.height ≡ words_height n.tree.items) }
+    ensures read { Reads result (λ n. record { words = n.tree.items; rest = reader.new }) (after_words (words scope.entry.typedefs.now (length reader.old) reader.old) of_one_type) }
 {
     let mut words = Vec::new(scope.alloc);
     let mut counts = SpecifierCounts::new();
@@ -95,7 +103,8 @@ fn bracket_pair(
     reader: &mut Reader<'_>,
     budget: u32,
 ) -> Result<Parsed<ArrayLength>, Trouble>
-    ensures { IfOk result (λ n. FoundPair scope.entry.typedefs.now n.tree n.height reader.old reader.new) }
+    ensures found { IfOk result (λ n. FoundPair scope.entry.typedefs.now n.tree n.height reader.old reader.new) }
+    ensures read { (more : List Terminal → Option GotArrays) → MatchResult result (λ n. bracketed reader.old (pair (readers_inside scope.entry.typedefs.now budget) reader.old more) ≡ after_arrays (more reader.new) (with_pair n.tree n.height)) (Refuses (bracketed reader.old (pair (readers_inside scope.entry.typedefs.now budget) reader.old more))) }
 {
     let place = reader.expect(Punctuator::LeftBracket)?;
     if reader.accept(Punctuator::RightBracket) {
@@ -125,7 +134,8 @@ fn brackets(
     reader: &mut Reader<'_>,
     budget: u32,
 ) -> Result<Parsed<ArrayParts>, Trouble>
-    ensures { IfOk result (λ n. FoundArrays scope.entry.typedefs.now n.tree.arrays.items (map tree_of n.tree.lengths.items) n.height reader.old reader.new) }
+    ensures found { IfOk result (λ n. FoundArrays scope.entry.typedefs.now n.tree.arrays.items (map tree_of n.tree.lengths.items) n.height reader.old reader.new) }
+    ensures read { Reads result (λ n. arrays_got n.tree n.height reader.new) (pairs (readers_inside scope.entry.typedefs.now budget) (length reader.old) reader.old) }
 {
     let mut parts = ArrayParts {
         arrays: Vec::new(scope.alloc),
@@ -134,7 +144,10 @@ fn brackets(
     let mut height = 0u32;
     for _turn in 0..reader.left() {
         if !reader.is_at(Punctuator::LeftBracket) {
-            break;
+            return Ok(Parsed {
+                tree: parts,
+                height,
+            });
         }
         let pair = bracket_pair(scope, reader, budget)?;
         height = height.max(pair.height);
@@ -153,7 +166,8 @@ fn nested_abstract(
     reader: &mut Reader<'_>,
     budget: u32,
 ) -> Result<Parsed<AbstractParts>, Trouble>
-    ensures { IfOk result (λ n. FoundNested scope.entry.typedefs.now (map layer_view n.tree.layers.items) (map tree_of n.tree.lengths.items) n.height reader.old reader.new) }
+    ensures found { IfOk result (λ n. FoundNested scope.entry.typedefs.now (map layer_view n.tree.layers.items) (map tree_of n.tree.lengths.items) n.height reader.old reader.new) }
+    ensures read { Reads result (λ n. layers_got n.tree n.height reader.new) (nested (readers_inside scope.entry.typedefs.now budget) reader.old) }
 {
     if !reader.accept(Punctuator::LeftParenthesis) {
         return Ok(Parsed {
@@ -176,7 +190,8 @@ fn abstract_declarator(
     reader: &mut Reader<'_>,
     budget: u32,
 ) -> Result<Parsed<AbstractParts>, Trouble>
-    ensures { IfOk result (λ n. FoundLayers scope.entry.typedefs.now (map layer_view n.tree.layers.items) (map tree_of n.tree.lengths.items) n.height reader.old reader.new) }
+    ensures found { IfOk result (λ n. FoundLayers scope.entry.typedefs.now (map layer_view n.tree.layers.items) (map tree_of n.tree.lengths.items) n.height reader.old reader.new) }
+    ensures read { Reads result (λ n. layers_got n.tree n.height reader.new) ((all_readers scope.entry.typedefs.now budget).declarator reader.old) }
 {
     let stars = stars(scope.alloc, reader)?;
     let nested = nested_abstract(scope, reader, budget)?;
@@ -186,7 +201,9 @@ fn abstract_declarator(
 }
 
 /// Whether an abstract declarator stands next.
-fn begins_abstract(reader: &Reader<'_>) -> bool {
+fn begins_abstract(reader: &Reader<'_>) -> bool
+    ensures { result ≡ begins_abstract (first_symbol reader.now) }
+{
     reader.is_at(Punctuator::Star)
         || reader.is_at(Punctuator::LeftParenthesis)
         || reader.is_at(Punctuator::LeftBracket)
@@ -199,7 +216,8 @@ pub fn type_name(
     reader: &mut Reader<'_>,
     budget: u32,
 ) -> Result<Parsed<Box<TypeNameParts>>, Trouble>
-    ensures { IfOk result (λ n. FoundTypeName scope.entry.typedefs.now (type_name_view n.tree.value.name) (map tree_of n.tree.value.lengths.items) n.height reader.old reader.new) }
+    ensures found { IfOk result (λ n. FoundTypeName scope.entry.typedefs.now (type_name_view n.tree.value.name) (map tree_of n.tree.value.lengths.items) n.height reader.old reader.new) }
+    ensures read { Reads result (λ n. record { name = type_name_view n.tree.value.name; lengths = trees (map tree_of n.tree.value.lengths.items); height = n.height; rest = reader.new }) ((all_readers scope.entry.typedefs.now budget).type_name reader.old) }
 {
     let words = type_name_words(scope, reader)?;
     if !begins_abstract(reader) {

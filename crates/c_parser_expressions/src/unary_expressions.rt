@@ -1,7 +1,13 @@
 //! Casts and unary expressions (6.5.3, 6.5.4).
-ghost use Rattle.std.specs.Prelude.{◌≡◌, ◌≤◌, IfOk};
+ghost use Rattle.std.specs.Prelude.{◌≡◌, ◌≤◌, IfOk, Some, None};
 ghost use Rattle.c_layout.specs.SyntaxTrees.{tree_of};
 ghost use Rattle.c_parser_expressions.specs.Findings.{Found};
+ghost use Rattle.c_parser_expressions.specs.Fronts.{first_symbol};
+ghost use Rattle.c_parser_expressions.specs.Levels.{step_of, unary_of};
+ghost use Rattle.c_parser_expressions.specs.Readings.{got, expect, is_sizeof, is_left_parenthesis};
+ghost use Rattle.c_parser_expressions.specs.ReadingResults.{Reads};
+ghost use Rattle.c_parser_expressions.specs.ExpressionReaders.{size_of_type, size_of_expression, unary_by, cast_to};
+ghost use Rattle.c_parser_expressions.specs.TypeNameReaders.{all_readers, readers_inside};
 
 use crate::expression_nodes::{cast_node, prefix_node, sizeof_node, sizeof_type_node, unary_node};
 use crate::heights::{Parsed, Trouble, inner};
@@ -19,7 +25,8 @@ fn sizeof_type(
     reader: &mut Reader<'_>,
     budget: u32,
 ) -> Result<Parsed<Box<Expr>>, Trouble>
-    ensures { IfOk result (λ n. Found scope.entry.typedefs.now 14 budget (tree_of n.tree.value) n.height reader.old reader.new) }
+    ensures found { IfOk result (λ n. Found scope.entry.typedefs.now 14 budget (tree_of n.tree.value) n.height reader.old reader.new) }
+    ensures read { Reads result (λ n. got (tree_of n.tree.value) n.height reader.new) (expect is_sizeof reader.old (λ a. expect is_left_parenthesis a (λ _. size_of_type budget (readers_inside scope.entry.typedefs.now budget) reader.old))) }
 {
     let place = reader.expect_word(Keyword::Sizeof)?;
     reader.expect(Punctuator::LeftParenthesis)?;
@@ -35,7 +42,8 @@ fn sizeof_expression(
     reader: &mut Reader<'_>,
     budget: u32,
 ) -> Result<Parsed<Box<Expr>>, Trouble>
-    ensures { IfOk result (λ n. Found scope.entry.typedefs.now 14 budget (tree_of n.tree.value) n.height reader.old reader.new) }
+    ensures found { IfOk result (λ n. Found scope.entry.typedefs.now 14 budget (tree_of n.tree.value) n.height reader.old reader.new) }
+    ensures read { Reads result (λ n. got (tree_of n.tree.value) n.height reader.new) (expect is_sizeof reader.old (λ a. size_of_expression budget (readers_inside scope.entry.typedefs.now budget) reader.old)) }
 {
     let place = reader.expect_word(Keyword::Sizeof)?;
     let operand = unary(scope, reader, inner(budget)?)?;
@@ -50,7 +58,8 @@ fn step_expression(
     op: StepOp,
     budget: u32,
 ) -> Result<Parsed<Box<Expr>>, Trouble>
-    ensures { IfOk result (λ n. Found scope.entry.typedefs.now 14 budget (tree_of n.tree.value) n.height reader.old reader.new) }
+    ensures found { IfOk result (λ n. Found scope.entry.typedefs.now 14 budget (tree_of n.tree.value) n.height reader.old reader.new) }
+    ensures read { step_of (first_symbol reader.old) ≡ Some op → Reads result (λ n. got (tree_of n.tree.value) n.height reader.new) (unary_by budget (readers_inside scope.entry.typedefs.now budget) scope.entry.typedefs.now reader.old (Some op) None) }
 {
     let place = reader.expect(step_sign(op))?;
     let operand = unary(scope, reader, inner(budget)?)?;
@@ -65,7 +74,8 @@ fn operator_expression(
     op: UnaryOp,
     budget: u32,
 ) -> Result<Parsed<Box<Expr>>, Trouble>
-    ensures { IfOk result (λ n. Found scope.entry.typedefs.now 14 budget (tree_of n.tree.value) n.height reader.old reader.new) }
+    ensures found { IfOk result (λ n. Found scope.entry.typedefs.now 14 budget (tree_of n.tree.value) n.height reader.old reader.new) }
+    ensures read { unary_of (first_symbol reader.old) ≡ Some op → Reads result (λ n. got (tree_of n.tree.value) n.height reader.new) (unary_by budget (readers_inside scope.entry.typedefs.now budget) scope.entry.typedefs.now reader.old None (Some op)) }
 {
     let place = reader.expect(unary_sign(op))?;
     let operand = cast(scope, reader, inner(budget)?)?;
@@ -80,7 +90,8 @@ pub fn unary(
     reader: &mut Reader<'_>,
     budget: u32,
 ) -> Result<Parsed<Box<Expr>>, Trouble>
-    ensures { IfOk result (λ n. Found scope.entry.typedefs.now 14 budget (tree_of n.tree.value) n.height reader.old reader.new) }
+    ensures found { IfOk result (λ n. Found scope.entry.typedefs.now 14 budget (tree_of n.tree.value) n.height reader.old reader.new) }
+    ensures read { Reads result (λ n. got (tree_of n.tree.value) n.height reader.new) ((all_readers scope.entry.typedefs.now budget).unary reader.old) }
 {
     if let Some(op) = step_at(reader.peek()) {
         return step_expression(scope, reader, op, budget);
@@ -105,7 +116,8 @@ fn cast_expression(
     reader: &mut Reader<'_>,
     budget: u32,
 ) -> Result<Parsed<Box<Expr>>, Trouble>
-    ensures { IfOk result (λ n. Found scope.entry.typedefs.now 13 budget (tree_of n.tree.value) n.height reader.old reader.new) }
+    ensures found { IfOk result (λ n. Found scope.entry.typedefs.now 13 budget (tree_of n.tree.value) n.height reader.old reader.new) }
+    ensures read { Reads result (λ n. got (tree_of n.tree.value) n.height reader.new) (expect is_left_parenthesis reader.old (λ _. cast_to budget (readers_inside scope.entry.typedefs.now budget) reader.old)) }
 {
     let place = reader.expect(Punctuator::LeftParenthesis)?;
     let named = type_name(scope, reader, inner(budget)?)?;
@@ -122,7 +134,8 @@ pub fn cast(
     reader: &mut Reader<'_>,
     budget: u32,
 ) -> Result<Parsed<Box<Expr>>, Trouble>
-    ensures { IfOk result (λ n. Found scope.entry.typedefs.now 13 budget (tree_of n.tree.value) n.height reader.old reader.new) }
+    ensures found { IfOk result (λ n. Found scope.entry.typedefs.now 13 budget (tree_of n.tree.value) n.height reader.old reader.new) }
+    ensures read { Reads result (λ n. got (tree_of n.tree.value) n.height reader.new) ((all_readers scope.entry.typedefs.now budget).cast reader.old) }
 {
     if reader.opens_type_name(scope) {
         cast_expression(scope, reader, budget)

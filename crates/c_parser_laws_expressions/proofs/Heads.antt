@@ -15,7 +15,8 @@ use Rattle.c_parser_expressions.specs.Fronts.{first_symbol, first_place, first_t
 use Rattle.c_parser_expressions.specs.Levels.{step_sign, unary_sign}
 use Rattle.c_parser_expressions.specs.Spans.{Span}
 use Rattle.c_parser_expressions.specs.TypeNames.{IsTypeName}
-use Rattle.c_parser_laws_expressions.specs.Endings.{Continuation, Arguments, continuation_of, power}
+use Rattle.c_parser_expressions.specs.Continuations.{Continuation, Arguments, continuation_of}
+use Rattle.c_parser_laws_expressions.specs.Endings.{power}
 use Rattle.c_parser_laws_expressions.proofs.WordReading.{begins_word, type_name_is, name_weight, Named}
 use Rattle.c_parser_laws_expressions.proofs.Reading.{Reads, on, several, skip_by, trees_at, called, type_behind, size_of, cast_to, begin, climb, read}
 use Rattle.c_parser_laws_expressions.proofs.Levels.{ends_at, below}

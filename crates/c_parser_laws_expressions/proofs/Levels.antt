@@ -14,7 +14,8 @@ use Rattle.c_parser_tokens.specs.declared.terminals.Punctuator.{Punctuator}
 use Rattle.c_parser_expressions.specs.Expressions.{Derives}
 use Rattle.c_parser_expressions.specs.Fronts.{first_symbol, IsSign}
 use Rattle.c_parser_expressions.specs.Levels.{binary_sign, binary_level, logical_sign, logical_level, step_sign, assign_sign, compound_sign}
-use Rattle.c_parser_laws_expressions.specs.Endings.{Continuation, Stepped, With, Joined, Becomes, continuation_of, continuation_of_sign, power, EndsBefore}
+use Rattle.c_parser_expressions.specs.Continuations.{Continuation, Stepped, With, Joined, Becomes, continuation_of, continuation_of_sign}
+use Rattle.c_parser_laws_expressions.specs.Endings.{power, EndsBefore}
 
 pub below : (a b : ℕ) → a < b → nat_lt a b ≡ true
 below a b h = grind arith

@@ -12,7 +12,8 @@ use Rattle.c_parser_tokens.specs.declared.terminals.Punctuator.TheVariants as p
 use Rattle.c_parser_expressions.specs.Fronts.{first_symbol, first_place, first_text, behind_first, is_typedef}
 use Rattle.c_parser_expressions.specs.Levels.{step_of, unary_of}
 use Rattle.c_parser_expressions.specs.Spans.{Span}
-use Rattle.c_parser_laws_expressions.specs.Endings.{Continuation, Arguments, Index, OfObject, OfPointer, Stepped, With, Joined, Asks, Becomes, Follows, Nothing, continuation_of, power}
+use Rattle.c_parser_expressions.specs.Continuations.{Continuation, Arguments, Index, OfObject, OfPointer, Stepped, With, Joined, Asks, Becomes, Follows, Nothing, continuation_of}
+use Rattle.c_parser_laws_expressions.specs.Endings.{power}
 use Rattle.c_parser_expressions.specs.Levels.{binary_level, logical_level}
 use Rattle.c_parser_laws_expressions.proofs.Scanning.{Skip}
 use Rattle.c_parser_laws_expressions.proofs.WordReading.{Named, type_name}

@@ -10,7 +10,8 @@ use Rattle.c_parser_tokens.specs.declared.terminals.Terminal.{Terminal}
 use Rattle.c_parser_expressions.specs.Expressions.{Derives}
 use Rattle.c_parser_expressions.specs.Fronts.{first_symbol, behind_first}
 use Rattle.c_parser_expressions.specs.Levels.{binary_level, logical_level}
-use Rattle.c_parser_laws_expressions.specs.Endings.{Continuation, Index, OfObject, OfPointer, Stepped, With, Joined, Asks, Becomes, Follows, continuation_of, power}
+use Rattle.c_parser_expressions.specs.Continuations.{Continuation, Index, OfObject, OfPointer, Stepped, With, Joined, Asks, Becomes, Follows, continuation_of}
+use Rattle.c_parser_laws_expressions.specs.Endings.{power}
 use Rattle.c_parser_laws_expressions.proofs.Reading.{Reads, go_on, climb, start, read}
 use Rattle.c_parser_laws_expressions.proofs.Levels.{edge, edge_left, edge_postfix, edge_right, edge_least, ends_at, power_is, below, with_sign, joined_sign, stepped_sign, becomes_sign, level_high, level_low, logical_high, logical_low}
 use Rattle.c_parser_laws_expressions.proofs.Operands.{Spined, operand, size, spine}

@@ -9,10 +9,10 @@ use Rattle.c_parser_expressions.specs.Fronts.{first_symbol, first_place, behind_
 use Rattle.c_parser_expressions.specs.Spans.{Span}
 use Rattle.c_parser_expressions.specs.TypeNames.{greatest, Length, Arrays, length_count}
 use Rattle.c_parser_laws_expressions.proofs.Levels.{ends_at}
-use Rattle.c_parser_laws_finding.specs.Readings.{is_left_bracket}
-use Rattle.c_parser_laws_finding.specs.ExpressionReaders.{NameReaders}
-use Rattle.c_parser_laws_finding.specs.Found.{inside, AllFound}
-use Rattle.c_parser_laws_finding.specs.TypeNameReaders.{GotArrays, pair_at, pair, pairs}
+use Rattle.c_parser_expressions.specs.Readings.{is_left_bracket}
+use Rattle.c_parser_expressions.specs.ExpressionReaders.{NameReaders, inside}
+use Rattle.c_parser_laws_finding.specs.Found.{AllFound}
+use Rattle.c_parser_expressions.specs.TypeNameReaders.{GotArrays, pair_at, pair, pairs}
 use Rattle.c_parser_laws_finding.proofs.Lifts.{found_inside}
 use Rattle.c_parser_laws_finding.proofs.Begins.{no_bracket}
 use Rattle.c_parser_laws_finding.proofs.Shrinking.{AllShrink, IsNoLonger, length_behind}

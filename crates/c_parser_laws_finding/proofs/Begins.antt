@@ -15,7 +15,7 @@ use Rattle.c_parser_expressions.specs.Expressions.{Derives}
 use Rattle.c_parser_expressions.specs.Fronts.{first_symbol, behind_first, begins_specifiers, IsSign, IsName}
 use Rattle.c_parser_expressions.specs.Levels.{step_sign, unary_sign}
 use Rattle.c_parser_laws_expressions.proofs.Levels.{level_low, logical_low}
-use Rattle.c_parser_laws_finding.specs.Readings.{is_right_parenthesis, is_right_bracket, is_left_brace, is_right_brace}
+use Rattle.c_parser_expressions.specs.Readings.{is_right_parenthesis, is_right_bracket, is_left_brace, is_right_brace}
 use Rattle.c_parser_laws_finding.proofs.Lifts.{BeginsPostfix}
 
 -- ---- no expression begins as specifiers do

@@ -10,9 +10,9 @@ use Rattle.c_parser_expressions.specs.Spans.{Span, Separated}
 use Rattle.c_parser_expressions.specs.TypeNames.{greatest}
 use Rattle.c_parser_laws_expressions.specs.Endings.{EndsBefore}
 use Rattle.c_parser_laws_expressions.proofs.Levels.{below, ends_at}
-use Rattle.c_parser_laws_finding.specs.Readings.{GotSome, got, is_right_parenthesis}
-use Rattle.c_parser_laws_finding.specs.ExpressionReaders.{NameReaders, some_arguments, arguments}
-use Rattle.c_parser_laws_finding.specs.Found.{inside, IsFound, AllFound}
+use Rattle.c_parser_expressions.specs.Readings.{GotSome, got, is_right_parenthesis}
+use Rattle.c_parser_expressions.specs.ExpressionReaders.{NameReaders, some_arguments, arguments, inside}
+use Rattle.c_parser_laws_finding.specs.Found.{IsFound, AllFound}
 use Rattle.c_parser_laws_finding.proofs.Lifts.{found_inside}
 use Rattle.c_parser_laws_finding.proofs.Begins.{no_parenthesis}
 use Rattle.c_parser_laws_finding.proofs.Postfixes.{IsPostfixRead}

@@ -12,10 +12,10 @@ use Rattle.c_parser_expressions.specs.Fronts.{first_symbol, behind_first, IsSign
 use Rattle.c_parser_expressions.specs.Spans.{Span}
 use Rattle.c_parser_expressions.specs.TypeNames.{Arrays, Layers, Stars, is_lone_star, greatest, layers_height, length_count}
 use Rattle.c_parser_laws_expressions.proofs.Levels.{below}
-use Rattle.c_parser_laws_finding.specs.Readings.{GotLayers, is_left_parenthesis, is_left_bracket}
-use Rattle.c_parser_laws_finding.specs.ExpressionReaders.{NameReaders}
-use Rattle.c_parser_laws_finding.specs.Found.{inside, AllFound}
-use Rattle.c_parser_laws_finding.specs.TypeNameReaders.{is_star, stars, both, layer_height, declarator, names_of}
+use Rattle.c_parser_expressions.specs.Readings.{GotLayers, is_left_parenthesis, is_left_bracket}
+use Rattle.c_parser_expressions.specs.ExpressionReaders.{NameReaders, inside}
+use Rattle.c_parser_laws_finding.specs.Found.{AllFound}
+use Rattle.c_parser_expressions.specs.TypeNameReaders.{is_star, stars, both, layer_height, declarator, names_of}
 use Rattle.c_parser_laws_finding.proofs.Arrays.{Fits, lengths_counted, fits_all, arrays_are, arrays_few}
 use Rattle.c_parser_laws_finding.proofs.Shrinking.{all_shrink}
 use Rattle.c_parser_laws_finding.proofs.Stars.{NoStar, stars_are, stars_few}

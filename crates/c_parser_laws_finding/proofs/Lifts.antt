@@ -5,9 +5,9 @@ use Rattle.c_parser_tokens.specs.declared.terminals.Terminal.{Terminal}
 use Rattle.c_parser_expressions.specs.Expressions.{Derives, height_of}
 use Rattle.c_parser_expressions.specs.Fronts.{first_symbol}
 use Rattle.c_parser_expressions.specs.Levels.{binary_level, logical_level, step_of, unary_of}
-use Rattle.c_parser_laws_finding.specs.Readings.{Reading, got, is_sizeof}
-use Rattle.c_parser_laws_finding.specs.ExpressionReaders.{NameReaders, Readers, readers_at, expression, assignment, conditional, binary, cast, unary, postfix, opens_type_name}
-use Rattle.c_parser_laws_finding.specs.Found.{Reads, Finds, inside, IsFound}
+use Rattle.c_parser_expressions.specs.Readings.{Reading, got, is_sizeof}
+use Rattle.c_parser_expressions.specs.ExpressionReaders.{NameReaders, Readers, readers_at, expression, assignment, conditional, binary, cast, unary, postfix, opens_type_name, inside}
+use Rattle.c_parser_laws_finding.specs.Found.{Reads, Finds, IsFound}
 use Rattle.c_parser_laws_finding.proofs.Stops.{ends_weaker, no_question, no_assign, climb_stops, commas_stop}
 
 -- ---- the level of a tree's production

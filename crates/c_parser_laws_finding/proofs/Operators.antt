@@ -16,9 +16,9 @@ use Rattle.c_parser_expressions.specs.Fronts.{first_symbol, behind_first, IsSign
 use Rattle.c_parser_expressions.specs.Levels.{binary_sign, binary_level, logical_sign, logical_level, assign_sign, compound_sign, assign_of, assign_of_sign}
 use Rattle.c_parser_laws_expressions.specs.Endings.{EndsBefore}
 use Rattle.c_parser_laws_expressions.proofs.Levels.{below, ends_at, edge, edge_left, edge_right, power_at, power_is, with_sign, joined_sign, becomes_sign, level_high, level_low, logical_high, logical_low}
-use Rattle.c_parser_laws_finding.specs.Readings.{got}
-use Rattle.c_parser_laws_finding.specs.ExpressionReaders.{NameReaders, readers_at, infix_from, climb, commas, binary, conditional, assignment, expression}
-use Rattle.c_parser_laws_finding.specs.Found.{Reads, Finds, inside, IsFound}
+use Rattle.c_parser_expressions.specs.Readings.{got}
+use Rattle.c_parser_expressions.specs.ExpressionReaders.{NameReaders, readers_at, infix_from, climb, commas, binary, conditional, assignment, expression, inside}
+use Rattle.c_parser_laws_finding.specs.Found.{Reads, Finds, IsFound}
 use Rattle.c_parser_laws_finding.proofs.Stops.{climb_stops, commas_stop}
 use Rattle.c_parser_laws_finding.proofs.Lifts.{own_level, raise, nothing, to_conditional, to_expression, from_conditional, found_by, found_at, found_inside}
 

@@ -12,12 +12,13 @@ use Rattle.c_parser_tokens.specs.declared.terminals.Symbol.TheVariants as symbol
 use Rattle.c_parser_expressions.specs.Expressions.{Derives, height_of}
 use Rattle.c_parser_expressions.specs.Fronts.{first_symbol, first_place, behind_first, is_identifier_first, IsName}
 use Rattle.c_parser_expressions.specs.Levels.{step_sign, step_of, goes_on}
-use Rattle.c_parser_laws_expressions.specs.Endings.{continuation_of, power}
+use Rattle.c_parser_expressions.specs.Continuations.{continuation_of}
+use Rattle.c_parser_laws_expressions.specs.Endings.{power}
 use Rattle.c_parser_laws_expressions.proofs.Levels.{below, ends_at, power_at}
 use Rattle.c_parser_laws_expressions.proofs.Operands.{spine}
-use Rattle.c_parser_laws_finding.specs.Readings.{got, is_left_parenthesis}
-use Rattle.c_parser_laws_finding.specs.ExpressionReaders.{NameReaders, postfix, suffixes}
-use Rattle.c_parser_laws_finding.specs.Found.{Reads, inside, IsFound}
+use Rattle.c_parser_expressions.specs.Readings.{got, is_left_parenthesis}
+use Rattle.c_parser_expressions.specs.ExpressionReaders.{NameReaders, postfix, suffixes, inside}
+use Rattle.c_parser_laws_finding.specs.Found.{Reads, IsFound}
 use Rattle.c_parser_laws_finding.proofs.Stops.{suffixes_stop}
 use Rattle.c_parser_laws_finding.proofs.Lifts.{own_level, from_postfix, found_by, found_inside}
 use Rattle.c_parser_laws_finding.proofs.Begins.{begins_postfix}

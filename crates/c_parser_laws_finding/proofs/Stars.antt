@@ -3,7 +3,7 @@ use Rattle.std.proofs.Common.{◌≡◌, ℕ, zero, suc, ◌+◌, ◌≤◌, tru
 use Rattle.c_parser_tokens.specs.declared.terminals.Terminal.{Terminal}
 use Rattle.c_parser_expressions.specs.Fronts.{first_symbol, behind_first}
 use Rattle.c_parser_expressions.specs.TypeNames.{is_pointer_qualifier, Qualifiers, Stars}
-use Rattle.c_parser_laws_finding.specs.TypeNameReaders.{is_star, qualifiers, stars}
+use Rattle.c_parser_expressions.specs.TypeNameReaders.{is_star, qualifiers, stars}
 use Rattle.c_parser_laws_finding.proofs.Shrinking.{length_behind}
 
 -- no star and no qualifier of one

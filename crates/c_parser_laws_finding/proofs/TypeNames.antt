@@ -13,8 +13,9 @@ use Rattle.c_parser_expressions.specs.Spans.{Span}
 use Rattle.c_parser_expressions.specs.TypeNames.{Declarator, Layers, words_height, layers_height, type_name_height, is_one_type, counts_of}
 use Rattle.c_parser_laws_expressions.proofs.Levels.{below}
 use Rattle.c_parser_laws_expressions.proofs.Scanning.{declarator_sign}
-use Rattle.c_parser_laws_finding.specs.Found.{inside, IsFound, AllFound, FindsNames}
-use Rattle.c_parser_laws_finding.specs.TypeNameReaders.{named, begins_abstract, names_of}
+use Rattle.c_parser_expressions.specs.ExpressionReaders.{inside}
+use Rattle.c_parser_laws_finding.specs.Found.{IsFound, AllFound, FindsNames}
+use Rattle.c_parser_expressions.specs.TypeNameReaders.{named, begins_abstract, names_of}
 use Rattle.c_parser_laws_finding.proofs.Declarators.{declarator_inside, declarators_read}
 use Rattle.c_parser_laws_finding.proofs.Expressions.{expressions_found}
 use Rattle.c_parser_laws_finding.proofs.Words.{words_are, words_few}

@@ -21,9 +21,9 @@ use Rattle.c_parser_expressions.specs.Spans.{Span}
 use Rattle.c_parser_expressions.specs.TypeNames.{type_word_of, is_storage, is_qualifier, IsTypeName, IsTypeNameWord, type_name_height}
 use Rattle.c_parser_laws_expressions.proofs.Levels.{below, level_low, logical_low}
 use Rattle.c_parser_laws_expressions.proofs.WordReading.{begins_word}
-use Rattle.c_parser_laws_finding.specs.Readings.{is_left_parenthesis}
-use Rattle.c_parser_laws_finding.specs.ExpressionReaders.{NameReaders, unary, cast, opens_type_name}
-use Rattle.c_parser_laws_finding.specs.Found.{Reads, inside, IsFound, AllFound, FindsNames}
+use Rattle.c_parser_expressions.specs.Readings.{is_left_parenthesis}
+use Rattle.c_parser_expressions.specs.ExpressionReaders.{NameReaders, unary, cast, opens_type_name, inside}
+use Rattle.c_parser_laws_finding.specs.Found.{Reads, IsFound, AllFound, FindsNames}
 use Rattle.c_parser_laws_finding.proofs.Lifts.{raise, nothing, from_unary, from_cast, found_by, found_inside}
 use Rattle.c_parser_laws_finding.proofs.Begins.{begins_postfix}
 use Rattle.c_parser_laws_finding.proofs.Postfixes.{step_is}

@@ -9,7 +9,7 @@ use Rattle.c_parser_tokens.specs.declared.terminals.Terminal.{Terminal}
 use Rattle.c_parser_expressions.specs.Fronts.{first_symbol, behind_first, begins_specifiers, is_identifier_first, is_typedef_first, IsName, IsTypedefName}
 use Rattle.c_parser_expressions.specs.Spans.{Chain}
 use Rattle.c_parser_expressions.specs.TypeNames.{type_word_of, is_storage, is_qualifier, IsTypeNameWord}
-use Rattle.c_parser_laws_finding.specs.TypeNameReaders.{name_first, word_by, words}
+use Rattle.c_parser_expressions.specs.TypeNameReaders.{name_first, word_by, words}
 use Rattle.c_parser_laws_finding.proofs.Unaries.{word_specifies}
 
 -- ---- one word

@@ -8,8 +8,8 @@ use Rattle.c_parser_expressions.specs.Fronts.{IsSign}
 use Rattle.c_parser_expressions.specs.Spans.{Span}
 use Rattle.c_parser_expressions.specs.TypeNames.{IsTypeName, type_name_height}
 use Rattle.c_parser_laws_expressions.specs.Endings.{EndsBefore}
-use Rattle.c_parser_laws_finding.specs.Readings.{Reading, got}
-use Rattle.c_parser_laws_finding.specs.ExpressionReaders.{NameReaders, Readers, no_readers, readers}
+use Rattle.c_parser_expressions.specs.Readings.{Reading, got}
+use Rattle.c_parser_expressions.specs.ExpressionReaders.{NameReaders, Readers, readers, inside}
 
 -- an expression of a level and of a height below the bound is what the reader answers
 abbrev pub Reads : List (List ℕ) → (List Terminal → Reading) → ℕ → ℕ → Tree → Type 0
@@ -24,11 +24,6 @@ pub record Finds (known : List (List ℕ)) (r : Readers) (bound : ℕ) (e : Tree
   pub cast : Reads known r.cast 13 bound e
   pub unary : Reads known r.unary 14 bound e
   pub postfix : Reads known r.postfix 15 bound e
-
--- the readers of what stands inside
-abbrev pub inside : NameReaders → List (List ℕ) → ℕ → Readers
-inside name known zero = no_readers
-inside name known (suc b) = readers name known b
 
 -- an expression is found by the readers of each budget
 abbrev pub IsFound : NameReaders → List (List ℕ) → Tree → Type 0

@@ -1,4 +1,1 @@
-pub mod Readings
-pub mod ExpressionReaders
 pub mod Found
-pub mod TypeNameReaders

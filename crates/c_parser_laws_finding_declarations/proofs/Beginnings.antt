@@ -14,7 +14,7 @@ use Rattle.c_parser_expressions.specs.TypeNames.{type_word_of, is_qualifier, is_
 use Rattle.c_parser_declarations.specs.Declarations.{is_declarator_sign, begins_declarator}
 use Rattle.c_parser_declarations.specs.Specifiers.{DeriveWord, DeriveWords, DeriveMember, DeriveMembers, counts_of, IsNamed}
 use Rattle.c_parser_declarations.specs.StorageClasses.{storage_class}
-use Rattle.c_parser_laws_finding.specs.Readings.{is_left_brace, is_right_brace, is_right_parenthesis}
+use Rattle.c_parser_expressions.specs.Readings.{is_left_brace, is_right_brace, is_right_parenthesis}
 use Rattle.c_parser_laws_finding.proofs.Shrinking.{length_behind}
 use Rattle.c_parser_laws_finding_declarations.specs.Found.{is_end, DeclaratorEnds, SpecEnds}
 use Rattle.c_parser_laws_finding_declarations.proofs.Enumerators.{tag_shrinks, enumerators_few}

@@ -14,8 +14,8 @@ use Rattle.c_parser_declarations.specs.Initializers.{DeriveInitializer, initiali
 use Rattle.c_parser_declarations.specs.Lists.{Listed, highest}
 use Rattle.c_parser_declarations.specs.Specifiers.{IsNamed, IsSpec, spec_height}
 use Rattle.c_parser_laws_expressions.proofs.Levels.{below}
-use Rattle.c_parser_laws_finding.specs.Readings.{is_left_parenthesis}
-use Rattle.c_parser_laws_finding.specs.TypeNameReaders.{stars}
+use Rattle.c_parser_expressions.specs.Readings.{is_left_parenthesis}
+use Rattle.c_parser_expressions.specs.TypeNameReaders.{stars}
 use Rattle.c_parser_laws_finding.proofs.Shrinking.{length_behind}
 use Rattle.c_parser_laws_finding.proofs.Stars.{stars_are, stars_few}
 use Rattle.c_parser_laws_finding_declarations.specs.Found.{InitializerEnds, is_end, DeclaratorEnds, SpecEnds, is_comma_or_semicolon, DeclaredEnds, FindsFileDeclarators}

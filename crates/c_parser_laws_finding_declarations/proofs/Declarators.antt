@@ -10,8 +10,8 @@ use Rattle.c_parser_expressions.specs.Spans.{Chain}
 use Rattle.c_parser_expressions.specs.TypeNames.{Stars, is_one_star, is_pointer_qualifier}
 use Rattle.c_parser_declarations.specs.Declarators.{IsSuffix, Core, Layers, flat, climbed, layers_height}
 use Rattle.c_parser_laws_expressions.proofs.Levels.{below}
-use Rattle.c_parser_laws_finding.specs.Readings.{is_left_parenthesis, is_left_bracket}
-use Rattle.c_parser_laws_finding.specs.TypeNameReaders.{is_star, stars}
+use Rattle.c_parser_expressions.specs.Readings.{is_left_parenthesis, is_left_bracket}
+use Rattle.c_parser_expressions.specs.TypeNameReaders.{is_star, stars}
 use Rattle.c_parser_laws_finding.proofs.Shrinking.{length_behind}
 use Rattle.c_parser_laws_finding.proofs.Stars.{NoStar, stars_are, stars_few}
 use Rattle.c_parser_laws_finding_declarations.specs.Found.{is_end, DeclaratorEnds}

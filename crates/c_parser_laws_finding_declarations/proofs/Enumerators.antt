@@ -12,8 +12,8 @@ use Rattle.c_parser_declarations.specs.Lists.{highest}
 use Rattle.c_parser_declarations.specs.Specifiers.{Tag, Value, IsEnumerator, value_height, enumerator_height, Enumerators}
 use Rattle.c_parser_laws_expressions.specs.Endings.{EndsBefore}
 use Rattle.c_parser_laws_expressions.proofs.Levels.{below}
-use Rattle.c_parser_laws_finding.specs.Readings.{is_right_brace}
-use Rattle.c_parser_laws_finding.specs.TypeNameReaders.{names_of}
+use Rattle.c_parser_expressions.specs.Readings.{is_right_brace}
+use Rattle.c_parser_expressions.specs.TypeNameReaders.{names_of}
 use Rattle.c_parser_laws_finding.proofs.Lifts.{found_inside}
 use Rattle.c_parser_laws_finding.proofs.Shrinking.{length_behind}
 use Rattle.c_parser_laws_finding.proofs.Takes.{takes}

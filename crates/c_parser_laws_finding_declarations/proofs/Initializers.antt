@@ -9,7 +9,7 @@ use Rattle.c_parser_expressions.specs.Spans.{Span, Separated, Trailed}
 use Rattle.c_parser_declarations.specs.Initializers.{DeriveInitializer, DeriveItems, has_item, initializer_height, items_height}
 use Rattle.c_parser_declarations.specs.Lists.{highest}
 use Rattle.c_parser_laws_expressions.proofs.Levels.{ends_at, below}
-use Rattle.c_parser_laws_finding.specs.Readings.{is_right_brace}
+use Rattle.c_parser_expressions.specs.Readings.{is_right_brace}
 use Rattle.c_parser_laws_finding.proofs.Begins.{no_left_brace, no_right_brace}
 use Rattle.c_parser_laws_finding.proofs.Shrinking.{length_behind}
 use Rattle.c_parser_laws_finding.proofs.TypeNames.{all_expressions_found}

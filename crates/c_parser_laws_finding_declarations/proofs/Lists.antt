@@ -4,7 +4,7 @@ use Rattle.c_parser_tokens.specs.declared.terminals.Terminal.{Terminal}
 use Rattle.c_parser_tokens.specs.declared.terminals.Punctuator.TheVariants as p
 use Rattle.c_parser_expressions.specs.Fronts.{first_symbol, behind_first, IsSign}
 use Rattle.c_parser_declarations.specs.Lists.{Listed, Trailed, highest}
-use Rattle.c_parser_laws_finding.specs.Readings.{is_comma, is_right_brace}
+use Rattle.c_parser_expressions.specs.Readings.{is_comma, is_right_brace}
 use Rattle.c_parser_laws_finding.proofs.Shrinking.{length_behind}
 use Rattle.c_parser_laws_finding_declarations.specs.Items.{Item, item_of, listed, braced}
 

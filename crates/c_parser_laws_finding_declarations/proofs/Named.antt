@@ -11,8 +11,8 @@ use Rattle.c_parser_declarations.specs.Declarations.{begins_declarator}
 use Rattle.c_parser_declarations.specs.Declarators.{IsSuffix, Core, Layers, Shape, IsDeclarator, is_something, shape_height, declarator_height}
 use Rattle.c_parser_declarations.specs.Lists.{Listed, highest}
 use Rattle.c_parser_declarations.specs.Specifiers.{IsNamed}
-use Rattle.c_parser_laws_finding.specs.Readings.{is_comma}
-use Rattle.c_parser_laws_finding.specs.TypeNameReaders.{stars}
+use Rattle.c_parser_expressions.specs.Readings.{is_comma}
+use Rattle.c_parser_expressions.specs.TypeNameReaders.{stars}
 use Rattle.c_parser_laws_finding.proofs.Shrinking.{length_behind}
 use Rattle.c_parser_laws_finding.proofs.Stars.{stars_few}
 use Rattle.c_parser_laws_finding_declarations.specs.Found.{DeclaratorEnds}

@@ -16,7 +16,7 @@ use Rattle.c_parser_declarations.specs.Declarators.{IsDeclarator, declarator_hei
 use Rattle.c_parser_declarations.specs.Lists.{Listed, highest}
 use Rattle.c_parser_declarations.specs.Specifiers.{DeriveWord, DeriveWords, IsSpec, counts_of, spec_height}
 use Rattle.c_parser_laws_expressions.proofs.Levels.{below}
-use Rattle.c_parser_laws_finding.specs.Readings.{is_comma, is_right_parenthesis}
+use Rattle.c_parser_expressions.specs.Readings.{is_comma, is_right_parenthesis}
 use Rattle.c_parser_laws_finding.proofs.Shrinking.{length_behind}
 use Rattle.c_parser_laws_finding_declarations.specs.Found.{is_end, DeclaratorEnds}
 use Rattle.c_parser_laws_finding_declarations.specs.Items.{item_of}

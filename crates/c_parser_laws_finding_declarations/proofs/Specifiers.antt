@@ -15,7 +15,7 @@ use Rattle.c_parser_declarations.specs.Lists.{Listed, highest}
 use Rattle.c_parser_declarations.specs.Specifiers.{Tag, Enumerators, IsNamed, enumerator_height, has_member, DeriveWord, DeriveWords, DeriveMember, DeriveMembers, IsSpec, counts_of, listed_height, word_height, words_height, member_height, members_height, spec_height}
 use Rattle.c_parser_declarations.specs.StorageClasses.{storage_class}
 use Rattle.c_parser_laws_expressions.proofs.Levels.{below}
-use Rattle.c_parser_laws_finding.specs.Readings.{is_left_brace}
+use Rattle.c_parser_expressions.specs.Readings.{is_left_brace}
 use Rattle.c_parser_laws_finding.proofs.Shrinking.{length_behind}
 use Rattle.c_parser_laws_finding_declarations.specs.Found.{DeclaratorEnds, SpecEnds}
 use Rattle.c_parser_laws_finding_declarations.specs.Items.{Item, item_of, chained}

@@ -9,8 +9,8 @@ use Rattle.c_parser_expressions.specs.Fronts.{first_symbol, first_place, behind_
 use Rattle.c_parser_expressions.specs.Spans.{Chain}
 use Rattle.c_parser_declarations.specs.Declarators.{Length, IsSuffix, length_height, flat, climbed}
 use Rattle.c_parser_laws_expressions.proofs.Levels.{ends_at, below}
-use Rattle.c_parser_laws_finding.specs.Readings.{is_left_bracket}
-use Rattle.c_parser_laws_finding.specs.TypeNameReaders.{names_of}
+use Rattle.c_parser_expressions.specs.Readings.{is_left_bracket}
+use Rattle.c_parser_expressions.specs.TypeNameReaders.{names_of}
 use Rattle.c_parser_laws_finding.proofs.Begins.{no_bracket}
 use Rattle.c_parser_laws_finding.proofs.Lifts.{found_inside}
 use Rattle.c_parser_laws_finding.proofs.Shrinking.{length_behind, shrinks}

@@ -5,8 +5,8 @@ use Rattle.cc_base.specs.declared.diagnostics.Place.{Place}
 use Rattle.c_layout.specs.DeclarationTrees.{DeclaratorView, InitializerTree, FunctionDeclaratorView, InitDeclaratorView, Object, Initialized, Prototype, LocalView, SpecTrees}
 use Rattle.c_parser_expressions.specs.Fronts.{first_symbol, first_place, behind_first, is_identifier_first}
 use Rattle.c_parser_declarations.specs.Declarations.{is_local_word}
-use Rattle.c_parser_laws_finding.specs.Readings.{is_left_parenthesis}
-use Rattle.c_parser_laws_finding.specs.TypeNameReaders.{stars}
+use Rattle.c_parser_expressions.specs.Readings.{is_left_parenthesis}
+use Rattle.c_parser_expressions.specs.TypeNameReaders.{stars}
 use Rattle.c_parser_laws_finding_declarations.specs.Items.{Item, GotItem, item_of, after_item, listed}
 use Rattle.c_parser_laws_finding_declarations.specs.DeclaratorReaders.{named_declarator, declarator}
 use Rattle.c_parser_laws_finding_declarations.specs.InitializerReaders.{initializer}

@@ -4,10 +4,9 @@ use Rattle.c_layout.specs.DeclarationTrees.{NameView, SuffixView, DeclaratorLaye
 use Rattle.c_parser_tokens.specs.declared.terminals.Terminal.{Terminal}
 use Rattle.c_parser_expressions.specs.Fronts.{first_symbol, first_place, first_text, behind_first, is_identifier_first}
 use Rattle.c_parser_expressions.specs.TypeNames.{is_one_star}
-use Rattle.c_parser_laws_finding.specs.Readings.{Reading, is_left_parenthesis, is_right_parenthesis, is_left_bracket, is_right_bracket}
-use Rattle.c_parser_laws_finding.specs.ExpressionReaders.{Readers}
-use Rattle.c_parser_laws_finding.specs.Found.{inside}
-use Rattle.c_parser_laws_finding.specs.TypeNameReaders.{stars, names_of}
+use Rattle.c_parser_expressions.specs.Readings.{Reading, is_left_parenthesis, is_right_parenthesis, is_left_bracket, is_right_bracket}
+use Rattle.c_parser_expressions.specs.ExpressionReaders.{Readers, inside}
+use Rattle.c_parser_expressions.specs.TypeNameReaders.{stars, names_of}
 use Rattle.c_parser_laws_finding_declarations.specs.Items.{Item, GotItem, item_of, after_item, listed}
 
 -- ---- brackets

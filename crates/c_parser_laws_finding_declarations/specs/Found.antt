@@ -12,7 +12,7 @@ use Rattle.c_parser_declarations.specs.Declarators.{IsDeclarator, declarator_hei
 use Rattle.c_parser_declarations.specs.Initializers.{DeriveInitializer, initializer_height}
 use Rattle.c_parser_declarations.specs.Specifiers.{IsNamed, IsSpec, spec_height}
 use Rattle.c_parser_laws_expressions.specs.Endings.{EndsBefore}
-use Rattle.c_parser_laws_finding.specs.Readings.{is_left_brace}
+use Rattle.c_parser_expressions.specs.Readings.{is_left_brace}
 use Rattle.c_parser_laws_finding_declarations.specs.Items.{item_of}
 use Rattle.c_parser_laws_finding_declarations.specs.DeclarationReaders.{file_declarator, initialized, local_declaration}
 use Rattle.c_parser_laws_finding_declarations.specs.DeclaratorReaders.{declarator, parameter_declarator}

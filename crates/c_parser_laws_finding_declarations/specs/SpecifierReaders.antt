@@ -14,7 +14,7 @@ use Rattle.c_parser_expressions.specs.Fronts.{first_symbol, first_place, behind_
 use Rattle.c_parser_expressions.specs.TypeNames.{type_word_of, is_qualifier, is_one_type}
 use Rattle.c_parser_declarations.specs.Specifiers.{counts_of}
 use Rattle.c_parser_declarations.specs.StorageClasses.{storage_class}
-use Rattle.c_parser_laws_finding.specs.Readings.{Reading, is_left_brace}
+use Rattle.c_parser_expressions.specs.Readings.{Reading, is_left_brace}
 use Rattle.c_parser_laws_finding_declarations.specs.Items.{Item, GotItem, item_of, after_item, braced, chained}
 use Rattle.c_parser_laws_finding_declarations.specs.DeclaratorReaders.{readers_inside, name_at, above, declarator_list}
 

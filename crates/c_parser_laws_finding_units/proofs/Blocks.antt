@@ -9,7 +9,7 @@ use Rattle.c_parser_expressions.specs.Fronts.{first_symbol, first_place, behind_
 use Rattle.c_parser.specs.Findings.{is_else}
 use Rattle.c_parser.specs.Statements.{is_statement, DeriveStatement, DeriveStatements, statement_height, statements_height, IsBlock, block_height}
 use Rattle.c_parser_laws_expressions.proofs.Levels.{below}
-use Rattle.c_parser_laws_finding.specs.Readings.{is_left_brace}
+use Rattle.c_parser_expressions.specs.Readings.{is_left_brace}
 use Rattle.c_parser_laws_finding.proofs.Shrinking.{length_behind}
 use Rattle.c_parser_laws_finding.proofs.Takes.{takes}
 use Rattle.c_parser_laws_finding_declarations.specs.Items.{item_of}

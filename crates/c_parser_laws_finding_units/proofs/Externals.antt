@@ -15,7 +15,7 @@ use Rattle.c_parser_declarations.specs.StorageClasses as classes
 use Rattle.c_parser.specs.Externals.{with_declared, IsFileDeclarator, Further, IsExternal, external_height}
 use Rattle.c_parser.specs.Statements.{IsBlock, block_height}
 use Rattle.c_parser_laws_expressions.proofs.Levels.{below}
-use Rattle.c_parser_laws_finding.specs.Readings.{is_comma, is_left_brace}
+use Rattle.c_parser_expressions.specs.Readings.{is_comma, is_left_brace}
 use Rattle.c_parser_laws_finding.proofs.Shrinking.{length_behind}
 use Rattle.c_parser_laws_finding.proofs.Stars.{stars_few}
 use Rattle.c_parser_laws_finding_declarations.specs.DeclarationReaders.{file_declarator, initialized}

@@ -20,7 +20,7 @@ use Rattle.c_parser.specs.Findings.{is_else}
 use Rattle.c_parser.specs.Statements.{Maybe, Condition, FirstClause, is_statement, DeriveStatement, DeriveStatements}
 use Rattle.c_parser_laws_expressions.proofs.Levels.{ends_at}
 use Rattle.c_parser_laws_expressions.proofs.Unique.{one_expression}
-use Rattle.c_parser_laws_finding.specs.Readings.{is_right_brace, is_colon}
+use Rattle.c_parser_expressions.specs.Readings.{is_right_brace, is_colon}
 use Rattle.c_parser_laws_finding.proofs.Begins.{no_specifiers, no_right_brace}
 use Rattle.c_parser_laws_finding.proofs.Shrinking.{length_behind}
 use Rattle.c_parser_laws_finding.proofs.Takes.{takes}

@@ -15,9 +15,9 @@ use Rattle.c_parser_declarations.specs.Declarations.{IsLocal, local_height}
 use Rattle.c_parser.specs.Findings.{is_else}
 use Rattle.c_parser.specs.Statements.{Maybe, Condition, FirstClause, maybe_height, first_height, expression_height, statement_height}
 use Rattle.c_parser_laws_expressions.proofs.Levels.{ends_at, below}
-use Rattle.c_parser_laws_finding.specs.Readings.{is_left_brace, is_right_parenthesis}
-use Rattle.c_parser_laws_finding.specs.ExpressionReaders.{Readers}
-use Rattle.c_parser_laws_finding.specs.TypeNameReaders.{names_of}
+use Rattle.c_parser_expressions.specs.Readings.{is_left_brace, is_right_parenthesis}
+use Rattle.c_parser_expressions.specs.ExpressionReaders.{Readers}
+use Rattle.c_parser_expressions.specs.TypeNameReaders.{names_of}
 use Rattle.c_parser_laws_finding.proofs.Begins.{no_specifiers, no_left_brace, no_parenthesis}
 use Rattle.c_parser_laws_finding.proofs.Lifts.{found_inside}
 use Rattle.c_parser_laws_finding.proofs.TypeNames.{all_expressions_found}

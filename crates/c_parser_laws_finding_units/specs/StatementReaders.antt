@@ -9,8 +9,8 @@ use Rattle.c_parser_tokens.specs.declared.terminals.Symbol.TheVariants as symbol
 use Rattle.c_parser_tokens.specs.declared.terminals.Terminal.{Terminal}
 use Rattle.c_parser_expressions.specs.Fronts.{first_symbol, first_place, behind_first, is_identifier_first, begins_specifiers}
 use Rattle.c_parser.specs.Findings.{is_else}
-use Rattle.c_parser_laws_finding.specs.Readings.{Reading, is_left_parenthesis, is_right_parenthesis, is_left_brace, is_right_brace, is_colon}
-use Rattle.c_parser_laws_finding.specs.ExpressionReaders.{Readers}
+use Rattle.c_parser_expressions.specs.Readings.{Reading, is_left_parenthesis, is_right_parenthesis, is_left_brace, is_right_brace, is_colon}
+use Rattle.c_parser_expressions.specs.ExpressionReaders.{Readers}
 use Rattle.c_parser_laws_finding_declarations.specs.Items.{Item, GotItem, item_of, after_item, one_more}
 use Rattle.c_parser_laws_finding_declarations.specs.DeclarationReaders.{local_declaration}
 use Rattle.c_parser_laws_finding_declarations.specs.DeclaratorReaders.{readers_inside, name_at}

@@ -7,7 +7,7 @@ use Rattle.c_parser_expressions.specs.Fronts.{first_symbol, first_place, behind_
 use Rattle.c_parser_declarations.specs.StorageClasses.{is_typedef}
 use Rattle.c_parser.specs.Externals.{with_declared, in_force}
 use Rattle.c_parser.specs.Pieces.{piece_length}
-use Rattle.c_parser_laws_finding.specs.Readings.{is_comma, is_left_brace}
+use Rattle.c_parser_expressions.specs.Readings.{is_comma, is_left_brace}
 use Rattle.c_parser_laws_finding_declarations.specs.Items.{Item, GotItem, item_of, after_item, one_more}
 use Rattle.c_parser_laws_finding_declarations.specs.DeclarationReaders.{file_declarator, initialized}
 use Rattle.c_parser_laws_finding_declarations.specs.ParameterReaders.{words_list}

@@ -14,8 +14,8 @@ use Rattle.c_parser_tokens.specs.declared.terminals.Symbol.TheVariants as symbol
 use Rattle.c_parser_tokens.specs.declared.terminals.Terminal.{Terminal}
 use Rattle.c_parser_expressions.specs.Fronts.{first_symbol, first_place, first_text, behind_first, is_typedef_first, is_identifier_first, begins_specifiers}
 use Rattle.c_parser_expressions.specs.TypeNames.{type_word_of, is_storage, is_qualifier, is_pointer_qualifier, is_something, is_lone_star, is_one_type, counts_of, words_height}
-use Rattle.c_parser_laws_finding.specs.Readings.{Got, GotName, GotLayers, Reading, after_layers, is_left_parenthesis, is_right_parenthesis, is_left_bracket, is_right_bracket}
-use Rattle.c_parser_laws_finding.specs.ExpressionReaders.{Readers, NameReaders, readers}
+use Rattle.c_parser_expressions.specs.Readings.{Got, GotName, GotLayers, Reading, after_layers, is_left_parenthesis, is_right_parenthesis, is_left_bracket, is_right_bracket}
+use Rattle.c_parser_expressions.specs.ExpressionReaders.{Readers, NameReaders, readers, inside}
 
 -- ---- words
 
@@ -49,18 +49,21 @@ abbrev pub word_by : List (List ℕ) → List Terminal → Symbol → Option Got
 word_by known ts (symbol.Keyword w) = keyword_word known ts w (type_word_of w)
 word_by known ts _ = cond (is_typedef_first known ts) (Some (record { word = word.Typedef (name_first ts); rest = behind_first ts })) None
 
+abbrev pub word_before : TypeNameWord → Option GotWords → Option GotWords
+word_before w None = None
+word_before w (Some g) = Some (record { words = w ∷ g.words; rest = g.rest })
+
 abbrev pub with_word : Option GotWord → (List Terminal → Option GotWords) → Option GotWords
 with_word None more = None
-with_word (Some g) more = joined g.word (more g.rest)
-  where
-    joined : TypeNameWord → Option GotWords → Option GotWords
-    joined w None = None
-    joined w (Some ws) = Some (record { words = w ∷ ws.words; rest = ws.rest })
+with_word (Some g) more = word_before g.word (more g.rest)
 
 -- so many words at most
 abbrev pub words : List (List ℕ) → ℕ → List Terminal → Option GotWords
 words known zero ts = Some (record { words = []; rest = ts })
 words known (suc turns) ts = cond (begins_specifiers known ts) (with_word (word_by known ts (first_symbol ts)) (words known turns)) (Some (record { words = []; rest = ts }))
+
+abbrev pub of_one_type : GotWords → Option GotWords
+of_one_type g = cond (is_one_type (counts_of g.words)) (Some g) None
 
 -- ---- stars
 
@@ -180,7 +183,7 @@ abbrev pub named : ℕ → Readers → GotWords → Option GotName
 named b i g =
     cond (is_one_type (counts_of g.words)) (cond (begins_abstract (first_symbol g.rest)) (after_layers (i.declarator g.rest) (declared b g.words)) (plain g)) None
 
-abbrev pub after_words : Option GotWords → (GotWords → Option GotName) → Option GotName
+abbrev pub after_words : {X : Type 0} → Option GotWords → (GotWords → Option X) → Option X
 after_words None more = None
 after_words (Some g) more = more g
 
@@ -195,3 +198,7 @@ names_of known = record { name = type_name known; declarator = declarator }
 -- the readers of a budget, with these typedef names in force
 abbrev pub all_readers : List (List ℕ) → ℕ → Readers
 all_readers known = readers (names_of known) known
+
+-- those of what stands inside of what is read within a budget
+abbrev pub readers_inside : List (List ℕ) → ℕ → Readers
+readers_inside known = inside (names_of known) known

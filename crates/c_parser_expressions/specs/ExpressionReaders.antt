@@ -14,8 +14,8 @@ use Rattle.c_parser_expressions.specs.declared.operators.Infix.TheVariants as be
 use Rattle.c_parser_expressions.specs.Findings.{infix_tree, is_unary}
 use Rattle.c_parser_expressions.specs.Fronts.{first_symbol, first_place, first_text, behind_first, is_typedef, is_identifier_first, begins_specifiers}
 use Rattle.c_parser_expressions.specs.Levels.{op_level, step_of, unary_of, assign_of, goes_on}
-use Rattle.c_parser_laws_expressions.specs.Endings.{Continuation, With, Joined, continuation_of}
-use Rattle.c_parser_laws_finding.specs.Readings.{Got, GotSome, GotName, GotLayers, Reading, got, after, after_some, after_name, is_left_parenthesis, is_right_parenthesis, is_left_bracket, is_right_bracket, is_question, is_colon, is_comma, is_sizeof, expect, made}
+use Rattle.c_parser_expressions.specs.Continuations.{Continuation, With, Joined, continuation_of}
+use Rattle.c_parser_expressions.specs.Readings.{Got, GotSome, GotName, GotLayers, Reading, got, after, after_some, after_name, is_left_parenthesis, is_right_parenthesis, is_left_bracket, is_right_bracket, is_question, is_colon, is_comma, is_sizeof, expect, made}
 
 -- the readers of one budget
 pub record Readers : Type 0 where
@@ -45,14 +45,14 @@ no_readers = record {
 
 -- ---- primary expressions and calls. `b` is the budget, `i` are the readers of what stands inside.
 
-abbrev more_arguments : Got → Option GotSome → Option GotSome
+abbrev pub more_arguments : Got → Option GotSome → Option GotSome
 more_arguments g None = None
 more_arguments g (Some more) = Some (record { trees = More g.tree more.trees; height = max g.height more.height; rest = more.rest })
 
-abbrev last_argument : Got → Option GotSome
+abbrev pub last_argument : Got → Option GotSome
 last_argument g = cond (is_right_parenthesis (first_symbol g.rest)) (Some (record { trees = More g.tree End; height = g.height; rest = behind_first g.rest })) None
 
-abbrev argument_then : Reading → (List Terminal → Option GotSome) → Option GotSome
+abbrev pub argument_then : Reading → (List Terminal → Option GotSome) → Option GotSome
 argument_then None more = None
 argument_then (Some g) more = cond (is_comma (first_symbol g.rest)) (more_arguments g (more (behind_first g.rest))) (last_argument g)
 
@@ -121,10 +121,12 @@ abbrev pub size_of_type : ℕ → Readers → List Terminal → Reading
 size_of_type b i ts =
     after_name (i.type_name (behind_first (behind_first ts))) (λ n. expect is_right_parenthesis n.rest (λ rest. made b (SizeofType (first_place ts) n.name n.lengths) n.height rest))
 
+abbrev pub size_of_expression : ℕ → Readers → List Terminal → Reading
+size_of_expression b i ts = after (i.unary (behind_first ts)) (λ g. made b (SizeofExpr (first_place ts) g.tree) g.height g.rest)
+
 abbrev pub sized : ℕ → Readers → List (List ℕ) → List Terminal → Reading
 sized b i known ts =
-    cond (opens_type_name known (behind_first ts)) (size_of_type b i ts)
-    (after (i.unary (behind_first ts)) (λ g. made b (SizeofExpr (first_place ts) g.tree) g.height g.rest))
+    cond (opens_type_name known (behind_first ts)) (size_of_type b i ts) (size_of_expression b i ts)
 
 abbrev pub unary_by : ℕ → Readers → List (List ℕ) → List Terminal → Option StepOp → Option UnaryOp → Reading
 unary_by b i known ts (Some op) other = after (i.unary (behind_first ts)) (λ g. made b (Prefix (first_place ts) op g.tree) g.height g.rest)
@@ -219,13 +221,10 @@ readers_at names known b i = record {
   declarator = names.declarator b i;
 }
 
-abbrev pub readers : NameReaders → List (List ℕ) → ℕ → Readers
-readers names known zero = readers_at names known zero no_readers
-readers names known (suc b) = readers_at names known (suc b) (readers names known b)
+-- the readers of what stands inside of what is read within a budget
+abbrev pub inside : NameReaders → List (List ℕ) → ℕ → Readers
+inside names known zero = no_readers
+inside names known (suc b) = readers_at names known b (inside names known b)
 
--- the reader of a level
-abbrev pub at_level : Readers → ℕ → List Terminal → Reading
-at_level r zero = r.expression
-at_level r (suc zero) = r.assignment
-at_level r (suc (suc zero)) = r.conditional
-at_level r (suc (suc (suc level))) = cond (nat_le level 10) (r.binary (3 + level)) (cond (nat_le level 11) r.unary r.postfix)
+abbrev pub readers : NameReaders → List (List ℕ) → ℕ → Readers
+readers names known b = readers_at names known b (inside names known b)
