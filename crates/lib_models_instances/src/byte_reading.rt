@@ -20,7 +20,7 @@ pub(crate) struct UnsignedNumber {
 }
 
 /// Whether a byte with this tag may be seen as the k-th one of a scalar of a class.
-fn fits(allocated: bool, class: Class, k: u8, tag: Option<(Class, u8)>) -> bool
+pub fn fits(allocated: bool, class: Class, k: u8, tag: Option<(Class, u8)>) -> bool
     ensures { result ≡ fits_tag allocated class k (tag_view tag) }
 {
     match tag {
@@ -190,12 +190,7 @@ fn pointer_from(bytes: &[Byte7]) -> Option<Pointer7>
 }
 
 /// The scalar of a class that at most eight bytes are, where they are one.
-pub(crate) fn scalar_from(
-    model: &Model,
-    class: Class,
-    signed: bool,
-    bytes: &[Byte7],
-) -> Option<Value7>
+pub fn scalar_from(model: &Model, class: Class, signed: bool, bytes: &[Byte7]) -> Option<Value7>
     requires { length bytes.now ≤ 8 }
     ensures { option_map scalar_view result ≡ machine.scalar_in (scalar_kind model.now class signed) (contents (bytes_view bytes.now)) }
 {

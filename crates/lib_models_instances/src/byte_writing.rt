@@ -52,7 +52,7 @@ fn bits_of(size: usize, number: i128) -> u128
 }
 
 /// Writes a scalar into at most eight bytes.
-pub(crate) fn write_scalar(into: &mut [Content7], value: &Value7)
+pub fn write_scalar(into: &mut [Content7], value: &Value7)
     requires { length into.old ≤ 8 }
     ensures { contents_view into.new ≡ scalar_bytes (length into.old) (scalar_view value.now) }
 {

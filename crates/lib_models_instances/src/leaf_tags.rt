@@ -50,7 +50,7 @@ fn tag_in_turn(model: &Model, leaf: &Leaf, turn: u64, rest: u64) -> Option<(Clas
 }
 
 /// The tag of the byte at an offset by the leaves of its object's type; padding has none.
-fn tag_by_leaves(model: &Model, leaves: &[Leaf], offset: u64) -> Option<(Class, u8)>
+pub fn tag_by_leaves(model: &Model, leaves: &[Leaf], offset: u64) -> Option<(Class, u8)>
     ensures { tag_view result ≡ tag_at model.now leaves.now offset }
 {
     for leaf in leaves {

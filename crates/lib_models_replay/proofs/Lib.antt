@@ -1,3 +1,4 @@
 pub mod Halts
 pub mod Made
 pub mod ScalarTypes
+pub mod FirstScans

@@ -1,6 +1,7 @@
 -- What scans of strings of a program are to the machines.
-use Rattle.std.specs.Prelude.{ℕ, ◌+◌}
-use Rattle.lib_models_effects.specs.LibraryChecks.{Scanned, ends, unended, broken}
+use Rattle.std.specs.Prelude.{ℕ, zero, suc, ◌+◌}
+use Rattle.lib_models_memory.specs.Bytes.{Content, indeterminate, number, part}
+use Rattle.lib_models_effects.specs.LibraryChecks.{Scanned, ends, unended, broken, one_further}
 use Rattle.lib_models_replay.specs.declared.string_scans.Scan.{Scan}
 use Rattle.lib_models_replay.specs.declared.string_scans.Scan.TheVariants as scan
 
@@ -14,3 +15,10 @@ abbrev pub behind_characters : ℕ → Scanned → Scanned
 behind_characters k (ends n) = ends (k + n)
 behind_characters k unended = unended
 behind_characters k broken = broken
+
+-- a content before what is scanned later
+abbrev pub scan_step : Content → Scanned → Scanned
+scan_step indeterminate later = unended
+scan_step (number zero labels) later = ends 0
+scan_step (number (suc n) labels) later = one_further later
+scan_step (part p k) later = broken

@@ -34,7 +34,7 @@ fn class_for(kind: IntType) -> Class
 }
 
 // The class of a scalar type.
-fn class_in(kind: Scalar) -> Class
+pub fn class_in(kind: Scalar) -> Class
     ensures { result ≡ machine.class_in kind }
 {
     match kind {
@@ -44,7 +44,7 @@ fn class_in(kind: Scalar) -> Class
 }
 
 // Whether a scalar type is a signed one.
-fn is_signed(kind: Scalar) -> bool
+pub fn is_signed(kind: Scalar) -> bool
     ensures { result ≡ sign_of kind }
 {
     match kind {
@@ -61,7 +61,7 @@ fn is_model_integer(model: &Model, kind: IntType) -> bool
 }
 
 // Whether a scalar type is one of a model.
-fn is_model_scalar(model: &Model, kind: Scalar) -> bool
+pub fn is_model_scalar(model: &Model, kind: Scalar) -> bool
     ensures { result ≡ kinds.is_model_scalar model.now kind }
 {
     match kind {

@@ -30,7 +30,7 @@ fn is_start(w: &World7, inst: u32, offset: u64) -> bool
 
 /// Whether a pointer may be given back: a null pointer, or the start of allocated memory that was not
 /// freed.
-fn freeable(w: &mut World7, p: Pointer7) -> Result<(), Halt>
+pub fn freeable(w: &mut World7, p: Pointer7) -> Result<(), Halt>
     ensures { ComesTo nothing_view (machine.freeable (pointer_view p) (world_view w.old)) result (world_view w.new) }
 {
     match p {
@@ -60,7 +60,7 @@ fn freeable_by(w: &mut World7, state: InstState, inst: u32, offset: u64) -> Resu
 }
 
 /// Gives the memory back to which a pointer points.
-fn give_back(w: &mut World7, p: Pointer7)
+pub fn give_back(w: &mut World7, p: Pointer7)
     ensures { world_view w.new ≡ machine.given_back (pointer_view p) (world_view w.old) }
 {
     match p {
@@ -91,7 +91,7 @@ pub fn free(w: &mut World7, arguments: &[Value7]) -> Result<(), Halt>
 // ---- what is made
 
 /// A live instance of so many bytes of a content and without a type, and the pointer to it.
-fn make(w: &mut World7, content: Content7, size: u64) -> Result<Value7, Halt>
+pub fn make(w: &mut World7, content: Content7, size: u64) -> Result<Value7, Halt>
     ensures { ComesTo scalar_view (machine.allocated_with (machine.untyped (content_view content) size) (world_view w.old)) result (world_view w.new) }
 {
     if w.memory.count() >= 4294967295 {
@@ -133,7 +133,7 @@ fn make_if(w: &mut World7, given: bool, content: Content7, size: u128) -> Result
 }
 
 /// Whether an object that an allocation is for has more bytes.
-fn too_small(wanted: Option<u64>, size: u128) -> bool
+pub fn too_small(wanted: Option<u64>, size: u128) -> bool
     ensures { result ≡ machine.too_small wanted size }
 {
     match wanted {
@@ -143,7 +143,7 @@ fn too_small(wanted: Option<u64>, size: u128) -> bool
 }
 
 /// Whether the outside, which has answered, gives so many bytes.
-fn is_given(answer: i128, model: &Model, size: u128) -> bool
+pub fn is_given(answer: i128, model: &Model, size: u128) -> bool
     requires { is_model model.now ≡ true }
     ensures { result ≡ (int_eq answer (pos 1) && nat_le size (checks.most_size model.now)) }
 {

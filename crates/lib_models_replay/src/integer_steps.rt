@@ -15,14 +15,14 @@ use flow_program::Scalar;
 use lib_models_instances::{LabelSet, Pointer7, Value7, unlabelled};
 
 // 0 or 1.
-fn truth_value(holds: bool) -> Value7
+pub fn truth_value(holds: bool) -> Value7
     ensures { scalar_view result ≡ machine.truth holds }
 {
     Value7::Int(i128::from(holds), unlabelled())
 }
 
 // Whether two numbers have a relation.
-fn numbers_hold(rel: Rel, a: i128, b: i128) -> bool
+pub fn numbers_hold(rel: Rel, a: i128, b: i128) -> bool
     ensures { result ≡ holds rel a b }
 {
     match rel {
@@ -47,7 +47,7 @@ pub fn compare_numbers(w: &World7, rel: Rel, left: Value7, right: Value7) -> Res
 }
 
 // Whether a scalar is 0 or null.
-fn is_false_value(value: Value7) -> bool
+pub fn is_false_value(value: Value7) -> bool
     ensures { result ≡ is_false (scalar_view value) }
 {
     match value {
@@ -80,7 +80,7 @@ pub fn pointer_from(w: &World7, value: Value7) -> Result<Value7, Halt>
 }
 
 // Whether an integer type has a size that there is.
-fn has_size(kind: IntType) -> bool
+pub fn has_size(kind: IntType) -> bool
     ensures { result ≡ is_size kind.bytes }
 {
     kind.bytes == 1 || kind.bytes == 2 || kind.bytes == 4 || kind.bytes == 8

@@ -14,14 +14,17 @@ mod string_calls;
 mod string_scans;
 mod worlds;
 
-pub use access_steps::{load, store};
-pub use allocation_calls::{calloc, free, malloc};
+pub use access_steps::{class_in, is_model_scalar, is_signed, load, store};
+pub use allocation_calls::{calloc, free, freeable, give_back, is_given, make, malloc, too_small};
 pub use character_calls::{getchar, putchar};
-pub use integer_steps::{compare_numbers, convert, negation, pointer_from};
-pub use library_checks::{Reach, fitting, reached, writable};
-pub use memory_calls::memset;
+pub use integer_steps::{
+    compare_numbers, convert, has_size, is_false_value, negation, numbers_hold, pointer_from,
+    truth_value,
+};
+pub use library_checks::{Reach, fitting, most_size, reached, with_size, writable};
+pub use memory_calls::{memset, overlap, repeated};
 pub use object_steps::{clear, enter, forget, leave};
-pub use pointer_steps::{compare, difference, narrow, shift};
+pub use pointer_steps::{are_equal, compare, difference, narrow, shift, touched};
 pub use string_calls::{puts, strlen};
-pub use string_scans::string_length;
+pub use string_scans::{length_within, string_length};
 pub use worlds::{Cause, Halt, World7};

@@ -29,14 +29,14 @@ fn has_no_label(labels: LabelSet) -> bool
 }
 
 /// A size that has a label is a violation; the run goes on.
-pub(crate) fn with_size(w: &mut World7, labels: LabelSet) -> Result<(), Halt>
+pub fn with_size(w: &mut World7, labels: LabelSet) -> Result<(), Halt>
     ensures { ComesTo nothing_view (done (machine.with_size (world_view w.old) (labels_view labels))) result (world_view w.new) }
 {
     w.note(!has_no_label(labels), Rule::Taintsink)
 }
 
 /// The greatest number of the type of differences of pointers.
-pub(crate) fn most_size(model: &Model) -> u128
+pub fn most_size(model: &Model) -> u128
     requires { is_model model.now ≡ true }
     ensures { result ≡ machine.most_size model.now }
 {

@@ -4,13 +4,15 @@ ghost use Rattle.std.proofs.Common.{replicate};
 ghost use Rattle.lib_models_memory.specs.Bytes as byte;
 ghost use Rattle.lib_models_effects.specs.ScalarBytes.{bits_in};
 ghost use Rattle.lib_models_effects.specs.MemoryCalls as machine;
+ghost use Rattle.lib_models_effects.specs.StructCopies as copies;
 ghost use Rattle.lib_models_instances.specs.ByteViews.{labels_view, content_view, pointer_view, scalar_view};
+ghost use Rattle.lib_models_instances.specs.AccessOutcomes.{spot_view};
 ghost use Rattle.lib_models_replay.specs.WorldViews.{world_view, ComesTo, Leaves};
 ghost use Rattle.lib_models_replay.specs.Reaches.{reach_view};
 
 use crate::library_checks::{Reach, fitting, reached, with_size, writable};
 use crate::worlds::{Cause, Halt, World7};
-use lib_models_instances::{Content7, LabelSet, Pointer7, Value7};
+use lib_models_instances::{Content7, LabelSet, Pointer7, Spot, Value7};
 use std::alloc::{AllocError, Global};
 
 // The low byte of a number, with its labels.
@@ -20,8 +22,17 @@ fn low_byte(number: i128, labels: LabelSet) -> Content7
     Content7::Number(number.rem_euclid(256) as u8, labels)
 }
 
-// So many times the same content.
-fn repeated(alloc: Global, count: usize, content: Content7) -> Result<Vec<Content7>, AllocError>
+/// Whether two regions have a byte in common.
+pub fn overlap(p: Spot, size: u64, q: Spot, room: u64) -> bool
+    ensures { result ≡ copies.overlap (spot_view p) size (spot_view q) room }
+{
+    p.inst == q.inst
+        && u128::from(q.offset) < u128::from(p.offset) + u128::from(size)
+        && u128::from(p.offset) < u128::from(q.offset) + u128::from(room)
+}
+
+/// So many times the same content.
+pub fn repeated(alloc: Global, count: usize, content: Content7) -> Result<Vec<Content7>, AllocError>
     ensures { IfOk result (λ all. all.items ≡ replicate count content) }
 {
     let mut all = Vec::with_capacity(alloc, count)?;

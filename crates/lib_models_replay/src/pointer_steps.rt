@@ -17,7 +17,7 @@ use cc_base::{Rel, Rule};
 use lib_models_instances::{InstState, LabelSet, Pointer7, Spot, Value7, unlabelled};
 
 /// Whether so many bytes at a pointer may be read or written.
-fn touched(w: &mut World7, p: Pointer7, size: u64, writes: bool) -> Result<Spot, Halt>
+pub fn touched(w: &mut World7, p: Pointer7, size: u64, writes: bool) -> Result<Spot, Halt>
     ensures { ComesTo spot_view (touches.touched (world_view w.old) (pointer_view p) size writes) result (world_view w.new) }
 {
     match w.memory.touch(&p, size, writes) {
@@ -58,7 +58,7 @@ fn offset_of(p: Pointer7) -> u64
 }
 
 /// Whether two pointers are equal (6.5.9p6).
-fn are_equal(p: Pointer7, q: Pointer7) -> bool
+pub fn are_equal(p: Pointer7, q: Pointer7) -> bool
     ensures { result ≡ machine.are_equal (pointer_view p) (pointer_view q) }
 {
     match p {

@@ -2,26 +2,17 @@
 ghost use Rattle.std.specs.Prelude.{◌≡◌, ◌+◌, [], ◌∷◌, ℕ, IfOk};
 ghost use Rattle.lib_models_memory.specs.Scalars.{pointer};
 ghost use Rattle.lib_models_effects.specs.ScalarBytes.{contents};
-ghost use Rattle.lib_models_effects.specs.StructCopies as copies;
 ghost use Rattle.lib_models_effects.specs.LibraryChecks.{bytes_from};
 ghost use Rattle.lib_models_effects.specs.StringCalls as machine;
 ghost use Rattle.lib_models_instances.specs.ByteViews.{bytes_view, contents_view, pointer_view, scalar_view};
-ghost use Rattle.lib_models_instances.specs.AccessOutcomes.{spot_view};
 ghost use Rattle.lib_models_replay.specs.WorldViews.{world_view, ComesTo, Computes};
 ghost use Rattle.lib_models_replay.specs.Reaches.{reach_view};
 
 use lib_models_instances::{Byte7, Content7, Pointer7, Spot, Value7};
-use lib_models_replay::{Cause, Halt, Reach, World7, fitting, reached, string_length, writable};
+use lib_models_replay::{
+    Cause, Halt, Reach, World7, fitting, overlap, reached, string_length, writable,
+};
 use std::alloc::{AllocError, Global};
-
-// Whether two regions have a byte in common.
-fn overlap(p: Spot, size: u64, q: Spot, room: u64) -> bool
-    ensures { result ≡ copies.overlap (spot_view p) size (spot_view q) room }
-{
-    p.inst == q.inst
-        && u128::from(q.offset) < u128::from(p.offset) + u128::from(size)
-        && u128::from(p.offset) < u128::from(q.offset) + u128::from(room)
-}
 
 // The contents of bytes.
 fn contents_of(alloc: Global, bytes: &[Byte7]) -> Result<Vec<Content7>, AllocError>
@@ -35,14 +26,14 @@ fn contents_of(alloc: Global, bytes: &[Byte7]) -> Result<Vec<Content7>, AllocErr
 }
 
 // The contents of the first bytes that a pointer reaches.
-fn text_at(w: &World7, from: Reach, count: u64) -> Result<Vec<Content7>, AllocError>
+pub(crate) fn text_at(w: &World7, from: Reach, count: u64) -> Result<Vec<Content7>, AllocError>
     ensures { IfOk result (λ text. contents_view text.items ≡ contents (bytes_from (world_view w.now) (reach_view from) count)) }
 {
     contents_of(w.alloc, w.memory.region(from.spot, count))
 }
 
 // Writes text where it does not overlap what was read.
-fn written(
+pub(crate) fn written(
     w: &mut World7,
     to: Reach,
     size: u64,
@@ -61,7 +52,7 @@ fn written(
 }
 
 // A number of characters with the zero behind them; so many are in no memory that no u64 holds them.
-fn with_zero(characters: u64) -> Result<u64, Halt>
+pub(crate) fn with_zero(characters: u64) -> Result<u64, Halt>
     ensures { Computes (λ (n : ℕ). n) (characters + 1) result }
 {
     match characters.checked_add(1) {

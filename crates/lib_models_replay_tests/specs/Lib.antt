@@ -1,0 +1,2 @@
+pub mod SideViews
+pub mod Droppings
