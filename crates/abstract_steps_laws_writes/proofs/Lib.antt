@@ -4,3 +4,4 @@ pub mod TextEnds
 pub mod TextWrites
 pub mod SourceBytes
 pub mod WriteTargets
+pub mod TextCalls

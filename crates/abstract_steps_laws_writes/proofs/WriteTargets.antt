@@ -170,7 +170,7 @@ between_of a c w e = elim (cases_Bool (int_le (int_max a a) (int_min c c))) [
 ]
 
 -- a window that is touched from a start on begins at its first offset
-from_start : (start : ℤ × ℤ) (count end : ℤ) (s w : Window) → window_within (Some start) ≡ Some s → touched_from (Some start) count end ≡ Some w → w.lo ≡ s.lo
+pub from_start : (start : ℤ × ℤ) (count end : ℤ) (s w : Window) → window_within (Some start) ≡ Some s → touched_from (Some start) count end ≡ Some w → w.lo ≡ s.lo
 from_start start count end s w e f = by_count (int_lt count (pos 1)) f
   where
     by_count : (c : Bool) → cond c None (window_within (range_met (Some (start.0, last_touched start.1 count end)) start.0 (last_touched start.1 count end))) ≡ Some w → w.lo ≡ s.lo
@@ -194,7 +194,7 @@ fits (pos a) h = omega (arith, ints)
 fits (negsuc a) h = omega (arith, ints)
 
 -- one byte is written where it begins
-one_from_start : (start : ℤ × ℤ) (count end : ℤ) (s w : Window) → negsuc (2 ^ 99) ≤ℤ start.1 → count ≤ℤ pos 1 → window_within (Some start) ≡ Some s → touched_from (Some start) count end ≡ Some w → w.hi ≤ s.hi
+pub one_from_start : (start : ℤ × ℤ) (count end : ℤ) (s w : Window) → negsuc (2 ^ 99) ≤ℤ start.1 → count ≤ℤ pos 1 → window_within (Some start) ≡ Some s → touched_from (Some start) count end ≡ Some w → w.hi ≤ s.hi
 one_from_start start count end s w near few e f = by_count (int_lt count (pos 1)) refl f
   where
     by_count : (c : Bool) → int_lt count (pos 1) ≡ c → cond c None (window_within (range_met (Some (start.0, last_touched start.1 count end)) start.0 (last_touched start.1 count end))) ≡ Some w → w.hi ≤ s.hi
