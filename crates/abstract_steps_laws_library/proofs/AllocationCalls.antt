@@ -68,7 +68,7 @@ use Rattle.abstract_steps_laws.proofs.FilledSteps.{renew_fills}
 use Rattle.abstract_steps_laws_library.specs.Sites.{HasSites}
 use Rattle.abstract_steps_laws_library.proofs.ResultCalls.{argument_rises, result_rises, put_fills}
 
-small_more : (wanted : Option ℕ) (x u : Range) → RangeBelow x u → Sets (is_too_small x wanted) (is_too_small u wanted)
+pub small_more : (wanted : Option ℕ) (x u : Range) → RangeBelow x u → Sets (is_too_small x wanted) (is_too_small u wanted)
 small_more wanted None u h e = absurd (cc)
 small_more wanted (Some p) None h e = absurd h
 small_more None (Some p) (Some q) h e = absurd (cc)

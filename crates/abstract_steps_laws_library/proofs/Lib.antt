@@ -3,3 +3,4 @@ pub mod CharacterCalls
 pub mod AllocationCalls
 pub mod HeapBases
 pub mod Releases
+pub mod Products

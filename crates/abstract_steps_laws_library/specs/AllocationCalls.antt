@@ -8,5 +8,6 @@ use Rattle.abstract_steps_laws.specs.CallLaws.{CallRises}
 
 pub record AllocationCallsRise {I : Type 0} (l : LatticeOf I) (n : IntegersOf I) (all : Bases) (flow : Flow) : Type 0 where
   pub malloc : CallRises l n all flow f.Malloc
+  pub calloc : CallRises l n all flow f.Calloc
   pub realloc : CallRises l n all flow f.Realloc
   pub free : CallRises l n all flow f.Free

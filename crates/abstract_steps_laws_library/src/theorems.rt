@@ -15,7 +15,7 @@ pub fn simple_calls_are_monotone<I: IntDomain>()
     ensures { MonotoneLaws I.lattice I.numbers → (all : Bases) (flow : Flow) → IsLaidOut all flow → SimpleCallsRise I.lattice I.numbers all flow }
 {}
 
-/// A call of `malloc`, `realloc` or `free` does so too, at sites whose bases match.
+/// A call of `malloc`, `calloc`, `realloc` or `free` does so too, at sites whose bases match.
 pub fn allocations_are_monotone<I: IntDomain>()
     ensures { MonotoneLaws I.lattice I.numbers → (all : Bases) (flow : Flow) → IsLaidOut all flow → HasSites all flow → AllocationCallsRise I.lattice I.numbers all flow }
 {}

@@ -19,7 +19,9 @@ use Rattle.abstract_steps_laws_library.specs.Sites.{HasSites}
 use Rattle.abstract_steps_laws_library.proofs.ResultCalls.{getchar_rises, putchar_call, exit_rises, abort_rises}
 use Rattle.abstract_steps_laws_library.proofs.CharacterCalls.{isalpha_rises, isdigit_rises, isspace_rises, isupper_rises, islower_rises, isalnum_rises, toupper_rises, tolower_rises}
 use Rattle.abstract_steps_laws_library.proofs.AllocationCalls.{malloc_rises}
+use Rattle.abstract_steps_laws_library.proofs.Products.{calloc_rises}
 use Rattle.abstract_steps_laws_library.proofs.Releases.{realloc_rises, free_rises}
+use Rattle.abstract_steps_laws_strings.proofs.StringResults.{strlen_rises, strcmp_rises, puts_rises, printf_rises}
 use Rattle.abstract_steps_laws_programs.specs.SimplePrograms.{is_simple_call, is_simple, IsSimple}
 
 module _ {I : Type 0} {l : LatticeOf I} {n : IntegersOf I} {stands : I → ℤ → Type 0} (o : OrderLaws l) (b : BoundLaws l n stands) (g : MonotoneLaws l n) (r : RangeLaws l n) (all : Bases) (flow : Flow) (k : IsLaidOut all flow) (sites : HasSites all flow) where
@@ -37,19 +39,19 @@ module _ {I : Type 0} {l : LatticeOf I} {n : IntegersOf I} {stands : I → ℤ �
   call_rises f.Isalnum h = isalnum_rises o b g r all flow k
   call_rises f.Toupper h = toupper_rises o b g r all flow k
   call_rises f.Tolower h = tolower_rises o b g r all flow k
-  call_rises f.Calloc h = absurd (cc)
+  call_rises f.Calloc h = calloc_rises o b g r all flow k sites
   call_rises f.Realloc h = realloc_rises o b g r all flow k sites
   call_rises f.Free h = free_rises o b g r all flow k
   call_rises f.Memcpy h = absurd (cc)
   call_rises f.Memmove h = absurd (cc)
   call_rises f.Memset h = absurd (cc)
-  call_rises f.Strlen h = absurd (cc)
+  call_rises f.Strlen h = strlen_rises o b g r all flow k
   call_rises f.Strcpy h = absurd (cc)
   call_rises f.Strncpy h = absurd (cc)
   call_rises f.Strcat h = absurd (cc)
-  call_rises f.Strcmp h = absurd (cc)
-  call_rises f.Puts h = absurd (cc)
-  call_rises f.Printf h = absurd (cc)
+  call_rises f.Strcmp h = strcmp_rises o b g r all flow k
+  call_rises f.Puts h = puts_rises o b g r all flow k
+  call_rises f.Printf h = printf_rises o b g r all flow k
   call_rises f.Fgets h = absurd (cc)
 
   operation_rises : (p : Operation) → is_simple p ≡ true → IsRising l n all flow p

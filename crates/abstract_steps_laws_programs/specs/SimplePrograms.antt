@@ -1,4 +1,5 @@
--- Programs whose library calls allocate and release, end the program, or work on single characters, and that copy no structs.
+-- Programs whose library calls allocate and release, end the program, work on single characters, or read strings and write none,
+-- and that copy no structs.
 use Rattle.std.specs.Prelude.{◌≡◌, ℕ, Bool, true, false, Some, slice_get}
 use Rattle.c_layout.specs.declared.library_functions.LibFn.{LibFn}
 use Rattle.c_layout.specs.declared.library_functions.LibFn.TheVariants as f
@@ -12,10 +13,15 @@ use Rattle.flow_program.specs.WellFormed.{is_line}
 
 abbrev pub is_simple_call : LibFn → Bool
 is_simple_call f.Malloc = true
+is_simple_call f.Calloc = true
 is_simple_call f.Realloc = true
 is_simple_call f.Free = true
 is_simple_call f.Getchar = true
 is_simple_call f.Putchar = true
+is_simple_call f.Puts = true
+is_simple_call f.Printf = true
+is_simple_call f.Strlen = true
+is_simple_call f.Strcmp = true
 is_simple_call f.Exit = true
 is_simple_call f.Abort = true
 is_simple_call f.Isalpha = true

@@ -36,7 +36,8 @@ pub fn well_formed_programs_are_monotone<I: Bounded>()
 {}
 
 /// The system of a well-formed program is monotone where the program copies no structs and calls no functions of the library
-/// but `malloc`, `realloc`, `free`, those that end the program, `getchar`, `putchar` and those on characters.
+/// but `malloc`, `calloc`, `realloc`, `free`, those that end the program, `getchar`, `putchar`, `puts`, `printf`, `strlen`,
+/// `strcmp` and those on characters.
 pub fn simple_programs_are_monotone<I: Bounded>()
     ensures { MonotoneLaws I.lattice I.numbers → (limits : Limits) (flow : Flow) (list : List ℤ) → is_well_formed limits flow ≡ true → limits.pool < 2 ^ 64 → length flow.bases.items ≤ 1016 → HasScalars flow → IsSimple flow → IsNearList I.lattice I.numbers list → IsMonotone (cell_lattice I.lattice) (flow_machine I.lattice I.numbers flow list) }
 {}

@@ -53,7 +53,7 @@ use Rattle.store_domain_laws.proofs.NoInstances.{both_nothing, nothing_made}
 use Rattle.store_domain_laws.proofs.OldBytes.{fresh_own, fresh_zero_monotone, fresh_zero_top}
 
 -- a set with one base more stays within a set that has it
-with_into : (s t : Bases) (base : ℕ) → bases_within s t ≡ true → bases_has t base ≡ true → bases_within (bases_with s base) t ≡ true
+pub with_into : (s t : Bases) (base : ℕ) → bases_within s t ≡ true → bases_has t base ≡ true → bases_within (bases_with s base) t ≡ true
 with_into s t base h k = subst (λ u. bases_within (bases_with s base) u ≡ true) (own_word t (base / 128))
     (with_within s t h (base / 128) (bit_or (word_of s (base / 128)) (2 ^ (base % 128))) (word_of t (base / 128))
     (or_below (word_of s (base / 128)) (word_of t (base / 128)) (base % 128) (word_of_within s t h (base / 128)) (bit_of t base k)))

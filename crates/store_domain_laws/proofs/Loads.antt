@@ -113,7 +113,7 @@ module _ {I : Type 0} {l : LatticeOf I} {n : IntegersOf I} {stands : I → ℤ �
         let t = zero_at_top o b top r s (zero_position base v.0) h.small h.large (p.zero v.0 (j v refl)) in
         let bounds = bounds_monotone b _ _ f in
         let ends = subst (λ e. RangeBelow (n.bounds (zero_at l n s (zero_position base v.0)).at) e) (b.between_bounds (pos 0) the_end (omega (arith, ints))) (bounds_monotone b _ (top_zero n).at t) in
-        subst (λ at. is_text_in l n base r (Some (at, z.1)) ≡ true) (sym c.0) (lies_monotone _ _ z.1.hi v.1.hi bounds ends c.1 e)
+        subst (λ at. is_text_in l n base r (Some (at, z.1)) ≡ true) (sym c.0) (lies_monotone _ _ z.1.hi v.1.hi bounds ends c.1.hi e)
 
     text_monotone : is_text l n base s u ≡ true → is_text l n base r w ≡ true
     unfolding is_text
@@ -141,18 +141,34 @@ module _ {I : Type 0} {l : LatticeOf I} {n : IntegersOf I} {stands : I → ℤ �
       value_below l (record v { labels = labels_of class v.labels }) (record w { labels = labels_of class w.labels }) (record { num = c.num; pointer = c.pointer; indeterminate = c.indeterminate; labels = labels_monotone o b class v.labels w.labels c.labels })
 
   module _ (g : MonotoneLaws l n) (m : Model) (all : Bases) (top : List (Cell I)) (r s : List (Cell I)) (h : RowsBelow l top r s) where
-    base_monotone : (base : BaseInfo) (p : IsPlaced n all top base) (q : IsRegular m base) (class : Class) (signed : Bool) (w u : Window) (i : WindowWithin w u) → ReadBelow l (load_base l n m base r (record { class = class; signed = signed; window = w })) (load_base l n m base s (record { class = class; signed = signed; window = u }))
-    unfolding load_base load_own load_others load_character
-    base_monotone base p q class signed w u i =
+    own_monotone : (base : BaseInfo) (p : IsPlaced n all top base) (q : IsRegular m base) (class : Class) (signed : Bool) (w u : Window) (i : WindowWithin w u) → ReadBelow l (load_own l n m base r (record { class = class; signed = signed; window = w })) (load_own l n m base s (record { class = class; signed = signed; window = u }))
+    unfolding load_own
+    own_monotone base p q class signed w u i =
         let small : Access = record { class = class; signed = signed; window = w } in
         let large : Access = record { class = class; signed = signed; window = u } in
-        let own = joined_monotone o b (load_leaves l n m base r small) (load_class_cell l n m base r small) (load_leaves l n m base s large) (load_class_cell l n m base s large)
-        (leaves_monotone g m all top r s h base p q class signed w u i) (class_cell_monotone g m all top r s h base p q class signed w u i) in
-        let others = joined_monotone o b (load_other_leaves l n m base r small) (load_other_bytes l n m base r small) (load_other_leaves l n m base s large) (load_other_bytes l n m base s large)
-        (other_leaves_monotone g m all top r s h base p q class signed w u i) (other_bytes_monotone g m all top r s h base p q class signed w u i) in
+        joined_monotone o b (load_leaves l n m base r small) (load_class_cell l n m base r small) (load_leaves l n m base s large) (load_class_cell l n m base s large)
+        (leaves_monotone g m all top r s h base p q class signed w u i) (class_cell_monotone g m all top r s h base p q class signed w u i)
+
+    others_monotone : (base : BaseInfo) (p : IsPlaced n all top base) (q : IsRegular m base) (class : Class) (signed : Bool) (w u : Window) (i : WindowWithin w u) → ReadBelow l (load_others l n m base r (record { class = class; signed = signed; window = w })) (load_others l n m base s (record { class = class; signed = signed; window = u }))
+    unfolding load_others
+    others_monotone base p q class signed w u i =
+        let small : Access = record { class = class; signed = signed; window = w } in
+        let large : Access = record { class = class; signed = signed; window = u } in
+        joined_monotone o b (load_other_leaves l n m base r small) (load_other_bytes l n m base r small) (load_other_leaves l n m base s large) (load_other_bytes l n m base s large)
+        (other_leaves_monotone g m all top r s h base p q class signed w u i) (other_bytes_monotone g m all top r s h base p q class signed w u i)
+
+    -- a character, whatever is known of first zeros
+    pub character_monotone : (base : BaseInfo) (p : IsPlaced n all top base) (q : IsRegular m base) (class : Class) (signed : Bool) (w u : Window) (i : WindowWithin w u) → ReadBelow l (load_character l n m base r (record { class = class; signed = signed; window = w })) (load_character l n m base s (record { class = class; signed = signed; window = u }))
+    unfolding load_character
+    character_monotone base p q class signed w u i = joined_monotone o b (load_own l n m base r (record { class = class; signed = signed; window = w })) (load_others l n m base r (record { class = class; signed = signed; window = w })) (load_own l n m base s (record { class = class; signed = signed; window = u })) (load_others l n m base s (record { class = class; signed = signed; window = u }))
+        (own_monotone base p q class signed w u i) (others_monotone base p q class signed w u i)
+
+    pub base_monotone : (base : BaseInfo) (p : IsPlaced n all top base) (q : IsRegular m base) (class : Class) (signed : Bool) (w u : Window) (i : WindowWithin w u) → ReadBelow l (load_base l n m base r (record { class = class; signed = signed; window = w })) (load_base l n m base s (record { class = class; signed = signed; window = u }))
+    unfolding load_base
+    base_monotone base p q class signed w u i =
         same_pair (ReadBelow l) (same_class class Char) _ _ _ _
-        (λ e. determinate_monotone (is_text l n base r w) (is_text l n base s u) _ _ (λ f. text_monotone g m all top r s h base p q class signed w u i f) (joined_monotone o b _ _ _ _ own others))
-        (λ e. own)
+        (λ e. determinate_monotone (is_text l n base r w) (is_text l n base s u) _ _ (λ f. text_monotone g m all top r s h base p q class signed w u i f) (character_monotone base p q class signed w u i))
+        (λ e. own_monotone base p q class signed w u i)
 
     bases_monotone : (bases : List BaseInfo) → EachFrom (λ base number. IsPlaced n all top base × IsRegular m base) 0 bases → (set more : Bases) → bases_within set more ≡ true → (class : Class) (signed : Bool) (w u : Window) → WindowWithin w u → ReadBelow l (load_bases l n m bases r set (record { class = class; signed = signed; window = w })) (load_bases l n m bases s more (record { class = class; signed = signed; window = u }))
     unfolding load_bases

@@ -177,7 +177,7 @@ covers_monotone at (Some s) (Some t) h = both s.whole t.whole h.1
   where
     both : (a b : Bool) → (b ≡ true → a ≡ true) → CoversToo (cond a (Some (at, s.local)) None) (cond b (Some (at, t.local)) None)
     both a false k = tt
-    both true true k = (refl, h.0.hi)
+    both true true k = (refl, h.0)
     both false true k = absurd (let e : false ≡ true = k refl in cc)
 
 is_whole : (at : ℕ) (x : Option ZeroTarget) (f : ℕ × Window) → if_whole at x ≡ Some f → whole_in x ≡ true

@@ -23,7 +23,7 @@ use Rattle.store_domain_laws.proofs.ConsistentStores.{store_kept}
 use Rattle.store_domain_laws.proofs.ConsistentSpelling.{spell_even}
 use Rattle.store_domain_laws.proofs.ConsistentAllocations.{renew_even}
 
-both_each : {K : Type 0} (P Q : K → ℕ → Type 0) (at : ℕ) (ks : List K) → EachFrom P at ks → EachFrom Q at ks → EachFrom (λ k i. P k i × Q k i) at ks
+pub both_each : {K : Type 0} (P Q : K → ℕ → Type 0) (at : ℕ) (ks : List K) → EachFrom P at ks → EachFrom Q at ks → EachFrom (λ k i. P k i × Q k i) at ks
 both_each P Q at [] e f = tt
 both_each P Q at (k ∷ ks) e f = ((e.0, f.0), both_each P Q (at + 1) ks e.1 f.1)
 
@@ -31,7 +31,7 @@ module _ {I : Type 0} {l : LatticeOf I} {n : IntegersOf I} {stands : I → ℤ �
   placed : EachFrom (λ base number. IsPlaced n all (top_row n all bases temps) base) 0 bases
   placed = all_placed n all (top_row n all bases temps) [] (replicate temps (Value (top_value n all))) 0 bases refl h k.placed
 
-  each : EachFrom (λ base number. IsPlaced n all (top_row n all bases temps) base × IsRegular m base) 0 bases
+  pub each : EachFrom (λ base number. IsPlaced n all (top_row n all bases temps) base × IsRegular m base) 0 bases
   each = both_each (λ base number. IsPlaced n all (top_row n all bases temps) base) (λ base number. IsRegular m base) 0 bases placed k.regular
 
   pub loads : MonotoneLaws l n → IsLoadMonotone l n m bases all temps

@@ -83,7 +83,7 @@ met_from : (x : Range) (c d : ℤ) (p : ℤ × ℤ) → range_met x c d ≡ Some
 met_from None c d p e = absurd (cc)
 met_from (Some q) c d p e = let b = between_is (int_max q.0 c) (int_min q.1 d) p e in let f = b.0 in let g = b.1 in let h = b.2 in (omega (arith, ints, clamps), omega (arith, ints, clamps), omega (arith, ints, clamps))
 
-within_monotone : (x y : Range) → RangeBelow x y → WindowsBelow (window_within x) (window_within y)
+pub within_monotone : (x y : Range) → RangeBelow x y → WindowsBelow (window_within x) (window_within y)
 within_monotone x y h = of_range_below (range_met x (pos 0) (pos last_offset)) (range_met y (pos 0) (pos last_offset)) (met_monotone x y (pos 0) (pos last_offset) (pos 0) (pos last_offset) h (omega (arith, ints)) (omega (arith, ints)))
     (λ p e. let f = met_from x (pos 0) (pos last_offset) p e in (f.0, f.1)) (λ q e. met_from y (pos 0) (pos last_offset) q e)
 

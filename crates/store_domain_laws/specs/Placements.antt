@@ -34,11 +34,11 @@ module _ {I : Type 0} where
     pub zero : (at : ℕ) → at < length base.shape.zeros → cell_at top (zero_position base at) ≡ First (top_zero n)
     pub state : base.shape.heap ≡ true → cell_at top (state_position base) ≡ State (top_state n)
 
--- a part that has all of a larger window has all of a smaller one, and no part before it has
+-- a part that has all of a larger window has all of a smaller one, further within, and no part before it has
 abbrev pub CoversToo : Option (ℕ × Window) → Option (ℕ × Window) → Type 0
 CoversToo small None = Unit {0}
 CoversToo None (Some q) = ⊥
-CoversToo (Some p) (Some q) = (p.0 ≡ q.0) × (p.1.hi ≤ q.1.hi)
+CoversToo (Some p) (Some q) = (p.0 ≡ q.0) × WindowWithin p.1 q.1
 
 -- leaves of a heap base of one place each, leaves and parts apart
 pub record IsRegular (m : Model) (base : BaseInfo) : Type 0 where

@@ -1,0 +1,4 @@
+pub mod Trails
+pub mod GivenPointers
+pub mod Scans
+pub mod StringResults

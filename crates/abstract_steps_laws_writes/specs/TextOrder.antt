@@ -1,0 +1,61 @@
+-- Writes of longer texts to more places.
+use Rattle.std.specs.Prelude.{◌≡◌, pos, true, false, List}
+use Rattle.cc_base.specs.Lattices.{LatticeOf}
+use Rattle.cc_base.specs.IntegerDomains.{IntegersOf}
+use Rattle.flow_program.specs.declared.programs.Flow.{Flow}
+use Rattle.pointer_domain.specs.declared.base_sets.Bases.{Bases}
+use Rattle.pointer_domain.specs.BaseSets.{bases_within, bases_empty}
+use Rattle.string_domain.specs.FirstZeros.{the_end}
+use Rattle.value_domain.specs.LabelSets.{labels_leq}
+use Rattle.value_domain.specs.declared.row_cells.Cell.{Cell}
+use Rattle.store_domain_laws.specs.Placements.{WindowWithin}
+use Rattle.store_domain_laws.specs.TopCells.{top_number}
+use Rattle.abstract_steps_library.specs.declared.source_bytes.Characters.{Characters}
+use Rattle.abstract_steps_library.specs.declared.text_writes.TextWrite.{TextWrite}
+use Rattle.abstract_steps_library.specs.declared.text_writes.ZeroRule.{ZeroRule}
+use Rattle.abstract_steps_library.specs.declared.text_writes.ZeroRule.TheVariants.{Text, Append, Any}
+use Rattle.abstract_steps_library.specs.TextWrites.{write_text}
+use Rattle.abstract_steps_laws_values.specs.StepLaws.{FlowRows}
+
+module _ {I : Type 0} (l : LatticeOf I) (n : IntegersOf I) where
+  -- a text of a length, which is a number from 0 to the end
+  abbrev pub HasLength : ZeroRule I → Type 0
+  HasLength (Text c) = l.leq c (n.between (pos 0) the_end) ≡ true
+  HasLength (Append c t) = l.leq c (n.between (pos 0) the_end) ≡ true
+  HasLength Any = Unit {0}
+
+  -- a longer text, whose end is unknown in more bases
+  abbrev pub RuleBelow : ZeroRule I → ZeroRule I → Type 0
+  RuleBelow x Any = Unit {0}
+  RuleBelow (Text a) (Text c) = l.leq a c ≡ true
+  RuleBelow (Append a s) (Append c t) = (l.leq a c ≡ true) × (bases_within s t ≡ true)
+  RuleBelow (Text a) (Append c t) = ⊥
+  RuleBelow (Append a s) (Text c) = ⊥
+  RuleBelow Any (Text c) = ⊥
+  RuleBelow Any (Append c t) = ⊥
+
+  pub record CharactersBelow (c d : Characters I) : Type 0 where
+    pub signed : l.leq c.signed d.signed ≡ true
+    pub unsigned : l.leq c.unsigned d.unsigned ≡ true
+    pub labels : labels_leq c.labels d.labels ≡ true
+    pub signed_top : l.leq d.signed (top_number n) ≡ true
+    pub unsigned_top : l.leq d.unsigned (top_number n) ≡ true
+
+  -- a write of a longer text to more places; that of the smaller one begins at the first of its bytes, and lies where it begins if
+  -- the larger one is of one byte
+  pub record TextBelow (w v : TextWrite I) : Type 0 where
+    pub bases : bases_within w.bases v.bases ≡ true
+    pub some : bases_empty w.bases ≡ false
+    pub start : WindowWithin w.start v.start
+    pub window : WindowWithin w.window v.window
+    pub first : w.window.lo ≡ w.start.lo
+    pub narrow : (v.one_byte ≡ true → w.one_byte ≡ true)
+    pub one : w.one_byte ≡ true → WindowWithin w.window w.start
+    pub characters : CharactersBelow w.characters v.characters
+    pub zero : RuleBelow w.zero v.zero
+    pub length : HasLength w.zero
+    pub more : HasLength v.zero
+
+  -- a longer text that is written to more places of a larger row leaves a larger row
+  abbrev pub TextsRise : Bases → Flow → Type 0
+  TextsRise all flow = (small large : TextWrite I) → TextBelow small large → (r s : List (Cell I)) → FlowRows l n all flow r s → FlowRows l n all flow (write_text l n flow small r) (write_text l n flow large s)

@@ -1,0 +1,13 @@
+//! Writes of library calls that grow with the row, over any domain of integers whose operations do.
+ghost use Rattle.cc_base.specs.IntegerLaws.{MonotoneLaws};
+ghost use Rattle.flow_program.specs.declared.programs.Flow.{Flow};
+ghost use Rattle.pointer_domain.specs.declared.base_sets.Bases.{Bases};
+ghost use Rattle.abstract_steps_laws_values.specs.LaidOut.{IsLaidOut};
+ghost use Rattle.abstract_steps_laws_writes.specs.TextOrder.{TextsRise};
+
+use cc_base::IntDomain;
+
+/// A longer text that is written to more places of a larger row leaves a larger row, an own one of consistent pointer parts.
+pub fn text_writes_are_monotone<I: IntDomain>()
+    ensures { MonotoneLaws I.lattice I.numbers → (all : Bases) (flow : Flow) → IsLaidOut all flow → TextsRise I.lattice I.numbers all flow }
+{}
