@@ -6,3 +6,11 @@ pub mod Productions
 mod Rows
 pub mod Suffixes
 pub mod NameTexts
+pub mod Signs
+pub mod Turns
+pub mod Prefixes
+pub mod Layering
+pub mod Reading
+pub mod Naming
+pub mod Outcomes
+pub mod Infixes

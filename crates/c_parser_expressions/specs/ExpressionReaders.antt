@@ -45,14 +45,14 @@ no_readers = record {
 
 -- ---- primary expressions and calls. `b` is the budget, `i` are the readers of what stands inside.
 
-abbrev more_arguments : Got → Option GotSome → Option GotSome
+abbrev pub more_arguments : Got → Option GotSome → Option GotSome
 more_arguments g None = None
 more_arguments g (Some more) = Some (record { trees = More g.tree more.trees; height = max g.height more.height; rest = more.rest })
 
-abbrev last_argument : Got → Option GotSome
+abbrev pub last_argument : Got → Option GotSome
 last_argument g = cond (is_right_parenthesis (first_symbol g.rest)) (Some (record { trees = More g.tree End; height = g.height; rest = behind_first g.rest })) None
 
-abbrev argument_then : Reading → (List Terminal → Option GotSome) → Option GotSome
+abbrev pub argument_then : Reading → (List Terminal → Option GotSome) → Option GotSome
 argument_then None more = None
 argument_then (Some g) more = cond (is_comma (first_symbol g.rest)) (more_arguments g (more (behind_first g.rest))) (last_argument g)
 

@@ -49,13 +49,13 @@ abbrev pub word_by : List (List ℕ) → List Terminal → Symbol → Option Got
 word_by known ts (symbol.Keyword w) = keyword_word known ts w (type_word_of w)
 word_by known ts _ = cond (is_typedef_first known ts) (Some (record { word = word.Typedef (name_first ts); rest = behind_first ts })) None
 
+abbrev pub word_before : TypeNameWord → Option GotWords → Option GotWords
+word_before w None = None
+word_before w (Some g) = Some (record { words = w ∷ g.words; rest = g.rest })
+
 abbrev pub with_word : Option GotWord → (List Terminal → Option GotWords) → Option GotWords
 with_word None more = None
-with_word (Some g) more = joined g.word (more g.rest)
-  where
-    joined : TypeNameWord → Option GotWords → Option GotWords
-    joined w None = None
-    joined w (Some ws) = Some (record { words = w ∷ ws.words; rest = ws.rest })
+with_word (Some g) more = word_before g.word (more g.rest)
 
 -- so many words at most
 abbrev pub words : List (List ℕ) → ℕ → List Terminal → Option GotWords

@@ -5,6 +5,8 @@
 //! cast-expression, 14 unary-expression, 15 postfix-expression, 16 primary-expression.
 ghost use Rattle.std.specs.Prelude.{◌≡◌, ◌≤◌, ◌<◌, IfSome, MatchOption};
 ghost use Rattle.c_parser_expressions.specs.Levels.{binary_sign, binary_level, logical_sign, logical_level, unary_sign, step_sign, compound_sign, assign_sign, op_sign, op_level, sign_level, symbol_level, step_of, unary_of, assign_of_sign, assign_of};
+ghost use Rattle.c_parser_expressions.specs.Continuations.{continuation_of_sign, continuation_of};
+ghost use Rattle.c_parser_expressions.specs.ExpressionReaders.{infix_of, keep_from};
 
 use c_layout::{AssignOp, BinaryOp, LogicalOp, StepOp, UnaryOp};
 use c_parser_tokens::{Punctuator, Symbol};
@@ -84,7 +86,8 @@ pub fn infix_level(op: Infix) -> u32
 
 /// The operator between two operands that a punctuator is.
 fn infix_of(sign: Punctuator) -> Option<Infix>
-    ensures { MatchOption result (sign_level sign ≡ 0) (λ op. sign_level sign ≡ op_level op) }
+    ensures is { result ≡ infix_of (continuation_of_sign sign) }
+    ensures level { MatchOption result (sign_level sign ≡ 0) (λ op. sign_level sign ≡ op_level op) }
 {
     let op = match sign {
         Punctuator::OrOr => return Some(Infix::Logical(LogicalOp::Or)),
@@ -113,7 +116,8 @@ fn infix_of(sign: Punctuator) -> Option<Infix>
 /// The operator of a level or above that a symbol is.
 pub fn infix_from(level: u32, symbol: Symbol) -> Option<Infix>
     requires { 0 < level }
-    ensures { MatchOption result (symbol_level symbol < level) (λ op. (symbol_level symbol ≡ op_level op) × (level ≤ op_level op)) }
+    ensures is { result ≡ keep_from level (infix_of (continuation_of symbol)) }
+    ensures level { MatchOption result (symbol_level symbol < level) (λ op. (symbol_level symbol ≡ op_level op) × (level ≤ op_level op)) }
 {
     match symbol {
         Symbol::Punctuator(sign) => {

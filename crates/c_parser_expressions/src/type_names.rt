@@ -144,7 +144,10 @@ fn brackets(
     let mut height = 0u32;
     for _turn in 0..reader.left() {
         if !reader.is_at(Punctuator::LeftBracket) {
-            break;
+            return Ok(Parsed {
+                tree: parts,
+                height,
+            });
         }
         let pair = bracket_pair(scope, reader, budget)?;
         height = height.max(pair.height);

@@ -1,6 +1,10 @@
-use Rattle.std.proofs.Common.{◌+◌, ◌*◌, map}
+use Rattle.std.proofs.Common.{◌≡◌, ◌+◌, ◌-◌, ◌*◌, map, length}
 use Rattle.c_layout.specs.SyntaxTrees.{tree_of}
 use Rattle.c_parser_expressions.specs.Findings.{Found, FoundSome, FoundArrays, Climbs}
+use Rattle.c_parser_expressions.specs.Readings.{got}
+use Rattle.c_parser_expressions.specs.ExpressionReaders.{some_arguments, suffixes, climb, commas}
+use Rattle.c_parser_expressions.specs.TypeNameReaders.{pairs, all_readers, readers_inside}
+use Rattle.c_parser_expressions.proofs.Prefixes.{arguments_before, pairs_before}
 use Rattle.c_parser_expressions.proofs.+expressions.Given as goal
 
 abbrev pub decreases-expressions::expression : goal.decreases-expressions::expression
@@ -76,16 +80,41 @@ abbrev pub decreases-unary_expressions::sizeof_expression : goal.decreases-unary
 decreases-unary_expressions::sizeof_expression l = 32 * l.budget + 0
 
 abbrev pub invariant-expressions::binary-loop-turn : goal.invariant-expressions::binary-loop-turn
-invariant-expressions::binary-loop-turn l = Climbs l.scope.typedefs.now l.level l.budget (tree_of l.left.tree.value) l.left.height l.fn.reader l.reader
+invariant-expressions::binary-loop-turn l = record {
+  found : Climbs l.scope.typedefs.now l.level l.budget (tree_of l.left.tree.value) l.left.height l.fn.reader l.reader;
+  read :
+      (all_readers l.scope.typedefs.now l.budget).binary l.level l.fn.reader
+      ≡ climb l.budget (readers_inside l.scope.typedefs.now l.budget) l.level (l.budget - l._turn) (got (tree_of l.left.tree.value) l.left.height l.reader);
+}
 
 abbrev pub invariant-expressions::expression-loop-turn : goal.invariant-expressions::expression-loop-turn
-invariant-expressions::expression-loop-turn l = Found l.scope.typedefs.now 0 l.budget (tree_of l.found.tree.value) l.found.height l.fn.reader l.reader
+invariant-expressions::expression-loop-turn l = record {
+  found : Found l.scope.typedefs.now 0 l.budget (tree_of l.found.tree.value) l.found.height l.fn.reader l.reader;
+  read :
+      (all_readers l.scope.typedefs.now l.budget).expression l.fn.reader
+      ≡ commas l.budget (readers_inside l.scope.typedefs.now l.budget) (l.budget - l._turn) (got (tree_of l.found.tree.value) l.found.height l.reader);
+}
 
 abbrev pub invariant-postfix_expressions::postfix-loop-turn : goal.invariant-postfix_expressions::postfix-loop-turn
-invariant-postfix_expressions::postfix-loop-turn l = Found l.scope.typedefs.now 15 l.budget (tree_of l.found.tree.value) l.found.height l.fn.reader l.reader
+invariant-postfix_expressions::postfix-loop-turn l = record {
+  found : Found l.scope.typedefs.now 15 l.budget (tree_of l.found.tree.value) l.found.height l.fn.reader l.reader;
+  read :
+      (all_readers l.scope.typedefs.now l.budget).postfix l.fn.reader
+      ≡ suffixes l.budget (readers_inside l.scope.typedefs.now l.budget) l.scope.typedefs.now (l.budget - l._turn) (got (tree_of l.found.tree.value) l.found.height l.reader);
+}
 
 abbrev pub invariant-postfix_expressions::some_arguments-loop-turn : goal.invariant-postfix_expressions::some_arguments-loop-turn
-invariant-postfix_expressions::some_arguments-loop-turn l = FoundSome l.scope.typedefs.now l.budget (map tree_of l.found.items) l.height l.fn.reader l.reader
+invariant-postfix_expressions::some_arguments-loop-turn l = record {
+  found : FoundSome l.scope.typedefs.now l.budget (map tree_of l.found.items) l.height l.fn.reader l.reader;
+  read :
+      some_arguments (all_readers l.scope.typedefs.now l.budget) (length l.fn.reader) l.fn.reader
+      ≡ arguments_before (map tree_of l.found.items) l.height (some_arguments (all_readers l.scope.typedefs.now l.budget) (length l.fn.reader - l._turn) l.reader);
+}
 
 abbrev pub invariant-type_names::brackets-loop-turn : goal.invariant-type_names::brackets-loop-turn
-invariant-type_names::brackets-loop-turn l = FoundArrays l.scope.typedefs.now l.parts.arrays.items (map tree_of l.parts.lengths.items) l.height l.fn.reader l.reader
+invariant-type_names::brackets-loop-turn l = record {
+  found : FoundArrays l.scope.typedefs.now l.parts.arrays.items (map tree_of l.parts.lengths.items) l.height l.fn.reader l.reader;
+  read :
+      pairs (readers_inside l.scope.typedefs.now l.budget) (length l.fn.reader) l.fn.reader
+      ≡ pairs_before l.parts.arrays.items (map tree_of l.parts.lengths.items) l.height (pairs (readers_inside l.scope.typedefs.now l.budget) (length l.fn.reader - l._turn) l.reader);
+}
