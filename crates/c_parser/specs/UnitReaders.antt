@@ -126,6 +126,11 @@ abbrev pub within : {X : Type 0} → ℕ → (ℕ → Option X) → Option X
 within zero read = None
 within (suc b) read = read b
 
+abbrev pub definition_within : ℕ → List (List ℕ) → Place → GotItem SpecTrees → InitDeclaratorView → ℕ → Item ExternalTree
+definition_within b known at ws (Prototype f) h ts = within b (λ c. definition_of c known at ws (Prototype f) h ts)
+definition_within b known at ws (Object d) h ts = None
+definition_within b known at ws (Initialized d equals i) h ts = None
+
 -- items behind others that were read
 abbrev pub behind_items : {X : Type 0} → List X → Option (GotItem (List X)) → Option (GotItem (List X))
 behind_items xs None = None

@@ -151,7 +151,7 @@ pub member_is : (known : List (List ℕ)) (b f : ℕ) {budget : ℕ} (ts : List 
     IsSign p.Semicolon ds.rest d → m ≡ max ws.height ds.height + 1 → m ≤ budget → (specifier_readers known budget).member ts ≡ Some (item_of (Members ws.item ds.item) m d)
 member_is known b f {budget} ts ws ds {d} m inside words same declared semi height low =
     let step : (specifier_readers known budget).member ts ≡ raised budget (Members ws.item ds.item) (max ws.height ds.height) d =
-        rw (inner_is inside, words, rw (same_inside inside same) at declared, semi.symbol, semi.behind) refl in
+    rw (inner_is inside, words, rw (same_inside inside same) at declared, semi.symbol, semi.behind) refl in
     step ∙ raised_is budget (max ws.height ds.height) m (Members ws.item ds.item) d height low
 
 pub structure_at : (known : List (List ℕ)) (b : ℕ) {budget : ℕ} {ts a r0 d : List Terminal} (tag : Option NameView) (r : Option (GotItem (List MemberTree))) → IsWord k.Struct ts a → Some (optional_tag known a) ≡ Some (record { tag = tag; rest = r0 }) → IsSign p.LeftBrace r0 d → b + 1 ≡ budget →
