@@ -1,7 +1,6 @@
 -- Layers of abstract declarators and type names, as the readers as definitions build them.
-use Rattle.std.proofs.Common.{◌≡◌, ℕ, zero, suc, ◌+◌, ◌<◌, ◌≤◌, Bool, true, false, ◌&&◌, ◌==◌, List, [], ◌∷◌, ◌++◌, length, map, reverse, cond, nat_lt, max, Option, Some, None, refl, sym, ap, ◌∙◌, arith}
-use Rattle.std.proofs.lemmas.List.{reverse-append, append-nil}
-use Rattle.std.proofs.lemmas.Grind.{reverse_onto}
+use Rattle.std.proofs.Common.{◌≡◌, ℕ, ◌+◌, ◌<◌, ◌≤◌, Bool, true, false, ◌&&◌, ◌==◌, List, [], ◌∷◌, ◌++◌, length, map, reverse, cond, nat_lt, max, Option, Some, None, refl, sym, ap, ◌∙◌, arith}
+use Rattle.std.proofs.lemmas.List.{reverse-append}
 use Rattle.c_layout.specs.SyntaxTrees.{Tree, Trees, trees, LayerView, layer_view, TypeNameView, End, More}
 use Rattle.c_layout.specs.declared.syntax_tree.expressions.AbstractLayer.{AbstractLayer}
 use Rattle.c_layout.specs.declared.syntax_tree.expressions.Brackets.{Brackets}
@@ -9,7 +8,7 @@ use Rattle.c_layout.specs.declared.syntax_tree.expressions.TypeNameWord.{TypeNam
 use Rattle.c_parser_tokens.specs.declared.terminals.Terminal.{Terminal}
 use Rattle.c_parser_expressions.specs.Findings.{layer_of, is_empty, IsSomething}
 use Rattle.c_parser_expressions.specs.Findings as found
-use Rattle.c_parser_expressions.specs.Readings.{GotLayers, GotName, Reading, got, made}
+use Rattle.c_parser_expressions.specs.Readings.{GotLayers, got, made}
 use Rattle.c_parser_expressions.specs.TypeNames.{is_something, is_lone_star, words_height}
 use Rattle.c_parser_expressions.specs.TypeNameReaders.{GotArrays, both, is_layer, layer_height, layered_at, layered, plain}
 

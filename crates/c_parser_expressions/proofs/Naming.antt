@@ -1,15 +1,12 @@
 -- The readers of type names as definitions, where their parts were read.
-use Rattle.std.proofs.Common.{◌≡◌, ℕ, zero, suc, ◌+◌, ◌<◌, ◌≤◌, Bool, true, false, List, [], ◌∷◌, length, cond, nat_lt, max, Option, Some, None, refl, sym, ap, ◌∙◌, arith}
-use Rattle.c_layout.specs.SyntaxTrees.{Tree, Trees, trees, tree_of, LayerView, End, More}
-use Rattle.c_layout.specs.declared.syntax_tree.expressions.TypeNameWord.{TypeNameWord}
+use Rattle.std.proofs.Common.{◌≡◌, ℕ, Bool, true, false, List, length, cond, Option, Some, None, refl, sym, ap, ◌∙◌}
 use Rattle.c_parser_tokens.specs.declared.terminals.Punctuator.TheVariants as p
 use Rattle.c_parser_tokens.specs.declared.terminals.Terminal.{Terminal}
-use Rattle.c_parser_expressions.specs.declared.type_name_parts.ArrayLength.{ArrayLength}
-use Rattle.c_parser_expressions.specs.Fronts.{first_symbol, first_place, behind_first, IsSign}
-use Rattle.c_parser_expressions.specs.Readings.{Got, GotLayers, GotName, Reading, got, after_layers, is_left_parenthesis, is_right_parenthesis, is_left_bracket, is_right_bracket}
-use Rattle.c_parser_expressions.specs.ReadingResults.{bracketed, with_pair}
+use Rattle.c_parser_expressions.specs.Fronts.{first_symbol, behind_first, IsSign}
+use Rattle.c_parser_expressions.specs.Readings.{Got, GotLayers, GotName, Reading, after_layers, is_left_parenthesis, is_right_parenthesis, is_left_bracket, is_right_bracket}
+use Rattle.c_parser_expressions.specs.ReadingResults.{bracketed}
 use Rattle.c_parser_expressions.specs.ExpressionReaders.{Readers}
-use Rattle.c_parser_expressions.specs.TypeNames.{is_one_type, counts_of, words_height}
+use Rattle.c_parser_expressions.specs.TypeNames.{is_one_type, counts_of}
 use Rattle.c_parser_expressions.specs.TypeNameReaders.{GotWords, GotStars, GotArrays, pair, with_empty, closed_length, with_length, after_arrays, declarator, stars, nested, closed_layers, no_layers, behind_stars, layered, pairs, words, after_words, of_one_type, named, begins_abstract, declared, plain, type_name}
 
 -- ---- brackets

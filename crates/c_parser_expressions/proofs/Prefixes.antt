@@ -1,5 +1,5 @@
 -- Lists that readers read item by item: what was read so far, before what the definition reads from there on.
-use Rattle.std.proofs.Common.{◌≡◌, ℕ, zero, suc, ◌+◌, ◌-◌, ◌<◌, ◌≤◌, Bool, true, false, List, [], ◌∷◌, ◌++◌, length, cond, max, Option, Some, None, refl, sym, ap, ◌∙◌, arith}
+use Rattle.std.proofs.Common.{◌≡◌, ℕ, zero, suc, ◌+◌, ◌-◌, ◌<◌, ◌≤◌, true, false, List, [], ◌∷◌, ◌++◌, cond, max, Option, Some, None, refl, sym, ap, ◌∙◌, arith}
 use Rattle.std.proofs.lemmas.List.{append_assoc, append-nil}
 use Rattle.c_layout.specs.SyntaxTrees.{Tree, Trees, trees, End, More}
 use Rattle.c_layout.specs.declared.syntax_tree.expressions.Brackets.{Brackets}
@@ -9,11 +9,11 @@ use Rattle.c_parser_tokens.specs.declared.terminals.Terminal.{Terminal}
 use Rattle.c_parser_expressions.specs.declared.type_name_parts.ArrayLength.{ArrayLength}
 use Rattle.c_parser_expressions.specs.Findings.{lengths_of, brackets_of}
 use Rattle.c_parser_expressions.specs.Fronts.{first_symbol, behind_first, begins_specifiers, IsSign}
-use Rattle.c_parser_expressions.specs.Readings.{Got, GotSome, Reading, got, is_comma, is_right_parenthesis, is_left_bracket}
+use Rattle.c_parser_expressions.specs.Readings.{Got, GotSome, is_comma, is_right_parenthesis, is_left_bracket}
 use Rattle.c_parser_expressions.specs.ReadingResults.{bracketed, with_pair}
 use Rattle.c_parser_expressions.specs.ExpressionReaders.{Readers, some_arguments, argument_then, more_arguments, last_argument}
 use Rattle.c_parser_expressions.specs.TypeNames.{is_pointer_qualifier}
-use Rattle.c_parser_expressions.specs.TypeNameReaders.{GotWord, GotWords, GotStars, GotArrays, words, word_by, with_word, word_before, qualifiers, qualified, stars, with_star, is_star, both, pairs, pair, after_arrays, no_arrays}
+use Rattle.c_parser_expressions.specs.TypeNameReaders.{GotWords, GotStars, GotArrays, words, word_by, with_word, word_before, qualifiers, qualified, stars, with_star, is_star, both, pairs, pair, after_arrays, no_arrays}
 
 one_left : (n t : ℕ) → t < n → n - t ≡ suc (n - (t + 1))
 one_left n t low = omega arith

@@ -1,7 +1,7 @@
 -- The readers as definitions, where their parts were read.
-use Rattle.std.proofs.Common.{◌≡◌, ℕ, zero, suc, ◌+◌, ◌≤◌, Bool, true, false, List, cond, max, Option, Some, None, refl, sym, ap, ◌∙◌, arith}
+use Rattle.std.proofs.Common.{◌≡◌, ℕ, suc, ◌+◌, Bool, true, false, List, cond, max, Option, Some, None, refl, sym, ap, ◌∙◌, arith}
 use Rattle.cc_base.specs.declared.diagnostics.Place.{Place}
-use Rattle.c_layout.specs.SyntaxTrees.{Tree, Trees, TypeNameView, Name, Paren, Call, SizeofExpr, SizeofType, Cast, Prefix, Unary, Conditional, Assign, Subscript}
+use Rattle.c_layout.specs.SyntaxTrees.{Tree, Name, Paren, Call, SizeofExpr, SizeofType, Cast, Prefix, Unary, Conditional, Assign, Subscript}
 use Rattle.c_layout.specs.declared.syntax_tree.expressions.AssignOp.{AssignOp}
 use Rattle.c_layout.specs.declared.syntax_tree.expressions.StepOp.{StepOp}
 use Rattle.c_layout.specs.declared.syntax_tree.expressions.UnaryOp.{UnaryOp}

@@ -1,12 +1,11 @@
 -- The loops of the readers of expressions, turn by turn.
-use Rattle.std.proofs.Common.{◌≡◌, ℕ, zero, suc, ◌+◌, ◌-◌, ◌<◌, ◌≤◌, Bool, true, false, List, cond, max, Option, Some, None, refl, sym, ap, ◌∙◌, arith}
-use Rattle.c_layout.specs.SyntaxTrees.{Tree, Trees, Comma}
-use Rattle.c_parser_tokens.specs.declared.terminals.Terminal.{Terminal}
+use Rattle.std.proofs.Common.{◌≡◌, ℕ, zero, suc, ◌+◌, ◌-◌, ◌<◌, ◌≤◌, true, false, List, cond, max, Some, None, ap, ◌∙◌, arith}
+use Rattle.c_layout.specs.SyntaxTrees.{Comma}
 use Rattle.c_parser_expressions.specs.declared.operators.Infix.{Infix}
 use Rattle.c_parser_expressions.specs.Findings.{infix_tree}
 use Rattle.c_parser_expressions.specs.Fronts.{first_symbol, first_place, behind_first}
 use Rattle.c_parser_expressions.specs.Levels.{op_level, goes_on}
-use Rattle.c_parser_expressions.specs.Readings.{Got, GotSome, Reading, got, after, is_comma, is_right_parenthesis, made}
+use Rattle.c_parser_expressions.specs.Readings.{Got, Reading, after, is_comma, made}
 use Rattle.c_parser_expressions.specs.ExpressionReaders.{Readers, infix_from, infix_by, refuse, climb, suffix, suffixes, commas}
 
 -- of n turns t are over

@@ -9,7 +9,7 @@ use Rattle.c_parser_expressions.specs.Spans.{Span}
 use Rattle.c_parser_expressions.specs.TypeNames.{IsTypeName, type_name_height}
 use Rattle.c_parser_laws_expressions.specs.Endings.{EndsBefore}
 use Rattle.c_parser_expressions.specs.Readings.{Reading, got}
-use Rattle.c_parser_expressions.specs.ExpressionReaders.{NameReaders, Readers, readers, inside}
+use Rattle.c_parser_expressions.specs.ExpressionReaders.{NameReaders, Readers, no_readers, readers, inside}
 
 -- an expression of a level and of a height below the bound is what the reader answers
 abbrev pub Reads : List (List ℕ) → (List Terminal → Reading) → ℕ → ℕ → Tree → Type 0
