@@ -139,9 +139,6 @@ assigned_right b i known ts a g op r left here one a-is right =
     ∙ ap (λ x. after (i.assignment x) (λ y. made b (Assign (first_place g.rest) op g.tree y.tree) (max g.height y.height) y.rest)) (sym a-is)
     ∙ onward (λ y. made b (Assign (first_place g.rest) op g.tree y.tree) (max g.height y.height) y.rest) right
 
-pub not_assigned : (b : ℕ) (i : Readers) (known : List (List ℕ)) (ts : List Terminal) (g : Got) → conditional b i known ts ≡ Some g → assign_of (first_symbol g.rest) ≡ None → assignment b i known ts ≡ Some g
-not_assigned b i known ts g left stops = onward (λ x. assigned b i x (assign_of (first_symbol x.rest))) left ∙ ap (assigned b i g) stops
-
 -- ---- subscripts
 
 pub index_read : (b : ℕ) (i : Readers) (ts a : List Terminal) (e : Tree) (h : ℕ) (r : Reading) → IsSign p.LeftBracket ts a → i.expression a ≡ r →
