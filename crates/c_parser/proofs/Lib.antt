@@ -5,3 +5,6 @@ pub mod Parts
 pub mod Refusing
 pub mod Rows
 pub mod Units
+pub mod Turns
+pub mod Stepping
+pub mod Joining

@@ -1,5 +1,5 @@
 -- Pieces, read one after another.
-use Rattle.std.proofs.Common.{◌≡◌, ℕ, suc, ◌≤◌, List, [], ◌∷◌, ◌++◌, take, drop, length, Ok, refl, sym, subst, ap, ◌∙◌}
+use Rattle.std.proofs.Common.{inl, inr, ◌≡◌, ◌≤◌, length, slice_index_or, arith, ℕ, List, [], ◌∷◌, ◌++◌, take, drop, Ok, refl, sym, subst, ap, ◌∙◌}
 use Rattle.cc_base.specs.declared.lexemes.Token.{Token}
 use Rattle.c_layout.specs.declared.data_model.Model.{Model}
 use Rattle.c_layout.specs.DeclarationTrees.{ExternalTree}
@@ -7,7 +7,10 @@ use Rattle.c_parser_tokens.specs.Classes.{classified}
 use Rattle.c_parser_tokens.specs.declared.terminals.Terminal.{Terminal}
 use Rattle.c_parser.specs.Externals.{in_force, in_force_behind, IsExternal, IsPiece, ArePieces, IsUnit}
 use Rattle.c_parser.specs.Findings.{FoundExternal, FoundPieces}
-use Rattle.c_parser.specs.Pieces.{piece_length, left_behind}
+use Rattle.c_parser.specs.Pieces.{piece_length}
+use Rattle.c_parser.specs.UnitReaders as read
+use Rattle.c_parser.specs.UnitResults.{StopsWithout, StopsUnread}
+use Rattle.cc_base.specs.declared.refusals.Stop.{Stop}
 
 -- ---- all pieces
 
@@ -30,11 +33,22 @@ piece_more {es} {next} {e} {names} {behind} {ts} {rest} {piece} {after} so piece
       names_are = behind-is ∙ (ap (λ (ns : List (List ℕ)). in_force ns e) so.names_are ∙ sym (names_more es e []));
     })
 
-length_more : {X : Type 0} (xs : List X) (x : X) → length (xs ++ (x ∷ [])) ≡ suc (length xs)
-length_more [] x = refl
-length_more (y ∷ ys) x = ap suc (length_more ys x)
+-- the first piece in which nothing is found
+pub unread_here : {es : List ExternalTree} {names : List (List ℕ)} {ts rest piece : List Terminal} {e : Stop} (first : Terminal) (more : List Terminal) →
+    FoundPieces es names ts rest → rest ≡ first ∷ more → piece ≡ take (piece_length rest) rest → StopsWithout first.place (read.piece names piece) e → StopsUnread ts e
+unread_here {es} {names} {ts} {rest} {piece} {e} first more so rest-is piece-is (inl memory) = inl memory
+unread_here {es} {names} {ts} {rest} {piece} {e} first more so rest-is piece-is (inr (stops, none)) =
+    inr (record {
+      before = es;
+      first = first;
+      more = more;
+      derive = rw rest-is at so.pieces;
+      none = rw (piece-is, rest-is, so.names_are) at none;
+      stops = stops;
+    })
 
-pub cut_more : {X : Type 0} (xs next : List X) (x : X) (ts rest after : List Terminal) → left_behind (length xs) ts ≡ rest → next ≡ xs ++ (x ∷ []) → after ≡ drop (piece_length rest) rest → left_behind (length next) ts ≡ after
-cut_more {X} xs next x ts rest after so next-is after-is =
-    ap (λ (ys : List X). left_behind (length ys) ts) next-is
-    ∙ (ap (λ (n : ℕ). left_behind n ts) (length_more xs x) ∙ (ap (λ (at : List Terminal). drop (piece_length at) at) so ∙ sym after-is))
+pub unread_at : {es : List ExternalTree} {names : List (List ℕ)} {ts piece : List Terminal} {e : Stop} (rest : List Terminal) (first : Terminal) → 1 ≤ length rest → first ≡ slice_index_or rest 0 first →
+    FoundPieces es names ts rest → piece ≡ take (piece_length rest) rest → StopsWithout first.place (read.piece names piece) e → StopsUnread ts e
+unread_at {es} {names} {ts} {piece} {e} [] first some is so piece-is stops = absurd (omega (arith, some))
+unread_at {es} {names} {ts} {piece} {e} (t ∷ more) first some is so piece-is stops =
+    let same : first ≡ t = is in unread_here t more so refl piece-is (subst (λ (x : Terminal). StopsWithout x.place (read.piece names piece) e) same stops)

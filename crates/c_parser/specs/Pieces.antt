@@ -1,10 +1,6 @@
 -- The pieces of a unit, each of which must be one external declaration: a piece ends at a `;` outside
 -- of braces, at the `}` that closes an outermost `{` behind a `)`, or with the unit.
-use Rattle.std.specs.Prelude.{◌≡◌, ℕ, ◌+◌, ◌-◌, ◌==◌, true, false, ◌&&◌, List, [], ◌∷◌, drop, zero, suc, if◌then◌else◌, ◌⊎◌}
-use Rattle.cc_base.specs.declared.refusals.Stop.{Stop}
-use Rattle.cc_base.specs.declared.refusals.Stop.TheVariants as stop
-use Rattle.cc_base.specs.declared.refusals.Refusal.TheVariants as refusal
-use Rattle.cc_base.specs.declared.diagnostics.Place.{Place}
+use Rattle.std.specs.Prelude.{ℕ, ◌+◌, ◌-◌, ◌==◌, true, false, ◌&&◌, List, [], ◌∷◌, if◌then◌else◌}
 use Rattle.c_parser_tokens.specs.declared.terminals.Terminal.{Terminal}
 use Rattle.c_parser_tokens.specs.declared.terminals.Symbol.{Symbol}
 use Rattle.c_parser_tokens.specs.declared.terminals.Symbol.TheVariants as symbol
@@ -38,23 +34,3 @@ length_from b (t ∷ ts) = if (behind b t.symbol).is_complete then 1 else 1 + le
 -- the length of the first piece
 abbrev pub piece_length : List Terminal → ℕ
 piece_length ts = length_from begun ts
-
--- what is left behind so many pieces
-abbrev pub left_behind : ℕ → List Terminal → List Terminal
-left_behind zero ts = ts
-left_behind (suc k) ts = drop (piece_length (left_behind k ts)) (left_behind k ts)
-
--- `Syntax` at a place, or want of memory
-abbrev pub StopsAt : Place → Stop → Type 0
-StopsAt at e = (e ≡ stop.Memory) ⊎ (e ≡ stop.Refused (record { place = at; refusal = refusal.Syntax }))
-
--- `Syntax` at the first terminal of a piece
-pub record IsAtPiece (ts : List Terminal) (e : Stop) : Type 0 where
-  pub before : ℕ
-  pub first : Terminal
-  pub more : List Terminal
-  pub cut : left_behind before ts ≡ first ∷ more
-  pub stops : StopsAt first.place e
-
-abbrev pub StopsAtPiece : List Terminal → Stop → Type 0
-StopsAtPiece ts e = (e ≡ stop.Memory) ⊎ IsAtPiece ts e

@@ -1,13 +1,21 @@
 //! External declarations (6.9).
-ghost use Rattle.std.specs.Prelude.{◌≡◌, ◌+◌, ◌≤◌, [], map, IfOk};
-ghost use Rattle.c_layout.specs.DeclarationTrees.{Declared, spec_tree, spec_trees, init_declarator_view, external_tree};
+ghost use Rattle.std.specs.Prelude.{◌≡◌, ◌+◌, ◌≤◌, List, [], length, map, IfOk};
+ghost use Rattle.c_layout.specs.DeclarationTrees.{Declared, Prototype, spec_tree, spec_trees, function_declarator_view, init_declarator_view, external_tree};
 ghost use Rattle.c_parser_declarations.specs.Findings.{FoundSpec, FoundBare, FoundTail};
 ghost use Rattle.c_parser_expressions.specs.Fronts.{first_place};
 ghost use Rattle.c_parser.specs.Externals.{with_declared};
 ghost use Rattle.c_parser.specs.Findings.{FoundLast, FoundBehind, FoundNamed, FoundExternal};
+ghost use Rattle.c_parser_tokens.specs.declared.terminals.Terminal.{Terminal};
+ghost use Rattle.c_parser_expressions.specs.ReadingResults.{Reads};
+ghost use Rattle.c_parser_declarations.specs.Answers.{as_item};
+ghost use Rattle.c_parser_declarations.specs.DeclarationReaders.{file_declarator, initialized};
+ghost use Rattle.c_parser_declarations.specs.Items.{item_of, after_item};
+ghost use Rattle.c_parser_declarations.specs.SpecifierReaders.{raised, specifiers};
+ghost use Rattle.c_parser.specs.UnitReaders as readers;
+ghost use Rattle.c_parser.specs.UnitReaders.{within, behind_items};
 
 use crate::statements::block;
-use c_layout::{External, InitDeclarator, SpecWord};
+use c_layout::{External, FunctionDeclarator, InitDeclarator, SpecWord};
 use c_parser_declarations::{file_declarator, initialized, is_typedef, named_by, specifiers};
 use c_parser_expressions::{Parsed, Reader, Scope, Trouble, TypedefNames, inner, made};
 use c_parser_tokens::Punctuator;
@@ -50,6 +58,7 @@ fn declared_name(
 ) -> Result<Parsed<InitDeclarator>, Trouble>
     ensures found { IfOk result (λ n. FoundBare typedefs.old budget (init_declarator_view n.tree) n.height reader.old reader.new) }
     ensures names { IfOk result (λ n. typedefs.new ≡ with_declared gives typedefs.old (init_declarator_view n.tree)) }
+    ensures read { Reads result (as_item init_declarator_view reader.new) (file_declarator typedefs.old budget reader.old) }
 {
     let scope = Scope { alloc, typedefs };
     let found = file_declarator(scope, reader, budget)?;
@@ -65,7 +74,8 @@ fn completed(
     declared: Parsed<InitDeclarator>,
     budget: u32,
 ) -> Result<Parsed<InitDeclarator>, Trouble>
-    ensures { IfOk result (λ n. FoundTail typedefs.now budget (init_declarator_view declared.tree) declared.height (init_declarator_view n.tree) n.height reader.old reader.new) }
+    ensures found { IfOk result (λ n. FoundTail typedefs.now budget (init_declarator_view declared.tree) declared.height (init_declarator_view n.tree) n.height reader.old reader.new) }
+    ensures read { Reads result (as_item init_declarator_view reader.new) (initialized typedefs.now budget (as_item init_declarator_view reader.old declared)) }
 {
     let scope = Scope { alloc, typedefs };
     initialized(scope, reader, declared, budget)
@@ -73,6 +83,7 @@ fn completed(
 
 /// The declarators behind the first one, each behind a comma, with the `;`. They go to the end of
 /// `found`, and the greatest height is the answer.
+#[tactic(auto, using(crate::proofs::Turns::further_begun))]
 fn further_declarators(
     alloc: Global,
     typedefs: &mut TypedefNames,
@@ -81,12 +92,14 @@ fn further_declarators(
     found: &mut Vec<InitDeclarator>,
     budget: u32,
 ) -> Result<u32, Trouble>
-    ensures { IfOk result (λ h. FoundLast gives typedefs.old typedefs.new budget (map init_declarator_view found.old.items) (map init_declarator_view found.new.items) h reader.old reader.new) }
+    ensures found { IfOk result (λ h. FoundLast gives typedefs.old typedefs.new budget (map init_declarator_view found.old.items) (map init_declarator_view found.new.items) h reader.old reader.new) }
+    ensures read { Reads result (λ h. item_of (map init_declarator_view found.new.items) h reader.new) (behind_items (map init_declarator_view found.old.items) (readers.further gives budget (length reader.old) typedefs.old reader.old)) }
 {
     let mut height = 0u32;
     for _turn in 0..reader.left() {
         if !reader.accept(Punctuator::Comma) {
-            break;
+            reader.expect(Punctuator::Semicolon)?;
+            return Ok(height);
         }
         let name = declared_name(alloc, typedefs, reader, gives, budget)?;
         let next = completed(alloc, typedefs, reader, name, budget)?;
@@ -106,7 +119,8 @@ fn declaration(
     name: Parsed<InitDeclarator>,
     budget: u32,
 ) -> Result<Parsed<External>, Trouble>
-    ensures { IfOk result (λ n. FoundBehind typedefs.old typedefs.new budget head.place (map spec_tree head.words.items) head.height (init_declarator_view name.tree) name.height (external_tree n.tree) n.height reader.old reader.new) }
+    ensures found { IfOk result (λ n. FoundBehind typedefs.old typedefs.new budget head.place (map spec_tree head.words.items) head.height (init_declarator_view name.tree) name.height (external_tree n.tree) n.height reader.old reader.new) }
+    ensures read { Reads result (as_item external_tree reader.new) (within budget (λ b. readers.declaration_named b typedefs.old head.place (item_of (spec_trees (map spec_tree head.words.items)) head.height []) (as_item init_declarator_view reader.old name))) }
 {
     let parts = inner(budget)?;
     let gives = is_typedef(head.words.as_slice());
@@ -121,6 +135,27 @@ fn declaration(
     Ok(Parsed { tree, height })
 }
 
+/// The definition of a function with this declarator, which has this height.
+fn function(
+    alloc: Global,
+    typedefs: &TypedefNames,
+    reader: &mut Reader<'_>,
+    head: Head,
+    name: Parsed<FunctionDeclarator>,
+    budget: u32,
+) -> Result<Parsed<External>, Trouble>
+    ensures found { IfOk result (λ n. FoundBehind typedefs.now typedefs.now budget head.place (map spec_tree head.words.items) head.height (Prototype (function_declarator_view name.tree)) name.height (external_tree n.tree) n.height reader.old reader.new) }
+    ensures read { Reads result (as_item external_tree reader.new) (readers.definition_within budget typedefs.now head.place (item_of (spec_trees (map spec_tree head.words.items)) head.height []) (Prototype (function_declarator_view name.tree)) name.height reader.old) }
+{
+    let scope = Scope { alloc, typedefs };
+    let body = block(scope, reader, inner(budget)?)?;
+    let begun = head.height.max(name.height);
+    let all = begun.max(body.height);
+    let height = made(budget, all)?;
+    let tree = External::Function(head.place, head.words, name.tree, body.tree);
+    Ok(Parsed { tree, height })
+}
+
 /// The definition of a function, behind its declarator.
 fn definition(
     alloc: Global,
@@ -130,19 +165,16 @@ fn definition(
     name: Parsed<InitDeclarator>,
     budget: u32,
 ) -> Result<Parsed<External>, Trouble>
-    ensures { IfOk result (λ n. FoundBehind typedefs.now typedefs.now budget head.place (map spec_tree head.words.items) head.height (init_declarator_view name.tree) name.height (external_tree n.tree) n.height reader.old reader.new) }
+    ensures found { IfOk result (λ n. FoundBehind typedefs.now typedefs.now budget head.place (map spec_tree head.words.items) head.height (init_declarator_view name.tree) name.height (external_tree n.tree) n.height reader.old reader.new) }
+    ensures read { Reads result (as_item external_tree reader.new) (readers.definition_within budget typedefs.now head.place (item_of (spec_trees (map spec_tree head.words.items)) head.height []) (init_declarator_view name.tree) name.height reader.old) }
 {
     let Parsed { tree, height } = name;
-    let InitDeclarator::Function(declared) = tree else {
-        return Err(Trouble::Syntax);
-    };
-    let scope = Scope { alloc, typedefs };
-    let body = block(scope, reader, inner(budget)?)?;
-    let begun = head.height.max(height);
-    let all = begun.max(body.height);
-    let height = made(budget, all)?;
-    let tree = External::Function(head.place, head.words, declared, body.tree);
-    Ok(Parsed { tree, height })
+    match tree {
+        InitDeclarator::Function(tree) => {
+            function(alloc, typedefs, reader, head, Parsed { tree, height }, budget)
+        }
+        _ => Err(Trouble::Syntax),
+    }
 }
 
 /// The first token and the specifiers.
@@ -154,6 +186,7 @@ fn read_head(
 ) -> Result<Head, Trouble>
     ensures place { IfOk result (λ h. h.place ≡ first_place reader.old) }
     ensures found { IfOk result (λ h. FoundSpec typedefs.now budget (spec_trees (map spec_tree h.words.items)) h.height reader.old reader.new) }
+    ensures read { Reads result (λ h. item_of (spec_trees (map spec_tree h.words.items)) h.height reader.new) (specifiers typedefs.now budget reader.old) }
 {
     let place = reader.place();
     let scope = Scope { alloc, typedefs };
@@ -169,6 +202,7 @@ fn read_head(
 fn nameless(alloc: Global, head: Head, budget: u32) -> Result<Parsed<External>, Trouble>
     ensures tree { IfOk result (λ n. external_tree n.tree ≡ Declared head.place (map spec_tree head.words.items) []) }
     ensures height { IfOk result (λ n. (n.height ≡ head.height + 1) × (n.height ≤ budget)) }
+    ensures read { (rest : List Terminal) → Reads result (as_item external_tree rest) (raised budget (Declared head.place (map spec_tree head.words.items) []) head.height rest) }
 {
     let height = made(budget, head.height)?;
     let tree = External::Declaration(head.place, head.words, Vec::new(alloc));
@@ -183,7 +217,8 @@ fn with_declarators(
     head: Head,
     budget: u32,
 ) -> Result<Parsed<External>, Trouble>
-    ensures { IfOk result (λ n. FoundNamed typedefs.old typedefs.new budget head.place (map spec_tree head.words.items) head.height (external_tree n.tree) n.height reader.old reader.new) }
+    ensures found { IfOk result (λ n. FoundNamed typedefs.old typedefs.new budget head.place (map spec_tree head.words.items) head.height (external_tree n.tree) n.height reader.old reader.new) }
+    ensures read { Reads result (as_item external_tree reader.new) (within budget (λ b. after_item (file_declarator typedefs.old b reader.old) (readers.behind_declarator b typedefs.old head.place (item_of (spec_trees (map spec_tree head.words.items)) head.height [])))) }
 {
     let gives = is_typedef(head.words.as_slice());
     let name = declared_name(alloc, typedefs, reader, gives, inner(budget)?)?;
@@ -206,7 +241,8 @@ pub fn external(
     reader: &mut Reader<'_>,
     budget: u32,
 ) -> Result<Parsed<External>, Trouble>
-    ensures { IfOk result (λ n. FoundExternal typedefs.old typedefs.new budget (external_tree n.tree) n.height reader.old reader.new) }
+    ensures found { IfOk result (λ n. FoundExternal typedefs.old typedefs.new budget (external_tree n.tree) n.height reader.old reader.new) }
+    ensures read { Reads result (as_item external_tree reader.new) (readers.external typedefs.old budget reader.old) }
 {
     let head = read_head(alloc, typedefs, reader, inner(budget)?)?;
     if reader.accept(Punctuator::Semicolon) {

@@ -2,6 +2,13 @@
 ghost use Rattle.std.specs.Prelude.{◌≡◌, IfOk};
 ghost use Rattle.c_layout.specs.DeclarationTrees.{statement_tree};
 ghost use Rattle.c_parser.specs.Findings.{FoundStatement};
+ghost use Rattle.c_parser_tokens.specs.declared.terminals.Keyword.TheVariants as k;
+ghost use Rattle.c_parser_tokens.specs.declared.terminals.Symbol.TheVariants as symbol;
+ghost use Rattle.c_parser_expressions.specs.Fronts.{first_symbol};
+ghost use Rattle.c_parser_expressions.specs.TypeNameReaders.{readers_inside};
+ghost use Rattle.c_parser_expressions.specs.ReadingResults.{Reads};
+ghost use Rattle.c_parser_declarations.specs.Answers.{as_item};
+ghost use Rattle.c_parser.specs.StatementReaders as readers;
 
 use crate::statement_nodes::{
     break_node, continue_node, expression_statement, goto, null_statement, return_node,
@@ -17,7 +24,8 @@ fn goto_statement(
     reader: &mut Reader<'_>,
     budget: u32,
 ) -> Result<Parsed<Statement>, Trouble>
-    ensures { IfOk result (λ n. FoundStatement scope.entry.typedefs.now budget (statement_tree n.tree) n.height reader.old reader.new) }
+    ensures found { IfOk result (λ n. FoundStatement scope.entry.typedefs.now budget (statement_tree n.tree) n.height reader.old reader.new) }
+    ensures read { first_symbol reader.old ≡ symbol.Keyword k.Goto → Reads result (as_item statement_tree reader.new) (readers.goto_statement scope.entry.typedefs.now budget reader.old) }
 {
     let place = reader.expect_word(Keyword::Goto)?;
     let label = reader.identifier(scope)?;
@@ -33,7 +41,8 @@ fn continue_statement(
     reader: &mut Reader<'_>,
     budget: u32,
 ) -> Result<Parsed<Statement>, Trouble>
-    ensures { IfOk result (λ n. FoundStatement scope.entry.typedefs.now budget (statement_tree n.tree) n.height reader.old reader.new) }
+    ensures found { IfOk result (λ n. FoundStatement scope.entry.typedefs.now budget (statement_tree n.tree) n.height reader.old reader.new) }
+    ensures read { first_symbol reader.old ≡ symbol.Keyword k.Continue → Reads result (as_item statement_tree reader.new) (readers.continue_statement budget reader.old) }
 {
     let place = reader.expect_word(Keyword::Continue)?;
     reader.expect(Punctuator::Semicolon)?;
@@ -48,7 +57,8 @@ fn break_statement(
     reader: &mut Reader<'_>,
     budget: u32,
 ) -> Result<Parsed<Statement>, Trouble>
-    ensures { IfOk result (λ n. FoundStatement scope.entry.typedefs.now budget (statement_tree n.tree) n.height reader.old reader.new) }
+    ensures found { IfOk result (λ n. FoundStatement scope.entry.typedefs.now budget (statement_tree n.tree) n.height reader.old reader.new) }
+    ensures read { first_symbol reader.old ≡ symbol.Keyword k.Break → Reads result (as_item statement_tree reader.new) (readers.break_statement budget reader.old) }
 {
     let place = reader.expect_word(Keyword::Break)?;
     reader.expect(Punctuator::Semicolon)?;
@@ -63,7 +73,8 @@ fn return_statement(
     reader: &mut Reader<'_>,
     budget: u32,
 ) -> Result<Parsed<Statement>, Trouble>
-    ensures { IfOk result (λ n. FoundStatement scope.entry.typedefs.now budget (statement_tree n.tree) n.height reader.old reader.new) }
+    ensures found { IfOk result (λ n. FoundStatement scope.entry.typedefs.now budget (statement_tree n.tree) n.height reader.old reader.new) }
+    ensures read { first_symbol reader.old ≡ symbol.Keyword k.Return → Reads result (as_item statement_tree reader.new) (readers.return_statement budget (readers_inside scope.entry.typedefs.now budget) reader.old) }
 {
     let place = reader.expect_word(Keyword::Return)?;
     let value = optional_expression(scope, reader, Punctuator::Semicolon, inner(budget)?)?;
@@ -78,7 +89,8 @@ pub fn value_statement(
     reader: &mut Reader<'_>,
     budget: u32,
 ) -> Result<Parsed<Statement>, Trouble>
-    ensures { IfOk result (λ n. FoundStatement scope.entry.typedefs.now budget (statement_tree n.tree) n.height reader.old reader.new) }
+    ensures found { IfOk result (λ n. FoundStatement scope.entry.typedefs.now budget (statement_tree n.tree) n.height reader.old reader.new) }
+    ensures read { Reads result (as_item statement_tree reader.new) (readers.value_statement budget (readers_inside scope.entry.typedefs.now budget) reader.old) }
 {
     let place = reader.place();
     if reader.accept(Punctuator::Semicolon) {
@@ -99,7 +111,8 @@ pub fn plain_statement(
     word: Keyword,
     budget: u32,
 ) -> Result<Parsed<Statement>, Trouble>
-    ensures { IfOk result (λ n. FoundStatement scope.entry.typedefs.now budget (statement_tree n.tree) n.height reader.old reader.new) }
+    ensures found { IfOk result (λ n. FoundStatement scope.entry.typedefs.now budget (statement_tree n.tree) n.height reader.old reader.new) }
+    ensures read { first_symbol reader.old ≡ symbol.Keyword word → Reads result (as_item statement_tree reader.new) (readers.plain_statement scope.entry.typedefs.now budget (readers_inside scope.entry.typedefs.now budget) reader.old word) }
 {
     match word {
         Keyword::Goto => goto_statement(scope, reader, budget),

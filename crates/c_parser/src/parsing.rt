@@ -2,9 +2,11 @@
 ghost use Rattle.std.specs.Prelude.{◌≡◌, [], map, IfOk, IfErr};
 ghost use Rattle.c_layout.specs.DeclarationTrees.{external_tree, unit_tree};
 ghost use Rattle.c_parser.specs.Externals.{in_force, IsPiece, ArePieces, IsUnit};
-ghost use Rattle.c_parser.specs.Pieces.{StopsAt, StopsAtPiece};
 ghost use Rattle.c_parser.specs.Refusals.{Refuses};
 ghost use Rattle.c_parser_tokens.specs.Classes.{classified};
+ghost use Rattle.c_parser_expressions.specs.ReadingResults.{Reads};
+ghost use Rattle.c_parser.specs.UnitReaders as readers;
+ghost use Rattle.c_parser.specs.UnitResults.{stop_of, ReadsOrStops, StopsUnread};
 
 use crate::external_declarations::external;
 use crate::pieces::piece_length;
@@ -22,6 +24,7 @@ fn piece_tree(
 ) -> Result<External, Trouble>
     ensures piece { IfOk result (λ e. IsPiece typedefs.old (external_tree e) piece.now) }
     ensures names { IfOk result (λ e. typedefs.new ≡ in_force typedefs.old (external_tree e)) }
+    ensures read { Reads result external_tree (readers.piece typedefs.old piece.now) }
 {
     let mut reader = Reader::new(piece);
     let found = external(alloc, typedefs, &mut reader, GREATEST_HEIGHT)?;
@@ -34,7 +37,7 @@ fn piece_tree(
 
 /// What trouble with a piece means for the unit.
 fn stop_of(trouble: Trouble, place: Place) -> Stop
-    ensures { StopsAt place result }
+    ensures { result ≡ stop_of trouble place }
 {
     match trouble {
         Trouble::Syntax => Stop::Refused(Fault {
@@ -54,7 +57,7 @@ fn external_at(
 ) -> Result<External, Stop>
     ensures piece { IfOk result (λ e. IsPiece typedefs.old (external_tree e) piece.now) }
     ensures names { IfOk result (λ e. typedefs.new ≡ in_force typedefs.old (external_tree e)) }
-    ensures place { IfErr result (StopsAt place) }
+    ensures read { ReadsOrStops external_tree result place (readers.piece typedefs.old piece.now) }
 {
     match piece_tree(alloc, typedefs, piece) {
         Ok(found) => Ok(found),
@@ -65,7 +68,7 @@ fn external_at(
 /// The external declarations that the pieces of these terminals are.
 fn externals(alloc: Global, terminals: &[Terminal]) -> Result<Vec<External>, Stop>
     ensures found { IfOk result (λ found. ArePieces (map external_tree found.items) [] terminals.now []) }
-    ensures place { IfErr result (StopsAtPiece terminals.now) }
+    ensures refused { IfErr result (StopsUnread terminals.now) }
 {
     let mut found = Vec::new(alloc);
     let mut typedefs = TypedefNames::new(alloc);

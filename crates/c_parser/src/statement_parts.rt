@@ -1,9 +1,15 @@
 //! What statements are made of besides statements (6.8).
-ghost use Rattle.std.specs.Prelude.{◌≡◌, IfOk};
+ghost use Rattle.std.specs.Prelude.{◌≡◌, ◌≢◌, Bool, true, false, IfOk};
 ghost use Rattle.std.specs.Option.{option_map};
 ghost use Rattle.c_layout.specs.SyntaxTrees.{tree_of};
 ghost use Rattle.c_layout.specs.DeclarationTrees.{for_first_view};
 ghost use Rattle.c_parser.specs.Findings.{FoundCondition, FoundMaybe, FoundFirst};
+ghost use Rattle.c_parser_tokens.specs.declared.terminals.Symbol.{Symbol};
+ghost use Rattle.c_parser_tokens.specs.declared.terminals.Symbol.TheVariants as symbol;
+ghost use Rattle.c_parser_expressions.specs.TypeNameReaders.{all_readers};
+ghost use Rattle.c_parser_expressions.specs.ReadingResults.{Reads};
+ghost use Rattle.c_parser_declarations.specs.Answers.{as_item};
+ghost use Rattle.c_parser.specs.StatementReaders as readers;
 
 use c_layout::{Expr, ForFirst};
 use c_parser_declarations::local_declaration;
@@ -23,7 +29,8 @@ pub fn condition(
     reader: &mut Reader<'_>,
     budget: u32,
 ) -> Result<Parsed<Expr>, Trouble>
-    ensures { IfOk result (λ n. FoundCondition scope.entry.typedefs.now budget (tree_of n.tree) n.height reader.old reader.new) }
+    ensures found { IfOk result (λ n. FoundCondition scope.entry.typedefs.now budget (tree_of n.tree) n.height reader.old reader.new) }
+    ensures read { Reads result (as_item tree_of reader.new) (readers.condition (all_readers scope.entry.typedefs.now budget) reader.old) }
 {
     reader.expect(Punctuator::LeftParenthesis)?;
     let found = expression(scope, reader, budget)?;
@@ -42,7 +49,8 @@ pub fn optional_expression(
     end: Punctuator,
     budget: u32,
 ) -> Result<Parsed<Option<Expr>>, Trouble>
-    ensures { IfOk result (λ n. FoundMaybe scope.entry.typedefs.now budget end (option_map tree_of n.tree) n.height reader.old reader.new) }
+    ensures found { IfOk result (λ n. FoundMaybe scope.entry.typedefs.now budget end (option_map tree_of n.tree) n.height reader.old reader.new) }
+    ensures read { (is : Symbol → Bool) → is (symbol.Punctuator end) ≡ true → ((s : Symbol) → s ≢ symbol.Punctuator end → is s ≡ false) → Reads result (as_item (option_map tree_of) reader.new) (readers.optional_expression is (all_readers scope.entry.typedefs.now budget) reader.old) }
 {
     if reader.accept(end) {
         return Ok(Parsed {
@@ -65,7 +73,8 @@ fn first_value(
     reader: &mut Reader<'_>,
     budget: u32,
 ) -> Result<Parsed<ForFirst>, Trouble>
-    ensures { IfOk result (λ n. FoundFirst scope.entry.typedefs.now budget (for_first_view n.tree) n.height reader.old reader.new) }
+    ensures found { IfOk result (λ n. FoundFirst scope.entry.typedefs.now budget (for_first_view n.tree) n.height reader.old reader.new) }
+    ensures read { Reads result (as_item for_first_view reader.new) (readers.first_value (all_readers scope.entry.typedefs.now budget) reader.old) }
 {
     if reader.accept(Punctuator::Semicolon) {
         let tree = ForFirst::Nothing;
@@ -87,7 +96,8 @@ fn first_local(
     reader: &mut Reader<'_>,
     budget: u32,
 ) -> Result<Parsed<ForFirst>, Trouble>
-    ensures { IfOk result (λ n. FoundFirst scope.entry.typedefs.now budget (for_first_view n.tree) n.height reader.old reader.new) }
+    ensures found { IfOk result (λ n. FoundFirst scope.entry.typedefs.now budget (for_first_view n.tree) n.height reader.old reader.new) }
+    ensures read { Reads result (as_item for_first_view reader.new) (readers.first_local scope.entry.typedefs.now budget reader.old) }
 {
     let found = local_declaration(scope, reader, budget)?;
     let tree = ForFirst::Declaration(found.tree);
@@ -103,7 +113,8 @@ pub fn for_first(
     reader: &mut Reader<'_>,
     budget: u32,
 ) -> Result<Parsed<ForFirst>, Trouble>
-    ensures { IfOk result (λ n. FoundFirst scope.entry.typedefs.now budget (for_first_view n.tree) n.height reader.old reader.new) }
+    ensures found { IfOk result (λ n. FoundFirst scope.entry.typedefs.now budget (for_first_view n.tree) n.height reader.old reader.new) }
+    ensures read { Reads result (as_item for_first_view reader.new) (readers.for_first_within scope.entry.typedefs.now budget reader.old) }
 {
     if reader.begins_specifiers(scope) {
         first_local(scope, reader, budget)

@@ -3,6 +3,14 @@ ghost use Rattle.std.specs.Prelude.{◌≡◌, map, IfOk};
 ghost use Rattle.c_layout.specs.DeclarationTrees.{statement_tree};
 ghost use Rattle.c_parser.specs.Findings.{FoundStatement, FoundItem, FoundBraced, FoundBlock, is_else};
 ghost use Rattle.c_parser_expressions.specs.Fronts.{first_symbol};
+ghost use Rattle.c_parser_tokens.specs.declared.terminals.Keyword.TheVariants as k;
+ghost use Rattle.c_parser_tokens.specs.declared.terminals.Symbol.TheVariants as symbol;
+ghost use Rattle.c_parser_expressions.specs.TypeNameReaders.{readers_inside};
+ghost use Rattle.c_parser_expressions.specs.ReadingResults.{Reads};
+ghost use Rattle.c_parser_declarations.specs.Answers.{as_item};
+ghost use Rattle.c_parser_declarations.specs.Items.{item_of};
+ghost use Rattle.c_parser.specs.StatementReaders as readers;
+ghost use Rattle.c_parser.specs.StatementReaders.{statement_inside};
 
 use crate::jump_statements::{plain_statement, value_statement};
 use crate::statement_nodes::{
@@ -22,7 +30,8 @@ fn body(
     reader: &mut Reader<'_>,
     budget: u32,
 ) -> Result<Parsed<Box<Statement>>, Trouble>
-    ensures { IfOk result (λ n. FoundStatement scope.entry.typedefs.now budget (statement_tree n.tree.value) n.height reader.old reader.new) }
+    ensures found { IfOk result (λ n. FoundStatement scope.entry.typedefs.now budget (statement_tree n.tree.value) n.height reader.old reader.new) }
+    ensures read { Reads result (λ n. item_of (statement_tree n.tree.value) n.height reader.new) (readers.statement scope.entry.typedefs.now budget reader.old) }
 {
     let found = statement(scope, reader, budget)?;
     Ok(Parsed {
@@ -38,7 +47,8 @@ fn label_statement(
     reader: &mut Reader<'_>,
     budget: u32,
 ) -> Result<Parsed<Statement>, Trouble>
-    ensures { IfOk result (λ n. FoundStatement scope.entry.typedefs.now budget (statement_tree n.tree) n.height reader.old reader.new) }
+    ensures found { IfOk result (λ n. FoundStatement scope.entry.typedefs.now budget (statement_tree n.tree) n.height reader.old reader.new) }
+    ensures read { Reads result (as_item statement_tree reader.new) (readers.labelled scope.entry.typedefs.now budget (statement_inside scope.entry.typedefs.now budget) reader.old) }
 {
     let name = reader.identifier(scope)?;
     reader.expect(Punctuator::Colon)?;
@@ -55,7 +65,8 @@ fn case_statement(
     reader: &mut Reader<'_>,
     budget: u32,
 ) -> Result<Parsed<Statement>, Trouble>
-    ensures { IfOk result (λ n. FoundStatement scope.entry.typedefs.now budget (statement_tree n.tree) n.height reader.old reader.new) }
+    ensures found { IfOk result (λ n. FoundStatement scope.entry.typedefs.now budget (statement_tree n.tree) n.height reader.old reader.new) }
+    ensures read { first_symbol reader.old ≡ symbol.Keyword k.Case → Reads result (as_item statement_tree reader.new) (readers.case_statement budget (readers_inside scope.entry.typedefs.now budget) (statement_inside scope.entry.typedefs.now budget) reader.old) }
 {
     let place = reader.expect_word(Keyword::Case)?;
     let value = conditional(scope, reader, inner(budget)?)?;
@@ -74,7 +85,8 @@ fn default_statement(
     reader: &mut Reader<'_>,
     budget: u32,
 ) -> Result<Parsed<Statement>, Trouble>
-    ensures { IfOk result (λ n. FoundStatement scope.entry.typedefs.now budget (statement_tree n.tree) n.height reader.old reader.new) }
+    ensures found { IfOk result (λ n. FoundStatement scope.entry.typedefs.now budget (statement_tree n.tree) n.height reader.old reader.new) }
+    ensures read { first_symbol reader.old ≡ symbol.Keyword k.Default → Reads result (as_item statement_tree reader.new) (readers.default_statement budget (statement_inside scope.entry.typedefs.now budget) reader.old) }
 {
     let place = reader.expect_word(Keyword::Default)?;
     reader.expect(Punctuator::Colon)?;
@@ -98,7 +110,8 @@ fn if_statement(
     reader: &mut Reader<'_>,
     budget: u32,
 ) -> Result<Parsed<Statement>, Trouble>
-    ensures { IfOk result (λ n. FoundStatement scope.entry.typedefs.now budget (statement_tree n.tree) n.height reader.old reader.new) }
+    ensures found { IfOk result (λ n. FoundStatement scope.entry.typedefs.now budget (statement_tree n.tree) n.height reader.old reader.new) }
+    ensures read { first_symbol reader.old ≡ symbol.Keyword k.If → Reads result (as_item statement_tree reader.new) (readers.if_statement budget (readers_inside scope.entry.typedefs.now budget) (statement_inside scope.entry.typedefs.now budget) reader.old) }
 {
     let place = reader.expect_word(Keyword::If)?;
     let test = condition(scope, reader, inner(budget)?)?;
@@ -124,7 +137,8 @@ fn switch_statement(
     reader: &mut Reader<'_>,
     budget: u32,
 ) -> Result<Parsed<Statement>, Trouble>
-    ensures { IfOk result (λ n. FoundStatement scope.entry.typedefs.now budget (statement_tree n.tree) n.height reader.old reader.new) }
+    ensures found { IfOk result (λ n. FoundStatement scope.entry.typedefs.now budget (statement_tree n.tree) n.height reader.old reader.new) }
+    ensures read { first_symbol reader.old ≡ symbol.Keyword k.Switch → Reads result (as_item statement_tree reader.new) (readers.switch_statement budget (readers_inside scope.entry.typedefs.now budget) (statement_inside scope.entry.typedefs.now budget) reader.old) }
 {
     let place = reader.expect_word(Keyword::Switch)?;
     let value = condition(scope, reader, inner(budget)?)?;
@@ -142,7 +156,8 @@ fn while_statement(
     reader: &mut Reader<'_>,
     budget: u32,
 ) -> Result<Parsed<Statement>, Trouble>
-    ensures { IfOk result (λ n. FoundStatement scope.entry.typedefs.now budget (statement_tree n.tree) n.height reader.old reader.new) }
+    ensures found { IfOk result (λ n. FoundStatement scope.entry.typedefs.now budget (statement_tree n.tree) n.height reader.old reader.new) }
+    ensures read { first_symbol reader.old ≡ symbol.Keyword k.While → Reads result (as_item statement_tree reader.new) (readers.while_statement budget (readers_inside scope.entry.typedefs.now budget) (statement_inside scope.entry.typedefs.now budget) reader.old) }
 {
     let place = reader.expect_word(Keyword::While)?;
     let test = condition(scope, reader, inner(budget)?)?;
@@ -160,7 +175,8 @@ fn do_statement(
     reader: &mut Reader<'_>,
     budget: u32,
 ) -> Result<Parsed<Statement>, Trouble>
-    ensures { IfOk result (λ n. FoundStatement scope.entry.typedefs.now budget (statement_tree n.tree) n.height reader.old reader.new) }
+    ensures found { IfOk result (λ n. FoundStatement scope.entry.typedefs.now budget (statement_tree n.tree) n.height reader.old reader.new) }
+    ensures read { first_symbol reader.old ≡ symbol.Keyword k.Do → Reads result (as_item statement_tree reader.new) (readers.do_statement budget (readers_inside scope.entry.typedefs.now budget) (statement_inside scope.entry.typedefs.now budget) reader.old) }
 {
     let place = reader.expect_word(Keyword::Do)?;
     let repeated = body(scope, reader, inner(budget)?)?;
@@ -180,7 +196,8 @@ fn for_statement(
     reader: &mut Reader<'_>,
     budget: u32,
 ) -> Result<Parsed<Statement>, Trouble>
-    ensures { IfOk result (λ n. FoundStatement scope.entry.typedefs.now budget (statement_tree n.tree) n.height reader.old reader.new) }
+    ensures found { IfOk result (λ n. FoundStatement scope.entry.typedefs.now budget (statement_tree n.tree) n.height reader.old reader.new) }
+    ensures read { first_symbol reader.old ≡ symbol.Keyword k.For → Reads result (as_item statement_tree reader.new) (readers.for_statement scope.entry.typedefs.now budget (readers_inside scope.entry.typedefs.now budget) (statement_inside scope.entry.typedefs.now budget) reader.old) }
 {
     let place = reader.expect_word(Keyword::For)?;
     let within = inner(budget)?;
@@ -203,7 +220,8 @@ fn declared_item(
     reader: &mut Reader<'_>,
     budget: u32,
 ) -> Result<Parsed<Statement>, Trouble>
-    ensures { IfOk result (λ n. FoundItem scope.entry.typedefs.now budget (statement_tree n.tree) n.height reader.old reader.new) }
+    ensures found { IfOk result (λ n. FoundItem scope.entry.typedefs.now budget (statement_tree n.tree) n.height reader.old reader.new) }
+    ensures read { Reads result (as_item statement_tree reader.new) (readers.declared_item scope.entry.typedefs.now budget reader.old) }
 {
     let found = local_declaration(scope, reader, budget)?;
     let tree = local_item(found.tree);
@@ -220,7 +238,8 @@ fn item(
     reader: &mut Reader<'_>,
     budget: u32,
 ) -> Result<Parsed<Statement>, Trouble>
-    ensures { IfOk result (λ n. FoundItem scope.entry.typedefs.now budget (statement_tree n.tree) n.height reader.old reader.new) }
+    ensures found { IfOk result (λ n. FoundItem scope.entry.typedefs.now budget (statement_tree n.tree) n.height reader.old reader.new) }
+    ensures read { Reads result (as_item statement_tree reader.new) (readers.item_within scope.entry.typedefs.now budget reader.old) }
 {
     if reader.begins_specifiers(scope) {
         return declared_item(scope, reader, budget);
@@ -231,18 +250,22 @@ fn item(
 
 /// The items of a block behind its `{`, with the `}`.
 #[cycle(statements)]
+#[tactic(auto, using(crate::proofs::Turns::items_begun))]
 fn items(
     scope: Scope<'_>,
     reader: &mut Reader<'_>,
     budget: u32,
 ) -> Result<Parsed<Vec<Statement>>, Trouble>
-    ensures { IfOk result (λ n. FoundBraced scope.entry.typedefs.now budget (map statement_tree n.tree.items) n.height reader.old reader.new) }
+    ensures found { IfOk result (λ n. FoundBraced scope.entry.typedefs.now budget (map statement_tree n.tree.items) n.height reader.old reader.new) }
+    ensures read { Reads result (as_item (λ ss. map statement_tree ss.items) reader.new) (readers.items_within scope.entry.typedefs.now budget reader.old) }
 {
     let mut found = Vec::new(scope.alloc);
     let mut height = 0u32;
     for _turn in 0..reader.left() {
         if reader.is_at(Punctuator::RightBrace) {
-            break;
+            reader.take();
+            let tree = found;
+            return Ok(Parsed { tree, height });
         }
         let next = item(scope, reader, budget)?;
         height = height.max(next.height);
@@ -264,7 +287,8 @@ pub fn block(
     reader: &mut Reader<'_>,
     budget: u32,
 ) -> Result<Parsed<Vec<Statement>>, Trouble>
-    ensures { IfOk result (λ n. FoundBlock scope.entry.typedefs.now budget (map statement_tree n.tree.items) n.height reader.old reader.new) }
+    ensures found { IfOk result (λ n. FoundBlock scope.entry.typedefs.now budget (map statement_tree n.tree.items) n.height reader.old reader.new) }
+    ensures read { Reads result (as_item (λ ss. map statement_tree ss.items) reader.new) (readers.block scope.entry.typedefs.now budget (statement_inside scope.entry.typedefs.now budget) reader.old) }
 {
     reader.expect(Punctuator::LeftBrace)?;
     let found = items(scope, reader, inner(budget)?)?;
@@ -280,7 +304,8 @@ fn block_statement(
     reader: &mut Reader<'_>,
     budget: u32,
 ) -> Result<Parsed<Statement>, Trouble>
-    ensures { IfOk result (λ n. FoundStatement scope.entry.typedefs.now budget (statement_tree n.tree) n.height reader.old reader.new) }
+    ensures found { IfOk result (λ n. FoundStatement scope.entry.typedefs.now budget (statement_tree n.tree) n.height reader.old reader.new) }
+    ensures read { Reads result (as_item statement_tree reader.new) (readers.block_statement scope.entry.typedefs.now budget (statement_inside scope.entry.typedefs.now budget) reader.old) }
 {
     let place = reader.place();
     let found = block(scope, reader, budget)?;
@@ -299,7 +324,8 @@ fn keyword_statement(
     word: Keyword,
     budget: u32,
 ) -> Result<Parsed<Statement>, Trouble>
-    ensures { IfOk result (λ n. FoundStatement scope.entry.typedefs.now budget (statement_tree n.tree) n.height reader.old reader.new) }
+    ensures found { IfOk result (λ n. FoundStatement scope.entry.typedefs.now budget (statement_tree n.tree) n.height reader.old reader.new) }
+    ensures read { first_symbol reader.old ≡ symbol.Keyword word → Reads result (as_item statement_tree reader.new) (readers.keyword_statement scope.entry.typedefs.now budget (readers_inside scope.entry.typedefs.now budget) (statement_inside scope.entry.typedefs.now budget) reader.old word) }
 {
     match word {
         Keyword::Case => case_statement(scope, reader, budget),
@@ -320,7 +346,8 @@ fn statement(
     reader: &mut Reader<'_>,
     budget: u32,
 ) -> Result<Parsed<Statement>, Trouble>
-    ensures { IfOk result (λ n. FoundStatement scope.entry.typedefs.now budget (statement_tree n.tree) n.height reader.old reader.new) }
+    ensures found { IfOk result (λ n. FoundStatement scope.entry.typedefs.now budget (statement_tree n.tree) n.height reader.old reader.new) }
+    ensures read { Reads result (as_item statement_tree reader.new) (readers.statement scope.entry.typedefs.now budget reader.old) }
 {
     if let Symbol::Keyword(word) = reader.peek() {
         return keyword_statement(scope, reader, word, budget);

@@ -3,6 +3,9 @@ pub mod InitDeclarators
 pub mod Initializing
 pub mod Layers
 pub mod Listing
+pub mod Reading
 pub mod Rows
+pub mod Signs
 pub mod Specifying
+pub mod Turns
 pub mod Words

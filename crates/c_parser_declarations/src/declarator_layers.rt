@@ -1,10 +1,14 @@
 //! What a declarator is made of, and how high it is (6.7.6).
-ghost use Rattle.std.specs.Prelude.{◌≡◌, ◌+◌, ◌≤◌, [], ◌∷◌, ◌++◌, length, max, map, reverse, is_some, IfOk};
+ghost use Rattle.std.specs.Prelude.{◌≡◌, ◌+◌, ◌≤◌, cond, ℕ, List, [], ◌∷◌, ◌++◌, length, max, map, reverse, is_some, Some, None, IfOk};
 ghost use Rattle.std.specs.Bool.{OnFalse};
 ghost use Rattle.std.specs.Option.{option_map};
 ghost use Rattle.c_layout.specs.DeclarationTrees.{name_view, suffix_view, declarator_layer_view, declarator_view};
 ghost use Rattle.c_parser_declarations.specs.Declarators.{named_height, stars_height, innermost_height, abstract_height, height_by, enclosed_by};
 ghost use Rattle.c_parser_declarations.specs.Findings.{is_empty, IsSomething, layer_of};
+ghost use Rattle.c_parser_declarations.specs.Answers.{as_parts, as_suffixes};
+ghost use Rattle.c_parser_declarations.specs.DeclaratorReaders as readers;
+ghost use Rattle.c_parser_expressions.specs.ReadingResults.{Reads};
+ghost use Rattle.c_parser_tokens.specs.declared.terminals.Terminal.{Terminal};
 
 use c_layout::{ArraySuffix, Declarator, DeclaratorLayer, Name};
 use c_parser_expressions::{Parsed, Trouble, is_one_star, made};
@@ -28,7 +32,8 @@ pub struct Suffixes {
 
 /// The height behind one pair of brackets more, which is a production.
 pub fn climb(climbed: u32, length: u32) -> Result<u32, Trouble>
-    ensures { IfOk result (λ h. h ≡ max climbed length + 1) }
+    ensures ok { IfOk result (λ h. h ≡ max climbed length + 1) }
+    ensures read { Reads result (λ h. h) (cond (readers.climbs (max climbed length)) (Some (max climbed length + 1)) None) }
 {
     match climbed.max(length).checked_add(1) {
         Some(height) => Ok(height),
@@ -40,6 +45,7 @@ pub fn climb(climbed: u32, length: u32) -> Result<u32, Trouble>
 fn named_height(stars: &[u32], climbed: u32, budget: u32) -> Result<u32, Trouble>
     ensures height { IfOk result (λ h. h ≡ named_height stars.now climbed) }
     ensures within { IfOk result (λ h. h ≤ budget) }
+    ensures read { Reads result (λ h. h) (readers.named_height budget stars.now climbed) }
 {
     if !stars.is_empty() {
         return made(budget, climbed);
@@ -55,6 +61,7 @@ fn named_height(stars: &[u32], climbed: u32, budget: u32) -> Result<u32, Trouble
 fn stars_height(stars: &[u32], budget: u32) -> Result<u32, Trouble>
     ensures height { IfOk result (λ h. h ≡ stars_height stars.now) }
     ensures within { IfOk result (λ h. h ≤ budget) }
+    ensures read { Reads result (λ h. h) (readers.stars_height budget stars.now) }
 {
     if is_one_star(stars) {
         return Ok(0);
@@ -66,6 +73,7 @@ fn stars_height(stars: &[u32], budget: u32) -> Result<u32, Trouble>
 fn innermost_height(stars: &[u32], pairs: usize, flat: u32, budget: u32) -> Result<u32, Trouble>
     ensures height { IfOk result (λ h. h ≡ innermost_height stars.now pairs flat) }
     ensures within { IfOk result (λ h. h ≤ budget) }
+    ensures read { Reads result (λ h. h) (readers.innermost_height budget stars.now pairs flat) }
 {
     if pairs == 0 {
         stars_height(stars, budget)
@@ -84,6 +92,7 @@ fn abstract_height(
 ) -> Result<u32, Trouble>
     ensures height { IfOk result (λ h. h ≡ abstract_height is_innermost stars.now pairs flat) }
     ensures within { IfOk result (λ h. h ≤ budget) }
+    ensures read { Reads result (λ h. h) (cond is_innermost (readers.innermost_height budget stars.now pairs flat) (readers.above budget flat)) }
 {
     if is_innermost {
         innermost_height(stars, pairs, flat, budget)
@@ -94,7 +103,8 @@ fn abstract_height(
 
 /// The height of a declarator in parentheses: around a name they are a production.
 pub fn enclosed_height(is_named: bool, inside: u32, budget: u32) -> Result<u32, Trouble>
-    ensures { IfOk result (λ h. h ≡ enclosed_by is_named inside) }
+    ensures ok { IfOk result (λ h. h ≡ enclosed_by is_named inside) }
+    ensures read { Reads result (λ h. h) (cond is_named (readers.above budget inside) (Some inside)) }
 {
     if is_named {
         made(budget, inside)
@@ -112,6 +122,7 @@ fn layer_height(
 ) -> Result<u32, Trouble>
     ensures height { IfOk result (λ h. h ≡ height_by (is_some inside.now.name) (is_empty (map declarator_layer_view inside.now.layers.items)) stars.now (length suffixes.now.arrays.items) suffixes.now.flat suffixes.now.climbed) }
     ensures within { IfOk result (λ h. h ≤ budget) }
+    ensures read { Reads result (λ h. h) (readers.layer_height budget (option_map name_view inside.now.name) (reverse (map declarator_layer_view inside.now.layers.items)) stars.now (as_suffixes [] suffixes.now)) }
 {
     if inside.name.is_some() {
         return named_height(stars, suffixes.climbed, budget);
@@ -128,7 +139,8 @@ fn layer_height(
 
 /// Whether nothing stands in a layer: no name, no layer inside, no star and no brackets.
 fn is_nothing(inside: &DeclaratorParts, stars: &[u32], suffixes: &Suffixes) -> bool
-    ensures { OnFalse result (IsSomething (map declarator_layer_view inside.now.layers.items) (is_some inside.now.name) (layer_of stars.now (map suffix_view suffixes.now.arrays.items))) }
+    ensures something { OnFalse result (IsSomething (map declarator_layer_view inside.now.layers.items) (is_some inside.now.name) (layer_of stars.now (map suffix_view suffixes.now.arrays.items))) }
+    ensures read { result ≡ readers.is_nothing (option_map name_view inside.now.name) (reverse (map declarator_layer_view inside.now.layers.items)) stars.now (map suffix_view suffixes.now.arrays.items) }
 {
     inside.name.is_none()
         && inside.layers.is_empty()
@@ -148,6 +160,7 @@ pub fn layered(
     ensures something { IfOk result (λ n. IsSomething (map declarator_layer_view inside.layers.items) (is_some inside.name) (layer_of stars.items (map suffix_view suffixes.arrays.items))) }
     ensures height { IfOk result (λ n. n.height ≡ height_by (is_some inside.name) (is_empty (map declarator_layer_view inside.layers.items)) stars.items (length suffixes.arrays.items) suffixes.flat suffixes.climbed) }
     ensures within { IfOk result (λ n. n.height ≤ budget) }
+    ensures read { (parts : ℕ) (before rest : List Terminal) → Reads result (as_parts rest) (readers.layered budget stars.items (readers.parts_of (reverse (map declarator_layer_view inside.layers.items)) (option_map name_view inside.name) parts before) (as_suffixes rest suffixes)) }
 {
     if is_nothing(&inside, stars.as_slice(), &suffixes) {
         return Err(Trouble::Syntax);

@@ -1,11 +1,19 @@
 //! Declarators (6.7.6) and abstract declarators (6.7.7).
-ghost use Rattle.std.specs.Prelude.{◌≡◌, map, IfOk};
+ghost use Rattle.std.specs.Prelude.{◌≡◌, length, map, IfOk};
 ghost use Rattle.std.specs.Option.{option_map};
 ghost use Rattle.c_layout.specs.SyntaxTrees.{tree_of};
 ghost use Rattle.c_layout.specs.DeclarationTrees.{name_view, suffix_view, declarator_layer_view, declarator_view};
 ghost use Rattle.c_parser_declarations.specs.Findings.{FoundSuffix, FoundSuffixes, FoundInside, FoundLayers, FoundBehind, FoundDeclarator, FoundNamed, FoundNamedBehind, FoundListed};
 ghost use Rattle.c_parser_declarations.specs.Declarators.{declarator_height};
 ghost use Rattle.c_parser_declarations.specs.Specifiers.{IsNamed};
+ghost use Rattle.c_parser_declarations.specs.Answers.{as_item, as_parts, as_suffixes};
+ghost use Rattle.c_parser_declarations.specs.DeclaratorReaders as readers;
+ghost use Rattle.c_parser_declarations.specs.DeclaratorReaders.{declarators_inside};
+ghost use Rattle.c_parser_expressions.specs.Fronts.{first_symbol};
+ghost use Rattle.c_parser_expressions.specs.ReadingResults.{Reads};
+ghost use Rattle.c_parser_tokens.specs.declared.terminals.Punctuator.TheVariants as p;
+ghost use Rattle.c_parser_tokens.specs.declared.terminals.Symbol.TheVariants as symbol;
+ghost use Rattle.c_parser_expressions.specs.TypeNameReaders.{readers_inside};
 
 use crate::declarator_layers::{
     DeclaratorParts, Suffixes, climb, declarator_of, enclosed_height, layered,
@@ -31,7 +39,8 @@ fn suffix(
     reader: &mut Reader<'_>,
     budget: u32,
 ) -> Result<Parsed<ArraySuffix>, Trouble>
-    ensures { IfOk result (λ n. FoundSuffix scope.entry.typedefs.now (suffix_view n.tree) n.height reader.old reader.new) }
+    ensures found { IfOk result (λ n. FoundSuffix scope.entry.typedefs.now (suffix_view n.tree) n.height reader.old reader.new) }
+    ensures read { first_symbol reader.old ≡ symbol.Punctuator p.LeftBracket → Reads result (as_item suffix_view reader.new) (readers.suffix (readers_inside scope.entry.typedefs.now budget) reader.old) }
 {
     let place = reader.expect(Punctuator::LeftBracket)?;
     if reader.accept(Punctuator::RightBracket) {
@@ -53,20 +62,26 @@ fn suffix(
 }
 
 /// The brackets that stand next, behind something of this height.
+#[tactic(auto, using(crate::proofs::Turns::suffixes_begun))]
 fn suffixes(
     scope: Scope<'_>,
     reader: &mut Reader<'_>,
     inside: u32,
     budget: u32,
 ) -> Result<Suffixes, Trouble>
-    ensures { IfOk result (λ s. FoundSuffixes scope.entry.typedefs.now inside (map suffix_view s.arrays.items) s.flat s.climbed reader.old reader.new) }
+    ensures found { IfOk result (λ s. FoundSuffixes scope.entry.typedefs.now inside (map suffix_view s.arrays.items) s.flat s.climbed reader.old reader.new) }
+    ensures read { Reads result (as_suffixes reader.new) (readers.suffixes (readers_inside scope.entry.typedefs.now budget) (length reader.old) inside inside reader.old) }
 {
     let mut arrays = Vec::new(scope.alloc);
     let mut flat = inside;
     let mut climbed = inside;
     for _turn in 0..reader.left() {
         if !reader.is_at(Punctuator::LeftBracket) {
-            break;
+            return Ok(Suffixes {
+                arrays,
+                flat,
+                climbed,
+            });
         }
         let next = suffix(scope, reader, budget)?;
         flat = flat.max(next.height);
@@ -88,7 +103,8 @@ fn enclosed(
     reader: &mut Reader<'_>,
     budget: u32,
 ) -> Result<Parsed<DeclaratorParts>, Trouble>
-    ensures { IfOk result (λ n. FoundInside scope.entry.typedefs.now (map declarator_layer_view n.tree.layers.items) (option_map name_view n.tree.name) n.height reader.old reader.new) }
+    ensures found { IfOk result (λ n. FoundInside scope.entry.typedefs.now (map declarator_layer_view n.tree.layers.items) (option_map name_view n.tree.name) n.height reader.old reader.new) }
+    ensures read { Reads result (as_parts reader.new) (readers.enclosed budget (declarators_inside scope.entry.typedefs.now budget) reader.old) }
 {
     reader.expect(Punctuator::LeftParenthesis)?;
     let inside = any_declarator(scope, reader, inner(budget)?)?;
@@ -102,7 +118,8 @@ fn enclosed(
 
 /// A name.
 fn named_core(scope: Scope<'_>, reader: &mut Reader<'_>) -> Result<Parsed<DeclaratorParts>, Trouble>
-    ensures { IfOk result (λ n. FoundInside scope.entry.typedefs.now (map declarator_layer_view n.tree.layers.items) (option_map name_view n.tree.name) n.height reader.old reader.new) }
+    ensures found { IfOk result (λ n. FoundInside scope.entry.typedefs.now (map declarator_layer_view n.tree.layers.items) (option_map name_view n.tree.name) n.height reader.old reader.new) }
+    ensures read { Reads result (as_parts reader.new) (readers.named_core scope.entry.typedefs.now reader.old) }
 {
     let name = reader.identifier(scope)?;
     let tree = DeclaratorParts {
@@ -120,7 +137,8 @@ fn core(
     reader: &mut Reader<'_>,
     budget: u32,
 ) -> Result<Parsed<DeclaratorParts>, Trouble>
-    ensures { IfOk result (λ n. FoundInside scope.entry.typedefs.now (map declarator_layer_view n.tree.layers.items) (option_map name_view n.tree.name) n.height reader.old reader.new) }
+    ensures found { IfOk result (λ n. FoundInside scope.entry.typedefs.now (map declarator_layer_view n.tree.layers.items) (option_map name_view n.tree.name) n.height reader.old reader.new) }
+    ensures read { Reads result (as_parts reader.new) (readers.core scope.entry.typedefs.now budget (declarators_inside scope.entry.typedefs.now budget) reader.old) }
 {
     if reader.is_at(Punctuator::LeftParenthesis) {
         return enclosed(scope, reader, budget);
@@ -143,7 +161,8 @@ fn behind_stars(
     stars: Vec<u32>,
     budget: u32,
 ) -> Result<Parsed<DeclaratorParts>, Trouble>
-    ensures { IfOk result (λ n. FoundBehind scope.entry.typedefs.now budget stars.items (map declarator_layer_view n.tree.layers.items) (option_map name_view n.tree.name) n.height reader.old reader.new) }
+    ensures found { IfOk result (λ n. FoundBehind scope.entry.typedefs.now budget stars.items (map declarator_layer_view n.tree.layers.items) (option_map name_view n.tree.name) n.height reader.old reader.new) }
+    ensures read { Reads result (as_parts reader.new) (readers.behind_stars scope.entry.typedefs.now budget (readers_inside scope.entry.typedefs.now budget) (declarators_inside scope.entry.typedefs.now budget) stars.items reader.old) }
 {
     let inside = core(scope, reader, budget)?;
     let suffixes = suffixes(scope, reader, inside.height, budget)?;
@@ -158,7 +177,8 @@ fn any_declarator(
     reader: &mut Reader<'_>,
     budget: u32,
 ) -> Result<Parsed<DeclaratorParts>, Trouble>
-    ensures { IfOk result (λ n. FoundLayers scope.entry.typedefs.now budget (map declarator_layer_view n.tree.layers.items) (option_map name_view n.tree.name) n.height reader.old reader.new) }
+    ensures found { IfOk result (λ n. FoundLayers scope.entry.typedefs.now budget (map declarator_layer_view n.tree.layers.items) (option_map name_view n.tree.name) n.height reader.old reader.new) }
+    ensures read { Reads result (as_parts reader.new) (readers.declarators scope.entry.typedefs.now budget reader.old) }
 {
     let stars = stars(scope.alloc, reader)?;
     let found = behind_stars(scope, reader, stars, budget)?;
@@ -171,7 +191,8 @@ pub fn parameter_declarator(
     reader: &mut Reader<'_>,
     budget: u32,
 ) -> Result<Parsed<Declarator>, Trouble>
-    ensures { IfOk result (λ n. FoundDeclarator scope.entry.typedefs.now budget (declarator_view n.tree) n.height reader.old reader.new) }
+    ensures found { IfOk result (λ n. FoundDeclarator scope.entry.typedefs.now budget (declarator_view n.tree) n.height reader.old reader.new) }
+    ensures read { Reads result (as_item declarator_view reader.new) (readers.parameter_declarator scope.entry.typedefs.now budget reader.old) }
 {
     let parts = any_declarator(scope, reader, budget)?;
     let whole = declarator_of(parts);
@@ -185,7 +206,8 @@ pub fn named_declarator(
     stars: Vec<u32>,
     budget: u32,
 ) -> Result<Parsed<Declarator>, Trouble>
-    ensures { IfOk result (λ n. FoundNamedBehind scope.entry.typedefs.now budget stars.items (declarator_view n.tree) n.height reader.old reader.new) }
+    ensures found { IfOk result (λ n. FoundNamedBehind scope.entry.typedefs.now budget stars.items (declarator_view n.tree) n.height reader.old reader.new) }
+    ensures read { Reads result (as_item declarator_view reader.new) (readers.named_declarator scope.entry.typedefs.now budget stars.items reader.old) }
 {
     let found = behind_stars(scope, reader, stars, budget)?;
     if !found.tree.name.is_some() {
@@ -201,7 +223,8 @@ pub fn declarator(
     reader: &mut Reader<'_>,
     budget: u32,
 ) -> Result<Parsed<Declarator>, Trouble>
-    ensures { IfOk result (λ n. FoundNamed scope.entry.typedefs.now budget (declarator_view n.tree) n.height reader.old reader.new) }
+    ensures found { IfOk result (λ n. FoundNamed scope.entry.typedefs.now budget (declarator_view n.tree) n.height reader.old reader.new) }
+    ensures read { Reads result (as_item declarator_view reader.new) (readers.declarator scope.entry.typedefs.now budget reader.old) }
 {
     let stars = stars(scope.alloc, reader)?;
     let whole = named_declarator(scope, reader, stars, budget)?;
@@ -209,12 +232,14 @@ pub fn declarator(
 }
 
 /// One declarator or more, with commas between them.
+#[tactic(auto, using(crate::proofs::Turns::listed_begun))]
 pub fn declarator_list(
     scope: Scope<'_>,
     reader: &mut Reader<'_>,
     budget: u32,
 ) -> Result<Parsed<Vec<Declarator>>, Trouble>
-    ensures { IfOk result (λ n. FoundListed (IsNamed scope.entry.typedefs.now) declarator_height budget (map declarator_view n.tree.items) n.height reader.old reader.new) }
+    ensures found { IfOk result (λ n. FoundListed (IsNamed scope.entry.typedefs.now) declarator_height budget (map declarator_view n.tree.items) n.height reader.old reader.new) }
+    ensures read { Reads result (as_item (λ ds. map declarator_view ds.items) reader.new) (readers.declarator_list scope.entry.typedefs.now budget reader.old) }
 {
     let mut found = Vec::new(scope.alloc);
     let mut height = 0u32;

@@ -1,10 +1,16 @@
 //! Enumerations (6.7.2.2).
-ghost use Rattle.std.specs.Prelude.{◌≡◌, map, IfOk};
+ghost use Rattle.std.specs.Prelude.{◌≡◌, Some, map, IfOk};
 ghost use Rattle.std.specs.Option.{option_map};
 ghost use Rattle.c_layout.specs.SyntaxTrees.{tree_of};
 ghost use Rattle.c_layout.specs.DeclarationTrees.{EnumTag, EnumBody, name_view, enumerator_view, spec_tree};
 ghost use Rattle.c_parser_declarations.specs.Findings.{FoundEnumerator, FoundEnumerators, FoundWord};
 ghost use Rattle.c_parser_declarations.specs.Specifiers.{Tag};
+ghost use Rattle.c_parser_declarations.specs.Answers.{as_item};
+ghost use Rattle.c_parser_declarations.specs.SpecifierReaders.{optional_tag, enumerator, enumerators, enumeration};
+ghost use Rattle.c_parser_expressions.specs.ReadingResults.{Reads};
+ghost use Rattle.c_parser_expressions.specs.Fronts.{first_symbol};
+ghost use Rattle.c_parser_tokens.specs.declared.terminals.Keyword.TheVariants as k;
+ghost use Rattle.c_parser_tokens.specs.declared.terminals.Symbol.TheVariants as symbol;
 
 use c_layout::{Enumerator, Expr, Name, SpecWord};
 use c_parser_expressions::{Parsed, Reader, Scope, Trouble, conditional, inner, made};
@@ -13,7 +19,8 @@ use cc_base::Place;
 
 /// The tag that stands next, if one does.
 pub fn optional_tag(scope: Scope<'_>, reader: &mut Reader<'_>) -> Result<Option<Name>, Trouble>
-    ensures { IfOk result (λ tag. Tag scope.entry.typedefs.now (option_map name_view tag) reader.old reader.new) }
+    ensures found { IfOk result (λ tag. Tag scope.entry.typedefs.now (option_map name_view tag) reader.old reader.new) }
+    ensures read { Reads result (λ tag. record { tag = option_map name_view tag; rest = reader.new }) (Some (optional_tag scope.entry.typedefs.now reader.old)) }
 {
     if reader.is_at_identifier(scope) {
         let name = reader.identifier(scope)?;
@@ -39,7 +46,8 @@ fn enumerator(
     reader: &mut Reader<'_>,
     budget: u32,
 ) -> Result<Parsed<Enumerator>, Trouble>
-    ensures { IfOk result (λ n. FoundEnumerator scope.entry.typedefs.now budget (enumerator_view n.tree) n.height reader.old reader.new) }
+    ensures found { IfOk result (λ n. FoundEnumerator scope.entry.typedefs.now budget (enumerator_view n.tree) n.height reader.old reader.new) }
+    ensures read { Reads result (as_item enumerator_view reader.new) (enumerator scope.entry.typedefs.now budget reader.old) }
 {
     let name = reader.identifier(scope)?;
     if !reader.accept(Punctuator::Assign) {
@@ -53,12 +61,14 @@ fn enumerator(
 }
 
 /// The enumerators behind `{`, with the `}`.
+#[tactic(auto, using(crate::proofs::Turns::braced_begun))]
 fn enumerators(
     scope: Scope<'_>,
     reader: &mut Reader<'_>,
     budget: u32,
 ) -> Result<Parsed<Vec<Enumerator>>, Trouble>
-    ensures { IfOk result (λ n. FoundEnumerators scope.entry.typedefs.now budget (map enumerator_view n.tree.items) n.height reader.old reader.new) }
+    ensures found { IfOk result (λ n. FoundEnumerators scope.entry.typedefs.now budget (map enumerator_view n.tree.items) n.height reader.old reader.new) }
+    ensures read { Reads result (as_item (λ es. map enumerator_view es.items) reader.new) (enumerators scope.entry.typedefs.now budget reader.old) }
 {
     let mut found = Vec::new(scope.alloc);
     let mut height = 0u32;
@@ -99,7 +109,8 @@ pub fn enumeration(
     reader: &mut Reader<'_>,
     budget: u32,
 ) -> Result<Parsed<SpecWord>, Trouble>
-    ensures { IfOk result (λ n. FoundWord scope.entry.typedefs.now budget (spec_tree n.tree) n.height reader.old reader.new) }
+    ensures found { IfOk result (λ n. FoundWord scope.entry.typedefs.now budget (spec_tree n.tree) n.height reader.old reader.new) }
+    ensures read { first_symbol reader.old ≡ symbol.Keyword k.Enum → Reads result (as_item spec_tree reader.new) (enumeration scope.entry.typedefs.now budget reader.old) }
 {
     let place = reader.expect_word(Keyword::Enum)?;
     let tag = optional_tag(scope, reader)?;

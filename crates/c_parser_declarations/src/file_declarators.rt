@@ -4,6 +4,12 @@ ghost use Rattle.std.specs.Option.{option_map, option_copied};
 ghost use Rattle.c_layout.specs.DeclarationTrees.{Object, name_view, declarator_view, init_declarator_view};
 ghost use Rattle.c_parser_declarations.specs.Declarations.{name_of};
 ghost use Rattle.c_parser_declarations.specs.Findings.{FoundBareBehind, FoundBare, FoundTail};
+ghost use Rattle.c_parser_declarations.specs.Answers.{as_item};
+ghost use Rattle.c_parser_declarations.specs.DeclarationReaders as readers;
+ghost use Rattle.c_parser_declarations.specs.DeclaratorReaders.{named_declarator};
+ghost use Rattle.c_parser_declarations.specs.Items.{after_item};
+ghost use Rattle.c_parser_declarations.specs.ParameterReaders.{function_declarator};
+ghost use Rattle.c_parser_expressions.specs.ReadingResults.{Reads};
 
 use crate::declarators::named_declarator;
 use crate::initializers::assigned;
@@ -19,7 +25,8 @@ fn prototype(
     stars: Vec<u32>,
     budget: u32,
 ) -> Result<Parsed<InitDeclarator>, Trouble>
-    ensures { IfOk result (λ n. FoundBareBehind scope.entry.typedefs.now budget stars.items (init_declarator_view n.tree) n.height reader.old reader.new) }
+    ensures found { IfOk result (λ n. FoundBareBehind scope.entry.typedefs.now budget stars.items (init_declarator_view n.tree) n.height reader.old reader.new) }
+    ensures read { Reads result (as_item init_declarator_view reader.new) (after_item (function_declarator scope.entry.typedefs.now budget stars.items reader.old) readers.as_prototype) }
 {
     let found = function_declarator(scope, reader, stars, budget)?;
     let tree = InitDeclarator::Function(found.tree);
@@ -36,7 +43,8 @@ fn object(
     stars: Vec<u32>,
     budget: u32,
 ) -> Result<Parsed<InitDeclarator>, Trouble>
-    ensures { IfOk result (λ n. FoundBareBehind scope.entry.typedefs.now budget stars.items (init_declarator_view n.tree) n.height reader.old reader.new) }
+    ensures found { IfOk result (λ n. FoundBareBehind scope.entry.typedefs.now budget stars.items (init_declarator_view n.tree) n.height reader.old reader.new) }
+    ensures read { Reads result (as_item init_declarator_view reader.new) (after_item (named_declarator scope.entry.typedefs.now budget stars.items reader.old) readers.as_object) }
 {
     let found = named_declarator(scope, reader, stars, budget)?;
     let tree = InitDeclarator::Object(found.tree);
@@ -54,7 +62,8 @@ fn behind_stars(
     stars: Vec<u32>,
     budget: u32,
 ) -> Result<Parsed<InitDeclarator>, Trouble>
-    ensures { IfOk result (λ n. FoundBareBehind scope.entry.typedefs.now budget stars.items (init_declarator_view n.tree) n.height reader.old reader.new) }
+    ensures found { IfOk result (λ n. FoundBareBehind scope.entry.typedefs.now budget stars.items (init_declarator_view n.tree) n.height reader.old reader.new) }
+    ensures read { Reads result (as_item init_declarator_view reader.new) (readers.bare_behind scope.entry.typedefs.now budget stars.items reader.old) }
 {
     if reader.is_at_identifier(scope) && reader.is_before(Punctuator::LeftParenthesis) {
         prototype(scope, reader, stars, budget)
@@ -73,7 +82,8 @@ pub fn file_declarator(
     reader: &mut Reader<'_>,
     budget: u32,
 ) -> Result<Parsed<InitDeclarator>, Trouble>
-    ensures { IfOk result (λ n. FoundBare scope.entry.typedefs.now budget (init_declarator_view n.tree) n.height reader.old reader.new) }
+    ensures found { IfOk result (λ n. FoundBare scope.entry.typedefs.now budget (init_declarator_view n.tree) n.height reader.old reader.new) }
+    ensures read { Reads result (as_item init_declarator_view reader.new) (readers.file_declarator scope.entry.typedefs.now budget reader.old) }
 {
     let stars = stars(scope.alloc, reader)?;
     let found = behind_stars(scope, reader, stars, budget)?;
@@ -98,7 +108,8 @@ fn initialized_object(
     declared: Parsed<Declarator>,
     budget: u32,
 ) -> Result<Parsed<InitDeclarator>, Trouble>
-    ensures { IfOk result (λ n. FoundTail scope.entry.typedefs.now budget (Object (declarator_view declared.tree)) declared.height (init_declarator_view n.tree) n.height reader.old reader.new) }
+    ensures found { IfOk result (λ n. FoundTail scope.entry.typedefs.now budget (Object (declarator_view declared.tree)) declared.height (init_declarator_view n.tree) n.height reader.old reader.new) }
+    ensures read { Reads result (as_item init_declarator_view reader.new) (readers.initialized_object scope.entry.typedefs.now budget (declarator_view declared.tree) declared.height reader.old) }
 {
     let found = assigned(scope, reader, declared, inner(budget)?)?;
     let height = made(budget, found.height)?;
@@ -120,7 +131,8 @@ pub fn initialized(
     declared: Parsed<InitDeclarator>,
     budget: u32,
 ) -> Result<Parsed<InitDeclarator>, Trouble>
-    ensures { IfOk result (λ n. FoundTail scope.entry.typedefs.now budget (init_declarator_view declared.tree) declared.height (init_declarator_view n.tree) n.height reader.old reader.new) }
+    ensures found { IfOk result (λ n. FoundTail scope.entry.typedefs.now budget (init_declarator_view declared.tree) declared.height (init_declarator_view n.tree) n.height reader.old reader.new) }
+    ensures read { Reads result (as_item init_declarator_view reader.new) (readers.initialized scope.entry.typedefs.now budget (as_item init_declarator_view reader.old declared)) }
 {
     if !reader.is_at(Punctuator::Assign) {
         return Ok(declared);

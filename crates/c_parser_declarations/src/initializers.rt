@@ -1,8 +1,15 @@
 //! Initializers (6.7.9).
-ghost use Rattle.std.specs.Prelude.{◌≡◌, map, IfOk};
+ghost use Rattle.std.specs.Prelude.{◌≡◌, length, map, IfOk};
 ghost use Rattle.c_layout.specs.SyntaxTrees.{tree_of};
 ghost use Rattle.c_layout.specs.DeclarationTrees.{Single, Braces, declarator_view, init_declarator_view, initializer_tree, initializer_trees};
 ghost use Rattle.c_parser_declarations.specs.Findings.{FoundInitializer, FoundBraced, FoundAssigned};
+ghost use Rattle.c_parser_declarations.specs.Answers.{as_item};
+ghost use Rattle.c_parser_declarations.specs.DeclarationReaders as declarations;
+ghost use Rattle.c_parser_declarations.specs.InitializerReaders as readers;
+ghost use Rattle.c_parser_declarations.specs.InitializerReaders.{value_of};
+ghost use Rattle.c_parser_declarations.specs.Items.{braced};
+ghost use Rattle.c_parser_expressions.specs.TypeNameReaders.{all_readers};
+ghost use Rattle.c_parser_expressions.specs.ReadingResults.{Reads};
 
 use c_layout::{Declarator, Expr, InitDeclarator, Initializer};
 use c_parser_expressions::{Parsed, Reader, Scope, Trouble, assignment, inner, made};
@@ -30,7 +37,8 @@ fn value(
     reader: &mut Reader<'_>,
     budget: u32,
 ) -> Result<Parsed<Initializer>, Trouble>
-    ensures { IfOk result (λ n. FoundInitializer scope.entry.typedefs.now budget (initializer_tree n.tree) n.height reader.old reader.new) }
+    ensures found { IfOk result (λ n. FoundInitializer scope.entry.typedefs.now budget (initializer_tree n.tree) n.height reader.old reader.new) }
+    ensures read { Reads result (as_item initializer_tree reader.new) (value_of ((all_readers scope.entry.typedefs.now budget).assignment reader.old)) }
 {
     let found = assignment(scope, reader, budget)?;
     let tree = single(found.tree);
@@ -42,12 +50,14 @@ fn value(
 
 /// The initializers behind `{`, with the `}`.
 #[cycle(initializers)]
+#[tactic(auto, using(crate::proofs::Turns::braced_begun))]
 fn initializer_list(
     scope: Scope<'_>,
     reader: &mut Reader<'_>,
     budget: u32,
 ) -> Result<Parsed<Vec<Initializer>>, Trouble>
-    ensures { IfOk result (λ n. FoundBraced scope.entry.typedefs.now budget (map initializer_tree n.tree.items) n.height reader.old reader.new) }
+    ensures found { IfOk result (λ n. FoundBraced scope.entry.typedefs.now budget (map initializer_tree n.tree.items) n.height reader.old reader.new) }
+    ensures read { Reads result (as_item (λ items. map initializer_tree items.items) reader.new) (braced (readers.initializer scope.entry.typedefs.now budget) (length reader.old) reader.old) }
 {
     let mut found = Vec::new(scope.alloc);
     let mut height = 0u32;
@@ -76,7 +86,8 @@ pub fn initializer(
     reader: &mut Reader<'_>,
     budget: u32,
 ) -> Result<Parsed<Initializer>, Trouble>
-    ensures { IfOk result (λ n. FoundInitializer scope.entry.typedefs.now budget (initializer_tree n.tree) n.height reader.old reader.new) }
+    ensures found { IfOk result (λ n. FoundInitializer scope.entry.typedefs.now budget (initializer_tree n.tree) n.height reader.old reader.new) }
+    ensures read { Reads result (as_item initializer_tree reader.new) (readers.initializer scope.entry.typedefs.now budget reader.old) }
 {
     if !reader.is_at(Punctuator::LeftBrace) {
         return value(scope, reader, budget);
@@ -96,7 +107,8 @@ pub fn assigned(
     declared: Parsed<Declarator>,
     budget: u32,
 ) -> Result<Parsed<InitDeclarator>, Trouble>
-    ensures { IfOk result (λ n. FoundAssigned scope.entry.typedefs.now budget (declarator_view declared.tree) declared.height (init_declarator_view n.tree) n.height reader.old reader.new) }
+    ensures found { IfOk result (λ n. FoundAssigned scope.entry.typedefs.now budget (declarator_view declared.tree) declared.height (init_declarator_view n.tree) n.height reader.old reader.new) }
+    ensures read { Reads result (as_item init_declarator_view reader.new) (declarations.assigned scope.entry.typedefs.now budget (declarator_view declared.tree) declared.height reader.old) }
 {
     let place = reader.expect(Punctuator::Assign)?;
     let found = initializer(scope, reader, budget)?;

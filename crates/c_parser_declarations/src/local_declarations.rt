@@ -1,9 +1,13 @@
 //! Declarations in blocks (6.7, 6.8.2).
-ghost use Rattle.std.specs.Prelude.{◌≡◌, true, map, IfOk};
+ghost use Rattle.std.specs.Prelude.{◌≡◌, true, length, map, IfOk};
 ghost use Rattle.std.specs.List.{list_all};
 ghost use Rattle.c_layout.specs.DeclarationTrees.{spec_tree, spec_trees, declarator_view, init_declarator_view, local_view};
 ghost use Rattle.c_parser_declarations.specs.Declarations.{is_local_class, is_local_word, IsLocalDeclarator, local_init_height};
 ghost use Rattle.c_parser_declarations.specs.Findings.{FoundSpec, FoundListed, FoundLocalTail, FoundLocalDeclarator, FoundLocalDeclarators, FoundLocal};
+ghost use Rattle.c_parser_declarations.specs.Answers.{as_item};
+ghost use Rattle.c_parser_declarations.specs.DeclarationReaders as readers;
+ghost use Rattle.c_parser_declarations.specs.Items.{listed};
+ghost use Rattle.c_parser_expressions.specs.ReadingResults.{Reads};
 
 use crate::declarators::declarator;
 use crate::initializers::assigned;
@@ -55,6 +59,7 @@ fn local_specifiers(
 ) -> Result<Parsed<Vec<SpecWord>>, Trouble>
     ensures found { IfOk result (λ n. FoundSpec scope.entry.typedefs.now budget (spec_trees (map spec_tree n.tree.items)) n.height reader.old reader.new) }
     ensures local { IfOk result (λ n. list_all is_local_word (map spec_tree n.tree.items) ≡ true) }
+    ensures read { Reads result (as_item (λ ws. spec_trees (map spec_tree ws.items)) reader.new) (readers.local_specifiers scope.entry.typedefs.now budget reader.old) }
 {
     let words = specifiers(scope, reader, budget)?;
     if !are_local(words.tree.as_slice()) {
@@ -70,7 +75,8 @@ fn with_initializer(
     declared: Parsed<Declarator>,
     budget: u32,
 ) -> Result<Parsed<InitDeclarator>, Trouble>
-    ensures { IfOk result (λ n. FoundLocalTail scope.entry.typedefs.now budget (declarator_view declared.tree) declared.height (init_declarator_view n.tree) n.height reader.old reader.new) }
+    ensures found { IfOk result (λ n. FoundLocalTail scope.entry.typedefs.now budget (declarator_view declared.tree) declared.height (init_declarator_view n.tree) n.height reader.old reader.new) }
+    ensures read { Reads result (as_item init_declarator_view reader.new) (readers.with_initializer scope.entry.typedefs.now budget (as_item declarator_view reader.old declared)) }
 {
     if !reader.is_at(Punctuator::Assign) {
         let tree = InitDeclarator::Object(declared.tree);
@@ -89,7 +95,8 @@ fn local_declarator(
     reader: &mut Reader<'_>,
     budget: u32,
 ) -> Result<Parsed<InitDeclarator>, Trouble>
-    ensures { IfOk result (λ n. FoundLocalDeclarator scope.entry.typedefs.now budget (init_declarator_view n.tree) n.height reader.old reader.new) }
+    ensures found { IfOk result (λ n. FoundLocalDeclarator scope.entry.typedefs.now budget (init_declarator_view n.tree) n.height reader.old reader.new) }
+    ensures read { Reads result (as_item init_declarator_view reader.new) (readers.local_declarator scope.entry.typedefs.now budget reader.old) }
 {
     let declared = declarator(scope, reader, budget)?;
     let found = with_initializer(scope, reader, declared, budget)?;
@@ -97,12 +104,14 @@ fn local_declarator(
 }
 
 /// One declarator or more, with a comma between any two.
+#[tactic(auto, using(crate::proofs::Turns::listed_begun))]
 fn some_declarators(
     scope: Scope<'_>,
     reader: &mut Reader<'_>,
     budget: u32,
 ) -> Result<Parsed<Vec<InitDeclarator>>, Trouble>
-    ensures { IfOk result (λ n. FoundListed (IsLocalDeclarator scope.entry.typedefs.now) local_init_height budget (map init_declarator_view n.tree.items) n.height reader.old reader.new) }
+    ensures found { IfOk result (λ n. FoundListed (IsLocalDeclarator scope.entry.typedefs.now) local_init_height budget (map init_declarator_view n.tree.items) n.height reader.old reader.new) }
+    ensures read { Reads result (as_item (λ ds. map init_declarator_view ds.items) reader.new) (listed (readers.local_declarator scope.entry.typedefs.now budget) (length reader.old) reader.old) }
 {
     let mut found = Vec::new(scope.alloc);
     let mut height = 0u32;
@@ -124,7 +133,8 @@ fn local_declarators(
     reader: &mut Reader<'_>,
     budget: u32,
 ) -> Result<Parsed<Vec<InitDeclarator>>, Trouble>
-    ensures { IfOk result (λ n. FoundLocalDeclarators scope.entry.typedefs.now budget (map init_declarator_view n.tree.items) n.height reader.old reader.new) }
+    ensures found { IfOk result (λ n. FoundLocalDeclarators scope.entry.typedefs.now budget (map init_declarator_view n.tree.items) n.height reader.old reader.new) }
+    ensures read { Reads result (as_item (λ ds. map init_declarator_view ds.items) reader.new) (readers.local_declarators scope.entry.typedefs.now budget reader.old) }
 {
     if reader.accept(Punctuator::Semicolon) {
         let tree = Vec::new(scope.alloc);
@@ -145,7 +155,8 @@ pub fn local_declaration(
     reader: &mut Reader<'_>,
     budget: u32,
 ) -> Result<Parsed<Local>, Trouble>
-    ensures { IfOk result (λ n. FoundLocal scope.entry.typedefs.now budget (local_view n.tree) n.height reader.old reader.new) }
+    ensures found { IfOk result (λ n. FoundLocal scope.entry.typedefs.now budget (local_view n.tree) n.height reader.old reader.new) }
+    ensures read { Reads result (as_item local_view reader.new) (readers.local_declaration scope.entry.typedefs.now budget reader.old) }
 {
     let place = reader.place();
     let words = local_specifiers(scope, reader, inner(budget)?)?;

@@ -1,9 +1,13 @@
 //! Parameters and the declarators of functions (6.7.6.3).
-ghost use Rattle.std.specs.Prelude.{◌≡◌, map, IfOk};
-ghost use Rattle.c_layout.specs.DeclarationTrees.{parameter_view, parameters_view, function_declarator_view};
+ghost use Rattle.std.specs.Prelude.{◌≡◌, length, map, IfOk};
+ghost use Rattle.c_layout.specs.DeclarationTrees.{ParameterList, parameter_view, parameters_view, function_declarator_view};
 ghost use Rattle.c_parser_declarations.specs.Declarations.{IsParameter, parameter_height, is_declarator_sign, begins_declarator, is_void_word, is_closing, is_void_first};
 ghost use Rattle.c_parser_declarations.specs.Findings.{FoundListed, FoundParameter, FoundParameterList, FoundParameters, FoundFunctionBehind};
 ghost use Rattle.c_parser_expressions.specs.Fronts.{first_symbol, behind_first};
+ghost use Rattle.c_parser_declarations.specs.Answers.{as_item};
+ghost use Rattle.c_parser_declarations.specs.Items.{listed};
+ghost use Rattle.c_parser_declarations.specs.ParameterReaders as readers;
+ghost use Rattle.c_parser_expressions.specs.ReadingResults.{Reads};
 
 use crate::declarators::parameter_declarator;
 use crate::specifier_lists::{list_height, specifiers};
@@ -37,7 +41,8 @@ fn parameter(
     reader: &mut Reader<'_>,
     budget: u32,
 ) -> Result<Parsed<Parameter>, Trouble>
-    ensures { IfOk result (λ n. FoundParameter scope.entry.typedefs.now budget (parameter_view n.tree) n.height reader.old reader.new) }
+    ensures found { IfOk result (λ n. FoundParameter scope.entry.typedefs.now budget (parameter_view n.tree) n.height reader.old reader.new) }
+    ensures read { Reads result (as_item parameter_view reader.new) (readers.parameter scope.entry.typedefs.now budget reader.old) }
 {
     let place = reader.place();
     let words = specifiers(scope, reader, budget)?;
@@ -63,12 +68,14 @@ fn parameter(
 }
 
 /// One parameter or more, with a comma between any two.
+#[tactic(auto, using(crate::proofs::Turns::listed_begun))]
 fn some_parameters(
     scope: Scope<'_>,
     reader: &mut Reader<'_>,
     budget: u32,
 ) -> Result<Parsed<Vec<Parameter>>, Trouble>
-    ensures { IfOk result (λ n. FoundListed (IsParameter scope.entry.typedefs.now) parameter_height budget (map parameter_view n.tree.items) n.height reader.old reader.new) }
+    ensures found { IfOk result (λ n. FoundListed (IsParameter scope.entry.typedefs.now) parameter_height budget (map parameter_view n.tree.items) n.height reader.old reader.new) }
+    ensures read { Reads result (as_item (λ items. map parameter_view items.items) reader.new) (listed (readers.parameter scope.entry.typedefs.now budget) (length reader.old) reader.old) }
 {
     let mut found = Vec::new(scope.alloc);
     let mut height = 0u32;
@@ -90,7 +97,8 @@ fn parameter_list(
     reader: &mut Reader<'_>,
     budget: u32,
 ) -> Result<Parsed<Vec<Parameter>>, Trouble>
-    ensures { IfOk result (λ n. FoundParameterList scope.entry.typedefs.now budget (map parameter_view n.tree.items) n.height reader.old reader.new) }
+    ensures found { IfOk result (λ n. FoundParameterList scope.entry.typedefs.now budget (map parameter_view n.tree.items) n.height reader.old reader.new) }
+    ensures read { Reads result (as_item (λ items. ParameterList (map parameter_view items.items)) reader.new) (readers.parameter_list scope.entry.typedefs.now budget reader.old) }
 {
     let found = some_parameters(scope, reader, budget)?;
     reader.expect(Punctuator::RightParenthesis)?;
@@ -119,7 +127,8 @@ fn parameters(
     reader: &mut Reader<'_>,
     budget: u32,
 ) -> Result<Parsed<Parameters>, Trouble>
-    ensures { IfOk result (λ n. FoundParameters scope.entry.typedefs.now budget (parameters_view n.tree) n.height reader.old reader.new) }
+    ensures found { IfOk result (λ n. FoundParameters scope.entry.typedefs.now budget (parameters_view n.tree) n.height reader.old reader.new) }
+    ensures read { Reads result (as_item parameters_view reader.new) (readers.parameters scope.entry.typedefs.now budget reader.old) }
 {
     if reader.accept(Punctuator::RightParenthesis) {
         let tree = Parameters::Empty;
@@ -146,7 +155,8 @@ pub fn function_declarator(
     stars: Vec<u32>,
     budget: u32,
 ) -> Result<Parsed<FunctionDeclarator>, Trouble>
-    ensures { IfOk result (λ n. FoundFunctionBehind scope.entry.typedefs.now budget stars.items (function_declarator_view n.tree) n.height reader.old reader.new) }
+    ensures found { IfOk result (λ n. FoundFunctionBehind scope.entry.typedefs.now budget stars.items (function_declarator_view n.tree) n.height reader.old reader.new) }
+    ensures read { Reads result (as_item function_declarator_view reader.new) (readers.function_declarator scope.entry.typedefs.now budget stars.items reader.old) }
 {
     let name = reader.identifier(scope)?;
     reader.expect(Punctuator::LeftParenthesis)?;

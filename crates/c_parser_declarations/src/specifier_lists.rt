@@ -1,10 +1,20 @@
 //! Declaration specifiers (6.7), with the bodies of structures (6.7.2.1).
-ghost use Rattle.std.specs.Prelude.{◌≡◌, ◌+◌, ◌==◌, ◌≤◌, true, cond, length, map, IfOk};
+ghost use Rattle.std.specs.Prelude.{◌≡◌, ◌+◌, ◌==◌, ◌≤◌, true, cond, List, length, map, Some, IfOk};
 ghost use Rattle.std.specs.Option.{option_map};
 ghost use Rattle.c_layout.specs.DeclarationTrees.{StructTag, StructBody, Members, TypedefName, name_view, declarator_view, spec_tree, spec_trees, member_tree, member_trees};
 ghost use Rattle.c_parser_expressions.specs.TypeNames.{is_one_type};
 ghost use Rattle.c_parser_declarations.specs.Findings.{FoundWord, FoundSpec, FoundMember, FoundMembers, PlainWord};
 ghost use Rattle.c_parser_declarations.specs.Specifiers.{counted};
+ghost use Rattle.c_parser_declarations.specs.Answers.{as_item};
+ghost use Rattle.c_parser_declarations.specs.Items.{item_of};
+ghost use Rattle.c_parser_declarations.specs.SpecifierReaders as readers;
+ghost use Rattle.c_parser_expressions.specs.ReadingResults.{Reads};
+ghost use Rattle.c_parser_expressions.specs.Fronts.{first_symbol};
+ghost use Rattle.c_parser_tokens.specs.declared.terminals.Terminal.{Terminal};
+ghost use Rattle.c_parser_declarations.specs.DeclaratorReaders.{above};
+ghost use Rattle.c_parser_declarations.specs.Specifiers.{counts_of};
+ghost use Rattle.c_parser_declarations.specs.StorageClasses.{storage_class};
+ghost use Rattle.c_parser_expressions.specs.TypeNames.{type_word_of};
 
 use crate::declarators::declarator_list;
 use crate::enumerations::{enumeration, optional_tag};
@@ -43,7 +53,8 @@ fn member_of(words: Vec<SpecWord>, declarators: Vec<Declarator>) -> Member
 #[cycle(specifiers)]
 #[tactic(auto, using(crate::proofs::Specifying::member))]
 fn member(scope: Scope<'_>, reader: &mut Reader<'_>, budget: u32) -> Result<Parsed<Member>, Trouble>
-    ensures { IfOk result (λ n. FoundMember scope.entry.typedefs.now budget (member_tree n.tree) n.height reader.old reader.new) }
+    ensures found { IfOk result (λ n. FoundMember scope.entry.typedefs.now budget (member_tree n.tree) n.height reader.old reader.new) }
+    ensures read { Reads result (as_item member_tree reader.new) ((readers.specifier_readers scope.entry.typedefs.now budget).member reader.old) }
 {
     let words = specifiers(scope, reader, inner(budget)?)?;
     let declared = declarator_list(scope, reader, inner(budget)?)?;
@@ -55,12 +66,14 @@ fn member(scope: Scope<'_>, reader: &mut Reader<'_>, budget: u32) -> Result<Pars
 
 /// The members behind `{`, with the `}`.
 #[cycle(specifiers)]
+#[tactic(auto, using(crate::proofs::Turns::chained_begun))]
 fn members(
     scope: Scope<'_>,
     reader: &mut Reader<'_>,
     budget: u32,
 ) -> Result<Parsed<Vec<Member>>, Trouble>
-    ensures { IfOk result (λ n. FoundMembers scope.entry.typedefs.now budget (map member_tree n.tree.items) n.height reader.old reader.new) }
+    ensures found { IfOk result (λ n. FoundMembers scope.entry.typedefs.now budget (map member_tree n.tree.items) n.height reader.old reader.new) }
+    ensures read { Reads result (as_item (λ ms. map member_tree ms.items) reader.new) (readers.members (readers.specifier_readers scope.entry.typedefs.now budget).member reader.old) }
 {
     let mut found = Vec::new(scope.alloc);
     let mut height = 0u32;
@@ -97,7 +110,8 @@ fn structure(
     reader: &mut Reader<'_>,
     budget: u32,
 ) -> Result<Parsed<SpecWord>, Trouble>
-    ensures { IfOk result (λ n. FoundWord scope.entry.typedefs.now budget (spec_tree n.tree) n.height reader.old reader.new) }
+    ensures found { IfOk result (λ n. FoundWord scope.entry.typedefs.now budget (spec_tree n.tree) n.height reader.old reader.new) }
+    ensures read { first_symbol reader.old ≡ Symbol.Keyword Keyword.Struct → Reads result (as_item spec_tree reader.new) (readers.structure scope.entry.typedefs.now budget (readers.specifiers_inside scope.entry.typedefs.now budget).member reader.old) }
 {
     let place = reader.expect_word(Keyword::Struct)?;
     let tag = optional_tag(scope, reader)?;
@@ -117,7 +131,8 @@ fn structure(
 
 /// A word without parts.
 fn plain_word(reader: &mut Reader<'_>, word: Keyword) -> Result<SpecWord, Trouble>
-    ensures { IfOk result (λ w. PlainWord (spec_tree w) reader.old reader.new) }
+    ensures found { IfOk result (λ w. PlainWord (spec_tree w) reader.old reader.new) }
+    ensures read { first_symbol reader.old ≡ Symbol.Keyword word → Reads result (λ w. item_of (spec_tree w) 0 reader.new) (readers.plain_by reader.old word (type_word_of word) (storage_class word)) }
 {
     let place = reader.expect_word(word)?;
     if let Some(named) = type_word(word) {
@@ -140,7 +155,8 @@ fn simple_word(
     reader: &mut Reader<'_>,
     budget: u32,
 ) -> Result<Parsed<SpecWord>, Trouble>
-    ensures { IfOk result (λ n. FoundWord scope.entry.typedefs.now budget (spec_tree n.tree) n.height reader.old reader.new) }
+    ensures found { IfOk result (λ n. FoundWord scope.entry.typedefs.now budget (spec_tree n.tree) n.height reader.old reader.new) }
+    ensures read { Reads result (as_item spec_tree reader.new) (readers.simple_word scope.entry.typedefs.now reader.old) }
 {
     match reader.peek() {
         Symbol::Keyword(word) => {
@@ -162,7 +178,8 @@ fn specifier(
     reader: &mut Reader<'_>,
     budget: u32,
 ) -> Result<Parsed<SpecWord>, Trouble>
-    ensures { IfOk result (λ n. FoundWord scope.entry.typedefs.now budget (spec_tree n.tree) n.height reader.old reader.new) }
+    ensures found { IfOk result (λ n. FoundWord scope.entry.typedefs.now budget (spec_tree n.tree) n.height reader.old reader.new) }
+    ensures read { Reads result (as_item spec_tree reader.new) (readers.word scope.entry.typedefs.now budget (readers.specifiers_inside scope.entry.typedefs.now budget).member reader.old) }
 {
     match reader.peek() {
         Symbol::Keyword(Keyword::Struct) => structure(scope, reader, budget),
@@ -178,19 +195,22 @@ fn specifier(
 ///
 /// `Syntax` where no specifiers of a height of at most `budget` stand next, or want of memory.
 #[cycle(specifiers)]
+#[tactic(auto, using(crate::proofs::Turns::words_begun))]
 pub fn specifiers(
     scope: Scope<'_>,
     reader: &mut Reader<'_>,
     budget: u32,
 ) -> Result<Parsed<Vec<SpecWord>>, Trouble>
-    ensures { IfOk result (λ n. FoundSpec scope.entry.typedefs.now budget (spec_trees (map spec_tree n.tree.items)) n.height reader.old reader.new) }
+    ensures found { IfOk result (λ n. FoundSpec scope.entry.typedefs.now budget (spec_trees (map spec_tree n.tree.items)) n.height reader.old reader.new) }
+    ensures read { Reads result (as_item (λ ws. spec_trees (map spec_tree ws.items)) reader.new) (readers.specifiers scope.entry.typedefs.now budget reader.old) }
 {
     let mut words = Vec::new(scope.alloc);
     let mut counts = SpecifierCounts::new();
     let mut height = 0u32;
     for _turn in 0..reader.left() {
         if !reader.begins_specifiers(scope) {
-            break;
+            let whole = listed(words, counts, height, budget)?;
+            return Ok(whole);
         }
         let word = specifier(scope, reader, budget)?;
         count_word(&mut counts, &word.tree);
@@ -205,6 +225,7 @@ pub fn specifiers(
 pub fn list_height(count: usize, parts: u32, budget: u32) -> Result<u32, Trouble>
     ensures is { IfOk result (λ h. h ≡ cond (count == 1) parts (parts + 1)) }
     ensures within { IfOk result (λ h. parts ≤ budget → h ≤ budget) }
+    ensures read { Reads result (λ h. h) (cond (count == 1) (Some parts) (above budget parts)) }
 {
     if count == 1 {
         return Ok(parts);
@@ -223,6 +244,7 @@ fn listed(
     ensures one_type { IfOk result (λ n. is_one_type counts ≡ true) }
     ensures height { IfOk result (λ n. n.height ≡ cond (length words.items == 1) parts (parts + 1)) }
     ensures within { IfOk result (λ n. parts ≤ budget → n.height ≤ budget) }
+    ensures read { (rest : List Terminal) → counts ≡ counts_of (spec_trees (map spec_tree words.items)) → Reads result (as_item (λ ws. spec_trees (map spec_tree ws.items)) rest) (readers.judged budget (item_of (spec_trees (map spec_tree words.items)) parts rest)) }
 {
     if !counts.is_one_type() {
         return Err(Trouble::Syntax);

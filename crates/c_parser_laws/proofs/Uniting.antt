@@ -13,7 +13,7 @@ use Rattle.c_parser_tokens.specs.Classes.{classified}
 use Rattle.c_parser.specs.Externals.{with_name, with_declared, in_force, in_force_behind, IsFileDeclarator, Further, FileDeclarators, IsExternal, IsPiece, ArePieces, IsUnit}
 use Rattle.c_parser.specs.Pieces.{piece_length}
 use Rattle.c_parser.specs.Statements.{IsBlock}
-use Rattle.c_parser_laws.specs.FirstRefusals.{IsRefusedAt}
+use Rattle.c_parser.specs.FirstRefusals.{IsRefusedAt}
 use Rattle.c_parser_laws.proofs.Listing.{next}
 use Rattle.c_parser_laws.proofs.Declaring.{ends_by}
 use Rattle.c_parser_laws.proofs.Specifying.{NoWordAt, begins_no_word, end_no_word, spec_fix, spec_word}

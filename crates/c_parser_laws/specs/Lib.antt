@@ -1,2 +1,1 @@
 pub mod StatementEnds
-pub mod FirstRefusals

@@ -7,7 +7,7 @@ ghost use Rattle.c_parser_tokens.specs.declared.terminals.Terminal.{Terminal};
 ghost use Rattle.c_parser_tokens.specs.Classes.{classified};
 ghost use Rattle.c_parser.specs.Externals.{IsExternal, IsUnit};
 ghost use Rattle.c_parser.specs.Statements.{DeriveStatement};
-ghost use Rattle.c_parser_laws.specs.FirstRefusals.{IsRefusedAt};
+ghost use Rattle.c_parser.specs.FirstRefusals.{IsRefusedAt};
 ghost use Rattle.c_parser_laws.specs.StatementEnds.{TakesNoElse};
 
 /// Two statements that derive from the same terminals are the same and leave the same, where no `else` stands

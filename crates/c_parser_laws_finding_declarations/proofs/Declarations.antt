@@ -19,10 +19,10 @@ use Rattle.c_parser_expressions.specs.TypeNameReaders.{stars}
 use Rattle.c_parser_laws_finding.proofs.Shrinking.{length_behind}
 use Rattle.c_parser_laws_finding.proofs.Stars.{stars_are, stars_few}
 use Rattle.c_parser_laws_finding_declarations.specs.Found.{InitializerEnds, is_end, DeclaratorEnds, SpecEnds, is_comma_or_semicolon, DeclaredEnds, FindsFileDeclarators}
-use Rattle.c_parser_laws_finding_declarations.specs.Items.{item_of}
-use Rattle.c_parser_laws_finding_declarations.specs.DeclarationReaders.{file_declarator, assigned, assigned_inside, initialized, with_initializer, local_declarator, local_declarators, local_specifiers, local_of, local_declaration}
-use Rattle.c_parser_laws_finding_declarations.specs.ParameterReaders.{words_list}
-use Rattle.c_parser_laws_finding_declarations.specs.SpecifierReaders.{is_assign, is_semicolon}
+use Rattle.c_parser_declarations.specs.Items.{item_of}
+use Rattle.c_parser_declarations.specs.DeclarationReaders.{file_declarator, assigned, assigned_inside, initialized, with_initializer, local_declarator, local_declarators, local_specifiers, local_of, local_declaration}
+use Rattle.c_parser_declarations.specs.ParameterReaders.{words_list}
+use Rattle.c_parser_declarations.specs.SpecifierReaders.{is_assign, is_semicolon}
 use Rattle.c_parser_laws_finding_declarations.proofs.Beginnings.{declarator_ends_words, end_ends_words}
 use Rattle.c_parser_laws_finding_declarations.proofs.Declarators.{chain_behind, stars_read, opening_star}
 use Rattle.c_parser_laws_finding_declarations.proofs.Enumerators.{identifier_first}

@@ -11,11 +11,11 @@ use Rattle.c_parser_expressions.specs.TypeNames.{Stars, is_one_star, is_pointer_
 use Rattle.c_parser_declarations.specs.Declarators.{IsSuffix, Core, Layers, flat, climbed, layers_height}
 use Rattle.c_parser_laws_expressions.proofs.Levels.{below}
 use Rattle.c_parser_expressions.specs.Readings.{is_left_parenthesis, is_left_bracket}
-use Rattle.c_parser_expressions.specs.TypeNameReaders.{is_star, stars}
+use Rattle.c_parser_expressions.specs.TypeNameReaders.{is_star, stars, readers_inside}
 use Rattle.c_parser_laws_finding.proofs.Shrinking.{length_behind}
 use Rattle.c_parser_laws_finding.proofs.Stars.{NoStar, stars_are, stars_few}
 use Rattle.c_parser_laws_finding_declarations.specs.Found.{is_end, DeclaratorEnds}
-use Rattle.c_parser_laws_finding_declarations.specs.DeclaratorReaders.{parts_of, name_at, within, above, named_height, innermost_height, any_declarator, readers_inside, declarators, declarators_inside}
+use Rattle.c_parser_declarations.specs.DeclaratorReaders.{parts_of, name_at, within, above, named_height, innermost_height, any_declarator, declarators, declarators_inside}
 use Rattle.c_parser_laws_finding_declarations.proofs.Suffixes.{AllLow, suffixes_read, suffixes_few, low_flat, low_climbed, flat_high, climbed_high}
 
 -- ---- what ends a declarator

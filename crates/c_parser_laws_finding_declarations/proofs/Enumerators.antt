@@ -18,9 +18,9 @@ use Rattle.c_parser_laws_finding.proofs.Lifts.{found_inside}
 use Rattle.c_parser_laws_finding.proofs.Shrinking.{length_behind}
 use Rattle.c_parser_laws_finding.proofs.Takes.{takes}
 use Rattle.c_parser_laws_finding.proofs.TypeNames.{all_expressions_found}
-use Rattle.c_parser_laws_finding_declarations.specs.Items.{item_of}
-use Rattle.c_parser_laws_finding_declarations.specs.DeclaratorReaders.{name_at}
-use Rattle.c_parser_laws_finding_declarations.specs.SpecifierReaders.{optional_tag, is_assign, enumerator_named, enumerator, enumerators}
+use Rattle.c_parser_declarations.specs.Items.{item_of}
+use Rattle.c_parser_declarations.specs.DeclaratorReaders.{name_at}
+use Rattle.c_parser_declarations.specs.SpecifierReaders.{optional_tag, is_assign, enumerator_named, enumerator, enumerators}
 use Rattle.c_parser_laws_finding_declarations.proofs.Declarators.{name_is}
 use Rattle.c_parser_laws_finding_declarations.proofs.Lists.{ReadsItem, all_read, Row, listed_row, trailed_row, row_few, braced_read}
 use Rattle.c_parser_laws_finding_declarations.proofs.Named.{name_takes}

@@ -15,8 +15,8 @@ use Rattle.c_parser_laws_finding.proofs.Shrinking.{length_behind}
 use Rattle.c_parser_laws_finding.proofs.TypeNames.{all_expressions_found}
 use Rattle.c_parser_laws_finding.proofs.Takes.{takes}
 use Rattle.c_parser_laws_finding_declarations.specs.Found.{InitializerEnds}
-use Rattle.c_parser_laws_finding_declarations.specs.Items.{Item}
-use Rattle.c_parser_laws_finding_declarations.specs.InitializerReaders.{initializer_by, initializer}
+use Rattle.c_parser_declarations.specs.Items.{Item}
+use Rattle.c_parser_declarations.specs.InitializerReaders.{initializer_by, initializer}
 use Rattle.c_parser_laws_finding_declarations.proofs.Lists.{ReadsItem, AllRead, Row, braced_read}
 
 abbrev pub IsInitializer : List (List ℕ) → InitializerTree → List Terminal → List Terminal → Type 0

@@ -6,7 +6,7 @@ use Rattle.c_parser_expressions.specs.Fronts.{first_symbol, behind_first, IsSign
 use Rattle.c_parser_declarations.specs.Lists.{Listed, Trailed, highest}
 use Rattle.c_parser_expressions.specs.Readings.{is_comma, is_right_brace}
 use Rattle.c_parser_laws_finding.proofs.Shrinking.{length_behind}
-use Rattle.c_parser_laws_finding_declarations.specs.Items.{Item, item_of, listed, braced}
+use Rattle.c_parser_declarations.specs.Items.{Item, item_of, listed, braced}
 
 -- an item is read where it ends
 abbrev pub ReadsItem : {X : Type 0} → (X → List Terminal → List Terminal → Type 0) → (List Terminal → Type 0) → (X → ℕ) → ℕ → Item X → X → Type 0

@@ -12,12 +12,12 @@ use Rattle.c_parser_declarations.specs.Declarators.{IsSuffix, Core, Layers, Shap
 use Rattle.c_parser_declarations.specs.Lists.{Listed, highest}
 use Rattle.c_parser_declarations.specs.Specifiers.{IsNamed}
 use Rattle.c_parser_expressions.specs.Readings.{is_comma}
-use Rattle.c_parser_expressions.specs.TypeNameReaders.{stars}
+use Rattle.c_parser_expressions.specs.TypeNameReaders.{stars, readers_inside}
 use Rattle.c_parser_laws_finding.proofs.Shrinking.{length_behind}
 use Rattle.c_parser_laws_finding.proofs.Stars.{stars_few}
 use Rattle.c_parser_laws_finding_declarations.specs.Found.{DeclaratorEnds}
-use Rattle.c_parser_laws_finding_declarations.specs.Items.{item_of}
-use Rattle.c_parser_laws_finding_declarations.specs.DeclaratorReaders.{parts_of, behind_stars, readers_inside, declarators, declarators_inside, parameter_declarator, declarator, declarator_list}
+use Rattle.c_parser_declarations.specs.Items.{item_of}
+use Rattle.c_parser_declarations.specs.DeclaratorReaders.{parts_of, behind_stars, declarators, declarators_inside, parameter_declarator, declarator, declarator_list}
 use Rattle.c_parser_laws_finding_declarations.proofs.Lists.{ReadsItem, TakesOne, all_read, listed_few, listed_read}
 use Rattle.c_parser_laws_finding_declarations.proofs.Suffixes.{suffixes_few}
 use Rattle.c_parser_laws_finding_declarations.proofs.Declarators.{by_inside, declarators_read, layers_shrink}

@@ -19,9 +19,9 @@ use Rattle.c_parser_laws_expressions.proofs.Levels.{below}
 use Rattle.c_parser_expressions.specs.Readings.{is_comma, is_right_parenthesis}
 use Rattle.c_parser_laws_finding.proofs.Shrinking.{length_behind}
 use Rattle.c_parser_laws_finding_declarations.specs.Found.{is_end, DeclaratorEnds}
-use Rattle.c_parser_laws_finding_declarations.specs.Items.{item_of}
-use Rattle.c_parser_laws_finding_declarations.specs.DeclaratorReaders.{name_at}
-use Rattle.c_parser_laws_finding_declarations.specs.ParameterReaders.{words_list, parameter_declarator_inside, parameter_of, parameter, parameters_at, parameter_list, parameters, parameters_inside, function_of, function_declarator}
+use Rattle.c_parser_declarations.specs.Items.{item_of}
+use Rattle.c_parser_declarations.specs.DeclaratorReaders.{name_at}
+use Rattle.c_parser_declarations.specs.ParameterReaders.{words_list, parameter_declarator_inside, parameter_of, parameter, parameters_at, parameter_list, parameters, parameters_inside, function_of, function_declarator}
 use Rattle.c_parser_laws_finding_declarations.proofs.Beginnings.{word_front, spec_front, declarator_ends_words, end_ends_words, words_few}
 use Rattle.c_parser_laws_finding_declarations.proofs.Declarators.{name_is}
 use Rattle.c_parser_laws_finding_declarations.proofs.Enumerators.{identifier_first}

@@ -18,9 +18,9 @@ use Rattle.c_parser_laws_expressions.proofs.Levels.{below}
 use Rattle.c_parser_expressions.specs.Readings.{is_left_brace}
 use Rattle.c_parser_laws_finding.proofs.Shrinking.{length_behind}
 use Rattle.c_parser_laws_finding_declarations.specs.Found.{DeclaratorEnds, SpecEnds}
-use Rattle.c_parser_laws_finding_declarations.specs.Items.{Item, item_of, chained}
-use Rattle.c_parser_laws_finding_declarations.specs.DeclaratorReaders.{name_at}
-use Rattle.c_parser_laws_finding_declarations.specs.SpecifierReaders.{enumerators_inside, keyword_word, plain_by, word, words, list_height, specifiers_by, specifier_readers, specifiers_inside, specifiers}
+use Rattle.c_parser_declarations.specs.Items.{Item, item_of, chained}
+use Rattle.c_parser_declarations.specs.DeclaratorReaders.{name_at}
+use Rattle.c_parser_declarations.specs.SpecifierReaders.{enumerators_inside, keyword_word, plain_by, word, words, list_height, specifiers_by, specifier_readers, specifiers_inside, specifiers}
 use Rattle.c_parser_laws_finding_declarations.proofs.Beginnings.{word_front, member_front, declarator_ends_words, words_brace, word_takes, word_count, member_count, words_few, spec_word_takes, member_takes, members_few}
 use Rattle.c_parser_laws_finding_declarations.proofs.Enumerators.{tag_open, tag_read, tag_shrinks, enumerators_found}
 use Rattle.c_parser_laws_finding_declarations.proofs.Named.{listed_begins, declarator_list_found}

@@ -10,13 +10,13 @@ use Rattle.c_parser_expressions.specs.Spans.{Chain}
 use Rattle.c_parser_declarations.specs.Declarators.{Length, IsSuffix, length_height, flat, climbed}
 use Rattle.c_parser_laws_expressions.proofs.Levels.{ends_at, below}
 use Rattle.c_parser_expressions.specs.Readings.{is_left_bracket}
-use Rattle.c_parser_expressions.specs.TypeNameReaders.{names_of}
+use Rattle.c_parser_expressions.specs.TypeNameReaders.{names_of, readers_inside}
 use Rattle.c_parser_laws_finding.proofs.Begins.{no_bracket}
 use Rattle.c_parser_laws_finding.proofs.Lifts.{found_inside}
 use Rattle.c_parser_laws_finding.proofs.Shrinking.{length_behind, shrinks}
 use Rattle.c_parser_laws_finding.proofs.TypeNames.{all_expressions_found}
-use Rattle.c_parser_laws_finding_declarations.specs.Items.{item_of}
-use Rattle.c_parser_laws_finding_declarations.specs.DeclaratorReaders.{suffix, suffixes, readers_inside}
+use Rattle.c_parser_declarations.specs.Items.{item_of}
+use Rattle.c_parser_declarations.specs.DeclaratorReaders.{suffix, suffixes}
 
 -- the lengths are below the budget
 abbrev pub AllLow : ℕ → List SuffixView → Type 0

@@ -13,11 +13,11 @@ use Rattle.c_parser_declarations.specs.Initializers.{DeriveInitializer, initiali
 use Rattle.c_parser_declarations.specs.Specifiers.{IsNamed, IsSpec, spec_height}
 use Rattle.c_parser_laws_expressions.specs.Endings.{EndsBefore}
 use Rattle.c_parser_expressions.specs.Readings.{is_left_brace}
-use Rattle.c_parser_laws_finding_declarations.specs.Items.{item_of}
-use Rattle.c_parser_laws_finding_declarations.specs.DeclarationReaders.{file_declarator, initialized, local_declaration}
-use Rattle.c_parser_laws_finding_declarations.specs.DeclaratorReaders.{declarator, parameter_declarator}
-use Rattle.c_parser_laws_finding_declarations.specs.InitializerReaders.{initializer}
-use Rattle.c_parser_laws_finding_declarations.specs.SpecifierReaders.{specifiers}
+use Rattle.c_parser_declarations.specs.Items.{item_of}
+use Rattle.c_parser_declarations.specs.DeclarationReaders.{file_declarator, initialized, local_declaration}
+use Rattle.c_parser_declarations.specs.DeclaratorReaders.{declarator, parameter_declarator}
+use Rattle.c_parser_declarations.specs.InitializerReaders.{initializer}
+use Rattle.c_parser_declarations.specs.SpecifierReaders.{specifiers}
 
 -- ---- what stands behind
 

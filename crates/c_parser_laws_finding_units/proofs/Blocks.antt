@@ -2,6 +2,7 @@
 use Rattle.std.proofs.Common.{◌≡◌, ℕ, zero, suc, ◌+◌, ◌≤◌, ◌<◌, Bool, true, false, not, List, [], ◌∷◌, length, Some, refl, arith, sym, ap, ◌∙◌}
 use Rattle.cc_base.specs.declared.diagnostics.Place.{Place}
 use Rattle.c_layout.specs.DeclarationTrees.{StatementTree, StatementTrees, Declaration, Label, Case, Default, Block, Expression, If, IfElse, Switch, While, Do, For, Goto, Continue, Break, Return, NoStatement, MoreStatements, statement_trees}
+use Rattle.c_parser_expressions.specs.TypeNameReaders.{readers_inside}
 use Rattle.c_parser_tokens.specs.declared.terminals.Punctuator.TheVariants as p
 use Rattle.c_parser_tokens.specs.declared.terminals.Symbol.TheVariants as symbol
 use Rattle.c_parser_tokens.specs.declared.terminals.Terminal.{Terminal}
@@ -12,12 +13,11 @@ use Rattle.c_parser_laws_expressions.proofs.Levels.{below}
 use Rattle.c_parser_expressions.specs.Readings.{is_left_brace}
 use Rattle.c_parser_laws_finding.proofs.Shrinking.{length_behind}
 use Rattle.c_parser_laws_finding.proofs.Takes.{takes}
-use Rattle.c_parser_laws_finding_declarations.specs.Items.{item_of}
-use Rattle.c_parser_laws_finding_declarations.specs.DeclaratorReaders.{readers_inside}
+use Rattle.c_parser_declarations.specs.Items.{item_of}
 use Rattle.c_parser_laws_finding_declarations.proofs.Beginnings.{word_takes}
 use Rattle.c_parser_laws_finding_declarations.proofs.Named.{name_takes}
 use Rattle.c_parser_laws_finding_units.specs.Found.{StatementEnds}
-use Rattle.c_parser_laws_finding_units.specs.StatementReaders.{block_item, block_items, block, block_statement, other_statement, statement, statement_inside}
+use Rattle.c_parser.specs.StatementReaders.{block_item, block_items, block, block_statement, other_statement, statement, statement_inside}
 use Rattle.c_parser_laws_finding_units.proofs.Fronts.{item_front, local_front, condition_shrinks, clauses_shrink, statement_count, statement_takes, statements_few}
 use Rattle.c_parser_laws_finding_units.proofs.Statements.{Body, Answer, local_read, by_symbol, label_read, case_read, default_read, if_read, if_else_read, switch_read, while_read, do_read, for_read, goto_read, continue_read, break_read, return_read, value_read}
 

@@ -18,11 +18,11 @@ use Rattle.c_parser_laws_expressions.proofs.Levels.{below}
 use Rattle.c_parser_expressions.specs.Readings.{is_comma, is_left_brace}
 use Rattle.c_parser_laws_finding.proofs.Shrinking.{length_behind}
 use Rattle.c_parser_laws_finding.proofs.Stars.{stars_few}
-use Rattle.c_parser_laws_finding_declarations.specs.DeclarationReaders.{file_declarator, initialized}
+use Rattle.c_parser_declarations.specs.DeclarationReaders.{file_declarator, initialized}
 use Rattle.c_parser_laws_finding_declarations.specs.Found.{is_end, DeclaratorEnds, BareEnds, SpecEnds, is_comma_or_semicolon, DeclaredEnds}
-use Rattle.c_parser_laws_finding_declarations.specs.Items.{Item, GotItem, item_of, after_item, one_more}
-use Rattle.c_parser_laws_finding_declarations.specs.ParameterReaders.{words_list}
-use Rattle.c_parser_laws_finding_declarations.specs.SpecifierReaders.{is_semicolon}
+use Rattle.c_parser_declarations.specs.Items.{Item, GotItem, item_of, after_item, one_more}
+use Rattle.c_parser_declarations.specs.ParameterReaders.{words_list}
+use Rattle.c_parser_declarations.specs.SpecifierReaders.{is_semicolon}
 use Rattle.c_parser_laws_finding_declarations.proofs.Beginnings.{declarator_ends_words, end_ends_words, word_takes}
 use Rattle.c_parser_laws_finding_declarations.proofs.Declarations.{bare_found, prototype_found, initialized_found}
 use Rattle.c_parser_laws_finding_declarations.proofs.Initializers.{initializer_takes}
@@ -30,8 +30,8 @@ use Rattle.c_parser_laws_finding_declarations.proofs.Lists.{listed_few}
 use Rattle.c_parser_laws_finding_declarations.proofs.Named.{name_takes, named_takes, declarator_begins}
 use Rattle.c_parser_laws_finding_declarations.proofs.Parameters.{words_back, spec_takes, parameter_takes}
 use Rattle.c_parser_laws_finding_declarations.proofs.Specifiers.{specifiers_found}
-use Rattle.c_parser_laws_finding_units.specs.StatementReaders.{block, statement_inside}
-use Rattle.c_parser_laws_finding_units.specs.UnitReaders.{no_declarator, completed, further, declarators_behind, declaration, definition, behind_declarator, behind_specifiers, external}
+use Rattle.c_parser.specs.StatementReaders.{block, statement_inside}
+use Rattle.c_parser.specs.UnitReaders.{no_declarator, completed, further, declarators_behind, declaration, definition, behind_declarator, behind_specifiers, external}
 use Rattle.c_parser_laws_finding_units.proofs.Blocks.{block_found}
 
 -- ---- what declarators at file scope take and begin with

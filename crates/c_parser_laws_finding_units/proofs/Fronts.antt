@@ -24,13 +24,13 @@ use Rattle.c_parser_expressions.specs.Readings.{is_right_brace, is_colon}
 use Rattle.c_parser_laws_finding.proofs.Begins.{no_specifiers, no_right_brace}
 use Rattle.c_parser_laws_finding.proofs.Shrinking.{length_behind}
 use Rattle.c_parser_laws_finding.proofs.Takes.{takes}
-use Rattle.c_parser_laws_finding_declarations.specs.SpecifierReaders.{is_semicolon}
+use Rattle.c_parser_declarations.specs.SpecifierReaders.{is_semicolon}
 use Rattle.c_parser_laws_finding_declarations.proofs.Beginnings.{spec_front, word_takes}
 use Rattle.c_parser_laws_finding_declarations.proofs.Declarations.{local_takes}
 use Rattle.c_parser_laws_finding_declarations.proofs.Lists.{listed_few}
 use Rattle.c_parser_laws_finding_declarations.proofs.Named.{name_takes}
 use Rattle.c_parser_laws_finding_declarations.proofs.Parameters.{spec_takes}
-use Rattle.c_parser_laws_finding_units.specs.StatementReaders.{is_label}
+use Rattle.c_parser.specs.StatementReaders.{is_label}
 
 -- ---- expressions
 

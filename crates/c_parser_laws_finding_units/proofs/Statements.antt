@@ -17,17 +17,16 @@ use Rattle.c_parser.specs.Statements.{Maybe, Condition, FirstClause, maybe_heigh
 use Rattle.c_parser_laws_expressions.proofs.Levels.{ends_at, below}
 use Rattle.c_parser_expressions.specs.Readings.{is_left_brace, is_right_parenthesis}
 use Rattle.c_parser_expressions.specs.ExpressionReaders.{Readers}
-use Rattle.c_parser_expressions.specs.TypeNameReaders.{names_of}
+use Rattle.c_parser_expressions.specs.TypeNameReaders.{names_of, readers_inside}
 use Rattle.c_parser_laws_finding.proofs.Begins.{no_specifiers, no_left_brace, no_parenthesis}
 use Rattle.c_parser_laws_finding.proofs.Lifts.{found_inside}
 use Rattle.c_parser_laws_finding.proofs.TypeNames.{all_expressions_found}
-use Rattle.c_parser_laws_finding_declarations.specs.Items.{Item, item_of}
-use Rattle.c_parser_laws_finding_declarations.specs.DeclaratorReaders.{readers_inside}
-use Rattle.c_parser_laws_finding_declarations.specs.SpecifierReaders.{is_semicolon}
+use Rattle.c_parser_declarations.specs.Items.{Item, item_of}
+use Rattle.c_parser_declarations.specs.SpecifierReaders.{is_semicolon}
 use Rattle.c_parser_laws_finding_declarations.proofs.Declarations.{local_declaration_found}
 use Rattle.c_parser_laws_finding_declarations.proofs.Declarators.{name_is}
 use Rattle.c_parser_laws_finding_declarations.proofs.Enumerators.{identifier_first}
-use Rattle.c_parser_laws_finding_units.specs.StatementReaders.{condition, optional_expression, local_inside, for_first, value_statement, is_label, statement_by, statement, statement_inside}
+use Rattle.c_parser.specs.StatementReaders.{condition, optional_expression, local_inside, for_first, value_statement, is_label, statement_by, statement, statement_inside}
 use Rattle.c_parser_laws_finding_units.proofs.Fronts.{is_odd, no_odd, no_semicolon, no_label, local_front}
 
 -- ---- what statements are made of besides statements

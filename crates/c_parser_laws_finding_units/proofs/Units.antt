@@ -1,5 +1,5 @@
 -- Pieces and units are found, and a piece that is not read has no derivation.
-use Rattle.std.proofs.Common.{◌≡◌, ℕ, zero, suc, ◌+◌, ◌-◌, ◌≤◌, ◌<◌, Bool, true, false, List, [], ◌∷◌, take, drop, length, Option, Some, None, if◌then◌else◌, Result, Ok, refl, arith, sym, subst, ◌∙◌}
+use Rattle.std.proofs.Common.{◌≡◌, ℕ, zero, suc, ◌+◌, ◌-◌, ◌≤◌, ◌<◌, Bool, true, false, List, [], ◌∷◌, take, drop, length, Option, Some, None, if◌then◌else◌, Result, Ok, inl, inr, refl, arith, sym, subst, ◌∙◌}
 use Rattle.cc_base.specs.declared.lexemes.Token.{Token}
 use Rattle.c_layout.specs.declared.data_model.Model.{Model}
 use Rattle.std.proofs.lemmas.List.{length-take, length-drop}
@@ -8,9 +8,14 @@ use Rattle.c_parser_tokens.specs.Classes.{classified}
 use Rattle.c_parser_tokens.specs.declared.terminals.Terminal.{Terminal}
 use Rattle.c_parser.specs.Externals.{in_force, in_force_behind, IsExternal, IsPiece, ArePieces, IsUnit}
 use Rattle.c_parser.specs.Pieces.{begun, behind, length_from, piece_length}
-use Rattle.c_parser_laws.specs.FirstRefusals.{IsRefusedAt}
+use Rattle.c_parser.specs.FirstRefusals.{IsRefusedAt, StopsFirst}
+use Rattle.c_parser.specs.UnitResults.{StopsUnread}
+use Rattle.cc_base.specs.declared.refusals.Stop.{Stop}
+use Rattle.cc_base.specs.declared.refusals.Stop.TheVariants as stop
+use Rattle.c_parser_laws.proofs.Uniting.{no_tree}
+use Rattle.c_parser_laws_finding_declarations.specs.Found.{HasRoom}
 use Rattle.c_parser_laws_finding_declarations.proofs.Beginnings.{spec_front}
-use Rattle.c_parser_laws_finding_units.specs.UnitReaders.{piece, pieces, unit, unread_pieces, unread}
+use Rattle.c_parser.specs.UnitReaders.{piece, pieces, unit, unread_pieces, unread}
 use Rattle.c_parser_laws_finding_units.proofs.Externals.{external_found}
 
 -- ---- pieces
@@ -126,3 +131,13 @@ refused before ts rest all some room none =
     let few = before_few before [] ts rest all in
     let has = not_empty rest some in
     (record { before = before; derive = all; some = some; none = λ e is. some_none (piece_found (in_force_behind [] before) e (take (piece_length rest) rest) is (omega arith)) none }, read_to before [] (length ts) ts rest all some room (omega arith) none)
+
+pub stops_first : (ts : List Terminal) (e : Stop) → HasRoom 256 ts → StopsUnread ts e → StopsFirst ts e
+stops_first ts e room (inl memory) = inl memory
+stops_first ts e room (inr u) =
+    let here = refused u.before ts (u.first ∷ u.more) u.derive (λ n. absurd (cc n)) room u.none in inr (record { first = u.first; more = u.more; refused = here.0; stops = u.stops })
+
+pub stops_never : (model : Model) (tokens : List Token) (ts : List Terminal) (es : List ExternalTree) (e : Stop) → classified model tokens ≡ Ok ts → IsUnit model tokens es → HasRoom 256 ts → StopsUnread ts e → e ≡ stop.Memory
+stops_never model tokens ts es e is unit room (inl memory) = memory
+stops_never model tokens ts es e is unit room (inr u) =
+    let here = refused u.before ts (u.first ∷ u.more) u.derive (λ n. absurd (cc n)) room u.none in absurd (no_tree model tokens ts (u.first ∷ u.more) es is here.0 unit)

@@ -2,6 +2,8 @@
 -- may stand behind them.
 use Rattle.std.specs.Prelude.{◌≡◌, ◌≤◌, ℕ, true, false, List, [], take, Some, None, Ok}
 use Rattle.cc_base.specs.declared.lexemes.Token.{Token}
+use Rattle.cc_base.specs.declared.refusals.Stop.{Stop}
+use Rattle.cc_base.specs.declared.refusals.Stop.TheVariants as stop
 use Rattle.c_layout.specs.declared.data_model.Model.{Model}
 use Rattle.c_layout.specs.DeclarationTrees.{StatementTree, ExternalTree, statement_trees}
 use Rattle.c_parser_tokens.specs.Classes.{classified}
@@ -11,11 +13,12 @@ use Rattle.c_parser.specs.Externals.{in_force_behind, IsExternal, external_heigh
 use Rattle.c_parser.specs.Findings.{is_else}
 use Rattle.c_parser.specs.Pieces.{piece_length}
 use Rattle.c_parser.specs.Statements.{is_statement, is_open, DeriveStatement, statement_height, IsBlock, block_height}
-use Rattle.c_parser_laws.specs.FirstRefusals.{IsRefusedAt}
+use Rattle.c_parser.specs.FirstRefusals.{IsRefusedAt, StopsFirst}
+use Rattle.c_parser.specs.UnitResults.{StopsUnread}
 use Rattle.c_parser_laws_finding_declarations.specs.Found.{HasRoom}
-use Rattle.c_parser_laws_finding_declarations.specs.Items.{item_of}
-use Rattle.c_parser_laws_finding_units.specs.StatementReaders.{statement, statement_inside, block}
-use Rattle.c_parser_laws_finding_units.specs.UnitReaders.{external, piece, unit, unread}
+use Rattle.c_parser_declarations.specs.Items.{item_of}
+use Rattle.c_parser.specs.StatementReaders.{statement, statement_inside, block}
+use Rattle.c_parser.specs.UnitReaders.{external, piece, unit, unread}
 
 -- no `else` stands behind a statement that would take it
 abbrev pub StatementEnds : StatementTree → List Terminal → Type 0
@@ -42,3 +45,11 @@ FindsUnits = (model : Model) (tokens : List Token) (ts : List Terminal) (es : Li
 abbrev pub RefusesRightly : Type 0
 RefusesRightly =
     (before : List ExternalTree) (ts rest : List Terminal) → ArePieces before [] ts rest → (rest ≡ [] → ⊥) → HasRoom 256 ts → piece (in_force_behind [] before) (take (piece_length rest) rest) ≡ None → IsRefusedAt ts rest × (unread ts ≡ rest)
+
+-- where the readers stop, the grammar stops: at the first piece that has no derivation
+abbrev pub StopsRightly : Type 0
+StopsRightly = (ts : List Terminal) (e : Stop) → HasRoom 256 ts → StopsUnread ts e → StopsFirst ts e
+
+-- where there is a tree, they stop for want of memory alone
+abbrev pub FindsTheTree : Type 0
+FindsTheTree = (model : Model) (tokens : List Token) (ts : List Terminal) (es : List ExternalTree) (e : Stop) → classified model tokens ≡ Ok ts → IsUnit model tokens es → HasRoom 256 ts → StopsUnread ts e → e ≡ stop.Memory

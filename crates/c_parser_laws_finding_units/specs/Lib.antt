@@ -1,3 +1,1 @@
-pub mod StatementReaders
-pub mod UnitReaders
 pub mod Found

@@ -1,6 +1,6 @@
 //! Whatever derives by the grammar of statements and units is found by the readers as definitions.
 ghost use Rattle.std.specs.Prelude.{ℕ, List};
-ghost use Rattle.c_parser_laws_finding_units.specs.Found.{FindsStatements, FindsBlocks, FindsExternals, FindsUnits, RefusesRightly};
+ghost use Rattle.c_parser_laws_finding_units.specs.Found.{FindsStatements, FindsBlocks, FindsExternals, FindsUnits, RefusesRightly, StopsRightly, FindsTheTree};
 
 /// Each statement that derives, of a height within the budget, is what the reader answers, with its height and what is
 /// left, where no `else` stands behind one that ends in an `if` without it; and so is each block, whatever stands
@@ -25,4 +25,11 @@ pub fn units_are_found()
 /// readers stop there.
 pub fn refused_pieces_have_no_derivation()
     ensures { RefusesRightly }
+{}
+
+/// What `parse` ensures where it reads no unit is `Syntax` at the first token of the first piece that has no derivation,
+/// or want of memory; where the unit has a tree, it is want of memory.
+pub fn parse_is_exact()
+    ensures first { StopsRightly }
+    ensures found { FindsTheTree }
 {}

@@ -1,5 +1,5 @@
 use Rattle.c_parser.proofs.Jumps.{continue_found}
 use Rattle.c_parser.proofs.jump_statements.continue_statement.Goals as goal
 
-pub returns : goal.returns
-returns c = continue_found c.in_ok-place.ensures.place c.in_ok-place.ensures.word c.in_ok-expect.ensures.sign c.continue_node-tree.ensures c.in_ok-height.ensures.0 c.in_ok-height.ensures.1
+pub returns-clause-found : goal.returns-clause-found
+returns-clause-found c = continue_found c.in_ok-place.ensures.place c.in_ok-place.ensures.word c.in_ok-expect.ensures.sign c.continue_node-tree.ensures c.in_ok-height.ensures.height.0 c.in_ok-height.ensures.height.1

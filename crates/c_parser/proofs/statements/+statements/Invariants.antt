@@ -1,6 +1,8 @@
-use Rattle.std.proofs.Common.{◌+◌, ◌*◌, map}
+use Rattle.std.proofs.Common.{◌+◌, ◌*◌, map, length}
 use Rattle.c_layout.specs.DeclarationTrees.{statement_tree}
 use Rattle.c_parser.specs.Findings.{FoundItems}
+use Rattle.c_parser.specs.StatementReaders.{item_within, block_items}
+use Rattle.c_parser.proofs.Turns.{ItemsLeft}
 use Rattle.c_parser.proofs.statements.+statements.Given as goal
 
 abbrev pub decreases-body : goal.decreases-body
@@ -49,4 +51,9 @@ abbrev pub decreases-items : goal.decreases-items
 decreases-items l = 8 * l.budget + 5
 
 abbrev pub invariant-items-loop-turn : goal.invariant-items-loop-turn
-invariant-items-loop-turn l = FoundItems l.scope.typedefs.now l.budget (map statement_tree l.found.items) l.height l.fn.reader l.reader
+invariant-items-loop-turn l = record {
+  found : FoundItems l.scope.typedefs.now l.budget (map statement_tree l.found.items) l.height l.fn.reader l.reader;
+  read :
+      ItemsLeft (item_within l.scope.typedefs.now l.budget) (length l.fn.reader) l._turn (map statement_tree l.found.items) l.height l.reader
+      (block_items (item_within l.scope.typedefs.now l.budget) (length l.fn.reader) l.fn.reader);
+}

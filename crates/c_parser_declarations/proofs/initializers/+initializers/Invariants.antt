@@ -1,6 +1,9 @@
-use Rattle.std.proofs.Common.{◌+◌, ◌*◌, map}
+use Rattle.std.proofs.Common.{◌+◌, ◌*◌, map, length}
 use Rattle.c_layout.specs.DeclarationTrees.{initializer_tree}
 use Rattle.c_parser_declarations.specs.Findings.{FoundSome}
+use Rattle.c_parser_declarations.specs.InitializerReaders.{initializer}
+use Rattle.c_parser_declarations.specs.Items.{braced}
+use Rattle.c_parser_declarations.proofs.Turns.{BracedLeft}
 use Rattle.c_parser_declarations.proofs.initializers.+initializers.Given as goal
 
 abbrev pub decreases-initializer : goal.decreases-initializer
@@ -10,4 +13,9 @@ abbrev pub decreases-initializer_list : goal.decreases-initializer_list
 decreases-initializer_list l = 4 * l.budget + 1
 
 abbrev pub invariant-initializer_list-loop-turn : goal.invariant-initializer_list-loop-turn
-invariant-initializer_list-loop-turn l = FoundSome l.scope.typedefs.now l.budget (map initializer_tree l.found.items) l.height l.fn.reader l.reader
+invariant-initializer_list-loop-turn l = record {
+  found : FoundSome l.scope.typedefs.now l.budget (map initializer_tree l.found.items) l.height l.fn.reader l.reader;
+  read :
+      BracedLeft (initializer l.scope.typedefs.now l.budget) (length l.fn.reader) l._turn (map initializer_tree l.found.items) l.height l.reader
+      (braced (initializer l.scope.typedefs.now l.budget) (length l.fn.reader) l.fn.reader);
+}

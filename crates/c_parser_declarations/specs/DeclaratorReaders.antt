@@ -5,9 +5,9 @@ use Rattle.c_parser_tokens.specs.declared.terminals.Terminal.{Terminal}
 use Rattle.c_parser_expressions.specs.Fronts.{first_symbol, first_place, first_text, behind_first, is_identifier_first}
 use Rattle.c_parser_expressions.specs.TypeNames.{is_one_star}
 use Rattle.c_parser_expressions.specs.Readings.{Reading, is_left_parenthesis, is_right_parenthesis, is_left_bracket, is_right_bracket}
-use Rattle.c_parser_expressions.specs.ExpressionReaders.{Readers, inside}
-use Rattle.c_parser_expressions.specs.TypeNameReaders.{stars, names_of}
-use Rattle.c_parser_laws_finding_declarations.specs.Items.{Item, GotItem, item_of, after_item, listed}
+use Rattle.c_parser_expressions.specs.ExpressionReaders.{Readers}
+use Rattle.c_parser_expressions.specs.TypeNameReaders.{stars, readers_inside}
+use Rattle.c_parser_declarations.specs.Items.{Item, GotItem, item_of, after_item, listed}
 
 -- ---- brackets
 
@@ -116,6 +116,13 @@ closed b g = cond (is_right_parenthesis (first_symbol g.rest)) (closed_at g (beh
 abbrev pub name_at : List Terminal → NameView
 name_at ts = record { at = first_place ts; text = first_text ts }
 
+-- one in parentheses
+abbrev pub enclosed : ℕ → (List Terminal → Option GotParts) → List Terminal → Option GotParts
+enclosed b d ts = cond (is_left_parenthesis (first_symbol ts)) (after_parts (d (behind_first ts)) (closed b)) None
+
+abbrev pub named_core : List (List ℕ) → List Terminal → Option GotParts
+named_core known ts = cond (is_identifier_first known ts) (Some (parts_of [] (Some (name_at ts)) 0 (behind_first ts))) None
+
 abbrev pub core : List (List ℕ) → ℕ → (List Terminal → Option GotParts) → List Terminal → Option GotParts
 core known b d ts =
     cond (is_left_parenthesis (first_symbol ts)) (after_parts (d (behind_first ts)) (closed b))
@@ -128,19 +135,14 @@ behind_stars known b i d qs ts =
 abbrev pub any_declarator : List (List ℕ) → ℕ → Readers → (List Terminal → Option GotParts) → List Terminal → Option GotParts
 any_declarator known b i d ts = behind_stars known b i d (stars (length ts) ts).stars (stars (length ts) ts).rest
 
--- the readers of expressions of what stands inside
-abbrev pub readers_inside : List (List ℕ) → ℕ → Readers
-readers_inside known b = inside (names_of known) known b
-
--- a declarator or an abstract one, within a budget
-abbrev pub declarators : List (List ℕ) → ℕ → List Terminal → Option GotParts
-declarators known zero = any_declarator known zero (readers_inside known zero) (λ ts. None)
-declarators known (suc b) = any_declarator known (suc b) (readers_inside known (suc b)) (declarators known b)
-
 -- the reader of declarators inside
 abbrev pub declarators_inside : List (List ℕ) → ℕ → List Terminal → Option GotParts
 declarators_inside known zero = λ ts. None
-declarators_inside known (suc b) = declarators known b
+declarators_inside known (suc b) = any_declarator known b (readers_inside known b) (declarators_inside known b)
+
+-- a declarator or an abstract one, within a budget
+abbrev pub declarators : List (List ℕ) → ℕ → List Terminal → Option GotParts
+declarators known b = any_declarator known b (readers_inside known b) (declarators_inside known b)
 
 -- a declarator or an abstract one as a whole
 abbrev pub whole : GotParts → Option (GotItem DeclaratorView)

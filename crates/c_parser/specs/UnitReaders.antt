@@ -1,5 +1,5 @@
 -- The readers of external declarations (6.9), pieces and units as definitions.
-use Rattle.std.specs.Prelude.{ℕ, zero, suc, Bool, cond, max, length, List, [], ◌∷◌, take, drop, Option, Some, None}
+use Rattle.std.specs.Prelude.{ℕ, zero, suc, Bool, cond, max, length, List, [], ◌∷◌, ◌++◌, take, drop, Option, Some, None}
 use Rattle.cc_base.specs.declared.diagnostics.Place.{Place}
 use Rattle.c_layout.specs.DeclarationTrees.{SpecTrees, StatementTree, FunctionDeclaratorView, InitDeclaratorView, Object, Initialized, Prototype, ExternalTree, Declared, Defined}
 use Rattle.c_parser_tokens.specs.declared.terminals.Terminal.{Terminal}
@@ -8,21 +8,24 @@ use Rattle.c_parser_declarations.specs.StorageClasses.{is_typedef}
 use Rattle.c_parser.specs.Externals.{with_declared, in_force}
 use Rattle.c_parser.specs.Pieces.{piece_length}
 use Rattle.c_parser_expressions.specs.Readings.{is_comma, is_left_brace}
-use Rattle.c_parser_laws_finding_declarations.specs.Items.{Item, GotItem, item_of, after_item, one_more}
-use Rattle.c_parser_laws_finding_declarations.specs.DeclarationReaders.{file_declarator, initialized}
-use Rattle.c_parser_laws_finding_declarations.specs.ParameterReaders.{words_list}
-use Rattle.c_parser_laws_finding_declarations.specs.SpecifierReaders.{raised, is_semicolon, specifiers}
-use Rattle.c_parser_laws_finding_units.specs.StatementReaders.{block, statement_inside}
+use Rattle.c_parser_declarations.specs.Items.{Item, GotItem, item_of, after_item, one_more}
+use Rattle.c_parser_declarations.specs.DeclarationReaders.{file_declarator, initialized}
+use Rattle.c_parser_declarations.specs.ParameterReaders.{words_list}
+use Rattle.c_parser_declarations.specs.SpecifierReaders.{raised, is_semicolon, specifiers}
+use Rattle.c_parser.specs.StatementReaders.{block, statement_inside}
 
 -- ---- declarations. `b` is the budget of what stands inside, `gives` says that declarators give typedef names.
 
 abbrev pub no_declarator : Item (List InitDeclaratorView)
 no_declarator ts = cond (is_semicolon (first_symbol ts)) (Some (item_of [] 0 (behind_first ts))) None
 
--- a declarator with its initializer, in which its own name may be in force, and what is read behind both
+-- a declarator with its initializer, and what is read behind both, with these names in force
+abbrev pub completed_with : ℕ → List (List ℕ) → (List (List ℕ) → Item (List InitDeclaratorView)) → GotItem InitDeclaratorView → Option (GotItem (List InitDeclaratorView))
+completed_with b named more d = after_item (initialized named b d) (λ x. after_item (more named x.rest) (one_more x))
+
+-- the declarator's own name may be in force in its initializer
 abbrev pub completed : Bool → ℕ → List (List ℕ) → (List (List ℕ) → Item (List InitDeclaratorView)) → GotItem InitDeclaratorView → Option (GotItem (List InitDeclaratorView))
-completed gives b known more d =
-    after_item (initialized (with_declared gives known d.item) b d) (λ x. after_item (more (with_declared gives known d.item) x.rest) (one_more x))
+completed gives b known more d = completed_with b (with_declared gives known d.item) more d
 
 -- the declarators behind the first one, each behind a comma, with the `;`
 abbrev pub further : Bool → ℕ → ℕ → List (List ℕ) → Item (List InitDeclaratorView)
@@ -30,13 +33,21 @@ further gives b zero known ts = no_declarator ts
 further gives b (suc turns) known ts =
     cond (is_comma (first_symbol ts)) (after_item (file_declarator known b (behind_first ts)) (completed gives b known (further gives b turns))) (no_declarator ts)
 
--- all of them, behind the first one without its initializer
+-- all of them, behind the first one without its initializer, whose name is in force already
+abbrev pub declarators_named : Bool → ℕ → List (List ℕ) → GotItem InitDeclaratorView → Option (GotItem (List InitDeclaratorView))
+declarators_named gives b named d = completed_with b named (λ names ts. further gives b (length ts) names ts) d
+
 abbrev pub declarators_behind : Bool → ℕ → List (List ℕ) → GotItem InitDeclaratorView → Option (GotItem (List InitDeclaratorView))
-declarators_behind gives b known d = completed gives b known (λ names ts. further gives b (length ts) names ts) d
+declarators_behind gives b known d = declarators_named gives b (with_declared gives known d.item) d
+
+abbrev pub declaration_of : ℕ → Place → GotItem SpecTrees → GotItem (List InitDeclaratorView) → Option (GotItem ExternalTree)
+declaration_of b at ws ds = raised (suc b) (Declared at (words_list ws.item) ds.item) (max ws.height ds.height) ds.rest
+
+abbrev pub declaration_named : ℕ → List (List ℕ) → Place → GotItem SpecTrees → GotItem InitDeclaratorView → Option (GotItem ExternalTree)
+declaration_named b named at ws d = after_item (declarators_named (is_typedef (words_list ws.item)) b named d) (declaration_of b at ws)
 
 abbrev pub declaration : ℕ → List (List ℕ) → Place → GotItem SpecTrees → GotItem InitDeclaratorView → Option (GotItem ExternalTree)
-declaration b known at ws d =
-    after_item (declarators_behind (is_typedef (words_list ws.item)) b known d) (λ ds. raised (suc b) (Declared at (words_list ws.item) ds.item) (max ws.height ds.height) ds.rest)
+declaration b known at ws d = declaration_named b (with_declared (is_typedef (words_list ws.item)) known d.item) at ws d
 
 -- ---- definitions of functions
 
@@ -107,3 +118,20 @@ unread_pieces (suc turns) known (t ∷ ts) =
 
 abbrev pub unread : List Terminal → List Terminal
 unread ts = unread_pieces (length ts) [] ts
+
+-- ---- within a budget of its own
+
+-- what is read within a budget of one less, if there is one
+abbrev pub within : {X : Type 0} → ℕ → (ℕ → Option X) → Option X
+within zero read = None
+within (suc b) read = read b
+
+abbrev pub definition_within : ℕ → List (List ℕ) → Place → GotItem SpecTrees → InitDeclaratorView → ℕ → Item ExternalTree
+definition_within b known at ws (Prototype f) h ts = within b (λ c. definition_of c known at ws (Prototype f) h ts)
+definition_within b known at ws (Object d) h ts = None
+definition_within b known at ws (Initialized d equals i) h ts = None
+
+-- items behind others that were read
+abbrev pub behind_items : {X : Type 0} → List X → Option (GotItem (List X)) → Option (GotItem (List X))
+behind_items xs None = None
+behind_items xs (Some g) = Some (item_of (xs ++ g.item) g.height g.rest)

@@ -5,9 +5,9 @@ use Rattle.c_layout.specs.DeclarationTrees.{NameView, DeclaratorView, ParameterV
 use Rattle.c_parser_expressions.specs.Fronts.{first_symbol, first_place, behind_first, is_identifier_first}
 use Rattle.c_parser_declarations.specs.Declarations.{begins_declarator, is_void_first}
 use Rattle.c_parser_expressions.specs.Readings.{is_left_parenthesis, is_right_parenthesis}
-use Rattle.c_parser_laws_finding_declarations.specs.Items.{Item, GotItem, item_of, after_item, listed}
-use Rattle.c_parser_laws_finding_declarations.specs.DeclaratorReaders.{above, name_at, parameter_declarator}
-use Rattle.c_parser_laws_finding_declarations.specs.SpecifierReaders.{raised, at_height, specifiers}
+use Rattle.c_parser_declarations.specs.Items.{Item, GotItem, item_of, after_item, listed}
+use Rattle.c_parser_declarations.specs.DeclaratorReaders.{above, name_at, parameter_declarator}
+use Rattle.c_parser_declarations.specs.SpecifierReaders.{raised, at_height, specifiers}
 
 abbrev pub words_list : SpecTrees → List SpecTree
 words_list NoWord = []

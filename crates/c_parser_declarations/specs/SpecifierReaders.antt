@@ -15,8 +15,9 @@ use Rattle.c_parser_expressions.specs.TypeNames.{type_word_of, is_qualifier, is_
 use Rattle.c_parser_declarations.specs.Specifiers.{counts_of}
 use Rattle.c_parser_declarations.specs.StorageClasses.{storage_class}
 use Rattle.c_parser_expressions.specs.Readings.{Reading, is_left_brace}
-use Rattle.c_parser_laws_finding_declarations.specs.Items.{Item, GotItem, item_of, after_item, braced, chained}
-use Rattle.c_parser_laws_finding_declarations.specs.DeclaratorReaders.{readers_inside, name_at, above, declarator_list}
+use Rattle.c_parser_expressions.specs.TypeNameReaders.{readers_inside}
+use Rattle.c_parser_declarations.specs.Items.{Item, GotItem, item_of, after_item, braced, chained}
+use Rattle.c_parser_declarations.specs.DeclaratorReaders.{name_at, above, declarator_list}
 
 -- a tree above parts of a height, within the budget
 abbrev pub raised : {X : Type 0} → ℕ → X → ℕ → List Terminal → Option (GotItem X)
@@ -94,6 +95,14 @@ plain_by ts w (Some named) class = plain (TypeOf (first_place ts) named) ts
 plain_by ts w None (Some class) = plain (StorageWord (first_place ts) class) ts
 plain_by ts w None None = cond (is_qualifier w) (plain (Qualifier (first_place ts)) ts) None
 
+-- a word without parts, or a typedef name
+abbrev pub simple_by : List (List ℕ) → List Terminal → Symbol → Option (GotItem SpecTree)
+simple_by known ts (symbol.Keyword w) = plain_by ts w (type_word_of w) (storage_class w)
+simple_by known ts _ = cond (is_typedef_first known ts) (plain (TypedefName (name_at ts)) ts) None
+
+abbrev pub simple_word : List (List ℕ) → Item SpecTree
+simple_word known ts = simple_by known ts (first_symbol ts)
+
 abbrev pub keyword_word : List (List ℕ) → ℕ → Item MemberTree → List Terminal → Keyword → Option (GotItem SpecTree)
 keyword_word known b m ts k.Struct = structure known b m ts
 keyword_word known b m ts k.Enum = enumeration known b ts
@@ -163,14 +172,13 @@ no_specifiers = record { specifiers = λ ts. None; member = λ ts. None }
 abbrev pub readers_at : List (List ℕ) → ℕ → SpecifierReaders → SpecifierReaders
 readers_at known b i = record { specifiers = specifiers_by known b i.member; member = member_by b i.specifiers (declarators_of_members known b) }
 
-abbrev pub specifier_readers : List (List ℕ) → ℕ → SpecifierReaders
-specifier_readers known zero = readers_at known zero no_specifiers
-specifier_readers known (suc b) = readers_at known (suc b) (specifier_readers known b)
-
 -- those of what stands inside
 abbrev pub specifiers_inside : List (List ℕ) → ℕ → SpecifierReaders
 specifiers_inside known zero = no_specifiers
-specifiers_inside known (suc b) = specifier_readers known b
+specifiers_inside known (suc b) = readers_at known b (specifiers_inside known b)
+
+abbrev pub specifier_readers : List (List ℕ) → ℕ → SpecifierReaders
+specifier_readers known b = readers_at known b (specifiers_inside known b)
 
 -- the specifiers within a budget
 abbrev pub specifiers : List (List ℕ) → ℕ → Item SpecTrees

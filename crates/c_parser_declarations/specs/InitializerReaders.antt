@@ -5,7 +5,7 @@ use Rattle.c_parser_tokens.specs.declared.terminals.Terminal.{Terminal}
 use Rattle.c_parser_expressions.specs.Fronts.{first_symbol, first_place, behind_first}
 use Rattle.c_parser_expressions.specs.Readings.{Reading, is_left_brace}
 use Rattle.c_parser_expressions.specs.TypeNameReaders.{all_readers}
-use Rattle.c_parser_laws_finding_declarations.specs.Items.{Item, GotItem, item_of, after_item, braced}
+use Rattle.c_parser_declarations.specs.Items.{Item, GotItem, item_of, after_item, braced}
 
 abbrev pub value_of : Reading → Option (GotItem InitializerTree)
 value_of None = None
@@ -19,6 +19,10 @@ abbrev pub initializer_by : List (List ℕ) → ℕ → Item InitializerTree →
 initializer_by known b inside ts =
     cond (is_left_brace (first_symbol ts)) (after_item (braced inside (length (behind_first ts)) (behind_first ts)) (in_braces b ts)) (value_of ((all_readers known b).assignment ts))
 
+-- the reader of what stands in braces
+abbrev pub initializer_inside : List (List ℕ) → ℕ → Item InitializerTree
+initializer_inside known zero = λ ts. None
+initializer_inside known (suc b) = initializer_by known b (initializer_inside known b)
+
 abbrev pub initializer : List (List ℕ) → ℕ → Item InitializerTree
-initializer known zero = initializer_by known zero (λ ts. None)
-initializer known (suc b) = initializer_by known (suc b) (initializer known b)
+initializer known b = initializer_by known b (initializer_inside known b)

@@ -7,11 +7,11 @@ use Rattle.c_parser_expressions.specs.Fronts.{first_symbol, first_place, behind_
 use Rattle.c_parser_declarations.specs.Declarations.{is_local_word}
 use Rattle.c_parser_expressions.specs.Readings.{is_left_parenthesis}
 use Rattle.c_parser_expressions.specs.TypeNameReaders.{stars}
-use Rattle.c_parser_laws_finding_declarations.specs.Items.{Item, GotItem, item_of, after_item, listed}
-use Rattle.c_parser_laws_finding_declarations.specs.DeclaratorReaders.{named_declarator, declarator}
-use Rattle.c_parser_laws_finding_declarations.specs.InitializerReaders.{initializer}
-use Rattle.c_parser_laws_finding_declarations.specs.ParameterReaders.{function_declarator, words_list}
-use Rattle.c_parser_laws_finding_declarations.specs.SpecifierReaders.{raised, is_assign, is_semicolon, specifiers}
+use Rattle.c_parser_declarations.specs.Items.{Item, GotItem, item_of, after_item, listed}
+use Rattle.c_parser_declarations.specs.DeclaratorReaders.{named_declarator, declarator}
+use Rattle.c_parser_declarations.specs.InitializerReaders.{initializer}
+use Rattle.c_parser_declarations.specs.ParameterReaders.{function_declarator, words_list}
+use Rattle.c_parser_declarations.specs.SpecifierReaders.{raised, is_assign, is_semicolon, specifiers}
 
 -- ---- declarators at file scope
 

@@ -11,10 +11,11 @@ use Rattle.c_parser_expressions.specs.Fronts.{first_symbol, first_place, behind_
 use Rattle.c_parser.specs.Findings.{is_else}
 use Rattle.c_parser_expressions.specs.Readings.{Reading, is_left_parenthesis, is_right_parenthesis, is_left_brace, is_right_brace, is_colon}
 use Rattle.c_parser_expressions.specs.ExpressionReaders.{Readers}
-use Rattle.c_parser_laws_finding_declarations.specs.Items.{Item, GotItem, item_of, after_item, one_more}
-use Rattle.c_parser_laws_finding_declarations.specs.DeclarationReaders.{local_declaration}
-use Rattle.c_parser_laws_finding_declarations.specs.DeclaratorReaders.{readers_inside, name_at}
-use Rattle.c_parser_laws_finding_declarations.specs.SpecifierReaders.{raised, is_semicolon}
+use Rattle.c_parser_expressions.specs.TypeNameReaders.{readers_inside, all_readers}
+use Rattle.c_parser_declarations.specs.Items.{Item, GotItem, item_of, after_item, one_more}
+use Rattle.c_parser_declarations.specs.DeclarationReaders.{local_declaration}
+use Rattle.c_parser_declarations.specs.DeclaratorReaders.{name_at}
+use Rattle.c_parser_declarations.specs.SpecifierReaders.{raised, is_semicolon}
 
 -- ---- what statements are made of besides statements
 
@@ -48,11 +49,24 @@ abbrev pub local_inside : List (List ℕ) → ℕ → Item LocalView
 local_inside known zero = λ ts. None
 local_inside known (suc b) = local_declaration known b
 
+-- the first clause of a `for` without a declaration
+abbrev pub first_value : Readers → Item ForFirstView
+first_value i ts = after_item (optional_expression is_semicolon i ts) (λ e. Some (item_of (clause_of e.item) e.height e.rest))
+
+abbrev pub as_declares : GotItem LocalView → Option (GotItem ForFirstView)
+as_declares l = Some (item_of (Declares l.item) l.height l.rest)
+
+abbrev pub first_local : List (List ℕ) → ℕ → Item ForFirstView
+first_local known b ts = after_item (local_declaration known b ts) as_declares
+
 -- the first clause of a `for`, with its `;`
 abbrev pub for_first : List (List ℕ) → ℕ → Item ForFirstView
 for_first known b ts =
-    cond (begins_specifiers known ts) (after_item (local_inside known b ts) (λ l. Some (item_of (Declares l.item) l.height l.rest)))
-    (after_item (optional_expression is_semicolon (readers_inside known b) ts) (λ e. Some (item_of (clause_of e.item) e.height e.rest)))
+    cond (begins_specifiers known ts) (after_item (local_inside known b ts) as_declares) (first_value (readers_inside known b) ts)
+
+-- within a budget of its own
+abbrev pub for_first_within : List (List ℕ) → ℕ → Item ForFirstView
+for_first_within known b ts = cond (begins_specifiers known ts) (first_local known b ts) (first_value (all_readers known b) ts)
 
 -- ---- jumps and expression statements
 
@@ -125,9 +139,15 @@ for_statement known b i s ts = expected is_left_parenthesis (behind_first ts) (�
 
 -- ---- blocks
 
+abbrev pub as_declaration : GotItem LocalView → Option (GotItem StatementTree)
+as_declaration l = Some (item_of (Declaration l.item) l.height l.rest)
+
+abbrev pub declared_item : List (List ℕ) → ℕ → Item StatementTree
+declared_item known b ts = after_item (local_declaration known b ts) as_declaration
+
 -- an item of a block: a declaration or a statement
 abbrev pub block_item : List (List ℕ) → ℕ → Item StatementTree → Item StatementTree
-block_item known b s ts = cond (begins_specifiers known ts) (after_item (local_inside known b ts) (λ l. Some (item_of (Declaration l.item) l.height l.rest))) (s ts)
+block_item known b s ts = cond (begins_specifiers known ts) (after_item (local_inside known b ts) as_declaration) (s ts)
 
 abbrev pub no_item : List Terminal → Option (GotItem (List StatementTree))
 no_item ts = Some (item_of [] 0 (behind_first ts))
@@ -167,6 +187,10 @@ keyword_statement known b i s ts w = plain_statement known b i ts w
 abbrev pub is_label : List (List ℕ) → List Terminal → Bool
 is_label known ts = is_identifier_first known ts && is_colon (first_symbol (behind_first ts))
 
+-- a statement with the label that has to stand next
+abbrev pub labelled : List (List ℕ) → ℕ → Item StatementTree → Item StatementTree
+labelled known b s ts = cond (is_label known ts) (label_statement b s ts) None
+
 abbrev pub other_statement : List (List ℕ) → ℕ → Readers → Item StatementTree → Item StatementTree
 other_statement known b i s ts = cond (is_left_brace (first_symbol ts)) (block_statement known b s ts) (cond (is_label known ts) (label_statement b s ts) (value_statement b i ts))
 
@@ -177,11 +201,19 @@ statement_by known b i s ts _ = other_statement known b i s ts
 abbrev pub statement_at : List (List ℕ) → ℕ → Item StatementTree → Item StatementTree
 statement_at known b s ts = statement_by known b (readers_inside known b) s ts (first_symbol ts)
 
--- the statements within a budget
-abbrev pub statement : List (List ℕ) → ℕ → Item StatementTree
-statement known zero = statement_at known zero (λ ts. None)
-statement known (suc b) = statement_at known (suc b) (statement known b)
-
+-- the statements inside
 abbrev pub statement_inside : List (List ℕ) → ℕ → Item StatementTree
 statement_inside known zero = λ ts. None
-statement_inside known (suc b) = statement known b
+statement_inside known (suc b) = statement_at known b (statement_inside known b)
+
+-- the statements within a budget
+abbrev pub statement : List (List ℕ) → ℕ → Item StatementTree
+statement known b = statement_at known b (statement_inside known b)
+
+-- ---- what stands in a block, within a budget of its own
+
+abbrev pub item_within : List (List ℕ) → ℕ → Item StatementTree
+item_within known b ts = cond (begins_specifiers known ts) (declared_item known b ts) (statement known b ts)
+
+abbrev pub items_within : List (List ℕ) → ℕ → Item (List StatementTree)
+items_within known b ts = block_items (item_within known b) (length ts) ts
