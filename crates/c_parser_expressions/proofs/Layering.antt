@@ -46,10 +46,6 @@ is_one_layer [] [] layer same something = something
 is_one_layer (l ∷ ls) vs layer same something = refl
 is_one_layer [] (v ∷ vs) layer same something = absurd (cc same)
 
-no_layer : (ls : List LayerView) (layer : LayerView) → is_empty ls ≡ true → is_something layer ≡ false → is_layer ls layer ≡ false
-no_layer [] layer same nothing = nothing
-no_layer (l ∷ ls) layer same nothing = absurd (cc same)
-
 fits : (lone : Bool) (b parts h : ℕ) → h ≡ cond lone 0 (parts + 1) → h ≤ b → cond lone (Some 0) (cond (nat_lt parts b) (Some (parts + 1)) None) ≡ Some h
 fits true b parts h h-is low = ap Some (sym h-is)
 fits false b parts h h-is low = ap (λ x. cond x (Some (parts + 1)) None) (below parts b (omega (arith, h-is, low))) ∙ ap Some (sym h-is)
@@ -78,15 +74,6 @@ layered_is b stars arrays vs all es fs gs h k height inside rest something all-i
     ∙ ap (layered_at layer inner own) (height_fits b (reverse vs) vs layer (max h k) height (reversed_empty vs) height-is low)
     ∙ ap (λ (ls : List LayerView). Some (record { layers = ls; lengths = both (trees es) (trees fs); height = height; rest = rest })) (sym (reverse-append vs (layer ∷ [])) ∙ ap reverse (sym all-is))
     ∙ ap (λ (ts : Trees). Some (record { layers = reverse all; lengths = ts; height = height; rest = rest })) (joined_trees es fs ∙ ap trees (sym gs-is))
-
-pub layered_none : (b : ℕ) (stars : List ℕ) (arrays : List Brackets) (vs : List LayerView) (es fs : List Tree) (h k : ℕ) (inside rest : List Terminal) →
-    is_empty vs ≡ true → is_something (layer_of stars arrays) ≡ false →
-    layered b stars (record { layers = reverse vs; lengths = trees es; height = h; rest = inside }) (record { arrays = arrays; lengths = trees fs; height = k; rest = rest }) ≡ None
-layered_none b stars arrays vs es fs h k inside rest empty nothing =
-    let layer : LayerView = layer_of stars arrays in
-    let inner : GotLayers = record { layers = reverse vs; lengths = trees es; height = h; rest = inside } in
-    let own : GotArrays = record { arrays = arrays; lengths = trees fs; height = k; rest = rest } in
-    ap (λ x. cond x (layered_at layer inner own (layer_height b (reverse vs) layer (max h k))) None) (no_layer (reverse vs) layer (reversed_empty vs ∙ empty) nothing)
 
 drop_none : (x : Bool) (o : Option GotLayers) → o ≡ None → cond x o None ≡ None
 drop_none true o is = is
