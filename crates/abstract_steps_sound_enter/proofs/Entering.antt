@@ -1,5 +1,5 @@
 -- Objects that are entered.
-use Rattle.std.proofs.Common.{◌≡◌, ℕ, zero, suc, ◌+◌, ◌-◌, ◌<◌, ◌≤◌, ◌^◌, true, false, cond, Bool, ◌||◌, ◌&&◌, ◌⊎◌, Option, Some, None, List, [], ◌∷◌, ◌++◌, length, drop, arith, subst, sym, refl, ap, ◌∙◌, inl, inr}
+use Rattle.std.proofs.Common.{◌≡◌, ℕ, suc, ◌+◌, ◌<◌, ◌≤◌, ◌^◌, true, false, cond, ◌||◌, ◌&&◌, ◌⊎◌, Option, Some, None, List, [], ◌∷◌, ◌++◌, length, arith, subst, sym, refl, ap, ◌∙◌, inl, inr}
 use Rattle.std.specs.Prelude.{slice_get, ℤ, pos, ◌≤ℤ◌, ◌==◌}
 use Rattle.std.proofs.lemmas.Bool.{cases_eq, cases_Bool, and_parts, eqb-true, true≢false}
 use Rattle.std.proofs.lemmas.Int.{ints}
@@ -7,7 +7,7 @@ use Rattle.std.proofs.lemmas.Option.{same_Some, slice_get_within}
 use Rattle.cc_base.specs.Lattices.{LatticeOf}
 use Rattle.cc_base.specs.IntegerDomains.{IntegersOf, BoundLaws}
 use Rattle.cc_base.specs.IntegerTypes.{greatest_of}
-use Rattle.c_layout.specs.Models.{is_model, short_fits, int_fits, long_fits, long_long_fits, pointer_fits}
+use Rattle.c_layout.specs.Models.{short_fits, int_fits, long_fits, long_long_fits, pointer_fits}
 use Rattle.c_layout.specs.declared.data_model.Model.{Model}
 use Rattle.c_layout.specs.declared.leaf_lists.Class.TheVariants.{Pointer}
 use Rattle.c_layout.specs.declared.leaf_lists.Leaf.{Leaf}
@@ -15,14 +15,13 @@ use Rattle.c_layout.specs.declared.shapes.BaseInfo.{BaseInfo}
 use Rattle.c_layout.specs.declared.shapes.BaseKind.{BaseKind}
 use Rattle.c_layout.specs.declared.shapes.BaseKind.TheVariants.{Static, Automatic, Literal, Newest, Older}
 use Rattle.c_layout.specs.declared.shapes.ZeroPart.{ZeroPart}
-use Rattle.flow_program.specs.WellFormed.{base_cells, base_values, is_automatic, names_of, fits_operation}
+use Rattle.flow_program.specs.WellFormed.{base_values, is_automatic, names_of, fits_operation}
 use Rattle.flow_program.specs.declared.machine_instructions.Operation.{Operation}
 use Rattle.flow_program.specs.declared.machine_instructions.Operation.TheVariants as op
 use Rattle.flow_program.specs.declared.programs.Flow.{Flow}
 use Rattle.string_domain.specs.FirstZeros.{the_end}
 use Rattle.value_domain.specs.ValueTables.{blank_value}
 use Rattle.value_domain.specs.declared.row_cells.Cell.{Cell}
-use Rattle.value_domain.specs.declared.row_cells.Cell.TheVariants.{First}
 use Rattle.value_domain.specs.declared.alloc_states.AllocState.{AllocState}
 use Rattle.store_domain.specs.AccessWindows.{last_offset}
 use Rattle.store_domain.specs.ClassNumbers.{class_at}
@@ -36,7 +35,7 @@ use Rattle.abstract_steps_checks.specs.Temporaries.{temp_position, temp_value}
 use Rattle.abstract_steps_checks.specs.ViolationSets.{no_violations}
 use Rattle.abstract_steps_instructions.specs.Steps.{operate}
 use Rattle.abstract_steps_instructions.specs.StepViolations.{operation_violations}
-use Rattle.lib_models_memory.specs.Bytes.{Content, indeterminate, Byte}
+use Rattle.lib_models_memory.specs.Bytes.{indeterminate, Byte}
 use Rattle.lib_models_memory.specs.Instances.{Memory, Instance, Life, automatic, live, ended, freed, bytes_at, byte_at, life_at}
 use Rattle.lib_models_memory.specs.Scalars.{Scalar}
 use Rattle.lib_models_effects.specs.NumberedTables.{put_at}
@@ -45,7 +44,6 @@ use Rattle.lib_models_effects.specs.Worlds.{World, Stuck}
 use Rattle.flow_program_views.specs.ProgramViews.{flow_view}
 use Rattle.flow_program_machine.specs.FlowActs.{enter, entering}
 use Rattle.flow_program_machine.specs.FlowStates.{Standing}
-use Rattle.store_domain_meaning.specs.FirstZeroBytes.{first_zero}
 use Rattle.store_domain_meaning.specs.Matching.{number_in}
 use Rattle.store_domain_meaning.specs.ValueMeaning.{Naming, StandsContent, StandsScalar, StandsZero, StandsState}
 use Rattle.store_domain_meaning.specs.RowMeaning.{IsLiveOf, StandsLeaf, StandsClass, StandsFor, array_bytes}
@@ -63,7 +61,7 @@ use Rattle.abstract_steps_sound_objects.proofs.BlankRows as blank
 use Rattle.abstract_steps_sound_objects.proofs.Forgetting.{AreBlank, blank_zero, part_blank}
 use Rattle.abstract_steps_sound_objects.proofs.WholeObjects.{automatic_storage, some_kind}
 use Rattle.abstract_steps_sound_enter.specs.EnterSteps.{IsEnter}
-use Rattle.abstract_steps_sound_enter.proofs.GrownMemory.{IsGrown, NamesToo, grows, naming_too, names_too, life_stays, bytes_stay, apart, was_there, scalar_in_grows, named_grows, scalar_grows, cell_grows}
+use Rattle.abstract_steps_sound_enter.proofs.GrownMemory.{IsGrown, NamesToo, grows, naming_too, names_too, life_stays, bytes_stay, was_there, scalar_in_grows, named_grows, scalar_grows, cell_grows}
 use Rattle.abstract_steps_sound_enter.proofs.GrownSanity.{own_bytes, own_life, own_byte, blank_long, grown_sane}
 
 is_own_kind : (kind : BaseKind) → is_automatic (Some kind) ≡ true → kind ≡ Automatic
@@ -316,16 +314,17 @@ module _ {I : Type 0} {l : LatticeOf I} {n : IntegersOf I} {stands : I → ℤ �
 
 module _ {I : Type 0} {l : LatticeOf I} {n : IntegersOf I} {stands : I → ℤ → Type 0} (q : BoundLaws l n stands) (flow : Flow) (p : HasPremises flow) (naming : Naming) (row : List (Cell I)) (s : Standing) (r : IsReached l n stands flow naming row s) where
   module _ (b : ℕ) (info : BaseInfo) (at : slice_get flow.bases.items b ≡ Some info) (declared : info.shape.heap ≡ false) (kind : info.kind ≡ Automatic) where
-    abbrev w : World
-    w = entered flow.model info.shape.cells info.size s.world
+    abbrev behind_world : World
+    behind_world = entered flow.model info.shape.cells info.size s.world
 
     abbrev now : Standing
-    now = record s { at = suc s.at; bases = put_at s.bases b (next_instance s.world); world = w }
+    now = record s { at = suc s.at; bases = put_at s.bases b (next_instance s.world); world = behind_world }
 
     abbrev behind_it : Option (List (Cell I))
     behind_it = Some (at_base (blank_object l n) (slice_get flow.bases.items b) row)
 
-    stands_here : s.bases b ≡ None → StandsBehind l n stands flow behind_it (record now { world = w })
+    stands_here : s.bases b ≡ None → StandsBehind l n stands flow behind_it (record now { world = behind_world })
+    unfolding forget
     stands_here free = record {
       row = blank_object l n info row;
       is = ap (λ z. Some (at_base (blank_object l n) z row)) at;
@@ -343,7 +342,7 @@ module _ {I : Type 0} {l : LatticeOf I} {n : IntegersOf I} {stands : I → ℤ �
     entering_good None e = subst (λ z. IsStoodFor l n stands flow behind_it no_violations (enter (flow_view flow) s b z)) (sym at) (record {
       goes_on = λ t u f.
           let a : now ≡ t = cc in
-          let c : w ≡ u = cc in
+          let c : behind_world ≡ u = cc in
           subst (λ z. StandsBehind l n stands flow behind_it (record z { world = u })) a (subst (λ z. StandsBehind l n stands flow behind_it (record now { world = z })) c (stands_here e));
       admits = same_admitted no_violations s.world.violated [] r.begun (none_admitted no_violations);
     })

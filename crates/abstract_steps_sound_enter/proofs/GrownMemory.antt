@@ -1,7 +1,7 @@
 -- Memory with one instance more, and what it leaves as it was.
-use Rattle.std.proofs.Common.{◌≡◌, ℕ, zero, suc, ◌+◌, ◌<◌, ◌≤◌, true, false, cond, Option, Some, None, List, [], ◌∷◌, ◌++◌, length, arith, subst, sym, refl, ap, ◌∙◌, inl, inr}
+use Rattle.std.proofs.Common.{◌≡◌, ℕ, zero, suc, ◌+◌, ◌<◌, true, false, cond, Option, Some, List, [], ◌∷◌, ◌++◌, length, arith, subst, sym, refl, ap, ◌∙◌}
 use Rattle.std.specs.Prelude.{slice_get, ℤ, Bool, ◌==◌}
-use Rattle.std.proofs.lemmas.Bool.{cases_Bool, cases_eq, eqb-true, true≢false}
+use Rattle.std.proofs.lemmas.Bool.{eqb-true}
 use Rattle.std.proofs.lemmas.Option.{same_Some}
 use Rattle.c_layout.specs.declared.leaf_lists.Class.{Class}
 use Rattle.flow_program.specs.declared.programs.Flow.{Flow}
@@ -11,7 +11,7 @@ use Rattle.lib_models_memory.specs.Bytes.{MachinePointer, null, into, Content, i
 use Rattle.lib_models_memory.specs.Instances.{Memory, Instance, Life, live, ended, freed, bytes_of, bytes_at, byte_at, life_of, life_at}
 use Rattle.lib_models_memory.specs.Scalars.{Scalar, integer, pointer}
 use Rattle.store_domain_meaning.specs.Matching.{Matched}
-use Rattle.store_domain_meaning.specs.SoundMemory.{IsMemoryOf, IsWithin, IsPointerIn, IsScalarIn, IsNamed, IsContentIn, IsContentNamed}
+use Rattle.store_domain_meaning.specs.SoundMemory.{IsWithin, IsPointerIn, IsScalarIn, IsNamed, IsContentIn, IsContentNamed}
 use Rattle.store_domain_meaning.specs.ValueMeaning.{Naming, StandsInto, StandsByLife, StandsPointer, StandsScalar, StandsContent}
 use Rattle.store_domain_meaning.specs.RowMeaning.{IsLiveOf, StandsCell}
 

@@ -1,5 +1,5 @@
 -- Memory stays sound where a fresh object is entered.
-use Rattle.std.proofs.Common.{◌≡◌, ℕ, zero, suc, ◌+◌, ◌<◌, ◌≤◌, ◌^◌, true, false, Option, Some, None, List, [], ◌∷◌, length, arith, subst, sym, refl, ap, ◌∙◌, inl, inr}
+use Rattle.std.proofs.Common.{◌≡◌, ℕ, zero, suc, ◌+◌, ◌<◌, ◌≤◌, Some, List, length, arith, subst, sym, refl, ap, ◌∙◌, inl, inr}
 use Rattle.std.specs.Prelude.{slice_get}
 use Rattle.std.proofs.lemmas.Bool.{cases_eq}
 use Rattle.std.proofs.lemmas.Option.{same_Some, slice_get_within}
@@ -9,14 +9,14 @@ use Rattle.c_layout.specs.declared.shapes.BaseInfo.{BaseInfo}
 use Rattle.c_layout.specs.declared.shapes.BaseKind.TheVariants.{Automatic, Older}
 use Rattle.store_domain.specs.AccessWindows.{last_offset}
 use Rattle.lib_models_memory.specs.ScalarSizes.{class_bytes}
-use Rattle.lib_models_memory.specs.Bytes.{Content, indeterminate, Tag, Byte}
+use Rattle.lib_models_memory.specs.Bytes.{indeterminate, Tag, Byte}
 use Rattle.lib_models_memory.specs.Instances.{automatic, live, ended, freed, Memory, Instance, bytes_of, bytes_at, byte_at, life_of, life_at}
 use Rattle.lib_models_memory.specs.Tags.{tag_at}
 use Rattle.lib_models_effects.specs.ObjectEffects.{blank_bytes, fresh}
 use Rattle.store_domain_meaning.specs.SoundMemory.{storage_for, IsInstanceOf, IsFreedRightly, IsContentIn, IsContentNamed, IsMemoryOf}
 use Rattle.store_domain_meaning.specs.ValueMeaning.{Naming}
 use Rattle.store_domain_sound.proofs.TagPlaces.{is_tagged}
-use Rattle.abstract_steps_sound_enter.proofs.GrownMemory.{IsGrown, NamesToo, life_stays, bytes_stay, byte_stays, apart, content_in_grows, content_named_grows}
+use Rattle.abstract_steps_sound_enter.proofs.GrownMemory.{IsGrown, NamesToo, life_stays, bytes_stay, byte_stays, content_in_grows, content_named_grows}
 
 -- ---- the bytes of a fresh object
 

@@ -1,5 +1,5 @@
 -- Objects that become indeterminate.
-use Rattle.std.proofs.Common.{◌≡◌, ℕ, suc, ◌+◌, ◌-◌, ◌<◌, ◌≤◌, ◌^◌, true, false, Option, Some, None, List, [], ◌∷◌, length, drop, arith, subst, sym, refl, ap, ◌∙◌}
+use Rattle.std.proofs.Common.{◌≡◌, ℕ, suc, ◌+◌, ◌<◌, ◌≤◌, true, false, Option, Some, None, List, [], ◌∷◌, length, drop, arith, subst, sym, refl, ap, ◌∙◌}
 use Rattle.std.specs.Prelude.{slice_get, ℤ}
 use Rattle.std.proofs.lemmas.Int.{ints}
 use Rattle.std.proofs.lemmas.Option.{slice_get_within}
@@ -16,7 +16,6 @@ use Rattle.flow_program.specs.declared.programs.Flow.{Flow}
 use Rattle.string_domain.specs.FirstZeros.{the_end}
 use Rattle.value_domain.specs.ValueTables.{blank_value}
 use Rattle.value_domain.specs.declared.row_cells.Cell.{Cell}
-use Rattle.value_domain.specs.declared.row_cells.Cell.TheVariants.{First}
 use Rattle.store_domain.specs.FirstZeroWrites.{no_zero}
 use Rattle.store_domain.specs.NearValues.{near_value}
 use Rattle.store_domain.specs.ObjectLives.{blank_object, at_base, forget}

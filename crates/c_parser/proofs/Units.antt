@@ -1,5 +1,5 @@
 -- Pieces, read one after another.
-use Rattle.std.proofs.Common.{inl, inr, ◌≡◌, ℕ, List, [], ◌∷◌, ◌++◌, take, drop, Ok, refl, sym, subst, ap, ◌∙◌}
+use Rattle.std.proofs.Common.{inl, inr, ◌≡◌, ◌≤◌, length, slice_index_or, arith, ℕ, List, [], ◌∷◌, ◌++◌, take, drop, Ok, refl, sym, subst, ap, ◌∙◌}
 use Rattle.cc_base.specs.declared.lexemes.Token.{Token}
 use Rattle.c_layout.specs.declared.data_model.Model.{Model}
 use Rattle.c_layout.specs.DeclarationTrees.{ExternalTree}
@@ -46,3 +46,9 @@ unread_here {es} {names} {ts} {rest} {piece} {e} first more so rest-is piece-is 
       none = rw (piece-is, rest-is, so.names_are) at none;
       stops = stops;
     })
+
+pub unread_at : {es : List ExternalTree} {names : List (List ℕ)} {ts piece : List Terminal} {e : Stop} (rest : List Terminal) (first : Terminal) → 1 ≤ length rest → first ≡ slice_index_or rest 0 first →
+    FoundPieces es names ts rest → piece ≡ take (piece_length rest) rest → StopsWithout first.place (read.piece names piece) e → StopsUnread ts e
+unread_at {es} {names} {ts} {piece} {e} [] first some is so piece-is stops = absurd (omega (arith, some))
+unread_at {es} {names} {ts} {piece} {e} (t ∷ more) first some is so piece-is stops =
+    let same : first ≡ t = is in unread_here t more so refl piece-is (subst (λ (x : Terminal). StopsWithout x.place (read.piece names piece) e) same stops)

@@ -1,6 +1,6 @@
 //! External declarations (6.9).
 ghost use Rattle.std.specs.Prelude.{◌≡◌, ◌+◌, ◌≤◌, List, [], length, map, IfOk};
-ghost use Rattle.c_layout.specs.DeclarationTrees.{Declared, spec_tree, spec_trees, init_declarator_view, external_tree};
+ghost use Rattle.c_layout.specs.DeclarationTrees.{Declared, Prototype, spec_tree, spec_trees, function_declarator_view, init_declarator_view, external_tree};
 ghost use Rattle.c_parser_declarations.specs.Findings.{FoundSpec, FoundBare, FoundTail};
 ghost use Rattle.c_parser_expressions.specs.Fronts.{first_place};
 ghost use Rattle.c_parser.specs.Externals.{with_declared};
@@ -15,7 +15,7 @@ ghost use Rattle.c_parser.specs.UnitReaders as readers;
 ghost use Rattle.c_parser.specs.UnitReaders.{within, behind_items};
 
 use crate::statements::block;
-use c_layout::{External, InitDeclarator, SpecWord};
+use c_layout::{External, FunctionDeclarator, InitDeclarator, SpecWord};
 use c_parser_declarations::{file_declarator, initialized, is_typedef, named_by, specifiers};
 use c_parser_expressions::{Parsed, Reader, Scope, Trouble, TypedefNames, inner, made};
 use c_parser_tokens::Punctuator;
@@ -135,6 +135,27 @@ fn declaration(
     Ok(Parsed { tree, height })
 }
 
+/// The definition of a function with this declarator, which has this height.
+fn function(
+    alloc: Global,
+    typedefs: &TypedefNames,
+    reader: &mut Reader<'_>,
+    head: Head,
+    name: Parsed<FunctionDeclarator>,
+    budget: u32,
+) -> Result<Parsed<External>, Trouble>
+    ensures found { IfOk result (λ n. FoundBehind typedefs.now typedefs.now budget head.place (map spec_tree head.words.items) head.height (Prototype (function_declarator_view name.tree)) name.height (external_tree n.tree) n.height reader.old reader.new) }
+    ensures read { Reads result (as_item external_tree reader.new) (readers.definition_within budget typedefs.now head.place (item_of (spec_trees (map spec_tree head.words.items)) head.height []) (Prototype (function_declarator_view name.tree)) name.height reader.old) }
+{
+    let scope = Scope { alloc, typedefs };
+    let body = block(scope, reader, inner(budget)?)?;
+    let begun = head.height.max(name.height);
+    let all = begun.max(body.height);
+    let height = made(budget, all)?;
+    let tree = External::Function(head.place, head.words, name.tree, body.tree);
+    Ok(Parsed { tree, height })
+}
+
 /// The definition of a function, behind its declarator.
 fn definition(
     alloc: Global,
@@ -148,16 +169,12 @@ fn definition(
     ensures read { Reads result (as_item external_tree reader.new) (readers.definition_within budget typedefs.now head.place (item_of (spec_trees (map spec_tree head.words.items)) head.height []) (init_declarator_view name.tree) name.height reader.old) }
 {
     let Parsed { tree, height } = name;
-    let InitDeclarator::Function(declared) = tree else {
-        return Err(Trouble::Syntax);
-    };
-    let scope = Scope { alloc, typedefs };
-    let body = block(scope, reader, inner(budget)?)?;
-    let begun = head.height.max(height);
-    let all = begun.max(body.height);
-    let height = made(budget, all)?;
-    let tree = External::Function(head.place, head.words, declared, body.tree);
-    Ok(Parsed { tree, height })
+    match tree {
+        InitDeclarator::Function(tree) => {
+            function(alloc, typedefs, reader, head, Parsed { tree, height }, budget)
+        }
+        _ => Err(Trouble::Syntax),
+    }
 }
 
 /// The first token and the specifiers.

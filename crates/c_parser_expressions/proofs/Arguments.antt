@@ -1,13 +1,11 @@
 -- The arguments of a call, read one after another.
-use Rattle.std.proofs.Common.{◌≡◌, ℕ, ◌+◌, ◌≤◌, List, [], ◌∷◌, ◌++◌, max, refl, sym, subst, ap, ◌∙◌, arith}
-use Rattle.std.proofs.lemmas.Grind.{common_steps}
+use Rattle.std.proofs.Common.{◌≡◌, ℕ, List, [], ◌∷◌, ◌++◌, max, refl, subst, arith}
 use Rattle.c_layout.specs.SyntaxTrees.{Tree, trees}
 use Rattle.c_parser_tokens.specs.declared.terminals.Terminal.{Terminal}
 use Rattle.c_parser_tokens.specs.declared.terminals.Punctuator.TheVariants as p
 use Rattle.c_parser_expressions.specs.Expressions.{Derives, DeriveEach, height_of, heights_of}
 use Rattle.c_parser_expressions.specs.Findings.{Found, FoundSome, FoundArguments}
 use Rattle.c_parser_expressions.specs.Fronts.{IsSign}
-use Rattle.c_parser_expressions.specs.Spans.{Span}
 use Rattle.c_parser_expressions.specs.TypeNames.{greatest}
 use Rattle.c_parser_expressions.proofs.Listing.{trailed_more, separated_last, each_append, heights_append, greatest_append}
 

@@ -1,6 +1,5 @@
 -- The operator that stands next, and its sign.
 use Rattle.std.proofs.Common.{◌≡◌, ℕ, ◌+◌, Bool, true, false, List, nat_le, cond, Option, Some, None, sym, ap, ◌∙◌}
-use Rattle.c_layout.specs.declared.syntax_tree.expressions.BinaryOp.TheVariants as binary
 use Rattle.c_parser_tokens.specs.declared.terminals.Punctuator.{Punctuator}
 use Rattle.c_parser_tokens.specs.declared.terminals.Punctuator.TheVariants as p
 use Rattle.c_parser_tokens.specs.declared.terminals.Symbol.{Symbol}
@@ -8,7 +7,7 @@ use Rattle.c_parser_tokens.specs.declared.terminals.Symbol.TheVariants as symbol
 use Rattle.c_parser_tokens.specs.declared.terminals.Terminal.{Terminal}
 use Rattle.c_parser_expressions.specs.declared.operators.Infix.{Infix}
 use Rattle.c_parser_expressions.specs.Continuations.{continuation_of, continuation_of_sign}
-use Rattle.c_parser_expressions.specs.Fronts.{first_symbol, behind_first, IsSign}
+use Rattle.c_parser_expressions.specs.Fronts.{first_symbol, behind_first}
 use Rattle.c_parser_expressions.specs.Levels.{op_sign, op_level}
 use Rattle.c_parser_expressions.specs.Readings.{Reading}
 use Rattle.c_parser_expressions.specs.ExpressionReaders.{Readers, infix_of, keep_from, infix_from}

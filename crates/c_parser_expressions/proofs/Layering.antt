@@ -1,7 +1,6 @@
 -- Layers of abstract declarators and type names, as the readers as definitions build them.
-use Rattle.std.proofs.Common.{◌≡◌, ℕ, zero, suc, ◌+◌, ◌<◌, ◌≤◌, Bool, true, false, ◌&&◌, ◌==◌, List, [], ◌∷◌, ◌++◌, length, map, reverse, cond, nat_lt, max, Option, Some, None, refl, sym, ap, ◌∙◌, arith}
-use Rattle.std.proofs.lemmas.List.{reverse-append, append-nil}
-use Rattle.std.proofs.lemmas.Grind.{reverse_onto}
+use Rattle.std.proofs.Common.{◌≡◌, ℕ, ◌+◌, ◌<◌, ◌≤◌, Bool, true, false, ◌&&◌, ◌==◌, List, [], ◌∷◌, ◌++◌, length, map, reverse, cond, nat_lt, max, Option, Some, None, refl, sym, ap, ◌∙◌, arith}
+use Rattle.std.proofs.lemmas.List.{reverse-append}
 use Rattle.c_layout.specs.SyntaxTrees.{Tree, Trees, trees, LayerView, layer_view, TypeNameView, End, More}
 use Rattle.c_layout.specs.declared.syntax_tree.expressions.AbstractLayer.{AbstractLayer}
 use Rattle.c_layout.specs.declared.syntax_tree.expressions.Brackets.{Brackets}
@@ -9,7 +8,7 @@ use Rattle.c_layout.specs.declared.syntax_tree.expressions.TypeNameWord.{TypeNam
 use Rattle.c_parser_tokens.specs.declared.terminals.Terminal.{Terminal}
 use Rattle.c_parser_expressions.specs.Findings.{layer_of, is_empty, IsSomething}
 use Rattle.c_parser_expressions.specs.Findings as found
-use Rattle.c_parser_expressions.specs.Readings.{GotLayers, GotName, Reading, got, made}
+use Rattle.c_parser_expressions.specs.Readings.{GotLayers, got, made}
 use Rattle.c_parser_expressions.specs.TypeNames.{is_something, is_lone_star, words_height}
 use Rattle.c_parser_expressions.specs.TypeNameReaders.{GotArrays, both, is_layer, layer_height, layered_at, layered, plain}
 
@@ -47,10 +46,6 @@ is_one_layer [] [] layer same something = something
 is_one_layer (l ∷ ls) vs layer same something = refl
 is_one_layer [] (v ∷ vs) layer same something = absurd (cc same)
 
-no_layer : (ls : List LayerView) (layer : LayerView) → is_empty ls ≡ true → is_something layer ≡ false → is_layer ls layer ≡ false
-no_layer [] layer same nothing = nothing
-no_layer (l ∷ ls) layer same nothing = absurd (cc same)
-
 fits : (lone : Bool) (b parts h : ℕ) → h ≡ cond lone 0 (parts + 1) → h ≤ b → cond lone (Some 0) (cond (nat_lt parts b) (Some (parts + 1)) None) ≡ Some h
 fits true b parts h h-is low = ap Some (sym h-is)
 fits false b parts h h-is low = ap (λ x. cond x (Some (parts + 1)) None) (below parts b (omega (arith, h-is, low))) ∙ ap Some (sym h-is)
@@ -79,15 +74,6 @@ layered_is b stars arrays vs all es fs gs h k height inside rest something all-i
     ∙ ap (layered_at layer inner own) (height_fits b (reverse vs) vs layer (max h k) height (reversed_empty vs) height-is low)
     ∙ ap (λ (ls : List LayerView). Some (record { layers = ls; lengths = both (trees es) (trees fs); height = height; rest = rest })) (sym (reverse-append vs (layer ∷ [])) ∙ ap reverse (sym all-is))
     ∙ ap (λ (ts : Trees). Some (record { layers = reverse all; lengths = ts; height = height; rest = rest })) (joined_trees es fs ∙ ap trees (sym gs-is))
-
-pub layered_none : (b : ℕ) (stars : List ℕ) (arrays : List Brackets) (vs : List LayerView) (es fs : List Tree) (h k : ℕ) (inside rest : List Terminal) →
-    is_empty vs ≡ true → is_something (layer_of stars arrays) ≡ false →
-    layered b stars (record { layers = reverse vs; lengths = trees es; height = h; rest = inside }) (record { arrays = arrays; lengths = trees fs; height = k; rest = rest }) ≡ None
-layered_none b stars arrays vs es fs h k inside rest empty nothing =
-    let layer : LayerView = layer_of stars arrays in
-    let inner : GotLayers = record { layers = reverse vs; lengths = trees es; height = h; rest = inside } in
-    let own : GotArrays = record { arrays = arrays; lengths = trees fs; height = k; rest = rest } in
-    ap (λ x. cond x (layered_at layer inner own (layer_height b (reverse vs) layer (max h k))) None) (no_layer (reverse vs) layer (reversed_empty vs ∙ empty) nothing)
 
 drop_none : (x : Bool) (o : Option GotLayers) → o ≡ None → cond x o None ≡ None
 drop_none true o is = is

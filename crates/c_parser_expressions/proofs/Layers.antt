@@ -1,8 +1,7 @@
 -- Brackets and layers of abstract declarators, put together.
-use Rattle.std.proofs.Common.{◌≡◌, ℕ, ◌+◌, ◌-◌, ◌≤◌, Bool, true, false, ◌&&◌, cond, Some, List, [], ◌∷◌, ◌++◌, max, map, reverse, length, take, drop, refl, sym, ap, ◌∙◌, subst, arith, length-append}
+use Rattle.std.proofs.Common.{◌≡◌, ℕ, ◌+◌, ◌-◌, Bool, true, false, cond, Some, List, [], ◌∷◌, ◌++◌, max, map, reverse, length, take, drop, refl, sym, ap, ◌∙◌, subst, arith, length-append}
 use mathlib.Core.List.{reverse_aux}
-use Rattle.std.proofs.lemmas.Grind.{common_steps}
-use Rattle.std.proofs.lemmas.List.{map-append, reverse-append, append_assoc, append-nil}
+use Rattle.std.proofs.lemmas.List.{reverse-append, append_assoc, append-nil}
 use Rattle.std.proofs.Math.Seq.{take-append_seam}
 use Rattle.std.specs.Prelude.{Box}
 use Rattle.std.specs.Global.{Global}
@@ -14,11 +13,11 @@ use Rattle.c_layout.specs.declared.syntax_tree.expressions.TypeNameWord.{TypeNam
 use Rattle.c_parser_tokens.specs.declared.terminals.Terminal.{Terminal}
 use Rattle.c_parser_tokens.specs.declared.terminals.Punctuator.TheVariants as p
 use Rattle.c_parser_expressions.specs.declared.type_name_parts.ArrayLength.{ArrayLength}
-use Rattle.c_parser_expressions.specs.Expressions.{DeriveEach, height_of, heights_of}
-use Rattle.c_parser_expressions.specs.Findings.{Found, FoundPair, FoundArrays, FoundLayers, FoundNested, FoundTypeName, IsSomeLayer, lengths_of, brackets_of, layer_of, layer_height, is_empty, IsSomething}
+use Rattle.c_parser_expressions.specs.Expressions.{height_of, heights_of}
+use Rattle.c_parser_expressions.specs.Findings.{Found, FoundPair, FoundArrays, FoundLayers, FoundNested, FoundTypeName, IsSomeLayer, lengths_of, brackets_of, layer_height, is_empty, IsSomething}
 use Rattle.c_parser_expressions.specs.Fronts.{first_place, IsSign}
 use Rattle.c_parser_expressions.specs.Spans.{Span, Chain}
-use Rattle.c_parser_expressions.specs.TypeNames.{IsTypeNameWord, IsTypeName, IsBrackets, Length, Arrays, Stars, Layers, Nested, Declarator, is_one_type, counts_of, words_height, is_something, is_lone_star, length_count, greatest, layers_height, nested_height, declared_height, type_name_height}
+use Rattle.c_parser_expressions.specs.TypeNames.{IsTypeNameWord, IsBrackets, Length, Arrays, Stars, Layers, Nested, Declarator, is_one_type, counts_of, words_height, length_count, greatest, layers_height, nested_height, declared_height}
 use Rattle.c_parser_expressions.proofs.Listing.{each_append, each_length, heights_append, greatest_append}
 
 map_onto : {X Y : Type 0} (f : X → Y) (xs ys : List X) → map f (reverse_aux xs ys) ≡ reverse_aux (map f xs) (map f ys)

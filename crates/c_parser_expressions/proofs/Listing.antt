@@ -1,12 +1,12 @@
 -- Lists that are read from the front and grow at the end.
-use Rattle.std.proofs.Common.{◌≡◌, ℕ, zero, suc, ◌+◌, ◌≤◌, Bool, true, List, [], ◌∷◌, ◌++◌, max, length, refl, sym, ap, ◌∙◌, subst, arith}
+use Rattle.std.proofs.Common.{◌≡◌, ℕ, zero, suc, ◌+◌, true, List, [], ◌∷◌, ◌++◌, max, length, refl, sym, ap, ◌∙◌, subst, arith}
 use Rattle.std.proofs.lemmas.Grind.{common_steps}
 use Rattle.std.proofs.lemmas.List.Sums.{fold-append}
-use Rattle.c_layout.specs.SyntaxTrees.{Tree, Trees, trees}
+use Rattle.c_layout.specs.SyntaxTrees.{Tree, trees}
 use Rattle.c_layout.specs.declared.syntax_tree.expressions.TypeNameWord.{TypeNameWord}
 use Rattle.c_parser_tokens.specs.declared.terminals.Terminal.{Terminal}
 use Rattle.c_parser_tokens.specs.declared.terminals.Punctuator.TheVariants as p
-use Rattle.c_parser_expressions.specs.Expressions.{Derives, DeriveEach, height_of, heights_of}
+use Rattle.c_parser_expressions.specs.Expressions.{DeriveEach, height_of, heights_of}
 use Rattle.c_parser_expressions.specs.Fronts.{first_symbol, behind_first, IsSign}
 use Rattle.c_parser_expressions.specs.Spans.{Span, Trailed, Separated, Chain}
 use Rattle.c_parser_expressions.specs.TypeNames.{Qualifiers, is_pointer_qualifier, counted, counts_of, no_words, greatest}

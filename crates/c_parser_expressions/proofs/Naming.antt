@@ -1,15 +1,12 @@
 -- The readers of type names as definitions, where their parts were read.
-use Rattle.std.proofs.Common.{◌≡◌, ℕ, zero, suc, ◌+◌, ◌<◌, ◌≤◌, Bool, true, false, List, [], ◌∷◌, length, cond, nat_lt, max, Option, Some, None, refl, sym, ap, ◌∙◌, arith}
-use Rattle.c_layout.specs.SyntaxTrees.{Tree, Trees, trees, tree_of, LayerView, End, More}
-use Rattle.c_layout.specs.declared.syntax_tree.expressions.TypeNameWord.{TypeNameWord}
+use Rattle.std.proofs.Common.{◌≡◌, ℕ, Bool, true, false, List, length, cond, Option, Some, None, refl, sym, ap, ◌∙◌}
 use Rattle.c_parser_tokens.specs.declared.terminals.Punctuator.TheVariants as p
 use Rattle.c_parser_tokens.specs.declared.terminals.Terminal.{Terminal}
-use Rattle.c_parser_expressions.specs.declared.type_name_parts.ArrayLength.{ArrayLength}
-use Rattle.c_parser_expressions.specs.Fronts.{first_symbol, first_place, behind_first, IsSign}
-use Rattle.c_parser_expressions.specs.Readings.{Got, GotLayers, GotName, Reading, got, after_layers, is_left_parenthesis, is_right_parenthesis, is_left_bracket, is_right_bracket}
-use Rattle.c_parser_expressions.specs.ReadingResults.{bracketed, with_pair}
+use Rattle.c_parser_expressions.specs.Fronts.{first_symbol, behind_first, IsSign}
+use Rattle.c_parser_expressions.specs.Readings.{Got, GotLayers, GotName, Reading, after_layers, is_left_parenthesis, is_right_parenthesis, is_left_bracket, is_right_bracket}
+use Rattle.c_parser_expressions.specs.ReadingResults.{bracketed}
 use Rattle.c_parser_expressions.specs.ExpressionReaders.{Readers}
-use Rattle.c_parser_expressions.specs.TypeNames.{is_one_type, counts_of, words_height}
+use Rattle.c_parser_expressions.specs.TypeNames.{is_one_type, counts_of}
 use Rattle.c_parser_expressions.specs.TypeNameReaders.{GotWords, GotStars, GotArrays, pair, with_empty, closed_length, with_length, after_arrays, declarator, stars, nested, closed_layers, no_layers, behind_stars, layered, pairs, words, after_words, of_one_type, named, begins_abstract, declared, plain, type_name}
 
 -- ---- brackets
@@ -20,9 +17,6 @@ bracket_here i ts a more x opens shut =
     ap (λ s. cond (is_left_bracket s) (pair i ts more) None) opens.symbol
     ∙ ap (λ y. cond (is_right_bracket (first_symbol y)) (after_arrays (more (behind_first y)) (with_empty ts)) (closed_length ts (i.conditional y) more)) (sym opens.behind)
     ∙ ap (λ y. cond y (after_arrays (more (behind_first a)) (with_empty ts)) (closed_length ts (i.conditional a) more)) shut
-
-pub no_bracket : (i : Readers) (ts : List Terminal) (more : List Terminal → Option GotArrays) → is_left_bracket (first_symbol ts) ≡ false → bracketed ts (pair i ts more) ≡ None
-no_bracket i ts more off = ap (λ x. cond x (pair i ts more) None) off
 
 pub length_read : (i : Readers) (ts a : List Terminal) (more : List Terminal → Option GotArrays) (r : Reading) → IsSign p.LeftBracket ts a → is_right_bracket (first_symbol a) ≡ false → i.conditional a ≡ r →
     bracketed ts (pair i ts more) ≡ closed_length ts r more
@@ -39,10 +33,6 @@ length_closed i ts a rest more e opens shut inner closes =
     length_read i ts a more (Some e) opens shut inner
     ∙ ap (λ s. cond (is_right_bracket s) (after_arrays (more (behind_first e.rest)) (with_length ts e)) None) closes.symbol
     ∙ ap (λ x. after_arrays (more x) (with_length ts e)) (sym closes.behind)
-
-pub empty_closed : (i : Readers) (ts a rest : List Terminal) (more : List Terminal → Option GotArrays) → IsSign p.LeftBracket ts a → IsSign p.RightBracket a rest → bracketed ts (pair i ts more) ≡ after_arrays (more rest) (with_empty ts)
-empty_closed i ts a rest more opens shut =
-    bracket_here i ts a more true opens (ap is_right_bracket shut.symbol) ∙ ap (λ x. after_arrays (more x) (with_empty ts)) (sym shut.behind)
 
 -- ---- abstract declarators
 
@@ -63,18 +53,6 @@ nested_closed i ts a rest g opens inner shut =
     nested_here i ts a (Some g) opens inner
     ∙ ap (λ s. cond (is_right_parenthesis s) (Some (record g { rest = behind_first g.rest })) None) shut.symbol
     ∙ ap (λ (x : List Terminal). Some (record g { rest = x })) (sym shut.behind)
-
-pub not_nested : (i : Readers) (ts : List Terminal) → is_left_parenthesis (first_symbol ts) ≡ false → nested i ts ≡ Some (no_layers ts)
-not_nested i ts off = ap (λ x. cond x (after_layers (i.declarator (behind_first ts)) closed_layers) (Some (no_layers ts))) off
-
-pub declarator_read : (b : ℕ) (i : Readers) (ts : List Terminal) (s : GotStars) (r : Option GotLayers) → stars (length ts) ts ≡ s → nested i s.rest ≡ r →
-    declarator b i ts ≡ after_layers r (λ inner. after_arrays (pairs i (length inner.rest) inner.rest) (layered b s.stars inner))
-declarator_read b i ts s r stars-is inner =
-    ap (behind_stars b i) stars-is ∙ ap (λ x. after_layers x (λ inner. after_arrays (pairs i (length inner.rest) inner.rest) (layered b s.stars inner))) inner
-
-pub declarator_arrays : (b : ℕ) (i : Readers) (ts : List Terminal) (s : GotStars) (inner : GotLayers) (r : Option GotArrays) → stars (length ts) ts ≡ s → nested i s.rest ≡ Some inner → pairs i (length inner.rest) inner.rest ≡ r →
-    declarator b i ts ≡ after_arrays r (layered b s.stars inner)
-declarator_arrays b i ts s inner r stars-is inner-is own = declarator_read b i ts s (Some inner) stars-is inner-is ∙ ap (λ x. after_arrays x (layered b s.stars inner)) own
 
 -- ---- type names
 

@@ -1,5 +1,5 @@
 -- Results of the code, against what readers as definitions answer.
-use Rattle.std.proofs.Common.{◌≡◌, ℕ, ◌+◌, ◌≤◌, Option, None, Some, List, Result, Ok, Err, MatchResult, IfOk, IfErr, sym, ap, ◌∙◌}
+use Rattle.std.proofs.Common.{◌≡◌, ℕ, ◌+◌, ◌≤◌, List, Result, Ok, Err, MatchResult, IfOk, IfErr, sym, ◌∙◌}
 use Rattle.std.specs.Prelude.{Box}
 use Rattle.std.specs.Global.{Global}
 use Rattle.std.specs.Result.{IsErrAnd}

@@ -1,5 +1,5 @@
 -- Lists that readers read item by item: what was read so far, before what the definition reads from there on.
-use Rattle.std.proofs.Common.{◌≡◌, ℕ, zero, suc, ◌+◌, ◌-◌, ◌<◌, ◌≤◌, Bool, true, false, List, [], ◌∷◌, ◌++◌, length, cond, max, Option, Some, None, refl, sym, ap, ◌∙◌, arith}
+use Rattle.std.proofs.Common.{◌≡◌, ℕ, zero, suc, ◌+◌, ◌-◌, ◌<◌, ◌≤◌, true, false, List, [], ◌∷◌, ◌++◌, cond, max, Option, Some, None, refl, sym, ap, ◌∙◌, arith}
 use Rattle.std.proofs.lemmas.List.{append_assoc, append-nil}
 use Rattle.c_layout.specs.SyntaxTrees.{Tree, Trees, trees, End, More}
 use Rattle.c_layout.specs.declared.syntax_tree.expressions.Brackets.{Brackets}
@@ -9,20 +9,12 @@ use Rattle.c_parser_tokens.specs.declared.terminals.Terminal.{Terminal}
 use Rattle.c_parser_expressions.specs.declared.type_name_parts.ArrayLength.{ArrayLength}
 use Rattle.c_parser_expressions.specs.Findings.{lengths_of, brackets_of}
 use Rattle.c_parser_expressions.specs.Fronts.{first_symbol, behind_first, begins_specifiers, IsSign}
-use Rattle.c_parser_expressions.specs.Readings.{Got, GotSome, Reading, got, is_comma, is_right_parenthesis, is_left_bracket}
+use Rattle.c_parser_expressions.specs.Readings.{Got, GotSome, is_comma, is_right_parenthesis, is_left_bracket}
 use Rattle.c_parser_expressions.specs.ReadingResults.{bracketed, with_pair}
 use Rattle.c_parser_expressions.specs.ExpressionReaders.{Readers, some_arguments, argument_then, more_arguments, last_argument}
 use Rattle.c_parser_expressions.specs.TypeNames.{is_pointer_qualifier}
-use Rattle.c_parser_expressions.specs.TypeNameReaders.{GotWord, GotWords, GotStars, GotArrays, words, word_by, with_word, word_before, qualifiers, qualified, stars, with_star, is_star, both, pairs, pair, after_arrays, no_arrays}
-
-one_left : (n t : ℕ) → t < n → n - t ≡ suc (n - (t + 1))
-one_left n t low = omega arith
-
-none_left : (n t : ℕ) → n ≤ t → n - t ≡ zero
-none_left n t high = omega arith
-
-zero_max : (n : ℕ) → max 0 n ≡ n
-zero_max n = omega arith
+use Rattle.c_parser_expressions.specs.TypeNameReaders.{GotWords, GotStars, GotArrays, words, word_by, with_word, word_before, qualifiers, qualified, stars, with_star, is_star, both, pairs, pair, after_arrays, no_arrays}
+use Rattle.c_parser_expressions.proofs.Turns.{one_left, none_left}
 
 max_zero : (n : ℕ) → max n 0 ≡ n
 max_zero n = omega arith
@@ -32,10 +24,6 @@ max_zero n = omega arith
 abbrev pub words_before : List TypeNameWord → Option GotWords → Option GotWords
 words_before ws None = None
 words_before ws (Some g) = Some (record { words = ws ++ g.words; rest = g.rest })
-
-pub no_words_before : (o : Option GotWords) → words_before [] o ≡ o
-no_words_before None = refl
-no_words_before (Some g) = refl
 
 word_moves : (ws : List TypeNameWord) (w : TypeNameWord) (o : Option GotWords) → words_before ws (word_before w o) ≡ words_before (ws ++ (w ∷ [])) o
 word_moves ws w None = refl
@@ -129,10 +117,6 @@ abbrev pub arguments_before : List Tree → ℕ → Option GotSome → Option Go
 arguments_before es h None = None
 arguments_before es h (Some g) = Some (record { trees = both (trees es) g.trees; height = max h g.height; rest = g.rest })
 
-pub no_arguments_before : (o : Option GotSome) → arguments_before [] 0 o ≡ o
-no_arguments_before None = refl
-no_arguments_before (Some g) = ap (λ (h : ℕ). Some (record { trees = g.trees; height = h; rest = g.rest })) (zero_max g.height)
-
 argument_moves : (es : List Tree) (h : ℕ) (g : Got) (o : Option GotSome) → arguments_before es h (more_arguments g o) ≡ arguments_before (es ++ (g.tree ∷ [])) (max h g.height) o
 argument_moves es h g None = refl
 argument_moves es h g (Some more) =
@@ -173,18 +157,11 @@ arguments_open i es h n t ts g low first comma shut =
     arguments_last i es h n t ts g low first comma
     ∙ ap (λ x. arguments_before es h (cond x (Some (record { trees = More g.tree End; height = g.height; rest = behind_first g.rest })) None)) shut
 
-pub arguments_over : (i : Readers) (es : List Tree) (h n t : ℕ) (ts : List Terminal) → n ≤ t → arguments_before es h (some_arguments i (n - t) ts) ≡ None
-arguments_over i es h n t ts high = ap (λ turns. arguments_before es h (some_arguments i turns ts)) (none_left n t high)
-
 -- ---- brackets
 
 abbrev pub pairs_before : List Brackets → List Tree → ℕ → Option GotArrays → Option GotArrays
 pairs_before bs es h None = None
 pairs_before bs es h (Some g) = Some (record { arrays = bs ++ g.arrays; lengths = both (trees es) g.lengths; height = max h g.height; rest = g.rest })
-
-pub no_pairs_before : (o : Option GotArrays) → pairs_before [] [] 0 o ≡ o
-no_pairs_before None = refl
-no_pairs_before (Some g) = ap (λ (h : ℕ). Some (record { arrays = g.arrays; lengths = g.lengths; height = h; rest = g.rest })) (zero_max g.height)
 
 pair_moves : (bs : List Brackets) (es : List Tree) (h k : ℕ) (pair : ArrayLength) (o : Option GotArrays) →
     pairs_before bs es h (after_arrays o (with_pair pair k)) ≡ pairs_before (bs ++ (brackets_of pair ∷ [])) (es ++ lengths_of pair.length) (max h k) o

@@ -1,12 +1,12 @@
 -- Productions of expressions, over what was found for their parts.
-use Rattle.std.proofs.Common.{◌≡◌, ℕ, ◌+◌, ◌<◌, ◌≤◌, Bool, true, false, List, max, Some, arith, refl, ap}
+use Rattle.std.proofs.Common.{◌≡◌, ℕ, ◌+◌, ◌≤◌, true, List, max, Some, arith}
 use Rattle.cc_base.specs.declared.diagnostics.Place.{Place}
 use Rattle.c_layout.specs.SyntaxTrees.{Tree, Name, Number, Literal, Paren, Subscript, Call, Member, Arrow, Postfix, Prefix, Unary, SizeofExpr, SizeofType, Cast, Binary, Logical, Conditional, Assign, Comma}
 use Rattle.c_layout.specs.declared.syntax_tree.expressions.AssignOp.{AssignOp}
 use Rattle.c_parser_tokens.specs.declared.terminals.Terminal.{Terminal}
 use Rattle.c_parser_tokens.specs.declared.terminals.Punctuator.{Punctuator}
 use Rattle.c_parser_tokens.specs.declared.terminals.Punctuator.TheVariants as p
-use Rattle.c_parser_expressions.specs.Expressions.{Derives, height_of}
+use Rattle.c_parser_expressions.specs.Expressions.{Derives}
 use Rattle.c_parser_expressions.specs.Findings.{Found, FoundLevel, is_unary}
 use Rattle.c_parser_expressions.specs.Fronts.{first_place, IsSign}
 use Rattle.c_parser_expressions.specs.Levels.{assign_sign}

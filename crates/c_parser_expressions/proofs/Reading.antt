@@ -1,7 +1,7 @@
 -- The readers as definitions, where their parts were read.
-use Rattle.std.proofs.Common.{◌≡◌, ℕ, zero, suc, ◌+◌, ◌≤◌, Bool, true, false, List, cond, max, Option, Some, None, refl, sym, ap, ◌∙◌, arith}
+use Rattle.std.proofs.Common.{◌≡◌, ℕ, suc, ◌+◌, Bool, true, false, List, cond, max, Option, Some, None, refl, sym, ap, ◌∙◌, arith}
 use Rattle.cc_base.specs.declared.diagnostics.Place.{Place}
-use Rattle.c_layout.specs.SyntaxTrees.{Tree, Trees, TypeNameView, Name, Paren, Call, SizeofExpr, SizeofType, Cast, Prefix, Unary, Conditional, Assign, Subscript}
+use Rattle.c_layout.specs.SyntaxTrees.{Tree, Name, Paren, Call, SizeofExpr, SizeofType, Cast, Prefix, Unary, Conditional, Assign, Subscript}
 use Rattle.c_layout.specs.declared.syntax_tree.expressions.AssignOp.{AssignOp}
 use Rattle.c_layout.specs.declared.syntax_tree.expressions.StepOp.{StepOp}
 use Rattle.c_layout.specs.declared.syntax_tree.expressions.UnaryOp.{UnaryOp}
@@ -70,8 +70,6 @@ parenthesized_whole b i ts a m rest e h r opens inner shut whole =
 pub parenthesized_open : (b : ℕ) (i : Readers) (ts a m : List Terminal) (e : Tree) (h : ℕ) → IsSign p.LeftParenthesis ts a → i.expression a ≡ Some (got e h m) → is_right_parenthesis (first_symbol m) ≡ false → parenthesized b i ts ≡ None
 parenthesized_open b i ts a m e h opens inner shut = parenthesized_inner b i ts a (Some (got e h m)) opens inner ∙ no_sign is_right_parenthesis m (λ x. made b (Paren (first_place ts) e) h x) shut
 
--- ---- calls
-
 -- ---- sizeof
 
 pub size_named : (b : ℕ) (i : Readers) (ts a c : List Terminal) (r : Option GotName) → a ≡ behind_first ts → c ≡ behind_first a → i.type_name c ≡ r →
@@ -130,10 +128,6 @@ chosen_second b i known ts a c g y r condition question first colon second =
     ∙ sign_here is_colon (λ x. after (i.conditional x) (λ z. made b (Conditional (first_place g.rest) g.tree y.tree z.tree) (max (max g.height y.height) z.height) z.rest)) refl colon
     ∙ onward (λ z. made b (Conditional (first_place g.rest) g.tree y.tree z.tree) (max (max g.height y.height) z.height) z.rest) second
 
-pub not_chosen : (b : ℕ) (i : Readers) (known : List (List ℕ)) (ts : List Terminal) (g : Got) → binary b i known 3 ts ≡ Some g → is_question (first_symbol g.rest) ≡ false → conditional b i known ts ≡ Some g
-not_chosen b i known ts g condition stops =
-    onward (λ x. cond (is_question (first_symbol x.rest)) (chosen b i x) (Some x)) condition ∙ ap (λ x. cond x (chosen b i g) (Some g)) stops
-
 -- ---- assignments
 
 pub assigned_right : (b : ℕ) (i : Readers) (known : List (List ℕ)) (ts a : List Terminal) (g : Got) (op : AssignOp) (r : Reading) → conditional b i known ts ≡ Some g → assign_of (first_symbol g.rest) ≡ Some op → is_unary g.tree ≡ true →
@@ -144,15 +138,6 @@ assigned_right b i known ts a g op r left here one a-is right =
     ∙ ap (λ x. cond x (after (i.assignment (behind_first g.rest)) (λ y. made b (Assign (first_place g.rest) op g.tree y.tree) (max g.height y.height) y.rest)) None) one
     ∙ ap (λ x. after (i.assignment x) (λ y. made b (Assign (first_place g.rest) op g.tree y.tree) (max g.height y.height) y.rest)) (sym a-is)
     ∙ onward (λ y. made b (Assign (first_place g.rest) op g.tree y.tree) (max g.height y.height) y.rest) right
-
-pub not_assigned : (b : ℕ) (i : Readers) (known : List (List ℕ)) (ts : List Terminal) (g : Got) → conditional b i known ts ≡ Some g → assign_of (first_symbol g.rest) ≡ None → assignment b i known ts ≡ Some g
-not_assigned b i known ts g left stops = onward (λ x. assigned b i x (assign_of (first_symbol x.rest))) left ∙ ap (assigned b i g) stops
-
-pub no_left_side : (b : ℕ) (i : Readers) (known : List (List ℕ)) (ts : List Terminal) (g : Got) (op : AssignOp) → conditional b i known ts ≡ Some g → assign_of (first_symbol g.rest) ≡ Some op → is_unary g.tree ≡ false → assignment b i known ts ≡ None
-no_left_side b i known ts g op left here other =
-    onward (λ x. assigned b i x (assign_of (first_symbol x.rest))) left
-    ∙ ap (assigned b i g) here
-    ∙ ap (λ x. cond x (after (i.assignment (behind_first g.rest)) (λ y. made b (Assign (first_place g.rest) op g.tree y.tree) (max g.height y.height) y.rest)) None) other
 
 -- ---- subscripts
 
@@ -198,14 +183,6 @@ behind_name b i known ts a at text x name sign =
     ∙ ap (λ y. cond (is_left_parenthesis (first_symbol y)) (call b i ts) (Some (got (Name (first_place ts) (first_text ts)) 0 (behind_first ts)))) (sym name.behind)
     ∙ ap (λ y. cond y (call b i ts) (Some (got (Name (first_place ts) (first_text ts)) 0 (behind_first ts)))) sign
 
-pub name_read : (b : ℕ) (i : Readers) (known : List (List ℕ)) (ts a : List Terminal) (at : Place) (text : List ℕ) → IsName known at text ts a → is_left_parenthesis (first_symbol a) ≡ false →
-    cond (is_identifier (first_symbol ts)) (name_or_call b i known ts) None ≡ Some (got (Name at text) 0 a)
-name_read b i known ts a at text name sign =
-    behind_name b i known ts a at text false name sign
-    ∙ ap (λ (place : Place). Some (got (Name place (first_text ts)) 0 (behind_first ts))) (sym name.place)
-    ∙ ap (λ (bytes : List ℕ). Some (got (Name at bytes) 0 (behind_first ts))) (sym name.spelled)
-    ∙ ap (λ (rest : List Terminal). Some (got (Name at text) 0 rest)) (sym name.behind)
-
 pub call_read : (b : ℕ) (i : Readers) (known : List (List ℕ)) (ts a c : List Terminal) (at : Place) (text : List ℕ) (r : Option GotSome) → IsName known at text ts a → IsSign p.LeftParenthesis a c → arguments i c ≡ r →
     cond (is_identifier (first_symbol ts)) (name_or_call b i known ts) None ≡ after_some r (λ g. made b (Call at text g.trees) g.height g.rest)
 call_read b i known ts a c at text r name sign inner =
@@ -216,17 +193,8 @@ call_read b i known ts a c at text r name sign inner =
     ∙ ap (λ (place : Place). after_some r (λ g. made b (Call place (first_text ts) g.trees) g.height g.rest)) (sym name.place)
     ∙ ap (λ (bytes : List ℕ). after_some r (λ g. made b (Call at bytes g.trees) g.height g.rest)) (sym name.spelled)
 
--- ---- where the first sign does not stand
+-- ---- readings behind a first sign
 
-pub parenthesized_none : (b : ℕ) (i : Readers) (ts : List Terminal) → is_left_parenthesis (first_symbol ts) ≡ false → parenthesized b i ts ≡ None
-parenthesized_none b i ts off =
-    no_sign is_left_parenthesis ts (λ x. after (i.expression x) (λ g. expect is_right_parenthesis g.rest (λ rest. made b (Paren (first_place ts) g.tree) g.height rest))) off
-
-pub index_none : (b : ℕ) (i : Readers) (ts : List Terminal) (e : Tree) (h : ℕ) → is_left_bracket (first_symbol ts) ≡ false → subscript b i (got e h ts) ≡ None
-index_none b i ts e h off =
-    no_sign is_left_bracket ts (λ y. after (i.expression y) (λ x. expect is_right_bracket x.rest (λ rest. made b (Subscript (first_place ts) e x.tree) (max h x.height) rest))) off
-
--- a reading that does not look at what it stands behind
 pub sign_before : (is : Symbol → Bool) {sign : Punctuator} {ts a : List Terminal} {r s : Reading} → is (symbol.Punctuator sign) ≡ true → IsSign sign ts a → r ≡ s → expect is ts (λ _. r) ≡ s
 sign_before is {sign} {ts} {a} {r} {s} says here reads = sign_here is (λ _. r) says here ∙ reads
 

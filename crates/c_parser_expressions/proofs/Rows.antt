@@ -1,5 +1,5 @@
 -- Worked rows of the grammar of expressions.
-use Rattle.std.proofs.Common.{◌≡◌, ℕ, ◌≤◌, Bool, true, false, List, [], ◌∷◌, refl, arith, codes}
+use Rattle.std.proofs.Common.{◌≡◌, ℕ, ◌≤◌, true, false, List, [], ◌∷◌, refl, arith, codes}
 use Rattle.cc_base.specs.declared.diagnostics.Place.{Place}
 use Rattle.c_layout.specs.SyntaxTrees.{Tree, Name, Binary, Conditional, Assign}
 use Rattle.c_layout.specs.declared.syntax_tree.declarations.TypeWord.TheVariants as type_word

@@ -1,7 +1,7 @@
 -- Operators behind an operand.
-use Rattle.std.proofs.Common.{◌≡◌, ℕ, ◌+◌, ◌≤◌, List, max, arith, refl, ap, ◌∙◌}
+use Rattle.std.proofs.Common.{◌≡◌, ℕ, ◌+◌, ◌≤◌, List, max, arith, refl}
 use Rattle.std.proofs.lemmas.Grind.{common_steps}
-use Rattle.c_layout.specs.SyntaxTrees.{Tree, tree_of}
+use Rattle.c_layout.specs.SyntaxTrees.{Tree}
 use Rattle.c_parser_tokens.specs.declared.terminals.Terminal.{Terminal}
 use Rattle.c_parser_expressions.specs.declared.postfix_operators.Suffix.{Suffix}
 use Rattle.c_parser_expressions.specs.declared.postfix_operators.Suffix.TheVariants as suffix

@@ -1,19 +1,18 @@
 -- The loops of the readers of expressions, turn by turn.
-use Rattle.std.proofs.Common.{◌≡◌, ℕ, zero, suc, ◌+◌, ◌-◌, ◌<◌, ◌≤◌, Bool, true, false, List, cond, max, Option, Some, None, refl, sym, ap, ◌∙◌, arith}
-use Rattle.c_layout.specs.SyntaxTrees.{Tree, Trees, Comma}
-use Rattle.c_parser_tokens.specs.declared.terminals.Terminal.{Terminal}
+use Rattle.std.proofs.Common.{◌≡◌, ℕ, zero, suc, ◌+◌, ◌-◌, ◌<◌, ◌≤◌, true, false, List, cond, max, Some, None, ap, ◌∙◌, arith}
+use Rattle.c_layout.specs.SyntaxTrees.{Comma}
 use Rattle.c_parser_expressions.specs.declared.operators.Infix.{Infix}
 use Rattle.c_parser_expressions.specs.Findings.{infix_tree}
 use Rattle.c_parser_expressions.specs.Fronts.{first_symbol, first_place, behind_first}
 use Rattle.c_parser_expressions.specs.Levels.{op_level, goes_on}
-use Rattle.c_parser_expressions.specs.Readings.{Got, GotSome, Reading, got, after, is_comma, is_right_parenthesis, made}
+use Rattle.c_parser_expressions.specs.Readings.{Got, Reading, after, is_comma, made}
 use Rattle.c_parser_expressions.specs.ExpressionReaders.{Readers, infix_from, infix_by, refuse, climb, suffix, suffixes, commas}
 
 -- of n turns t are over
-one_left : (n t : ℕ) → t < n → n - t ≡ suc (n - (t + 1))
+pub one_left : (n t : ℕ) → t < n → n - t ≡ suc (n - (t + 1))
 one_left n t low = omega arith
 
-none_left : (n t : ℕ) → n ≤ t → n - t ≡ zero
+pub none_left : (n t : ℕ) → n ≤ t → n - t ≡ zero
 none_left n t high = omega arith
 
 -- ---- operators between two operands
@@ -48,9 +47,6 @@ climb_end b i level (suc m) g stops = ap (λ o. infix_by b i g o (climb b i leve
 pub climb_stops : (b : ℕ) (i : Readers) (level n t : ℕ) (g : Got) → infix_from level g.rest ≡ None → climb b i level (n - t) g ≡ Some g
 climb_stops b i level n t g stops = climb_end b i level (n - t) g stops
 
-pub climb_over : (b : ℕ) (i : Readers) (level n t : ℕ) (g : Got) (op : Infix) → n ≤ t → infix_from level g.rest ≡ Some op → climb b i level (n - t) g ≡ None
-climb_over b i level n t g op high here = ap (λ turns. climb b i level turns g) (none_left n t high) ∙ ap (refuse g) here
-
 -- ---- operators behind an operand
 
 pub suffixes_turn : (b : ℕ) (i : Readers) (known : List (List ℕ)) (n t : ℕ) (g : Got) (r : Reading) → t < n → goes_on (first_symbol g.rest) ≡ true → suffix b i known g ≡ r →
@@ -59,16 +55,6 @@ suffixes_turn b i known n t g r low here behind =
     ap (λ turns. suffixes b i known turns g) (one_left n t low)
     ∙ ap (λ x. cond x (after (suffix b i known g) (suffixes b i known (n - (t + 1)))) (Some g)) here
     ∙ ap (λ x. after x (suffixes b i known (n - (t + 1)))) behind
-
-suffixes_end : (b : ℕ) (i : Readers) (known : List (List ℕ)) (m : ℕ) (g : Got) → goes_on (first_symbol g.rest) ≡ false → suffixes b i known m g ≡ Some g
-suffixes_end b i known zero g stops = ap (λ x. cond x None (Some g)) stops
-suffixes_end b i known (suc m) g stops = ap (λ x. cond x (after (suffix b i known g) (suffixes b i known m)) (Some g)) stops
-
-pub suffixes_stop : (b : ℕ) (i : Readers) (known : List (List ℕ)) (n t : ℕ) (g : Got) → goes_on (first_symbol g.rest) ≡ false → suffixes b i known (n - t) g ≡ Some g
-suffixes_stop b i known n t g stops = suffixes_end b i known (n - t) g stops
-
-pub suffixes_over : (b : ℕ) (i : Readers) (known : List (List ℕ)) (n t : ℕ) (g : Got) → n ≤ t → goes_on (first_symbol g.rest) ≡ true → suffixes b i known (n - t) g ≡ None
-suffixes_over b i known n t g high here = ap (λ turns. suffixes b i known turns g) (none_left n t high) ∙ ap (λ x. cond x None (Some g)) here
 
 -- ---- comma expressions
 
@@ -95,6 +81,3 @@ commas_end b i (suc m) g stops =
 
 pub commas_stop : (b : ℕ) (i : Readers) (n t : ℕ) (g : Got) → is_comma (first_symbol g.rest) ≡ false → commas b i (n - t) g ≡ Some g
 commas_stop b i n t g stops = commas_end b i (n - t) g stops
-
-pub commas_over : (b : ℕ) (i : Readers) (n t : ℕ) (g : Got) → n ≤ t → is_comma (first_symbol g.rest) ≡ true → commas b i (n - t) g ≡ None
-commas_over b i n t g high here = ap (λ turns. commas b i turns g) (none_left n t high) ∙ ap (λ x. cond x None (Some g)) here

@@ -1,14 +1,13 @@
 -- The grammar of expressions (6.5) as a relation: a tree at a level derives from the terminals `ts` to
 -- those that it leaves, `rest`, with the typedef names in force. Levels are those of Levels.
-use Rattle.std.specs.Prelude.{◌≡◌, ◌+◌, ◌≤◌, ◌<◌, ℕ, List, [], ◌∷◌, max, Option, Some, None}
-use Rattle.cc_base.specs.declared.diagnostics.Place.{Place}
+use Rattle.std.specs.Prelude.{◌≡◌, ◌+◌, ◌≤◌, ℕ, List, [], ◌∷◌, max, Some}
 use Rattle.c_layout.specs.SyntaxTrees.{Tree, Trees, Name, Number, Literal, Paren, Subscript, Call, Member, Arrow, Postfix, Prefix, Unary, SizeofExpr, SizeofType, Cast, Binary, Logical, Conditional, Assign, Comma, End, More}
 use Rattle.c_parser_tokens.specs.declared.terminals.Terminal.{Terminal}
 use Rattle.c_parser_tokens.specs.declared.terminals.Keyword.TheVariants as k
 use Rattle.c_parser_tokens.specs.declared.terminals.Punctuator.{Punctuator}
 use Rattle.c_parser_tokens.specs.declared.terminals.Punctuator.TheVariants as p
-use Rattle.c_parser_expressions.specs.Fronts.{first_symbol, first_place, IsSign, IsWord, IsName, IsConstant, IsLiteral}
-use Rattle.c_parser_expressions.specs.Levels.{binary_sign, binary_level, logical_sign, logical_level, unary_sign, step_sign, assign_sign, symbol_level}
+use Rattle.c_parser_expressions.specs.Fronts.{first_place, IsSign, IsWord, IsName, IsConstant, IsLiteral}
+use Rattle.c_parser_expressions.specs.Levels.{binary_sign, binary_level, logical_sign, logical_level, unary_sign, step_sign, assign_sign}
 use Rattle.c_parser_expressions.specs.Spans.{Span, Separated}
 use Rattle.c_parser_expressions.specs.TypeNames.{IsTypeName, greatest, type_name_height}
 

@@ -1,11 +1,10 @@
 -- What the readers answer: trees that derive from the terminals read, with the heights of their
 -- derivations.
-use Rattle.std.specs.Prelude.{◌≡◌, ◌+◌, ◌≤◌, ◌<◌, ℕ, Bool, true, false, ◌&&◌, cond, is_some, max, List, [], ◌∷◌, reverse, Option, Some, None, Box}
+use Rattle.std.specs.Prelude.{◌≡◌, ◌+◌, ◌≤◌, ◌<◌, ℕ, Bool, true, false, ◌&&◌, cond, is_some, List, [], ◌∷◌, reverse, Option, Some, None, Box}
 use Rattle.std.specs.Global.{Global}
 use Rattle.cc_base.specs.declared.diagnostics.Place.{Place}
-use Rattle.c_layout.specs.SyntaxTrees.{Tree, Trees, trees, tree_of, LayerView, TypeNameView, Subscript, Member, Arrow, Postfix, Cast, Binary, Logical, Conditional, Assign, Comma}
+use Rattle.c_layout.specs.SyntaxTrees.{Tree, trees, tree_of, LayerView, TypeNameView, Subscript, Member, Arrow, Postfix, Cast, Binary, Logical, Conditional, Assign, Comma}
 use Rattle.c_layout.specs.declared.syntax_tree.expressions.Brackets.{Brackets}
-use Rattle.c_layout.specs.declared.syntax_tree.expressions.StepOp.{StepOp}
 use Rattle.c_parser_tokens.specs.declared.terminals.Terminal.{Terminal}
 use Rattle.c_parser_tokens.specs.declared.terminals.Punctuator.TheVariants as p
 use Rattle.c_layout.specs.declared.syntax_tree.expressions.Expr.{Expr}
@@ -18,7 +17,7 @@ use Rattle.c_parser_expressions.specs.Expressions.{Derives, DeriveEach, height_o
 use Rattle.c_parser_expressions.specs.Fronts.{first_symbol, first_place, IsSign, IsName}
 use Rattle.c_parser_expressions.specs.Levels.{step_sign, symbol_level}
 use Rattle.c_parser_expressions.specs.Spans.{Span, Trailed, Separated}
-use Rattle.c_parser_expressions.specs.TypeNames.{IsTypeName, IsBrackets, Arrays, is_something, Layers, Nested, Declarator, greatest, layers_height, nested_height, is_lone_star, type_name_height}
+use Rattle.c_parser_expressions.specs.TypeNames.{IsTypeName, IsBrackets, Arrays, is_something, Nested, Declarator, greatest, nested_height, is_lone_star, type_name_height}
 
 -- a tree that derives at the level, of a height within the budget
 pub record Found (known : List (List ℕ)) (l budget : ℕ) (e : Tree) (high : ℕ) (ts rest : List Terminal) : Type 0 where

@@ -1,6 +1,6 @@
 -- How the answers of the code's readers go with those of the readers as definitions: what the code read is exactly what
 -- the definition reads, and where it finds nothing by the grammar, the definition has nothing. Want of memory says nothing.
-use Rattle.std.specs.Prelude.{◌≡◌, ℕ, cond, max, map, reverse, List, [], ◌∷◌, Option, Some, None, Result, MatchResult}
+use Rattle.std.specs.Prelude.{◌≡◌, ℕ, cond, max, map, reverse, List, ◌∷◌, Option, Some, None, Result, MatchResult}
 use Rattle.c_layout.specs.SyntaxTrees.{Tree, trees, tree_of, layer_view}
 use Rattle.c_parser_tokens.specs.declared.terminals.Terminal.{Terminal}
 use Rattle.c_parser_expressions.specs.declared.heights.Parsed.{Parsed}

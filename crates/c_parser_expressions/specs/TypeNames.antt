@@ -2,7 +2,6 @@
 -- spans of terminals here; what they hold is said where expressions are.
 use Rattle.std.specs.Prelude.{◌≡◌, ◌+◌, ◌-◌, ◌==◌, ℕ, zero, suc, Bool, true, false, ◌&&◌, ◌||◌, not, cond, min, max, List, [], ◌∷◌, ◌++◌, take, drop, length, fold, nat_le, Option, Some, None}
 use Rattle.std.specs.List.{list_any}
-use Rattle.cc_base.specs.declared.diagnostics.Place.{Place}
 use Rattle.c_layout.specs.SyntaxTrees.{LayerView, TypeNameView}
 use Rattle.c_layout.specs.declared.syntax_tree.declarations.TypeWord.{TypeWord}
 use Rattle.c_layout.specs.declared.syntax_tree.declarations.TypeWord.TheVariants as type_word

@@ -1,4 +1,4 @@
-use Rattle.std.proofs.Common.{◌≡◌, ◌≤◌, ◌<◌, ◌+◌, ◌∙◌, ◌∷◌, Some, None, true, max, map, length, refl, sym, ap, subst, arith}
+use Rattle.std.proofs.Common.{◌≡◌, ◌+◌, ◌∙◌, ◌∷◌, Some, None, true, max, map, length, refl, sym, ap, subst, arith}
 use Rattle.c_layout.specs.SyntaxTrees.{tree_of, trees, type_name_view, Paren, Subscript, Prefix, Unary, SizeofExpr, SizeofType, Cast, Conditional, Assign, Comma, More}
 use Rattle.c_parser_tokens.specs.declared.terminals.Punctuator.TheVariants as p
 use Rattle.c_parser_tokens.specs.declared.terminals.Symbol.TheVariants as symbol

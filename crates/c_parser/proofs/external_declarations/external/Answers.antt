@@ -8,11 +8,11 @@ use Rattle.c_parser.proofs.external_declarations.external.Goals as goal
 pub returns-in_err-found-clause-read : goal.returns-in_err-found-clause-read
 returns-in_err-found-clause-read c =
     let p = err_from_is_err_and c.from_residual-in_err-found.result c.from_residual-in_err-found.ensures.1 in
-    rw (p.1, p.2) (λ s. external_nameless c.args.typedefs.now _ c.args.reader.now (map spec_tree c.in_ok-head.head.words.items) _ c.in_ok-inner.ensures.inner c.in_ok-head.ensures.read c.if-accept.ensures.yes ∙ rw c.in_ok-head.ensures.place at (c.in_err-found.ensures.read _ s))
+    rw (p.1, p.2) (λ s. external_nameless c.args.typedefs.now _ c.args.reader.now c.in_ok-head.head.place (map spec_tree c.in_ok-head.head.words.items) _ c.in_ok-inner.ensures.inner c.in_ok-head.ensures.place c.in_ok-head.ensures.read c.if-accept.ensures.yes ∙ c.in_err-found.ensures.read _ s)
 
 pub returns-then-accept-clause-read : goal.returns-then-accept-clause-read
 returns-then-accept-clause-read c =
-    external_nameless c.args.typedefs.now _ c.args.reader.now (map spec_tree c.in_ok-head.head.words.items) _ c.in_ok-inner.ensures.inner c.in_ok-head.ensures.read c.if-accept.ensures.yes ∙ rw c.in_ok-head.ensures.place at (c.in_ok-found.ensures.read _)
+    external_nameless c.args.typedefs.now _ c.args.reader.now c.in_ok-head.head.place (map spec_tree c.in_ok-head.head.words.items) _ c.in_ok-inner.ensures.inner c.in_ok-head.ensures.place c.in_ok-head.ensures.read c.if-accept.ensures.yes ∙ c.in_ok-found.ensures.read _
 
 pub returns-in_err-found-2-clause-read : goal.returns-in_err-found-2-clause-read
 returns-in_err-found-2-clause-read c =

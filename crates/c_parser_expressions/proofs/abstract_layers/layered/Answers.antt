@@ -1,4 +1,4 @@
-use Rattle.std.proofs.Common.{rules, ◌≡◌, ◌&&◌, ◌∙◌, ◌∷◌, [], ◌++◌, false, ◌≤◌, map, sym, ap, subst}
+use Rattle.std.proofs.Common.{rules, ◌≡◌, ◌&&◌, ◌∙◌, ◌∷◌, [], ◌++◌, ◌≤◌, map, sym, ap, subst}
 use Rattle.std.proofs.lemmas.List.{map-append}
 use Rattle.c_layout.specs.SyntaxTrees.{tree_of, layer_view}
 use Rattle.c_parser_expressions.specs.Findings.{layer_of, layer_height, is_empty, IsSomething}

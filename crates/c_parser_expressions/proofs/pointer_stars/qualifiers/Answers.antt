@@ -1,4 +1,4 @@
-use Rattle.std.proofs.Common.{◌≡◌, ◌-◌, ◌+◌, refl, sym, ap, ◌∙◌, length, arith}
+use Rattle.std.proofs.Common.{◌-◌, ◌+◌, sym, ap, ◌∙◌, length, arith}
 use Rattle.c_parser_expressions.specs.Fronts.{behind_first}
 use Rattle.c_parser_expressions.specs.TypeNameReaders.{qualifiers}
 use Rattle.c_parser_expressions.proofs.Listing.{qualifiers_next}

@@ -1,4 +1,4 @@
-use Rattle.std.proofs.Common.{◌≡◌, ◌-◌, ◌+◌, refl, sym, ap, ◌∙◌, length, arith}
+use Rattle.std.proofs.Common.{◌-◌, ◌+◌, refl, sym, ap, ◌∙◌, length, arith}
 use Rattle.c_parser_expressions.specs.Fronts.{first_symbol}
 use Rattle.c_parser_expressions.specs.TypeNames.{IsStar}
 use Rattle.c_parser_expressions.specs.TypeNameReaders.{stars, is_star}
