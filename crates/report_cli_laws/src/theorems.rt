@@ -1,6 +1,7 @@
-//! A unit has one tree, one checked unit and one program; one that has a program is not refused, and one that the grammar
-//! refuses is refused exactly.
-ghost use Rattle.report_cli_laws.specs.Accepted.{OneTree, OneCheckedUnit, OneProgram, RefusedForTurns, AcceptedNotRefused, JudgedNotRefused};
+//! A unit has one tree, one checked unit and one program; one that has a program is not refused, and one that the
+//! grammar refuses is refused exactly.
+ghost use Rattle.report_cli_laws.specs.Accepted.{OneTree, OneCheckedUnit, OneProgram};
+ghost use Rattle.report_cli_laws.specs.Accepted.{RefusedForTurns, AcceptedNotRefused, JudgedNotRefused};
 ghost use Rattle.report_cli_laws.specs.GrammarRefusals.{RefusedExactly, SyntaxExactly, RefusedHasNoTree};
 ghost use Rattle.report_cli_laws.specs.Told.{AcceptedIsReported, AcceptedIsAnswered};
 
@@ -11,16 +12,16 @@ pub fn one_parse()
     ensures program { OneProgram }
 {}
 
-/// No stage behind the expansion is called to refuse a unit with a tree, a checked unit and a program, unless for a count
-/// of the program with turns of its loops unrolled, where such are asked for.
+/// No stage behind the expansion is called to refuse a unit with a tree, a checked unit and a program, unless for a
+/// count of the program with turns of its loops unrolled, where such are asked for.
 pub fn accepted_units_are_not_refused()
     ensures turns { RefusedForTurns }
     ensures accepted { AcceptedNotRefused }
     ensures judged { JudgedNotRefused }
 {}
 
-/// A refusal of the grammar stands at the first token whose form is not in, or at the first word that is left out; where
-/// each token is in, at the first token of the first piece without a derivation. A unit that has a tree has none.
+/// A refusal of the grammar stands at the first token whose form is not in, or at the first word that is left out;
+/// where each token is in, at the first token of the first piece without a derivation. A unit that has a tree has none.
 pub fn refusals_of_grammar_are_exact()
     ensures exactly { RefusedExactly }
     ensures syntax { SyntaxExactly }
