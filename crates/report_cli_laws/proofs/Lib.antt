@@ -3,3 +3,4 @@ pub mod OneParse
 pub mod Grammar
 pub mod NotRefused
 pub mod Told
+pub mod ToldLoad

@@ -32,7 +32,7 @@ some_same {m} {n} {x} is also = cc
 
 -- ---- a named model is had
 
-model_had : (seen : Seen) (name : Bytes) (m : Model) → model_named name ≡ Some m → (v : Verdict) → RefusesModel seen name v → ⊥
+pub model_had : (seen : Seen) (name : Bytes) (m : Model) → model_named name ≡ Some m → (v : Verdict) → RefusesModel seen name v → ⊥
 model_had seen name m named (verdict.absent file) (same, none, lacks) = none_some none named
 model_had seen name m named (verdict.too_long file) (same, none, long) = none_some none named
 model_had seen name m named (verdict.no_model file reason) (same, why, is, reads) = none_some reads.unnamed named
@@ -47,7 +47,7 @@ model_had seen name m named (verdict.proved text) h = h
 model_had seen name m named (verdict.proved_past unit count) h = h
 model_had seen name m named (verdict.cert_refused file why) h = h
 
-model_same : (files : Option Files) (name : Bytes) (m n : Model) → model_named name ≡ Some m → HasModel files name n → n ≡ m
+pub model_same : (files : Option Files) (name : Bytes) (m n : Model) → model_named name ≡ Some m → HasModel files name n → n ≡ m
 model_same files name m n named (inl also) = some_same also named
 model_same files name m n named (inr reads) = absurd (none_some reads.unnamed named)
 
@@ -62,7 +62,7 @@ both {p} {q} {x} is also = cc
 no_main : {p : Preprocessed} {x : Option (Result Preprocessed Refused)} → x ≡ Some (Ok p) → x ≡ None → ⊥
 no_main {p} {x} is also = cc
 
-same_unit : (u v : Unit7) → u.tokens ≡ v.tokens → u.model ≡ v.model → u ≡ v
+pub same_unit : (u v : Unit7) → u.tokens ≡ v.tokens → u.model ≡ v.model → u ≡ v
 same_unit u v p q = λ i. record { tokens = p i; model = q i }
 
 one_unit : (held : Files) (dirs : List Bytes) (m : Model) (main : Bytes) (names others : List Bytes) (u v : Unit7) → IsExpanded (FromFiles (Some held) dirs m main) m names u → IsExpanded (FromFiles (Some held) dirs m main) m others v → u ≡ v

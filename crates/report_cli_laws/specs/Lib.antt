@@ -1,3 +1,4 @@
 pub mod Accepted
 pub mod GrammarRefusals
 pub mod Told
+pub mod ToldLoad

@@ -4,6 +4,7 @@ ghost use Rattle.report_cli_laws.specs.Accepted.{OneTree, OneCheckedUnit, OnePro
 ghost use Rattle.report_cli_laws.specs.Accepted.{RefusedForTurns, AcceptedNotRefused, JudgedNotRefused};
 ghost use Rattle.report_cli_laws.specs.GrammarRefusals.{RefusedExactly, SyntaxExactly, RefusedHasNoTree};
 ghost use Rattle.report_cli_laws.specs.Told.{AcceptedIsReported, AcceptedIsAnswered};
+ghost use Rattle.report_cli_laws.specs.ToldLoad.{AcceptedIsSummed};
 
 /// Two trees that the tokens of a unit derive are the same, and so are what they are typed to and the programs of that.
 pub fn one_parse()
@@ -29,8 +30,9 @@ pub fn refusals_of_grammar_are_exact()
 {}
 
 /// Where the files are told and the model is a named one, `check` is called to tell of an accepted unit nothing but its
-/// report: it answers 0 or 1 with the report, or 5, 6 or 7.
+/// report: it answers 0 or 1 with the report, or 5, 6 or 7. `load` is called to tell nothing but its summary.
 pub fn accepted_units_are_answered()
     ensures reported { AcceptedIsReported }
     ensures answered { AcceptedIsAnswered }
+    ensures summed { AcceptedIsSummed }
 {}
