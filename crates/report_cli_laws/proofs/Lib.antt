@@ -1,0 +1,5 @@
+pub mod Short
+pub mod OneParse
+pub mod Grammar
+pub mod NotRefused
+pub mod Told
