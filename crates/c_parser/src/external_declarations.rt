@@ -171,7 +171,14 @@ fn definition(
     let Parsed { tree, height } = name;
     match tree {
         InitDeclarator::Function(tree) => {
-            function(alloc, typedefs, reader, head, Parsed { tree, height }, budget)
+            function(
+                alloc,
+                typedefs,
+                reader,
+                head,
+                Parsed { tree, height },
+                budget,
+            )
         }
         _ => Err(Trouble::Syntax),
     }
