@@ -1,3 +1,4 @@
+pub mod Signs
 pub mod Bodies
 pub mod Declaring
 pub mod Jumps

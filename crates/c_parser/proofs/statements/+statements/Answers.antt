@@ -1,7 +1,8 @@
 use Rattle.std.specs.Option.{option_map}
 use Rattle.std.proofs.Common.{◌+◌, map, sym, refl, arith, None, ◌∙◌}
 use Rattle.std.proofs.lemmas.Result.{err_from_is_err_and}
-use Rattle.c_parser_expressions.proofs.Signs.{not_so, no_colon, no_left_parenthesis, no_right_parenthesis}
+use Rattle.c_parser_expressions.proofs.Signs.{not_so, no_colon, no_right_parenthesis}
+use Rattle.c_parser.proofs.Signs.{no_left_parenthesis}
 use Rattle.c_parser_declarations.proofs.Signs.{no_right_brace, no_semicolon}
 use Rattle.c_parser.proofs.Turns.{items_turn, items_none, items_stop, items_over}
 use Rattle.c_layout.specs.DeclarationTrees.{name_view, for_first_view, statement_tree}
