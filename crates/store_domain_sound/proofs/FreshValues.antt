@@ -45,7 +45,7 @@ use Rattle.store_domain_sound.proofs.Fresh.{number_content, part_content, conver
 use Rattle.store_domain_sound.proofs.Near.{IsNearValue, near_number_from, near_number_none}
 
 module _ {I : Type 0} (n : IntegersOf I) (m : Model) where
-  as_labels : (v : Value I) (class : Class) (t : Bool) → (as_stored n m v class t).labels ≡ v.labels
+  pub as_labels : (v : Value I) (class : Class) (t : Bool) → (as_stored n m v class t).labels ≡ v.labels
   as_labels v class t = elim (cases_Bool (is_pointer class)) [ inl e ↦ rw e refl | inr e ↦ rw e refl ]
 
 -- the value as a cell of a signedness gets it
@@ -53,7 +53,7 @@ abbrev pub cell_of : {I : Type 0} → IntegersOf I → Model → declared.Scalar
 cell_of n m kind x t = as_stored n m (stored_value (class_in kind) x) (class_in kind) t
 
 -- the numbers read back are those of a converted number
-number_stands : {I : Type 0} {l : LatticeOf I} {n : IntegersOf I} {stands : I → ℤ → Type 0} (c : SoundLaws l n stands) (m : Model) (kind : IntType) (z : ℤ) (labels : Labels) (x : Value I) (t : Bool) (ns : List Labelled) → stands x.num z → length ns ≡ class_bytes m (class_of kind) → ((k : ℕ) (y : Labelled) → slice_get ns k ≡ Some y → slice_get (number_bytes (class_bytes m (class_of kind)) (bits_in (class_bytes m (class_of kind)) z) labels) k ≡ Some (number_in y)) → stands (cell_of n m (of.Int kind) x t).num (number_of t ns)
+pub number_stands : {I : Type 0} {l : LatticeOf I} {n : IntegersOf I} {stands : I → ℤ → Type 0} (c : SoundLaws l n stands) (m : Model) (kind : IntType) (z : ℤ) (labels : Labels) (x : Value I) (t : Bool) (ns : List Labelled) → stands x.num z → length ns ≡ class_bytes m (class_of kind) → ((k : ℕ) (y : Labelled) → slice_get ns k ≡ Some y → slice_get (number_bytes (class_bytes m (class_of kind)) (bits_in (class_bytes m (class_of kind)) z) labels) k ≡ Some (number_in y)) → stands (cell_of n m (of.Int kind) x t).num (number_of t ns)
 number_stands {I} {l} {n} {stands} c m kind z labels x t ns st e g =
     let to : IntType = kind_of m (class_of kind) t in
     let r : wrap_into to z ≡ number_of t ns = converted_back ns to z labels (class_above m (class_of kind)) e g in
@@ -95,7 +95,7 @@ eight n h = grind (arith, nat_tests)
 pow_up : (a b : ℕ) → a ≤ b → 2 ^ a ≤ 2 ^ b
 pow_up a b h = pow-le-pow_right {n = 2} (omega arith) h
 
-type_near : (k : IntType) (a b : ℤ) → is_size k.bytes ≡ true → least_of k ≤ℤ a → b ≤ℤ greatest_of k → (neg_ℤ (pos (2 ^ 64)) ≤ℤ a) × (b ≤ℤ pos (2 ^ 64))
+pub type_near : (k : IntType) (a b : ℤ) → is_size k.bytes ≡ true → least_of k ≤ℤ a → b ≤ℤ greatest_of k → (neg_ℤ (pos (2 ^ 64)) ≤ℤ a) × (b ≤ℤ pos (2 ^ 64))
 type_near k a b h e f =
     let g = eight k.bytes h in
     let u : 2 ^ (8 * k.bytes) ≤ 2 ^ 64 = pow_up (8 * k.bytes) 64 (omega arith) in

@@ -43,7 +43,7 @@ use Rattle.store_domain_sound.proofs.StoreCells.{cell_apart, cell_written}
 use Rattle.c_layout.specs.declared.shapes.BaseKind.TheVariants.{Older}
 use Rattle.flow_program.specs.WellFormed.{base_values}
 
-number_at : (cn : ℕ) → cn < 6 → class_number (class_at cn) ≡ cn
+pub number_at : (cn : ℕ) → cn < 6 → class_number (class_at cn) ≡ cn
 number_at zero h = refl
 number_at (suc zero) h = refl
 number_at (suc (suc zero)) h = refl
@@ -52,10 +52,10 @@ number_at (suc (suc (suc (suc zero)))) h = refl
 number_at (suc (suc (suc (suc (suc zero))))) h = refl
 number_at (suc (suc (suc (suc (suc (suc k)))))) h = absurd (omega arith)
 
-live_ended : live ≡ ended → ⊥
+pub live_ended : live ≡ ended → ⊥
 live_ended e = cc
 
-zero_count : (m k : ℕ) → m ≡ k → ((j : ℕ) → k ≡ suc j → ⊥) → k ≡ 0
+pub zero_count : (m k : ℕ) → m ≡ k → ((j : ℕ) → k ≡ suc j → ⊥) → k ≡ 0
 zero_count m zero e h = refl
 zero_count m (suc j) e h = absurd (h j refl)
 
@@ -64,7 +64,7 @@ pub record IsAlone (bases : List BaseInfo) (set : Bases) (b : ℕ) : Type 0 wher
   pub one : (d : ℕ) → has_base set d ≡ true → d ≡ b
   pub single : (d : ℕ) (base : BaseInfo) → slice_get bases d ≡ Some base → has_base set d ≡ true → is_single_kind base.kind ≡ true
 
-not_older : (kind : _) → is_single_kind kind ≡ true → kind ≡ Older → ⊥
+pub not_older : (kind : _) → is_single_kind kind ≡ true → kind ≡ Older → ⊥
 not_older kind h e = let f : is_single_kind Older ≡ true = subst (λ k. is_single_kind k ≡ true) e h in cc
 
 module _ {I : Type 0} {l : LatticeOf I} {n : IntegersOf I} {stands : I → ℤ → Type 0} (o : OrderLaws l) (q : BoundLaws l n stands) (c : SoundLaws l n stands) (r : RangeLaws l n) (flow : Flow) (shaped : AreShaped flow.bases.items) (behind : ℕ) (laid : AreLaid flow.bases.items behind) (naming : Naming) (row : List (Cell I)) (long : behind ≤ length row) (state : MachineState) (s : StandsFor l n stands flow naming row state)

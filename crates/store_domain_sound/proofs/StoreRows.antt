@@ -67,7 +67,7 @@ module _ {I : Type 0} (l : LatticeOf I) (n : IntegersOf I) (m : Model) where
       let p = leaf_is base a f (omega arith) in
       only_more _ _ _ (omega arith) (omega arith) (leaf_only write leaf (leaf_position base a)))
 
-  join_only : (p : ℕ) (v : values.Value I) → Only p (p + 1) (λ row. join_value l n row p v)
+  pub join_only : (p : ℕ) (v : values.Value I) → Only p (p + 1) (λ row. join_value l n row p v)
   unfolding join_value
   join_only p v = only_put p (p + 1) p (λ row. Value ((value_lattice l).join (value_at l n row p) v)) (omega arith) (omega arith)
 

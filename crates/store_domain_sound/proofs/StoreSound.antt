@@ -70,7 +70,7 @@ char_tag c wide k e =
     let f : c ≡ Char = ap (λ t. t.class) (same_Some a b e) in
     true≢false (sym (is_same_class c Char f) ∙ wide)
 
-named_moves : (naming : Naming) (old new : Memory) → ((j : ℕ) → life_at new j ≡ life_at old j) → (p : MachinePointer) → IsNamed naming old p → IsNamed naming new p
+pub named_moves : (naming : Naming) (old new : Memory) → ((j : ℕ) → life_at new j ≡ life_at old j) → (p : MachinePointer) → IsNamed naming old p → IsNamed naming new p
 named_moves naming old new f null h = h
 named_moves naming old new f (into i offset lo hi) h = λ e. h (λ g. e (f i ∙ g))
 
@@ -85,7 +85,7 @@ scalar_named stands naming memory x (integer n labels) h = tt
 scalar_named stands naming memory x (pointer null) h = tt
 scalar_named stands naming memory x (pointer (into i offset lo hi)) h = life_named stands naming memory x.pointer (life_at memory i) i offset lo hi h
 
-array_whole : (zeros : ZeroPart) (bytes : List Byte) → zeros.size ≡ None → zeros.offset ≡ 0 → array_bytes zeros bytes ≡ bytes
+pub array_whole : (zeros : ZeroPart) (bytes : List Byte) → zeros.size ≡ None → zeros.offset ≡ 0 → array_bytes zeros bytes ≡ bytes
 array_whole zeros bytes e f = rw (e, f) refl
 
 module _ {I : Type 0} {l : LatticeOf I} {n : IntegersOf I} {stands : I → ℤ → Type 0} (o : OrderLaws l) (q : BoundLaws l n stands) (c : SoundLaws l n stands) (r : RangeLaws l n) (flow : Flow) (shaped : AreShaped flow.bases.items) (texts : (b : ℕ) (base : BaseInfo) → slice_get flow.bases.items b ≡ Some base → HasTexts flow.model base) (behind : ℕ) (laid : AreLaid flow.bases.items behind) (temporaries : behind ≤ flow.width - flow.temps) (naming : Naming) (row : List (Cell I)) (long : behind ≤ length row) (state : MachineState) (s : StandsFor l n stands flow naming row state) where
@@ -188,10 +188,10 @@ module _ {I : Type 0} {l : LatticeOf I} {n : IntegersOf I} {stands : I → ℤ �
 
   -- ---- the machine's store
 
-  into_live : (y : Pointers I) (i offset lo hi : ℕ) → life_at state.memory i ≡ live → StandsPointer stands naming state.memory y (into i offset lo hi) → StandsInto stands naming state.memory y i offset lo hi
+  pub into_live : (y : Pointers I) (i offset lo hi : ℕ) → life_at state.memory i ≡ live → StandsPointer stands naming state.memory y (into i offset lo hi) → StandsInto stands naming state.memory y i offset lo hi
   into_live y i offset lo hi e h = subst (λ z. StandsByLife stands naming state.memory y z i offset lo hi) e h
 
-  live_here : (b i : ℕ) (base : BaseInfo) → slice_get flow.bases.items b ≡ Some base → naming i ≡ Some b → life_at state.memory i ≡ live → may_be_live l n base row ≡ true
+  pub live_here : (b i : ℕ) (base : BaseInfo) → slice_get flow.bases.items b ≡ Some base → naming i ≡ Some b → life_at state.memory i ≡ live → may_be_live l n base row ≡ true
   live_here b i base at named alive = live_if base.shape.heap _ (λ e.
       let y = s.states b i base at e named in
       (subst (λ z. StandsState stands naming state.memory (state_at l n row (state_position base)) z (length (bytes_at state.memory i))) alive y).1)
@@ -216,14 +216,14 @@ module _ {I : Type 0} {l : LatticeOf I} {n : IntegersOf I} {stands : I → ℤ �
       leaf_place base (record { class = class; signed = signed; window = window }) p.at p.leaf p.among (and_from _ _ (is_same_class _ _ p.same) (place_selected p.leaf window offset p.place ((shaped.each b base at).strides p.at p.leaf p.among) from to))
   own_place i offset b base class signed window cs u at named alive from to true heap = heap_place base (shaped.each b base at) class offset (record { class = class; signed = signed; window = window }) refl heap from to (count_by (at_offset class offset) base.shape.cells) refl
 
-  not_literal : (kind : BaseKind) → is_literal (storage_for kind) ≡ false → is_literal_kind kind ≡ false
+  pub not_literal : (kind : BaseKind) → is_literal (storage_for kind) ≡ false → is_literal_kind kind ≡ false
   not_literal Static h = refl
   not_literal Automatic h = refl
   not_literal Literal h = cc
   not_literal Newest h = refl
   not_literal Older h = refl
 
-  alone_is : (set : Bases) (b : ℕ) → has_base set b ≡ true → is_one_instance flow.bases.items set ≡ true → IsAlone flow.bases.items set b
+  pub alone_is : (set : Bases) (b : ℕ) → has_base set b ≡ true → is_one_instance flow.bases.items set ≡ true → IsAlone flow.bases.items set b
   alone_is set b has h =
       let p = and_parts (bases_count set == 1) (bases_within set (single_bases flow.bases.items)) h in
       let e : bases_count set ≡ 1 = eqb-true _ _ p.0 in

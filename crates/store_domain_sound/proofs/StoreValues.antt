@@ -51,11 +51,11 @@ module _ {I : Type 0} (l : LatticeOf I) (n : IntegersOf I) (m : Model) where
   write_is row p v true h = put_is row p v h
   write_is row p v false h = put_is row p ((value_lattice l).join (value_at l n row p) v) h
 
-  join_is : (row : List (Cell I)) (p : ℕ) (v : values.Value I) → p < length row → value_at l n (join_value l n row p v) p ≡ written (value_at l n row p) v false
+  pub join_is : (row : List (Cell I)) (p : ℕ) (v : values.Value I) → p < length row → value_at l n (join_value l n row p v) p ≡ written (value_at l n row p) v false
   unfolding join_value
   join_is row p v h = put_is row p ((value_lattice l).join (value_at l n row p) v) h
 
-  cond_value : (b : Bool) (x y : List (Cell I)) (p : ℕ) → value_at l n (cond b x y) p ≡ cond b (value_at l n x p) (value_at l n y p)
+  pub cond_value : (b : Bool) (x y : List (Cell I)) (p : ℕ) → value_at l n (cond b x y) p ≡ cond b (value_at l n x p) (value_at l n y p)
   cond_value true x y p = refl
   cond_value false x y p = refl
 
@@ -63,12 +63,12 @@ module _ {I : Type 0} (l : LatticeOf I) (n : IntegersOf I) (m : Model) where
   both true b x y = refl
   both false b x y = refl
 
-  leaf_put : (row : List (Cell I)) (p : ℕ) (write : Write I) (leaf : Leaf) → p < length row → value_at l n (store_leaf_at l n m write leaf p row) p ≡ cond (is_selected leaf write.access.class write.access.window) (written (value_at l n row p) (cell_value n m write leaf.signed) (is_strong leaf write)) (value_at l n row p)
+  pub leaf_put : (row : List (Cell I)) (p : ℕ) (write : Write I) (leaf : Leaf) → p < length row → value_at l n (store_leaf_at l n m write leaf p row) p ≡ cond (is_selected leaf write.access.class write.access.window) (written (value_at l n row p) (cell_value n m write leaf.signed) (is_strong leaf write)) (value_at l n row p)
   unfolding store_leaf_at
   leaf_put row p write leaf h = cond_value (is_selected leaf write.access.class write.access.window) _ row p
       ∙ ap (λ v. cond (is_selected leaf write.access.class write.access.window) v (value_at l n row p)) (write_is row p (cell_value n m write leaf.signed) (is_strong leaf write) h)
 
-  class_put : (row : List (Cell I)) (p : ℕ) (write : Write I) (base : BaseInfo) → p ≡ class_position base (class_number write.access.class) → p < length row → value_at l n (store_class_cell l n m base write row) p ≡ cond (reaches_class base write.access) (written (value_at l n row p) (cell_value n m write true) false) (value_at l n row p)
+  pub class_put : (row : List (Cell I)) (p : ℕ) (write : Write I) (base : BaseInfo) → p ≡ class_position base (class_number write.access.class) → p < length row → value_at l n (store_class_cell l n m base write row) p ≡ cond (reaches_class base write.access) (written (value_at l n row p) (cell_value n m write true) false) (value_at l n row p)
   unfolding store_class_cell
   class_put row p write base e h = subst (λ z. value_at l n (store_class_cell l n m base write row) z ≡ cond (reaches_class base write.access) (written (value_at l n row z) (cell_value n m write true) false) (value_at l n row z)) (sym e)
       (cond_value (reaches_class base write.access) _ row _ ∙ ap (λ v. cond (reaches_class base write.access) v (value_at l n row (class_position base (class_number write.access.class)))) (join_is row (class_position base (class_number write.access.class)) (cell_value n m write true) (subst (λ z. z < length row) e h)))

@@ -33,7 +33,7 @@ same_slices [] (y ∷ ys) h = let e = h 0 in cc
 same_slices (x ∷ xs) [] h = let e = h 0 in cc
 same_slices (x ∷ xs) (y ∷ ys) h = let e = same_Some x y (h 0) in let f = same_slices xs ys (λ k. h (suc k)) in λ i. e i ∷ f i
 
-take_by : {X : Type 0} (n : ℕ) (xs : List X) (k : ℕ) → (k < n → slice_get (take n xs) k ≡ slice_get xs k) × (n ≤ k → slice_get (take n xs) k ≡ None)
+pub take_by : {X : Type 0} (n : ℕ) (xs : List X) (k : ℕ) → (k < n → slice_get (take n xs) k ≡ slice_get xs k) × (n ≤ k → slice_get (take n xs) k ≡ None)
 take_by zero xs k = (λ h. absurd (omega arith), λ h. refl)
 take_by (suc n) [] k = (λ h. refl, λ h. refl)
 take_by (suc n) (x ∷ xs) zero = (λ h. refl, λ h. absurd (omega arith))
@@ -56,11 +56,11 @@ by_small unknown o m h k e = cc
 by_small end o m h k e = let g : 0 ≡ k = cc in omega arith
 by_small character o m h k e = one_more_small o m h k e
 
-zero_small : (bytes : List Byte) (k : ℕ) → first_zero bytes ≡ Some k → k < length bytes
+pub zero_small : (bytes : List Byte) (k : ℕ) → first_zero bytes ≡ Some k → k < length bytes
 zero_small [] k e = cc
 zero_small (b ∷ bs) k e = by_small (seen_as b.content) (first_zero bs) (length bs) (zero_small bs) k e
 
-offset_near : (o : Option ℕ) → ((k : ℕ) → o ≡ Some k → k < 2 ^ 64) → (pos 0 ≤ℤ zero_offset o) × (zero_offset o ≤ℤ the_end)
+pub offset_near : (o : Option ℕ) → ((k : ℕ) → o ≡ Some k → k < 2 ^ 64) → (pos 0 ≤ℤ zero_offset o) × (zero_offset o ≤ℤ the_end)
 offset_near None h = (omega (arith, ints), omega (arith, ints))
 offset_near (Some k) h = let g = h k refl in (omega (arith, ints), omega (arith, ints))
 

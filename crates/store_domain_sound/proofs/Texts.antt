@@ -145,7 +145,7 @@ module _ {I : Type 0} {l : LatticeOf I} {n : IntegersOf I} {stands : I → ℤ �
       near_if None e k f = cc
       near_if (Some p) e k f = k f (grind (arith, ints), grind (arith, ints))
 
-  zero_near : (row : List (Cell I)) (p : ℕ) → IsNear (n.bounds (zero_at l n row p).at)
+  pub zero_near : (row : List (Cell I)) (p : ℕ) → IsNear (n.bounds (zero_at l n row p).at)
   unfolding zero_at
   zero_near row p = near_bounds (zero_in l (cell_at row p)).at
 

@@ -51,7 +51,7 @@ second_false false b e h = cc
 
 module _ {I : Type 0} {l : LatticeOf I} {n : IntegersOf I} {stands : I → ℤ → Type 0} (o : OrderLaws l) (q : BoundLaws l n stands) where
   -- what is near is left
-  near_stands : (x : I) (z : ℤ) → neg_ℤ (pos (2 ^ 64)) ≤ℤ z → z ≤ℤ pos (2 ^ 64) → stands x z → stands (near_number l n x) z
+  pub near_stands : (x : I) (z : ℤ) → neg_ℤ (pos (2 ^ 64)) ≤ℤ z → z ≤ℤ pos (2 ^ 64) → stands x z → stands (near_number l n x) z
   near_stands x z a b h = elim (cases_Bool (is_near (n.bounds x))) [
     | inl e ↦ rw e h
     | inr e ↦ rw e (range_stands o q (range_met (n.bounds x) (neg_ℤ (pos (2 ^ 64))) (pos (2 ^ 64))) z (met_has (n.bounds x) (neg_ℤ (pos (2 ^ 64))) (pos (2 ^ 64)) z (bounds_have o q x z h) a b))

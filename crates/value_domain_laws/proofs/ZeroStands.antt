@@ -8,7 +8,7 @@ use Rattle.std.proofs.lemmas.Bool.{and_parts, cond_both, cases_Bool}
 use Rattle.std.proofs.lemmas.Bool.Decides.{Decides-int_eq}
 use Rattle.cc_base.specs.Lattices.{LatticeOf, OrderLaws}
 use Rattle.cc_base.specs.NumberRanges.{Range, range_difference}
-use Rattle.cc_base.specs.IntegerDomains.{IntegersOf, BoundLaws, of_range}
+use Rattle.cc_base.specs.IntegerDomains.{IntegersOf, BoundLaws, IsNear, of_range}
 use Rattle.cc_base.specs.Truths.{can_hold, can_fail}
 use Rattle.cc_base.specs.declared.integer_operators.Tri.{Tri}
 use Rattle.cc_base.specs.declared.integer_operators.Tri.TheVariants.{No, Yes, Both, Never}
@@ -20,6 +20,15 @@ use Rattle.value_domain_laws.specs.ZeroMeaning.{WroteZero, WroteOther, WroteText
 use Rattle.value_domain_laws.proofs.Ranges.{le_true}
 use Rattle.value_domain_laws.proofs.Zeros.{AreCounts, same_int, start_of, counts_of}
 use Rattle.value_domain_laws.proofs.Numbers.{RangeHas, difference_has, met_has, bounds_have, of_range_stands}
+
+-- no number is behind the end
+abbrev EndsNear : Range → Type 0
+EndsNear None = Unit {0}
+EndsNear (Some f) = f.1 ≤ℤ the_end
+
+ends_near : (r : Range) → IsNear r → EndsNear r
+ends_near None h = tt
+ends_near (Some f) h = h.1
 
 lt_true : (a b : ℤ) → int_lt a b ≡ true → a <ℤ b
 lt_true a b h = grind (arith, ints)
@@ -46,9 +55,9 @@ zero_lies f o a k c p q h j w =
     (λ l. let e = w.there l in (omega (arith, ints, clamps), omega (arith, ints, clamps)))
     (λ g. elim (w.none (same_int a the_end j g)) [ inl e ↦ (omega (arith, ints, clamps), omega (arith, ints)) | inr e ↦ (omega (arith, ints, clamps), omega (arith, ints)) ])
 
-must_has : (f o : ℤ × ℤ) (a k c : ℤ) → AreCounts (Some f) → AreCounts (Some o) → RangeHas (Some f) a → RangeHas (Some o) k → WroteZero a k c → RangeHas (Some (must_be_zero f o)) c
+must_has : (f o : ℤ × ℤ) (a k c : ℤ) → EndsNear (Some f) → AreCounts (Some o) → RangeHas (Some f) a → RangeHas (Some o) k → WroteZero a k c → RangeHas (Some (must_be_zero f o)) c
 must_has f o a k c x y p q w =
-    let x2 = x.2 in
+    let x2 = x in
     let y0 = y.0 in
     let y2 = y.2 in
     let p0 = p.0 in
@@ -65,9 +74,9 @@ must_has f o a k c x y p q w =
 
 -- ---- another char was written
 
-cannot_has : (f o : ℤ × ℤ) (a k c : ℤ) → AreCounts (Some f) → AreCounts (Some o) → RangeHas (Some f) a → RangeHas (Some o) k → WroteOther a k c → RangeHas (Some (cannot_be_zero f o)) c
+cannot_has : (f o : ℤ × ℤ) (a k c : ℤ) → EndsNear (Some f) → AreCounts (Some o) → RangeHas (Some f) a → RangeHas (Some o) k → WroteOther a k c → RangeHas (Some (cannot_be_zero f o)) c
 cannot_has f o a k c x y p q w =
-    let x2 = x.2 in
+    let x2 = x in
     let p0 = p.0 in
     let p1 = p.1 in
     let q0 = q.0 in
@@ -108,9 +117,9 @@ text_lies f o t a k j c p q n h m w =
     (λ g. by_lt_z a the_end (λ l. let e = w.behind g l in omega (arith, ints, clamps))
     (λ i. elim (w.none (same_int a the_end h i)) [ inl e ↦ omega (arith, ints, clamps) | inr e ↦ omega (arith, ints, clamps) ]))
 
-text_has : (f o t : ℤ × ℤ) (a k j c : ℤ) → AreCounts (Some f) → AreCounts (Some o) → AreCounts (Some t) → RangeHas (Some f) a → RangeHas (Some o) k → RangeHas (Some t) j → WroteText a k j c → RangeHas (Some (ends_text f o t)) c
+text_has : (f o t : ℤ × ℤ) (a k j c : ℤ) → EndsNear (Some f) → AreCounts (Some o) → AreCounts (Some t) → RangeHas (Some f) a → RangeHas (Some o) k → RangeHas (Some t) j → WroteText a k j c → RangeHas (Some (ends_text f o t)) c
 text_has f o t a k j c x y z p q r w =
-    let x2 = x.2 in
+    let x2 = x in
     let y0 = y.0 in
     let y2 = y.2 in
     let z0 = z.0 in
@@ -156,11 +165,11 @@ found_at part f o r a k m x p q s h =
       inside = λ e. let i = not_part part (f.1 -ℤ o.0) r.0 u.1 e in omega (arith, ints);
     }
 
-known_has : (part : Bool) (x y z : Range) (a k m : ℤ) → AreCounts x → RangeHas x a → RangeHas y k → RangeHas z m → is_known part x y z ≡ true → IsString part a k m
+known_has : (part : Bool) (x y z : Range) (a k m : ℤ) → EndsNear x → RangeHas x a → RangeHas y k → RangeHas z m → is_known part x y z ≡ true → IsString part a k m
 known_has part None y z a k m c p q s h = absurd p
 known_has part (Some f) None z a k m c p q s h = absurd q
 known_has part (Some f) (Some o) None a k m c p q s h = absurd s
-known_has part (Some f) (Some o) (Some r) a k m c p q s h = found_at part f o r a k m c.2 p q s h
+known_has part (Some f) (Some o) (Some r) a k m c p q s h = found_at part f o r a k m c p q s h
 
 lengths_have : (x y z : Range) (a k m : ℤ) → RangeHas x a → RangeHas y k → RangeHas z m → k ≤ℤ a → (a -ℤ k) <ℤ m → RangeHas (lengths x y z) (a -ℤ k)
 lengths_have x y None a k m p q s h g = absurd s
@@ -169,24 +178,24 @@ lengths_have x y (Some r) a k m p q s h g = let s1 = s.1 in met_has (range_diffe
 -- ---- over a domain
 
 module _ {I : Type 0} {l : LatticeOf I} {n : IntegersOf I} {stands : I → ℤ → Type 0} (o : OrderLaws l) (b : BoundLaws l n stands) where
-  both_has : (g : (ℤ × ℤ) → (ℤ × ℤ) → (ℤ × ℤ)) (W : ℤ → ℤ → ℤ → Type 0) → ((f p : ℤ × ℤ) (a k c : ℤ) → AreCounts (Some f) → AreCounts (Some p) → RangeHas (Some f) a → RangeHas (Some p) k → W a k c → RangeHas (Some (g f p)) c)
-      → (x y : Range) (a k c : ℤ) → AreCounts x → AreCounts y → RangeHas x a → RangeHas y k → W a k c → RangeHas (in_both g x y) c
+  both_has : (g : (ℤ × ℤ) → (ℤ × ℤ) → (ℤ × ℤ)) (W : ℤ → ℤ → ℤ → Type 0) → ((f p : ℤ × ℤ) (a k c : ℤ) → EndsNear (Some f) → AreCounts (Some p) → RangeHas (Some f) a → RangeHas (Some p) k → W a k c → RangeHas (Some (g f p)) c)
+      → (x y : Range) (a k c : ℤ) → EndsNear x → AreCounts y → RangeHas x a → RangeHas y k → W a k c → RangeHas (in_both g x y) c
   both_has g W h None y a k c u v p q w = absurd p
   both_has g W h (Some f) None a k c u v p q w = absurd q
   both_has g W h (Some f) (Some r) a k c u v p q w = h f r a k c u v p q w
 
-  three_has : (x y z : Range) (a k j c : ℤ) → AreCounts x → AreCounts y → AreCounts z → RangeHas x a → RangeHas y k → RangeHas z j → WroteText a k j c → RangeHas (in_three ends_text x y z) c
+  three_has : (x y z : Range) (a k j c : ℤ) → EndsNear x → AreCounts y → AreCounts z → RangeHas x a → RangeHas y k → RangeHas z j → WroteText a k j c → RangeHas (in_three ends_text x y z) c
   three_has None y z a k j c u v r p q s w = absurd p
   three_has (Some f) None z a k j c u v r p q s w = absurd q
   three_has (Some f) (Some m) None a k j c u v r p q s w = absurd s
   three_has (Some f) (Some m) (Some t) a k j c u v r p q s w = text_has f m t a k j c u v r p q s w
 
-  module _ (f : FirstZero I) (at : I) (a k c : ℤ) (i : IsCount l n f.at) (j : IsCount l n at) (p : stands f.at a) (q : stands at k) where
+  module _ (f : FirstZero I) (at : I) (a k c : ℤ) (i : IsNear (n.bounds f.at)) (j : IsCount l n at) (p : stands f.at a) (q : stands at k) where
     zero_stands : WroteZero a k c → stands (zero_written l n f at).at c
-    zero_stands w = of_range_stands b (in_both must_be_zero (n.bounds f.at) (n.bounds at)) c (both_has must_be_zero WroteZero must_has (n.bounds f.at) (n.bounds at) a k c (counts_of o b f.at i) (counts_of o b at j) (bounds_have b f.at a p) (bounds_have b at k q) w)
+    zero_stands w = of_range_stands b (in_both must_be_zero (n.bounds f.at) (n.bounds at)) c (both_has must_be_zero WroteZero must_has (n.bounds f.at) (n.bounds at) a k c (ends_near (n.bounds f.at) i) (counts_of o b at j) (bounds_have b f.at a p) (bounds_have b at k q) w)
 
     other_stands : WroteOther a k c → stands (other_written l n f at).at c
-    other_stands w = of_range_stands b (in_both cannot_be_zero (n.bounds f.at) (n.bounds at)) c (both_has cannot_be_zero WroteOther cannot_has (n.bounds f.at) (n.bounds at) a k c (counts_of o b f.at i) (counts_of o b at j) (bounds_have b f.at a p) (bounds_have b at k q) w)
+    other_stands w = of_range_stands b (in_both cannot_be_zero (n.bounds f.at) (n.bounds at)) c (both_has cannot_be_zero WroteOther cannot_has (n.bounds f.at) (n.bounds at) a k c (ends_near (n.bounds f.at) i) (counts_of o b at j) (bounds_have b f.at a p) (bounds_have b at k q) w)
 
     put_zero : (t : Tri) → can_hold t ≡ true → WroteZero a k c → stands (put_at l n f at t).at c
     put_zero Yes h w = zero_stands w
@@ -208,11 +217,11 @@ module _ {I : Type 0} {l : LatticeOf I} {n : IntegersOf I} {stands : I → ℤ �
   scan_is true x y e = (refl, some_same x y e)
   scan_is false x y e = cc
 
-  module _ (f : FirstZero I) (at room x : I) (part : Bool) (a k r : ℤ) (i : IsCount l n f.at) (p : stands f.at a) (q : stands at k) (s : stands room r) (e : scanned l n f at room part ≡ Some x) where
+  module _ (f : FirstZero I) (at room x : I) (part : Bool) (a k r : ℤ) (i : IsNear (n.bounds f.at)) (p : stands f.at a) (q : stands at k) (s : stands room r) (e : scanned l n f at room part ≡ Some x) where
     scan_found : IsString part a k r
     scan_found =
         let g = scan_is (is_known part (n.bounds f.at) (n.bounds at) (n.bounds room)) (of_range l n (lengths (n.bounds f.at) (n.bounds at) (n.bounds room))) x e in
-        known_has part (n.bounds f.at) (n.bounds at) (n.bounds room) a k r (counts_of o b f.at i) (bounds_have b f.at a p) (bounds_have b at k q) (bounds_have b room r s) g.0
+        known_has part (n.bounds f.at) (n.bounds at) (n.bounds room) a k r (ends_near (n.bounds f.at) i) (bounds_have b f.at a p) (bounds_have b at k q) (bounds_have b room r s) g.0
 
     scan_length : (a -ℤ k) <ℤ r → stands x (a -ℤ k)
     scan_length h =
@@ -225,7 +234,7 @@ module _ {I : Type 0} {l : LatticeOf I} {n : IntegersOf I} {stands : I → ℤ �
     put_zero = λ f at t a k c i j p q h w. put_zero f at a k c i j p q t h w;
     put_other = λ f at t a k c i j p q h w. put_other f at a k c i j p q t h w;
     text = λ f at len a k t c i j m p q s w. of_range_stands b (in_three ends_text (n.bounds f.at) (n.bounds at) (n.bounds len)) c
-        (three_has (n.bounds f.at) (n.bounds at) (n.bounds len) a k t c (counts_of o b f.at i) (counts_of o b at j) (counts_of o b len m) (bounds_have b f.at a p) (bounds_have b at k q) (bounds_have b len t s) w);
+        (three_has (n.bounds f.at) (n.bounds at) (n.bounds len) a k t c (ends_near (n.bounds f.at) i) (counts_of o b at j) (counts_of o b len m) (bounds_have b f.at a p) (bounds_have b at k q) (bounds_have b len t s) w);
     found = λ f at room x part a k r i p q s e. scan_found f at room x part a k r i p q s e;
     length = λ f at room x part a k r i p q s e h. scan_length f at room x part a k r i p q s e h;
   }

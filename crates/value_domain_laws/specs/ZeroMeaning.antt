@@ -2,7 +2,7 @@
 use Rattle.std.specs.Prelude.{◌≡◌, ℤ, pos, ◌+ℤ◌, ◌-ℤ◌, ◌≤ℤ◌, ◌<ℤ◌, Bool, true, Some, ◌⊎◌}
 use Rattle.std.specs.Int.{int_min}
 use Rattle.cc_base.specs.Lattices.{LatticeOf}
-use Rattle.cc_base.specs.IntegerDomains.{IntegersOf}
+use Rattle.cc_base.specs.IntegerDomains.{IntegersOf, IsNear}
 use Rattle.cc_base.specs.Truths.{can_hold, can_fail}
 use Rattle.cc_base.specs.declared.integer_operators.Tri.{Tri}
 use Rattle.string_domain.specs.declared.first_zeros.FirstZero.{FirstZero}
@@ -40,9 +40,9 @@ pub record IsString (part : Bool) (a k r : ℤ) : Type 0 where
   pub inside : part ≡ true → (a -ℤ k) <ℤ r
 
 pub record ZeroMeaning {I : Type 0} (l : LatticeOf I) (n : IntegersOf I) (stands : I → ℤ → Type 0) : Type 0 where
-  pub put_zero : (f : FirstZero I) (at : I) (t : Tri) (a k c : ℤ) → IsCount l n f.at → IsCount l n at → stands f.at a → stands at k → can_hold t ≡ true → WroteZero a k c → stands (put_at l n f at t).at c
-  pub put_other : (f : FirstZero I) (at : I) (t : Tri) (a k c : ℤ) → IsCount l n f.at → IsCount l n at → stands f.at a → stands at k → can_fail t ≡ true → WroteOther a k c → stands (put_at l n f at t).at c
-  pub text : (f : FirstZero I) (at len : I) (a k t c : ℤ) → IsCount l n f.at → IsCount l n at → IsCount l n len → stands f.at a → stands at k → stands len t → WroteText a k t c → stands (text_at l n f at len).at c
+  pub put_zero : (f : FirstZero I) (at : I) (t : Tri) (a k c : ℤ) → IsNear (n.bounds f.at) → IsCount l n at → stands f.at a → stands at k → can_hold t ≡ true → WroteZero a k c → stands (put_at l n f at t).at c
+  pub put_other : (f : FirstZero I) (at : I) (t : Tri) (a k c : ℤ) → IsNear (n.bounds f.at) → IsCount l n at → stands f.at a → stands at k → can_fail t ≡ true → WroteOther a k c → stands (put_at l n f at t).at c
+  pub text : (f : FirstZero I) (at len : I) (a k t c : ℤ) → IsNear (n.bounds f.at) → IsCount l n at → IsCount l n len → stands f.at a → stands at k → stands len t → WroteText a k t c → stands (text_at l n f at len).at c
   -- a scan that knows its string finds one, and its length
-  pub found : (f : FirstZero I) (at room x : I) (part : Bool) (a k r : ℤ) → IsCount l n f.at → stands f.at a → stands at k → stands room r → scanned l n f at room part ≡ Some x → IsString part a k r
-  pub length : (f : FirstZero I) (at room x : I) (part : Bool) (a k r : ℤ) → IsCount l n f.at → stands f.at a → stands at k → stands room r → scanned l n f at room part ≡ Some x → (a -ℤ k) <ℤ r → stands x (a -ℤ k)
+  pub found : (f : FirstZero I) (at room x : I) (part : Bool) (a k r : ℤ) → IsNear (n.bounds f.at) → stands f.at a → stands at k → stands room r → scanned l n f at room part ≡ Some x → IsString part a k r
+  pub length : (f : FirstZero I) (at room x : I) (part : Bool) (a k r : ℤ) → IsNear (n.bounds f.at) → stands f.at a → stands at k → stands room r → scanned l n f at room part ≡ Some x → (a -ℤ k) <ℤ r → stands x (a -ℤ k)
