@@ -145,7 +145,7 @@ module _ {I : Type 0} (l : LatticeOf I) (n : IntegersOf I) (stands : I → ℤ �
 
       goes_good : (leads_on : leads it.operation ≡ On) → IsGood (run_by found it.place (act_step f (act it.operation) (begun s)))
       goes_good on =
-          let law = steps_sound here.naming here.row (begun s) it.operation on fits (operands it in_list) reached in
+          let law = steps_sound here.naming here.row (begun s) it.operation (on, record { block = s.block; at = s.at; instruction = it; is = in_list; does = refl }) fits (operands it in_list) reached in
           replied found it.place (act_step f (act it.operation) (begun s))
           (λ t w e.
           let b = law.goes_on t w e in

@@ -16,6 +16,7 @@ use Rattle.abstract_steps_checks.specs.ViolationSets.{violates}
 use Rattle.abstract_steps_instructions.specs.Steps.{operate}
 use Rattle.abstract_steps_instructions.specs.StepViolations.{operation_violations}
 use Rattle.abstract_steps.specs.Edges.{edge, last_instruction}
+use Rattle.rule_checks.specs.AdmittedRules.{instructions_of}
 use Rattle.lib_models_effects.specs.Worlds.{World, goes, world_of}
 use Rattle.flow_lower_tasks.specs.Acts.{act}
 use Rattle.flow_program_views.specs.ProgramViews.{flow_view}
@@ -27,6 +28,14 @@ use Rattle.abstract_steps_sound.specs.SoundSteps.{IsReached, StandsBehind, AreSo
 -- the instruction goes on in its block, or ends it
 abbrev pub GoesOn : Operation → Type 0
 GoesOn o = leads o ≡ On
+
+-- an instruction of the program does it
+pub record IsDoneIn (flow : Flow) (o : Operation) : Type 0 where
+  pub block : ℕ
+  pub at : ℕ
+  pub instruction : Instruction
+  pub is : slice_get (instructions_of flow block) at ≡ Some instruction
+  pub does : instruction.operation ≡ o
 
 abbrev pub EndsBlock : Operation → Type 0
 EndsBlock o = leads o ≡ On → ⊥
@@ -53,7 +62,7 @@ module _ {I : Type 0} (l : LatticeOf I) (n : IntegersOf I) (stands : I → ℤ �
   EndsAreSound limits Is = is_well_formed limits flow ≡ true → (naming : Naming) (row : List (Cell I)) (s : Standing) (i : Instruction) → last_instruction flow s.block ≡ Some i → Is i.operation → IsReached l n stands flow naming row s → EndIsSound row i.operation s
 
   abbrev pub StepsGoOnSoundly : Type 0
-  StepsGoOnSoundly = AreSound l n stands flow GoesOn
+  StepsGoOnSoundly = AreSound l n stands flow (λ o. GoesOn o × IsDoneIn flow o)
 
   abbrev pub EndsGoOnSoundly : Limits → Type 0
   EndsGoOnSoundly limits = EndsAreSound limits EndsBlock

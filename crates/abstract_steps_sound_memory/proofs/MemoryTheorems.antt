@@ -13,7 +13,7 @@ use Rattle.flow_program_machine.specs.FlowStates.{Standing}
 use Rattle.store_domain_meaning.specs.ValueMeaning.{Naming}
 use Rattle.store_domain_sound_programs.specs.Premises.{HasPremises}
 use Rattle.abstract_steps_sound.specs.SoundSteps.{IsReached, StepIsSound}
-use Rattle.abstract_steps_sound_memory.specs.MemorySteps.{IsLoad, IsWideStore}
+use Rattle.abstract_steps_sound_memory.specs.MemorySteps.{IsLoad, IsStore}
 use Rattle.abstract_steps_sound_memory.proofs.LoadSteps.{load_sound}
 use Rattle.abstract_steps_sound_memory.proofs.StoreSteps.{store_sound}
 
@@ -22,6 +22,6 @@ module _ {I : Type 0} {l : LatticeOf I} {n : IntegersOf I} {stands : I → ℤ �
   load_step_sound (op.Load to from kind) is fits = load_sound o q c flow p naming row s r to from kind fits
   load_step_sound i is fits = absurd is
 
-  pub store_step_sound : (i : Operation) → IsWideStore i → fits_operation (names_of flow) i ≡ true → StepIsSound l n stands flow row i s
-  store_step_sound (op.Store to from kind kept) wide fits = store_sound o q c ranges flow p naming row s r to from kind kept wide fits
+  pub store_step_sound : (i : Operation) → IsStore i → fits_operation (names_of flow) i ≡ true → StepIsSound l n stands flow row i s
+  store_step_sound (op.Store to from kind kept) is fits = store_sound o q c ranges flow p naming row s r to from kind kept fits
   store_step_sound i is fits = absurd is

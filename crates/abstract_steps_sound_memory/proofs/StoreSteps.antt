@@ -1,5 +1,5 @@
--- Stores of scalars wider than a character are sound.
-use Rattle.std.proofs.Common.{◌≡◌, ℕ, suc, ◌≤◌, Bool, true, ◌&&◌, Option, Some, None, List, [], length, subst, sym, refl, ap, ◌∙◌, inl, inr}
+-- Stores are sound.
+use Rattle.std.proofs.Common.{◌≡◌, ℕ, suc, ◌≤◌, Bool, true, false, ◌&&◌, Option, Some, None, List, [], length, subst, sym, refl, ap, ◌∙◌, inl, inr}
 use Rattle.std.specs.Prelude.{ℤ, pos, ◌≤ℤ◌}
 use Rattle.std.proofs.lemmas.Bool.{cases_Bool, and_parts, ltb-true}
 use Rattle.cc_base.specs.Lattices.{LatticeOf, OrderLaws}
@@ -8,7 +8,7 @@ use Rattle.cc_base.specs.IntegerDomains.{IntegersOf, BoundLaws, RangeLaws}
 use Rattle.cc_base.specs.IntegerLaws.{SoundLaws}
 use Rattle.cc_base.specs.declared.diagnostics.Rule.{Rule}
 use Rattle.c_layout.specs.declared.leaf_lists.Class.{Class}
-use Rattle.c_layout.specs.declared.leaf_lists.Class.TheVariants.{Pointer}
+use Rattle.c_layout.specs.declared.leaf_lists.Class.TheVariants.{Char, Pointer}
 use Rattle.flow_program.specs.WellFormed.{names_of, has_temp, is_scalar, has_kept, fits_operation}
 use Rattle.flow_program.specs.declared.machine_instructions.Scalar as declared
 use Rattle.flow_program.specs.declared.machine_instructions.Operation.TheVariants as op
@@ -16,6 +16,7 @@ use Rattle.flow_program.specs.declared.programs.Flow.{Flow}
 use Rattle.pointer_domain.specs.declared.pointer_sets.Pointers.{Pointers}
 use Rattle.value_domain.specs.declared.values.Value.{Value}
 use Rattle.value_domain.specs.declared.row_cells.Cell.{Cell}
+use Rattle.store_domain.specs.ClassNumbers.{same_class}
 use Rattle.store_domain.specs.RowLengths.{store_keeps}
 use Rattle.store_domain.specs.RowPositions.{value_at}
 use Rattle.store_domain.specs.ScalarTypes.{kind_of, class_bytes}
@@ -31,7 +32,7 @@ use Rattle.abstract_steps_instructions.specs.Steps.{operate}
 use Rattle.abstract_steps_instructions.specs.StepViolations.{operation_violations}
 use Rattle.lib_models_memory.specs.ScalarSizes as machine
 use Rattle.lib_models_memory.specs.Bytes.{MachinePointer}
-use Rattle.lib_models_memory.specs.Instances.{Memory}
+use Rattle.lib_models_memory.specs.Instances.{Memory, bytes_at}
 use Rattle.lib_models_memory.specs.Scalars.{Scalar, integer, pointer}
 use Rattle.lib_models_effects.specs.Accesses.{class_in, store_through, store_at}
 use Rattle.lib_models_effects.specs.Accesses as effect
@@ -41,13 +42,16 @@ use Rattle.lib_models_effects.specs.Worlds.{World, Reply, goes, stops, behind, s
 use Rattle.flow_program_machine.specs.FlowStates.{Standing}
 use Rattle.flow_program_machine.specs.FlowActs.{keeping, storing}
 use Rattle.store_domain_meaning.specs.ValueMeaning.{Naming, StandsPointer, StandsScalar}
-use Rattle.store_domain_meaning.specs.SoundMemory.{IsPointerIn}
+use Rattle.store_domain_meaning.specs.SoundMemory.{IsPointerIn, IsScalarIn}
 use Rattle.store_domain_meaning.specs.Coverage.{state_of}
+use Rattle.store_domain_meaning.specs.RowMeaning.{StandsFor}
 use Rattle.store_domain_sound.specs.Scalars.{signed_in}
-use Rattle.store_domain_sound.specs.Statements.{IsWide}
+use Rattle.store_domain_sound.specs.Gives.{Gives}
 use Rattle.store_domain_sound.proofs.MachineStores.{store_goes}
 use Rattle.store_domain_sound.proofs.Near.{value_at_near}
 use Rattle.store_domain_sound.proofs.StoreSound.{store_stands}
+use Rattle.store_domain_sound_chars.proofs.ByteStores.{byte_goes}
+use Rattle.store_domain_sound_chars.proofs.CharStoreSound.{any_char_store}
 use Rattle.store_domain_sound.proofs.TouchSound.{touch_admitted}
 use Rattle.store_domain_sound.proofs.TouchedRest.{touch_stands}
 use Rattle.store_domain_sound_programs.specs.Premises.{HasPremises}
@@ -91,7 +95,7 @@ module _ {I : Type 0} {l : LatticeOf I} {n : IntegersOf I} {stands : I → ℤ �
         result_good q flow p naming row s r k.0 few (temp_value l n flow row k.1) v s.world (record { stands_for = st; near = temp_near row naming s.world.memory k.1 v st; within = r.stands_for.held.within k.1 v e }) refl _ told refl clean)
 
 module _ {I : Type 0} {l : LatticeOf I} {n : IntegersOf I} {stands : I → ℤ → Type 0} (o : OrderLaws l) (q : BoundLaws l n stands) (c : SoundLaws l n stands) (ranges : RangeLaws l n) (flow : Flow) (p : HasPremises flow) (naming : Naming) (row : List (Cell I)) (s : Standing) (r : IsReached l n stands flow naming row s) where
-  module _ (kind : declared.Scalar) (wide : IsWide kind) (kept : Option (ℕ × ℕ)) (has : has_kept (names_of flow) kept ≡ true) (x : Pointers I) (value : ℕ) where
+  module _ (kind : declared.Scalar) (kept : Option (ℕ × ℕ)) (has : has_kept (names_of flow) kept ≡ true) (x : Pointers I) (value : ℕ) where
     abbrev y : Value I
     y = temp_value l n flow row value
 
@@ -120,19 +124,29 @@ module _ {I : Type 0} {l : LatticeOf I} {n : IntegersOf I} {stands : I → ℤ �
       abbrev reply : Reply Scalar
       reply = effect.store flow.model kind (pointer at) v s.world
 
+      -- the row behind the store, whatever the scalar
+      row_behind : p.laid.behind ≤ length row → (u : World) (w : Scalar) → StandsPointer stands naming s.world.memory (touched_at pair).rest at → StandsScalar stands naming s.world.memory y v → IsScalarIn s.world.memory v → reply ≡ goes w u → (b : Bool) → same_class (class_in kind) Char ≡ b
+          → Gives (λ after. StandsFor l n stands flow naming after (record { memory = u.memory; temps = s.temps; entered = s.bases })) (after_at pair)
+      row_behind long u w rest sv within h false wide = store_stands o q c ranges flow p.shaped p.laid.texts p.laid.behind p.laid.laid p.laid.temporaries naming row long (state_of s) r.stands_for kind (touched_at pair).rest at y v w s.world u refl wide rest inside sv within (value_at_near o q row (temp_position flow value)) h
+      row_behind long u w rest sv within h true char = any_char_store o q c ranges flow p.shaped p.laid.texts p.padding p.laid.behind p.laid.laid p.laid.temporaries naming row long (state_of s) r.stands_for kind (touched_at pair).rest at y v w s.world u refl char rest inside sv (value_at_near o q row (temp_position flow value)) h
+
+      lengths_behind : (u : World) (w : Scalar) → reply ≡ goes w u → (b : Bool) → same_class (class_in kind) Char ≡ b → (i : ℕ) → length (bytes_at u.memory i) ≡ length (bytes_at s.world.memory i)
+      lengths_behind u w h false wide = (store_goes flow.model kind at v w s.world u wide inside h).1.store.lengths
+      lengths_behind u w h true char = (byte_goes flow.model kind at v w s.world u char inside h).1.stored.store.refill.alike.lengths
+
       -- the store goes on
       store_good : (spot : Spot) (u : World) (w : Scalar) → touched s.world at (machine.class_bytes flow.model (class_in kind)) true ≡ goes spot s.world → reply ≡ goes w u → u.violated ≡ s.world.violated → GoodAt pair (storing s kept reply)
       store_good spot u w f h same =
           let rest = touch_stands o q flow p.shaped naming row s.world s.temps s.bases r.stands_for x (machine.class_bytes flow.model (class_in kind)) true at spot s.world st inside f in
           let sv = r.stands_for.temps value v e in
           let long : p.laid.behind ≤ length row = subst (λ z. p.laid.behind ≤ z) (sym r.long) p.laid.long in
-          let g = store_stands o q c ranges flow p.shaped p.laid.texts p.laid.behind p.laid.laid p.laid.temporaries naming row long (state_of s) r.stands_for kind (touched_at pair).rest at y v w s.world u refl wide rest inside sv (r.stands_for.held.within value v e) (value_at_near o q row (temp_position flow value)) h in
+          let g = row_behind long u w rest sv (r.stands_for.held.within value v e) h (same_class (class_in kind) Char) refl in
           let now : Standing = record s { world = u } in
-          let stored = store_goes flow.model kind at v w s.world u wide inside h in
+          let lengths = lengths_behind u w h (same_class (class_in kind) Char) refl in
           let reached : IsReached l n stands flow naming g.value now = record {
             long = store_keeps l n flow.model flow.bases.items (touched_at pair).rest (class_in kind) (signed_in kind) y row g.value g.is ∙ r.long;
             stands_for = g.good;
-            short = λ i. subst (λ z. pos z ≤ℤ greatest_of (kind_of flow.model Pointer true)) (sym (stored.1.store.lengths i)) (r.short i);
+            short = λ i. subst (λ z. pos z ≤ℤ greatest_of (kind_of flow.model Pointer true)) (sym (lengths i)) (r.short i);
             begun = same ∙ r.begun;
           } in
           subst (λ z. GoodAt pair (storing s kept z)) (sym h)
@@ -161,13 +175,13 @@ module _ {I : Type 0} {l : LatticeOf I} {n : IntegersOf I} {stands : I → ℤ �
     scalar_good (integer z la) v e h = subst (λ cl. GoodAt cl (storing s kept (stops Stuck s.world))) (sym (class_pair kind)) (stop_good l n stands flow _ told Stuck s.world begun_clean)
     scalar_good (pointer at) v e h = let g = h at refl in subst (λ cl. GoodAt cl (storing s kept (effect.store flow.model kind (pointer at) v s.world))) (sym (class_pair kind)) (pair_good at v e g.0 g.1)
 
-  pub store_sound : (to from : ℕ) (kind : declared.Scalar) (kept : Option (ℕ × ℕ)) → IsWide kind → fits_operation (names_of flow) (op.Store to from kind kept) ≡ true → StepIsSound l n stands flow row (op.Store to from kind kept) s
+  pub store_sound : (to from : ℕ) (kind : declared.Scalar) (kept : Option (ℕ × ℕ)) → fits_operation (names_of flow) (op.Store to from kind kept) ≡ true → StepIsSound l n stands flow row (op.Store to from kind kept) s
   unfolding operate store_step store_to operation_violations
-  store_sound to from kind kept wide fits =
+  store_sound to from kind kept fits =
       let a = and_parts (has_temp (names_of flow) to) (has_temp (names_of flow) from && (is_scalar flow.model kind && has_kept (names_of flow) kept)) fits in
       let b = and_parts (has_temp (names_of flow) from) (is_scalar flow.model kind && has_kept (names_of flow) kept) a.1 in
       let d = and_parts (is_scalar flow.model kind) (has_kept (names_of flow) kept) b.1 in
       if_some_good l n stands flow _ _ s r.begun (s.temps to) _ (λ pv e.
       if_some_good l n stands flow _ _ s r.begun (s.temps from) _ (λ v f.
-      scalar_good kind wide kept d.1 (temp_value l n flow row to).pointer from pv v f (λ at g.
+      scalar_good kind kept d.1 (temp_value l n flow row to).pointer from pv v f (λ at g.
       (subst (StandsScalar stands naming s.world.memory (temp_value l n flow row to)) g (r.stands_for.temps to pv e), r.stands_for.held.within to (pointer at) (e ∙ ap Some g)))))

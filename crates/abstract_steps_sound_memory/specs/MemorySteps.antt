@@ -5,7 +5,6 @@ use Rattle.cc_base.specs.IntegerDomains.{IntegersOf}
 use Rattle.flow_program.specs.declared.machine_instructions.Operation.{Operation}
 use Rattle.flow_program.specs.declared.machine_instructions.Operation.TheVariants as op
 use Rattle.flow_program.specs.declared.programs.Flow.{Flow}
-use Rattle.store_domain_sound.specs.Statements.{IsWide}
 use Rattle.store_domain_sound_programs.specs.Premises.{HasPremises}
 use Rattle.abstract_steps_sound.specs.SoundSteps.{AreSound}
 
@@ -13,14 +12,13 @@ abbrev pub IsLoad : Operation → Type 0
 IsLoad (op.Load to from kind) = Unit {0}
 IsLoad _ = ⊥
 
--- a store of a scalar wider than a character
-abbrev pub IsWideStore : Operation → Type 0
-IsWideStore (op.Store to from kind kept) = IsWide kind
-IsWideStore _ = ⊥
+abbrev pub IsStore : Operation → Type 0
+IsStore (op.Store to from kind kept) = Unit {0}
+IsStore _ = ⊥
 
 module _ {I : Type 0} (l : LatticeOf I) (n : IntegersOf I) (stands : I → ℤ → Type 0) (flow : Flow) where
   abbrev pub LoadStepsAreSound : Type 0
   LoadStepsAreSound = HasPremises flow → AreSound l n stands flow IsLoad
 
-  abbrev pub WideStoreStepsAreSound : Type 0
-  WideStoreStepsAreSound = HasPremises flow → AreSound l n stands flow IsWideStore
+  abbrev pub StoreStepsAreSound : Type 0
+  StoreStepsAreSound = HasPremises flow → AreSound l n stands flow IsStore

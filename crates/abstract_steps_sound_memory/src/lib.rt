@@ -3,4 +3,4 @@
 
 mod theorems;
 
-pub use theorems::{load_steps_are_sound, wide_store_steps_are_sound};
+pub use theorems::{load_steps_are_sound, store_steps_are_sound};

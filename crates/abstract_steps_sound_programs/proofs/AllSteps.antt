@@ -1,12 +1,12 @@
 -- All instructions are sound where those are on which it is open.
-use Rattle.std.proofs.Common.{◌≡◌, ℕ, true, Option, Some, None, subst, refl, sym, inl, inr}
+use Rattle.std.proofs.Common.{◌≡◌, ℕ, true, Option, Some, None, subst, refl, sym, inl, inr, ◌⊎◌}
 use Rattle.std.specs.Prelude.{ℤ}
-use Rattle.std.proofs.lemmas.Bool.{cases_Bool}
 use Rattle.cc_base.specs.Lattices.{LatticeOf, OrderLaws}
 use Rattle.cc_base.specs.IntegerDomains.{IntegersOf, BoundLaws, RangeLaws}
 use Rattle.cc_base.specs.IntegerLaws.{SoundLaws}
 use Rattle.cc_base.specs.declared.limit_table.Limits.{Limits}
-use Rattle.c_layout.specs.declared.leaf_lists.Class.TheVariants.{Char}
+use Rattle.c_layout.specs.declared.library_functions.LibFn.{LibFn}
+use Rattle.c_layout.specs.declared.library_functions.LibFn.TheVariants as f
 use Rattle.flow_program.specs.WellFormed.{names_of, fits_operation, is_well_formed}
 use Rattle.flow_program.specs.declared.flow_edges.EdgeKind.{EdgeKind}
 use Rattle.flow_program.specs.declared.flow_edges.EdgeKind.TheVariants as kind
@@ -14,8 +14,6 @@ use Rattle.flow_program.specs.declared.flow_edges.Test.{Test}
 use Rattle.flow_program.specs.declared.machine_instructions.Operation.{Operation}
 use Rattle.flow_program.specs.declared.machine_instructions.Operation.TheVariants as op
 use Rattle.flow_program.specs.declared.programs.Flow.{Flow}
-use Rattle.store_domain.specs.ClassNumbers.{same_class}
-use Rattle.lib_models_effects.specs.Accesses.{class_in}
 use Rattle.store_domain_sound_programs.specs.Premises.{HasPremises}
 use Rattle.abstract_steps_sound.specs.OperandTypes.{HasOperands}
 use Rattle.abstract_steps_sound.specs.SoundSteps.{StepIsSound, AreSound}
@@ -27,7 +25,9 @@ use Rattle.abstract_steps_sound_objects.proofs.Forgetting.{forget_sound}
 use Rattle.abstract_steps_sound_clear.proofs.Clearing.{clear_sound}
 use Rattle.abstract_steps_sound_enter.proofs.Entering.{enter_sound}
 use Rattle.abstract_steps_sound_leave.proofs.Leaving.{leave_sound}
-use Rattle.abstract_steps_covered.specs.SoundEnds.{GoesOn, EndsBlock, EndIsSound, EndsAreSound, StepsGoOnSoundly, EndsGoOnSoundly}
+use Rattle.abstract_steps_sound_calls.specs.ResultCalls.{GivesNumber}
+use Rattle.abstract_steps_sound_calls.proofs.ResultCalls.{result_call_sound}
+use Rattle.abstract_steps_covered.specs.SoundEnds.{IsDoneIn, GoesOn, EndsBlock, EndIsSound, EndsAreSound, StepsGoOnSoundly, EndsGoOnSoundly}
 use Rattle.abstract_steps_sound_edges.specs.EdgeSteps.{IsPlainEnd, TestIsSound, CaseIsSound, KindIsSound, TestsAreSound}
 use Rattle.abstract_steps_sound_edges.proofs.EdgeSteps.{end_sound}
 use Rattle.abstract_steps_sound_tests.proofs.TestSides.{test_sound}
@@ -36,40 +36,55 @@ use Rattle.abstract_steps_sound_tests.proofs.NullTests.{null_test_sound}
 use Rattle.abstract_steps_sound_tests.proofs.CaseSteps.{case_sound}
 use Rattle.abstract_steps_sound_programs.specs.OpenSteps.{IsOpenStep, IsOpenEnd, TestIsProved, CaseIsProved, KindIsProved, OpenTestsAreSound}
 
+gives_or_not : (name : LibFn) → GivesNumber name ⊎ (GivesNumber name → ⊥)
+gives_or_not f.Getchar = inl tt
+gives_or_not f.Putchar = inl tt
+gives_or_not f.Exit = inl tt
+gives_or_not f.Abort = inl tt
+gives_or_not f.Isalpha = inl tt
+gives_or_not f.Isdigit = inl tt
+gives_or_not f.Isspace = inl tt
+gives_or_not f.Isupper = inl tt
+gives_or_not f.Islower = inl tt
+gives_or_not f.Isalnum = inl tt
+gives_or_not f.Toupper = inl tt
+gives_or_not f.Tolower = inl tt
+gives_or_not _ = inr (λ h. h)
+
 module _ {I : Type 0} {l : LatticeOf I} {n : IntegersOf I} {stands : I → ℤ → Type 0} (o : OrderLaws l) (q : BoundLaws l n stands) (c : SoundLaws l n stands) (ranges : RangeLaws l n) (flow : Flow) (p : HasPremises flow) where
-  module _ (limits : Limits) (good : is_well_formed limits flow ≡ true) (open_sound : AreSound l n stands flow IsOpenStep) where
+  module _ (limits : Limits) (good : is_well_formed limits flow ≡ true) (open_sound : AreSound l n stands flow (λ o. IsOpenStep o × IsDoneIn flow o)) where
     pub steps_go_on : StepsGoOnSoundly l n stands flow
-    steps_go_on naming row s i goes fits typed r = by_operation i goes fits typed
+    steps_go_on naming row s i goes fits typed r = by_operation i goes.0 goes.1 fits typed
       where
-        by_operation : (i : Operation) → GoesOn i → fits_operation (names_of flow) i ≡ true → HasOperands i s.temps → StepIsSound l n stands flow row i s
-        by_operation (op.Constant to number kind) h f t = value_step_sound q c ranges flow p naming row s r (op.Constant to number kind) refl f t
-        by_operation (op.Binary to operator left right kind) h f t = value_step_sound q c ranges flow p naming row s r (op.Binary to operator left right kind) refl f t
-        by_operation (op.Unary to operator operand kind) h f t = value_step_sound q c ranges flow p naming row s r (op.Unary to operator operand kind) refl f t
-        by_operation (op.Compare to rel left right) h f t = value_step_sound q c ranges flow p naming row s r (op.Compare to rel left right) refl f t
-        by_operation (op.Not to operand kind) h f t = value_step_sound q c ranges flow p naming row s r (op.Not to operand kind) refl f t
-        by_operation (op.Convert to operand from kind) h f t = value_step_sound q c ranges flow p naming row s r (op.Convert to operand from kind) refl f t
-        by_operation (op.Address to base offset) h f t = pointer_step_sound o q c flow p naming row s r (op.Address to base offset) refl f t
-        by_operation (op.Narrow to pointer offset size) h f t = pointer_step_sound o q c flow p naming row s r (op.Narrow to pointer offset size) refl f t
-        by_operation (op.Shift to pointer amount scale backwards) h f t = pointer_step_sound o q c flow p naming row s r (op.Shift to pointer amount scale backwards) refl f t
-        by_operation (op.Difference to left right size) h f t = pointer_step_sound o q c flow p naming row s r (op.Difference to left right size) refl f t
-        by_operation (op.ComparePointers to rel left right) h f t = pointer_step_sound o q c flow p naming row s r (op.ComparePointers to rel left right) refl f t
-        by_operation (op.Load to from kind) h f t = load_sound o q c flow p naming row s r to from kind f
-        by_operation (op.Store to from kind kept) h f t = elim (cases_Bool (same_class (class_in kind) Char)) [
-          | inl e ↦ open_sound naming row s (op.Store to from kind kept) e f t r
-          | inr e ↦ store_sound o q c ranges flow p naming row s r to from kind kept e f
+        by_operation : (i : Operation) → GoesOn i → IsDoneIn flow i → fits_operation (names_of flow) i ≡ true → HasOperands i s.temps → StepIsSound l n stands flow row i s
+        by_operation (op.Constant to number kind) h d f t = value_step_sound q c ranges flow p naming row s r (op.Constant to number kind) refl f t
+        by_operation (op.Binary to operator left right kind) h d f t = value_step_sound q c ranges flow p naming row s r (op.Binary to operator left right kind) refl f t
+        by_operation (op.Unary to operator operand kind) h d f t = value_step_sound q c ranges flow p naming row s r (op.Unary to operator operand kind) refl f t
+        by_operation (op.Compare to rel left right) h d f t = value_step_sound q c ranges flow p naming row s r (op.Compare to rel left right) refl f t
+        by_operation (op.Not to operand kind) h d f t = value_step_sound q c ranges flow p naming row s r (op.Not to operand kind) refl f t
+        by_operation (op.Convert to operand from kind) h d f t = value_step_sound q c ranges flow p naming row s r (op.Convert to operand from kind) refl f t
+        by_operation (op.Address to base offset) h d f t = pointer_step_sound o q c flow p naming row s r (op.Address to base offset) refl f t
+        by_operation (op.Narrow to pointer offset size) h d f t = pointer_step_sound o q c flow p naming row s r (op.Narrow to pointer offset size) refl f t
+        by_operation (op.Shift to pointer amount scale backwards) h d f t = pointer_step_sound o q c flow p naming row s r (op.Shift to pointer amount scale backwards) refl f t
+        by_operation (op.Difference to left right size) h d f t = pointer_step_sound o q c flow p naming row s r (op.Difference to left right size) refl f t
+        by_operation (op.ComparePointers to rel left right) h d f t = pointer_step_sound o q c flow p naming row s r (op.ComparePointers to rel left right) refl f t
+        by_operation (op.Load to from kind) h d f t = load_sound o q c flow p naming row s r to from kind f
+        by_operation (op.Store to from kind kept) h d f t = store_sound o q c ranges flow p naming row s r to from kind kept f
+        by_operation (op.Forget base) h d f t = forget_sound q flow p naming row s r base f
+        by_operation (op.Copy to from index) h d f t = open_sound naming row s (op.Copy to from index) (tt, d) f t r
+        by_operation (op.Library to name arguments site size) h d f t = elim (gives_or_not name) [
+          | inl e ↦ result_call_sound o q c flow p naming row s r to name arguments site size e f
+          | inr e ↦ open_sound naming row s (op.Library to name arguments site size) (e, d) f t r
         ]
-        by_operation (op.Forget base) h f t = forget_sound q flow p naming row s r base f
-        by_operation (op.Copy to from index) h f t = open_sound naming row s (op.Copy to from index) tt f t r
-        by_operation (op.Library to name arguments site size) h f t = open_sound naming row s (op.Library to name arguments site size) tt f t r
-        by_operation (op.Enter base) h f t = enter_sound q flow p naming row s r base f
-        by_operation (op.Leave base) h f t = leave_sound flow p naming row s r base f
-        by_operation (op.Clear base) h f t = clear_sound q flow p limits good naming row s r base f
-        by_operation (op.Spell base offset room text) h f t = open_sound naming row s (op.Spell base offset room text) tt f t r
-        by_operation op.Jump h f t = cc
-        by_operation (op.Branch temp kind) h f t = cc
-        by_operation (op.Switch temp kind) h f t = cc
-        by_operation (op.ReadLine to text count stream) h f t = cc
-        by_operation op.Stop h f t = cc
+        by_operation (op.Enter base) h d f t = enter_sound q flow p naming row s r base f
+        by_operation (op.Leave base) h d f t = leave_sound flow p naming row s r base f
+        by_operation (op.Clear base) h d f t = clear_sound q flow p limits good naming row s r base f
+        by_operation (op.Spell base offset room text) h d f t = open_sound naming row s (op.Spell base offset room text) (tt, d) f t r
+        by_operation op.Jump h d f t = cc
+        by_operation (op.Branch temp kind) h d f t = cc
+        by_operation (op.Switch temp kind) h d f t = cc
+        by_operation (op.ReadLine to text count stream) h d f t = cc
+        by_operation op.Stop h d f t = cc
 
   module _ (limits : Limits) (tests : TestsAreSound l n stands flow) (open_sound : EndsAreSound l n stands flow limits IsOpenEnd) where
     pub ends_go_on : EndsGoOnSoundly l n stands flow limits

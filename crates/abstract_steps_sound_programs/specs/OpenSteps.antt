@@ -4,7 +4,6 @@ use Rattle.cc_base.specs.Lattices.{LatticeOf}
 use Rattle.cc_base.specs.IntegerDomains.{IntegersOf}
 use Rattle.cc_base.specs.declared.limit_table.Limits.{Limits}
 use Rattle.c_layout.specs.CheckedUnits.{UnitView}
-use Rattle.c_layout.specs.declared.leaf_lists.Class.TheVariants.{Char}
 use Rattle.flow_program.specs.WellFormed.{is_well_formed}
 use Rattle.flow_program.specs.declared.flow_edges.Edge.{Edge}
 use Rattle.flow_program.specs.declared.flow_edges.EdgeKind.{EdgeKind}
@@ -14,21 +13,19 @@ use Rattle.flow_program.specs.declared.machine_instructions.Operation.{Operation
 use Rattle.flow_program.specs.declared.machine_instructions.Operation.TheVariants as op
 use Rattle.flow_program.specs.declared.programs.Flow.{Flow}
 use Rattle.value_domain.specs.declared.row_cells.Cell.{Cell}
-use Rattle.store_domain.specs.ClassNumbers.{same_class}
-use Rattle.lib_models_effects.specs.Accesses.{class_in}
 use Rattle.store_domain_meaning.specs.Coverage.{EachRunIsCovered}
 use Rattle.store_domain_sound_programs.specs.Premises.{AreHeld}
 use Rattle.abstract_steps_sound.specs.SoundSteps.{AreSound}
-use Rattle.abstract_steps_covered.specs.SoundEnds.{EndsAreSound}
+use Rattle.abstract_steps_sound_calls.specs.ResultCalls.{GivesNumber}
+use Rattle.abstract_steps_covered.specs.SoundEnds.{IsDoneIn, EndsAreSound}
 use Rattle.abstract_steps_covered.specs.Covering.{Begins, Carries, HasTypedRuns, row_before, Admits}
 use Rattle.abstract_steps_sound_edges.specs.EdgeSteps.{KindIsSound}
 use Rattle.abstract_steps_sound_tests.specs.ScalarObjects.{IsIntegerTest, IsPointerTest, IsNullTest, IsCaseObject}
 
--- stores of characters, copies of structs, calls of the library, and texts that are spelled
+-- copies of structs, calls of the library that read or write bytes, and texts that are spelled
 abbrev pub IsOpenStep : Operation → Type 0
-IsOpenStep (op.Store to from kind kept) = same_class (class_in kind) Char ≡ true
 IsOpenStep (op.Copy to from index) = Unit {0}
-IsOpenStep (op.Library to name arguments site size) = Unit {0}
+IsOpenStep (op.Library to name arguments site size) = GivesNumber name → ⊥
 IsOpenStep (op.Spell base offset room text) = Unit {0}
 IsOpenStep _ = ⊥
 
@@ -56,7 +53,7 @@ module _ {I : Type 0} (l : LatticeOf I) (n : IntegersOf I) (stands : I → ℤ �
   abbrev pub OpenTestsAreSound : Type 0
   OpenTestsAreSound = (number : ℕ) (e : Edge) → slice_get flow.edges.items number ≡ Some e → KindIsProved flow e.kind ⊎ KindIsSound l n stands flow e.kind
 
-  -- where the analysis is sound on what is open, each run is covered by a map that begins with it and carries it on
+  -- where the analysis is sound on what is open and the program does, each run is covered by a map that begins with it and carries it on
   abbrev pub CoversButForOpenSteps : Type 0
-  CoversButForOpenSteps = (limits : Limits) → AreHeld limits → is_well_formed limits flow ≡ true → AreSound l n stands flow IsOpenStep → EndsAreSound l n stands flow limits IsOpenEnd → OpenTestsAreSound
+  CoversButForOpenSteps = (limits : Limits) → AreHeld limits → is_well_formed limits flow ≡ true → AreSound l n stands flow (λ o. IsOpenStep o × IsDoneIn flow o) → EndsAreSound l n stands flow limits IsOpenEnd → OpenTestsAreSound
       → (u : UnitView) (rows : List (Option (List (Cell I)))) → Begins l n stands flow u rows → Carries l n stands flow rows → HasTypedRuns flow u → EachRunIsCovered l n stands flow (row_before l n flow rows) (Admits l n flow rows) u
