@@ -1,0 +1,6 @@
+pub mod Places
+pub mod JoinedSpans
+pub mod MetLeaves
+pub mod ShortLeaves
+pub mod Strays
+pub mod ShapedSpans
