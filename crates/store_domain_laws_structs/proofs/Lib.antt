@@ -4,3 +4,4 @@ pub mod MetLeaves
 pub mod ShortLeaves
 pub mod Strays
 pub mod ShapedSpans
+pub mod FarSpans
