@@ -5,3 +5,5 @@ pub mod ShortLeaves
 pub mod Strays
 pub mod ShapedSpans
 pub mod FarSpans
+pub mod WorkedStructs
+pub mod SpreadStructs

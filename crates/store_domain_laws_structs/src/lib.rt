@@ -3,4 +3,4 @@
 
 mod theorems;
 
-pub use theorems::larger_spans_reach_more;
+pub use theorems::{apart_leaves_are_spread, larger_spans_reach_more};
