@@ -1,4 +1,4 @@
--- Where the places of a span leave 64 bits, a larger span may reach less: one window ends at the last offset, behind the leaf.
+-- Where the places of a span leave 64 bits, a larger span may reach less: as one window it begins behind the leaf.
 use Rattle.std.specs.Prelude.{◌≡◌, ℕ, ◌-◌, ◌^◌, true, false, refl}
 use Rattle.c_layout.specs.declared.leaf_lists.Class.TheVariants.{Short}
 use Rattle.c_layout.specs.declared.leaf_lists.Leaf.{Leaf}

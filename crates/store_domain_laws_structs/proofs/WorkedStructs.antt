@@ -1,4 +1,5 @@
--- A worked struct, of an int, a long array of characters and a pointer: its leaves stand apart, so the law of copies speaks of it.
+-- A worked struct, of an int, a long array of characters and a pointer: its leaves stand apart, so the law of copies
+-- speaks of it.
 use Rattle.std.specs.Prelude.{◌≡◌, ℕ, true, [], ◌∷◌, refl}
 use Rattle.c_layout.specs.Types.{Ty, Int, Pointer, Array, Void}
 use Rattle.c_layout.specs.Models.{lp64}
