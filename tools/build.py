@@ -1,102 +1,80 @@
 #!/usr/bin/env python3
-"""build.py [LANES]: proves and builds the libraries, LANES at a time (default: one a processor), and then the program.
+"""build.py: proves the program and every crate below it, and leaves it in crates/ccheck_main/out/ccheck_main.
 
-Libraries are built lowest first, and of those that can begin the one with the longest chain above it. A line is printed
-for each, with how many are left; what its proof prints stands in crates/NAME/out/build.log. What is built already and
-has not changed since is kept. The program is left in crates/ccheck_main/out/ccheck_main.
-
-`rt` sums the files below a crate once for each way that leads to them, which are many for a crate high up. Here each
-crate's sum is computed once. This is no gate: that is `rt ci`, which proves everything from nothing.
+The proving is that of `rt ci`, in a copy that has these crates alone and no must-fail edits: the edits, the crates of
+rows and the laws about definitions are for `make check`. What the kit keeps of a run is kept here too, so a build that
+was cut off goes on where it was, and `make check` proves none of these crates again. A line is printed for each crate,
+with how many are left; all that the proofs print stands in crates/ccheck_main/out/build.log.
 """
-import copy
-import importlib.machinery
-import importlib.util
 import os
+import re
 import shutil
+import subprocess
 import sys
+import tempfile
 import time
-from concurrent.futures import FIRST_COMPLETED, ThreadPoolExecutor, wait
 
-sys.dont_write_bytecode = True
 ROOT = os.path.realpath(os.path.join(os.path.dirname(__file__), ".."))
 PROGRAM = "ccheck_main"
+OUT = f"{ROOT}/crates/{PROGRAM}/out"
+DONE = re.compile(r"rt: (\w+) (proved|is kept|NOT PROVED)")
 
 
-def command():
-    """Returns the toolchain's `rt` as a module."""
-    found = shutil.which("rt")
-    if not found:
-        sys.exit("build.py: no rt on the PATH: see README.md for the kit")
-    loader = importlib.machinery.SourceFileLoader("rt_command", os.path.realpath(found))
-    made = importlib.util.module_from_spec(importlib.util.spec_from_loader("rt_command", loader))
-    sys.modules["rt_command"] = made
-    loader.exec_module(made)
-    return made
+def libraries_of():
+    """Returns the line of each crate in crates.txt, and the crates among its libraries."""
+    with open(f"{ROOT}/crates.txt", encoding="utf-8") as file:
+        lines = [it.partition("#")[0].strip() for it in file]
+    named = {it.partition(":")[0].split()[0]: it for it in lines if it}
+    return named, {name: [it for it in line.partition(":")[2].split() if it in named] for name, line in named.items()}
 
 
-def sum_once(crates):
-    """Lets each crate keep the sum of its files. The crates are kept too, so that their numbers stay theirs."""
-    plain, sums = crates.Crate.stamp, {}
-
-    def stamp(self):
-        if id(self) not in sums:
-            sums[id(self)] = self, plain(self)
-        return sums[id(self)][1]
-
-    crates.Crate.stamp = stamp
-
-
-def chains(libraries):
-    """Returns for each library the lines of the longest chain that begins with it."""
-    lengths = {}
-    for it in reversed(libraries):
-        above = [lengths[other.name] for other in libraries if it in other.deps]
-        lengths[it.name] = it.count(rb"\n") + max(above, default=0)
-    return lengths
+def below(libraries):
+    """Returns the program and every crate below it."""
+    found, left = set(), [PROGRAM]
+    while left:
+        name = left.pop()
+        if name not in found:
+            found.add(name)
+            left += libraries[name]
+    return found
 
 
-def build(library):
-    """Proves and builds one library, and returns whether it is built."""
-    alone = copy.copy(library)
-    os.makedirs(f"{library.folder}/out", exist_ok=True)
-    with open(f"{library.folder}/out/build.log", "w", encoding="utf-8") as alone.out:
-        return alone.build_rlib(["--jobs", "1"], anew=False) == 0
+def copy_crates(room, names, lines):
+    """Makes a repository of these crates alone, without their edits."""
+    os.mkdir(f"{room}/.git")
+    shutil.copy(f"{ROOT}/HANDLES", room)
+    with open(f"{room}/crates.txt", "w", encoding="utf-8") as file:
+        file.writelines(f"{line}\n" for name, line in lines.items() if name in names)
+    for name in names:
+        shutil.copytree(f"{ROOT}/crates/{name}", f"{room}/crates/{name}", ignore=shutil.ignore_patterns("out", "must-fail"))
 
 
-def build_all(libraries, lanes):
-    """Builds the libraries, and returns the names of those that failed."""
-    lengths, begun = chains(libraries), time.time()
-    left = sorted(libraries, key=lambda it: -lengths[it.name])
-    done, failed, running = [], [], {}
-    with ThreadPoolExecutor(lanes) as pool:
-        while True:
-            ready = [it for it in left if all(below in done for below in it.deps)]
-            for it in ready[: lanes - len(running)]:
-                left.remove(it)
-                running[pool.submit(build, it)] = it
-            if not running:
-                return failed
-            for future in wait(running, return_when=FIRST_COMPLETED).done:
-                it = running.pop(future)
-                (done if future.result() else failed).append(it)
-                told = "" if future.result() else f"  FAILED, see crates/{it.name}/out/build.log"
-                print(f"{time.time() - begun:6.0f} s  {len(left) + len(running):2} left  {it.name}{told}", flush=True)
+def prove(room, count, log):
+    """Runs `rt ci` there, tells of each crate when it is done, and returns whether all are proved."""
+    begun, done = time.time(), set()
+    told = {"stdout": subprocess.PIPE, "stderr": subprocess.STDOUT, "text": True, "errors": "replace"}
+    with subprocess.Popen(["rt", "ci"], cwd=room, **told) as run:
+        for line in run.stdout:
+            log.write(line)
+            found = DONE.match(line)
+            if found and found[1] not in done:
+                done.add(found[1])
+                print(f"{time.time() - begun:6.0f} s  {count - len(done):2} left  {found[1]} {found[2]}", flush=True)
+    return run.returncode == 0
 
 
 def main():
-    lanes = int(sys.argv[1]) if len(sys.argv) > 1 else len(os.sched_getaffinity(0))
-    rt = command()
-    sum_once(rt.rtlib)
-    rt.rtlib.guarded()
-    os.chdir(ROOT)
-    program = next(it for it in rt.rtlib.crates_below(ROOT) if it.name == PROGRAM)
-    failed = build_all(program.below(), lanes)
-    if failed:
-        print("not built:", *sorted(it.name for it in failed))
-        return 1
-    os.chdir(program.folder)
-    if rt.main(["run", "--jobs", "1", "--", "--version"]) != 0:
-        return 1
+    if not shutil.which("rt"):
+        sys.exit("build.py: no rt on the PATH: see README.md for the kit")
+    lines, libraries = libraries_of()
+    names = below(libraries)
+    os.makedirs(OUT, exist_ok=True)
+    with tempfile.TemporaryDirectory(prefix="ccheck-build-") as room, open(f"{OUT}/build.log", "w", encoding="utf-8") as log:
+        copy_crates(room, names, lines)
+        if not prove(room, len(names), log):
+            print(f"not built: see crates/{PROGRAM}/out/build.log")
+            return 1
+        shutil.copy(f"{room}/crates/{PROGRAM}/out/{PROGRAM}", OUT)
     print(f"built: crates/{PROGRAM}/out/{PROGRAM}")
     return 0
 

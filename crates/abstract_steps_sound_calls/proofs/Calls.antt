@@ -8,18 +8,25 @@ use Rattle.cc_base.specs.Lattices.{LatticeOf}
 use Rattle.cc_base.specs.IntegerDomains.{IntegersOf, BoundLaws}
 use Rattle.flow_program.specs.WellFormed.{names_of, has_result}
 use Rattle.flow_program.specs.declared.programs.Flow.{Flow}
+use Rattle.value_domain.specs.LabelSets as sets
+use Rattle.value_domain.specs.ValueTables.{number_value}
 use Rattle.value_domain.specs.declared.values.Value.{Value}
 use Rattle.value_domain.specs.declared.row_cells.Cell.{Cell}
 use Rattle.abstract_steps_checks.specs.declared.violation_sets.Violations.{Violations}
-use Rattle.abstract_steps_library.specs.Effects.{put_result}
-use Rattle.lib_models_memory.specs.Scalars.{Scalar}
+use Rattle.abstract_steps_library.specs.Effects.{put_result, apply}
+use Rattle.abstract_steps_library.specs.declared.call_plans.Effect.TheVariants as effect
+use Rattle.abstract_steps_library.specs.declared.call_plans.Plan.{Plan}
+use Rattle.lib_models_memory.specs.Labels.{Labels}
+use Rattle.lib_models_memory.specs.Scalars.{Scalar, integer}
 use Rattle.lib_models_effects.specs.Worlds.{World, Why, Reply, goes, stops, drawn, drawn_from, drawn_in, OutOfDraws, Stuck}
 use Rattle.flow_program_machine.specs.FlowStates.{Standing, and_value, values_of}
 use Rattle.flow_program_machine.specs.FlowActs.{calling}
+use Rattle.store_domain_meaning.specs.SeenLabels.{as_set}
 use Rattle.store_domain_meaning.specs.ValueMeaning.{Naming}
 use Rattle.store_domain_sound_programs.specs.Premises.{HasPremises}
 use Rattle.abstract_steps_sound.specs.SoundSteps.{IsReached, IsStoodFor}
 use Rattle.abstract_steps_sound.proofs.Admitted.{AreAdmitted, none_admitted, same_admitted}
+use Rattle.abstract_steps_sound.proofs.NearScalars.{IsNearNumber}
 use Rattle.abstract_steps_sound.proofs.PutTemps.{IsResult}
 use Rattle.abstract_steps_sound.proofs.Replies.{stop_good, result_good}
 
@@ -71,3 +78,22 @@ module _ {I : Type 0} {l : LatticeOf I} {n : IntegersOf I} {stands : I → ℤ �
   pub call_gives : (told : Violations) (to : Option ℕ) → has_result (names_of flow) to ≡ true → (x : Value I) (v : Scalar) (w : World) → IsResult q flow p naming s.world.memory x v → w.memory ≡ s.world.memory → AreAdmitted told w.violated → IsStoodFor l n stands flow (Some (put_result flow to x row)) told (calling s to (goes (Some v) w))
   call_gives told None has x v w result same h = stop_good l n stands flow _ told Stuck s.world (clean told)
   call_gives told (Some t) has x v w result same h = result_good q flow p naming row s r t (ltb-true t flow.temps has) x v w result same (Some (put_result flow (Some t) x row)) told refl h
+
+  module _ (to : Option ℕ) (has : has_result (names_of flow) to ≡ true) (newest : Option ℕ) where
+    -- what a plan makes of the row is stood for
+    abbrev pub GoodPlan : Plan I → Reply (Option Scalar) → Type 0
+    GoodPlan plan reply = IsStoodFor l n stands flow (apply l n flow to newest plan.effect row) plan.violations (calling s to reply)
+
+    pub plan_stops : (plan : Plan I) (why : _) (w : World) → AreAdmitted plan.violations w.violated → GoodPlan plan (stops why w)
+    plan_stops plan why w h = call_stops (apply l n flow to newest plan.effect row) plan.violations to why w h
+
+    pub plan_gives : (told : Violations) (x : Value I) (v : Scalar) (w : World) → IsResult q flow p naming s.world.memory x v → w.memory ≡ s.world.memory → AreAdmitted told w.violated → GoodPlan (record { violations = told; effect = effect.Result x }) (goes (Some v) w)
+    unfolding apply
+    plan_gives told x v w result same h = call_gives told to has x v w result same h
+
+    pub plan_is : (plan other : Plan I) (reply : Reply (Option Scalar)) → plan ≡ other → GoodPlan other reply → GoodPlan plan reply
+    plan_is plan other reply e h = subst (λ z. GoodPlan z reply) (sym e) h
+
+    -- a number with labels that it has at most
+    pub number_result : (x : I) (labels : _) (z : ℤ) (la : Labels) → stands x z → sets.labels_leq (as_set la) labels ≡ true → IsNearNumber z → IsResult q flow p naming s.world.memory (number_value l x labels) (integer z la)
+    number_result x labels z la st le near = record { stands_for = (st, le); near = near; within = tt }

@@ -62,7 +62,7 @@ use Rattle.abstract_steps_sound.proofs.PutTemps.{IsResult}
 use Rattle.abstract_steps_sound.proofs.Replies.{if_some_good}
 use Rattle.value_domain_laws.proofs.Numbers.{RangeHas, bounds_have}
 use Rattle.abstract_steps_sound_calls.specs.ResultCalls.{GivesNumber, IsResultCall}
-use Rattle.abstract_steps_sound_calls.proofs.Calls.{HasFirst, first_argument, DrawnEnd, gave, ran_out, drawn_end, clean, call_stops, call_gives}
+use Rattle.abstract_steps_sound_calls.proofs.Calls.{HasFirst, first_argument, DrawnEnd, gave, ran_out, drawn_end, clean, GoodPlan, plan_stops, plan_gives, plan_is, number_result}
 use Rattle.abstract_steps_sound_calls.proofs.CharacterNumbers.{number_between, tested, raised, lowered, outside_told, inside_is, IsMet, met_is}
 
 -- ---- the number of an unsigned character
@@ -90,32 +90,15 @@ letter_near true c d p k g h = record { from = omega (arith, ints); to = omega (
 letter_near false c d p k g h = record { from = omega (arith, ints); to = omega (arith, ints) }
 
 module _ {I : Type 0} {l : LatticeOf I} {n : IntegersOf I} {stands : I → ℤ → Type 0} (o : OrderLaws l) (q : BoundLaws l n stands) (c : SoundLaws l n stands) (flow : Flow) (p : HasPremises flow) (naming : Naming) (row : List (Cell I)) (s : Standing) (r : IsReached l n stands flow naming row s) (to : Option ℕ) (has : has_result (names_of flow) to ≡ true) (newest : Option ℕ) where
-  -- what a plan makes of the row is stood for
-  abbrev GoodPlan : Plan I → Reply (Option Scalar) → Type 0
-  GoodPlan plan reply = IsStoodFor l n stands flow (apply l n flow to newest plan.effect row) plan.violations (calling s to reply)
-
-  plan_stops : (plan : Plan I) (why : _) (w : World) → AreAdmitted plan.violations w.violated → GoodPlan plan (stops why w)
-  plan_stops plan why w h = call_stops q flow p naming row s r (apply l n flow to newest plan.effect row) plan.violations to why w h
-
-  plan_gives : (told : Violations) (x : Value I) (v : Scalar) (w : World) → IsResult q flow p naming s.world.memory x v → w.memory ≡ s.world.memory → AreAdmitted told w.violated → GoodPlan (record { violations = told; effect = effect.Result x }) (goes (Some v) w)
-  unfolding apply
-  plan_gives told x v w result same h = call_gives q flow p naming row s r told to has x v w result same h
-
-  plan_is : (plan other : Plan I) (reply : Reply (Option Scalar)) → plan ≡ other → GoodPlan other reply → GoodPlan plan reply
-  plan_is plan other reply e h = subst (λ z. GoodPlan z reply) (sym e) h
-
-  number_result : (x : I) (labels : _) (z : ℤ) (la : Labels) → stands x z → sets.labels_leq (as_set la) labels ≡ true → IsNearNumber z → IsResult q flow p naming s.world.memory (number_value l x labels) (integer z la)
-  number_result x labels z la st le near = record { stands_for = (st, le); near = near; within = tt }
-
   -- ---- `getchar`
 
-  getchar_good : DrawnEnd s.world (negsuc 0) (pos 255) (drawn s.world (negsuc 0) (pos 255)) → GoodPlan (plan_getchar l n flow.model) (with_result (getchar flow.model s.world))
-  getchar_good (gave z draws lo hi e) = subst (λ y. GoodPlan (plan_getchar l n flow.model) (with_result (behind y (λ c w. goes (integer c (input_labels (int_type flow.model))) w)))) (sym e)
-      (plan_gives no_violations _ (integer z (input_labels (int_type flow.model))) (record (s.world) { draws = draws })
-      (number_result (between_or_least l n (negsuc 0) (pos 255)) _ z (input_labels (int_type flow.model)) (number_between o q (negsuc 0) (pos 255) z lo hi) refl (record { from = omega (arith, ints); to = omega (arith, ints) }))
+  getchar_good : DrawnEnd s.world (negsuc 0) (pos 255) (drawn s.world (negsuc 0) (pos 255)) → GoodPlan q flow p naming row s r to has newest (plan_getchar l n flow.model) (with_result (getchar flow.model s.world))
+  getchar_good (gave z draws lo hi e) = subst (λ y. GoodPlan q flow p naming row s r to has newest (plan_getchar l n flow.model) (with_result (behind y (λ c w. goes (integer c (input_labels (int_type flow.model))) w)))) (sym e)
+      (plan_gives q flow p naming row s r to has newest no_violations _ (integer z (input_labels (int_type flow.model))) (record (s.world) { draws = draws })
+      (number_result q flow p naming row s r to has newest (between_or_least l n (negsuc 0) (pos 255)) _ z (input_labels (int_type flow.model)) (number_between o q (negsuc 0) (pos 255) z lo hi) refl (record { from = omega (arith, ints); to = omega (arith, ints) }))
       refl (clean q flow p naming row s r no_violations))
-  getchar_good (ran_out draws e) = subst (λ y. GoodPlan (plan_getchar l n flow.model) (with_result (behind y (λ c w. goes (integer c (input_labels (int_type flow.model))) w)))) (sym e)
-      (plan_stops (plan_getchar l n flow.model) OutOfDraws (record (s.world) { draws = draws }) (clean q flow p naming row s r no_violations))
+  getchar_good (ran_out draws e) = subst (λ y. GoodPlan q flow p naming row s r to has newest (plan_getchar l n flow.model) (with_result (behind y (λ c w. goes (integer c (input_labels (int_type flow.model))) w)))) (sym e)
+      (plan_stops q flow p naming row s r to has newest (plan_getchar l n flow.model) OutOfDraws (record (s.world) { draws = draws }) (clean q flow p naming row s r no_violations))
 
   module _ (items : List ℕ) (wanted : Option ℕ) where
     abbrev the_call : Call
@@ -136,18 +119,18 @@ module _ {I : Type 0} {l : LatticeOf I} {n : IntegersOf I} {stands : I → ℤ �
     putchar_plan : (x : I) (z : ℤ) → stands x z → putchar_of l n first_value x ≡ harmless (effect.Result (number_value l x first_value.labels))
     putchar_plan x z h = let i = q.inside x z h in rw i.2 refl
 
-    putchar_good : (vs : List Scalar) → values_of s.temps items ≡ Some vs → GoodPlan (plan_putchar l n flow.model first_value) (with_result (putchar vs s.world))
-    putchar_good [] e = plan_stops (plan_putchar l n flow.model first_value) Stuck s.world (clean q flow p naming row s r _)
-    putchar_good (pointer at ∷ vs) e = plan_stops (plan_putchar l n flow.model first_value) Stuck s.world (clean q flow p naming row s r _)
-    putchar_good (integer z la ∷ (v ∷ vs)) e = plan_stops (plan_putchar l n flow.model first_value) Stuck s.world (clean q flow p naming row s r _)
+    putchar_good : (vs : List Scalar) → values_of s.temps items ≡ Some vs → GoodPlan q flow p naming row s r to has newest (plan_putchar l n flow.model first_value) (with_result (putchar vs s.world))
+    putchar_good [] e = plan_stops q flow p naming row s r to has newest (plan_putchar l n flow.model first_value) Stuck s.world (clean q flow p naming row s r _)
+    putchar_good (pointer at ∷ vs) e = plan_stops q flow p naming row s r to has newest (plan_putchar l n flow.model first_value) Stuck s.world (clean q flow p naming row s r _)
+    putchar_good (integer z la ∷ (v ∷ vs)) e = plan_stops q flow p naming row s r to has newest (plan_putchar l n flow.model first_value) Stuck s.world (clean q flow p naming row s r _)
     putchar_good (integer z la ∷ []) e =
         let h = first_stands (integer z la) [] e in
         let x : I = n.convert first_value.num (kind_of flow.model Char false) in
         let st : stands x (pos (bits_in 1 z)) = subst (stands x) (wrapped_is z (kind_of flow.model Char false) refl) (c.convert_stands (kind_of flow.model Char false) first_value.num z refl h.0) in
         let small = bits_small z in
-        plan_is (plan_putchar l n flow.model first_value) (harmless (effect.Result (number_value l x first_value.labels))) (goes (Some (integer (pos (bits_in 1 z)) la)) s.world) (putchar_plan x (pos (bits_in 1 z)) st)
-        (plan_gives no_violations (number_value l x first_value.labels) (integer (pos (bits_in 1 z)) la) s.world
-        (number_result x first_value.labels (pos (bits_in 1 z)) la st h.1 (record { from = omega (arith, ints); to = omega (arith, ints) }))
+        plan_is q flow p naming row s r to has newest (plan_putchar l n flow.model first_value) (harmless (effect.Result (number_value l x first_value.labels))) (goes (Some (integer (pos (bits_in 1 z)) la)) s.world) (putchar_plan x (pos (bits_in 1 z)) st)
+        (plan_gives q flow p naming row s r to has newest no_violations (number_value l x first_value.labels) (integer (pos (bits_in 1 z)) la) s.world
+        (number_result q flow p naming row s r to has newest x first_value.labels (pos (bits_in 1 z)) la st h.1 (record { from = omega (arith, ints); to = omega (arith, ints) }))
         refl (clean q flow p naming row s r no_violations))
 
     -- ---- functions on characters
@@ -162,53 +145,53 @@ module _ {I : Type 0} {l : LatticeOf I} {n : IntegersOf I} {stands : I → ℤ �
     abbrev reply_for : LibFn → ℤ → Labels → Reply (Option Scalar)
     reply_for function z la = with_result (machine.on_character function z la s.world)
 
-    character_met : (function : LibFn) (well : AnswersWell function) (z : ℤ) (la : Labels) → StandsScalar stands naming s.world.memory first_value (integer z la) → (negsuc 0 ≤ℤ z) → (z ≤ℤ pos 255) → (m : IsMet (n.bounds first_value.num) z) → GoodPlan (plan_in l n function first_value (range_met (n.bounds first_value.num) (negsuc 0) (pos 255))) (goes (Some (machine.answer function z la)) s.world)
+    character_met : (function : LibFn) (well : AnswersWell function) (z : ℤ) (la : Labels) → StandsScalar stands naming s.world.memory first_value (integer z la) → (negsuc 0 ≤ℤ z) → (z ≤ℤ pos 255) → (m : IsMet (n.bounds first_value.num) z) → GoodPlan q flow p naming row s r to has newest (plan_in l n function first_value (range_met (n.bounds first_value.num) (negsuc 0) (pos 255))) (goes (Some (machine.answer function z la)) s.world)
     character_met function well z la h a b m =
-        plan_is (plan_in l n function first_value (range_met (n.bounds first_value.num) (negsuc 0) (pos 255))) (planned (trail_of told) (effect.Result (characters.answer l n function first_value m.lo m.hi))) (goes (Some (machine.answer function z la)) s.world) (ap (plan_in l n function first_value) m.is)
-        (plan_gives told (characters.answer l n function first_value m.lo m.hi) (machine.answer function z la) s.world (well m.lo m.hi z la m.first m.last m.above m.below h) refl (clean q flow p naming row s r told))
+        plan_is q flow p naming row s r to has newest (plan_in l n function first_value (range_met (n.bounds first_value.num) (negsuc 0) (pos 255))) (planned (trail_of told) (effect.Result (characters.answer l n function first_value m.lo m.hi))) (goes (Some (machine.answer function z la)) s.world) (ap (plan_in l n function first_value) m.is)
+        (plan_gives q flow p naming row s r to has newest told (characters.answer l n function first_value m.lo m.hi) (machine.answer function z la) s.world (well m.lo m.hi z la m.first m.last m.above m.below h) refl (clean q flow p naming row s r told))
 
     plan_told : (function : LibFn) (range : Range) → (plan_in l n function first_value range).violations ≡ told
     plan_told function None = refl
     plan_told function (Some t) = refl
 
-    character_good : (function : LibFn) (well : AnswersWell function) (z : ℤ) (la : Labels) → StandsScalar stands naming s.world.memory first_value (integer z la) → GoodPlan (plan_character l n function first_value) (reply_for function z la)
+    character_good : (function : LibFn) (well : AnswersWell function) (z : ℤ) (la : Labels) → StandsScalar stands naming s.world.memory first_value (integer z la) → GoodPlan q flow p naming row s r to has newest (plan_character l n function first_value) (reply_for function z la)
     unfolding plan_character
     character_good function well z la h = elim (cases_Bool (lies_in (negsuc 0) (pos 255) z)) [
       | inl e ↦ (let w = inside_is z e in
           let is : reply_for function z la ≡ goes (Some (machine.answer function z la)) s.world = rw e refl in
-          subst (GoodPlan (plan_in l n function first_value (range_met (n.bounds first_value.num) (negsuc 0) (pos 255)))) (sym is)
+          subst (GoodPlan q flow p naming row s r to has newest (plan_in l n function first_value (range_met (n.bounds first_value.num) (negsuc 0) (pos 255)))) (sym is)
           (character_met function well z la h w.0 w.1 (met_is (n.bounds first_value.num) z (bounds_have q first_value.num z h.0) w.0 w.1)))
       | inr e ↦ (let is : reply_for function z la ≡ stopped_by s.world Chrsgnext = rw e refl in
           let plan : Plan I = plan_in l n function first_value (range_met (n.bounds first_value.num) (negsuc 0) (pos 255)) in
           let admits : violates plan.violations Chrsgnext ≡ true = ap (λ v. violates v Chrsgnext) (plan_told function (range_met (n.bounds first_value.num) (negsuc 0) (pos 255))) ∙ outside_told (n.bounds first_value.num) z (bounds_have q first_value.num z h.0) e in
-          subst (GoodPlan plan) (sym is)
-          (plan_stops plan Violated _ (both_admitted plan.violations s.world.violated _ (clean q flow p naming row s r plan.violations) (one_admitted plan.violations Chrsgnext admits))))
+          subst (GoodPlan q flow p naming row s r to has newest plan) (sym is)
+          (plan_stops q flow p naming row s r to has newest plan Violated _ (both_admitted plan.violations s.world.violated _ (clean q flow p naming row s r plan.violations) (one_admitted plan.violations Chrsgnext admits))))
     ]
 
-    characters_good : (function : LibFn) (well : AnswersWell function) (vs : List Scalar) → values_of s.temps items ≡ Some vs → GoodPlan (plan_character l n function first_value) (with_result (character_call function vs s.world))
-    characters_good function well [] e = plan_stops (plan_character l n function first_value) Stuck s.world (clean q flow p naming row s r _)
-    characters_good function well (pointer at ∷ vs) e = plan_stops (plan_character l n function first_value) Stuck s.world (clean q flow p naming row s r _)
-    characters_good function well (integer z la ∷ (v ∷ vs)) e = plan_stops (plan_character l n function first_value) Stuck s.world (clean q flow p naming row s r _)
+    characters_good : (function : LibFn) (well : AnswersWell function) (vs : List Scalar) → values_of s.temps items ≡ Some vs → GoodPlan q flow p naming row s r to has newest (plan_character l n function first_value) (with_result (character_call function vs s.world))
+    characters_good function well [] e = plan_stops q flow p naming row s r to has newest (plan_character l n function first_value) Stuck s.world (clean q flow p naming row s r _)
+    characters_good function well (pointer at ∷ vs) e = plan_stops q flow p naming row s r to has newest (plan_character l n function first_value) Stuck s.world (clean q flow p naming row s r _)
+    characters_good function well (integer z la ∷ (v ∷ vs)) e = plan_stops q flow p naming row s r to has newest (plan_character l n function first_value) Stuck s.world (clean q flow p naming row s r _)
     characters_good function well (integer z la ∷ []) e = character_good function well z la (first_stands (integer z la) [] e)
 
     -- a test
     test_well : (function : LibFn) (lo hi z : ℤ) (b : Bool) → b ≡ characters.has_class function z → lo ≤ℤ z → z ≤ℤ hi → IsResult q flow p naming s.world.memory (number_value l (characters.tested_number l n function lo hi) sets.no_labels) (truth b)
-    test_well function lo hi z b e h k = number_result (characters.tested_number l n function lo hi) sets.no_labels (cond b (pos 1) (pos 0)) no_labels (subst (λ y. stands (characters.tested_number l n function lo hi) (cond y (pos 1) (pos 0))) (sym e) (tested o q function lo hi z h k)) refl (truth_near b)
+    test_well function lo hi z b e h k = number_result q flow p naming row s r to has newest (characters.tested_number l n function lo hi) sets.no_labels (cond b (pos 1) (pos 0)) no_labels (subst (λ y. stands (characters.tested_number l n function lo hi) (cond y (pos 1) (pos 0))) (sym e) (tested o q function lo hi z h k)) refl (truth_near b)
 
-    by_name : (name : LibFn) → GivesNumber name → (vs : List Scalar) → values_of s.temps items ≡ Some vs → GoodPlan (plan_call l n name (call_of flow items wanted) row) (library flow.model wanted name vs s.world)
+    by_name : (name : LibFn) → GivesNumber name → (vs : List Scalar) → values_of s.temps items ≡ Some vs → GoodPlan q flow p naming row s r to has newest (plan_call l n name (call_of flow items wanted) row) (library flow.model wanted name vs s.world)
     unfolding plan_call
     by_name f.Getchar h vs e = getchar_good (drawn_end s.world (negsuc 0) (pos 255))
     by_name f.Putchar h vs e = putchar_good vs e
-    by_name f.Exit h vs e = plan_stops (harmless effect.Unreached) Ended s.world (clean q flow p naming row s r no_violations)
-    by_name f.Abort h vs e = plan_stops (harmless effect.Unreached) Ended s.world (clean q flow p naming row s r no_violations)
+    by_name f.Exit h vs e = plan_stops q flow p naming row s r to has newest (harmless effect.Unreached) Ended s.world (clean q flow p naming row s r no_violations)
+    by_name f.Abort h vs e = plan_stops q flow p naming row s r to has newest (harmless effect.Unreached) Ended s.world (clean q flow p naming row s r no_violations)
     by_name f.Isalpha h vs e = characters_good f.Isalpha (λ lo hi z la a b g k w. test_well f.Isalpha lo hi z (has_class f.Isalpha z) refl g k) vs e
     by_name f.Isdigit h vs e = characters_good f.Isdigit (λ lo hi z la a b g k w. test_well f.Isdigit lo hi z (has_class f.Isdigit z) refl g k) vs e
     by_name f.Isspace h vs e = characters_good f.Isspace (λ lo hi z la a b g k w. test_well f.Isspace lo hi z (has_class f.Isspace z) refl g k) vs e
     by_name f.Isupper h vs e = characters_good f.Isupper (λ lo hi z la a b g k w. test_well f.Isupper lo hi z (has_class f.Isupper z) refl g k) vs e
     by_name f.Islower h vs e = characters_good f.Islower (λ lo hi z la a b g k w. test_well f.Islower lo hi z (has_class f.Islower z) refl g k) vs e
     by_name f.Isalnum h vs e = characters_good f.Isalnum (λ lo hi z la a b g k w. test_well f.Isalnum lo hi z (has_class f.Isalnum z) refl g k) vs e
-    by_name f.Toupper h vs e = characters_good f.Toupper (λ lo hi z la a b g k w. number_result (characters.raised l n lo hi) first_value.labels (cond (is_lower z) (z -ℤ pos 32) z) la (raised o q lo hi z a b g k) w.1 (letter_near (is_lower z) (z -ℤ pos 32) z (omega (arith, ints)) (omega (arith, ints)) (omega (arith, ints)) (omega (arith, ints)))) vs e
-    by_name f.Tolower h vs e = characters_good f.Tolower (λ lo hi z la a b g k w. number_result (characters.lowered l n lo hi) first_value.labels (cond (is_upper z) (z +ℤ pos 32) z) la (lowered o q lo hi z a b g k) w.1 (letter_near (is_upper z) (z +ℤ pos 32) z (omega (arith, ints)) (omega (arith, ints)) (omega (arith, ints)) (omega (arith, ints)))) vs e
+    by_name f.Toupper h vs e = characters_good f.Toupper (λ lo hi z la a b g k w. number_result q flow p naming row s r to has newest (characters.raised l n lo hi) first_value.labels (cond (is_lower z) (z -ℤ pos 32) z) la (raised o q lo hi z a b g k) w.1 (letter_near (is_lower z) (z -ℤ pos 32) z (omega (arith, ints)) (omega (arith, ints)) (omega (arith, ints)) (omega (arith, ints)))) vs e
+    by_name f.Tolower h vs e = characters_good f.Tolower (λ lo hi z la a b g k w. number_result q flow p naming row s r to has newest (characters.lowered l n lo hi) first_value.labels (cond (is_upper z) (z +ℤ pos 32) z) la (lowered o q lo hi z a b g k) w.1 (letter_near (is_upper z) (z +ℤ pos 32) z (omega (arith, ints)) (omega (arith, ints)) (omega (arith, ints)) (omega (arith, ints)))) vs e
     by_name _ h vs e = absurd h
 
 module _ {I : Type 0} {l : LatticeOf I} {n : IntegersOf I} {stands : I → ℤ → Type 0} (o : OrderLaws l) (q : BoundLaws l n stands) (c : SoundLaws l n stands) (flow : Flow) (p : HasPremises flow) (naming : Naming) (row : List (Cell I)) (s : Standing) (r : IsReached l n stands flow naming row s) where

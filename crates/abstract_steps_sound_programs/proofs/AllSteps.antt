@@ -25,8 +25,8 @@ use Rattle.abstract_steps_sound_objects.proofs.Forgetting.{forget_sound}
 use Rattle.abstract_steps_sound_clear.proofs.Clearing.{clear_sound}
 use Rattle.abstract_steps_sound_enter.proofs.Entering.{enter_sound}
 use Rattle.abstract_steps_sound_leave.proofs.Leaving.{leave_sound}
-use Rattle.abstract_steps_sound_calls.specs.ResultCalls.{GivesNumber}
 use Rattle.abstract_steps_sound_calls.proofs.ResultCalls.{result_call_sound}
+use Rattle.abstract_steps_sound_strings.proofs.StringCalls.{string_call_sound}
 use Rattle.abstract_steps_covered.specs.SoundEnds.{IsDoneIn, GoesOn, EndsBlock, EndIsSound, EndsAreSound, StepsGoOnSoundly, EndsGoOnSoundly}
 use Rattle.abstract_steps_sound_edges.specs.EdgeSteps.{IsPlainEnd, TestIsSound, CaseIsSound, KindIsSound, TestsAreSound}
 use Rattle.abstract_steps_sound_edges.proofs.EdgeSteps.{end_sound}
@@ -34,22 +34,25 @@ use Rattle.abstract_steps_sound_tests.proofs.TestSides.{test_sound}
 use Rattle.abstract_steps_sound_tests.proofs.PointerTests.{pointer_test_sound}
 use Rattle.abstract_steps_sound_tests.proofs.NullTests.{null_test_sound}
 use Rattle.abstract_steps_sound_tests.proofs.CaseSteps.{case_sound}
-use Rattle.abstract_steps_sound_programs.specs.OpenSteps.{IsOpenStep, IsOpenEnd, TestIsProved, CaseIsProved, KindIsProved, OpenTestsAreSound}
+use Rattle.abstract_steps_sound_programs.specs.OpenSteps.{IsOpenStep, IsProvedCall, IsOpenEnd, TestIsProved, CaseIsProved, KindIsProved, OpenTestsAreSound}
 
-gives_or_not : (name : LibFn) → GivesNumber name ⊎ (GivesNumber name → ⊥)
-gives_or_not f.Getchar = inl tt
-gives_or_not f.Putchar = inl tt
-gives_or_not f.Exit = inl tt
-gives_or_not f.Abort = inl tt
-gives_or_not f.Isalpha = inl tt
-gives_or_not f.Isdigit = inl tt
-gives_or_not f.Isspace = inl tt
-gives_or_not f.Isupper = inl tt
-gives_or_not f.Islower = inl tt
-gives_or_not f.Isalnum = inl tt
-gives_or_not f.Toupper = inl tt
-gives_or_not f.Tolower = inl tt
-gives_or_not _ = inr (λ h. h)
+proved_or_not : (name : LibFn) → IsProvedCall name ⊎ (IsProvedCall name → ⊥)
+proved_or_not f.Getchar = inl (inl tt)
+proved_or_not f.Putchar = inl (inl tt)
+proved_or_not f.Exit = inl (inl tt)
+proved_or_not f.Abort = inl (inl tt)
+proved_or_not f.Isalpha = inl (inl tt)
+proved_or_not f.Isdigit = inl (inl tt)
+proved_or_not f.Isspace = inl (inl tt)
+proved_or_not f.Isupper = inl (inl tt)
+proved_or_not f.Islower = inl (inl tt)
+proved_or_not f.Isalnum = inl (inl tt)
+proved_or_not f.Toupper = inl (inl tt)
+proved_or_not f.Tolower = inl (inl tt)
+proved_or_not f.Strlen = inl (inr tt)
+proved_or_not f.Strcmp = inl (inr tt)
+proved_or_not f.Puts = inl (inr tt)
+proved_or_not _ = inr (λ h. elim h [ inl e ↦ e | inr e ↦ e ])
 
 module _ {I : Type 0} {l : LatticeOf I} {n : IntegersOf I} {stands : I → ℤ → Type 0} (o : OrderLaws l) (q : BoundLaws l n stands) (c : SoundLaws l n stands) (ranges : RangeLaws l n) (flow : Flow) (p : HasPremises flow) where
   module _ (limits : Limits) (good : is_well_formed limits flow ≡ true) (open_sound : AreSound l n stands flow (λ o. IsOpenStep o × IsDoneIn flow o)) where
@@ -72,9 +75,12 @@ module _ {I : Type 0} {l : LatticeOf I} {n : IntegersOf I} {stands : I → ℤ �
         by_operation (op.Store to from kind kept) h d f t = store_sound o q c ranges flow p naming row s r to from kind kept f
         by_operation (op.Forget base) h d f t = forget_sound q flow p naming row s r base f
         by_operation (op.Copy to from index) h d f t = open_sound naming row s (op.Copy to from index) (tt, d) f t r
-        by_operation (op.Library to name arguments site size) h d f t = elim (gives_or_not name) [
-          | inl e ↦ result_call_sound o q c flow p naming row s r to name arguments site size e f
+        by_operation (op.Library to name arguments site size) h d f t = elim (proved_or_not name) [
           | inr e ↦ open_sound naming row s (op.Library to name arguments site size) (e, d) f t r
+          | inl e ↦ elim e [
+            | inl h ↦ result_call_sound o q c flow p naming row s r to name arguments site size h f
+            | inr h ↦ string_call_sound o q flow p naming row s r to name arguments site size h f
+          ]
         ]
         by_operation (op.Enter base) h d f t = enter_sound q flow p naming row s r base f
         by_operation (op.Leave base) h d f t = leave_sound flow p naming row s r base f

@@ -4,6 +4,7 @@ use Rattle.cc_base.specs.Lattices.{LatticeOf}
 use Rattle.cc_base.specs.IntegerDomains.{IntegersOf}
 use Rattle.cc_base.specs.declared.limit_table.Limits.{Limits}
 use Rattle.c_layout.specs.CheckedUnits.{UnitView}
+use Rattle.c_layout.specs.declared.library_functions.LibFn.{LibFn}
 use Rattle.flow_program.specs.WellFormed.{is_well_formed}
 use Rattle.flow_program.specs.declared.flow_edges.Edge.{Edge}
 use Rattle.flow_program.specs.declared.flow_edges.EdgeKind.{EdgeKind}
@@ -17,15 +18,20 @@ use Rattle.store_domain_meaning.specs.Coverage.{EachRunIsCovered}
 use Rattle.store_domain_sound_programs.specs.Premises.{AreHeld}
 use Rattle.abstract_steps_sound.specs.SoundSteps.{AreSound}
 use Rattle.abstract_steps_sound_calls.specs.ResultCalls.{GivesNumber}
+use Rattle.abstract_steps_sound_strings.specs.StringCalls.{ReadsStrings}
 use Rattle.abstract_steps_covered.specs.SoundEnds.{IsDoneIn, EndsAreSound}
 use Rattle.abstract_steps_covered.specs.Covering.{Begins, Carries, HasTypedRuns, row_before, Admits}
 use Rattle.abstract_steps_sound_edges.specs.EdgeSteps.{KindIsSound}
 use Rattle.abstract_steps_sound_tests.specs.ScalarObjects.{IsIntegerTest, IsPointerTest, IsNullTest, IsCaseObject}
 
--- copies of structs, calls of the library that read or write bytes, and texts that are spelled
+-- calls that give a number for one that is no pointer, and that read strings
+abbrev pub IsProvedCall : LibFn → Type 0
+IsProvedCall name = GivesNumber name ⊎ ReadsStrings name
+
+-- copies of structs, other calls of the library, and texts that are spelled
 abbrev pub IsOpenStep : Operation → Type 0
 IsOpenStep (op.Copy to from index) = Unit {0}
-IsOpenStep (op.Library to name arguments site size) = GivesNumber name → ⊥
+IsOpenStep (op.Library to name arguments site size) = IsProvedCall name → ⊥
 IsOpenStep (op.Spell base offset room text) = Unit {0}
 IsOpenStep _ = ⊥
 

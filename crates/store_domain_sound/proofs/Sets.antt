@@ -29,11 +29,11 @@ only_has b h = rw (lt-ltb b most_bases h) (with_has_same no_base b)
 union_adds : (found : Bases) (b : ℕ) → b < most_bases → has_base (bases_union found (only_base b)) b ≡ true
 union_adds found b h = and_from _ _ (lt-ltb _ _ h) (union_has found (only_base b) b ∙ or_right _ _ (only_has b h))
 
-if_keeps : (wanted : Bool) (number : ℕ) (found : Bases) (b : ℕ) → has_base found b ≡ true → has_base (with_base_if wanted number found) b ≡ true
+pub if_keeps : (wanted : Bool) (number : ℕ) (found : Bases) (b : ℕ) → has_base found b ≡ true → has_base (with_base_if wanted number found) b ≡ true
 if_keeps true number found b h = union_keeps found (only_base number) b h
 if_keeps false number found b h = h
 
-if_adds : (wanted : Bool) (found : Bases) (b : ℕ) → wanted ≡ true → b < most_bases → has_base (with_base_if wanted b found) b ≡ true
+pub if_adds : (wanted : Bool) (found : Bases) (b : ℕ) → wanted ≡ true → b < most_bases → has_base (with_base_if wanted b found) b ≡ true
 if_adds true found b e h = union_adds found b h
 if_adds false found b e h = cc
 

@@ -52,7 +52,7 @@ read_flag n m v class from to h = elim (cases_Bool (is_pointer class || same_sig
 
 -- ---- the bytes up to the first zero
 
-more_is : (o : Option ℕ) (k : ℕ) → one_more o ≡ Some k → (j : ℕ) × (o ≡ Some j) × (k ≡ suc j)
+pub more_is : (o : Option ℕ) (k : ℕ) → one_more o ≡ Some k → (j : ℕ) × (o ≡ Some j) × (k ≡ suc j)
 more_is None k h = cc
 more_is (Some j) k h = (j, refl, cc)
 
@@ -80,6 +80,7 @@ pub record HasWhole (part : ZeroPart) (w local : Window) : Type 0 where
   pub from : part.offset ≤ w.lo
   pub to : w.hi ≤ last_of part.offset part.size
   pub end : local.hi ≡ w.hi - part.offset
+  pub start : local.lo ≡ w.lo - part.offset
 
 whole_is : (at : ℕ) (p : ZeroPart) (w : Window) (r : ℕ × Window) → covered at p w ≡ Some r → (r.0 ≡ at) × HasWhole p w r.1
 whole_is at p w r h = elim (cases_Bool (has_no_bytes p.size)) [
@@ -96,7 +97,8 @@ whole_is at p w r h = elim (cases_Bool (has_no_bytes p.size)) [
           let hi = leb-true _ _ t.1 in
           let a : at ≡ r.0 = ap (λ z. z.0) d in
           let b : (min w.hi (last_of p.offset p.size)) - p.offset ≡ r.1.hi = ap (λ z. z.1.hi) d in
-          (sym a, record { bytes = e; from = lo; to = hi; end = omega arith }))
+          let c : (max w.lo p.offset) - p.offset ≡ r.1.lo = ap (λ z. z.1.lo) d in
+          (sym a, record { bytes = e; from = lo; to = hi; end = omega arith; start = omega arith }))
     ]
   ]
 ]
@@ -112,7 +114,7 @@ walk_found w at (p ∷ ps) None r h = elim (walk_found w (at + 1) ps (covered at
   | inr e ↦ inr (suc e.0, e.1, e.2, let d : (at + 1) + e.0 ≡ at + suc e.0 = omega arith in subst (λ z. covered z e.1 w ≡ Some r) d e.3)
 ]
 
-found_part : (base : BaseInfo) (w : Window) (r : ℕ × Window) → covering_part base w ≡ Some r → (p : ZeroPart) × (slice_get base.shape.zeros r.0 ≡ Some p) × HasWhole p w r.1
+pub found_part : (base : BaseInfo) (w : Window) (r : ℕ × Window) → covering_part base w ≡ Some r → (p : ZeroPart) × (slice_get base.shape.zeros r.0 ≡ Some p) × HasWhole p w r.1
 found_part base w r h = elim (walk_found w 0 base.shape.zeros None r h) [
   | inl e ↦ (let g : None ≡ Some r = e in cc)
   | inr e ↦ (let k = whole_is (0 + e.0) e.1 w r e.3 in
@@ -127,7 +129,7 @@ in_size None offset hi o bytes b e h k m f = get_drop offset bytes (o - offset) 
 in_size (Some zero) offset hi o bytes b e h k m f = cc
 in_size (Some (suc size)) offset hi o bytes b e h k m f = take_at (suc size) (drop offset bytes) (o - offset) (omega arith) ∙ (get_drop offset bytes (o - offset) o (omega arith) ∙ f)
 
-offset_is : (o : Option ℕ) → (zero_offset o ≡ the_end → ⊥) → (k : ℕ) × (o ≡ Some k)
+pub offset_is : (o : Option ℕ) → (zero_offset o ≡ the_end → ⊥) → (k : ℕ) × (o ≡ Some k)
 offset_is None h = absurd (h refl)
 offset_is (Some k) h = (k, refl)
 

@@ -31,7 +31,7 @@ module _ {I : Type 0} {l : LatticeOf I} {n : IntegersOf I} {stands : I → ℤ �
   offsets_count : (w : Window) → w.lo ≤ w.hi → w.hi ≤ 2 ^ 64 - 1 → IsCount l n (offsets_of l n w)
   offsets_count w h k = subst (IsCount l n) (sym (offsets_are w h k)) (q.below_between (n.between (pos w.lo) (pos w.hi)) (pos w.lo) (pos w.hi) (pos 0) the_end (q.between_bounds (pos w.lo) (pos w.hi) (omega (arith, ints))) (omega (arith, ints)) (omega (arith, ints)))
 
-  offsets_stand : (w : Window) (k : ℕ) → w.lo ≤ k → k ≤ w.hi → w.hi ≤ 2 ^ 64 - 1 → stands (offsets_of l n w) (pos k)
+  pub offsets_stand : (w : Window) (k : ℕ) → w.lo ≤ k → k ≤ w.hi → w.hi ≤ 2 ^ 64 - 1 → stands (offsets_of l n w) (pos k)
   offsets_stand w k h g s = subst (λ y. stands y (pos k)) (sym (offsets_are w (omega arith) s)) (between_stands o q (pos w.lo) (pos w.hi) (pos k) (omega (arith, ints)) (omega (arith, ints)))
 
   -- the table, for a byte at one of the offsets
