@@ -1,8 +1,9 @@
 -- What the analysis of a control-flow program finds.
-use Rattle.std.specs.Prelude.{◌≡◌, ℤ, true, List, Option}
-use Rattle.cc_base.specs.DiagnosticOrder.{IsOrderedSet}
+use Rattle.std.specs.Prelude.{◌≡◌, ℤ, true, List, Option, Contains, length}
+use Rattle.std.specs.List.Sorted.{IsStrictlySortedBy}
+use Rattle.cc_base.specs.DiagnosticOrder.{diagnostic_compare}
 use Rattle.cc_base.specs.Lattices.{LatticeOf}
-use Rattle.cc_base.specs.Machine.{Machine, IsMonotone}
+use Rattle.cc_base.specs.Machine.{Machine}
 use Rattle.cc_base.specs.InductiveMap.{IsInductive, IsLeast}
 use Rattle.cc_base.specs.declared.diagnostics.Diag.{Diag}
 use Rattle.flow_program.specs.declared.programs.Flow.{Flow}
@@ -11,7 +12,9 @@ use Rattle.value_domain.specs.Cells.{cell_lattice}
 use Rattle.interval_domain.specs.declared.intervals.Interval.{Interval}
 use Rattle.interval_domain.specs.IntervalLattice.{interval_lattice}
 use Rattle.interval_domain.specs.IntervalNumbers.{interval_numbers}
+use Rattle.abstract_steps_rows.specs.OwnRows.{program_bases}
 use Rattle.abstract_steps_system.specs.FlowMachines.{flow_machine, has_start}
+use Rattle.abstract_steps_laws.specs.ProgramLaws.{AreRising}
 use Rattle.rule_checks.specs.AdmittedRules.{map_pairs}
 
 -- the lattice of a row's cells
@@ -26,12 +29,22 @@ machine_of flow list = flow_machine interval_lattice interval_numbers flow list
 abbrev pub admitted_pairs : Flow → List (Option (List (Cell Interval))) → List Diag
 admitted_pairs flow rows = map_pairs interval_lattice interval_numbers flow rows
 
--- the diagnostics are those that some inductive map of the program admits, in order and each once; the least one where each edge makes
--- more of more
+-- every inductive map of the program's system admits the pair
+abbrev pub IsAdmitted : Flow → List ℤ → Diag → Type 0
+IsAdmitted flow list d = (rows : List (Option (List (Cell Interval)))) → IsInductive row_lattice (machine_of flow list) rows → Contains (admitted_pairs flow rows) d
+
+-- the program's library calls and copies of structs make more of more
+abbrev pub CallsRise : Flow → Type 0
+CallsRise flow = AreRising interval_lattice interval_numbers (program_bases (length flow.bases.items)) flow
+
+-- the diagnostics are just the pairs that every inductive map of the program's system admits, in order and each once
 pub record IsAnalysis (flow : Flow) (list : List ℤ) (found : List Diag) : Type 0 where
-  pub rows : List (Option (List (Cell Interval)))
   -- there is a row of the entry
   pub started : has_start interval_lattice interval_numbers flow ≡ true
+  -- the least inductive map
+  pub rows : List (Option (List (Cell Interval)))
   pub inductive : IsInductive row_lattice (machine_of flow list) rows
-  pub least : IsMonotone row_lattice (machine_of flow list) → IsLeast row_lattice (machine_of flow list) rows
-  pub admitted : IsOrderedSet (admitted_pairs flow rows) found
+  pub least : CallsRise flow → IsLeast row_lattice (machine_of flow list) rows
+  pub ascending : IsStrictlySortedBy diagnostic_compare found
+  pub kept : (d : Diag) → IsAdmitted flow list d → Contains found d
+  pub made : CallsRise flow → (d : Diag) → Contains found d → IsAdmitted flow list d

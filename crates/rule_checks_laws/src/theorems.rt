@@ -11,12 +11,14 @@ ghost use Rattle.abstract_steps_laws.specs.ProgramLaws.{AreRising};
 ghost use Rattle.abstract_steps_laws.specs.SystemLaws.{IsNearList};
 ghost use Rattle.abstract_steps_laws_programs.specs.SimplePrograms.{IsSimple};
 ghost use Rattle.abstract_steps_laws_programs.specs.Texts.{HasScalars};
+ghost use Rattle.abstract_steps_laws_programs.specs.RegularPrograms.{is_regular};
 ghost use Rattle.rule_checks_laws.specs.LeastMaps.{AdmitsLeast};
 
 /// What the least inductive map of intervals of a well-formed program admits, each inductive map admits: of a program whose
 /// library calls and copies of structs grow with the row, and so of one that has no copies and only such calls as simple
-/// programs have.
+/// programs have, and of a regular one.
 pub fn least_maps_admit_least()
     ensures programs { (limits : Limits) (flow : Flow) (list : List ℤ) → is_well_formed limits flow ≡ true → limits.pool < 2 ^ 64 → HasScalars flow → IsNearList interval_lattice interval_numbers list → AreRising interval_lattice interval_numbers (program_bases (length flow.bases.items)) flow → AdmitsLeast flow list }
     ensures simple { (limits : Limits) (flow : Flow) (list : List ℤ) → is_well_formed limits flow ≡ true → limits.pool < 2 ^ 64 → HasScalars flow → IsNearList interval_lattice interval_numbers list → length flow.bases.items ≤ 1016 → IsSimple flow → AdmitsLeast flow list }
+    ensures regular { (flow : Flow) (list : List ℤ) → is_regular flow list ≡ true → AreRising interval_lattice interval_numbers (program_bases (length flow.bases.items)) flow → AdmitsLeast flow list }
 {}
