@@ -7,3 +7,4 @@ pub mod NearPrograms
 pub mod IntervalSystems
 pub mod RegularPrograms
 pub mod RegularSystems
+pub mod ProgramRows

@@ -3,3 +3,4 @@ pub mod SimplePrograms
 pub mod NearNumbers
 pub mod WritingCalls
 pub mod RegularPrograms
+pub mod ProgramRows

@@ -6,7 +6,7 @@ ghost use Rattle.abstract_steps_laws_programs.specs.RegularPrograms as spec;
 
 use c_layout::BaseInfo;
 use cc_base::{Limits, Memory, Text, Thresholds};
-use flow_program::{BasicBlock, EdgeKind, Flow, Instruction, Operation, Side, Test};
+use flow_program::{BasicBlock, Edge, EdgeKind, Flow, Instruction, Operation, Side, Test};
 use flow_program_checks::is_well_formed;
 use std::alloc::Global;
 
@@ -96,12 +96,17 @@ fn follows_leaves(bases: &[BaseInfo], kind: &EdgeKind) -> bool
     }
 }
 
+fn edges_follow_leaves(bases: &[BaseInfo], edges: &[Edge]) -> bool
+    ensures { result ≡ list_all (λ e. spec.follows_leaves bases.now e.kind) edges.now }
+{
+    edges.iter().all(|edge| follows_leaves(bases, &edge.kind))
+}
+
 fn has_scalars(flow: &Flow) -> bool
     ensures { result ≡ spec.has_scalars flow.now }
 {
-    let bases = flow.bases.as_slice();
     blocks_spell_bytes(flow.blocks.as_slice())
-        && flow.edges.iter().all(|edge| follows_leaves(bases, &edge.kind))
+        && edges_follow_leaves(flow.bases.as_slice(), flow.edges.as_slice())
 }
 
 fn is_near_number(least: i128, number: i128) -> bool

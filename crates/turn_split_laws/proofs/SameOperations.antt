@@ -3,6 +3,7 @@ use Rattle.std.specs.Prelude.{◌≡◌, ℕ, min, Bool, true, false, cond, Opti
 use Rattle.std.specs.Global.{Vec}
 use Rattle.std.proofs.Common.{sym, subst, ap, ap₂, ◌∙◌}
 use Rattle.std.proofs.lemmas.Option.{slice_get-map}
+use Rattle.std.proofs.Math.Nat.{ℕ_set}
 use mathlib.Core.HLevel.{Σ_prop_path}
 use Rattle.cc_base.specs.Lattices.{LatticeOf}
 use Rattle.cc_base.specs.IntegerDomains.{IntegersOf}
@@ -52,14 +53,14 @@ use Rattle.turn_split_laws.specs.SameParts.{SameParts}
 -- ---- programs with parts of others
 
 -- other items in the memory of a vector of the same length
-abbrev held : {X : Type 0} (v : Vec X) (xs : List X) → v.len ≡ length xs → Vec X
+abbrev pub held : {X : Type 0} (v : Vec X) (xs : List X) → v.len ≡ length xs → Vec X
 held v xs e = record { ptr = v.ptr; len = v.len; cap = v.cap; alloc = v.alloc; items = xs; ok = (e, v.ok.1); small = v.small }
 
 length_prop : {X : Type 0} (n : ℕ) (xs : List X) → IsProp (n ≡ length xs)
-length_prop n xs = hlevel
+length_prop n xs = hlevel ℕ_set
 
 module _ (f g : Flow) (h : SameParts f g) where
-  long : g.bases.len ≡ length f.bases.items
+  pub long : g.bases.len ≡ length f.bases.items
   long = g.bases.ok.0 ∙ ap length (sym h.bases)
 
   -- the second program with the parts of the first one that steps look at, but for structs
