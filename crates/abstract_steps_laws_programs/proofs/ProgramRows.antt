@@ -1,5 +1,5 @@
 -- What edges leave of own rows are rows of the program, and those whose numbers lie between the ends of the list are own ones.
-use Rattle.std.specs.Prelude.{◌≡◌, ℕ, zero, suc, ◌^◌, ◌-◌, ℤ, pos, negsuc, ◌≤ℤ◌, Bool, true, false, cond, ◌&&◌, min, Option, Some, None, List, [], ◌∷◌, length, refl}
+use Rattle.std.specs.Prelude.{◌≡◌, ℕ, ℤ, pos, true, min, Option, Some, None, List, [], ◌∷◌, length, refl}
 use Rattle.std.proofs.Common.{arith, sym, subst, ap, ◌∙◌}
 use Rattle.std.proofs.lemmas.Int.{ints}
 use Rattle.std.proofs.lemmas.Bool.{and_parts, and_from, cond-true}
@@ -9,18 +9,12 @@ use Rattle.cc_base.specs.RowLaws.{row_leq-refl, row_leq-length}
 use Rattle.cc_base.specs.IntegerDomains.{IntegersOf, BoundLaws, RangeLaws}
 use Rattle.cc_base.specs.IntegerLaws.{MonotoneLaws}
 use Rattle.flow_program.specs.declared.programs.Flow.{Flow}
-use Rattle.pointer_domain.specs.declared.base_sets.Bases.{Bases}
-use Rattle.pointer_domain.specs.declared.pointer_sets.Pointers.{Pointers}
-use Rattle.pointer_domain.specs.BaseSets.{bases_within}
-use Rattle.pointer_domain.specs.BaseLattice.{bases_lattice}
-use Rattle.pointer_domain.specs.PointerLattice.{pointer_lattice, pointers_leq}
 use Rattle.string_domain.specs.FirstZeros.{the_end}
 use Rattle.value_domain.specs.declared.values.Value as values
 use Rattle.value_domain.specs.declared.row_cells.Cell.{Cell}
 use Rattle.value_domain.specs.declared.row_cells.Cell.TheVariants.{Nothing, Value, First, State, Mixed}
 use Rattle.value_domain.specs.Values.{value_lattice}
 use Rattle.value_domain.specs.Cells.{cell_lattice, cell_order, cell_leq}
-use Rattle.value_domain_laws.specs.Consistency.{AreWords}
 use Rattle.value_domain_laws.proofs.Parts.{pointer_parts, value_parts}
 use Rattle.store_domain_laws.specs.TopCells.{top_value}
 use Rattle.store_domain_laws.specs.TopRows.{top_row}
@@ -32,13 +26,12 @@ use Rattle.abstract_steps_rows.specs.CellKinds.{all_kinds, first_kind, kinds_beh
 use Rattle.abstract_steps_rows.specs.Ends.{any_below}
 use Rattle.abstract_steps_rows.specs.EndLaws.{EndLaws}
 use Rattle.abstract_steps_rows.specs.ProgramBases.{within_few, below_within}
-use Rattle.abstract_steps_rows.specs.OwnRows.{program_bases, reach_of, is_own_cell, are_own_cells, is_own_row}
+use Rattle.abstract_steps_rows.specs.OwnRows.{program_bases, reach_of, is_own_cell, is_own_row}
 use Rattle.abstract_steps_rows.specs.OwnLaws.{own_cells}
-use Rattle.abstract_steps_rows.specs.FittedRows.{cell_made, cell_fit, cells_fit, row_fit, reached_fit, all_cells}
+use Rattle.abstract_steps_rows.specs.FittedRows.{cell_made, cell_fit, cells_fit, row_fit, all_cells}
 use Rattle.abstract_steps_system.specs.BlockPasses.{block_end, edge_behind, edge_end}
 use Rattle.abstract_steps_laws_values.specs.RisingRows.{LeftRise}
 use Rattle.abstract_steps_laws_values.specs.LaidOut.{IsLaidOut}
-use Rattle.abstract_steps_laws_values.specs.StepLaws.{FlowRows}
 use Rattle.abstract_steps_laws_values.proofs.TempPlaces.{row_length}
 use Rattle.abstract_steps_laws.specs.FilledRows.{IsFilled, AreFilled, IsLeftFilled}
 use Rattle.abstract_steps_laws.specs.ProgramLaws.{IsNamed, AreRising}
@@ -73,7 +66,7 @@ module _ {I : Type 0} {l : LatticeOf I} {n : IntegersOf I} {stands : I → ℤ �
     pub leaves_program : (block number : ℕ) (row s : List (Cell I)) → is_own_row l n list flow.bases.items flow.width row ≡ true → edge_end l n flow block number row ≡ Some s → IsProgramRow l n flow s
     leaves_program block number row s own e =
         left_row (edge_end l n flow block number row) s e
-        (end_rises o k h b g f ends flow list near laid named rising block number row row (own_rise o k h b g f ends flow list near laid row row own own (row_leq-refl (cell_order o) row)))
+        (end_rises o k h b g f ends flow list near laid named rising block number row row (own_rise o k h b g f ends flow list near laid row row own own (row_leq-refl (cell_lattice l) (cell_order o) row)))
         (end_fills block number row (cells_filled o h b ends list near reach near.counts laid.words (all_kinds flow.bases.items) row (own_cells o k h b ends list flow.bases.items flow.width row own)))
 
   -- ---- rows whose numbers lie between the ends of the list

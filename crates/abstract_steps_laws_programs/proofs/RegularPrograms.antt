@@ -1,18 +1,15 @@
 -- Regular programs and lists meet the premises of the laws of steps.
-use Rattle.std.specs.Prelude.{◌≡◌, ℕ, zero, suc, ◌-◌, ◌^◌, ◌<◌, ℤ, pos, negsuc, ◌≤ℤ◌, Bool, true, false, ◌&&◌, nat_lt, int_le, cond, Option, Some, None, List, [], ◌∷◌, length, slice_get, slice_index_or, refl}
+use Rattle.std.specs.Prelude.{◌≡◌, ℕ, zero, suc, ◌-◌, ◌^◌, ◌<◌, ℤ, pos, negsuc, ◌≤ℤ◌, true, ◌&&◌, nat_lt, int_le, Option, Some, None, List, [], ◌∷◌, length, slice_get, slice_index_or, refl}
 use Rattle.std.specs.Ordering.{int_eq}
-use Rattle.std.specs.List.{list_all, list_any}
-use Rattle.std.proofs.Common.{arith, sym, subst, ap, ◌∙◌, inl, inr}
+use Rattle.std.specs.List.{list_all}
+use Rattle.std.proofs.Common.{arith, subst, inl, inr}
 use Rattle.std.proofs.lemmas.Int.{ints}
 use Rattle.std.proofs.lemmas.Bool.{and_parts, cond-true, ltb-true, or_cases}
 use Rattle.std.proofs.lemmas.List.Folds.{list_any_at}
 use Rattle.cc_base.specs.Standard.{standard_limits}
-use Rattle.c_layout.specs.declared.shapes.BaseInfo.{BaseInfo}
 use Rattle.flow_program.specs.Nearest.{is_among}
 use Rattle.flow_program.specs.WellFormed.{is_well_formed}
 use Rattle.flow_program.specs.declared.programs.Flow.{Flow}
-use Rattle.flow_program.specs.declared.basic_blocks.BasicBlock.{BasicBlock}
-use Rattle.flow_program.specs.declared.flow_edges.Edge.{Edge}
 use Rattle.flow_program.specs.declared.flow_edges.EdgeKind.{EdgeKind}
 use Rattle.flow_program.specs.declared.flow_edges.EdgeKind.TheVariants as edge
 use Rattle.flow_program.specs.declared.flow_edges.Side.{Side}

@@ -29,6 +29,7 @@ module _ (flow : Flow) (list : List ℤ) (rows : List (Option (List (Cell Interv
   analysis_of : (found : List Diag) → IsOrderedSet (admitted_pairs flow rows) found → IsAnalysis flow list found
   analysis_of found h = record {
     started = start;
+    regular = regular;
     rows = rows;
     inductive = s.inductive;
     least = λ rising. s.least (regular_monotone flow list regular rising);

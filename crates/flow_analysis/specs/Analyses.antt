@@ -15,6 +15,7 @@ use Rattle.interval_domain.specs.IntervalNumbers.{interval_numbers}
 use Rattle.abstract_steps_rows.specs.OwnRows.{program_bases}
 use Rattle.abstract_steps_system.specs.FlowMachines.{flow_machine, has_start}
 use Rattle.abstract_steps_laws.specs.ProgramLaws.{AreRising}
+use Rattle.abstract_steps_laws_programs.specs.RegularPrograms.{is_regular}
 use Rattle.rule_checks.specs.AdmittedRules.{map_pairs}
 
 -- the lattice of a row's cells
@@ -39,8 +40,9 @@ CallsRise flow = AreRising interval_lattice interval_numbers (program_bases (len
 
 -- the diagnostics are just the pairs that every inductive map of the program's system admits, in order and each once
 pub record IsAnalysis (flow : Flow) (list : List ℤ) (found : List Diag) : Type 0 where
-  -- there is a row of the entry
+  -- there is a row of the entry, and rows of the program are cut in order
   pub started : has_start interval_lattice interval_numbers flow ≡ true
+  pub regular : is_regular flow list ≡ true
   -- the least inductive map
   pub rows : List (Option (List (Cell Interval)))
   pub inductive : IsInductive row_lattice (machine_of flow list) rows

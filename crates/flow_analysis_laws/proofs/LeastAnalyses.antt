@@ -25,7 +25,7 @@ same_reached : (x y : Option (List (Cell Interval))) → reached_leq row_lattice
 same_reached None None h k = refl
 same_reached None (Some y) h k = absurd (cc)
 same_reached (Some x) None h k = absurd (cc)
-same_reached (Some x) (Some y) h k = ap Some (row_leq-antisym (cell_order interval_order) x y h k)
+same_reached (Some x) (Some y) h k = ap Some (row_leq-antisym row_lattice (cell_order interval_order) x y h k)
 
 same_maps : (xs ys : Map) → length xs ≡ length ys → ((b : ℕ) → row_at xs b ≡ row_at ys b) → xs ≡ ys
 same_maps [] [] e h = refl

@@ -12,7 +12,7 @@ use Rattle.cc_base.specs.declared.integer_operators.Rel.TheVariants.{Lt, Le, Gt,
 use Rattle.c_layout.specs.StructViews.{StructView, struct_view, structs_view}
 use Rattle.c_layout.specs.declared.struct_table.StructType.{StructType}
 use Rattle.c_layout.specs.declared.library_functions.LibFn.{LibFn}
-use Rattle.c_layout.specs.declared.library_functions.LibFn.TheVariants as f
+use Rattle.c_layout.specs.declared.library_functions.LibFn.TheVariants as fn_of
 use Rattle.c_layout.specs.declared.shapes.BaseInfo.{BaseInfo}
 use Rattle.flow_program.specs.declared.programs.Flow.{Flow}
 use Rattle.flow_program.specs.declared.machine_instructions.Operation.{Operation}
@@ -183,33 +183,33 @@ module _ {I : Type 0} (l : LatticeOf I) (n : IntegersOf I) where
 
     plan_core : (function : LibFn) (arguments : List ℕ) (wanted : Option ℕ) (row : List (Cell I)) → plan_call l n function (call_of mid arguments wanted) row ≡ plan_call l n function (call_of f arguments wanted) row
     unfolding plan_call argument_value plan_malloc plan_calloc plan_realloc plan_free plan_copy plan_fill plan_puts plan_printf plan_strlen plan_strcmp plan_strcpy plan_strncpy plan_strcat
-    plan_core f.Malloc arguments wanted row = refl
-    plan_core f.Calloc arguments wanted row = refl
-    plan_core f.Realloc arguments wanted row = refl
-    plan_core f.Free arguments wanted row = refl
-    plan_core f.Memcpy arguments wanted row = refl
-    plan_core f.Memmove arguments wanted row = refl
-    plan_core f.Memset arguments wanted row = refl
-    plan_core f.Strlen arguments wanted row = refl
-    plan_core f.Strcpy arguments wanted row = refl
-    plan_core f.Strncpy arguments wanted row = refl
-    plan_core f.Strcat arguments wanted row = refl
-    plan_core f.Strcmp arguments wanted row = refl
-    plan_core f.Getchar arguments wanted row = refl
-    plan_core f.Putchar arguments wanted row = refl
-    plan_core f.Puts arguments wanted row = refl
-    plan_core f.Printf arguments wanted row = refl
-    plan_core f.Fgets arguments wanted row = refl
-    plan_core f.Exit arguments wanted row = refl
-    plan_core f.Abort arguments wanted row = refl
-    plan_core f.Isalpha arguments wanted row = refl
-    plan_core f.Isdigit arguments wanted row = refl
-    plan_core f.Isspace arguments wanted row = refl
-    plan_core f.Isupper arguments wanted row = refl
-    plan_core f.Islower arguments wanted row = refl
-    plan_core f.Isalnum arguments wanted row = refl
-    plan_core f.Toupper arguments wanted row = refl
-    plan_core f.Tolower arguments wanted row = refl
+    plan_core fn_of.Malloc arguments wanted row = refl
+    plan_core fn_of.Calloc arguments wanted row = refl
+    plan_core fn_of.Realloc arguments wanted row = refl
+    plan_core fn_of.Free arguments wanted row = refl
+    plan_core fn_of.Memcpy arguments wanted row = refl
+    plan_core fn_of.Memmove arguments wanted row = refl
+    plan_core fn_of.Memset arguments wanted row = refl
+    plan_core fn_of.Strlen arguments wanted row = refl
+    plan_core fn_of.Strcpy arguments wanted row = refl
+    plan_core fn_of.Strncpy arguments wanted row = refl
+    plan_core fn_of.Strcat arguments wanted row = refl
+    plan_core fn_of.Strcmp arguments wanted row = refl
+    plan_core fn_of.Getchar arguments wanted row = refl
+    plan_core fn_of.Putchar arguments wanted row = refl
+    plan_core fn_of.Puts arguments wanted row = refl
+    plan_core fn_of.Printf arguments wanted row = refl
+    plan_core fn_of.Fgets arguments wanted row = refl
+    plan_core fn_of.Exit arguments wanted row = refl
+    plan_core fn_of.Abort arguments wanted row = refl
+    plan_core fn_of.Isalpha arguments wanted row = refl
+    plan_core fn_of.Isdigit arguments wanted row = refl
+    plan_core fn_of.Isspace arguments wanted row = refl
+    plan_core fn_of.Isupper arguments wanted row = refl
+    plan_core fn_of.Islower arguments wanted row = refl
+    plan_core fn_of.Isalnum arguments wanted row = refl
+    plan_core fn_of.Toupper arguments wanted row = refl
+    plan_core fn_of.Tolower arguments wanted row = refl
 
     line_core : (line count stream : ℕ) (row : List (Cell I)) → planned_line l n mid row line count stream ≡ planned_line l n f row line count stream
     unfolding argument_value plan_fgets

@@ -30,7 +30,7 @@ use Rattle.turn_split_laws.proofs.SameOperations.{core, core_is}
 
 -- ---- stores by their views
 
-store_of : StaticStoreView → StaticStore
+abbrev store_of : StaticStoreView → StaticStore
 store_of (views.SetValue offset v) = one.Value offset v
 store_of (views.SetText offset room text) = one.Spell offset room text
 

@@ -1,3 +1,0 @@
-mod Copies
-mod TurnedPrograms
-mod SameOperations
