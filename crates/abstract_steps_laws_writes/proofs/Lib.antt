@@ -1,7 +1,10 @@
+pub mod AloneWrites
+pub mod MetZeros
 pub mod WriteStarts
 pub mod WrittenCells
 pub mod TextEnds
 pub mod TextWrites
 pub mod SourceBytes
 pub mod WriteTargets
+pub mod IdleCalls
 pub mod TextCalls

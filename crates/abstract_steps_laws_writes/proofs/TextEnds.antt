@@ -83,10 +83,10 @@ module _ {I : Type 0} {l : LatticeOf I} {n : IntegersOf I} {stands : I → ℤ �
   up_is None = refl
   up_is (Some p) = refl
 
-  near_same : (x : I) → l.leq x (n.between (pos 0) the_end) ≡ true → near_number l n x ≡ x
+  pub near_same : (x : I) → l.leq x (n.between (pos 0) the_end) ≡ true → near_number l n x ≡ x
   near_same x h = near_is o b x (o.transitive x (n.between (pos 0) the_end) (top_number n) h (zero_near o b))
 
-  counts_in : (x : I) → l.leq x (n.between (pos 0) the_end) ≡ true → RangeBelow (n.bounds x) (Some (pos 0, the_end))
+  pub counts_in : (x : I) → l.leq x (n.between (pos 0) the_end) ≡ true → RangeBelow (n.bounds x) (Some (pos 0, the_end))
   counts_in x h = subst (λ r. RangeBelow (n.bounds x) r) (b.between_bounds (pos 0) the_end (omega (arith, ints))) (bounds_monotone b x (n.between (pos 0) the_end) h)
 
   sums_monotone : (x y u v : I) → l.leq x u ≡ true → l.leq y v ≡ true → l.leq (up_to_end l n x y) (up_to_end l n u v) ≡ true
@@ -115,10 +115,10 @@ module _ {I : Type 0} {l : LatticeOf I} {n : IntegersOf I} {stands : I → ℤ �
   after_top d u i k (Text c) r = text_top d (offsets_of l n u) (near_number l n c) k (offsets_top o b u i) (subst (λ x. l.leq x (n.between (pos 0) the_end) ≡ true) (sym (near_same c r)) r)
   after_top d u i k (Append c t) r = sums_top d.at (near_number l n c) k (subst (λ x. l.leq x (n.between (pos 0) the_end) ≡ true) (sym (near_same c r)) r)
 
-  near_less : (a c : I) → l.leq a c ≡ true → l.leq c (n.between (pos 0) the_end) ≡ true → l.leq (near_number l n a) (near_number l n c) ≡ true
+  pub near_less : (a c : I) → l.leq a c ≡ true → l.leq c (n.between (pos 0) the_end) ≡ true → l.leq (near_number l n a) (near_number l n c) ≡ true
   near_less a c h r = subst₂ (λ x y. l.leq x y ≡ true) (sym (near_same a (o.transitive a c (n.between (pos 0) the_end) h r))) (sym (near_same c r)) h
 
-  near_count : (c : I) → l.leq c (n.between (pos 0) the_end) ≡ true → l.leq (near_number l n c) (n.between (pos 0) the_end) ≡ true
+  pub near_count : (c : I) → l.leq c (n.between (pos 0) the_end) ≡ true → l.leq (near_number l n c) (n.between (pos 0) the_end) ≡ true
   near_count c r = subst (λ x. l.leq x (n.between (pos 0) the_end) ≡ true) (sym (near_same c r)) r
 
   pub after_monotone : (f d : FirstZero I) (w u : Window) → WindowWithin w u → l.leq f.at d.at ≡ true → l.leq d.at (n.between (pos 0) the_end) ≡ true → (x y : ZeroRule I) → RuleBelow l n x y → HasLength l n x → HasLength l n y → l.leq (zero_after l n f w x).at (zero_after l n d u y).at ≡ true

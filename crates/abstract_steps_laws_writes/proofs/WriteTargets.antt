@@ -109,7 +109,7 @@ literal_write_more bases set more x u h j = and_sets (int_le (pos 1) (upper_or (
 
 -- ---- rooms
 
-above_more : (x y u v : Range) → RangeBelow x u → RangeBelow y v → Sets (is_above_room x y) (is_above_room u v)
+pub above_more : (x y u v : Range) → RangeBelow x u → RangeBelow y v → Sets (is_above_room x y) (is_above_room u v)
 above_more None y u v h k e = absurd (cc)
 above_more (Some p) None u v h k e = absurd (cc)
 above_more (Some p) (Some q) None v h k e = absurd h
@@ -159,7 +159,7 @@ window_is_of p w e = elim (cases_Bool (int_le (int_max p.0 (pos 0)) (int_min p.1
 ]
 
 -- the window of numbers from a first to a last one, in its own bounds
-between_of : (a c : ℤ) (w : Window) → window_within (range_met (Some (a, c)) a c) ≡ Some w → WindowIs (a, c) w
+pub between_of : (a c : ℤ) (w : Window) → window_within (range_met (Some (a, c)) a c) ≡ Some w → WindowIs (a, c) w
 between_of a c w e = elim (cases_Bool (int_le (int_max a a) (int_min c c))) [
   | inl t ↦ (
       let f : range_met (Some (a, c)) a c ≡ Some (int_max a a, int_min c c) = cond-true _ (Some (int_max a a, int_min c c)) None t in
@@ -168,6 +168,14 @@ between_of a c w e = elim (cases_Bool (int_le (int_max a a) (int_min c c))) [
       record { lo_least = omega (arith, ints, clamps); lo_most = omega (arith, ints, clamps); hi_least = omega (arith, ints, clamps); hi_most = omega (arith, ints, clamps) })
   | inr t ↦ absurd (let f : range_met (Some (a, c)) a c ≡ None = cond-false _ (Some (int_max a a, int_min c c)) None t in let g = ap window_within f in cc)
 ]
+
+-- what is touched from a start on does not begin behind its first offset
+pub touched_first : (start : ℤ × ℤ) (count end : ℤ) (w : Window) → touched_from (Some start) count end ≡ Some w → pos w.lo ≤ℤ int_max start.0 (pos 0)
+touched_first start count end w f = by_count (int_lt count (pos 1)) f
+  where
+    by_count : (c : Bool) → cond c None (window_within (range_met (Some (start.0, last_touched start.1 count end)) start.0 (last_touched start.1 count end))) ≡ Some w → pos w.lo ≤ℤ int_max start.0 (pos 0)
+    by_count true f = absurd (cc)
+    by_count false f = (between_of start.0 (last_touched start.1 count end) w f).lo_least
 
 -- a window that is touched from a start on begins at its first offset
 pub from_start : (start : ℤ × ℤ) (count end : ℤ) (s w : Window) → window_within (Some start) ≡ Some s → touched_from (Some start) count end ≡ Some w → w.lo ≡ s.lo

@@ -1,5 +1,5 @@
 -- Writes of longer texts to more places.
-use Rattle.std.specs.Prelude.{◌≡◌, pos, true, false, List}
+use Rattle.std.specs.Prelude.{◌≡◌, ◌⊎◌, pos, Bool, true, false, List}
 use Rattle.cc_base.specs.Lattices.{LatticeOf}
 use Rattle.cc_base.specs.IntegerDomains.{IntegersOf}
 use Rattle.flow_program.specs.declared.programs.Flow.{Flow}
@@ -8,6 +8,7 @@ use Rattle.pointer_domain.specs.BaseSets.{bases_within, bases_empty}
 use Rattle.string_domain.specs.FirstZeros.{the_end}
 use Rattle.value_domain.specs.LabelSets.{labels_leq}
 use Rattle.value_domain.specs.declared.row_cells.Cell.{Cell}
+use Rattle.store_domain.specs.declared.access_windows.Window.{Window}
 use Rattle.store_domain_laws.specs.Placements.{WindowWithin}
 use Rattle.store_domain_laws.specs.TopCells.{top_number}
 use Rattle.abstract_steps_library.specs.declared.source_bytes.Characters.{Characters}
@@ -16,6 +17,13 @@ use Rattle.abstract_steps_library.specs.declared.text_writes.ZeroRule.{ZeroRule}
 use Rattle.abstract_steps_library.specs.declared.text_writes.ZeroRule.TheVariants.{Text, Append, Any}
 use Rattle.abstract_steps_library.specs.TextWrites.{write_text}
 use Rattle.abstract_steps_laws_values.specs.StepLaws.{FlowRows}
+
+-- a write is to some base and begins at the first of its bytes; it is of one byte, and lies where it begins, if a larger one is
+pub record StartsBelow (bases : Bases) (start window : Window) (one more : Bool) : Type 0 where
+  pub some : bases_empty bases ≡ false
+  pub first : window.lo ≡ start.lo
+  pub narrow : (more ≡ true → one ≡ true)
+  pub single : one ≡ true → WindowWithin window start
 
 module _ {I : Type 0} (l : LatticeOf I) (n : IntegersOf I) where
   -- a text of a length, which is a number from 0 to the end
@@ -41,21 +49,21 @@ module _ {I : Type 0} (l : LatticeOf I) (n : IntegersOf I) where
     pub signed_top : l.leq d.signed (top_number n) ≡ true
     pub unsigned_top : l.leq d.unsigned (top_number n) ≡ true
 
-  -- a write of a longer text to more places; that of the smaller one begins at the first of its bytes, and lies where it begins if
-  -- the larger one is of one byte
+  -- a write of a longer text to more places; where it begins counts unless nothing is known of the first zeros behind the larger one
   pub record TextBelow (w v : TextWrite I) : Type 0 where
     pub bases : bases_within w.bases v.bases ≡ true
-    pub some : bases_empty w.bases ≡ false
     pub start : WindowWithin w.start v.start
     pub window : WindowWithin w.window v.window
-    pub first : w.window.lo ≡ w.start.lo
-    pub narrow : (v.one_byte ≡ true → w.one_byte ≡ true)
-    pub one : w.one_byte ≡ true → WindowWithin w.window w.start
     pub characters : CharactersBelow w.characters v.characters
     pub zero : RuleBelow w.zero v.zero
     pub length : HasLength w.zero
     pub more : HasLength v.zero
+    pub begins : (v.zero ≡ Any) ⊎ StartsBelow w.bases w.start w.window w.one_byte v.one_byte
 
   -- a longer text that is written to more places of a larger row leaves a larger row
   abbrev pub TextsRise : Bases → Flow → Type 0
   TextsRise all flow = (small large : TextWrite I) → TextBelow small large → (r s : List (Cell I)) → FlowRows l n all flow r s → FlowRows l n all flow (write_text l n flow small r) (write_text l n flow large s)
+
+  -- a text behind which nothing is known of first zeros, and that is written to a larger row alone, leaves a larger row
+  abbrev pub OneTextRises : Bases → Flow → Type 0
+  OneTextRises all flow = (write : TextWrite I) → TextBelow write write → write.zero ≡ Any → (r s : List (Cell I)) → FlowRows l n all flow r s → FlowRows l n all flow r (write_text l n flow write s)

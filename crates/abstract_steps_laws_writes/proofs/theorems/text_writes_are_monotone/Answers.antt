@@ -1,10 +1,8 @@
-use Rattle.store_domain_laws.specs.TopRows.{top_row}
-use Rattle.store_domain_laws.proofs.Together.{each}
-use Rattle.abstract_steps_laws.proofs.MemorySteps.{row_near}
-use Rattle.abstract_steps_laws_writes.proofs.TextWrites.{text_rises}
+use Rattle.abstract_steps_laws_writes.proofs.TextCalls.{texts_rise, one_text_rises}
 use Rattle.abstract_steps_laws_writes.proofs.theorems.text_writes_are_monotone.Goals as goal
 
 pub returns : goal.returns
-returns g c = λ mono all flow k small large below r s rows. text_rises g.met.I.Lattice.order g.met.I.IntDomain.bounding flow all (top_row g.I.IntDomain.numbers all flow.bases.items flow.temps)
-    (each g.met.I.Lattice.order g.met.I.IntDomain.bounding flow.model flow.bases.items k.layout all flow.temps (row_near g.met.I.Lattice.order g.met.I.IntDomain.bounding mono g.met.I.IntDomain.ranges all flow k))
-    small large below r s rows
+returns g c = record {
+  both = λ mono all flow k. texts_rise g.met.I.Lattice.order g.met.I.IntDomain.bounding mono g.met.I.IntDomain.ranges all flow k;
+  alone = λ mono all flow k. one_text_rises g.met.I.Lattice.order g.met.I.IntDomain.bounding mono g.met.I.IntDomain.ranges all flow k;
+}

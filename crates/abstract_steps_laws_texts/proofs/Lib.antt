@@ -1,0 +1,10 @@
+pub mod WrittenBases
+pub mod TextLengths
+pub mod TextFills
+pub mod CallTargets
+pub mod TextStarts
+pub mod Sources
+pub mod CopyCalls
+pub mod AppendWindows
+pub mod AppendCalls
+pub mod LineCalls
