@@ -1,0 +1,5 @@
+pub mod CopiedBytes
+pub mod CopyWrites
+pub mod FilledCopies
+pub mod PlannedWrites
+pub mod CopyCalls

@@ -1,0 +1,2 @@
+pub mod CopyOrder
+pub mod MemoryCalls
