@@ -1,6 +1,5 @@
 pub mod WellFormed
 pub mod Sites
-pub mod SimplePrograms
 pub mod AllCalls
 pub mod NearLists
 pub mod NearPrograms

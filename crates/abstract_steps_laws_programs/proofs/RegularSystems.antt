@@ -14,7 +14,7 @@ use Rattle.value_domain.specs.Cells.{cell_lattice}
 use Rattle.abstract_steps_rows.specs.OwnRows.{program_bases}
 use Rattle.abstract_steps_system.specs.FlowMachines.{flow_machine}
 use Rattle.abstract_steps_laws.specs.ProgramLaws.{AreRising}
-use Rattle.abstract_steps_laws_programs.specs.WritingCalls.{WritingCallsRise}
+use Rattle.abstract_steps_laws_programs.specs.CopiedStructs.{CopiesSpread}
 use Rattle.abstract_steps_laws_programs.specs.RegularPrograms.{is_regular}
 use Rattle.abstract_steps_laws_programs.proofs.WellFormed.{well_made, laid_out}
 use Rattle.abstract_steps_laws_programs.proofs.Sites.{all_sites}
@@ -27,14 +27,14 @@ few_bases limits flow h =
     let a = and_parts (nat_le flow.temps limits.temps) _ (well_made limits flow h).within in
     leb-true (length flow.bases.items) limits.bases (and_parts (nat_le (length flow.bases.items) limits.bases) _ a.1).0
 
-module _ (flow : Flow) (list : List ℤ) (h : is_regular flow list ≡ true) where
-  pub regular_rising : WritingCallsRise interval_lattice interval_numbers (program_bases (length flow.bases.items)) flow → AreRising interval_lattice interval_numbers (program_bases (length flow.bases.items)) flow
-  regular_rising writing =
+module _ (flow : Flow) (list : List ℤ) (h : is_regular flow list ≡ true) (spread : CopiesSpread flow) where
+  pub regular_rising : AreRising interval_lattice interval_numbers (program_bases (length flow.bases.items)) flow
+  regular_rising =
       let p = regular_of flow list h in
       all_rise interval_order interval_bounding interval_monotone interval_ranges (program_bases (length flow.bases.items)) flow (laid_out standard_limits flow p.well_formed (omega arith))
-      (all_sites standard_limits flow p.well_formed (few_bases standard_limits flow p.well_formed)) writing
+      (all_sites standard_limits flow p.well_formed (few_bases standard_limits flow p.well_formed)) (well_made standard_limits flow p.well_formed).laid spread
 
-  pub regular_monotone : AreRising interval_lattice interval_numbers (program_bases (length flow.bases.items)) flow → IsMonotone (cell_lattice interval_lattice) (flow_machine interval_lattice interval_numbers flow list)
-  regular_monotone rising =
+  pub regular_monotone : IsMonotone (cell_lattice interval_lattice) (flow_machine interval_lattice interval_numbers flow list)
+  regular_monotone =
       let p = regular_of flow list h in
-      rising_monotone standard_limits flow list p.well_formed (omega arith) p.scalars p.near rising
+      rising_monotone standard_limits flow list p.well_formed (omega arith) p.scalars p.near regular_rising

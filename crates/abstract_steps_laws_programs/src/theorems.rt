@@ -22,9 +22,8 @@ ghost use Rattle.abstract_steps_laws_values.specs.LaidOut.{IsLaidOut};
 ghost use Rattle.abstract_steps_laws.specs.ProgramLaws.{IsNamed, AreRising};
 ghost use Rattle.abstract_steps_laws.specs.SystemLaws.{IsNearList};
 ghost use Rattle.abstract_steps_laws_programs.specs.Texts.{HasScalars};
-ghost use Rattle.abstract_steps_laws_programs.specs.SimplePrograms.{IsSimple};
 ghost use Rattle.abstract_steps_laws_programs.specs.NearNumbers.{HasNearMembers};
-ghost use Rattle.abstract_steps_laws_programs.specs.WritingCalls.{WritingCallsRise};
+ghost use Rattle.abstract_steps_laws_programs.specs.CopiedStructs.{CopiesSpread};
 ghost use Rattle.abstract_steps_laws_programs.specs.RegularPrograms.{is_regular};
 ghost use Rattle.abstract_steps_laws_programs.specs.ProgramRows.{IsProgramRow, AreCut};
 
@@ -41,17 +40,9 @@ pub fn well_formed_programs_are_monotone<I: Bounded>()
     ensures { MonotoneLaws I.lattice I.numbers → (limits : Limits) (flow : Flow) (list : List ℤ) → is_well_formed limits flow ≡ true → limits.pool < 2 ^ 64 → HasScalars flow → IsNearList I.lattice I.numbers list → AreRising I.lattice I.numbers (program_bases (length flow.bases.items)) flow → IsMonotone (cell_lattice I.lattice) (flow_machine I.lattice I.numbers flow list) }
 {}
 
-/// The system of a well-formed program is monotone where the program copies no structs and calls no functions of the library
-/// but `malloc`, `calloc`, `realloc`, `free`, those that end the program, `getchar`, `putchar`, `puts`, `printf`, `strlen`,
-/// `strcmp` and those on characters.
-pub fn simple_programs_are_monotone<I: Bounded>()
-    ensures { MonotoneLaws I.lattice I.numbers → (limits : Limits) (flow : Flow) (list : List ℤ) → is_well_formed limits flow ≡ true → limits.pool < 2 ^ 64 → length flow.bases.items ≤ 1016 → HasScalars flow → IsSimple flow → IsNearList I.lattice I.numbers list → IsMonotone (cell_lattice I.lattice) (flow_machine I.lattice I.numbers flow list) }
-{}
-
-/// The system of every well-formed program is monotone, where the calls that write memory and the copies of structs grow with
-/// the row.
+/// The system of every well-formed program is monotone, where the leaves of the structs that it copies share no bytes.
 pub fn programs_are_monotone<I: Bounded>()
-    ensures { MonotoneLaws I.lattice I.numbers → (limits : Limits) (flow : Flow) (list : List ℤ) → is_well_formed limits flow ≡ true → limits.pool < 2 ^ 64 → length flow.bases.items ≤ 1016 → HasScalars flow → IsNearList I.lattice I.numbers list → WritingCallsRise I.lattice I.numbers (program_bases (length flow.bases.items)) flow → IsMonotone (cell_lattice I.lattice) (flow_machine I.lattice I.numbers flow list) }
+    ensures { MonotoneLaws I.lattice I.numbers → (limits : Limits) (flow : Flow) (list : List ℤ) → is_well_formed limits flow ≡ true → limits.pool < 2 ^ 64 → length flow.bases.items ≤ 1016 → HasScalars flow → IsNearList I.lattice I.numbers list → CopiesSpread flow → IsMonotone (cell_lattice I.lattice) (flow_machine I.lattice I.numbers flow list) }
 {}
 
 /// The thresholds of a well-formed program go from a number that is not below -2^64 up to 2^64 and have 0, so rows of intervals
@@ -61,15 +52,15 @@ pub fn thresholds_are_near()
 {}
 
 /// The system over intervals is monotone, of a well-formed program whose library calls and copies of structs grow with the
-/// row, and so of one that has no copies and only such calls as simple programs have.
+/// row, and so of one where the leaves of the structs that it copies share no bytes.
 pub fn systems_of_intervals_are_monotone()
     ensures programs { (limits : Limits) (flow : Flow) (list : List ℤ) → is_well_formed limits flow ≡ true → limits.pool < 2 ^ 64 → HasScalars flow → IsNearList interval_lattice interval_numbers list → AreRising interval_lattice interval_numbers (program_bases (length flow.bases.items)) flow → IsMonotone (cell_lattice interval_lattice) (flow_machine interval_lattice interval_numbers flow list) }
-    ensures simple { (limits : Limits) (flow : Flow) (list : List ℤ) → is_well_formed limits flow ≡ true → limits.pool < 2 ^ 64 → length flow.bases.items ≤ 1016 → HasScalars flow → IsSimple flow → IsNearList interval_lattice interval_numbers list → IsMonotone (cell_lattice interval_lattice) (flow_machine interval_lattice interval_numbers flow list) }
+    ensures spread { (limits : Limits) (flow : Flow) (list : List ℤ) → is_well_formed limits flow ≡ true → limits.pool < 2 ^ 64 → length flow.bases.items ≤ 1016 → HasScalars flow → IsNearList interval_lattice interval_numbers list → CopiesSpread flow → IsMonotone (cell_lattice interval_lattice) (flow_machine interval_lattice interval_numbers flow list) }
 {}
 
 /// The system over intervals of a regular program and list is monotone, under the same premise.
 pub fn regular_programs_are_monotone()
-    ensures { (flow : Flow) (list : List ℤ) → is_regular flow list ≡ true → WritingCallsRise interval_lattice interval_numbers (program_bases (length flow.bases.items)) flow → IsMonotone (cell_lattice interval_lattice) (flow_machine interval_lattice interval_numbers flow list) }
+    ensures { (flow : Flow) (list : List ℤ) → is_regular flow list ≡ true → CopiesSpread flow → IsMonotone (cell_lattice interval_lattice) (flow_machine interval_lattice interval_numbers flow list) }
 {}
 
 /// What edges leave of own rows is of the program's cells, with bounds from -2^64 to 2^64 and pointers into its bases; and the

@@ -1,5 +1,5 @@
 -- What the analysis of a control-flow program finds.
-use Rattle.std.specs.Prelude.{◌≡◌, ℤ, true, List, Option, Contains, length}
+use Rattle.std.specs.Prelude.{◌≡◌, ℤ, true, List, Option, Contains}
 use Rattle.std.specs.List.Sorted.{IsStrictlySortedBy}
 use Rattle.cc_base.specs.DiagnosticOrder.{diagnostic_compare}
 use Rattle.cc_base.specs.Lattices.{LatticeOf}
@@ -12,9 +12,8 @@ use Rattle.value_domain.specs.Cells.{cell_lattice}
 use Rattle.interval_domain.specs.declared.intervals.Interval.{Interval}
 use Rattle.interval_domain.specs.IntervalLattice.{interval_lattice}
 use Rattle.interval_domain.specs.IntervalNumbers.{interval_numbers}
-use Rattle.abstract_steps_rows.specs.OwnRows.{program_bases}
 use Rattle.abstract_steps_system.specs.FlowMachines.{flow_machine, has_start}
-use Rattle.abstract_steps_laws.specs.ProgramLaws.{AreRising}
+use Rattle.abstract_steps_laws_programs.specs.CopiedStructs.{CopiesSpread}
 use Rattle.abstract_steps_laws_programs.specs.RegularPrograms.{is_regular}
 use Rattle.rule_checks.specs.AdmittedRules.{map_pairs}
 
@@ -34,19 +33,15 @@ admitted_pairs flow rows = map_pairs interval_lattice interval_numbers flow rows
 abbrev pub IsAdmitted : Flow → List ℤ → Diag → Type 0
 IsAdmitted flow list d = (rows : List (Option (List (Cell Interval)))) → IsInductive row_lattice (machine_of flow list) rows → Contains (admitted_pairs flow rows) d
 
--- the program's library calls and copies of structs make more of more
-abbrev pub CallsRise : Flow → Type 0
-CallsRise flow = AreRising interval_lattice interval_numbers (program_bases (length flow.bases.items)) flow
-
 -- the diagnostics are just the pairs that every inductive map of the program's system admits, in order and each once
 pub record IsAnalysis (flow : Flow) (list : List ℤ) (found : List Diag) : Type 0 where
   -- there is a row of the entry, and rows of the program are cut in order
   pub started : has_start interval_lattice interval_numbers flow ≡ true
   pub regular : is_regular flow list ≡ true
-  -- the least inductive map
+  -- the least inductive map, where the leaves of the structs that the program copies share no bytes
   pub rows : List (Option (List (Cell Interval)))
   pub inductive : IsInductive row_lattice (machine_of flow list) rows
-  pub least : CallsRise flow → IsLeast row_lattice (machine_of flow list) rows
+  pub least : CopiesSpread flow → IsLeast row_lattice (machine_of flow list) rows
   pub ascending : IsStrictlySortedBy diagnostic_compare found
   pub kept : (d : Diag) → IsAdmitted flow list d → Contains found d
-  pub made : CallsRise flow → (d : Diag) → Contains found d → IsAdmitted flow list d
+  pub made : CopiesSpread flow → (d : Diag) → Contains found d → IsAdmitted flow list d
