@@ -41,7 +41,9 @@ fn spell_bytes(instructions: &[Instruction]) -> bool
 fn blocks_spell_bytes(blocks: &[BasicBlock]) -> bool
     ensures { result ≡ list_all (λ b. list_all (λ i. spec.has_bytes i.operation) b.instructions.items) blocks.now }
 {
-    blocks.iter().all(|block| spell_bytes(block.instructions.as_slice()))
+    blocks
+        .iter()
+        .all(|block| spell_bytes(block.instructions.as_slice()))
 }
 
 /// Whether a base, where it is there, has a leaf.

@@ -80,6 +80,7 @@ module _ {V : Type 0} (of : ℕ → List V) (size : ℕ) (long : (k : ℕ) → l
           let r = copies_length n in
           let b = number_below size n k j p i in
           omega arith
+
       here : n ≤ k → slice_get (all_copies of n ++ of n) (number_in size k j) ≡ slice_get (of k) j
       here p =
           let r = copies_length n in

@@ -142,11 +142,11 @@ module _ (turns : ℕ) (f g : Flow) (h : flow_view g ≡ split turns (flow_view 
       let e : length (map edge f.edges.items) ≡ length f.edges.items = length-map f.edges.items edge in
       let here : slice_get f.edges.items j ≡ Some (edge_at f.edges.items j) = slice_get-get_or f.edges.items j no_edge (omega arith) in
       let v = viewed (slice_get g.edges.items (number_in edge_size k j)) (edge_copy size (last_copy turns) k (edge (edge_at f.edges.items j)))
-          (sym (slice_get-map edge g.edges.items (number_in edge_size k j))
-          ∙ (ap (λ (w : FlowView). slice_get w.edges (number_in edge_size k j)) h
-          ∙ (copy_at edges_of edge_size edges_long (copies turns) k j p q
-          ∙ (slice_get-map (edge_copy size (last_copy turns) k) (map edge f.edges.items) j
-          ∙ ap (option_map (edge_copy size (last_copy turns) k)) (slice_get-map edge f.edges.items j ∙ ap (option_map edge) here))))) in
+      (sym (slice_get-map edge g.edges.items (number_in edge_size k j))
+      ∙ (ap (λ (w : FlowView). slice_get w.edges (number_in edge_size k j)) h
+      ∙ (copy_at edges_of edge_size edges_long (copies turns) k j p q
+      ∙ (slice_get-map (edge_copy size (last_copy turns) k) (map edge f.edges.items) j
+      ∙ ap (option_map (edge_copy size (last_copy turns) k)) (slice_get-map edge f.edges.items j ∙ ap (option_map edge) here))))) in
       let s : edge_at g.edges.items (number_in edge_size k j) ≡ v.one = get_or_from_slice_get g.edges.items (number_in edge_size k j) v.one no_edge v.there in
       record {
         there = v.there ∙ ap Some (sym s);
