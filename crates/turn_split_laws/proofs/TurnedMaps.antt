@@ -33,10 +33,10 @@ use Rattle.turn_split_laws.proofs.SameEdges.{follow_same}
 use Rattle.turn_split_laws.proofs.SameStarts.{start_same}
 use Rattle.turn_split_laws.proofs.TurnedPrograms.{same_parts, size, edge_size, block_count, steps_same, last_same, head_there, edge_count, EdgeCopy, edge_of, behind_below}
 
-step_same : (s t : Step) (ss ts : List Step) → ◌≡◌ {A = List Step} (s ∷ ss) (t ∷ ts) → s ≡ t
+pub step_same : (s t : Step) (ss ts : List Step) → ◌≡◌ {A = List Step} (s ∷ ss) (t ∷ ts) → s ≡ t
 step_same s t ss ts e = cc
 
-steps_behind : (s t : Step) (ss ts : List Step) → ◌≡◌ {A = List Step} (s ∷ ss) (t ∷ ts) → ss ≡ ts
+pub steps_behind : (s t : Step) (ss ts : List Step) → ◌≡◌ {A = List Step} (s ∷ ss) (t ∷ ts) → ss ≡ ts
 steps_behind s t ss ts e = cc
 
 all_at : {X : Type 0} (f : X → Bool) (xs : List X) → list_all f xs ≡ true → (i : ℕ) (x : X) → slice_get xs i ≡ Some x → f x ≡ true

@@ -80,7 +80,7 @@ module _ {I : Type 0} (l : LatticeOf I) (n : IntegersOf I) where
           let t = r.there in
           let z = placed many (copies turns) r.at (omega arith) in
           let zero_is : 0 + r.at ≡ number_in many z.copy z.place = let m = z.is in omega arith in
-          let row_is : row_at (copied_map turns rows) r.at ≡ row_at rows z.place = ap (row_at (copied_map turns rows)) z.is ∙ row_of l n turns f g h rows long z.copy z.place z.in_copies z.in_copy in
+          let row_is : row_at (copied_map turns rows) r.at ≡ row_at rows z.place = ap (row_at (copied_map turns rows)) z.is ∙ row_of l n [] turns f g h rows long z.copy z.place z.in_copies z.in_copy in
           let moved : In (entry_pairs l n g (number_in many z.copy z.place) (row_at rows z.place)) d = subst (λ x. In (entry_pairs l n g (number_in many z.copy z.place) x) d) row_is (subst (λ b. In (entry_pairs l n g b (row_at (copied_map turns rows) r.at)) d) zero_is r.admits) in
           let here : In (entry_pairs l n f z.place (row_at rows z.place)) d = subst (λ ps. In ps d) (entry_same z.copy z.place z.in_copies z.in_copy (row_at rows z.place)) moved in
           let place_is : z.place ≡ 0 + z.place = omega arith in
