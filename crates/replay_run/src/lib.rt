@@ -3,6 +3,7 @@
 
 mod outcomes;
 mod replays;
+mod runs;
 
 pub use outcomes::{End, Outcome, ReplayStop};
 pub use replays::replay;

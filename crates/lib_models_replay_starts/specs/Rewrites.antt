@@ -1,0 +1,25 @@
+-- Contents that are put in the place of others.
+use Rattle.std.specs.Prelude.{◌≡◌, ℕ, List, Result, Ok, Err}
+use Rattle.c_layout.specs.CheckedUnits.{StaticStoreView, UnitView}
+use Rattle.lib_models_memory.specs.Bytes.{Content}
+use Rattle.lib_models_memory.specs.Instances.{bytes_at}
+use Rattle.lib_models_effects.specs.ScalarBytes.{refilled}
+use Rattle.lib_models_effects.specs.Touches.{set_bytes}
+use Rattle.lib_models_effects.specs.UnitStarts.{stored}
+use Rattle.lib_models_effects.specs.Worlds.{World, with_memory}
+use Rattle.lib_models_instances.specs.InstanceViews.{Instances, remembering}
+use Rattle.lib_models_instances.specs.declared.byte_forms.Spot.{Spot}
+use Rattle.lib_models_replay.specs.declared.worlds.Halt.{Halt}
+use Rattle.lib_models_replay.specs.declared.worlds.Halt.TheVariants as halt
+
+abbrev pub rewritten : Instances → Spot → List Content → Instances
+rewritten it at cs = remembering it (set_bytes it.memory at.inst (refilled (bytes_at it.memory at.inst) at.offset cs))
+
+-- memory is as expected, unless memory ran out
+abbrev pub Becomes : Instances → Result (Unit {0}) Halt → Instances → Type 0
+Becomes expected (Ok x) now = now ≡ expected
+Becomes expected (Err h) now = h ≡ halt.Memory
+
+-- the world behind a store of an initializer to an instance
+abbrev pub store_put : UnitView → StaticStoreView → ℕ → World → World
+store_put u x i w = with_memory w (set_bytes w.memory i (stored u x (bytes_at w.memory i)))

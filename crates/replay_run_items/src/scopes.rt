@@ -1,0 +1,144 @@
+//! The objects that live where items are come to, and what jumps leave and enter.
+use crate::items::Item7;
+use std::alloc::{AllocError, Global};
+
+// ---- scopes
+
+// Numbers from one on, so many.
+fn push_numbers(list: &mut Vec<u32>, from: u32, count: u32) -> Result<(), AllocError> {
+    for k in 0..count {
+        match from.checked_add(k) {
+            Some(number) => list.push(number)?,
+            None => return Err(AllocError),
+        }
+    }
+    Ok(())
+}
+
+/// The scopes that are still left on the way to the end of the function, the innermost one first.
+pub fn open_scopes(alloc: Global, control: &[Item7]) -> Result<Vec<Vec<u32>>, AllocError> {
+    let mut scopes = Vec::new(alloc);
+    let mut is_leaving = false;
+    for item in control.iter().rev() {
+        match item {
+            Item7::Leaves(objects) => {
+                scopes.push(Vec::from_slice(alloc, objects)?)?;
+                is_leaving = true;
+            }
+            Item7::Also(object) => {
+                if is_leaving {
+                    if let Some(scope) = scopes.last_mut() {
+                        scope.push(*object)?;
+                    }
+                }
+            }
+            Item7::AlsoFrom(from, count) => {
+                if is_leaving {
+                    if let Some(scope) = scopes.last_mut() {
+                        push_numbers(scope, *from, *count)?;
+                    }
+                }
+            }
+            _ => {
+                is_leaving = false;
+            }
+        }
+    }
+    Ok(scopes)
+}
+
+// Whether one of the scopes has an object.
+fn is_open(scopes: &[Vec<u32>], object: u32) -> bool {
+    scopes.iter().any(|scope| scope.contains(&object))
+}
+
+// What lives at one place and not at another, innermost scope first.
+fn left_between(alloc: Global, from: &[Vec<u32>], to: &[Vec<u32>]) -> Result<Vec<u32>, AllocError> {
+    let mut left = Vec::new(alloc);
+    for scope in from.iter() {
+        for object in scope.iter() {
+            if !is_open(to, *object) {
+                left.push(*object)?;
+            }
+        }
+    }
+    Ok(left)
+}
+
+// Scopes are entered inwards, the objects of each in order of declaration.
+fn entered_between(
+    alloc: Global,
+    from: &[Vec<u32>],
+    to: &[Vec<u32>],
+) -> Result<Vec<u32>, AllocError> {
+    let mut entered = Vec::new(alloc);
+    for scope in to.iter().rev() {
+        for object in scope.iter() {
+            if !is_open(from, *object) {
+                entered.push(*object)?;
+            }
+        }
+    }
+    Ok(entered)
+}
+
+// ---- jumps
+
+/// Objects that the item above enters or leaves.
+pub fn push_objects(control: &mut Vec<Item7>, objects: &[u32]) -> Result<(), AllocError> {
+    for object in objects.iter().rev() {
+        control.push(Item7::Also(*object))?;
+    }
+    Ok(())
+}
+
+/// A jump from where some scopes are open to the items that are pushed: it leaves what is left and
+/// enters what is entered, and goes on there.
+pub fn jump(alloc: Global, control: &mut Vec<Item7>, from: &[Vec<u32>]) -> Result<(), AllocError> {
+    let to = open_scopes(alloc, control.as_slice())?;
+    let entered = entered_between(alloc, from, to.as_slice())?;
+    let left = left_between(alloc, from, to.as_slice())?;
+    control.push(Item7::Hop)?;
+    push_objects(control, entered.as_slice())?;
+    control.push(Item7::Enters(&[]))?;
+    push_objects(control, left.as_slice())?;
+    control.push(Item7::Leaves(&[]))?;
+    Ok(())
+}
+
+/// The way to a label of a switch is a step of its own where it enters something.
+pub fn enter_first(
+    alloc: Global,
+    control: &mut Vec<Item7>,
+    from: &[Vec<u32>],
+) -> Result<(), AllocError> {
+    let to = open_scopes(alloc, control.as_slice())?;
+    let entered = entered_between(alloc, from, to.as_slice())?;
+    if entered.is_empty() {
+        return Ok(());
+    }
+    control.push(Item7::Hop)?;
+    push_objects(control, entered.as_slice())?;
+    control.push(Item7::Enters(&[]))?;
+    Ok(())
+}
+
+/// What follows the end of the innermost loop or switch.
+pub fn drop_loop(control: &mut Vec<Item7>) {
+    while let Some(item) = control.pop() {
+        match item {
+            Item7::LoopEnd => return,
+            _ => {}
+        }
+    }
+}
+
+/// What follows the end of the innermost loop's turn.
+pub fn drop_turn(control: &mut Vec<Item7>) {
+    while let Some(item) = control.pop() {
+        match item {
+            Item7::TurnEnd => return,
+            _ => {}
+        }
+    }
+}
