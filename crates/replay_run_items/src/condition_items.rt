@@ -1,4 +1,12 @@
 //! The items of conditions, which go straight to what follows.
+ghost use Rattle.std.specs.Prelude.{◌≡◌, None};
+ghost use Rattle.c_layout.specs.CheckedTrees.{term_tree};
+ghost use Rattle.c_layout.specs.CheckedUnits.{UnitView};
+ghost use Rattle.ref_machine.specs.Items.{items_of};
+ghost use Rattle.ref_machine.specs.ConditionItems.{line_items, leaf_by, leaf, condition};
+ghost use Rattle.replay_run_items.specs.ReadViews.{read_view_of};
+ghost use Rattle.replay_run_items.specs.Standings.{on_logical, with_items, Stacks};
+
 use crate::items::{Item7, Use7};
 use crate::line_reads::{ReadTest, read_by};
 use crate::store_items::push_item;
@@ -6,9 +14,11 @@ use c_layout::{CheckedTerm, LogicalOp, TermForm};
 use std::alloc::AllocError;
 
 // A call of `fgets` that a condition tests alone.
-fn push_read<'a>(control: &mut Vec<Item7<'a>>, read: ReadTest<'a>) -> Result<(), AllocError> {
-    control.push(Item7::ReadLine(read.call.place, read.wants_line))?;
-    control.push(Item7::Values(read.call.arguments))?;
+fn push_read<'a>(control: &mut Vec<Item7<'a>>, read: ReadTest<'a>) -> Result<(), AllocError>
+    ensures { (u : UnitView) → Stacks u (λ s. with_items (line_items (read_view_of read.entry) read.entry.wants_line (items_of s.yes) (items_of s.no)) s) control.old.items result control.new.items }
+{
+    push_item(control, Item7::ReadLine(read.call.place, read.wants_line))?;
+    push_item(control, Item7::Values(read.call.arguments))?;
     Ok(())
 }
 
@@ -17,9 +27,11 @@ fn push_choice<'a>(
     control: &mut Vec<Item7<'a>>,
     term: &'a CheckedTerm,
     is_test: bool,
-) -> Result<(), AllocError> {
-    control.push(Item7::Term(Use7::Choose(is_test), term))?;
-    control.push(Item7::Term(Use7::Value, term))?;
+) -> Result<(), AllocError>
+    ensures { (u : UnitView) → Stacks u (λ s. with_items (leaf_by u is_test (term_tree term.now) None (items_of s.yes) (items_of s.no)) s) control.old.items result control.new.items }
+{
+    push_item(control, Item7::Term(Use7::Choose(is_test), term))?;
+    push_item(control, Item7::Term(Use7::Value, term))?;
     Ok(())
 }
 
@@ -27,7 +39,9 @@ fn push_leaf<'a>(
     control: &mut Vec<Item7<'a>>,
     term: &'a CheckedTerm,
     is_test: bool,
-) -> Result<(), AllocError> {
+) -> Result<(), AllocError>
+    ensures { (u : UnitView) → Stacks u (λ s. with_items (leaf u is_test (term_tree term.now) s.yes s.no) s) control.old.items result control.new.items }
+{
     match read_by(term) {
         Some(read) => push_read(control, read),
         None => push_choice(control, term, is_test),
@@ -39,10 +53,12 @@ fn push_logical<'a>(
     op: LogicalOp,
     right: &'a CheckedTerm,
     is_test: bool,
-) -> Result<(), AllocError> {
+) -> Result<(), AllocError>
+    ensures { (u : UnitView) → Stacks u (λ s. on_logical u op is_test (term_tree right.now) s) control.old.items result control.new.items }
+{
     match op {
-        LogicalOp::And => control.push(Item7::Term(Use7::AndThen(is_test), right))?,
-        LogicalOp::Or => control.push(Item7::Term(Use7::OrElse(is_test), right))?,
+        LogicalOp::And => push_item(control, Item7::Term(Use7::AndThen(is_test), right)),
+        LogicalOp::Or => push_item(control, Item7::Term(Use7::OrElse(is_test), right)),
     }
     Ok(())
 }
@@ -52,7 +68,9 @@ pub fn push_condition<'a>(
     control: &mut Vec<Item7<'a>>,
     term: &'a CheckedTerm,
     is_test: bool,
-) -> Result<(), AllocError> {
+) -> Result<(), AllocError>
+    ensures { (u : UnitView) → Stacks u (λ s. with_items (condition u is_test (term_tree term.now) s.yes s.no) s) control.old.items result control.new.items }
+{
     match &term.form {
         TermForm::Number(_) => push_leaf(control, term, is_test),
         TermForm::Sizeof(_, None, _) => push_leaf(control, term, is_test),

@@ -1,4 +1,9 @@
 //! Conditions that are a call of `fgets` alone.
+ghost use Rattle.std.specs.Prelude.{◌≡◌, map};
+ghost use Rattle.c_layout.specs.CheckedTrees.{term_tree, term_trees};
+ghost use Rattle.flow_lower_conditions.specs.Conditions as spec;
+ghost use Rattle.replay_run_items.specs.ReadViews.{line_call_view, read_view};
+
 use c_layout::{BinaryOp, CheckedTerm, LibFn, TermForm};
 use cc_base::Place;
 use flow_lower_expressions::reads_line;
@@ -16,7 +21,9 @@ fn line_call_of<'a>(
     place: Place,
     function: LibFn,
     arguments: &'a [CheckedTerm],
-) -> Option<LineCall<'a>> {
+) -> Option<LineCall<'a>>
+    ensures { line_call_view result ≡ spec.line_call_of place function (term_trees (map term_tree arguments.now)) }
+{
     if reads_line(function) {
         Some(LineCall { place, arguments })
     } else {
@@ -25,7 +32,9 @@ fn line_call_of<'a>(
 }
 
 /// The call, where a term is one of `fgets`.
-fn line_call_in(term: &CheckedTerm) -> Option<LineCall> {
+fn line_call_in(term: &CheckedTerm) -> Option<LineCall>
+    ensures { line_call_view result ≡ spec.line_call_in (term_tree term.now) }
+{
     match &term.form {
         TermForm::Number(_) => None,
         TermForm::Sizeof(_, None, _) => None,
@@ -62,12 +71,16 @@ fn line_call_in(term: &CheckedTerm) -> Option<LineCall> {
 }
 
 /// The call, where a term is one of `fgets`, implicit conversions apart.
-fn line_call(term: &CheckedTerm) -> Option<LineCall> {
+fn line_call(term: &CheckedTerm) -> Option<LineCall>
+    ensures { line_call_view result ≡ spec.line_call (term_tree term.now) }
+{
     line_call_in(peeled(term))
 }
 
 /// The call, where two terms are a call of `fgets` and a null pointer constant.
-fn line_call_beside<'a>(left: &'a CheckedTerm, right: &'a CheckedTerm) -> Option<LineCall<'a>> {
+fn line_call_beside<'a>(left: &'a CheckedTerm, right: &'a CheckedTerm) -> Option<LineCall<'a>>
+    ensures { line_call_view result ≡ spec.line_call_beside (term_tree left.now) (term_tree right.now) }
+{
     if is_null_constant(right) {
         line_call(left)
     } else if is_null_constant(left) {
@@ -85,7 +98,9 @@ pub struct ReadTest<'a> {
     pub wants_line: bool,
 }
 
-fn read_test(call: Option<LineCall>, wants_line: bool) -> Option<ReadTest> {
+fn read_test(call: Option<LineCall>, wants_line: bool) -> Option<ReadTest>
+    ensures { read_view result ≡ spec.read_test (line_call_view call.entry) wants_line }
+{
     match call {
         Some(call) => Some(ReadTest { call, wants_line }),
         None => None,
@@ -97,7 +112,9 @@ fn compared_read<'a>(
     op: BinaryOp,
     left: &'a CheckedTerm,
     right: &'a CheckedTerm,
-) -> Option<ReadTest<'a>> {
+) -> Option<ReadTest<'a>>
+    ensures { read_view result ≡ spec.compared_read op (term_tree left.now) (term_tree right.now) }
+{
     match op {
         BinaryOp::Equal => read_test(line_call_beside(left, right), false),
         BinaryOp::NotEqual => read_test(line_call_beside(left, right), true),
@@ -106,7 +123,9 @@ fn compared_read<'a>(
 }
 
 /// The call of `fgets` whose answer alone a condition tests.
-pub fn read_by(term: &CheckedTerm) -> Option<ReadTest> {
+pub fn read_by(term: &CheckedTerm) -> Option<ReadTest>
+    ensures { read_view result ≡ spec.read_by (term_tree term.now) }
+{
     match &term.form {
         TermForm::Number(_) => read_test(line_call(term), true),
         TermForm::Sizeof(_, None, _) => read_test(line_call(term), true),

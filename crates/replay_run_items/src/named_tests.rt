@@ -1,5 +1,6 @@
 //! The tests that conditions are: what is known of named objects where a condition holds.
-ghost use Rattle.std.specs.Prelude.{◌≡◌};
+ghost use Rattle.std.specs.Prelude.{◌≡◌, Some};
+ghost use Rattle.c_layout.specs.CheckedUnits.{UnitView};
 ghost use Rattle.std.specs.Option.{option_map};
 ghost use Rattle.c_layout.specs.CheckedTrees.{term_tree, lvalue_tree};
 ghost use Rattle.flow_lower_tasks.specs.TermKinds.{seen_lvalue};
@@ -193,7 +194,9 @@ fn null_test(found: Option<NamedObject>, rel: Rel) -> Option<NamedTest7>
 }
 
 // An object alone is compared with 0 or null.
-fn zero_test(found: NamedObject, int_bytes: u8) -> NamedTest7 {
+fn zero_test(found: NamedObject, int_bytes: u8) -> NamedTest7
+    ensures { (u : UnitView) → u.model.int ≡ int_bytes → Some (test_view result) ≡ spec.zero_test_of u found found.kind }
+{
     match found.kind {
         Scalar::Int(kind) => test_between(
             found,
@@ -205,7 +208,9 @@ fn zero_test(found: NamedObject, int_bytes: u8) -> NamedTest7 {
     }
 }
 
-fn own_test(term: &CheckedTerm, int_bytes: u8) -> Option<NamedTest7> {
+fn own_test(term: &CheckedTerm, int_bytes: u8) -> Option<NamedTest7>
+    ensures { (u : UnitView) → u.model.int ≡ int_bytes → option_map test_view result ≡ spec.zero_test u (names.named_or_assigned (term_tree term.now)) }
+{
     match named_or_assigned(term) {
         Some(found) => Some(zero_test(found, int_bytes)),
         None => None,
@@ -213,7 +218,9 @@ fn own_test(term: &CheckedTerm, int_bytes: u8) -> Option<NamedTest7> {
 }
 
 /// The test that holds where a condition is true, where int has so many bytes.
-pub fn test_of(term: &CheckedTerm, int_bytes: u8) -> Option<NamedTest7> {
+pub fn test_of(term: &CheckedTerm, int_bytes: u8) -> Option<NamedTest7>
+    ensures { (u : UnitView) → u.model.int ≡ int_bytes → option_map test_view result ≡ spec.test_of u (term_tree term.now) }
+{
     match &term.form {
         TermForm::Number(_) => own_test(term, int_bytes),
         TermForm::Sizeof(_, None, _) => own_test(term, int_bytes),

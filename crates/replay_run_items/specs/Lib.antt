@@ -1,0 +1,4 @@
+pub mod TestViews
+pub mod ReadViews
+pub mod ItemViews
+pub mod Standings
