@@ -1,11 +1,12 @@
 -- Contents that are put in the place of others.
-use Rattle.std.specs.Prelude.{◌≡◌, ℕ, List, Result, Ok, Err}
-use Rattle.c_layout.specs.CheckedUnits.{StaticStoreView, UnitView}
+use Rattle.std.specs.Prelude.{◌≡◌, ℕ, List, [], ◌∷◌, Result, Ok, Err}
+use Rattle.c_layout.specs.CheckedUnits.{StaticStoreView, StaticView, LiteralView, UnitView}
 use Rattle.lib_models_memory.specs.Bytes.{Content}
 use Rattle.lib_models_memory.specs.Instances.{bytes_at}
 use Rattle.lib_models_effects.specs.ScalarBytes.{refilled}
 use Rattle.lib_models_effects.specs.Touches.{set_bytes}
-use Rattle.lib_models_effects.specs.UnitStarts.{stored}
+use Rattle.lib_models_effects.specs.ObjectEffects.{with_instance}
+use Rattle.lib_models_effects.specs.UnitStarts.{stored, static_instance, literal_made}
 use Rattle.lib_models_effects.specs.Worlds.{World, with_memory}
 use Rattle.lib_models_instances.specs.InstanceViews.{Instances, remembering}
 use Rattle.lib_models_instances.specs.declared.byte_forms.Spot.{Spot}
@@ -23,3 +24,17 @@ Becomes expected (Err h) now = h ≡ halt.Memory
 -- the world behind a store of an initializer to an instance
 abbrev pub store_put : UnitView → StaticStoreView → ℕ → World → World
 store_put u x i w = with_memory w (set_bytes w.memory i (stored u x (bytes_at w.memory i)))
+
+-- the world behind stores of an initializer, in order
+abbrev pub stores_put : UnitView → List StaticStoreView → ℕ → World → World
+stores_put u [] i w = w
+stores_put u (x ∷ xs) i w = stores_put u xs i (store_put u x i w)
+
+-- objects of static storage that are made one after the other, and literals
+abbrev pub objects_made : UnitView → List StaticView → World → World
+objects_made u [] w = w
+objects_made u (o ∷ os) w = objects_made u os (with_instance w (static_instance u o))
+
+abbrev pub literals_made : List LiteralView → World → World
+literals_made [] w = w
+literals_made (l ∷ ls) w = literals_made ls (with_instance w (literal_made l))

@@ -1,18 +1,21 @@
 //! Objects of static storage and literals (6.2.4, 6.4.5 and 6.7.9 of ISO/IEC 9899:2011).
-ghost use Rattle.std.specs.Prelude.{◌≡◌, ◌+◌, true, pos, length, IfSome, ℕ};
+ghost use Rattle.std.specs.Prelude.{◌≡◌, ◌+◌, true, length, IfSome, ℕ, map};
 ghost use Rattle.c_layout.specs.Models.{is_model};
-ghost use Rattle.c_layout.specs.CheckedUnits.{unit_view, static_store_view};
+ghost use Rattle.c_layout.specs.CheckedUnits.{unit_view, static_store_view, static_view, literal_view};
+ghost use Rattle.c_layout.specs.Types.{view};
 ghost use Rattle.lib_models_memory.specs.Labels.{no_labels};
+ghost use Rattle.lib_models_memory.specs.Bytes.{number};
+ghost use Rattle.lib_models_memory.specs.Instances.{static};
 ghost use Rattle.lib_models_memory.specs.Scalars.{integer};
 ghost use Rattle.lib_models_effects.specs.ScalarBytes.{scalar_bytes};
-ghost use Rattle.lib_models_effects.specs.ObjectEffects.{blank_bytes, fresh, with_instance};
+ghost use Rattle.lib_models_effects.specs.ObjectEffects.{blank_bytes, fresh, with_instance, all_of};
 ghost use Rattle.lib_models_effects.specs.UnitStarts as machine;
 ghost use Rattle.lib_models_effects.specs.Worlds.{goes};
 ghost use Rattle.lib_models_effects.specs.ObjectEffects.{next_instance};
 ghost use Rattle.lib_models_instances.specs.ByteViews.{scalar_view};
 ghost use Rattle.lib_models_instances.specs.InstanceViews.{storage_view};
 ghost use Rattle.lib_models_replay.specs.WorldViews.{world_view, ComesTo, Leaves};
-ghost use Rattle.lib_models_replay_starts.specs.Rewrites.{Becomes, rewritten, store_put};
+ghost use Rattle.lib_models_replay_starts.specs.Rewrites.{Becomes, rewritten, store_put, stores_put};
 
 use crate::texts::spell_in;
 use crate::whole_types::layout_of;
@@ -119,26 +122,49 @@ fn enter(w: &mut World7, kind: InstKind, leaves: &[Leaf], size: u64) -> Result<u
     }
 }
 
-/// Makes an object of static storage: all zero, and then the stores of its initializer in order.
-pub fn make_object(w: &mut World7, unit: &Checked, object: &StaticObject) -> Result<(), Halt>
-    requires { is_model unit.now.model ≡ true }
+// Stores of an initializer, in order.
+fn put_stores(w: &mut World7, unit: &Checked, inst: u32, stores: &[StaticStore]) -> Result<(), Halt>
+    ensures { Leaves (stores_put (unit_view unit.now) (map static_store_view stores.now) inst (world_view w.old)) result (world_view w.new) }
 {
-    let layout = layout_of(w.alloc, &object.ctype, &unit.structs, &unit.model)?;
-    let inst = enter(w, InstKind::Static, layout.leaves.as_slice(), layout.size)?;
-    w.memory.fill(inst, Content7::Number(0, unlabelled()));
-    for store in &object.stores {
+    for store in stores {
         put_store(w, unit, inst, store)?;
     }
     Ok(())
 }
 
+// An object of static storage that is all zero.
+fn make_zeros(w: &mut World7, unit: &Checked, object: &StaticObject) -> Result<u32, Halt>
+    requires model { is_model unit.now.model ≡ true }
+    requires same { w.old.memory.model ≡ unit.now.model }
+    ensures { ComesTo (λ (n : ℕ). n) (goes (next_instance (world_view w.old)) (with_instance (world_view w.old) (fresh static (all_of (number 0 no_labels) (machine.typed_bytes (unit_view unit.now) (view object.now.ctype)))))) result (world_view w.new) }
+{
+    let layout = layout_of(w.alloc, &object.ctype, &unit.structs, &unit.model)?;
+    let inst = enter(w, InstKind::Static, layout.leaves.as_slice(), layout.size)?;
+    w.memory.fill(inst, Content7::Number(0, unlabelled()));
+    Ok(inst)
+}
+
+/// Makes an object of static storage: all zero, and then the stores of its initializer in order.
+pub fn make_object(w: &mut World7, unit: &Checked, object: &StaticObject) -> Result<(), Halt>
+    requires model { is_model unit.now.model ≡ true }
+    requires same { w.old.memory.model ≡ unit.now.model }
+    ensures { Leaves (with_instance (world_view w.old) (machine.static_instance (unit_view unit.now) (static_view object.now))) result (world_view w.new) }
+{
+    let inst = make_zeros(w, unit, object)?;
+    put_stores(w, unit, inst, &object.stores)
+}
+
 /// How many bytes the instance of a literal has.
-pub fn literal_size(literal: &StringLiteral) -> u64 {
-    (literal.bytes.as_bytes().len() as u64).saturating_add(1)
+pub fn literal_size(literal: &StringLiteral) -> u64
+    ensures { result ≡ length literal.now.bytes + 1 }
+{
+    literal.bytes.as_bytes().len() as u64 + 1
 }
 
 /// Makes a literal: its characters and a closing zero.
-pub fn make_literal(w: &mut World7, literal: &StringLiteral) -> Result<(), Halt> {
+pub fn make_literal(w: &mut World7, literal: &StringLiteral) -> Result<(), Halt>
+    ensures { Leaves (with_instance (world_view w.old) (machine.literal_made (literal_view literal.now))) result (world_view w.new) }
+{
     let size = literal_size(literal);
     let leaf = Leaf {
         offset: 0,

@@ -1,19 +1,24 @@
 -- What the parts of items of a program are to the machine.
-use Rattle.std.specs.Prelude.{ℕ, suc, ◌-◌, pos, true, false, List, [], ◌∷◌, Option, Some, None}
+use Rattle.std.specs.Prelude.{ℕ, suc, Bool, ◌-◌, pos, true, false, List, [], ◌∷◌, Option, Some, None}
 use Rattle.std.specs.Borrow.{Bor}
 use Rattle.cc_base.specs.declared.diagnostics.Place.{Place}
 use Rattle.c_layout.specs.Types.{Ty, view}
 use Rattle.c_layout.specs.CheckedTrees as tree
 use Rattle.c_layout.specs.CheckedTrees.{TermTree, StatementTree}
+use Rattle.c_layout.specs.CheckedUnits.{UnitView}
 use Rattle.c_layout.specs.declared.type_terms.CType.{CType}
 use Rattle.c_layout.specs.declared.checked_tree.checked_terms.ObjectRef.TheVariants.{Local}
+use Rattle.cc_base.specs.declared.int_types.IntType.{IntType}
+use Rattle.flow_program.specs.declared.machine_instructions.Scalar as declared
+use Rattle.flow_lower_tasks.specs.declared.term_kinds.OperatorMeaning.{OperatorMeaning}
+use Rattle.flow_lower_tasks.specs.declared.term_kinds.OperatorMeaning.TheVariants as meant
 use Rattle.flow_lower_conditions.specs.Tests.{named}
 use Rattle.ref_machine.specs.Operations as op
 use Rattle.ref_machine.specs.Operations.{Operation, Order}
 use Rattle.ref_machine.specs.Items as item
 use Rattle.ref_machine.specs.Items.{Item, Change}
 use Rattle.ref_machine.specs.ConditionItems.{choice_of, truth_of, arm}
-use Rattle.ref_machine.specs.StatementItems.{for_body}
+use Rattle.ref_machine.specs.StatementItems.{for_body, while_turn, do_turn, for_turn}
 use Rattle.replay_run_items.specs.declared.items.Operation7.{Operation7}
 use Rattle.replay_run_items.specs.declared.items.Operation7.TheVariants as operation
 use Rattle.replay_run_items.specs.declared.items.Order7.{Order7}
@@ -57,6 +62,16 @@ operation_view (operation.ComparePointers rel) = op.ComparePointers rel
 operation_view (operation.Convert kind) = op.Convert kind
 operation_view (operation.Library function count target) = op.Library function count (type_seen target)
 
+-- an operator on integers of a type
+abbrev pub operated : OperatorMeaning → IntType → Operation
+operated (meant.Number sign) kind = op.Binary op.LeftFirst sign kind
+operated (meant.Truth rel) kind = op.Compare rel
+
+-- the store of a step at a place
+abbrev pub store_step_at : Place → declared.Scalar → Bool → List Item
+store_step_at at kind true = item.Do at (op.StoreOver kind) ∷ []
+store_step_at at kind false = item.Do at (op.Store kind) ∷ []
+
 abbrev pub change_view : Change7 → Change
 change_view change.Forget = item.Forget
 change_view change.Clear = item.Clear
@@ -88,6 +103,13 @@ loop_item (tree.While c body) = item.WhileTurn c body
 loop_item (tree.Do body c) = item.DoTurn body c
 loop_item (tree.For objects first c step body) = item.ForTurn c step body
 loop_item _ = item.Statement tree.Nothing
+
+-- the next turn of a loop: its condition, or the body of a `do` loop
+abbrev pub loop_turn : UnitView → StatementTree → List Item
+loop_turn u (tree.While c body) = while_turn u c body
+loop_turn u (tree.Do body c) = do_turn u body c
+loop_turn u (tree.For objects first c step body) = for_turn u c step body
+loop_turn u _ = []
 
 abbrev pub select_item : StatementTree → Item
 select_item (tree.Switch at e labels has_default enumerators body) = item.Select at (named e) labels body

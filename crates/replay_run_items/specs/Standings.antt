@@ -23,7 +23,7 @@ use Rattle.replay_run_items.specs.declared.items.Way7.{Way7}
 use Rattle.replay_run_items.specs.declared.items.Way7.TheVariants as way
 
 -- the items of a stack, what follows the condition on top of it where that holds and where it does not, and the objects that
--- an item on top enters or leaves beside its own
+-- an item on top enters or leaves
 pub record Standing : Type 0 where
   pub items : List Item
   pub yes : List Item
@@ -38,6 +38,16 @@ with_items more s = record { items = more ++ s.items; yes = []; no = []; objects
 
 abbrev pub with_item : Item → Standing → Standing
 with_item i s = record { items = i ∷ s.items; yes = []; no = []; objects = [] }
+
+-- items more, or none
+abbrev pub added : List Item → Standing → Standing
+added [] s = s
+added (i ∷ is) s = with_items (i ∷ is) s
+
+-- a value that is not used is dropped
+abbrev pub unless_used : Bool → Standing → Standing
+unless_used true s = s
+unless_used false s = with_item item.Drop s
 
 -- items that follow where a condition holds; what followed so far follows where it does not
 abbrev pub following : List Item → Standing → Standing
@@ -95,10 +105,12 @@ on_item u (held.Statement how x) s = on_statement how (statement_tree x.now) s
 on_item u (held.Statements xs) s = with_items (list_statements (map statement_tree xs.now)) s
 on_item u held.TurnEnd s = with_item item.TurnEnd s
 on_item u held.LoopEnd s = with_item item.LoopEnd s
-on_item u (held.Enters objects) s = with_item (item.Enters (objects.now ++ s.objects)) s
-on_item u (held.Leaves objects) s = with_item (item.Leaves (objects.now ++ s.objects)) s
-on_item u (held.Also object) s = record s { objects = object ∷ s.objects }
-on_item u (held.AlsoFrom from count) s = record s { objects = numbers_from from count ++ s.objects }
+on_item u (held.Enters objects) s = with_item (item.Enters objects.now) s
+on_item u (held.Leaves objects) s = with_item (item.Leaves objects.now) s
+on_item u held.EntersBelow s = with_item (item.Enters s.objects) s
+on_item u held.LeavesBelow s = with_item (item.Leaves s.objects) s
+on_item u (held.Also object) s = record { items = s.items; yes = []; no = []; objects = object ∷ s.objects }
+on_item u (held.AlsoFrom from count) s = record { items = s.items; yes = []; no = []; objects = numbers_from from count ++ s.objects }
 on_item u held.Hop s = with_item item.Hop s
 on_item u (held.GoTo label) s = with_item (item.GoTo label) s
 on_item u held.BreakOut s = with_item item.BreakOut s

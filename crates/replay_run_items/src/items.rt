@@ -130,9 +130,11 @@ pub enum Item7<'a> {
     /// Here `continue` leads, and `break`.
     TurnEnd,
     LoopEnd,
-    /// Local objects begin to live, or end, one after the other: these, and those of the items below.
+    /// Local objects begin to live, or end, one after the other: these, or those of the entries below.
     Enters(&'a [u32]),
     Leaves(&'a [u32]),
+    EntersBelow,
+    LeavesBelow,
     Also(u32),
     AlsoFrom(u32, u32),
     /// A step without effect: control goes somewhere else.

@@ -34,79 +34,121 @@ fn is_other(sought: Sought7) -> bool {
     }
 }
 
-// A labelled statement is where the search ends, or it is searched.
+// The labels of a switch do not stand in the switches in its body.
+fn looks_into_switches(sought: Sought7) -> bool {
+    match sought {
+        Sought7::Label(_) => true,
+        Sought7::Case(_) | Sought7::Other => false,
+    }
+}
+
+// Whether a label stands in one of some statements.
 #[cycle(search)]
+fn is_in_any(sought: Sought7, statements: &[CheckedStatement]) -> bool {
+    for statement in statements {
+        if is_in(sought, statement) {
+            return true;
+        }
+    }
+    false
+}
+
+/// Whether a label stands in a statement.
+#[cycle(search)]
+pub fn is_in(sought: Sought7, statement: &CheckedStatement) -> bool {
+    match statement {
+        CheckedStatement::Value(_) => false,
+        CheckedStatement::Nothing => false,
+        CheckedStatement::Forget(_, _) => false,
+        CheckedStatement::Start(_, _, _) => false,
+        CheckedStatement::StartCopy(_, _, _) => false,
+        CheckedStatement::StartList(_, _, _) => false,
+        CheckedStatement::Block(_, statements) => is_in_any(sought, statements.as_slice()),
+        CheckedStatement::If(_, body) => is_in(sought, body),
+        CheckedStatement::IfElse(_, first, second) => {
+            is_in(sought, first) || is_in(sought, second)
+        }
+        CheckedStatement::While(_, body) => is_in(sought, body),
+        CheckedStatement::Do(body, _) => is_in(sought, body),
+        CheckedStatement::For(_, _, _, _, body) => is_in(sought, body),
+        CheckedStatement::Switch(_, _, _, _, _, body) => {
+            looks_into_switches(sought) && is_in(sought, body)
+        }
+        CheckedStatement::Case(n, body) => is_case(sought, *n) || is_in(sought, body),
+        CheckedStatement::Default(body) => is_other(sought) || is_in(sought, body),
+        CheckedStatement::Label(n, body) => is_label(sought, *n) || is_in(sought, body),
+        CheckedStatement::Goto(_) => false,
+        CheckedStatement::Break => false,
+        CheckedStatement::Continue => false,
+        CheckedStatement::Return(_, _) => false,
+    }
+}
+
+/// Whether a label stands in the body of a function.
+pub fn has_label(function: &Function, label: u32) -> bool {
+    is_in_any(Sought7::Label(label), function.body.as_slice())
+}
+
+// A labelled statement is where the search ends, or it is searched.
+#[cycle(descent)]
 fn find_labelled<'a>(
     control: &mut Vec<Item7<'a>>,
     sought: Sought7,
     is_here: bool,
     body: &'a CheckedStatement,
-) -> Result<bool, AllocError> {
+) -> Result<(), AllocError> {
     if is_here {
-        push_item(control, Item7::Statement(Way7::Whole, body))?;
-        Ok(true)
+        push_item(control, Item7::Statement(Way7::Whole, body))
     } else {
         find(control, sought, body)
     }
 }
 
-// In one of two statements, behind the first of which control goes round the second.
-#[cycle(search)]
-fn find_either<'a>(
-    control: &mut Vec<Item7<'a>>,
-    sought: Sought7,
-    first: &'a CheckedStatement,
-    second: &'a CheckedStatement,
-) -> Result<bool, AllocError> {
-    let height = control.len();
-    push_item(control, Item7::Hop)?;
-    if find(control, sought, first)? {
-        return Ok(true);
-    }
-    control.truncate(height);
-    find(control, sought, second)
-}
-
-#[cycle(search)]
+#[cycle(descent)]
 fn find_in<'a>(
     control: &mut Vec<Item7<'a>>,
     sought: Sought7,
     statements: &'a [CheckedStatement],
-) -> Result<bool, AllocError> {
-    let height = control.len();
+) -> Result<(), AllocError> {
     let mut rest = statements;
     while let Some((statement, later)) = rest.split_first() {
-        control.truncate(height);
-        push_statements(control, later)?;
-        if find(control, sought, statement)? {
-            return Ok(true);
+        if is_in(sought, statement) {
+            push_statements(control, later)?;
+            return find(control, sought, statement);
         }
         rest = later;
     }
-    Ok(false)
+    Ok(())
 }
 
 /// Pushes what is left to do from a label in a statement on, where the items that follow the statement
-/// are pushed already. Whether the label is there; if not, the items that are pushed mean nothing.
-#[cycle(search)]
+/// are pushed already. The label is there.
+#[cycle(descent)]
 pub fn find<'a>(
     control: &mut Vec<Item7<'a>>,
     sought: Sought7,
     statement: &'a CheckedStatement,
-) -> Result<bool, AllocError> {
+) -> Result<(), AllocError> {
     match statement {
-        CheckedStatement::Value(_) => Ok(false),
-        CheckedStatement::Nothing => Ok(false),
-        CheckedStatement::Forget(_, _) => Ok(false),
-        CheckedStatement::Start(_, _, _) => Ok(false),
-        CheckedStatement::StartCopy(_, _, _) => Ok(false),
-        CheckedStatement::StartList(_, _, _) => Ok(false),
+        CheckedStatement::Value(_) => Ok(()),
+        CheckedStatement::Nothing => Ok(()),
+        CheckedStatement::Forget(_, _) => Ok(()),
+        CheckedStatement::Start(_, _, _) => Ok(()),
+        CheckedStatement::StartCopy(_, _, _) => Ok(()),
+        CheckedStatement::StartList(_, _, _) => Ok(()),
         CheckedStatement::Block(objects, statements) => {
             push_item(control, Item7::Leaves(objects.as_slice()))?;
             find_in(control, sought, statements.as_slice())
         }
         CheckedStatement::If(_, body) => find(control, sought, body),
-        CheckedStatement::IfElse(_, first, second) => find_either(control, sought, first, second),
+        CheckedStatement::IfElse(_, first, second) => {
+            if is_in(sought, first) {
+                push_item(control, Item7::Hop)?;
+                find(control, sought, first)
+            } else {
+                find(control, sought, second)
+            }
+        }
         CheckedStatement::While(_, body) => {
             push_item(control, Item7::LoopEnd)?;
             push_while_turn(control, statement)?;
@@ -123,13 +165,10 @@ pub fn find<'a>(
             push_for_step(control, statement, step)?;
             find(control, sought, body)
         }
-        CheckedStatement::Switch(_, _, _, _, _, body) => match sought {
-            Sought7::Label(_) => {
-                push_item(control, Item7::LoopEnd)?;
-                find(control, sought, body)
-            }
-            Sought7::Case(_) | Sought7::Other => Ok(false),
-        },
+        CheckedStatement::Switch(_, _, _, _, _, body) => {
+            push_item(control, Item7::LoopEnd)?;
+            find(control, sought, body)
+        }
         CheckedStatement::Case(n, body) => {
             find_labelled(control, sought, is_case(sought, *n), body)
         }
@@ -139,19 +178,19 @@ pub fn find<'a>(
         CheckedStatement::Label(n, body) => {
             find_labelled(control, sought, is_label(sought, *n), body)
         }
-        CheckedStatement::Goto(_) => Ok(false),
-        CheckedStatement::Break => Ok(false),
-        CheckedStatement::Continue => Ok(false),
-        CheckedStatement::Return(_, _) => Ok(false),
+        CheckedStatement::Goto(_) => Ok(()),
+        CheckedStatement::Break => Ok(()),
+        CheckedStatement::Continue => Ok(()),
+        CheckedStatement::Return(_, _) => Ok(()),
     }
 }
 
-/// Pushes what is left to do from a label of a function on; whether the function has it.
+/// Pushes what is left to do from a label of a function on, which it has.
 pub fn find_label<'a>(
     control: &mut Vec<Item7<'a>>,
     function: &'a Function,
     label: u32,
-) -> Result<bool, AllocError> {
+) -> Result<(), AllocError> {
     push_item(control, Item7::EndBody)?;
     push_item(control, Item7::Leaves(function.scope.as_slice()))?;
     find_in(control, Sought7::Label(label), function.body.as_slice())

@@ -15,7 +15,7 @@ mod term_items;
 pub use choices::follow;
 pub use condition_items::push_condition;
 pub use items::{Arm7, Change7, Item7, Next7, Operation7, Order7, Use7, Way7};
-pub use label_search::{Sought7, case_of, find, find_label};
+pub use label_search::{Sought7, case_of, find, find_label, has_label, is_in};
 pub use named_tests::{NamedSide7, NamedTest7, test_of};
 pub use scopes::{drop_loop, drop_turn, enter_first, jump, open_scopes, push_objects};
 pub use statement_items::{

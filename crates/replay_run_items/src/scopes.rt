@@ -23,6 +23,10 @@ pub fn open_scopes(alloc: Global, control: &[Item7]) -> Result<Vec<Vec<u32>>, Al
         match item {
             Item7::Leaves(objects) => {
                 scopes.push(Vec::from_slice(alloc, objects)?)?;
+                is_leaving = false;
+            }
+            Item7::LeavesBelow => {
+                scopes.push(Vec::new(alloc))?;
                 is_leaving = true;
             }
             Item7::Also(object) => {
@@ -100,9 +104,9 @@ pub fn jump(alloc: Global, control: &mut Vec<Item7>, from: &[Vec<u32>]) -> Resul
     let left = left_between(alloc, from, to.as_slice())?;
     control.push(Item7::Hop)?;
     push_objects(control, entered.as_slice())?;
-    control.push(Item7::Enters(&[]))?;
+    control.push(Item7::EntersBelow)?;
     push_objects(control, left.as_slice())?;
-    control.push(Item7::Leaves(&[]))?;
+    control.push(Item7::LeavesBelow)?;
     Ok(())
 }
 
@@ -119,7 +123,7 @@ pub fn enter_first(
     }
     control.push(Item7::Hop)?;
     push_objects(control, entered.as_slice())?;
-    control.push(Item7::Enters(&[]))?;
+    control.push(Item7::EntersBelow)?;
     Ok(())
 }
 

@@ -1,4 +1,15 @@
 //! The items of statements.
+ghost use Rattle.std.specs.Prelude.{◌≡◌, [], ◌∷◌, ◌++◌, map, true, false, Some};
+ghost use Rattle.std.specs.Option.{option_map};
+ghost use Rattle.c_layout.specs.CheckedTrees.{term_tree, statement_tree};
+ghost use Rattle.c_layout.specs.CheckedUnits.{UnitView, function_view};
+ghost use Rattle.ref_machine.specs.Items as machine;
+ghost use Rattle.ref_machine.specs.ConditionItems.{condition, arm, choice_of, truth_of};
+ghost use Rattle.ref_machine.specs.StatementItems as spec;
+ghost use Rattle.ref_machine.specs.StatementItems.{list_statements};
+ghost use Rattle.replay_run_items.specs.ItemViews.{turn_items, next_items, arm_items, loop_item, loop_turn};
+ghost use Rattle.replay_run_items.specs.Standings.{on_item, with_item, with_items, added, Stacks};
+
 use crate::condition_items::push_condition;
 use crate::items::{Arm7, Change7, Item7, Next7, Operation7, Use7, Way7};
 use crate::store_items::{push_copy, push_item, push_store};
@@ -13,7 +24,9 @@ fn push_test<'a>(
     condition: &'a CheckedTerm,
     held: Item7<'a>,
     failed: Item7<'a>,
-) -> Result<(), AllocError> {
+) -> Result<(), AllocError>
+    ensures { (u : UnitView) → Stacks u (λ s. with_items (condition u true (term_tree condition.now) (on_item u held.entry (on_item u failed.entry s)).yes (on_item u held.entry (on_item u failed.entry s)).no) (on_item u held.entry (on_item u failed.entry s))) control.old.items result control.new.items }
+{
     push_item(control, failed)?;
     push_item(control, held)?;
     push_condition(control, condition, true)
@@ -23,7 +36,9 @@ fn push_test<'a>(
 pub fn push_statements<'a>(
     control: &mut Vec<Item7<'a>>,
     statements: &'a [CheckedStatement],
-) -> Result<(), AllocError> {
+) -> Result<(), AllocError>
+    ensures { (u : UnitView) → Stacks u (λ s. with_items (list_statements (map statement_tree statements.now)) s) control.old.items result control.new.items }
+{
     push_item(control, Item7::Statements(statements))
 }
 
@@ -34,7 +49,9 @@ pub fn push_do_test<'a>(
     control: &mut Vec<Item7<'a>>,
     statement: &'a CheckedStatement,
     condition: &'a CheckedTerm,
-) -> Result<(), AllocError> {
+) -> Result<(), AllocError>
+    ensures { (u : UnitView) → Stacks u (λ s. with_items (machine.TurnEnd ∷ condition u true (term_tree condition.now) (turn_items (statement_tree statement.now)) []) s) control.old.items result control.new.items }
+{
     push_test(
         control,
         condition,
@@ -44,18 +61,29 @@ pub fn push_do_test<'a>(
     push_item(control, Item7::TurnEnd)
 }
 
+fn push_clause<'a>(
+    control: &mut Vec<Item7<'a>>,
+    clause: &'a Option<CheckedTerm>,
+) -> Result<(), AllocError>
+    ensures { (u : UnitView) → Stacks u (λ s. added (spec.clause (option_map term_tree clause.now)) s) control.old.items result control.new.items }
+{
+    match clause {
+        Some(term) => push_item(control, Item7::Term(Use7::Unused, term)),
+        None => Ok(()),
+    }
+}
+
 /// What follows the body of a `for` loop.
 pub fn push_for_step<'a>(
     control: &mut Vec<Item7<'a>>,
     statement: &'a CheckedStatement,
     step: &'a Option<CheckedTerm>,
-) -> Result<(), AllocError> {
-    control.push(Item7::Statement(Way7::Turn, statement))?;
-    control.push(Item7::Hop)?;
-    match step {
-        Some(term) => control.push(Item7::Term(Use7::Unused, term))?,
-        None => {}
-    }
+) -> Result<(), AllocError>
+    ensures { (u : UnitView) → Stacks u (λ s. with_items (machine.TurnEnd ∷ (spec.clause (option_map term_tree step.now) ++ (machine.Hop ∷ (loop_item (statement_tree statement.now) ∷ [])))) s) control.old.items result control.new.items }
+{
+    push_item(control, Item7::Statement(Way7::Turn, statement))?;
+    push_item(control, Item7::Hop)?;
+    push_clause(control, step)?;
     push_item(control, Item7::TurnEnd)
 }
 
@@ -63,9 +91,11 @@ pub fn push_for_step<'a>(
 pub fn push_while_turn<'a>(
     control: &mut Vec<Item7<'a>>,
     statement: &'a CheckedStatement,
-) -> Result<(), AllocError> {
-    control.push(Item7::Statement(Way7::Turn, statement))?;
-    control.push(Item7::TurnEnd)?;
+) -> Result<(), AllocError>
+    ensures { (u : UnitView) → Stacks u (λ s. with_items (machine.Hop ∷ (machine.TurnEnd ∷ (loop_item (statement_tree statement.now) ∷ []))) s) control.old.items result control.new.items }
+{
+    push_item(control, Item7::Statement(Way7::Turn, statement))?;
+    push_item(control, Item7::TurnEnd)?;
     push_item(control, Item7::Hop)
 }
 
@@ -73,7 +103,9 @@ pub fn push_while_turn<'a>(
 pub fn push_loop<'a>(
     control: &mut Vec<Item7<'a>>,
     statement: &'a CheckedStatement,
-) -> Result<(), AllocError> {
+) -> Result<(), AllocError>
+    ensures { (u : UnitView) → Stacks u (λ s. added (loop_turn u (statement_tree statement.now)) s) control.old.items result control.new.items }
+{
     match statement {
         CheckedStatement::While(condition, _) => push_test(
             control,
@@ -92,7 +124,23 @@ pub fn push_loop<'a>(
             Item7::AfterNothing,
         ),
         CheckedStatement::For(_, _, None, _, _) => push_turn(control, statement),
-        _ => Ok(()),
+        CheckedStatement::Value(_)
+        | CheckedStatement::Nothing
+        | CheckedStatement::Forget(_, _)
+        | CheckedStatement::Start(_, _, _)
+        | CheckedStatement::StartCopy(_, _, _)
+        | CheckedStatement::StartList(_, _, _)
+        | CheckedStatement::Block(_, _)
+        | CheckedStatement::If(_, _)
+        | CheckedStatement::IfElse(_, _, _) => Ok(()),
+        CheckedStatement::Switch(_, _, _, _, _, _)
+        | CheckedStatement::Case(_, _)
+        | CheckedStatement::Default(_)
+        | CheckedStatement::Label(_, _)
+        | CheckedStatement::Goto(_)
+        | CheckedStatement::Break
+        | CheckedStatement::Continue
+        | CheckedStatement::Return(_, _) => Ok(()),
     }
 }
 
@@ -100,7 +148,9 @@ pub fn push_loop<'a>(
 fn push_turn<'a>(
     control: &mut Vec<Item7<'a>>,
     statement: &'a CheckedStatement,
-) -> Result<(), AllocError> {
+) -> Result<(), AllocError>
+    ensures { (u : UnitView) → Stacks u (λ s. added (turn_items (statement_tree statement.now)) s) control.old.items result control.new.items }
+{
     match statement {
         CheckedStatement::While(_, body) => {
             push_while_turn(control, statement)?;
@@ -111,7 +161,23 @@ fn push_turn<'a>(
             push_for_step(control, statement, step)?;
             push_item(control, Item7::Statement(Way7::Whole, body))
         }
-        _ => Ok(()),
+        CheckedStatement::Value(_)
+        | CheckedStatement::Nothing
+        | CheckedStatement::Forget(_, _)
+        | CheckedStatement::Start(_, _, _)
+        | CheckedStatement::StartCopy(_, _, _)
+        | CheckedStatement::StartList(_, _, _)
+        | CheckedStatement::Block(_, _)
+        | CheckedStatement::If(_, _)
+        | CheckedStatement::IfElse(_, _, _) => Ok(()),
+        CheckedStatement::Switch(_, _, _, _, _, _)
+        | CheckedStatement::Case(_, _)
+        | CheckedStatement::Default(_)
+        | CheckedStatement::Label(_, _)
+        | CheckedStatement::Goto(_)
+        | CheckedStatement::Break
+        | CheckedStatement::Continue
+        | CheckedStatement::Return(_, _) => Ok(()),
     }
 }
 
@@ -121,7 +187,9 @@ fn push_arm<'a>(
     control: &mut Vec<Item7<'a>>,
     used: bool,
     term: &'a CheckedTerm,
-) -> Result<(), AllocError> {
+) -> Result<(), AllocError>
+    ensures { (u : UnitView) → Stacks u (λ s. with_item (arm used (term_tree term.now)) s) control.old.items result control.new.items }
+{
     if used {
         push_item(control, Item7::Term(Use7::Value, term))
     } else {
@@ -134,7 +202,9 @@ pub fn push_next<'a>(
     control: &mut Vec<Item7<'a>>,
     next: Next7,
     statement: &'a CheckedStatement,
-) -> Result<(), AllocError> {
+) -> Result<(), AllocError>
+    ensures { (u : UnitView) → Stacks u (λ s. added (next_items next (statement_tree statement.now)) s) control.old.items result control.new.items }
+{
     match next {
         Next7::Body => push_item(control, Item7::Statement(Way7::Whole, statement)),
         Next7::BodyHop => {
@@ -146,7 +216,9 @@ pub fn push_next<'a>(
 }
 
 // 0 or 1 by the value of a term.
-fn push_truth<'a>(control: &mut Vec<Item7<'a>>, term: &'a CheckedTerm) -> Result<(), AllocError> {
+fn push_truth<'a>(control: &mut Vec<Item7<'a>>, term: &'a CheckedTerm) -> Result<(), AllocError>
+    ensures { (u : UnitView) → Stacks u (λ s. with_items (choice_of (term_tree term.now) (truth_of true) (truth_of false)) s) control.old.items result control.new.items }
+{
     push_item(control, Item7::AfterTruth(false))?;
     push_item(control, Item7::AfterTruth(true))?;
     push_item(control, Item7::Term(Use7::Choose(false), term))?;
@@ -158,7 +230,9 @@ pub fn push_after<'a>(
     control: &mut Vec<Item7<'a>>,
     arm: Arm7,
     term: &'a CheckedTerm,
-) -> Result<(), AllocError> {
+) -> Result<(), AllocError>
+    ensures { (u : UnitView) → Stacks u (λ s. with_items (arm_items arm (term_tree term.now)) s) control.old.items result control.new.items }
+{
     match arm {
         Arm7::Arm(used) => push_arm(control, used, term),
         Arm7::ArmHop(used) => {
@@ -177,7 +251,9 @@ fn push_returned<'a>(
     is_entry: bool,
     at: Place,
     value: &'a CheckedTerm,
-) -> Result<(), AllocError> {
+) -> Result<(), AllocError>
+    ensures { (u : UnitView) → Stacks u (λ s. with_items (spec.returned is_entry at (Some (term_tree value.now))) s) control.old.items result control.new.items }
+{
     push_item(control, Item7::Drop)?;
     if is_entry {
         push_item(control, Item7::Term(Use7::Value, value))
@@ -196,7 +272,9 @@ fn push_return<'a>(
     is_entry: bool,
     at: Place,
     value: &'a Option<CheckedTerm>,
-) -> Result<(), AllocError> {
+) -> Result<(), AllocError>
+    ensures { (u : UnitView) → Stacks u (λ s. with_items (spec.returned is_entry at (option_map term_tree value.now) ++ machine.LeaveFunction ∷ []) s) control.old.items result control.new.items }
+{
     push_item(control, Item7::LeaveFunction)?;
     match value {
         Some(term) => push_returned(control, is_entry, at, term),
@@ -211,7 +289,9 @@ fn push_for<'a>(
     statement: &'a CheckedStatement,
     objects: &'a [u32],
     first: &'a [CheckedStatement],
-) -> Result<(), AllocError> {
+) -> Result<(), AllocError>
+    ensures { (u : UnitView) → Stacks u (λ s. with_items (machine.Enters objects.now ∷ (list_statements (map statement_tree first.now) ++ (loop_item (statement_tree statement.now) ∷ (machine.LoopEnd ∷ (machine.Leaves objects.now ∷ []))))) s) control.old.items result control.new.items }
+{
     push_item(control, Item7::Leaves(objects))?;
     push_item(control, Item7::LoopEnd)?;
     push_item(control, Item7::Statement(Way7::Turn, statement))?;
@@ -223,7 +303,9 @@ fn push_block<'a>(
     control: &mut Vec<Item7<'a>>,
     objects: &'a [u32],
     statements: &'a [CheckedStatement],
-) -> Result<(), AllocError> {
+) -> Result<(), AllocError>
+    ensures { (u : UnitView) → Stacks u (λ s. with_items (machine.Enters objects.now ∷ (list_statements (map statement_tree statements.now) ++ machine.Leaves objects.now ∷ [])) s) control.old.items result control.new.items }
+{
     push_item(control, Item7::Leaves(objects))?;
     push_statements(control, statements)?;
     push_item(control, Item7::Enters(objects))
@@ -233,8 +315,10 @@ fn push_two<'a>(
     control: &mut Vec<Item7<'a>>,
     later: Item7<'a>,
     first: Item7<'a>,
-) -> Result<(), AllocError> {
-    control.push(later)?;
+) -> Result<(), AllocError>
+    ensures { (u : UnitView) → Stacks u (λ s. on_item u first.entry (on_item u later.entry s)) control.old.items result control.new.items }
+{
+    push_item(control, later)?;
     push_item(control, first)
 }
 
@@ -243,7 +327,9 @@ pub fn push_statement<'a>(
     control: &mut Vec<Item7<'a>>,
     is_entry: bool,
     statement: &'a CheckedStatement,
-) -> Result<(), AllocError> {
+) -> Result<(), AllocError>
+    ensures { (u : UnitView) → Stacks u (λ s. added (spec.of_statement u is_entry (statement_tree statement.now)) s) control.old.items result control.new.items }
+{
     match statement {
         CheckedStatement::Value(term) => push_item(control, Item7::Term(Use7::Unused, term)),
         CheckedStatement::Nothing => Ok(()),
@@ -309,10 +395,9 @@ pub fn push_statement<'a>(
 }
 
 /// What a function does from the end of its prologue on.
-pub fn push_body<'a>(
-    control: &mut Vec<Item7<'a>>,
-    function: &'a Function,
-) -> Result<(), AllocError> {
+pub fn push_body<'a>(control: &mut Vec<Item7<'a>>, function: &'a Function) -> Result<(), AllocError>
+    ensures { (u : UnitView) → Stacks u (λ s. with_items (spec.body (function_view function.now)) s) control.old.items result control.new.items }
+{
     push_item(control, Item7::EndBody)?;
     push_item(control, Item7::Leaves(function.scope.as_slice()))?;
     push_statements(control, function.body.as_slice())?;

@@ -1,4 +1,19 @@
 //! The items of terms and lvalues: operands from left to right, and then the operator.
+ghost use Rattle.std.specs.Prelude.{◌≡◌, [], ◌∷◌, ◌++◌, map};
+ghost use Rattle.std.specs.Option.{option_map};
+ghost use Rattle.c_layout.specs.Types.{view, same_kind};
+ghost use Rattle.c_layout.specs.CheckedTrees.{term_tree, term_trees, lvalue_tree};
+ghost use Rattle.c_layout.specs.CheckedUnits.{UnitView, unit_view};
+ghost use Rattle.flow_lower_tasks.specs.TermKinds.{meaning, lvalue_at};
+ghost use Rattle.flow_lower_expressions.specs.Assignments as assignments;
+ghost use Rattle.flow_lower_expressions.specs.Calls as calls;
+ghost use Rattle.ref_machine.specs.Items as machine;
+ghost use Rattle.ref_machine.specs.TermItems as spec;
+ghost use Rattle.ref_machine.specs.TermItems.{address_items, converted};
+ghost use Rattle.ref_machine.specs.ConditionItems as conditions;
+ghost use Rattle.replay_run_items.specs.ItemViews.{operation_view, order_view, type_seen, store_step_at, operated};
+ghost use Rattle.replay_run_items.specs.Standings.{with_item, with_items, added, unless_used, Stacks};
+
 use crate::condition_items::push_condition;
 use crate::items::{Arm7, Item7, Operation7, Order7, Use7};
 use crate::store_items::push_item;
@@ -18,15 +33,19 @@ fn push_do<'a>(
     control: &mut Vec<Item7<'a>>,
     at: Place,
     operation: Operation7<'a>,
-) -> Result<(), AllocError> {
-    control.push(Item7::Do(at, operation))?;
+) -> Result<(), AllocError>
+    ensures { (u : UnitView) → Stacks u (λ s. with_item (machine.Do at (operation_view operation.entry)) s) control.old.items result control.new.items }
+{
+    push_item(control, Item7::Do(at, operation))?;
     Ok(())
 }
 
 // A value that is not used is dropped.
-fn push_if_unused<'a>(control: &mut Vec<Item7<'a>>, used: bool) -> Result<(), AllocError> {
+fn push_if_unused<'a>(control: &mut Vec<Item7<'a>>, used: bool) -> Result<(), AllocError>
+    ensures { (u : UnitView) → Stacks u (λ s. unless_used used s) control.old.items result control.new.items }
+{
     if !used {
-        control.push(Item7::Drop)?;
+        push_item(control, Item7::Drop)?;
     }
     Ok(())
 }
@@ -38,7 +57,9 @@ pub fn push_address<'a>(
     control: &mut Vec<Item7<'a>>,
     unit: &Checked,
     lvalue: &'a Lvalue,
-) -> Result<(), AllocError> {
+) -> Result<(), AllocError>
+    ensures { Stacks (unit_view unit.now) (λ s. with_items (address_items (unit_view unit.now) (lvalue_tree lvalue.now)) s) control.old.items result control.new.items }
+{
     match &lvalue.form {
         LvalueForm::Object(object) => push_item(control, Item7::Object(lvalue.place, *object, 0)),
         LvalueForm::Literal(index) => push_item(control, Item7::Literal(lvalue.place, *index)),
@@ -62,36 +83,50 @@ pub fn push_address<'a>(
 
 // ---- operators
 
+fn is_kind(a: IntType, b: IntType) -> bool
+    ensures { result ≡ same_kind a b }
+{
+    a.bytes == b.bytes && (a.signed == b.signed && a.rank == b.rank)
+}
+
 // A conversion is a step only where the types differ.
 fn push_converted<'a>(
     control: &mut Vec<Item7<'a>>,
     at: Place,
     old: IntType,
     new: IntType,
-) -> Result<(), AllocError> {
-    if old == new {
+) -> Result<(), AllocError>
+    ensures { (u : UnitView) → Stacks u (λ s. added (converted at old new) s) control.old.items result control.new.items }
+{
+    if is_kind(old, new) {
         Ok(())
     } else {
         push_do(control, at, Operation7::Convert(Scalar::Int(new)))
     }
 }
 
-fn operating<'a>(meaning: OperatorMeaning, kind: IntType) -> Operation7<'a> {
-    match meaning {
+fn operating<'a>(sense: OperatorMeaning, kind: IntType) -> Operation7<'a>
+    ensures { operation_view result ≡ operated sense kind }
+{
+    match sense {
         OperatorMeaning::Number(sign) => Operation7::Binary(Order7::LeftFirst, sign, kind),
         OperatorMeaning::Truth(rel) => Operation7::Compare(rel),
     }
 }
 
-fn number_operator(meaning: OperatorMeaning) -> IntOp {
-    match meaning {
+fn number_operator(sense: OperatorMeaning) -> IntOp
+    ensures { result ≡ assignments.number_operator sense }
+{
+    match sense {
         OperatorMeaning::Number(sign) => sign,
         OperatorMeaning::Truth(_) => IntOp::Add,
     }
 }
 
 // In a sum of a pointer and an integer either may stand first.
-fn order_of(t: &CType) -> Order7 {
+fn order_of(t: &CType) -> Order7
+    ensures { order_view result ≡ spec.order_of (view t.now) }
+{
     match t {
         CType::Int(_) => Order7::RightFirst,
         CType::Pointer(_) => Order7::LeftFirst,
@@ -108,10 +143,12 @@ fn push_two<'a>(
     operation: Operation7<'a>,
     left: &'a CheckedTerm,
     right: &'a CheckedTerm,
-) -> Result<(), AllocError> {
-    control.push(Item7::Do(at, operation))?;
-    control.push(Item7::Term(Use7::Value, right))?;
-    control.push(Item7::Term(Use7::Value, left))?;
+) -> Result<(), AllocError>
+    ensures { (u : UnitView) → Stacks u (λ s. with_items (machine.Value (term_tree left.now) ∷ (machine.Value (term_tree right.now) ∷ (machine.Do at (operation_view operation.entry) ∷ []))) s) control.old.items result control.new.items }
+{
+    push_item(control, Item7::Do(at, operation))?;
+    push_item(control, Item7::Term(Use7::Value, right))?;
+    push_item(control, Item7::Term(Use7::Value, left))?;
     Ok(())
 }
 
@@ -121,9 +158,11 @@ fn push_one<'a>(
     at: Place,
     operation: Operation7<'a>,
     operand: &'a CheckedTerm,
-) -> Result<(), AllocError> {
-    control.push(Item7::Do(at, operation))?;
-    control.push(Item7::Term(Use7::Value, operand))?;
+) -> Result<(), AllocError>
+    ensures { (u : UnitView) → Stacks u (λ s. with_items (machine.Value (term_tree operand.now) ∷ (machine.Do at (operation_view operation.entry) ∷ [])) s) control.old.items result control.new.items }
+{
+    push_item(control, Item7::Do(at, operation))?;
+    push_item(control, Item7::Term(Use7::Value, operand))?;
     Ok(())
 }
 
@@ -132,9 +171,11 @@ fn push_at<'a>(
     control: &mut Vec<Item7<'a>>,
     operation: Operation7<'a>,
     lvalue: &'a Lvalue,
-) -> Result<(), AllocError> {
-    control.push(Item7::Do(lvalue.place, operation))?;
-    control.push(Item7::Address(lvalue))?;
+) -> Result<(), AllocError>
+    ensures { (u : UnitView) → Stacks u (λ s. with_items (machine.Address (lvalue_tree lvalue.now) ∷ (machine.Do (lvalue_at (lvalue_tree lvalue.now)) (operation_view operation.entry) ∷ [])) s) control.old.items result control.new.items }
+{
+    push_item(control, Item7::Do(lvalue.place, operation))?;
+    push_item(control, Item7::Address(lvalue))?;
     Ok(())
 }
 
@@ -144,10 +185,15 @@ fn push_assignment<'a>(
     control: &mut Vec<Item7<'a>>,
     target: &'a Lvalue,
     value: &'a CheckedTerm,
-) -> Result<(), AllocError> {
-    control.push(Item7::Do(target.place, Operation7::Store(scalar(&target.ctype))))?;
-    control.push(Item7::Term(Use7::Value, value))?;
-    control.push(Item7::Address(target))?;
+) -> Result<(), AllocError>
+    ensures { (u : UnitView) → Stacks u (λ s. with_items (spec.assignment (lvalue_tree target.now) (term_tree value.now)) s) control.old.items result control.new.items }
+{
+    push_item(
+        control,
+        Item7::Do(target.place, Operation7::Store(scalar(&target.ctype))),
+    )?;
+    push_item(control, Item7::Term(Use7::Value, value))?;
+    push_item(control, Item7::Address(target))?;
     Ok(())
 }
 
@@ -157,10 +203,15 @@ fn push_sides<'a>(
     target: &'a Lvalue,
     value: &'a CheckedTerm,
     kind: Scalar,
-) -> Result<(), AllocError> {
-    control.push(Item7::Do(target.place, Operation7::LoadUnder(kind)))?;
-    control.push(Item7::Term(Use7::Value, value))?;
-    control.push(Item7::Address(target))?;
+) -> Result<(), AllocError>
+    ensures { (u : UnitView) → Stacks u (λ s. with_items (spec.sides (lvalue_tree target.now) (term_tree value.now) kind) s) control.old.items result control.new.items }
+{
+    push_item(
+        control,
+        Item7::Do(target.place, Operation7::LoadUnder(kind)),
+    )?;
+    push_item(control, Item7::Term(Use7::Value, value))?;
+    push_item(control, Item7::Address(target))?;
     Ok(())
 }
 
@@ -171,7 +222,9 @@ fn push_compound<'a>(
     kind: IntType,
     target: &'a Lvalue,
     value: &'a CheckedTerm,
-) -> Result<(), AllocError> {
+) -> Result<(), AllocError>
+    ensures { (u : UnitView) → Stacks u (λ s. with_items (spec.compound at (meaning op) kind (lvalue_tree target.now) (term_tree value.now)) s) control.old.items result control.new.items }
+{
     let own = integer_type(&target.ctype);
     push_do(control, target.place, Operation7::Store(Scalar::Int(own)))?;
     push_converted(control, at, kind, own)?;
@@ -191,7 +244,9 @@ fn push_compound_shift<'a>(
     size: u64,
     target: &'a Lvalue,
     value: &'a CheckedTerm,
-) -> Result<(), AllocError> {
+) -> Result<(), AllocError>
+    ensures { (u : UnitView) → Stacks u (λ s. with_items (spec.compound_shift at back size (lvalue_tree target.now) (term_tree value.now)) s) control.old.items result control.new.items }
+{
     push_do(control, target.place, Operation7::Store(Scalar::Pointer))?;
     push_do(
         control,
@@ -203,7 +258,9 @@ fn push_compound_shift<'a>(
 
 // ---- steps
 
-fn keeps_old(time: StepTime, used: bool) -> bool {
+fn keeps_old(time: StepTime, used: bool) -> bool
+    ensures { result ≡ assignments.keeps_old time used }
+{
     match time {
         StepTime::Prefix => false,
         StepTime::Postfix => used,
@@ -215,7 +272,9 @@ fn push_store_step<'a>(
     at: Place,
     kind: Scalar,
     keeps: bool,
-) -> Result<(), AllocError> {
+) -> Result<(), AllocError>
+    ensures { (u : UnitView) → Stacks u (λ s. with_items (store_step_at at kind keeps) s) control.old.items result control.new.items }
+{
     if keeps {
         push_do(control, at, Operation7::StoreOver(kind))
     } else {
@@ -224,9 +283,11 @@ fn push_store_step<'a>(
 }
 
 // The old value of a postfix step that is used stays below the new one.
-fn push_kept<'a>(control: &mut Vec<Item7<'a>>, keeps: bool) -> Result<(), AllocError> {
+fn push_kept<'a>(control: &mut Vec<Item7<'a>>, keeps: bool) -> Result<(), AllocError>
+    ensures { (u : UnitView) → Stacks u (λ s. added (spec.kept keeps) s) control.old.items result control.new.items }
+{
     if keeps {
-        control.push(Item7::Again)?;
+        push_item(control, Item7::Again)?;
     }
     Ok(())
 }
@@ -238,7 +299,9 @@ fn push_step<'a>(
     kind: IntType,
     target: &'a Lvalue,
     keeps: bool,
-) -> Result<(), AllocError> {
+) -> Result<(), AllocError>
+    ensures { (u : UnitView) → Stacks u (λ s. with_items (spec.step at op kind (lvalue_tree target.now) keeps) s) control.old.items result control.new.items }
+{
     let own = integer_type(&target.ctype);
     push_store_step(control, target.place, Scalar::Int(own), keeps)?;
     push_converted(control, at, kind, own)?;
@@ -259,7 +322,9 @@ fn push_pointer_step<'a>(
     size: u64,
     target: &'a Lvalue,
     keeps: bool,
-) -> Result<(), AllocError> {
+) -> Result<(), AllocError>
+    ensures { (u : UnitView) → Stacks u (λ s. with_items (spec.pointer_step at op size (lvalue_tree target.now) keeps) s) control.old.items result control.new.items }
+{
     push_store_step(control, target.place, Scalar::Pointer, keeps)?;
     push_do(control, at, Operation7::ShiftByOne(size, is_backward(op)))?;
     push_kept(control, keeps)?;
@@ -274,7 +339,9 @@ fn push_logical<'a>(
     op: LogicalOp,
     left: &'a CheckedTerm,
     right: &'a CheckedTerm,
-) -> Result<(), AllocError> {
+) -> Result<(), AllocError>
+    ensures { (u : UnitView) → Stacks u (λ s. with_items (conditions.logical op (term_tree left.now) (term_tree right.now)) s) control.old.items result control.new.items }
+{
     match op {
         LogicalOp::And => {
             push_item(control, Item7::AfterTruth(false))?;
@@ -285,8 +352,8 @@ fn push_logical<'a>(
             push_item(control, Item7::AfterTruth(true))?;
         }
     }
-    control.push(Item7::Term(Use7::Choose(false), left))?;
-    control.push(Item7::Term(Use7::Value, left))?;
+    push_item(control, Item7::Term(Use7::Choose(false), left))?;
+    push_item(control, Item7::Term(Use7::Value, left))?;
     Ok(())
 }
 
@@ -297,7 +364,9 @@ fn push_conditional<'a>(
     test: &'a CheckedTerm,
     first: &'a CheckedTerm,
     second: &'a CheckedTerm,
-) -> Result<(), AllocError> {
+) -> Result<(), AllocError>
+    ensures { (u : UnitView) → Stacks u (λ s. with_items (conditions.conditional u used (term_tree test.now) (term_tree first.now) (term_tree second.now)) s) control.old.items result control.new.items }
+{
     push_item(control, Item7::Term(Use7::After(Arm7::Arm(used)), second))?;
     push_item(control, Item7::Term(Use7::After(Arm7::ArmHop(used)), first))?;
     push_condition(control, test, true)
@@ -307,19 +376,49 @@ fn push_arm<'a>(
     control: &mut Vec<Item7<'a>>,
     used: bool,
     term: &'a CheckedTerm,
-) -> Result<(), AllocError> {
+) -> Result<(), AllocError>
+    ensures { (u : UnitView) → Stacks u (λ s. with_item (conditions.arm used (term_tree term.now)) s) control.old.items result control.new.items }
+{
     if used {
-        control.push(Item7::Term(Use7::Value, term))?;
+        push_item(control, Item7::Term(Use7::Value, term))?;
     } else {
-        control.push(Item7::Term(Use7::Unused, term))?;
+        push_item(control, Item7::Term(Use7::Unused, term))?;
     }
     Ok(())
 }
 
 // ---- calls
 
-fn gives(function: LibFn) -> bool {
-    !(function == LibFn::Free || function == LibFn::Exit || function == LibFn::Abort)
+fn gives(function: LibFn) -> bool
+    ensures { result ≡ calls.gives function }
+{
+    match function {
+        LibFn::Free | LibFn::Exit | LibFn::Abort => false,
+        LibFn::Malloc
+        | LibFn::Calloc
+        | LibFn::Realloc
+        | LibFn::Memcpy
+        | LibFn::Memmove
+        | LibFn::Memset
+        | LibFn::Strlen
+        | LibFn::Strcpy
+        | LibFn::Strncpy
+        | LibFn::Strcat
+        | LibFn::Strcmp
+        | LibFn::Isalpha
+        | LibFn::Isdigit
+        | LibFn::Isspace
+        | LibFn::Isupper
+        | LibFn::Islower
+        | LibFn::Isalnum
+        | LibFn::Toupper
+        | LibFn::Tolower
+        | LibFn::Getchar
+        | LibFn::Fgets
+        | LibFn::Putchar
+        | LibFn::Puts
+        | LibFn::Printf => true,
+    }
 }
 
 fn push_library<'a>(
@@ -328,12 +427,17 @@ fn push_library<'a>(
     function: LibFn,
     arguments: &'a [CheckedTerm],
     allocated: Option<&'a CType>,
-) -> Result<(), AllocError> {
-    control.push(Item7::Do(
-        at,
-        Operation7::Library(function, arguments.len(), allocated),
-    ))?;
-    control.push(Item7::Values(arguments))?;
+) -> Result<(), AllocError>
+    ensures { (u : UnitView) → Stacks u (λ s. with_items (spec.library_items at function (term_trees (map term_tree arguments.now)) (type_seen allocated.entry)) s) control.old.items result control.new.items }
+{
+    push_item(
+        control,
+        Item7::Do(
+            at,
+            Operation7::Library(function, arguments.len(), allocated),
+        ),
+    )?;
+    push_item(control, Item7::Values(arguments))?;
     Ok(())
 }
 
@@ -343,13 +447,20 @@ fn push_call<'a>(
     function: u32,
     arguments: &'a [CheckedTerm],
     is_used: bool,
-) -> Result<(), AllocError> {
-    control.push(Item7::Invoke(at, function, arguments.len(), is_used))?;
-    control.push(Item7::Values(arguments))?;
+) -> Result<(), AllocError>
+    ensures { (u : UnitView) → Stacks u (λ s. with_items (spec.arguments (term_trees (map term_tree arguments.now)) ++ machine.Invoke at function (spec.argument_count (term_trees (map term_tree arguments.now))) is_used ∷ []) s) control.old.items result control.new.items }
+{
+    push_item(
+        control,
+        Item7::Invoke(at, function, arguments.len(), is_used),
+    )?;
+    push_item(control, Item7::Values(arguments))?;
     Ok(())
 }
 
-fn allocated_type<'a>(allocated: &'a Option<CType>) -> Option<&'a CType> {
+fn allocated_type<'a>(allocated: &'a Option<CType>) -> Option<&'a CType>
+    ensures { type_seen result ≡ option_map view allocated.now }
+{
     match allocated {
         Some(t) => Some(t),
         None => None,
@@ -362,7 +473,9 @@ pub fn push_term<'a>(
     unit: &Checked,
     term: &'a CheckedTerm,
     used: bool,
-) -> Result<(), AllocError> {
+) -> Result<(), AllocError>
+    ensures { Stacks (unit_view unit.now) (λ s. with_items (conditions.term_items (unit_view unit.now) used (term_tree term.now)) s) control.old.items result control.new.items }
+{
     let at = term.place;
     match &term.form {
         TermForm::Discard(operand) => push_item(control, Item7::Term(Use7::Unused, operand)),

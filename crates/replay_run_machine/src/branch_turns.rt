@@ -9,7 +9,7 @@ use lib_models_replay::{Cause, Halt, is_false_value};
 use lib_models_replay_calls::fgets;
 use lib_models_replay_tests::{Side7, Test7, opposite, pass_case, pass_test};
 use replay_run_items::{
-    Item7, NamedSide7, NamedTest7, Sought7, case_of, drop_loop, enter_first, find, follow,
+    Item7, NamedSide7, NamedTest7, Sought7, case_of, drop_loop, enter_first, find, follow, is_in,
     open_scopes, test_of,
 };
 
@@ -122,14 +122,10 @@ fn land<'a>(m: &mut Machine<'a>, body: &'a CheckedStatement, sought: Sought7) ->
     let Ok(from) = open_scopes(alloc, m.control.as_slice()) else {
         return Err(Halt::Memory);
     };
-    let height = m.control.len();
-    match find(&mut m.control, sought, body) {
-        Ok(true) => {}
-        Ok(false) => {
-            m.control.truncate(height);
-            land_behind(&mut m.control, sought)?;
-        }
-        Err(_) => return Err(Halt::Memory),
+    if is_in(sought, body) {
+        held(find(&mut m.control, sought, body))?;
+    } else {
+        land_behind(&mut m.control, sought)?;
     }
     held(enter_first(alloc, &mut m.control, from.as_slice()))
 }

@@ -28,7 +28,7 @@ fn push_prologue<'a>(
         push_item(control, Item7::Also(outcome))?;
     }
     push_item(control, Item7::AlsoFrom(0, function.parameters))?;
-    push_item(control, Item7::Enters(&[]))
+    push_item(control, Item7::EntersBelow)
 }
 
 /// A function is called with so many of the newest values.
@@ -141,7 +141,7 @@ fn push_behind_body<'a>(
                 push_item(control, Item7::Hop)?;
             }
             push_item(control, Item7::AlsoFrom(0, function.parameters))?;
-            push_item(control, Item7::Leaves(&[]))
+            push_item(control, Item7::LeavesBelow)
         }
     }
 }
@@ -157,7 +157,7 @@ pub fn leave_function(m: &mut Machine, unit: &Checked) -> Result<(), Halt> {
     for scope in scopes.iter().rev() {
         held(push_objects(&mut m.control, scope.as_slice()))?;
     }
-    held(push_item(&mut m.control, Item7::Leaves(&[])))
+    held(push_item(&mut m.control, Item7::LeavesBelow))
 }
 
 /// The body of a function ends.

@@ -2,7 +2,7 @@
 use crate::machines::{Machine, function_at, held};
 use c_layout::Checked;
 use lib_models_replay::{Cause, Halt};
-use replay_run_items::{drop_loop, drop_turn, find_label, jump, open_scopes};
+use replay_run_items::{drop_loop, drop_turn, find_label, has_label, jump, open_scopes};
 
 fn scopes_of(m: &Machine) -> Result<Vec<Vec<u32>>, Halt> {
     match open_scopes(m.world.alloc, m.control.as_slice()) {
@@ -14,13 +14,13 @@ fn scopes_of(m: &Machine) -> Result<Vec<Vec<u32>>, Halt> {
 /// `goto`
 pub fn go_to<'a>(m: &mut Machine<'a>, unit: &'a Checked, label: u32) -> Result<(), Halt> {
     let function = function_at(unit, m.function)?;
+    if !has_label(function, label) {
+        return Err(Halt::Stops(Cause::Stuck));
+    }
     let from = scopes_of(m)?;
     m.control.clear();
-    match find_label(&mut m.control, function, label) {
-        Ok(true) => held(jump(m.world.alloc, &mut m.control, from.as_slice())),
-        Ok(false) => Err(Halt::Stops(Cause::Stuck)),
-        Err(_) => Err(Halt::Memory),
-    }
+    held(find_label(&mut m.control, function, label))?;
+    held(jump(m.world.alloc, &mut m.control, from.as_slice()))
 }
 
 /// `break`

@@ -12,14 +12,7 @@ use replay_run_items::{Item7, Operation7};
 
 // ---- objects
 
-// The first object that an item enters, where it enters one.
-fn first_entered(control: &[Item7], objects: &[u32]) -> Option<u32> {
-    match objects.first() {
-        Some(object) => Some(*object),
-        None => first_below(control),
-    }
-}
-
+// The first object that an item enters with those of the entries below, where it enters one.
 fn first_below(control: &[Item7]) -> Option<u32> {
     for item in control.iter().rev() {
         match item {
@@ -35,8 +28,8 @@ fn first_below(control: &[Item7]) -> Option<u32> {
     None
 }
 
-fn entered_bytes(m: &Machine, unit: &Checked, objects: &[u32]) -> Result<u128, Halt> {
-    match first_entered(m.control.as_slice(), objects) {
+fn entered_bytes(m: &Machine, unit: &Checked, object: Option<u32>) -> Result<u128, Halt> {
+    match object {
         None => Ok(0),
         Some(object) => {
             if name_of(m.names.as_slice(), object).is_some() {
@@ -119,7 +112,8 @@ pub fn asked_bytes(m: &Machine, unit: &Checked, item: Option<Item7>) -> Result<u
     requires { is_model unit.now.model ≡ true }
 {
     match item {
-        Some(Item7::Enters(objects)) => entered_bytes(m, unit, objects),
+        Some(Item7::Enters(objects)) => entered_bytes(m, unit, objects.first().copied()),
+        Some(Item7::EntersBelow) => entered_bytes(m, unit, first_below(m.control.as_slice())),
         Some(Item7::Do(_, Operation7::Library(function, count, _))) => {
             called_bytes(&m.world, unit, function, newest(m.values.as_slice(), count))
         }

@@ -107,7 +107,7 @@ fn enter_all<'a>(m: &mut Machine<'a>, unit: &Checked, objects: &'a [u32]) -> Tur
                 Err(_) => step(at, Err(Halt::Memory)),
             }
         }
-        [] => enter_below(m, unit),
+        [] => quiet(Ok(())),
     }
 }
 
@@ -118,7 +118,7 @@ fn enter_below(m: &mut Machine, unit: &Checked) -> Turned7
         Ok(None) => quiet(Ok(())),
         Ok(Some(object)) => {
             let at = own_place(m, unit);
-            match push_item(&mut m.control, Item7::Enters(&[])) {
+            match push_item(&mut m.control, Item7::EntersBelow) {
                 Ok(()) => step(at, enter_object(m, unit, object)),
                 Err(_) => step(at, Err(Halt::Memory)),
             }
@@ -136,7 +136,7 @@ fn leave_all<'a>(m: &mut Machine<'a>, unit: &Checked, objects: &'a [u32]) -> Tur
                 Err(_) => step(at, Err(Halt::Memory)),
             }
         }
-        [] => leave_below(m, unit),
+        [] => quiet(Ok(())),
     }
 }
 
@@ -145,7 +145,7 @@ fn leave_below(m: &mut Machine, unit: &Checked) -> Turned7 {
         Ok(None) => quiet(Ok(())),
         Ok(Some(object)) => {
             let at = own_place(m, unit);
-            match push_item(&mut m.control, Item7::Leaves(&[])) {
+            match push_item(&mut m.control, Item7::LeavesBelow) {
                 Ok(()) => step(at, leave_object(m, object)),
                 Err(_) => step(at, Err(Halt::Memory)),
             }
@@ -226,6 +226,8 @@ fn act<'a>(m: &mut Machine<'a>, unit: &'a Checked, item: Item7<'a>) -> Turned7
         Item7::Stores(at, local, stores) => step(at, first_store(m, unit, at, local, stores)),
         Item7::Enters(objects) => enter_all(m, unit, objects),
         Item7::Leaves(objects) => leave_all(m, unit, objects),
+        Item7::EntersBelow => enter_below(m, unit),
+        Item7::LeavesBelow => leave_below(m, unit),
         Item7::Bind(at, local, depth) => step(at, bind_parameter(m, unit, local, depth)),
         Item7::Binds(at, local, left, count) => {
             step(at, bind_first(m, unit, at, local, left, count))
