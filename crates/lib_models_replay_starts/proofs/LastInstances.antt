@@ -5,9 +5,10 @@ use Rattle.c_layout.specs.CheckedUnits.{StaticStoreView, UnitView}
 use Rattle.lib_models_memory.specs.Bytes.{Content, Byte}
 use Rattle.lib_models_memory.specs.Instances.{Storage, Instance, Memory, bytes_of, bytes_at}
 use Rattle.lib_models_effects.specs.ObjectEffects.{fresh, next_instance, with_instance, all_of}
+use Rattle.lib_models_effects.specs.ScalarBytes.{refilled}
 use Rattle.lib_models_effects.specs.Touches.{with_bytes, set_bytes}
 use Rattle.lib_models_effects.specs.UnitStarts.{stored, all_stored}
-use Rattle.lib_models_effects.specs.Worlds.{World, goes, with_memory}
+use Rattle.lib_models_effects.specs.Worlds.{World, Reply, goes, with_memory}
 use Rattle.lib_models_replay_starts.specs.Rewrites.{store_put, stores_put}
 
 last_there : (before : Memory) (x : Instance) → slice_get (before ++ x ∷ []) (length before) ≡ Some x
@@ -47,3 +48,32 @@ object_made u xs kind bytes inst w v after number made stored =
     ∙ ap (λ i. stores_put u xs i (with_instance w (fresh kind bytes))) number
     ∙ ap (stores_put u xs inst) made
     ∙ stored
+
+-- an instance that is filled as soon as it is made
+pub made_filled : (kind : Storage) (c : Content) (bytes : List Byte) (inst : ℕ) (w v : World) (after : Memory) → goes (next_instance w) (with_instance w (fresh kind bytes)) ≡ goes inst v → after ≡ set_bytes v.memory inst (all_of c (bytes_at v.memory inst)) → goes (next_instance w) (with_instance w (fresh kind (all_of c bytes))) ≡ goes inst (with_memory v after)
+made_filled kind c bytes inst w v after made filled =
+    let number : next_instance w ≡ inst = cc in
+    let world : with_instance w (fresh kind bytes) ≡ v = cc in
+    ap (λ memory. goes (next_instance w) (with_memory w memory)) (sym (last_filled w.memory kind c bytes))
+    ∙ ap (λ i. goes i (with_memory w (set_bytes (w.memory ++ fresh kind bytes ∷ []) i (all_of c (bytes_at (w.memory ++ fresh kind bytes ∷ []) i))))) number
+    ∙ ap (λ (z : World). goes inst (with_memory z (set_bytes z.memory inst (all_of c (bytes_at z.memory inst))))) world
+    ∙ ap (λ memory. goes inst (with_memory v memory)) (sym filled)
+
+-- an object that is all zero, and then the stores of its initializer
+pub object_put : (u : UnitView) (xs : List StaticStoreView) (kind : Storage) (bytes : List Byte) (inst : ℕ) (w v after : World) → goes (next_instance w) (with_instance w (fresh kind bytes)) ≡ goes inst v → stores_put u xs inst v ≡ after → with_instance w (fresh kind (all_stored u xs bytes)) ≡ after
+object_put u xs kind bytes inst w v after made put =
+    let number : next_instance w ≡ inst = cc in
+    let world : with_instance w (fresh kind bytes) ≡ v = cc in
+    object_made u xs kind bytes inst w v after number world put
+
+-- an instance whose first bytes are written as soon as it is made
+pub made_refilled : (kind : Storage) (bytes : List Byte) (cs : List Content) (inst : ℕ) (w v : World) (after : Memory) → goes (next_instance w) (with_instance w (fresh kind bytes)) ≡ goes inst v → after ≡ set_bytes v.memory inst (refilled (bytes_at v.memory inst) 0 cs) → with_instance w (fresh kind (refilled bytes 0 cs)) ≡ with_memory v after
+made_refilled kind bytes cs inst w v after made put =
+    let x : Instance = fresh kind bytes in
+    let number : next_instance w ≡ inst = cc in
+    let world : with_instance w x ≡ v = cc in
+    ap (λ bs. with_memory w (w.memory ++ fresh kind (refilled bs 0 cs) ∷ [])) (sym (last_bytes w.memory x))
+    ∙ ap (with_memory w) (sym (last_set w.memory x (refilled (bytes_at (w.memory ++ x ∷ []) (length w.memory)) 0 cs)))
+    ∙ ap (λ i. with_memory w (set_bytes (w.memory ++ x ∷ []) i (refilled (bytes_at (w.memory ++ x ∷ []) i) 0 cs))) number
+    ∙ ap (λ (z : World). with_memory z (set_bytes z.memory inst (refilled (bytes_at z.memory inst) 0 cs))) world
+    ∙ ap (with_memory v) (sym put)

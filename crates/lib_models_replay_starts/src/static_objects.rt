@@ -5,9 +5,9 @@ ghost use Rattle.c_layout.specs.CheckedUnits.{unit_view, static_store_view, stat
 ghost use Rattle.c_layout.specs.Types.{view};
 ghost use Rattle.lib_models_memory.specs.Labels.{no_labels};
 ghost use Rattle.lib_models_memory.specs.Bytes.{number};
-ghost use Rattle.lib_models_memory.specs.Instances.{static};
+ghost use Rattle.lib_models_memory.specs.Instances.{static, automatic};
 ghost use Rattle.lib_models_memory.specs.Scalars.{integer};
-ghost use Rattle.lib_models_effects.specs.ScalarBytes.{scalar_bytes};
+ghost use Rattle.lib_models_effects.specs.ScalarBytes.{scalar_bytes, refilled};
 ghost use Rattle.lib_models_effects.specs.ObjectEffects.{blank_bytes, fresh, with_instance, all_of};
 ghost use Rattle.lib_models_effects.specs.UnitStarts as machine;
 ghost use Rattle.lib_models_effects.specs.Worlds.{goes};
@@ -132,6 +132,15 @@ fn put_stores(w: &mut World7, unit: &Checked, inst: u32, stores: &[StaticStore])
     Ok(())
 }
 
+// An instance of static storage, all zero, under the tags of leaves.
+fn enter_zeros(w: &mut World7, leaves: &[Leaf], size: u64) -> Result<u32, Halt>
+    ensures { ComesTo (λ (n : ℕ). n) (goes (next_instance (world_view w.old)) (with_instance (world_view w.old) (fresh static (all_of (number 0 no_labels) (blank_bytes w.old.memory.model leaves.now 0 size))))) result (world_view w.new) }
+{
+    let inst = enter(w, InstKind::Static, leaves, size)?;
+    w.memory.fill(inst, Content7::Number(0, unlabelled()));
+    Ok(inst)
+}
+
 // An object of static storage that is all zero.
 fn make_zeros(w: &mut World7, unit: &Checked, object: &StaticObject) -> Result<u32, Halt>
     requires model { is_model unit.now.model ≡ true }
@@ -139,8 +148,7 @@ fn make_zeros(w: &mut World7, unit: &Checked, object: &StaticObject) -> Result<u
     ensures { ComesTo (λ (n : ℕ). n) (goes (next_instance (world_view w.old)) (with_instance (world_view w.old) (fresh static (all_of (number 0 no_labels) (machine.typed_bytes (unit_view unit.now) (view object.now.ctype)))))) result (world_view w.new) }
 {
     let layout = layout_of(w.alloc, &object.ctype, &unit.structs, &unit.model)?;
-    let inst = enter(w, InstKind::Static, layout.leaves.as_slice(), layout.size)?;
-    w.memory.fill(inst, Content7::Number(0, unlabelled()));
+    let inst = enter_zeros(w, layout.leaves.as_slice(), layout.size)?;
     Ok(inst)
 }
 
@@ -151,7 +159,8 @@ pub fn make_object(w: &mut World7, unit: &Checked, object: &StaticObject) -> Res
     ensures { Leaves (with_instance (world_view w.old) (machine.static_instance (unit_view unit.now) (static_view object.now))) result (world_view w.new) }
 {
     let inst = make_zeros(w, unit, object)?;
-    put_stores(w, unit, inst, &object.stores)
+    put_stores(w, unit, inst, &object.stores)?;
+    Ok(())
 }
 
 /// How many bytes the instance of a literal has.
@@ -180,7 +189,8 @@ pub fn make_literal(w: &mut World7, literal: &StringLiteral) -> Result<(), Halt>
         Spot { inst, offset: 0 },
         size,
         literal.bytes.as_bytes(),
-    )
+    )?;
+    Ok(())
 }
 
 /// Makes an object of an integer type that holds a value.
@@ -190,7 +200,10 @@ pub fn make_input(
     size: u64,
     bytes: u8,
     value: &Value7,
-) -> Result<(), Halt> {
+) -> Result<(), Halt>
+    ensures { Leaves (with_instance (world_view w.old) (fresh automatic (refilled (blank_bytes w.old.memory.model leaves.now 0 size) 0 (scalar_bytes bytes (scalar_view value.now))))) result (world_view w.new) }
+{
     let inst = enter(w, InstKind::Automatic, leaves, size)?;
-    put_scalar(&mut w.memory, Spot { inst, offset: 0 }, bytes, value)
+    put_scalar(&mut w.memory, Spot { inst, offset: 0 }, bytes, value)?;
+    Ok(())
 }

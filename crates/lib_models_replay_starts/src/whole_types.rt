@@ -1,5 +1,6 @@
 //! Sizes and leaves of complete types.
-ghost use Rattle.std.specs.Prelude.{◌≡◌, true, IfOk};
+ghost use Rattle.std.specs.Prelude.{◌≡◌, true, IfOk, IfErr};
+ghost use Rattle.lib_models_replay.specs.declared.worlds.Halt.TheVariants as halt;
 ghost use Rattle.c_layout.specs.Models.{is_model, pointer_fits};
 ghost use Rattle.c_layout.specs.Types.{view};
 ghost use Rattle.c_layout.specs.StructViews.{structs_view};
@@ -72,6 +73,7 @@ pub fn layout_of(
     model: &Model,
 ) -> Result<TypeLayout, Halt>
     requires { is_model model.now ≡ true }
+    ensures memory { IfErr result (λ h. h ≡ halt.Memory) }
     ensures size { IfOk result (λ l. l.size ≡ size_of_type (structs_view structs.now) model.now.pointer (view t.now)) }
     ensures leaves { IfOk result (λ l. l.leaves.items ≡ leaves_of (structs_view structs.now) model.now.pointer (view t.now)) }
 {

@@ -9,7 +9,8 @@ use c_layout::Checked;
 use cc_base::{Diag, ordered_diagnostics};
 use lib_models_instances::Memory7;
 use lib_models_replay::World7;
-use lib_models_replay_starts::{InstanceSum, is_sound, start};
+use lib_models_replay_inputs::{InstanceSum, start};
+use lib_models_replay_starts::is_sound;
 use replay_run_machine::begin;
 use std::alloc::Global;
 

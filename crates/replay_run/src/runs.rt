@@ -6,7 +6,7 @@ use crate::outcomes::{End, ReplayStop};
 use c_layout::Checked;
 use cc_base::{Diag, Place};
 use lib_models_replay::{Cause, Halt, World7};
-use lib_models_replay_starts::{InstanceSum, StartStop};
+use lib_models_replay_inputs::{InstanceSum, StartStop};
 use replay_run_machine::{Machine, asked_bytes, next_item, turn};
 
 /// The most bytes that all instances have together.

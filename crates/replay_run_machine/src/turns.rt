@@ -14,7 +14,7 @@ use crate::operations::perform;
 use c_layout::{Checked, CheckedStatement, CheckedTerm, InitStore, ObjectRef};
 use cc_base::Place;
 use lib_models_replay::{Cause, Halt, World7, truth_value};
-use lib_models_replay_starts::entry_parameters;
+use lib_models_replay_inputs::entry_parameters;
 use replay_run_items::{
     Item7, Use7, Way7, push_address, push_body, push_item, push_loop, push_statement,
     push_statements, push_term,

@@ -19,8 +19,16 @@ pub struct InstanceSum {
 }
 
 impl InstanceSum {
+    ghost use Rattle.std.specs.Prelude.{◌≡◌, ◌+◌, ◌≤◌, IfOk, IfErr};
+    ghost use Rattle.lib_models_replay_inputs.specs.Sums.{PassesBy};
+
     /// Adds the size of an instance that is to be made, unless the sum would pass the limit.
-    pub fn add(&mut self, size: u128) -> Result<(), StartStop> {
+    pub fn add(&mut self, size: u128) -> Result<(), StartStop>
+        ensures limit { self.new.limit ≡ self.old.limit }
+        ensures added { IfOk result (λ _. self.new.bytes ≡ self.old.bytes + size) }
+        ensures within { IfOk result (λ _. self.new.bytes ≤ self.old.limit) }
+        ensures passes { IfErr result (PassesBy (self.old.bytes + size) self.old.limit) }
+    {
         let Some(sum) = size.checked_add(u128::from(self.bytes)) else {
             return Err(StartStop::Memory);
         };

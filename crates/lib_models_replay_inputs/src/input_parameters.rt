@@ -3,12 +3,11 @@ ghost use Rattle.std.specs.Prelude.{◌≡◌, true};
 ghost use Rattle.c_layout.specs.Models.{is_model};
 
 use crate::instance_sums::{InstanceSum, StartStop};
-use crate::static_objects::make_input;
-use crate::whole_types::layout_of;
 use c_layout::{CType, Checked, LocalObject};
 use cc_base::IntType;
 use lib_models_instances::{LabelSet, Value7};
 use lib_models_replay::{Cause, World7, has_size};
+use lib_models_replay_starts::{layout_of, make_input};
 
 // A number of a type from the outside.
 fn input(kind: IntType, number: i128) -> Value7 {

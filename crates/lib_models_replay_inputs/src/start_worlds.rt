@@ -4,10 +4,10 @@ ghost use Rattle.c_layout.specs.Models.{is_model};
 
 use crate::input_parameters::with_parameters;
 use crate::instance_sums::{InstanceSum, StartStop};
-use crate::static_objects::{literal_size, make_literal, make_object};
 use c_layout::{Checked, LocalObject};
 use flow_program::type_bytes;
 use lib_models_replay::World7;
+use lib_models_replay_starts::{literal_size, make_literal, make_object};
 
 fn make_objects(w: &mut World7, unit: &Checked, sum: &mut InstanceSum) -> Result<(), StartStop>
     requires { is_model unit.now.model ≡ true }
