@@ -3,3 +3,5 @@ pub mod ReadViews
 pub mod ItemViews
 pub mod Standings
 pub mod Choices
+pub mod LabelViews
+pub mod Jumps

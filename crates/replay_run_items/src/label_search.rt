@@ -1,4 +1,13 @@
 //! Where a label stands: what is left to do from there.
+ghost use Rattle.std.specs.Prelude.{◌≡◌, [], ◌∷◌, List, map, is_some, IfOk};
+ghost use Rattle.c_layout.specs.CheckedTrees.{statement_tree};
+ghost use Rattle.c_layout.specs.CheckedUnits.{UnitView, function_view};
+ghost use Rattle.ref_machine.specs.Items as machine;
+ghost use Rattle.ref_machine.specs.Items.{Item};
+ghost use Rattle.ref_machine.specs.LabelSearch as search;
+ghost use Rattle.replay_run_items.specs.LabelViews.{sought_view, looks_into_switches, Finds};
+ghost use Rattle.replay_run_items.specs.Standings.{standing};
+
 use crate::items::{Item7, Way7};
 use crate::statement_items::{push_do_test, push_for_step, push_statements, push_while_turn};
 use crate::store_items::push_item;
@@ -13,21 +22,27 @@ pub enum Sought7 {
     Other,
 }
 
-fn is_label(sought: Sought7, number: u32) -> bool {
+fn is_label(sought: Sought7, number: u32) -> bool
+    ensures { result ≡ search.is_label (sought_view sought) number }
+{
     match sought {
         Sought7::Label(n) => n == number,
         Sought7::Case(_) | Sought7::Other => false,
     }
 }
 
-fn is_case(sought: Sought7, number: u32) -> bool {
+fn is_case(sought: Sought7, number: u32) -> bool
+    ensures { result ≡ search.is_case (sought_view sought) number }
+{
     match sought {
         Sought7::Case(n) => n == number,
         Sought7::Label(_) | Sought7::Other => false,
     }
 }
 
-fn is_other(sought: Sought7) -> bool {
+fn is_other(sought: Sought7) -> bool
+    ensures { result ≡ search.is_other (sought_view sought) }
+{
     match sought {
         Sought7::Other => true,
         Sought7::Label(_) | Sought7::Case(_) => false,
@@ -35,7 +50,9 @@ fn is_other(sought: Sought7) -> bool {
 }
 
 // The labels of a switch do not stand in the switches in its body.
-fn looks_into_switches(sought: Sought7) -> bool {
+fn looks_into_switches(sought: Sought7) -> bool
+    ensures { result ≡ looks_into_switches (sought_view sought) }
+{
     match sought {
         Sought7::Label(_) => true,
         Sought7::Case(_) | Sought7::Other => false,
@@ -44,7 +61,9 @@ fn looks_into_switches(sought: Sought7) -> bool {
 
 // Whether a label stands in one of some statements.
 #[cycle(search)]
-fn is_in_any(sought: Sought7, statements: &[CheckedStatement]) -> bool {
+fn is_in_any(sought: Sought7, statements: &[CheckedStatement]) -> bool
+    ensures { (u : UnitView) (rest : List Item) → result ≡ is_some (search.found_among u (sought_view sought) (map statement_tree statements.now) rest) }
+{
     for statement in statements {
         if is_in(sought, statement) {
             return true;
@@ -55,7 +74,9 @@ fn is_in_any(sought: Sought7, statements: &[CheckedStatement]) -> bool {
 
 /// Whether a label stands in a statement.
 #[cycle(search)]
-pub fn is_in(sought: Sought7, statement: &CheckedStatement) -> bool {
+pub fn is_in(sought: Sought7, statement: &CheckedStatement) -> bool
+    ensures { (u : UnitView) (rest : List Item) → result ≡ is_some (search.found u (sought_view sought) (statement_tree statement.now) rest) }
+{
     match statement {
         CheckedStatement::Value(_) => false,
         CheckedStatement::Nothing => false,
@@ -85,7 +106,9 @@ pub fn is_in(sought: Sought7, statement: &CheckedStatement) -> bool {
 }
 
 /// Whether a label stands in the body of a function.
-pub fn has_label(function: &Function, label: u32) -> bool {
+pub fn has_label(function: &Function, label: u32) -> bool
+    ensures { (u : UnitView) → result ≡ is_some (search.from_label u (function_view function.now) label) }
+{
     is_in_any(Sought7::Label(label), function.body.as_slice())
 }
 
@@ -96,7 +119,9 @@ fn find_labelled<'a>(
     sought: Sought7,
     is_here: bool,
     body: &'a CheckedStatement,
-) -> Result<(), AllocError> {
+) -> Result<(), AllocError>
+    ensures { (u : UnitView) → IfOk result (λ _. Finds (search.here_or is_here (machine.Statement (statement_tree body.now) ∷ (standing u control.old.items).items) (search.found u (sought_view sought) (statement_tree body.now) (standing u control.old.items).items)) (standing u control.new.items).items) }
+{
     if is_here {
         push_item(control, Item7::Statement(Way7::Whole, body))
     } else {
@@ -109,7 +134,9 @@ fn find_in<'a>(
     control: &mut Vec<Item7<'a>>,
     sought: Sought7,
     statements: &'a [CheckedStatement],
-) -> Result<(), AllocError> {
+) -> Result<(), AllocError>
+    ensures { (u : UnitView) → IfOk result (λ _. Finds (search.found_among u (sought_view sought) (map statement_tree statements.now) (standing u control.old.items).items) (standing u control.new.items).items) }
+{
     let mut rest = statements;
     while let Some((statement, later)) = rest.split_first() {
         if is_in(sought, statement) {
@@ -128,7 +155,9 @@ pub fn find<'a>(
     control: &mut Vec<Item7<'a>>,
     sought: Sought7,
     statement: &'a CheckedStatement,
-) -> Result<(), AllocError> {
+) -> Result<(), AllocError>
+    ensures { (u : UnitView) → IfOk result (λ _. Finds (search.found u (sought_view sought) (statement_tree statement.now) (standing u control.old.items).items) (standing u control.new.items).items) }
+{
     match statement {
         CheckedStatement::Value(_) => Ok(()),
         CheckedStatement::Nothing => Ok(()),
@@ -190,14 +219,18 @@ pub fn find_label<'a>(
     control: &mut Vec<Item7<'a>>,
     function: &'a Function,
     label: u32,
-) -> Result<(), AllocError> {
+) -> Result<(), AllocError>
+    ensures { (u : UnitView) → (standing u control.old.items).items ≡ [] → IfOk result (λ _. Finds (search.from_label u (function_view function.now) label) (standing u control.new.items).items) }
+{
     push_item(control, Item7::EndBody)?;
     push_item(control, Item7::Leaves(function.scope.as_slice()))?;
     find_in(control, Sought7::Label(label), function.body.as_slice())
 }
 
 /// The label that a value selects: the case of that value.
-pub fn case_of(labels: &[CaseLabel], value: i128) -> Sought7 {
+pub fn case_of(labels: &[CaseLabel], value: i128) -> Sought7
+    ensures { sought_view result ≡ search.case_of labels.now 0 value }
+{
     for (n, label) in labels.iter().enumerate() {
         if label.value == value {
             return Sought7::Case(n as u32);

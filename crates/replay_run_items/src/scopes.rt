@@ -1,11 +1,21 @@
 //! The objects that live where items are come to, and what jumps leave and enter.
+ghost use Rattle.std.specs.Prelude.{◌≡◌, ◌++◌, map, IfOk};
+ghost use Rattle.c_layout.specs.CheckedUnits.{UnitView};
+ghost use Rattle.flow_lower_functions.specs.Functions.{numbers_from};
+ghost use Rattle.ref_machine.specs.Scopes as machine;
+ghost use Rattle.replay_run_items.specs.Jumps.{jump_from, entering_from};
+ghost use Rattle.replay_run_items.specs.Standings.{standing};
+
 use crate::items::Item7;
+use crate::store_items::push_item;
 use std::alloc::{AllocError, Global};
 
 // ---- scopes
 
 // Numbers from one on, so many.
-fn push_numbers(list: &mut Vec<u32>, from: u32, count: u32) -> Result<(), AllocError> {
+fn push_numbers(list: &mut Vec<u32>, from: u32, count: u32) -> Result<(), AllocError>
+    ensures { IfOk result (λ _. list.new.items ≡ list.old.items ++ numbers_from from count) }
+{
     for k in 0..count {
         match from.checked_add(k) {
             Some(number) => list.push(number)?,
@@ -16,7 +26,9 @@ fn push_numbers(list: &mut Vec<u32>, from: u32, count: u32) -> Result<(), AllocE
 }
 
 /// The scopes that are still left on the way to the end of the function, the innermost one first.
-pub fn open_scopes(alloc: Global, control: &[Item7]) -> Result<Vec<Vec<u32>>, AllocError> {
+pub fn open_scopes(alloc: Global, control: &[Item7]) -> Result<Vec<Vec<u32>>, AllocError>
+    ensures { (u : UnitView) → IfOk result (λ scopes. map (λ scope. scope.items) scopes.items ≡ machine.open_scopes (standing u control.now).items) }
+{
     let mut scopes = Vec::new(alloc);
     let mut is_leaving = false;
     for item in control.iter().rev() {
@@ -52,12 +64,16 @@ pub fn open_scopes(alloc: Global, control: &[Item7]) -> Result<Vec<Vec<u32>>, Al
 }
 
 // Whether one of the scopes has an object.
-fn is_open(scopes: &[Vec<u32>], object: u32) -> bool {
+fn is_open(scopes: &[Vec<u32>], object: u32) -> bool
+    ensures { result ≡ machine.is_in object (machine.all_of (map (λ scope. scope.items) scopes.now)) }
+{
     scopes.iter().any(|scope| scope.contains(&object))
 }
 
 // What lives at one place and not at another, innermost scope first.
-fn left_between(alloc: Global, from: &[Vec<u32>], to: &[Vec<u32>]) -> Result<Vec<u32>, AllocError> {
+fn left_between(alloc: Global, from: &[Vec<u32>], to: &[Vec<u32>]) -> Result<Vec<u32>, AllocError>
+    ensures { IfOk result (λ left. left.items ≡ machine.without (machine.all_of (map (λ scope. scope.items) to.now)) (machine.all_of (map (λ scope. scope.items) from.now))) }
+{
     let mut left = Vec::new(alloc);
     for scope in from.iter() {
         for object in scope.iter() {
@@ -74,7 +90,9 @@ fn entered_between(
     alloc: Global,
     from: &[Vec<u32>],
     to: &[Vec<u32>],
-) -> Result<Vec<u32>, AllocError> {
+) -> Result<Vec<u32>, AllocError>
+    ensures { IfOk result (λ entered. entered.items ≡ machine.without (machine.all_of (map (λ scope. scope.items) from.now)) (machine.inwards (map (λ scope. scope.items) to.now))) }
+{
     let mut entered = Vec::new(alloc);
     for scope in to.iter().rev() {
         for object in scope.iter() {
@@ -89,24 +107,28 @@ fn entered_between(
 // ---- jumps
 
 /// Objects that the item above enters or leaves.
-pub fn push_objects(control: &mut Vec<Item7>, objects: &[u32]) -> Result<(), AllocError> {
+pub fn push_objects(control: &mut Vec<Item7>, objects: &[u32]) -> Result<(), AllocError>
+    ensures { (u : UnitView) → IfOk result (λ _. ((standing u control.new.items).items ≡ (standing u control.old.items).items) × ((standing u control.new.items).objects ≡ objects.now ++ (standing u control.old.items).objects)) }
+{
     for object in objects.iter().rev() {
-        control.push(Item7::Also(*object))?;
+        push_item(control, Item7::Also(*object))?;
     }
     Ok(())
 }
 
 /// A jump from where some scopes are open to the items that are pushed: it leaves what is left and
 /// enters what is entered, and goes on there.
-pub fn jump(alloc: Global, control: &mut Vec<Item7>, from: &[Vec<u32>]) -> Result<(), AllocError> {
+pub fn jump(alloc: Global, control: &mut Vec<Item7>, from: &[Vec<u32>]) -> Result<(), AllocError>
+    ensures { (u : UnitView) → IfOk result (λ _. (standing u control.new.items).items ≡ jump_from (map (λ scope. scope.items) from.now) (standing u control.old.items).items) }
+{
     let to = open_scopes(alloc, control.as_slice())?;
     let entered = entered_between(alloc, from, to.as_slice())?;
     let left = left_between(alloc, from, to.as_slice())?;
-    control.push(Item7::Hop)?;
+    push_item(control, Item7::Hop)?;
     push_objects(control, entered.as_slice())?;
-    control.push(Item7::EntersBelow)?;
+    push_item(control, Item7::EntersBelow)?;
     push_objects(control, left.as_slice())?;
-    control.push(Item7::LeavesBelow)?;
+    push_item(control, Item7::LeavesBelow)?;
     Ok(())
 }
 
@@ -115,20 +137,24 @@ pub fn enter_first(
     alloc: Global,
     control: &mut Vec<Item7>,
     from: &[Vec<u32>],
-) -> Result<(), AllocError> {
+) -> Result<(), AllocError>
+    ensures { (u : UnitView) → IfOk result (λ _. (standing u control.new.items).items ≡ entering_from (map (λ scope. scope.items) from.now) (standing u control.old.items).items) }
+{
     let to = open_scopes(alloc, control.as_slice())?;
     let entered = entered_between(alloc, from, to.as_slice())?;
     if entered.is_empty() {
         return Ok(());
     }
-    control.push(Item7::Hop)?;
+    push_item(control, Item7::Hop)?;
     push_objects(control, entered.as_slice())?;
-    control.push(Item7::EntersBelow)?;
+    push_item(control, Item7::EntersBelow)?;
     Ok(())
 }
 
 /// What follows the end of the innermost loop or switch.
-pub fn drop_loop(control: &mut Vec<Item7>) {
+pub fn drop_loop(control: &mut Vec<Item7>)
+    ensures { (u : UnitView) → (standing u control.new.items).items ≡ machine.behind_loop (standing u control.old.items).items }
+{
     while let Some(item) = control.pop() {
         match item {
             Item7::LoopEnd => return,
@@ -138,7 +164,9 @@ pub fn drop_loop(control: &mut Vec<Item7>) {
 }
 
 /// What follows the end of the innermost loop's turn.
-pub fn drop_turn(control: &mut Vec<Item7>) {
+pub fn drop_turn(control: &mut Vec<Item7>)
+    ensures { (u : UnitView) → (standing u control.new.items).items ≡ machine.behind_turn (standing u control.old.items).items }
+{
     while let Some(item) = control.pop() {
         match item {
             Item7::TurnEnd => return,
