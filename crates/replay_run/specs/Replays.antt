@@ -58,8 +58,8 @@ pub record IsTooLarge (u : UnitView) (draws : List ℤ) (steps count limit : ℕ
   pub run : SourceRun
   pub replayed : Replayed u draws steps run
   pub large : is_large run ≡ true
-  pub count : count ≡ passing_from most_bytes 0 (world_of run).memory
-  pub limit : limit ≡ most_bytes
+  pub by_count : count ≡ passing_from most_bytes 0 (world_of run).memory
+  pub by_limit : limit ≡ most_bytes
 
 -- ---- no outcome
 
