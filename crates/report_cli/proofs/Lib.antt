@@ -1,6 +1,6 @@
 pub mod Telling
 pub mod Choosing
 pub mod Called
-pub mod Staging
 pub mod Gating
 pub mod Certified
+pub mod Running
