@@ -15,14 +15,14 @@ use Rattle.abstract_steps_laws.specs.ProgramLaws.{AreRising}
 use Rattle.abstract_steps_laws.specs.SystemLaws.{IsNearList}
 use Rattle.abstract_steps_laws.proofs.Systems.{system_monotone}
 use Rattle.abstract_steps_laws_programs.specs.Texts.{HasScalars}
-use Rattle.abstract_steps_laws_programs.specs.SimplePrograms.{IsSimple}
-use Rattle.abstract_steps_laws_programs.proofs.WellFormed.{laid_out, all_named}
+use Rattle.abstract_steps_laws_programs.specs.CopiedStructs.{CopiesSpread}
+use Rattle.abstract_steps_laws_programs.proofs.WellFormed.{well_made, laid_out, all_named}
 use Rattle.abstract_steps_laws_programs.proofs.Sites.{all_sites}
-use Rattle.abstract_steps_laws_programs.proofs.SimplePrograms.{simple_rises}
+use Rattle.abstract_steps_laws_programs.proofs.AllCalls.{all_rise}
 
 module _ (limits : Limits) (flow : Flow) (list : List ℤ) (h : is_well_formed limits flow ≡ true) (few : limits.pool < 2 ^ 64) (scalars : HasScalars flow) (near : IsNearList interval_lattice interval_numbers list) where
   pub rising_monotone : AreRising interval_lattice interval_numbers (program_bases (length flow.bases.items)) flow → IsMonotone (cell_lattice interval_lattice) (flow_machine interval_lattice interval_numbers flow list)
   rising_monotone rising = system_monotone interval_order interval_rounding interval_heights interval_bounding interval_monotone interval_ranges interval_ends flow list near (laid_out limits flow h few) (all_named limits flow h scalars) rising
 
-  pub simple_monotone : length flow.bases.items ≤ 1016 → IsSimple flow → IsMonotone (cell_lattice interval_lattice) (flow_machine interval_lattice interval_numbers flow list)
-  simple_monotone bases simple = rising_monotone (simple_rises interval_order interval_bounding interval_monotone interval_ranges (program_bases (length flow.bases.items)) flow (laid_out limits flow h few) (all_sites limits flow h bases) simple)
+  pub spread_monotone : length flow.bases.items ≤ 1016 → CopiesSpread flow → IsMonotone (cell_lattice interval_lattice) (flow_machine interval_lattice interval_numbers flow list)
+  spread_monotone bases spread = rising_monotone (all_rise interval_order interval_bounding interval_monotone interval_ranges (program_bases (length flow.bases.items)) flow (laid_out limits flow h few) (all_sites limits flow h bases) (well_made limits flow h).laid spread)

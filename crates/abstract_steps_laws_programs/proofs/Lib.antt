@@ -1,6 +1,9 @@
 pub mod WellFormed
 pub mod Sites
-pub mod SimplePrograms
+pub mod AllCalls
 pub mod NearLists
 pub mod NearPrograms
 pub mod IntervalSystems
+pub mod RegularPrograms
+pub mod RegularSystems
+pub mod ProgramRows

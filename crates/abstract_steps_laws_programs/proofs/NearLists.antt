@@ -154,7 +154,7 @@ both_ways a c h k = grind (arith, ints)
 
 -- ---- lists from -2^64 to 2^64 with 0 and 2^64
 
-round_stays : (list : List ℤ) → Has list (pos 0) → Has list (pos (2 ^ 64)) → (x : Interval) → x ≡ between_or_empty (pos 0) (pos (2 ^ 64)) → interval_leq (interval_round list x) x ≡ true
+pub round_stays : (list : List ℤ) → Has list (pos 0) → Has list (pos (2 ^ 64)) → (x : Interval) → x ≡ between_or_empty (pos 0) (pos (2 ^ 64)) → interval_leq (interval_round list x) x ≡ true
 round_stays list z e x p = subst (λ y. interval_leq (interval_round list y) y ≡ true) (sym p) (by_between (λ y. interval_leq (interval_round list y) y ≡ true) (pos 0) (pos (2 ^ 64))
     (λ o. and_from _ _ (le_same (round_down list (pos 0)) (pos 0) (rounded_member le_order list (pos 0) z)) (le_alike (round_up list (pos (2 ^ 64))) (pos (2 ^ 64)) (rounded_member ge_order list (pos (2 ^ 64)) e)))
     (λ o. refl))

@@ -4,6 +4,7 @@
 mod theorems;
 
 pub use theorems::{
-    simple_programs_are_monotone, systems_of_intervals_are_monotone, thresholds_are_near,
-    well_formed_programs_are_laid_out, well_formed_programs_are_monotone,
+    edges_leave_program_rows, programs_are_monotone, regular_programs_are_monotone,
+    systems_of_intervals_are_monotone, thresholds_are_near, well_formed_programs_are_laid_out,
+    well_formed_programs_are_monotone,
 };

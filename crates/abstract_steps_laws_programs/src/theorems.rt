@@ -1,6 +1,6 @@
 //! Well-formed programs meet the premises of the laws of their steps, so the systems of those whose library calls and copies
 //! of structs grow with the row are monotone.
-ghost use Rattle.std.specs.Prelude.{◌≡◌, ◌≤◌, ◌<◌, ◌^◌, ℤ, true, List, length};
+ghost use Rattle.std.specs.Prelude.{◌≡◌, ◌≤◌, ◌<◌, ◌^◌, ℕ, ℤ, true, Some, List, length};
 ghost use Rattle.cc_base.specs.IntegerLaws.{MonotoneLaws};
 ghost use Rattle.cc_base.specs.Machine.{IsMonotone};
 ghost use Rattle.cc_base.specs.Ascending.{is_ascending};
@@ -13,14 +13,19 @@ ghost use Rattle.flow_program.specs.StructNumbers.{flow_numbers};
 ghost use Rattle.flow_program.specs.ThresholdNumbers.{limits_of};
 ghost use Rattle.flow_program.specs.declared.programs.Flow.{Flow};
 ghost use Rattle.value_domain.specs.Cells.{cell_lattice};
-ghost use Rattle.abstract_steps_rows.specs.OwnRows.{program_bases};
+ghost use Rattle.value_domain.specs.declared.row_cells.Cell.{Cell};
+ghost use Rattle.abstract_steps_rows.specs.OwnRows.{program_bases, reach_of, is_own_row};
+ghost use Rattle.abstract_steps_rows.specs.FittedRows.{row_fit};
+ghost use Rattle.abstract_steps_system.specs.BlockPasses.{edge_end};
 ghost use Rattle.abstract_steps_system.specs.FlowMachines.{flow_machine};
 ghost use Rattle.abstract_steps_laws_values.specs.LaidOut.{IsLaidOut};
-ghost use Rattle.abstract_steps_laws.specs.ProgramLaws.{AreRising};
+ghost use Rattle.abstract_steps_laws.specs.ProgramLaws.{IsNamed, AreRising};
 ghost use Rattle.abstract_steps_laws.specs.SystemLaws.{IsNearList};
 ghost use Rattle.abstract_steps_laws_programs.specs.Texts.{HasScalars};
-ghost use Rattle.abstract_steps_laws_programs.specs.SimplePrograms.{IsSimple};
 ghost use Rattle.abstract_steps_laws_programs.specs.NearNumbers.{HasNearMembers};
+ghost use Rattle.abstract_steps_laws_programs.specs.CopiedStructs.{CopiesSpread};
+ghost use Rattle.abstract_steps_laws_programs.specs.RegularPrograms.{is_regular};
+ghost use Rattle.abstract_steps_laws_programs.specs.ProgramRows.{IsProgramRow, AreCut};
 
 use abstract_steps_rows::Bounded;
 
@@ -35,11 +40,9 @@ pub fn well_formed_programs_are_monotone<I: Bounded>()
     ensures { MonotoneLaws I.lattice I.numbers → (limits : Limits) (flow : Flow) (list : List ℤ) → is_well_formed limits flow ≡ true → limits.pool < 2 ^ 64 → HasScalars flow → IsNearList I.lattice I.numbers list → AreRising I.lattice I.numbers (program_bases (length flow.bases.items)) flow → IsMonotone (cell_lattice I.lattice) (flow_machine I.lattice I.numbers flow list) }
 {}
 
-/// The system of a well-formed program is monotone where the program copies no structs and calls no functions of the library
-/// but `malloc`, `calloc`, `realloc`, `free`, those that end the program, `getchar`, `putchar`, `puts`, `printf`, `strlen`,
-/// `strcmp` and those on characters.
-pub fn simple_programs_are_monotone<I: Bounded>()
-    ensures { MonotoneLaws I.lattice I.numbers → (limits : Limits) (flow : Flow) (list : List ℤ) → is_well_formed limits flow ≡ true → limits.pool < 2 ^ 64 → length flow.bases.items ≤ 1016 → HasScalars flow → IsSimple flow → IsNearList I.lattice I.numbers list → IsMonotone (cell_lattice I.lattice) (flow_machine I.lattice I.numbers flow list) }
+/// The system of every well-formed program is monotone, where the leaves of the structs that it copies share no bytes.
+pub fn programs_are_monotone<I: Bounded>()
+    ensures { MonotoneLaws I.lattice I.numbers → (limits : Limits) (flow : Flow) (list : List ℤ) → is_well_formed limits flow ≡ true → limits.pool < 2 ^ 64 → length flow.bases.items ≤ 1016 → HasScalars flow → IsNearList I.lattice I.numbers list → CopiesSpread flow → IsMonotone (cell_lattice I.lattice) (flow_machine I.lattice I.numbers flow list) }
 {}
 
 /// The thresholds of a well-formed program go from a number that is not below -2^64 up to 2^64 and have 0, so rows of intervals
@@ -49,8 +52,20 @@ pub fn thresholds_are_near()
 {}
 
 /// The system over intervals is monotone, of a well-formed program whose library calls and copies of structs grow with the
-/// row, and so of one that has no copies and only such calls as simple programs have.
+/// row, and so of one where the leaves of the structs that it copies share no bytes.
 pub fn systems_of_intervals_are_monotone()
     ensures programs { (limits : Limits) (flow : Flow) (list : List ℤ) → is_well_formed limits flow ≡ true → limits.pool < 2 ^ 64 → HasScalars flow → IsNearList interval_lattice interval_numbers list → AreRising interval_lattice interval_numbers (program_bases (length flow.bases.items)) flow → IsMonotone (cell_lattice interval_lattice) (flow_machine interval_lattice interval_numbers flow list) }
-    ensures simple { (limits : Limits) (flow : Flow) (list : List ℤ) → is_well_formed limits flow ≡ true → limits.pool < 2 ^ 64 → length flow.bases.items ≤ 1016 → HasScalars flow → IsSimple flow → IsNearList interval_lattice interval_numbers list → IsMonotone (cell_lattice interval_lattice) (flow_machine interval_lattice interval_numbers flow list) }
+    ensures spread { (limits : Limits) (flow : Flow) (list : List ℤ) → is_well_formed limits flow ≡ true → limits.pool < 2 ^ 64 → length flow.bases.items ≤ 1016 → HasScalars flow → IsNearList interval_lattice interval_numbers list → CopiesSpread flow → IsMonotone (cell_lattice interval_lattice) (flow_machine interval_lattice interval_numbers flow list) }
+{}
+
+/// The system over intervals of a regular program and list is monotone, under the same premise.
+pub fn regular_programs_are_monotone()
+    ensures { (flow : Flow) (list : List ℤ) → is_regular flow list ≡ true → CopiesSpread flow → IsMonotone (cell_lattice interval_lattice) (flow_machine interval_lattice interval_numbers flow list) }
+{}
+
+/// What edges leave of own rows is of the program's cells, with bounds from -2^64 to 2^64 and pointers into its bases; and the
+/// fit to own rows leaves such a row as it is, where numbers lie between the ends of the list and offsets are counts.
+pub fn edges_leave_program_rows<I: Bounded>()
+    ensures left { MonotoneLaws I.lattice I.numbers → (flow : Flow) (list : List ℤ) → IsNearList I.lattice I.numbers list → IsLaidOut (program_bases (length flow.bases.items)) flow → IsNamed flow → AreRising I.lattice I.numbers (program_bases (length flow.bases.items)) flow → (block number : ℕ) (row left : List (Cell I)) → is_own_row I.lattice I.numbers list flow.bases.items flow.width row ≡ true → edge_end I.lattice I.numbers flow block number row ≡ Some left → IsProgramRow I.lattice I.numbers flow left }
+    ensures kept { MonotoneLaws I.lattice I.numbers → (flow : Flow) (list : List ℤ) → IsNearList I.lattice I.numbers list → IsLaidOut (program_bases (length flow.bases.items)) flow → (row : List (Cell I)) → IsProgramRow I.lattice I.numbers flow row → AreCut I.lattice list (reach_of I.lattice I.numbers list (length flow.bases.items)) row → row_fit I.lattice I.numbers list flow.bases.items flow.width row ≡ row }
 {}

@@ -1,4 +1,4 @@
--- What a map of the system admits is an analysis of its program.
+-- What the least map of a regular program's system admits is an analysis of the program.
 use Rattle.std.specs.Prelude.{◌≡◌, ℤ, true, List, Option, Result, Ok, Err, IfOk}
 use Rattle.std.proofs.Common.{subst}
 use Rattle.cc_base.specs.DiagnosticOrder.{IsOrderedSet}
@@ -11,6 +11,9 @@ use Rattle.interval_domain.specs.declared.intervals.Interval.{Interval}
 use Rattle.interval_domain.specs.IntervalLattice.{interval_lattice}
 use Rattle.interval_domain.specs.IntervalNumbers.{interval_numbers}
 use Rattle.abstract_steps_system.specs.FlowMachines.{has_start}
+use Rattle.abstract_steps_laws_programs.specs.RegularPrograms.{is_regular}
+use Rattle.abstract_steps_laws_programs.proofs.RegularSystems.{regular_monotone}
+use Rattle.rule_checks_laws.proofs.LeastMaps.{regular_admits_least}
 use Rattle.flow_analysis.specs.Analyses.{row_lattice, machine_of, admitted_pairs, IsAnalysis}
 
 -- a map of a program's system with numbers of a list
@@ -22,6 +25,19 @@ pub solved_as : (flow flow' : Flow) (list list' : List ℤ) (rows : List (Option
 solved_as flow flow' list list' rows e f i l =
     subst (λ z. IsSolved flow' z rows) f (subst (λ z. IsSolved z list rows) e (record { inductive = i; least = l }))
 
-pub analysed : {V E : Type 0} (items : V → List Diag) (flow : Flow) (list : List ℤ) (rows : List (Option (List (Cell Interval)))) → has_start interval_lattice interval_numbers flow ≡ true → IsSolved flow list rows → (result : Result V E) → IfOk result (λ v. IsOrderedSet (admitted_pairs flow rows) (items v)) → IfOk result (λ v. IsAnalysis flow list (items v))
-analysed items flow list rows start s (Ok v) h = record { rows = rows; started = start; inductive = s.inductive; least = s.least; admitted = h }
-analysed items flow list rows start s (Err e) h = tt
+module _ (flow : Flow) (list : List ℤ) (rows : List (Option (List (Cell Interval)))) (start : has_start interval_lattice interval_numbers flow ≡ true) (regular : is_regular flow list ≡ true) (s : IsSolved flow list rows) where
+  analysis_of : (found : List Diag) → IsOrderedSet (admitted_pairs flow rows) found → IsAnalysis flow list found
+  analysis_of found h = record {
+    started = start;
+    regular = regular;
+    rows = rows;
+    inductive = s.inductive;
+    least = λ spread. s.least (regular_monotone flow list regular spread);
+    ascending = h.ascending;
+    kept = λ d e. h.kept d (e rows s.inductive);
+    made = λ spread d e other p. regular_admits_least flow list regular spread rows other s.inductive (s.least (regular_monotone flow list regular spread)) p d (h.made d e);
+  }
+
+  pub analysed : {V E : Type 0} (items : V → List Diag) (result : Result V E) → IfOk result (λ v. IsOrderedSet (admitted_pairs flow rows) (items v)) → IfOk result (λ v. IsAnalysis flow list (items v))
+  analysed items (Ok v) h = analysis_of (items v) h
+  analysed items (Err e) h = tt

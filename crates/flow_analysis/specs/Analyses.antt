@@ -1,8 +1,9 @@
 -- What the analysis of a control-flow program finds.
-use Rattle.std.specs.Prelude.{◌≡◌, ℤ, true, List, Option}
-use Rattle.cc_base.specs.DiagnosticOrder.{IsOrderedSet}
+use Rattle.std.specs.Prelude.{◌≡◌, ℤ, true, List, Option, Contains}
+use Rattle.std.specs.List.Sorted.{IsStrictlySortedBy}
+use Rattle.cc_base.specs.DiagnosticOrder.{diagnostic_compare}
 use Rattle.cc_base.specs.Lattices.{LatticeOf}
-use Rattle.cc_base.specs.Machine.{Machine, IsMonotone}
+use Rattle.cc_base.specs.Machine.{Machine}
 use Rattle.cc_base.specs.InductiveMap.{IsInductive, IsLeast}
 use Rattle.cc_base.specs.declared.diagnostics.Diag.{Diag}
 use Rattle.flow_program.specs.declared.programs.Flow.{Flow}
@@ -12,6 +13,8 @@ use Rattle.interval_domain.specs.declared.intervals.Interval.{Interval}
 use Rattle.interval_domain.specs.IntervalLattice.{interval_lattice}
 use Rattle.interval_domain.specs.IntervalNumbers.{interval_numbers}
 use Rattle.abstract_steps_system.specs.FlowMachines.{flow_machine, has_start}
+use Rattle.abstract_steps_laws_programs.specs.CopiedStructs.{CopiesSpread}
+use Rattle.abstract_steps_laws_programs.specs.RegularPrograms.{is_regular}
 use Rattle.rule_checks.specs.AdmittedRules.{map_pairs}
 
 -- the lattice of a row's cells
@@ -26,12 +29,19 @@ machine_of flow list = flow_machine interval_lattice interval_numbers flow list
 abbrev pub admitted_pairs : Flow → List (Option (List (Cell Interval))) → List Diag
 admitted_pairs flow rows = map_pairs interval_lattice interval_numbers flow rows
 
--- the diagnostics are those that some inductive map of the program admits, in order and each once; the least one where each edge makes
--- more of more
+-- every inductive map of the program's system admits the pair
+abbrev pub IsAdmitted : Flow → List ℤ → Diag → Type 0
+IsAdmitted flow list d = (rows : List (Option (List (Cell Interval)))) → IsInductive row_lattice (machine_of flow list) rows → Contains (admitted_pairs flow rows) d
+
+-- the diagnostics are just the pairs that every inductive map of the program's system admits, in order and each once
 pub record IsAnalysis (flow : Flow) (list : List ℤ) (found : List Diag) : Type 0 where
-  pub rows : List (Option (List (Cell Interval)))
-  -- there is a row of the entry
+  -- there is a row of the entry, and rows of the program are cut in order
   pub started : has_start interval_lattice interval_numbers flow ≡ true
+  pub regular : is_regular flow list ≡ true
+  -- the least inductive map, where the leaves of the structs that the program copies share no bytes
+  pub rows : List (Option (List (Cell Interval)))
   pub inductive : IsInductive row_lattice (machine_of flow list) rows
-  pub least : IsMonotone row_lattice (machine_of flow list) → IsLeast row_lattice (machine_of flow list) rows
-  pub admitted : IsOrderedSet (admitted_pairs flow rows) found
+  pub least : CopiesSpread flow → IsLeast row_lattice (machine_of flow list) rows
+  pub ascending : IsStrictlySortedBy diagnostic_compare found
+  pub kept : (d : Diag) → IsAdmitted flow list d → Contains found d
+  pub made : CopiesSpread flow → (d : Diag) → Contains found d → IsAdmitted flow list d

@@ -1,7 +1,8 @@
-//! The analysis of a control-flow program: the rules that it may break, by an inductive map of its
-//! system.
+//! The analysis of a control-flow program: the rules that it may break, by the least inductive map of
+//! its system.
 #![tactic(auto)]
 
 mod program_analysis;
+mod regular_programs;
 
 pub use program_analysis::{analyse, analyse_counted};

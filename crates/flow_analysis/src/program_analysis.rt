@@ -6,9 +6,11 @@ ghost use Rattle.interval_domain.specs.IntervalLattice.{interval_lattice};
 ghost use Rattle.interval_domain.specs.IntervalNumbers.{interval_numbers};
 ghost use Rattle.abstract_steps_system.specs.SystemChecks.{is_system};
 ghost use Rattle.abstract_steps_system.specs.FlowMachines.{has_start};
+ghost use Rattle.abstract_steps_laws_programs.specs.RegularPrograms.{is_regular};
 ghost use Rattle.flow_analysis.specs.Analyses.{IsAnalysis};
 ghost use Rattle.flow_analysis.specs.StepBounds.{most_edges};
 
+use crate::regular_programs::is_regular;
 use abstract_steps_system::{FlowSystem, has_start, is_system, system};
 use cc_base::{Diag, Lattice, Memory, Steps, System, Thresholds};
 use fixpoint_engine::{drop_map, new_map, release, solve};
@@ -32,6 +34,7 @@ fn found_by<L: Ledger>(
 ) -> Result<Vec<Diag>, Memory>
     requires valid { is_system flow.now ≡ true }
     requires started { has_start interval_lattice interval_numbers flow.now ≡ true }
+    requires regular { is_regular flow.now list.now ≡ true }
     requires width { pool.old.width ≡ flow.now.width }
     requires vacant { map.old ≡ replicate (length flow.now.blocks.items) None }
     requires room { length flow.now.blocks.items + 2 ≤ free_count pool.old }
@@ -55,7 +58,7 @@ fn starts(alloc: Global, flow: &Flow) -> Result<bool, Memory>
 }
 
 /// The pairs that a program may break whose blocks and edges make a system and whose static
-/// initializers have their places.
+/// initializers have their places, where it is regular.
 #[tactic(auto, using(crate::specs::Counts::few_blocks))]
 fn found_in<L: Ledger>(
     alloc: Global,
@@ -65,6 +68,7 @@ fn found_in<L: Ledger>(
 ) -> Result<Vec<Diag>, Memory>
     requires valid { is_system flow.now ≡ true }
     requires started { has_start interval_lattice interval_numbers flow.now ≡ true }
+    requires regular { is_regular flow.now list.now ≡ true }
     ensures followed { steps.new ≤ steps.old + most_edges flow.now (length list.now) }
     ensures found { IfOk result (λ found. IsAnalysis flow.now list.now found.items) }
 {
@@ -91,7 +95,7 @@ pub fn analyse_counted<L: Ledger>(
     ensures followed { steps.new ≤ steps.old + most_edges flow.now (length list.now) }
     ensures found { IfOk result (λ found. IsAnalysis flow.now list.now found.items) }
 {
-    if is_system(flow) && starts(alloc, flow)? {
+    if is_system(flow) && (starts(alloc, flow)? && is_regular(alloc, flow, list)?) {
         found_in(alloc, flow, list, steps)
     } else {
         Err(Memory)
@@ -114,13 +118,16 @@ fn analysed_from<L: Ledger>(
     analyse_counted(alloc, flow, list, &mut steps)
 }
 
-/// The pairs of place and rule that the program may break, with intervals whose bounds are rounded to
-/// the numbers of a list at heads: in order of places and then of rules, each once.
+/// The pairs of place and rule that the program may break: just those that every inductive map of its
+/// system admits, with intervals whose bounds are rounded to the numbers of a list at heads; in order
+/// of places and then of rules, each once.
 ///
 /// # Errors
 ///
-/// Out of memory, and a program whose blocks and edges make no system or with a static initializer
-/// that has no place.
+/// Out of memory, to which come a program that is not well formed within the limits of the product, or
+/// whose blocks and edges make no system; one with a static initializer that has no place, a text of
+/// other characters than bytes, or a test that names an object without a leaf; and a list that does
+/// not go from a number from -2^64 to 0 up to 2^64, or has no 0.
 pub fn analyse(alloc: Global, flow: &Flow, list: &Thresholds) -> Result<Vec<Diag>, Memory>
     ensures found { IfOk result (λ found. IsAnalysis flow.now list.now found.items) }
 {

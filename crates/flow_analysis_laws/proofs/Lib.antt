@@ -1,1 +1,4 @@
+pub mod OrderedSets
 pub mod LeastAnalyses
+pub mod CountedSteps
+mod WrongTables

@@ -1,1 +1,2 @@
 pub mod LeastAnalyses
+pub mod CountedSteps

@@ -3,4 +3,6 @@
 
 mod theorems;
 
-pub use theorems::analyses_are_least;
+pub use theorems::{
+    analyses_are_least, least_maps_are_exact, steps_are_counted, two_solvers_agree,
+};

@@ -1,23 +1,38 @@
-//! An analysis is by the least inductive map, where the program's library calls and copies of structs grow with the row.
-ghost use Rattle.std.specs.Prelude.{◌≡◌, ◌<◌, ◌^◌, ◌≤◌, ℤ, true, List, length};
+//! The answer of an analysis is that of the least inductive map, whoever finds it.
+ghost use Rattle.std.specs.Prelude.{◌≡◌, ◌<◌, ◌^◌, ◌≤◌, ◌*◌, ℕ, ℤ, true, List, Option, length};
 ghost use Rattle.cc_base.specs.declared.diagnostics.Diag.{Diag};
 ghost use Rattle.cc_base.specs.declared.limit_table.Limits.{Limits};
 ghost use Rattle.flow_program.specs.WellFormed.{is_well_formed};
 ghost use Rattle.flow_program.specs.declared.programs.Flow.{Flow};
-ghost use Rattle.interval_domain.specs.IntervalLattice.{interval_lattice};
-ghost use Rattle.interval_domain.specs.IntervalNumbers.{interval_numbers};
-ghost use Rattle.abstract_steps_rows.specs.OwnRows.{program_bases};
-ghost use Rattle.abstract_steps_laws.specs.ProgramLaws.{AreRising};
-ghost use Rattle.abstract_steps_laws.specs.SystemLaws.{IsNearList};
-ghost use Rattle.abstract_steps_laws_programs.specs.SimplePrograms.{IsSimple};
-ghost use Rattle.abstract_steps_laws_programs.specs.Texts.{HasScalars};
+ghost use Rattle.interval_domain.specs.declared.intervals.Interval.{Interval};
+ghost use Rattle.value_domain.specs.declared.row_cells.Cell.{Cell};
+ghost use Rattle.abstract_steps_laws_programs.specs.RegularPrograms.{is_regular};
+ghost use Rattle.abstract_steps_laws_programs.specs.CopiedStructs.{CopiesSpread};
 ghost use Rattle.flow_analysis.specs.Analyses.{IsAnalysis};
-ghost use Rattle.flow_analysis_laws.specs.LeastAnalyses.{IsLeastAnalysis};
+ghost use Rattle.flow_analysis.specs.StepBounds.{most_edges};
+ghost use Rattle.flow_analysis_laws.specs.CountedSteps.{visits};
+ghost use Rattle.flow_analysis_laws.specs.LeastAnalyses.{IsLeastMap, IsLeastAnalysis, AdmitsExactly, AreAlike};
 
-/// The map of an analysis of a well-formed program is the least inductive one, and each diagnostic is one that each inductive
-/// map admits: of a program whose library calls and copies of structs grow with the row, and so of one that has no copies and
-/// only such calls as simple programs have.
+/// The map of an analysis is the least inductive one, and each diagnostic is one that each inductive map admits, where the
+/// leaves of the structs that the program copies share no bytes.
 pub fn analyses_are_least()
-    ensures programs { (limits : Limits) (flow : Flow) (list : List ℤ) → is_well_formed limits flow ≡ true → limits.pool < 2 ^ 64 → HasScalars flow → IsNearList interval_lattice interval_numbers list → AreRising interval_lattice interval_numbers (program_bases (length flow.bases.items)) flow → (found : List Diag) (a : IsAnalysis flow list found) → IsLeastAnalysis flow list found a.rows }
-    ensures simple { (limits : Limits) (flow : Flow) (list : List ℤ) → is_well_formed limits flow ≡ true → limits.pool < 2 ^ 64 → HasScalars flow → IsNearList interval_lattice interval_numbers list → length flow.bases.items ≤ 1016 → IsSimple flow → (found : List Diag) (a : IsAnalysis flow list found) → IsLeastAnalysis flow list found a.rows }
+    ensures { (flow : Flow) (list : List ℤ) → CopiesSpread flow → (found : List Diag) (a : IsAnalysis flow list found) → IsLeastAnalysis flow list found a.rows }
+{}
+
+/// What the least inductive map of a regular program admits is just what every inductive map admits.
+pub fn least_maps_are_exact()
+    ensures { (flow : Flow) (list : List ℤ) → is_regular flow list ≡ true → CopiesSpread flow → (rows : List (Option (List (Cell Interval)))) → IsLeastMap flow list rows → AdmitsExactly flow list rows }
+{}
+
+/// Two least inductive maps of a system have the same rows and admit the same pairs, and two analyses of a program with the
+/// numbers of one list give the same diagnostics.
+pub fn two_solvers_agree()
+    ensures maps { (flow : Flow) (list : List ℤ) (rows other : List (Option (List (Cell Interval)))) → IsLeastMap flow list rows → IsLeastMap flow list other → AreAlike flow rows other }
+    ensures answers { (flow : Flow) (list : List ℤ) → CopiesSpread flow → (found other : List Diag) → IsAnalysis flow list found → IsAnalysis flow list other → found ≡ other }
+{}
+
+/// An analysis of a well-formed program follows at most so many edges as its edges, heads, cells and temporaries, first zeros,
+/// allocation states and bases and the numbers of the list call for.
+pub fn steps_are_counted()
+    ensures { (limits : Limits) (flow : Flow) (numbers : ℕ) → is_well_formed limits flow ≡ true → limits.pool < 2 ^ 64 → most_edges flow numbers ≡ length flow.edges.items * visits flow numbers }
 {}

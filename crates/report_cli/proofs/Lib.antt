@@ -4,3 +4,4 @@ pub mod Called
 pub mod Staging
 pub mod Gating
 pub mod Certified
+pub mod Judged

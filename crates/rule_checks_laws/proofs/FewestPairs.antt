@@ -42,16 +42,16 @@ In (x ∷ xs) d = (x ≡ d) ⊎ In xs d
 abbrev pub AreIn : List Diag → List Diag → Type 0
 AreIn xs ys = (d : Diag) → In xs d → In ys d
 
-in_left : (xs ys : List Diag) (d : Diag) → In xs d → In (xs ++ ys) d
+pub in_left : (xs ys : List Diag) (d : Diag) → In xs d → In (xs ++ ys) d
 in_left [] ys d h = absurd h
 in_left (x ∷ xs) ys d (inl e) = inl e
 in_left (x ∷ xs) ys d (inr e) = inr (in_left xs ys d e)
 
-in_right : (xs ys : List Diag) (d : Diag) → In ys d → In (xs ++ ys) d
+pub in_right : (xs ys : List Diag) (d : Diag) → In ys d → In (xs ++ ys) d
 in_right [] ys d h = h
 in_right (x ∷ xs) ys d h = inr (in_right xs ys d h)
 
-in_either : (xs ys : List Diag) (d : Diag) → In (xs ++ ys) d → In xs d ⊎ In ys d
+pub in_either : (xs ys : List Diag) (d : Diag) → In (xs ++ ys) d → In xs d ⊎ In ys d
 in_either [] ys d h = inr h
 in_either (x ∷ xs) ys d (inl e) = inl (inl e)
 in_either (x ∷ xs) ys d (inr e) = elim (in_either xs ys d e) [ inl p ↦ inl (inr p) | inr p ↦ inr p ]

@@ -1,6 +1,7 @@
 -- What the least inductive maps of well-formed programs admit.
-use Rattle.std.specs.Prelude.{◌≡◌, ◌^◌, ◌≤◌, ◌<◌, ℤ, true, List, length}
-use Rattle.std.proofs.Common.{sym, ◌∙◌}
+use Rattle.std.specs.Prelude.{◌≡◌, ◌^◌, ◌<◌, ℤ, true, List, length}
+use Rattle.std.proofs.Common.{arith, sym, ◌∙◌}
+use Rattle.cc_base.specs.Standard.{standard_limits}
 use Rattle.cc_base.specs.declared.limit_table.Limits.{Limits}
 use Rattle.flow_program.specs.WellFormed.{is_well_formed}
 use Rattle.flow_program.specs.declared.programs.Flow.{Flow}
@@ -13,10 +14,11 @@ use Rattle.rule_checks.specs.AdmittedRules.{map_pairs}
 use Rattle.abstract_steps_laws.specs.ProgramLaws.{AreRising}
 use Rattle.abstract_steps_laws.specs.SystemLaws.{IsNearList}
 use Rattle.abstract_steps_laws_programs.specs.Texts.{HasScalars}
-use Rattle.abstract_steps_laws_programs.specs.SimplePrograms.{IsSimple}
+use Rattle.abstract_steps_laws_programs.specs.CopiedStructs.{CopiesSpread}
+use Rattle.abstract_steps_laws_programs.specs.RegularPrograms.{is_regular}
 use Rattle.abstract_steps_laws_programs.proofs.WellFormed.{laid_out, all_named}
-use Rattle.abstract_steps_laws_programs.proofs.Sites.{all_sites}
-use Rattle.abstract_steps_laws_programs.proofs.SimplePrograms.{simple_rises}
+use Rattle.abstract_steps_laws_programs.proofs.RegularSystems.{regular_rising}
+use Rattle.abstract_steps_laws_programs.proofs.RegularPrograms.{regular_of}
 use Rattle.rule_checks_laws.specs.LeastMaps.{AdmitsLeast}
 use Rattle.rule_checks_laws.proofs.FewestPairs.{in_from, contains_in, map_more}
 
@@ -27,5 +29,7 @@ module _ (limits : Limits) (flow : Flow) (list : List ℤ) (h : is_well_formed l
       rows other (p.size ∙ sym q.size) (λ at. p.own at) (λ at. q.own at) (λ at. least other q at) d
       (in_from (map_pairs interval_lattice interval_numbers flow rows) d e))
 
-  pub simple_admits_least : length flow.bases.items ≤ 1016 → IsSimple flow → AdmitsLeast flow list
-  simple_admits_least bases simple = admits_least (simple_rises interval_order interval_bounding interval_monotone interval_ranges (program_bases (length flow.bases.items)) flow (laid_out limits flow h few) (all_sites limits flow h bases) simple)
+pub regular_admits_least : (flow : Flow) (list : List ℤ) → is_regular flow list ≡ true → CopiesSpread flow → AdmitsLeast flow list
+regular_admits_least flow list h spread =
+    let p = regular_of flow list h in
+    admits_least standard_limits flow list p.well_formed (omega arith) p.scalars p.near (regular_rising flow list h spread)

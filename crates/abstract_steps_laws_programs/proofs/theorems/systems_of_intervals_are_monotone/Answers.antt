@@ -1,8 +1,8 @@
-use Rattle.abstract_steps_laws_programs.proofs.IntervalSystems.{rising_monotone, simple_monotone}
+use Rattle.abstract_steps_laws_programs.proofs.IntervalSystems.{rising_monotone, spread_monotone}
 use Rattle.abstract_steps_laws_programs.proofs.theorems.systems_of_intervals_are_monotone.Goals as goal
 
 pub returns : goal.returns
 returns c = record {
   programs = λ limits flow list h few scalars near rising. rising_monotone limits flow list h few scalars near rising;
-  simple = λ limits flow list h few bases scalars simple near. simple_monotone limits flow list h few scalars near bases simple;
+  spread = λ limits flow list h few bases scalars near spread. spread_monotone limits flow list h few scalars near bases spread;
 }

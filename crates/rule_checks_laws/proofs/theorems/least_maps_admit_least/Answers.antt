@@ -1,8 +1,8 @@
-use Rattle.rule_checks_laws.proofs.LeastMaps.{admits_least, simple_admits_least}
+use Rattle.rule_checks_laws.proofs.LeastMaps.{admits_least, regular_admits_least}
 use Rattle.rule_checks_laws.proofs.theorems.least_maps_admit_least.Goals as goal
 
 pub returns : goal.returns
 returns c = record {
   programs = λ limits flow list h few scalars near rising. admits_least limits flow list h few scalars near rising;
-  simple = λ limits flow list h few scalars near bases simple. simple_admits_least limits flow list h few scalars near bases simple;
+  regular = λ flow list h spread. regular_admits_least flow list h spread;
 }

@@ -1,0 +1,8 @@
+mod Copies
+mod SameOperations
+mod SameEdges
+mod SameStarts
+mod TurnedPrograms
+mod TurnedMaps
+mod TurnedPairs
+mod TurnedAnalyses
