@@ -4,3 +4,7 @@ pub mod AllocationCalls
 pub mod HeapBases
 pub mod Releases
 pub mod Products
+pub mod Trails
+pub mod GivenPointers
+pub mod Scans
+pub mod StringResults

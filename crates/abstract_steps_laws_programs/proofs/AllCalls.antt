@@ -24,12 +24,12 @@ use Rattle.abstract_steps_laws_library.proofs.CharacterCalls.{isalpha_rises, isd
 use Rattle.abstract_steps_laws_library.proofs.AllocationCalls.{malloc_rises}
 use Rattle.abstract_steps_laws_library.proofs.Products.{calloc_rises}
 use Rattle.abstract_steps_laws_library.proofs.Releases.{realloc_rises, free_rises}
-use Rattle.abstract_steps_laws_strings.proofs.StringResults.{strlen_rises, strcmp_rises, puts_rises, printf_rises}
-use Rattle.abstract_steps_laws_texts.proofs.CopyCalls.{strcpy_rises, strncpy_rises}
-use Rattle.abstract_steps_laws_texts.proofs.AppendCalls.{strcat_rises}
-use Rattle.abstract_steps_laws_texts.proofs.LineCalls.{lines_rise}
-use Rattle.abstract_steps_laws_fills.proofs.FillCalls.{memset_rises}
-use Rattle.abstract_steps_laws_copies.proofs.CopyCalls.{memcpy_rises, memmove_rises}
+use Rattle.abstract_steps_laws_library.proofs.StringResults.{strlen_rises, strcmp_rises, puts_rises, printf_rises}
+use Rattle.abstract_steps_laws_writes.proofs.TextCopyCalls.{strcpy_rises, strncpy_rises}
+use Rattle.abstract_steps_laws_writes.proofs.AppendCalls.{strcat_rises}
+use Rattle.abstract_steps_laws_writes.proofs.LineCalls.{lines_rise}
+use Rattle.abstract_steps_laws_writes.proofs.FillCalls.{memset_rises}
+use Rattle.abstract_steps_laws_writes.proofs.CopyCalls.{memcpy_rises, memmove_rises}
 use Rattle.abstract_steps_laws_structs.proofs.StructCopies.{copies_rise}
 use Rattle.abstract_steps_laws_programs.specs.CopiedStructs.{is_copy, CopiesSpread}
 

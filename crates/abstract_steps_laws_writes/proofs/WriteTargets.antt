@@ -39,9 +39,9 @@ use Rattle.abstract_steps_laws_values.specs.LaidOut.{IsLaidOut}
 use Rattle.abstract_steps_laws_values.proofs.LiveParts.{writable_own, writable_empty, literal_more}
 use Rattle.abstract_steps_laws_values.proofs.IntegerChecks.{some_more}
 use Rattle.abstract_steps_laws_values.proofs.ViolationOrder.{rooms_below, literals_below}
-use Rattle.abstract_steps_laws_strings.proofs.Trails.{TrailsBelow, checked_below}
-use Rattle.abstract_steps_laws_strings.proofs.GivenPointers.{within_rises}
-use Rattle.abstract_steps_laws_strings.proofs.Scans.{rooms_monotone}
+use Rattle.abstract_steps_laws_library.proofs.Trails.{TrailsBelow, checked_below}
+use Rattle.abstract_steps_laws_library.proofs.GivenPointers.{within_rises}
+use Rattle.abstract_steps_laws_library.proofs.Scans.{rooms_monotone}
 use Rattle.abstract_steps_laws_values.proofs.Touches.{length_rises}
 
 -- ---- sets

@@ -1,2 +1,0 @@
-pub mod CopyOrder
-pub mod MemoryCalls

@@ -1,4 +1,0 @@
-pub mod Trails
-pub mod GivenPointers
-pub mod Scans
-pub mod StringResults
