@@ -1,0 +1,3 @@
+pub mod TopKinds
+pub mod LargerRows
+pub mod CarriedMaps

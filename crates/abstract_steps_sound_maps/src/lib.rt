@@ -1,0 +1,6 @@
+//! Maps that no edge takes further are carried along edges, by what their rows stand for.
+#![tactic(auto)]
+
+mod theorems;
+
+pub use theorems::{inductive_maps_are_carried, larger_rows_stand_for_more};

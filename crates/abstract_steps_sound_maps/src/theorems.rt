@@ -1,0 +1,19 @@
+//! Rows that are larger stand for more, and inductive maps are carried along edges.
+ghost use Rattle.std.specs.Prelude.{ℤ, List};
+ghost use Rattle.cc_base.specs.IntegerLaws.{MonotoneLaws};
+ghost use Rattle.flow_program.specs.declared.programs.Flow.{Flow};
+ghost use Rattle.abstract_steps_sound_maps.specs.CarriedMaps.{LargerRowsStandForMore, InductiveMapsAreCarried};
+
+use abstract_steps_rows::Bounded;
+use cc_base::IntDomain;
+
+/// Up to the greatest row of the program, in which no cell is mixed.
+pub fn larger_rows_stand_for_more<I: IntDomain>()
+    ensures { (flow : Flow) → LargerRowsStandForMore I.lattice I.numbers I.stands flow }
+{}
+
+/// Where the row that comes along an edge stands for a state, so does the row that the map has for the block that the edge enters, if
+/// what edges leave of own rows lies between the ends of the list.
+pub fn inductive_maps_are_carried<I: Bounded>()
+    ensures { MonotoneLaws I.lattice I.numbers → (flow : Flow) (list : List ℤ) → InductiveMapsAreCarried I.lattice I.numbers I.stands flow list }
+{}
