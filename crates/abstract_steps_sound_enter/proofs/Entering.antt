@@ -36,7 +36,7 @@ use Rattle.abstract_steps_checks.specs.ViolationSets.{no_violations}
 use Rattle.abstract_steps_instructions.specs.Steps.{operate}
 use Rattle.abstract_steps_instructions.specs.StepViolations.{operation_violations}
 use Rattle.lib_models_memory.specs.Bytes.{indeterminate, Byte}
-use Rattle.lib_models_memory.specs.Instances.{Memory, Instance, Life, automatic, live, ended, freed, bytes_at, byte_at, life_at}
+use Rattle.lib_models_memory.specs.Instances.{Memory, Instance, Life, automatic, allocated, live, ended, freed, bytes_at, byte_at, life_at}
 use Rattle.lib_models_memory.specs.Scalars.{Scalar}
 use Rattle.lib_models_effects.specs.NumberedTables.{put_at}
 use Rattle.lib_models_effects.specs.ObjectEffects.{blank_bytes, fresh, entered, next_instance}
@@ -46,6 +46,7 @@ use Rattle.flow_program_machine.specs.FlowActs.{enter, entering}
 use Rattle.flow_program_machine.specs.FlowStates.{Standing}
 use Rattle.store_domain_meaning.specs.Matching.{number_in}
 use Rattle.store_domain_meaning.specs.ValueMeaning.{Naming, StandsContent, StandsScalar, StandsZero, StandsState}
+use Rattle.store_domain_meaning.specs.SoundMemory.{storage_for}
 use Rattle.store_domain_meaning.specs.RowMeaning.{IsLiveOf, StandsLeaf, StandsClass, StandsFor, array_bytes}
 use Rattle.store_domain_sound.proofs.Classes.{class_above}
 use Rattle.store_domain_sound.proofs.Slices.{get_there}
@@ -265,11 +266,17 @@ module _ {I : Type 0} {l : LatticeOf I} {n : IntegersOf I} {stands : I → ℤ �
         put_other s.bases b d i other ∙ r.stands_for.lives.sole d j base e a named life)
   ]
 
+  objects_by : (d j : ℕ) (base : BaseInfo) → slice_get flow.bases.items d ≡ Some base → put_at s.bases b i d ≡ Some j → storage_for base.kind ≡ allocated → ⊥
+  objects_by d j base e f a = elim (cases_eq d b) [
+    | inl g ↦ (let same : info ≡ base = same_info d base e g in let k : automatic ≡ allocated = sym (ap storage_for (ap (λ x. x.kind) (sym same) ∙ kind)) ∙ a in cc)
+    | inr ne ↦ r.stands_for.lives.objects d j base e (entered_old d j ne f) a
+  ]
+
   pub entered_stands : StandsFor l n stands flow too after (record { memory = new; temps = s.temps; entered = put_at s.bases b i })
   entered_stands = record {
     sane = grown_sane flow.model flow.bases.items naming old r.stands_for.sane b info at kind sized none w t;
     held = record { within = λ x scalar e. scalar_in_grows w t scalar (r.stands_for.held.within x scalar e); named = λ x y e. named_grows w t y (r.stands_for.held.within x _ e) (r.stands_for.held.named x y e) };
-    lives = record { sole = sole_by; alive = alive_by; named = named_by };
+    lives = record { sole = sole_by; alive = alive_by; named = named_by; objects = objects_by };
     leaves = leaf_by;
     classes = class_by;
     zeros = zero_by;

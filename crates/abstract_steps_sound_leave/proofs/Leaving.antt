@@ -248,6 +248,7 @@ module _ {I : Type 0} {l : LatticeOf I} {n : IntegersOf I} {stands : I → ℤ �
           clear_keeps s.bases b d j (λ g. k.0 (same_Some j i (sym f ∙ (ap s.bases g ∙ entered)))) f;
       alive = λ d j e. let k = clear_other s.bases b d j e in ends.others j (λ f. k.0 (same_Some d b (sym (r.stands_for.lives.named d j k.1) ∙ (ap naming f ∙ named)))) ∙ r.stands_for.lives.alive d j k.1;
       named = λ d j e. let k = clear_other s.bases b d j e in r.stands_for.lives.named d j k.1;
+      objects = λ d j base at e. let k = clear_other s.bases b d j e in r.stands_for.lives.objects d j base at k.1;
     };
     leaves = leaf_by;
     classes = class_by;

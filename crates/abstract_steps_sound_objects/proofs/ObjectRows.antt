@@ -140,7 +140,7 @@ module _ {I : Type 0} {l : LatticeOf I} {n : IntegersOf I} {stands : I → ℤ �
     object_stands = record {
       sane = sane;
       held = record { within = λ t scalar e. scalar_in_moves w.alike scalar (s.held.within t scalar e); named = λ t x e. named_moves x (s.held.named t x e) };
-      lives = record { sole = λ d j base e a m h. s.lives.sole d j base e a m (λ f. h (w.alike.lives j ∙ f)); alive = λ d j e. w.alike.lives j ∙ s.lives.alive d j e; named = s.lives.named };
+      lives = record { sole = λ d j base e a m h. s.lives.sole d j base e a m (λ f. h (w.alike.lives j ∙ f)); alive = λ d j e. w.alike.lives j ∙ s.lives.alive d j e; named = s.lives.named; objects = s.lives.objects };
       leaves = leaf_by;
       classes = class_by;
       zeros = zero_by;

@@ -89,8 +89,9 @@ pub record AreScalarsOf (naming : Naming) (memory : Memory) (temps : ℕ → Opt
   pub within : (t : ℕ) (scalar : Scalar) → temps t ≡ Some scalar → IsScalarIn memory scalar
   pub named : (t : ℕ) (p : MachinePointer) → temps t ≡ Some (pointer p) → IsNamed naming memory p
 
--- an object that is entered is live, and its base names it and no other instance that has not ended
+-- an object that is entered is live, its base names it and no other instance that has not ended, and it is no allocated one
 pub record AreEntered (bases : List BaseInfo) (naming : Naming) (memory : Memory) (entered : ℕ → Option ℕ) : Type 0 where
   pub sole : (b i : ℕ) (base : BaseInfo) → slice_get bases b ≡ Some base → base.kind ≡ Automatic → naming i ≡ Some b → (life_at memory i ≡ ended → ⊥) → entered b ≡ Some i
   pub alive : (b i : ℕ) → entered b ≡ Some i → life_at memory i ≡ live
   pub named : (b i : ℕ) → entered b ≡ Some i → naming i ≡ Some b
+  pub objects : (b i : ℕ) (base : BaseInfo) → slice_get bases b ≡ Some base → entered b ≡ Some i → storage_for base.kind ≡ allocated → ⊥

@@ -318,7 +318,7 @@ module _ {I : Type 0} {l : LatticeOf I} {n : IntegersOf I} {stands : I → ℤ �
         within = λ t scalar e. scalar_in_moves u.refill.alike scalar (s.held.within t scalar e);
         named = λ t p e. named_moves naming state.memory new u.refill.alike.lives p (s.held.named t p e);
       };
-      lives = record { sole = λ d j base e a m h. s.lives.sole d j base e a m (λ f. h (u.refill.alike.lives j ∙ f)); alive = λ d j e. u.refill.alike.lives j ∙ s.lives.alive d j e; named = s.lives.named };
+      lives = record { sole = λ d j base e a m h. s.lives.sole d j base e a m (λ f. h (u.refill.alike.lives j ∙ f)); alive = λ d j e. u.refill.alike.lives j ∙ s.lives.alive d j e; named = s.lives.named; objects = s.lives.objects };
       leaves = λ d j other leaf e f. leaf_stands o q c r flow shaped behind laid naming row long state s kind char z labels x near st labelled u sane_new b base at named alive window from to set_of has alone only d j other leaf e f;
       classes = λ d cn other e heap h. class_stands o q c r flow shaped behind laid naming row long state s kind char z labels x near st labelled u sane_new b base at named alive window from to set_of has alone only d cn other e heap h;
       zeros = λ d y j other zeros e f h. zero_stands d y j other zeros e f h;
