@@ -63,7 +63,7 @@ no_word i = zero_cond (i == 0) _ (zero_cond (i == 1) _ (zero_cond (i == 2) _ (ze
 pub none_has : (b : ℕ) → bases_has no_base b ≡ false
 none_has b = ap (λ w. bit_at w (b % 128) == 1) (no_word (b / 128)) ∙ ap (λ z. z == 1) (bit_at-zero (b % 128))
 
-only_is : (c b : ℕ) → b < most_bases → bases_has (only_base c) b ≡ true → b ≡ c
+pub only_is : (c b : ℕ) → b < most_bases → bases_has (only_base c) b ≡ true → b ≡ c
 only_is c b s h = elim (cases_Bool (nat_lt c most_bases)) [
   | inr e ↦ (let g : bases_has no_base b ≡ true = rw e at h in absurd (true≢false (sym g ∙ none_has b)))
   | inl e ↦ (let g : bases_has (bases_with no_base c) b ≡ true = rw e at h in
