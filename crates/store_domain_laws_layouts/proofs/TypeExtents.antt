@@ -14,7 +14,6 @@ use Rattle.c_layout.specs.Types.{Ty, Int, Pointer, Array, Struct, Void}
 use Rattle.flow_program.specs.BaseShapes.{is_extent}
 use Rattle.flow_program.specs.ModelKinds.{class_bytes}
 use Rattle.store_domain.specs.RowPositions.{capped}
-use Rattle.store_domain_structs.specs.declared.leaf_numbers.Places.{Places}
 use Rattle.store_domain_structs.specs.LeafCounts.{bytes_in, plain_count, long_count, folded_count}
 use Rattle.store_domain_structs.specs.LeafNumbers.{leaf_at, alone, count_of, element, element_with, behind, behind_arrays, behind_short, at_element, member_at, plain_unit, plain_leaf_by, plain_member, plain_leaf, long_leaf, folded_unit, folded_leaf_by, folded_member}
 use Rattle.store_domain_laws_shapes.proofs.LeafBytes.{Covers}
@@ -96,31 +95,37 @@ module _ (m : Model) (structs : List StructView) (apart : are_laid_apart m struc
 
   -- ---- where no array is folded
 
-  -- the places are the given ones
-  abbrev At : Places → Leaf → Type 0
-  At places l = (l.stride ≡ places.stride) × (l.count ≡ places.count)
-
   -- a byte of the first place
   abbrev IsFirst : Leaf → ℕ → Type 0
   IsFirst l x = (l.offset ≤ x) × (x < l.offset + class_bytes m l.class)
 
-  module _ (places : Places) where
-    plain_scalar : (c : Class) (signed : Bool) (size : ℕ) → size ≡ class_bytes m c → (leaf : ℕ → ℕ → Option Leaf) → ((number at : ℕ) → leaf number at ≡ Some (leaf_at at c signed places)) → AreExtents (At places) IsFirst leaf size 1
-    plain_scalar c signed size bytes leaf is = scalar_extents leaf (λ at. leaf_at at c signed places) size is (λ at room. (refl, refl)) (λ at x r. (let a = r.0 in let b = r.1 in (omega arith, omega arith)))
+  -- each leaf stands at places so far apart, so many of them
+  module _ (stride count : ℕ) where
+    abbrev StandsSo : Leaf → Type 0
+    StandsSo l = (l.stride ≡ stride) × (l.count ≡ count)
 
-    plain_type : (member : ℕ → ℕ → ℕ → Option Leaf) → ((i wanted : ℕ) → AreExtents (At places) IsFirst (member i) (struct_at structs i).size wanted) → (t : Ty) → has_class_bytes m t ≡ true → AreExtents (At places) IsFirst (plain_leaf_by member structs m.pointer places t) (bytes_in structs m.pointer t) (plain_count structs t)
-    plain_type member each (Int k) h = plain_scalar (class_of k) k.signed k.bytes (eqb-true k.bytes (class_bytes m (class_of k)) h) (plain_leaf_by member structs m.pointer places (Int k)) (λ number at. refl)
-    plain_type member each (Pointer t) h = plain_scalar class.Pointer false m.pointer refl (plain_leaf_by member structs m.pointer places (Pointer t)) (λ number at. refl)
+    abbrev leaf_by : (ℕ → ℕ → ℕ → Option Leaf) → Ty → ℕ → ℕ → Option Leaf
+    leaf_by member = plain_leaf_by member structs m.pointer (record { stride = stride; count = count })
+
+    abbrev member_by : ℕ → ℕ → ℕ → ℕ → Option Leaf
+    member_by depth = plain_member depth structs m.pointer (record { stride = stride; count = count })
+
+    plain_scalar : (c : Class) (signed : Bool) (size : ℕ) → size ≡ class_bytes m c → (leaf : ℕ → ℕ → Option Leaf) → ((number at : ℕ) → leaf number at ≡ Some (leaf_at at c signed (record { stride = stride; count = count }))) → AreExtents StandsSo IsFirst leaf size 1
+    plain_scalar c signed size bytes leaf is = scalar_extents leaf (λ at. leaf_at at c signed (record { stride = stride; count = count })) size is (λ at room. (refl, refl)) (λ at x r. (let a = r.0 in let b = r.1 in (omega arith, omega arith)))
+
+    plain_type : (member : ℕ → ℕ → ℕ → Option Leaf) → ((i wanted : ℕ) → AreExtents StandsSo IsFirst (member i) (struct_at structs i).size wanted) → (t : Ty) → has_class_bytes m t ≡ true → AreExtents StandsSo IsFirst (leaf_by member t) (bytes_in structs m.pointer t) (plain_count structs t)
+    plain_type member each (Int k) h = plain_scalar (class_of k) k.signed k.bytes (eqb-true k.bytes (class_bytes m (class_of k)) h) (leaf_by member (Int k)) (λ number at. refl)
+    plain_type member each (Pointer t) h = plain_scalar class.Pointer false m.pointer refl (leaf_by member (Pointer t)) (λ number at. refl)
     plain_type member each (Array t n) h =
-        extents_as (plain_leaf_by member structs m.pointer places (Array t n)) (λ number at. in_element (plain_leaf_by member structs m.pointer places t) at (bytes_in structs m.pointer t) (element_with number n (plain_count structs t))) (bytes_in structs m.pointer (Array t n)) (plain_count structs (Array t n))
-        (λ number at. behind_as (plain_unit member m.pointer places) (behind_arrays structs m.pointer t) at (bytes_in structs m.pointer t) (element_with number n (plain_count structs t)))
-        (array_extents (plain_leaf_by member structs m.pointer places t) (bytes_in structs m.pointer t) (plain_count structs t) (plain_type member each t h) n (plain_count structs (Array t n)))
+        extents_as (leaf_by member (Array t n)) (λ number at. in_element (leaf_by member t) at (bytes_in structs m.pointer t) (element_with number n (plain_count structs t))) (bytes_in structs m.pointer (Array t n)) (plain_count structs (Array t n))
+        (λ number at. behind_as (plain_unit member m.pointer (record { stride = stride; count = count })) (behind_arrays structs m.pointer t) at (bytes_in structs m.pointer t) (element_with number n (plain_count structs t)))
+        (array_extents (leaf_by member t) (bytes_in structs m.pointer t) (plain_count structs t) (plain_type member each t h) n (plain_count structs (Array t n)))
     plain_type member each (Struct i) h = each i (plain_count structs (Struct i))
-    plain_type member each Void h = no_extents (plain_leaf_by member structs m.pointer places Void) 0 0 (λ number at. refl)
+    plain_type member each Void h = no_extents (leaf_by member Void) 0 0 (λ number at. refl)
 
-    plain_struct : (depth i wanted : ℕ) → AreExtents (At places) IsFirst (plain_member depth structs m.pointer places i) (struct_at structs i).size wanted
-    plain_struct zero i wanted = no_extents (plain_member zero structs m.pointer places i) (struct_at structs i).size wanted (λ number at. refl)
-    plain_struct (suc depth) i wanted = struct_extents false (plain_leaf_by (plain_member depth structs m.pointer places) structs m.pointer places) (plain_type (plain_member depth structs m.pointer places) (plain_struct depth)) i wanted
+    plain_struct : (depth i wanted : ℕ) → AreExtents StandsSo IsFirst (member_by depth i) (struct_at structs i).size wanted
+    plain_struct zero i wanted = no_extents (member_by zero i) (struct_at structs i).size wanted (λ number at. refl)
+    plain_struct (suc depth) i wanted = struct_extents false (leaf_by (member_by depth)) (plain_type (member_by depth) (plain_struct depth)) i wanted
 
   -- ---- with long arrays folded
 
@@ -152,30 +157,27 @@ module _ (m : Model) (structs : List StructView) (apart : are_laid_apart m struc
       to : first < at + size
       byte : IsFirst l first
 
-    module _ (depth : ℕ) (t : Ty) (n : ℕ) (long : is_short n ≡ false) (kind : has_class_bytes m t ≡ true) where
-      abbrev unit : Ty
-      unit = behind_long t
-
+    module _ (depth : ℕ) (t : Ty) (n : ℕ) (long : is_short n ≡ false) where
       abbrev size : ℕ
       size = bytes_in structs m.pointer (behind_long t)
 
-      abbrev places : Places
-      places = record { stride = bytes_in structs m.pointer (behind_long t); count = capped (n * long_count t) }
+      abbrev count : ℕ
+      count = capped (n * long_count t)
 
       abbrev leaf : ℕ → ℕ → Option Leaf
-      leaf = plain_leaf_by (plain_member depth structs m.pointer places) structs m.pointer places (behind_long t)
+      leaf = leaf_by size count (member_by size count depth) (behind_long t)
 
-      in_long : (at x : ℕ) (l : Leaf) → at + size ≤ 2 ^ 30 → (number : ℕ) → AreExtents (At places) IsFirst leaf size (plain_count structs unit) → leaf number at ≡ Some l → IsByte l x → InLong at size places.count l x
+      in_long : (at x : ℕ) (l : Leaf) → at + size ≤ 2 ^ 30 → (number : ℕ) → AreExtents (StandsSo size count) IsFirst leaf size (plain_count structs (behind_long t)) → leaf number at ≡ Some l → IsByte l x → InLong at size count l x
       in_long at x l room number own e r =
           let q = own.made number at l room e in
           let a = r.at in let among = r.among in let within = r.within in
           let stride : r.turn * l.stride ≡ r.turn * size = ap (λ z. r.turn * z) q.0 in
           let byte : IsFirst l (l.offset + r.rest) = (omega arith, omega arith) in
           let p = own.inside number at (l.offset + r.rest) l room e byte in
-          let below = mul-le (r.turn + 1) size places.count size (let c = q.1 in omega arith) (omega arith) in
+          let below = mul-le (r.turn + 1) size count size (let c = q.1 in omega arith) (omega arith) in
           record { turn = r.turn; first = l.offset + r.rest; is = omega arith; below = below; from = p.0; to = p.1; byte = byte }
 
-      long_unit : AreExtents (At places) IsFirst leaf size (plain_count structs unit) → AreExtents IsFolded IsByte (long_leaf depth structs m.pointer t n) (bytes_in structs m.pointer (Array t n)) (plain_count structs unit)
+      long_unit : AreExtents (StandsSo size count) IsFirst leaf size (plain_count structs (behind_long t)) → AreExtents IsFolded IsByte (long_leaf depth structs m.pointer t n) (bytes_in structs m.pointer (Array t n)) (plain_count structs (behind_long t))
       unfolding long_leaf plain_leaf
       long_unit own = record {
         made = λ number at l room e.
@@ -184,10 +186,10 @@ module _ (m : Model) (structs : List StructView) (apart : are_laid_apart m struc
             let p = own.inside number at l.offset l b.1 e (omega arith, (let s = some l.class in omega arith)) in
             let last = own.inside number at (l.offset + (class_bytes m l.class - 1)) l b.1 e (omega arith, (let s = some l.class in omega arith)) in
             let c = p.0 in let d = last.1 in let s = some l.class in
-            let stride = q.0 in let count = q.1 in
-            let near : l.count * l.stride ≡ places.count * size = ap (λ z. z * l.stride) count ∙ ap (λ z. places.count * z) stride in
+            let stride = q.0 in let times = q.1 in
+            let near : l.count * l.stride ≡ count * size = ap (λ z. z * l.stride) times ∙ ap (λ z. count * z) stride in
             let f = b.0 in
-            let g : places.count * 1 ≤ places.count * size = mul-le places.count 1 places.count size (omega arith) (omega arith) in
+            let g : count * 1 ≤ count * size = mul-le count 1 count size (omega arith) (omega arith) in
             record { fits = omega arith; few = omega arith; near = omega arith };
         inside = λ number at x l room e r.
             let b = bounds at room in
@@ -225,8 +227,9 @@ module _ (m : Model) (structs : List StructView) (apart : are_laid_apart m struc
 
     long_extents : (depth : ℕ) (t : Ty) (n : ℕ) → is_short n ≡ false → has_class_bytes m t ≡ true → AreExtents IsFolded IsByte (long_leaf depth structs m.pointer t n) (bytes_in structs m.pointer (Array t n)) (plain_count structs (behind_long t))
     long_extents depth t n long kind =
-        long_unit depth t n long kind (plain_type (record { stride = bytes_in structs m.pointer (behind_long t); count = capped (n * long_count t) }) (plain_member depth structs m.pointer (record { stride = bytes_in structs m.pointer (behind_long t); count = capped (n * long_count t) }))
-        (plain_struct (record { stride = bytes_in structs m.pointer (behind_long t); count = capped (n * long_count t) }) depth) (behind_long t) (kind_behind t kind))
+        let size = bytes_in structs m.pointer (behind_long t) in
+        let count = capped (n * long_count t) in
+        long_unit depth t n long (plain_type size count (member_by size count depth) (plain_struct size count depth) (behind_long t) (kind_behind t kind))
 
     module _ (depth : ℕ) (member : ℕ → ℕ → ℕ → Option Leaf) (each : (i wanted : ℕ) → AreExtents IsFolded IsByte (member i) (struct_at structs i).size wanted) where
       abbrev unit_leaf : Ty → ℕ → ℕ → Option Leaf
