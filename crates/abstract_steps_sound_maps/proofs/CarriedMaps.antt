@@ -1,5 +1,5 @@
 -- An inductive map is carried along edges: what comes along an edge is at or below the row of the block that the edge enters.
-use Rattle.std.specs.Prelude.{◌≡◌, ◌<◌, ℕ, zero, suc, ℤ, true, Option, Some, None, List, [], ◌∷◌, length, take, slice_get, slice_index_or, refl}
+use Rattle.std.specs.Prelude.{◌≡◌, ◌<◌, ℕ, zero, suc, ℤ, true, Option, Some, None, List, [], ◌∷◌, length, take, slice_get, refl}
 use Rattle.std.proofs.Common.{arith, sym, subst, ap, ◌∙◌}
 use Rattle.cc_base.specs.Lattices.{LatticeOf, OrderLaws, RoundLaws, HeightLaws}
 use Rattle.cc_base.specs.Rows.{row_leq, reached_leq}
@@ -12,24 +12,25 @@ use Rattle.flow_program.specs.declared.machine_instructions.Instruction.{Instruc
 use Rattle.flow_program.specs.declared.programs.Flow.{Flow}
 use Rattle.value_domain.specs.declared.row_cells.Cell.{Cell}
 use Rattle.value_domain.specs.Cells.{cell_lattice, cell_order}
+use Rattle.store_domain_laws.specs.TopRows.{top_row}
+use Rattle.store_domain_meaning.specs.RowMeaning.{StandsFor}
+use Rattle.store_domain_meaning.specs.Coverage.{state_of}
 use Rattle.flow_program_machine.specs.FlowStates.{Standing}
 use Rattle.abstract_steps.specs.Edges.{edge}
 use Rattle.abstract_steps_rows.specs.EndLaws.{EndLaws}
-use Rattle.abstract_steps_rows.specs.OwnRows.{program_bases, reach_of, is_own_row}
+use Rattle.abstract_steps_rows.specs.OwnRows.{program_bases, is_own_row}
 use Rattle.abstract_steps_rows.specs.FittedRows.{row_fit, reached_fit}
 use Rattle.abstract_steps_system.specs.BlockPasses.{block_end, edge_behind, edge_end}
 use Rattle.abstract_steps_system.specs.BlockPasses as passes
-use Rattle.abstract_steps_system.specs.FlowMachines.{no_edge, edge_at, through, flow_machine}
+use Rattle.abstract_steps_system.specs.FlowMachines.{edge_at, through, flow_machine}
 use Rattle.rule_checks.specs.AdmittedRules as rules
 use Rattle.abstract_steps_laws_values.specs.LaidOut.{IsLaidOut}
 use Rattle.abstract_steps_laws.specs.ProgramLaws.{IsNamed, AreRising}
 use Rattle.abstract_steps_laws.specs.SystemLaws.{IsNearList}
 use Rattle.abstract_steps_laws.proofs.Systems.{own_rise}
-use Rattle.abstract_steps_laws_programs.specs.ProgramRows.{AreCut}
 use Rattle.abstract_steps_laws_programs.proofs.ProgramRows.{leaves_program, fit_kept}
 use Rattle.abstract_steps_sound.specs.SoundSteps.{StandsBehind}
-use Rattle.abstract_steps_covered.specs.Covering.{rows_behind, row_before, Carries}
-use Rattle.abstract_steps_covered.proofs.Admitted.{none_behind}
+use Rattle.abstract_steps_covered.specs.Covering.{rows_behind, Carries}
 use Rattle.abstract_steps_sound_maps.specs.CarriedMaps.{EdgesLeaveCutRows}
 use Rattle.abstract_steps_sound_maps.proofs.LargerRows.{row_larger}
 
@@ -45,6 +46,10 @@ edge_there (x ∷ es) (suc number) e h = let p = edge_there es number e h in (le
 module _ {I : Type 0} {l : LatticeOf I} {n : IntegersOf I} {stands : I → ℤ → Type 0} (o : OrderLaws l) (k : RoundLaws l) (h : HeightLaws l) (b : BoundLaws l n stands) (g : MonotoneLaws l n) (f : RangeLaws l n) (ends : EndLaws l n) (flow : Flow) (list : List ℤ) (near : IsNearList l n list) (laid : IsLaidOut (program_bases (length flow.bases.items)) flow) where
   -- ---- the row at the end of a block
 
+  none_behind : (is : List Instruction) → rows_behind l n flow None is ≡ None
+  none_behind [] = refl
+  none_behind (i ∷ is) = none_behind is
+
   same_behind : (is : List Instruction) (x : Option (List (Cell I))) → rows_behind l n flow x is ≡ passes.rows_behind l n flow x is
   same_behind [] x = refl
   same_behind (i ∷ is) None = same_behind is None
@@ -54,8 +59,8 @@ module _ {I : Type 0} {l : LatticeOf I} {n : IntegersOf I} {stands : I → ℤ �
   unfolding block_end
   ended block r = ap (rows_behind l n flow (Some r)) (take_all (rules.instructions_of flow block)) ∙ same_behind (rules.instructions_of flow block) (Some r)
 
-  module _ (named : IsNamed flow) (rising : AreRising l n (program_bases (length flow.bases.items)) flow) (cut : EdgesLeaveCutRows l n flow list) (rows : List (Option (List (Cell I)))) (closed : IsInductive (cell_lattice l) (flow_machine l n flow list) rows) where
-    top_large : (y : List (Cell I)) → is_own_row l n list flow.bases.items flow.width y ≡ true → _
+  module _ (named : IsNamed flow) (rising : AreRising l n (program_bases (length flow.bases.items)) flow) (cut : EdgesLeaveCutRows l n stands flow list) (rows : List (Option (List (Cell I)))) (closed : IsInductive (cell_lattice l) (flow_machine l n flow list) rows) where
+    top_large : (y : List (Cell I)) → is_own_row l n list flow.bases.items flow.width y ≡ true → row_leq (cell_lattice l) y (top_row n (program_bases (length flow.bases.items)) flow.bases.items flow.temps) ≡ true
     top_large y own = (own_rise o k h b g f ends flow list near laid y y own own (row_leq-refl (cell_lattice l) (cell_order o) y)).below.large
 
     -- a state for which the row that came is below the block's
@@ -71,7 +76,7 @@ module _ {I : Type 0} {l : LatticeOf I} {n : IntegersOf I} {stands : I → ℤ �
           is = refl;
           long = omega arith;
           naming = behind.naming;
-          stands_for = row_larger o b (program_bases (length flow.bases.items)) flow x y e (top_large y own) behind.naming _ (subst (λ z. _) same behind.stands_for);
+          stands_for = row_larger o b (program_bases (length flow.bases.items)) flow x y e (top_large y own) behind.naming (state_of s) (subst (λ z. StandsFor l n stands flow behind.naming z (state_of s)) same behind.stands_for);
           short = behind.short;
         }
 
@@ -90,7 +95,7 @@ module _ {I : Type 0} {l : LatticeOf I} {n : IntegersOf I} {stands : I → ℤ �
         (subst (λ z. reached_leq (cell_lattice l) (step (flow_machine l n flow list) number z) (row_at rows (edge_at flow.edges.items number).to) ≡ true) (ap (λ d. row_at rows d.from) p.1 ∙ at) q))
 
     by_row : (number : ℕ) (e : Edge) (z : Option (List (Cell I))) (row x : List (Cell I)) → slice_get flow.edges.items number ≡ Some e → row_at rows e.from ≡ z → rows_behind l n flow z (take (length (rules.instructions_of flow e.from)) (rules.instructions_of flow e.from)) ≡ Some row → edge l n flow row number ≡ Some x → reached_leq (cell_lattice l) (Some x) (row_at rows e.to) ≡ true
-    by_row number e None row x there at before along = let c = sym (none_behind l n flow (take (length (rules.instructions_of flow e.from)) (rules.instructions_of flow e.from))) ∙ before in absurd (cc)
+    by_row number e None row x there at before along = let c = sym (none_behind (take (length (rules.instructions_of flow e.from)) (rules.instructions_of flow e.from))) ∙ before in absurd (cc)
     by_row number e (Some r) row x there at before along = from_row number e r row x there at (sym (ended e.from r) ∙ before) along
 
     pub map_carried : Carries l n stands flow rows
@@ -99,4 +104,3 @@ module _ {I : Type 0} {l : LatticeOf I} {n : IntegersOf I} {stands : I → ℤ �
         let along = behind.is in
         entered s x (row_at rows e.to) (record { row = x; is = refl; long = behind.long; naming = behind.naming; stands_for = behind.stands_for; short = behind.short }) (closed.own e.to)
         (by_row number e (row_at rows e.from) row x there refl before along)
-

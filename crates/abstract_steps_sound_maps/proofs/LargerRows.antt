@@ -1,6 +1,6 @@
 -- A row between another one and the greatest row stands for what that one stands for.
-use Rattle.std.specs.Prelude.{◌≡◌, ◌<◌, ◌^◌, ℕ, ℤ, pos, Bool, true, false, Option, Some, List, length, refl}
-use Rattle.std.proofs.Common.{arith, sym, subst, subst₂}
+use Rattle.std.specs.Prelude.{◌≡◌, ℕ, ℤ, pos, Bool, true, false, List}
+use Rattle.std.proofs.Common.{arith, sym, subst₂}
 use Rattle.std.proofs.lemmas.Int.{ints}
 use Rattle.std.proofs.lemmas.Bool.{and_parts}
 use Rattle.cc_base.specs.Lattices.{LatticeOf, OrderLaws}
@@ -19,16 +19,16 @@ use Rattle.value_domain.specs.declared.row_cells.Cell.TheVariants.{Nothing, Valu
 use Rattle.value_domain.specs.Values.{value_lattice, value_order}
 use Rattle.value_domain.specs.AllocStates.{state_lattice, state_order}
 use Rattle.value_domain.specs.Cells.{cell_lattice, cell_leq}
-use Rattle.store_domain.specs.NearValues.{near_number, near_value}
+use Rattle.store_domain.specs.NearValues.{near_value}
 use Rattle.store_domain.specs.RowPositions.{cell_at, value_in, zero_in, state_in, near_state, value_at, zero_at, state_at}
-use Rattle.store_domain_laws.specs.TopCells.{top_number, top_value, top_zero, top_state}
+use Rattle.store_domain_laws.specs.TopCells.{top_number, top_value}
 use Rattle.store_domain_laws.specs.TopRows.{top_row}
 use Rattle.store_domain_laws.proofs.NearCells.{near_monotone, near_value_is}
 use Rattle.store_domain_laws.proofs.Rows.{at_monotone}
 use Rattle.lib_models_memory.specs.Bytes.{Byte}
-use Rattle.lib_models_memory.specs.Instances.{Memory, Life, live, ended, freed}
+use Rattle.lib_models_memory.specs.Instances.{Memory, bytes_at, Life, live, ended, freed}
 use Rattle.store_domain_meaning.specs.ValueMeaning.{Naming, StandsZero, StandsState}
-use Rattle.store_domain_meaning.specs.RowMeaning.{MachineState, StandsCell, StandsFor}
+use Rattle.store_domain_meaning.specs.RowMeaning.{MachineState, StandsCell, StandsFor, array_bytes}
 use Rattle.store_domain_sound.proofs.Larger.{ValueBelow, value_below, scalar_larger, content_larger}
 use Rattle.abstract_steps_sound_maps.proofs.TopKinds.{IsKnown, row_known}
 
@@ -167,7 +167,7 @@ module _ {I : Type 0} {l : LatticeOf I} {n : IntegersOf I} {stands : I → ℤ �
       lives = h.lives;
       leaves = λ b j base leaf e k. cell_larger naming s.memory b leaf.class leaf.signed _ _ _ _ (value_more _) (h.leaves b j base leaf e k);
       classes = λ b c base e heap small. cell_larger naming s.memory b _ true _ _ _ _ (value_more _) (h.classes b c base e heap small);
-      zeros = λ b p i base part e k live. zero_larger naming s.memory _ _ _ (zero_more _) (h.zeros b p i base part e k live);
+      zeros = λ b p i base part e k live. zero_larger naming s.memory _ _ (array_bytes part (bytes_at s.memory i)) (zero_more _) (h.zeros b p i base part e k live);
       states = λ b i base e heap named. state_larger naming s.memory _ _ _ _ (state_more _) (h.states b i base e heap named);
       temps = λ t scalar e. scalar_larger q naming s.memory _ _ scalar (value_more _) (h.temps t scalar e);
     }
