@@ -10,6 +10,7 @@ use Rattle.cc_base.specs.NumberRanges.{Range, range_met}
 use Rattle.cc_base.specs.IntegerTypes.{least_of, greatest_of}
 use Rattle.cc_base.specs.IntegerDomains.{IntegersOf, between_or_least, of_range}
 use Rattle.c_layout.specs.declared.data_model.Model.{Model}
+use Rattle.c_layout.specs.declared.leaf_lists.Class.{Class}
 use Rattle.c_layout.specs.declared.leaf_lists.Class.TheVariants.{Char, Int, Pointer}
 use Rattle.c_layout.specs.declared.library_functions.LibFn.{LibFn}
 use Rattle.c_layout.specs.declared.library_functions.LibFn.TheVariants as f
@@ -22,6 +23,8 @@ use Rattle.pointer_domain.specs.PointerLattice.{no_pointer, pointer_lattice}
 use Rattle.pointer_domain.specs.PointerTables.{offsets}
 use Rattle.value_domain.specs.declared.values.Value.{Value}
 use Rattle.value_domain.specs.declared.row_cells.Cell.{Cell}
+use Rattle.value_domain.specs.declared.row_cells.Cell.TheVariants as cell
+use Rattle.value_domain.specs.LabelSets.{no_labels, all_labels}
 use Rattle.value_domain.specs.Values.{value_lattice}
 use Rattle.value_domain.specs.ValueTables.{number_value, pointer_value}
 use Rattle.store_domain.specs.declared.access_windows.Window.{Window}
@@ -39,25 +42,28 @@ use Rattle.store_domain.specs.ScalarTypes.{kind_of}
 use Rattle.store_domain.specs.Walks.{turns}
 use Rattle.abstract_steps_checks.specs.declared.library_arguments.Argument.{Argument}
 use Rattle.abstract_steps_checks.specs.declared.string_scans.Scanned.{Scanned}
-use Rattle.abstract_steps_checks.specs.LibraryArguments.{within_bases, check_argument, touched_window, cut_by_room}
-use Rattle.abstract_steps_checks.specs.Temporaries.{temp_value, put_temp}
+use Rattle.abstract_steps_checks.specs.LibraryArguments.{after_write, within_bases, check_argument, touched_window, cut_by_room}
+use Rattle.abstract_steps_checks.specs.Temporaries.{temp_position}
 use Rattle.abstract_steps_library.specs.declared.call_plans.Effect.{Effect}
 use Rattle.abstract_steps_library.specs.declared.call_plans.Effect.TheVariants.{Unreached, Result, Text, Fill, Copy, Allocate, Reallocate, Free}
 use Rattle.abstract_steps_library.specs.declared.copied_bytes.CopiedBytes.{CopiedBytes}
 use Rattle.abstract_steps_library.specs.declared.memory_calls.Target.{Target}
 use Rattle.abstract_steps_library.specs.declared.source_bytes.Characters.{Characters}
+use Rattle.abstract_steps_library.specs.declared.call_plans.Trail.{Trail}
 use Rattle.abstract_steps_library.specs.declared.text_writes.ZeroRule.{ZeroRule}
+use Rattle.abstract_steps_library.specs.declared.text_writes.ZeroRule.TheVariants as zero
 use Rattle.abstract_steps_library.specs.Allocations.{products, instance_size, plan_malloc, plan_calloc, plan_realloc, plan_free}
 use Rattle.abstract_steps_library.specs.Arguments.{value_of_argument, argument_value}
 use Rattle.abstract_steps_library.specs.Calls.{Call}
-use Rattle.abstract_steps_library.specs.Characters.{is_lower, is_upper, meets, sum_of, difference_of, tested_number, raised, lowered, answer, plan_in, plan_character}
+use Rattle.abstract_steps_library.specs.Characters.{is_lower, is_upper, has_class, meets, sum_of, difference_of, tested_number, raised, lowered, answer, plan_in, plan_character}
 use Rattle.abstract_steps_library.specs.CopyWrites.{is_read_class, no_bytes, with_cell, with_padding, with_leaf, with_leaves, with_class, with_class_cells, with_rest, with_base, with_base_if, with_base_of, bytes_of_source}
-use Rattle.abstract_steps_library.specs.Effects.{put_result, allocated, apply}
-use Rattle.abstract_steps_library.specs.MemoryCalls.{lower_of, target_of, nothing_written, copy_in_window, fill_in_window, plan_copy, plan_fill}
-use Rattle.abstract_steps_library.specs.Outputs.{has_place, placed, argument_at, scan_at, length_of, plan_getchar, putchar_of, plan_putchar, plan_puts, plan_printf, plan_strlen, plan_strcmp}
+use Rattle.abstract_steps_library.specs.Effects.{older_of, put_result, allocated, apply}
+use Rattle.abstract_steps_library.specs.MemoryCalls.{lower_of, is_one_byte, room_trail, target_of, nothing_written, copy_in_window, both_given, copy_both, plan_copy, fill_in_window, fill_trail, fill_given, plan_fill}
+use Rattle.abstract_steps_library.specs.Outputs.{has_place, argument_at, scan_at, scanned_trail, length_of, plan_putchar, plan_puts, plan_printf, strlen_scanned, plan_strlen, plan_strcmp}
 use Rattle.abstract_steps_library.specs.Planning.{plan_call}
+use Rattle.abstract_steps_library.specs.Plans.{harmless}
 use Rattle.abstract_steps_library.specs.Sources.{read_characters_if, read_characters, characters_read, number_of, character_access, characters_of}
-use Rattle.abstract_steps_library.specs.StringCalls.{text_effect, source_characters, plan_strcpy, plan_strcat, plan_strncpy, input_characters, plan_fgets}
+use Rattle.abstract_steps_library.specs.StringCalls.{one_more, one_less, text_effect, text_from_start, two_given, source_characters, strcpy_scanned, plan_strcpy, append_start, append_window, appended, append_effect, strcat_of, strcat_need, strcat_scanned, plan_strcat, strncpy_trail, strncpy_scanned, plan_strncpy, input_characters, line_count, line_trail, line_rule, fgets_given, plan_fgets}
 use Rattle.abstract_steps_laws_own_stores.specs.Floors.{least_number, IsFrom, IsPointerFrom, IsValueFrom, IsReadFrom, AreFrom, IsLeftFrom, KeepsFrom, LeavesFrom}
 use Rattle.abstract_steps_laws_own_stores.proofs.Ranges.{FloorLaws, met_from, least_from, between_from, range_from, near_from, convert_from, whole_from, low_from, count_low}
 use Rattle.abstract_steps_laws_own_stores.proofs.Values.{class_size, no_pointer_from, pointers_join_from, least_value_from, near_value_from, number_from, pointer_from, joined_from, at_from, zero_from}
@@ -114,13 +120,14 @@ module _ {I : Type 0} {l : LatticeOf I} {n : IntegersOf I} {stands : I → ℤ �
 
   result_kept : (flow : Flow) (to : Option ℕ) (v : Value I) → IsValueFrom n floor v → KeepsFrom n floor (put_result flow to v)
   result_kept flow None v h row j = j
-  result_kept flow (Some temp) v h row j = set_from n floor row _ _ h j
+  result_kept flow (Some temp) v h row j = set_from n floor row (temp_position flow temp) (cell.Value v) h j
 
   allocated_kept : (flow : Flow) (to newest : Option ℕ) (size : I) (fresh : Fresh I) → IsFrom (pos 0) (n.bounds size) → LeavesFrom n floor (allocated l n flow to newest size fresh)
   allocated_kept flow to None size fresh h row j = tt
   allocated_kept flow to (Some newest) size fresh h row j =
       let near = near_number l n size in
-      result_kept flow to (pointer_value l _) (pointer_from k _ (renewed_from k flow.bases.items newest _ near (near_from k (pos 0) size h))) _ (renew_keeps k flow.model flow.bases.items newest _ near fresh row j)
+      let pointer = renewed_pointer l n flow.bases.items (site_of newest (older_of newest)) near in
+      result_kept flow to (pointer_value l pointer) (pointer_from k pointer (renewed_from k flow.bases.items newest (older_of newest) near (near_from k (pos 0) size h))) _ (renew_keeps k flow.model flow.bases.items newest (older_of newest) near fresh row j)
 
   pub apply_keeps : (flow : Flow) (to newest : Option ℕ) (e : Effect I) → IsEffectFrom e → LeavesFrom n floor (apply l n flow to newest e)
   unfolding apply
@@ -154,14 +161,14 @@ module _ {I : Type 0} {l : LatticeOf I} {n : IntegersOf I} {stands : I → ℤ �
       (λ e. cond_both (not (int_eq lo hi) && meets lo hi (pos 65) (pos 90)) (between_or_least l n lo (int_max hi (pos 122))) (between_or_least l n lo hi) NumberFrom (λ g. between_low lo (int_max hi (pos 122)) (omega (arith, ints))) (λ g. between_low lo hi (omega (arith, ints))))
 
   tested_from : (function : LibFn) (lo hi : ℤ) → IsFrom floor (n.bounds (tested_number l n function lo hi))
-  tested_from function lo hi = cond_both (int_eq lo hi) (cond _ (n.one (pos 1)) (n.one (pos 0))) (between_or_least l n (pos 0) (pos 1)) NumberFrom
-      (λ e. cond_both _ (n.one (pos 1)) (n.one (pos 0)) NumberFrom (λ g. low_from k (pos 1) (omega (arith, ints))) (λ g. zero_from k))
+  tested_from function lo hi = cond_both (int_eq lo hi) (cond (has_class function lo) (n.one (pos 1)) (n.one (pos 0))) (between_or_least l n (pos 0) (pos 1)) NumberFrom
+      (λ e. cond_both (has_class function lo) (n.one (pos 1)) (n.one (pos 0)) NumberFrom (λ g. low_from k (pos 1) (omega (arith, ints))) (λ g. zero_from k))
       (λ e. between_low (pos 0) (pos 1) (omega (arith, ints)))
 
   answer_from : (function : LibFn) (c : Value I) (lo hi : ℤ) → negsuc 0 ≤ℤ lo → IsValueFrom n floor (answer l n function c lo hi)
-  answer_from f.Toupper c lo hi h = number_from k (raised l n lo hi) c.labels (raised_from lo hi h)
-  answer_from f.Tolower c lo hi h = number_from k (lowered l n lo hi) c.labels (lowered_from lo hi h)
-  answer_from function c lo hi h = number_from k (tested_number l n function lo hi) _ (tested_from function lo hi)
+  answer_from f.Toupper c lo hi h = number_from k (raised l n lo hi) (raised_from lo hi h)
+  answer_from f.Tolower c lo hi h = number_from k (lowered l n lo hi) (lowered_from lo hi h)
+  answer_from function c lo hi h = number_from k (tested_number l n function lo hi) (tested_from function lo hi)
 
   in_from : (function : LibFn) (c : Value I) (r : Range) → IsFrom (negsuc 0) r → IsEffectFrom (plan_in l n function c r).effect
   in_from function c None h = tt
@@ -194,7 +201,7 @@ module _ {I : Type 0} {l : LatticeOf I} {n : IntegersOf I} {stands : I → ℤ �
   module _ (call : Call) (row : List (Cell I)) (j : AreFrom n floor row) where
     of_argument : (found : Option ℕ) → IsValueFrom n floor (value_of_argument l n call.flow row found)
     of_argument None = near_value_from k ((value_lattice l).least) (least_value_from k)
-    of_argument (Some temp) = at_from k row _ j
+    of_argument (Some temp) = at_from k row (temp_position call.flow temp) j
 
     value_from : (at : ℕ) → IsValueFrom n floor (argument_value l n call row at)
     unfolding argument_value
@@ -209,7 +216,9 @@ module _ {I : Type 0} {l : LatticeOf I} {n : IntegersOf I} {stands : I → ℤ �
     -- ---- allocations
 
     size_from : (m : Model) (r : Range) → IsFrom (pos 0) (n.bounds (instance_size l n m r))
-    size_from m r = near_from k (pos 0) (of_range l n (range_met r (pos 0) _)) (range_from k (pos 0) (range_met r (pos 0) _) (met_from (pos 0) r (pos 0) _ (omega (arith, ints))))
+    size_from m r =
+        let most = greatest_of (kind_of m Pointer true) in
+        near_from k (pos 0) (of_range l n (range_met r (pos 0) most)) (range_from k (pos 0) (range_met r (pos 0) most) (met_from (pos 0) r (pos 0) most (omega (arith, ints))))
 
     malloc_plan : IsEffectFrom (plan_malloc l n call row).effect
     unfolding plan_malloc
@@ -253,7 +262,7 @@ module _ {I : Type 0} {l : LatticeOf I} {n : IntegersOf I} {stands : I → ℤ �
     abbrev AreBytesFrom : CopiedBytes I → Type 0
     AreBytesFrom found = IsPointerFrom n floor found.pointers
 
-    cell_read : (found : CopiedBytes I) (v : Value I) (class : _) → AreBytesFrom found → IsValueFrom n floor v → AreBytesFrom (with_cell l found v class)
+    cell_read : (found : CopiedBytes I) (v : Value I) (class : Class) → AreBytesFrom found → IsValueFrom n floor v → AreBytesFrom (with_cell l found v class)
     cell_read found v class h q = cond_both (is_pointer class) ((pointer_lattice l).join found.pointers v.pointer) found.pointers (λ p. IsPointerFrom n floor p) (λ e. pointers_join_from k found.pointers v.pointer h q.1) (λ e. h)
 
     bytes_if : (c : Bool) (x y : CopiedBytes I) → AreBytesFrom x → AreBytesFrom y → AreBytesFrom (cond c x y)
@@ -266,16 +275,17 @@ module _ {I : Type 0} {l : LatticeOf I} {n : IntegersOf I} {stands : I → ℤ �
         let leaves = walk_keeps AreBytesFrom (with_leaf l n call.flow.model base row w)
           (λ leaf at x q. bytes_if (is_overlapped call.flow.model leaf w) (with_cell l x (value_at l n row (leaf_position base at)) leaf.class) x (cell_read x (value_at l n row (leaf_position base at)) leaf.class q (at_from k row (leaf_position base at) j)) q)
           0 base.shape.cells found h in
-        bytes_if base.shape.heap _ _
+        let read = with_leaves l n call.flow.model base row w found in
+        bytes_if base.shape.heap (with_class_cells l n base row w read) (with_padding read (meets_padding call.flow.model base.shape.cells w base.size))
         (turns_keep AreBytesFrom (with_class l n base row (has_stray base.shape.cells Char w))
           (λ at x q. bytes_if (is_read_class (has_stray base.shape.cells Char w) at) (with_cell l x (value_at l n row (class_position base at)) (class_at at)) x (cell_read x (value_at l n row (class_position base at)) (class_at at) q (at_from k row (class_position base at) j)) q)
-          6 (with_leaves l n call.flow.model base row w found) leaves)
-        (bytes_if (meets_padding call.flow.model base.shape.cells w base.size) _ _ leaves leaves)
+          6 read leaves)
+        (bytes_if (meets_padding call.flow.model base.shape.cells w base.size) (record { indeterminate = true; labels = all_labels; pointers = read.pointers; numbers = true }) read leaves leaves)
 
     bytes_from : (set : Bases) (w : Option Window) → AreBytesFrom (bytes_of_source l n call.flow row set w)
     unfolding with_base_if
     bytes_from set None = no_pointer_from k
-    bytes_from set (Some w) = walk_keeps AreBytesFrom (with_base_of l n call.flow.model row set w) (λ base number x q. bytes_if (has_base set number) _ x (base_read base w x q) q) 0 call.flow.bases.items (no_bytes l) (no_pointer_from k)
+    bytes_from set (Some w) = walk_keeps AreBytesFrom (with_base_of l n call.flow.model row set w) (λ base number x q. bytes_if (has_base set number) (with_base l n call.flow.model base row w x) x (base_read base w x q) q) 0 call.flow.bases.items (no_bytes l) (no_pointer_from k)
 
     -- ---- calls on memory
 
@@ -283,68 +293,126 @@ module _ {I : Type 0} {l : LatticeOf I} {n : IntegersOf I} {stands : I → ℤ �
     copy_window from target None h = nothing_from target h
     copy_window from target (Some w) h = (bytes_from from.rest.bases (touched_window n from.rest target.count), pointer_from k target.rest h)
 
-    -- the target of a pointer argument
-    target_from : (at : ℕ) (bases : Bases) → IsPointerFrom n floor (within_bases l n (argument_at l n call row at).rest bases)
-    target_from at bases = within_from k (argument_at l n call row at).rest bases (given_from at)
+    -- the target of a pointer from the floor on
+    target_from : (trail : Trail) (p : Pointers I) (need : Range) → IsPointerFrom n floor p → IsTargetFrom (target_of l n call trail p need)
+    target_from trail p need h = within_from k p (after_write call.flow.bases.items p.bases need) h
+
+    copied_plan : (v : Value I) (to from : Argument I) → IsPointerFrom n floor to.rest → IsEffectFrom (copy_both l n call row v to from).effect
+    copied_plan v to from h =
+        let trail = room_trail n (room_trail n (both_given v to from) to.rest (n.bounds v.num)) from.rest (cut_by_room n (n.bounds v.num) to.rest) in
+        let need = cut_by_room n (cut_by_room n (n.bounds v.num) to.rest) from.rest in
+        let target = target_of l n call trail to.rest need in
+        planned_from target.trail.goes_on (copy_in_window l n call row from target (touched_window n target.rest target.count)) (copy_window from target (touched_window n target.rest target.count) (target_from trail to.rest need h))
 
     copy_plan : IsEffectFrom (plan_copy l n call row).effect
     unfolding plan_copy
-    copy_plan = planned_from _ _ (copy_window (argument_at l n call row 1) _ _ (target_from 0 _))
+    copy_plan = copied_plan (argument_value l n call row 2) (argument_at l n call row 0) (argument_at l n call row 1) (given_from 0)
+
+    filled_plan : (c v : Value I) (to : Argument I) → IsPointerFrom n floor to.rest → IsEffectFrom (fill_given l n call c v to).effect
+    filled_plan c v to h =
+        let trail = room_trail n (fill_trail n c v to) to.rest (n.bounds v.num) in
+        let need = cut_by_room n (n.bounds v.num) to.rest in
+        let target = target_of l n call trail to.rest need in
+        planned_from target.trail.goes_on (fill_in_window l n call target c (touched_window n target.rest target.count) (window_within (offsets n target.rest)))
+        (set_from_window call target c (touched_window n target.rest target.count) (window_within (offsets n target.rest)) (target_from trail to.rest need h))
 
     fill_plan : IsEffectFrom (plan_fill l n call row).effect
     unfolding plan_fill
-    fill_plan = planned_from _ _ (set_from_window call _ (argument_value l n call row 1) _ _ (target_from 0 _))
+    fill_plan = filled_plan (argument_value l n call row 1) (argument_value l n call row 2) (argument_at l n call row 0) (given_from 0)
 
     -- ---- calls on strings
 
+    start_plan : (target : Target I) (characters : Characters I) (rule : ZeroRule I) → IsTargetFrom target → AreCharactersFrom k characters → IsEffectFrom (text_from_start l n call target characters rule).effect
+    start_plan target characters rule h q =
+        planned_from target.trail.goes_on (text_effect l call target (window_within (offsets n target.rest)) (touched_window n target.rest target.count) (is_one_byte target.count) characters rule)
+        (text_from call target (window_within (offsets n target.rest)) (touched_window n target.rest target.count) (is_one_byte target.count) characters rule h q)
+
+    strcpy_scan : (to from : Argument I) (found : Scanned I) → IsPointerFrom n floor to.rest → IsEffectFrom (strcpy_scanned l n call row to from found).effect
+    strcpy_scan to from found h =
+        let trail = room_trail n (scanned_trail (two_given to from) found) to.rest (one_more n found.length) in
+        let need = cut_by_room n (one_more n found.length) to.rest in
+        start_plan (target_of l n call trail to.rest need) (source_characters l n call row (within_bases l n from.rest found.bases) need) (zero.Text (one_less l n need)) (target_from trail to.rest need h) (source_from (within_bases l n from.rest found.bases) need)
+
     strcpy_plan : IsEffectFrom (plan_strcpy l n call row).effect
     unfolding plan_strcpy
-    strcpy_plan = planned_from _ _ (text_from call _ _ _ _ _ _ (target_from 0 _) (source_from _ _))
+    strcpy_plan = strcpy_scan (argument_at l n call row 0) (argument_at l n call row 1) (scan_at l n call row (argument_at l n call row 1)) (given_from 0)
+
+    strncpy_scan : (v : Value I) (to from : Argument I) (found : Scanned I) → IsPointerFrom n floor to.rest → IsEffectFrom (strncpy_scanned l n call row v to from found).effect
+    strncpy_scan v to from found h =
+        let trail = room_trail n (strncpy_trail l n call row v to from found) to.rest (n.bounds v.num) in
+        let need = cut_by_room n (n.bounds v.num) to.rest in
+        start_plan (target_of l n call trail to.rest need) (source_characters l n call row from.rest need) zero.Any (target_from trail to.rest need h) (source_from from.rest need)
 
     strncpy_plan : IsEffectFrom (plan_strncpy l n call row).effect
     unfolding plan_strncpy
-    strncpy_plan = planned_from _ _ (text_from call _ _ _ _ _ _ (target_from 0 _) (source_from _ _))
+    strncpy_plan = strncpy_scan (argument_value l n call row 2) (argument_at l n call row 0) (argument_at l n call row 1) (scan_at l n call row (argument_at l n call row 1)) (given_from 0)
+
+    append_plan : (source : Pointers I) (there : Scanned I) (target : Target I) (length : I) → IsTargetFrom target → IsEffectFrom (strcat_of l n call row source there target length).effect
+    append_plan source there target length h =
+        let characters = source_characters l n call row source (one_more n length) in
+        planned_from target.trail.goes_on (append_effect l n call target there characters length)
+        (text_from call target (window_within (append_start n target.rest there.length)) (append_window n target.rest there.length target.count) false characters (zero.Append length there.unknown) h (source_from source (one_more n length)))
+
+    strcat_scan : (to from : Argument I) (there added : Scanned I) → IsPointerFrom n floor to.rest → IsEffectFrom (strcat_scanned l n call row to from there added).effect
+    strcat_scan to from there added h =
+        let place = within_bases l n to.rest there.bases in
+        let trail = room_trail n (scanned_trail (scanned_trail (two_given to from) there) added) place (strcat_need n there added) in
+        let need = cut_by_room n (strcat_need n there added) place in
+        append_plan (within_bases l n from.rest added.bases) there (target_of l n call trail place need) (appended l n there.length added.length need) (target_from trail place need (within_from k to.rest there.bases h))
 
     strcat_plan : IsEffectFrom (plan_strcat l n call row).effect
     unfolding plan_strcat
-    strcat_plan = planned_from _ _ (text_from call _ _ _ _ _ _ (within_from k _ _ (target_from 0 _)) (source_from _ _))
+    strcat_plan = strcat_scan (argument_at l n call row 0) (argument_at l n call row 1) (scan_at l n call row (argument_at l n call row 0)) (scan_at l n call row (argument_at l n call row 1)) (given_from 0)
 
     input_from : AreCharactersFrom k (input_characters l n call.flow.model)
     input_from = (whole_from k (kind_of call.flow.model Char true) (class_size call.flow.model Char), whole_from k (kind_of call.flow.model Char false) (class_size call.flow.model Char))
 
+    line_plan : (v : Value I) (to : Argument I) → IsPointerFrom n floor to.rest → IsEffectFrom (fgets_given l n call v to).effect
+    line_plan v to h =
+        let trail = room_trail n (line_trail n v to) to.rest (line_count n v) in
+        let need = cut_by_room n (line_count n v) to.rest in
+        start_plan (target_of l n call trail to.rest need) (input_characters l n call.flow.model) (line_rule l n need) (target_from trail to.rest need h) input_from
+
     pub fgets_plan : IsEffectFrom (plan_fgets l n call row).effect
     unfolding plan_fgets
-    fgets_plan = planned_from _ _ (text_from call _ _ _ _ _ _ (target_from 0 _) input_from)
+    fgets_plan = line_plan (argument_value l n call row 1) (argument_at l n call row 0) (given_from 0)
 
     -- ---- calls that give a number
 
     length_from : (found : Scanned I) → IsFrom floor (n.bounds (length_of l n call.flow.model found))
-    length_from found = range_from k floor (range_met (n.bounds found.length) (pos 0) _) (count_low k (range_met (n.bounds found.length) (pos 0) _) (met_from (pos 0) (n.bounds found.length) (pos 0) _ (omega (arith, ints))))
+    length_from found =
+        let most = greatest_of (kind_of call.flow.model Pointer false) in
+        range_from k floor (range_met (n.bounds found.length) (pos 0) most) (count_low k (range_met (n.bounds found.length) (pos 0) most) (met_from (pos 0) (n.bounds found.length) (pos 0) most (omega (arith, ints))))
+
+    length_plan : (given : Argument I) (found : Scanned I) → IsEffectFrom (strlen_scanned l n call.flow.model given found).effect
+    length_plan given found = planned_from _ (Result (number_value l (length_of l n call.flow.model found) no_labels)) (number_from k (length_of l n call.flow.model found) (length_from found))
 
     strlen_plan : IsEffectFrom (plan_strlen l n call row).effect
     unfolding plan_strlen
-    strlen_plan = planned_from _ (Result (number_value l (length_of l n call.flow.model _) _)) (number_from k (length_of l n call.flow.model _) _ (length_from _))
+    strlen_plan = length_plan (argument_at l n call row 0) (scan_at l n call row (argument_at l n call row 0))
 
     strcmp_plan : IsEffectFrom (plan_strcmp l n call row).effect
     unfolding plan_strcmp
-    strcmp_plan = planned_from _ (Result (number_value l (between_or_least l n (negsuc 0) (pos 1)) _)) (number_from k (between_or_least l n (negsuc 0) (pos 1)) _ (between_low (negsuc 0) (pos 1) (omega (arith, ints))))
+    strcmp_plan = planned_from _ (Result (number_value l (between_or_least l n (negsuc 0) (pos 1)) no_labels)) (number_from k (between_or_least l n (negsuc 0) (pos 1)) (between_low (negsuc 0) (pos 1) (omega (arith, ints))))
 
     puts_plan : IsEffectFrom (plan_puts l n call row).effect
     unfolding plan_puts
-    puts_plan = planned_from _ (Result (number_value l (n.one (pos 0)) _)) (number_from k (n.one (pos 0)) _ (zero_from k))
+    puts_plan = planned_from _ (Result (number_value l (n.one (pos 0)) no_labels)) (number_from k (n.one (pos 0)) (zero_from k))
 
     printf_plan : IsEffectFrom (plan_printf l n call row).effect
     unfolding plan_printf
-    printf_plan = planned_from _ (Result (number_value l (between_or_least l n (pos 0) _) _)) (number_from k (between_or_least l n (pos 0) _) _ (between_low (pos 0) _ (omega (arith, ints))))
+    printf_plan =
+        let most = greatest_of (kind_of call.flow.model Int true) in
+        planned_from _ (Result (number_value l (between_or_least l n (pos 0) most) no_labels)) (number_from k (between_or_least l n (pos 0) most) (between_low (pos 0) most (omega (arith, ints))))
+
+    put_plan : (t : Bool) (c : Value I) (x : I) → IsFrom floor (n.bounds x) → IsEffectFrom (cond t (harmless Unreached) (harmless (Result (number_value l x c.labels)))).effect
+    put_plan true c x h = tt
+    put_plan false c x h = number_from k x h
 
     putchar_plan : (c : Value I) → IsEffectFrom (plan_putchar l n call.flow.model c).effect
     putchar_plan c =
         let x = n.convert c.num (kind_of call.flow.model Char false) in
-        by_none (is_none (n.bounds x)) x (convert_from k c.num (kind_of call.flow.model Char false) (class_size call.flow.model Char))
-      where
-        by_none : (t : Bool) (x : I) → IsFrom floor (n.bounds x) → IsEffectFrom (cond t (record { violations = _; effect = Unreached }) (record { violations = _; effect = Result (number_value l x c.labels) })).effect
-        by_none true x h = tt
-        by_none false x h = number_from k x c.labels h
+        put_plan (is_none (n.bounds x)) c x (convert_from k c.num (kind_of call.flow.model Char false) (class_size call.flow.model Char))
 
     -- ---- all calls
 
@@ -362,7 +430,7 @@ module _ {I : Type 0} {l : LatticeOf I} {n : IntegersOf I} {stands : I → ℤ �
     plan_from f.Strncpy = strncpy_plan
     plan_from f.Strcat = strcat_plan
     plan_from f.Strcmp = strcmp_plan
-    plan_from f.Getchar = number_from k (between_or_least l n (negsuc 0) (pos 255)) _ (between_low (negsuc 0) (pos 255) (omega (arith, ints)))
+    plan_from f.Getchar = number_from k (between_or_least l n (negsuc 0) (pos 255)) (between_low (negsuc 0) (pos 255) (omega (arith, ints)))
     plan_from f.Putchar = putchar_plan (argument_value l n call row 0)
     plan_from f.Puts = puts_plan
     plan_from f.Printf = printf_plan

@@ -4,20 +4,17 @@ use Rattle.std.proofs.Common.{arith}
 use Rattle.std.proofs.lemmas.Int.{ints}
 use Rattle.std.proofs.lemmas.Bool.{cond_both}
 use Rattle.cc_base.specs.Lattices.{LatticeOf}
-use Rattle.cc_base.specs.NumberRanges.{Range, range_met}
+use Rattle.cc_base.specs.NumberRanges.{Range, range_sum, range_times, range_met}
 use Rattle.cc_base.specs.IntegerDomains.{IntegersOf, of_range}
 use Rattle.c_layout.specs.declared.shapes.BaseInfo.{BaseInfo}
 use Rattle.pointer_domain.specs.declared.base_sets.Bases.{Bases}
 use Rattle.pointer_domain.specs.declared.pointer_sets.Pointers.{Pointers}
-use Rattle.pointer_domain.specs.BaseSets.{no_base}
 use Rattle.pointer_domain.specs.PointerLattice.{no_pointer}
-use Rattle.pointer_domain.specs.PointerTables.{offsets, moved_to, shifted, part_at, part_starts, narrowed}
+use Rattle.pointer_domain.specs.PointerTables.{the_end, moved_to, length_above, shifted, part_at, part_starts, narrowed}
 use Rattle.value_domain.specs.declared.row_cells.Cell.{Cell}
 use Rattle.store_domain.specs.LiveBases.{live_of}
-use Rattle.abstract_steps_checks.specs.declared.library_arguments.Argument.{Argument}
-use Rattle.abstract_steps_checks.specs.AllocationChecks.{may_be_zero, to_starts, check_release, heap_of}
 use Rattle.abstract_steps_checks.specs.LibraryArguments.{within_bases, check_argument}
-use Rattle.abstract_steps_checks.specs.Touches.{is_nowhere, into_bases, places_within, touched_inside, touch}
+use Rattle.abstract_steps_checks.specs.Touches.{kept_of, is_nowhere, into_bases, places_within, touched_inside, touch}
 use Rattle.abstract_steps_laws_own_stores.specs.Floors.{IsFrom, IsPointerFrom}
 use Rattle.abstract_steps_laws_own_stores.proofs.Ranges.{FloorLaws, met_from, range_from, between_from, one_from, low_from, count_low}
 use Rattle.abstract_steps_laws_own_stores.proofs.Values.{no_pointer_from, near_pointer_from}
@@ -41,22 +38,31 @@ module _ {I : Type 0} {l : LatticeOf I} {n : IntegersOf I} {stands : I → ℤ �
   zero_low = omega (arith, ints)
 
   pub shifted_from : (p : Pointers I) (by : I) (scale : ℕ) → IsPointerFrom n floor p → IsPointerFrom n floor (shifted l n p by scale)
-  shifted_from p by scale h = moved_from p h _ (count_low k _ (met_from (pos 0) _ (pos 0) _ zero_low))
+  shifted_from p by scale h =
+      let sums = range_sum (n.bounds p.rel) (range_times (n.bounds by) scale) in
+      let end = length_above n p in
+      moved_from p h (range_met sums (pos 0) end) (count_low k (range_met sums (pos 0) end) (met_from (pos 0) sums (pos 0) end zero_low))
 
   part_from : (p : Pointers I) (size : ℕ) (r : Range) → IsFrom (pos 0) r → IsPointerFrom n floor (part_at l n p size r)
   part_from p size None h = no_pointer_from k
   part_from p size (Some r) h = (between_from k (pos 0) r.0 r.1 h, count_floor 0, count_from size)
 
   pub narrowed_from : (p : Pointers I) (offset size : ℕ) → IsPointerFrom n floor (narrowed l n p offset size)
-  narrowed_from p offset size = part_from p size (part_starts n p offset size) (met_from (pos 0) _ (pos 0) _ zero_low)
+  narrowed_from p offset size =
+      let starts = range_sum (range_sum (n.bounds p.lo) (range_met (n.bounds p.rel) (pos 0) ((length_above n p -ℤ pos offset) -ℤ pos size))) (Some (pos offset, pos offset)) in
+      part_from p size (part_starts n p offset size) (met_from (pos 0) starts (pos 0) the_end zero_low)
 
   -- ---- touches
 
   pub into_from : (p : Pointers I) (bases : Bases) (rel : I) → IsPointerFrom n floor p → IsFrom floor (n.bounds rel) → IsPointerFrom n floor (into_bases l n p bases rel)
   into_from p bases rel h j = cond_both (is_nowhere n bases rel) (no_pointer l) (record p { bases = bases; rel = rel; null = false; ended = false }) PointerFrom (λ e. no_pointer_from k) (λ e. (h.0, j, h.2))
 
+  -- the last place from which the bytes lie within the bounds
+  abbrev last : Pointers I → ℕ → ℕ → ℤ
+  last p offset size = (length_above n p -ℤ pos offset) -ℤ pos size
+
   inside_from : (p : Pointers I) (live : Bases) (offset size : ℕ) → IsPointerFrom n floor p → IsPointerFrom n floor (touched_inside l n p live offset size)
-  inside_from p live offset size h = into_from p live (places_within l n p offset size) h (range_from k floor _ (count_low k _ (met_from (pos 0) (n.bounds p.rel) (pos 0) _ zero_low)))
+  inside_from p live offset size h = into_from p live (places_within l n p offset size) h (range_from k floor (range_met (n.bounds p.rel) (pos 0) (last p offset size)) (count_low k (range_met (n.bounds p.rel) (pos 0) (last p offset size)) (met_from (pos 0) (n.bounds p.rel) (pos 0) (last p offset size) zero_low)))
 
   -- what goes on behind a touch
   pub touch_from : (bases : List BaseInfo) (row : List (Cell I)) (p : Pointers I) (offset size : ℕ) (write : Bool) → IsPointerFrom n floor p → IsPointerFrom n floor (touch l n bases row p offset size write).rest
@@ -64,7 +70,7 @@ module _ {I : Type 0} {l : LatticeOf I} {n : IntegersOf I} {stands : I → ℤ �
   touch_from bases row p offset size write h =
       let inside = touched_inside l n p (live_of l n bases row p.bases) offset size in
       let j = inside_from p (live_of l n bases row p.bases) offset size h in
-      near_pointer_from k (into_bases l n inside _ inside.rel) (into_from inside _ inside.rel j j.1)
+      near_pointer_from k (into_bases l n inside (kept_of bases write inside.bases) inside.rel) (into_from inside (kept_of bases write inside.bases) inside.rel j j.1)
 
   -- ---- arguments
 

@@ -52,8 +52,8 @@ module _ {I : Type 0} {l : LatticeOf I} {n : IntegersOf I} {stands : I → ℤ �
 
   module _ (m : Model) (write : TextWrite I) (h : AreCharactersFrom write.characters) (base : BaseInfo) where
     character_from : (signed : Bool) → IsValueFrom n floor (character_value l n write.characters signed)
-    character_from true = number_from k (l.join write.characters.signed (n.one (pos 0))) write.characters.labels (join_from k floor write.characters.signed (n.one (pos 0)) h.0 (zero_from k))
-    character_from false = number_from k (l.join write.characters.unsigned (n.one (pos 0))) write.characters.labels (join_from k floor write.characters.unsigned (n.one (pos 0)) h.1 (zero_from k))
+    character_from true = number_from k (l.join write.characters.signed (n.one (pos 0))) (join_from k floor write.characters.signed (n.one (pos 0)) h.0 (zero_from k))
+    character_from false = number_from k (l.join write.characters.unsigned (n.one (pos 0))) (join_from k floor write.characters.unsigned (n.one (pos 0)) h.1 (zero_from k))
 
     class_from : (class : Class) (signed : Bool) → IsValueFrom n floor (value_of_class l n m class signed write.characters)
     class_from Char signed = character_from signed
@@ -95,7 +95,7 @@ module _ {I : Type 0} {l : LatticeOf I} {n : IntegersOf I} {stands : I → ℤ �
   module _ (m : Model) (write : FillWrite) (base : BaseInfo) where
     covered_from : (class : Class) (signed : Bool) → IsValueFrom n floor (covered_value l n m class signed write)
     covered_from class signed = cond_both (is_pointer class) (labelled_null l write.labels) (zeroed l n m class signed write) ValueFrom (λ e. least_value_from k)
-        (λ e. cond_both write.zero (number_value l (n.one (pos 0)) write.labels) (byte_written l n m class signed write.labels) ValueFrom (λ f. number_from k (n.one (pos 0)) write.labels (zero_from k)) (λ f. byte_written_from k m class signed write.labels))
+        (λ e. cond_both write.zero (number_value l (n.one (pos 0)) write.labels) (byte_written l n m class signed write.labels) ValueFrom (λ f. number_from k (n.one (pos 0)) (zero_from k)) (λ f. byte_written_from k m class signed write.labels))
 
     set_leaves_kept : (alone : Bool) → KeepsFrom n floor (fill_leaves l n m base write alone)
     unfolding fill_leaves fill_leaf_of fill_leaf

@@ -1,5 +1,5 @@
 -- Allocations leave rows from a floor on, and give pointers from it on.
-use Rattle.std.specs.Prelude.{ℕ, ◌&&◌, ℤ, pos, Bool, true, false, cond, Option, Some, None, is_some, List, length, map, slice_get}
+use Rattle.std.specs.Prelude.{ℕ, ◌&&◌, ℤ, pos, Bool, true, false, Option, Some, None, is_some, List, length, slice_get}
 use Rattle.std.proofs.Common.{arith}
 use Rattle.std.proofs.lemmas.Int.{ints}
 use Rattle.std.proofs.lemmas.Bool.{cond_both}
@@ -20,7 +20,7 @@ use Rattle.value_domain.specs.Values.{value_lattice}
 use Rattle.value_domain.specs.ValueTables.{blank_value}
 use Rattle.store_domain.specs.declared.allocation.Fresh.{Fresh}
 use Rattle.store_domain.specs.declared.allocation.Fresh.TheVariants.{Blank, Zero, Old}
-use Rattle.store_domain.specs.Allocations.{is_named, site_of, renamed, renamed_cell, renamed_fresh, join_cell, join_values, join_part, join_zeros, join_state, join_base, in_target, class_cell, joined_if, class_leaf, class_values, old_more, old_value, fresh_value, fresh_cell, fresh_leaf, fresh_leaves, fresh_class, fresh_classes, fresh_values, make_instance, make_nothing, make_of, make_fresh, free_old, replaced, renew_site, renew_found, renew, is_fresh, fresh_pointer, renewed_pointer}
+use Rattle.store_domain.specs.Allocations.{is_named, site_of, renamed, renamed_cell, join_cell, join_values, join_part, join_zeros, join_state, join_base, in_target, class_cell, joined_if, class_leaf, class_values, old_more, old_value, fresh_value, fresh_cell, fresh_leaf, fresh_leaves, fresh_class, fresh_classes, fresh_values, make_instance, make_nothing, make_of, make_fresh, free_old, replaced, renew_site, renew_found, renew, is_fresh, fresh_pointer, renewed_pointer}
 use Rattle.store_domain.specs.ByteWrites.{null_pointer}
 use Rattle.store_domain.specs.ClassNumbers.{class_number, class_at, same_class}
 use Rattle.store_domain.specs.LiveBases.{has_base}

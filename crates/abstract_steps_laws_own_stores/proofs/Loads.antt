@@ -1,5 +1,5 @@
 -- Loads from rows from a floor on give values from it on.
-use Rattle.std.specs.Prelude.{ℕ, ◌+◌, ℤ, Bool, true, false, cond, Option, Some, None, List}
+use Rattle.std.specs.Prelude.{◌+◌, ℤ, Bool, true, false, Option, Some, None, List}
 use Rattle.std.proofs.lemmas.Bool.{cond_both}
 use Rattle.cc_base.specs.Lattices.{LatticeOf}
 use Rattle.cc_base.specs.IntegerDomains.{IntegersOf}
@@ -15,7 +15,7 @@ use Rattle.value_domain.specs.declared.row_cells.Cell.{Cell}
 use Rattle.store_domain.specs.declared.cell_reads.Access.{Access}
 use Rattle.store_domain.specs.declared.access_windows.Window.{Window}
 use Rattle.store_domain.specs.AccessWindows.{window_of}
-use Rattle.store_domain.specs.CellReads.{joined, as_read, byte_read, whole_range}
+use Rattle.store_domain.specs.CellReads.{as_read, byte_read, whole_range}
 use Rattle.store_domain.specs.ClassNumbers.{class_number, class_at, same_class}
 use Rattle.store_domain.specs.LeafSelection.{is_selected, is_other, meets_padding}
 use Rattle.store_domain.specs.Loads.{reaches_class, read_leaf, load_leaves, load_class_cell, read_other_leaf, load_other_leaves, read_class_cell, load_other_class_cells, load_padding, load_other_bytes, is_text, determinate_if, load_own, load_others, load_character, load_base, read_base_if, read_base, load_bases, loaded, load_within, load}

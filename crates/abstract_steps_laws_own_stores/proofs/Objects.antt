@@ -1,8 +1,8 @@
 -- Objects that are entered, left, cleared and spelled leave rows from a floor on.
-use Rattle.std.specs.Prelude.{◌≡◌, ℕ, ◌-◌, ◌^◌, ◌&&◌, ℤ, pos, negsuc, ◌-ℤ◌, ◌≤ℤ◌, nat_le, Bool, true, false, cond, Option, Some, None, List, map, slice_get}
+use Rattle.std.specs.Prelude.{ℕ, ◌-◌, ◌&&◌, ℤ, pos, ◌-ℤ◌, ◌≤ℤ◌, nat_le, Bool, Option, Some, None, List, slice_get}
 use Rattle.std.proofs.Common.{arith}
 use Rattle.std.proofs.lemmas.Int.{ints}
-use Rattle.std.proofs.lemmas.Bool.{cond_both, and_parts, leb-true}
+use Rattle.std.proofs.lemmas.Bool.{cond_both}
 use Rattle.cc_base.specs.Lattices.{LatticeOf}
 use Rattle.cc_base.specs.IntegerDomains.{IntegersOf}
 use Rattle.c_layout.specs.declared.leaf_lists.Leaf.{Leaf}
@@ -13,13 +13,11 @@ use Rattle.string_domain.specs.declared.first_zeros.FirstZero.{FirstZero}
 use Rattle.value_domain.specs.declared.values.Value as values
 use Rattle.value_domain.specs.declared.row_cells.Cell.{Cell}
 use Rattle.value_domain.specs.declared.row_cells.Cell.TheVariants.{Value, First, State}
-use Rattle.value_domain.specs.LabelSets.{no_labels}
-use Rattle.store_domain.specs.Walks.{turns}
 use Rattle.store_domain.specs.RowPositions.{capped, leaf_position, put_value, join_value, value_count}
 use Rattle.store_domain.specs.ObjectLives.{set_cell, set_values, blank_object, at_base, forget, clear_leaf, clear_leaves, clear_object, clear, ended_cell, leave_object, leave}
 use Rattle.store_domain.specs.Spelling.{character, character_number, begins_at, is_one_place, is_spelled, number_of, hull_more, hull, one_character, characters, spell_cell, spell_leaf_at, spell_leaf, spell_leaves, spell_part, spell_zero, spell_object, spell}
 use Rattle.store_domain.specs.Freeing.{free_base_if, free_base, free_bases, free}
-use Rattle.abstract_steps_laws_own_stores.specs.Floors.{least_number, IsFrom, IsValueFrom, AreFrom, KeepsFrom}
+use Rattle.abstract_steps_laws_own_stores.specs.Floors.{least_number, IsFrom, IsValueFrom, KeepsFrom}
 use Rattle.abstract_steps_laws_own_stores.proofs.Ranges.{FloorLaws, least_from, join_from, low_from}
 use Rattle.abstract_steps_laws_own_stores.proofs.Values.{least_value_from, zero_value_from, ended_cell_from, number_from}
 use Rattle.abstract_steps_laws_own_stores.proofs.Rows.{turns_keep, set_from, if_from, row_walk, row_turns, row_map, zeros_set, join_keeps}
@@ -79,11 +77,11 @@ module _ {I : Type 0} {l : LatticeOf I} {n : IntegersOf I} {stands : I → ℤ �
 
   one_from : (leaf : Leaf) (offset : ℕ) (text : List ℕ) → IsValueFrom n floor (one_character l n leaf offset text)
   unfolding one_character
-  one_from leaf offset text = number_from k (number_of n (character text (leaf.offset - offset)) leaf.signed) no_labels (character_from (character text (leaf.offset - offset)) leaf.signed)
+  one_from leaf offset text = number_from k (number_of n (character text (leaf.offset - offset)) leaf.signed) (character_from (character text (leaf.offset - offset)) leaf.signed)
 
   several_from : (leaf : Leaf) (offset count : ℕ) (text : List ℕ) → IsValueFrom n floor (characters l n leaf offset count text)
   unfolding characters
-  several_from leaf offset count text = number_from k (hull l n leaf offset count text) no_labels (hull_from leaf offset count text)
+  several_from leaf offset count text = number_from k (hull l n leaf offset count text) (hull_from leaf offset count text)
 
   cell_spelled : (at : ℕ) (leaf : Leaf) (offset count : ℕ) (text : List ℕ) → KeepsFrom n floor (λ row. spell_cell l n row at leaf offset count text)
   unfolding spell_cell

@@ -14,7 +14,7 @@ use Rattle.store_domain.specs.declared.first_zero_writes.ZeroTarget.{ZeroTarget}
 use Rattle.store_domain.specs.FirstZeroWrites.{zero_target, put_target, put_part, put_character, forget_target, forget_part, forget_zeros, set_part, set_zeros}
 use Rattle.store_domain.specs.RowPositions.{value_at, join_value, write_value}
 use Rattle.store_domain.specs.Walks.{walk, turns}
-use Rattle.abstract_steps_laws_own_stores.specs.Floors.{IsValueFrom, IsCellFrom, AreFrom, IsLeftFrom, KeepsFrom, LeavesFrom}
+use Rattle.abstract_steps_laws_own_stores.specs.Floors.{IsValueFrom, IsCellFrom, AreFrom, IsLeftFrom, KeepsFrom}
 use Rattle.abstract_steps_laws_own_stores.proofs.Ranges.{FloorLaws}
 use Rattle.abstract_steps_laws_own_stores.proofs.Values.{join_value_from, at_from}
 

@@ -1,5 +1,5 @@
 -- Copies of structs leave rows from a floor on.
-use Rattle.std.specs.Prelude.{ℕ, zero, suc, ◌+◌, ◌/◌, ℤ, Bool, true, false, cond, Option, Some, None, is_some, List, slice_get}
+use Rattle.std.specs.Prelude.{ℕ, zero, suc, ◌+◌, ◌/◌, ℤ, Bool, true, Option, Some, None, is_some, List, slice_get}
 use Rattle.std.proofs.lemmas.Bool.{cond_both}
 use Rattle.cc_base.specs.Lattices.{LatticeOf}
 use Rattle.cc_base.specs.IntegerDomains.{IntegersOf}
@@ -18,7 +18,6 @@ use Rattle.value_domain.specs.declared.row_cells.Cell.TheVariants.{First}
 use Rattle.store_domain.specs.declared.access_windows.Window.{Window}
 use Rattle.store_domain.specs.AccessWindows.{window_of}
 use Rattle.store_domain.specs.CellReads.{whole_range, as_stored}
-use Rattle.store_domain.specs.ByteWrites.{byte_written}
 use Rattle.store_domain.specs.ClassNumbers.{class_number, class_at, same_class, is_pointer}
 use Rattle.store_domain.specs.FirstZeroWrites.{zero_target}
 use Rattle.store_domain.specs.LiveBases.{has_base}

@@ -1,5 +1,5 @@
 -- What a leaf of a copied struct can be in a row from a floor on is from it on.
-use Rattle.std.specs.Prelude.{ℕ, ◌+◌, ℤ, Bool, true, false, Option, Some, None, List}
+use Rattle.std.specs.Prelude.{◌+◌, ℤ, Bool, true, false, Option, Some, None, List}
 use Rattle.std.proofs.lemmas.Bool.{cond_both}
 use Rattle.cc_base.specs.Lattices.{LatticeOf}
 use Rattle.cc_base.specs.IntegerDomains.{IntegersOf}

@@ -10,19 +10,19 @@ use Rattle.cc_base.specs.declared.int_types.IntType.{IntType}
 use Rattle.c_layout.specs.declared.data_model.Model.{Model}
 use Rattle.c_layout.specs.declared.leaf_lists.Class.{Class}
 use Rattle.c_layout.specs.declared.leaf_lists.Class.TheVariants.{Char, Short, Int, Long, LongLong, Pointer}
-use Rattle.pointer_domain.specs.declared.base_sets.Bases.{Bases}
 use Rattle.pointer_domain.specs.declared.pointer_sets.Pointers.{Pointers}
-use Rattle.pointer_domain.specs.BaseSets.{bases_has, bases_with, bases_without, bases_empty}
+use Rattle.pointer_domain.specs.BaseSets.{bases_has, bases_without, bases_empty}
 use Rattle.pointer_domain.specs.PointerLattice.{no_pointer, pointer_lattice}
-use Rattle.pointer_domain.specs.PointerTables.{without_bases, if_any_base}
+use Rattle.pointer_domain.specs.PointerTables.{if_any_base}
 use Rattle.value_domain.specs.declared.label_sets.Labels.{Labels}
 use Rattle.value_domain.specs.declared.values.Value as values
 use Rattle.value_domain.specs.declared.row_cells.Cell.{Cell}
 use Rattle.value_domain.specs.declared.row_cells.Cell.TheVariants.{Nothing, Value, First, State, Mixed}
+use Rattle.value_domain.specs.LabelSets.{no_labels}
 use Rattle.value_domain.specs.Values.{value_lattice}
 use Rattle.value_domain.specs.ValueTables.{blank_value, number_value, pointer_value}
 use Rattle.store_domain.specs.ByteWrites.{null_pointer, labelled_null, byte_written}
-use Rattle.store_domain.specs.CellReads.{same_sign, joined_with, joined, whole_range, as_read, as_stored, only_flag, byte_read}
+use Rattle.store_domain.specs.CellReads.{same_sign, joined, whole_range, as_read, as_stored, only_flag, byte_read}
 use Rattle.store_domain.specs.ClassNumbers.{is_pointer}
 use Rattle.store_domain.specs.Loads.{joined_if}
 use Rattle.store_domain.specs.LiveBases.{most_bases}
@@ -31,7 +31,7 @@ use Rattle.store_domain.specs.ObjectLives.{zero_value, ended_pointer, ended_cell
 use Rattle.store_domain.specs.RowPositions.{cell_at, value_in, value_at}
 use Rattle.store_domain.specs.ScalarTypes.{class_bytes, kind_of}
 use Rattle.abstract_steps_laws_own_stores.specs.Floors.{IsFrom, IsPointerFrom, IsValueFrom, IsReadFrom, IsCellFrom, AreFrom}
-use Rattle.abstract_steps_laws_own_stores.proofs.Ranges.{FloorLaws, least_from, one_from, join_from, near_from, convert_from, whole_from, low_from}
+use Rattle.abstract_steps_laws_own_stores.proofs.Ranges.{FloorLaws, least_from, join_from, near_from, convert_from, whole_from, low_from}
 
 -- the scalars of a model have sizes of types
 pub class_size : (m : Model) (class : Class) → is_size (class_bytes m class) ≡ true
@@ -78,15 +78,12 @@ module _ {I : Type 0} {l : LatticeOf I} {n : IntegersOf I} {stands : I → ℤ �
   pub near_value_from : (v : values.Value I) → IsValueFrom n floor v → IsValueFrom n floor (near_value l n v)
   near_value_from v h = (near_from k floor v.num h.0, near_pointer_from v.pointer h.1)
 
-  pub number_from : (x : I) (labels : Labels) → IsFrom floor (n.bounds x) → IsValueFrom n floor (number_value l x labels)
-  number_from x labels h = (h, no_pointer_from)
+  -- whatever the labels
+  pub number_from : (x : I) → IsFrom floor (n.bounds x) → IsValueFrom n floor (number_value l x no_labels)
+  number_from x h = (h, no_pointer_from)
 
   pub pointer_from : (p : Pointers I) → IsPointerFrom n floor p → IsValueFrom n floor (pointer_value l p)
   pointer_from p h = (least_from k floor, h)
-
-  -- indeterminate, or null, or nothing
-  pub bare_from : (blank : Bool) (labels : Labels) (null : Bool) → IsValueFrom n floor (record { num = l.least; pointer = record (no_pointer l) { null = null }; indeterminate = blank; labels = labels })
-  bare_from blank labels null = least_value_from
 
   pub whole_range_from : (kind : IntType) (labels : Labels) (blank : Bool) → is_size kind.bytes ≡ true → IsValueFrom n floor (whole_range l n kind labels blank)
   whole_range_from kind labels blank s = (whole_from k kind s, no_pointer_from)

@@ -1,0 +1,18 @@
+-- The edges of a program leave rows from a floor on, and so is the row of its entry.
+use Rattle.std.specs.Prelude.{◌≡◌, ℕ, ℤ, true, List}
+use Rattle.cc_base.specs.Lattices.{LatticeOf}
+use Rattle.cc_base.specs.IntegerDomains.{IntegersOf}
+use Rattle.flow_program.specs.StaticStarts.{are_started}
+use Rattle.flow_program.specs.declared.programs.Flow.{Flow}
+use Rattle.value_domain.specs.declared.row_cells.Cell.{Cell}
+use Rattle.abstract_steps.specs.StartRows.{start_row}
+use Rattle.abstract_steps_system.specs.BlockPasses.{edge_end}
+use Rattle.abstract_steps_laws_own_stores.specs.Floors.{IsLeftFrom, LeavesFrom}
+use Rattle.abstract_steps_laws_own.specs.FittingPrograms.{IsFitting}
+
+module _ {I : Type 0} (l : LatticeOf I) (n : IntegersOf I) (floor : ℤ) (flow : Flow) where
+  pub record StepsKeepFloors : Type 0 where
+    -- the row at the start of a block, taken to the end of an edge
+    pub edge : IsFitting flow → (block number : ℕ) → LeavesFrom n floor (edge_end l n flow block number)
+    -- whatever row the entry's is made in
+    pub start : are_started flow.model flow.bases.items flow.initial.items ≡ true → (row : List (Cell I)) → IsLeftFrom n floor (start_row l n flow row)
