@@ -91,7 +91,7 @@ module _ {I : Type 0} {l : LatticeOf I} {n : IntegersOf I} {stands : I → ℤ �
 
   converted_put : (row : List (Cell I)) → AreFrom n floor row → (to : ℕ) (v : values.Value I) → IsValueFrom n floor v → (from kind : Scalar) → IsLeftFrom n floor (convert_value l n flow row to v from kind)
   unfolding convert_value put_converted
-  converted_put row j to v h from (scalar.Int kind) = sized_put row j to kind.bytes _ (λ s. number_from k (n.convert v.num kind) _ (convert_from k v.num kind s))
+  converted_put row j to v h from (scalar.Int kind) = sized_put row j to kind.bytes _ (λ s. number_from k (n.convert v.num kind) (convert_from k v.num kind s))
   converted_put row j to v h (scalar.Int kind) scalar.Pointer = pointer_put row j to (null_pointer l) (no_pointer_from k)
   converted_put row j to v h scalar.Pointer scalar.Pointer = pointer_put row j to v.pointer h.1
 

@@ -6,6 +6,7 @@ use Rattle.flow_program.specs.declared.programs.Flow.{Flow}
 use Rattle.abstract_steps_laws_own_stores.specs.Floors.{least_number}
 use Rattle.abstract_steps_laws_own_stores.proofs.Ranges.{FloorLaws}
 use Rattle.abstract_steps_laws_own.specs.StepFloors.{StepsKeepFloors}
+use Rattle.abstract_steps_laws_own.proofs.Steps.{operate_keeps}
 use Rattle.abstract_steps_laws_own.proofs.Blocks.{end_keeps}
 use Rattle.abstract_steps_laws_own.proofs.Starts.{start_from}
 
@@ -15,6 +16,7 @@ module _ {I : Type 0} {l : LatticeOf I} {n : IntegersOf I} {stands : I → ℤ �
 
   pub steps_keep : StepsKeepFloors l n floor flow
   steps_keep = record {
+    instruction = λ p fits row h. operate_keeps laws flow p fits row h;
     edge = λ fitting block number. end_keeps laws flow fitting block number;
     start = λ h row. start_from laws flow h row;
   }

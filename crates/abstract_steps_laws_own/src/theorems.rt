@@ -7,7 +7,7 @@ ghost use Rattle.abstract_steps_laws_own.specs.StepFloors.{StepsKeepFloors};
 
 use cc_base::IntDomain;
 
-/// The edges of a program whose numbers are of integer types, and the row of the entry where addresses lie within their bounds.
+/// The instructions and edges of a program whose numbers are of integer types, and the row of the entry where addresses lie within their bounds.
 pub fn steps_keep_floors<I: IntDomain>()
     ensures { (floor : ℤ) → floor ≤ℤ least_number → (flow : Flow) → StepsKeepFloors I.lattice I.numbers floor flow }
 {}

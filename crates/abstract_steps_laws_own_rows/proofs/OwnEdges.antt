@@ -1,8 +1,10 @@
 -- Edges leave own rows of own rows, so the fit changes nothing.
-use Rattle.std.specs.Prelude.{◌≡◌, ℕ, ℤ, pos, true, Option, Some, None, List, length, refl}
+use Rattle.std.specs.Prelude.{◌≡◌, ◌↔◌, ℕ, ℤ, pos, true, Option, Some, None, List, length, refl}
 use Rattle.std.proofs.Common.{arith, sym, subst, ap}
 use Rattle.cc_base.specs.Lattices.{LatticeOf, OrderLaws, RoundLaws, HeightLaws}
-use Rattle.cc_base.specs.Rows.{row_leq}
+use Rattle.cc_base.specs.InductiveMap as maps
+use Rattle.cc_base.specs.InductiveMap.{row_at, step, IsInductive}
+use Rattle.cc_base.specs.Rows.{row_leq, reached_leq}
 use Rattle.cc_base.specs.RowLaws.{row_leq-length}
 use Rattle.cc_base.specs.IntegerDomains.{IntegersOf, BoundLaws, RangeLaws}
 use Rattle.cc_base.specs.IntegerLaws.{MonotoneLaws}
@@ -18,7 +20,7 @@ use Rattle.abstract_steps_rows.specs.OwnRows.{program_bases, reach_of, is_own_ro
 use Rattle.abstract_steps_rows.specs.OwnLaws.{own_cells, fit_own}
 use Rattle.abstract_steps_rows.specs.FittedRows.{row_fit, reached_fit}
 use Rattle.abstract_steps_system.specs.BlockPasses.{edge_end}
-use Rattle.abstract_steps_system.specs.FlowMachines.{edge_at, through}
+use Rattle.abstract_steps_system.specs.FlowMachines.{edge_at, through, flow_machine}
 use Rattle.abstract_steps_laws_values.specs.LaidOut.{IsLaidOut}
 use Rattle.abstract_steps_laws_values.proofs.TempPlaces.{row_length}
 use Rattle.abstract_steps_laws.specs.ProgramLaws.{IsNamed, AreRising}
@@ -30,6 +32,7 @@ use Rattle.abstract_steps_laws_own_stores.specs.Floors.{AreFrom, IsLeftFrom}
 use Rattle.abstract_steps_laws_own_stores.proofs.Ranges.{FloorLaws}
 use Rattle.abstract_steps_laws_own_rows.specs.OwnLists.{ReachesTypes}
 use Rattle.abstract_steps_laws_own.specs.FittingPrograms.{IsFitting}
+use Rattle.abstract_steps_laws_own_rows.specs.PlainSystems.{plain_machine}
 use Rattle.abstract_steps_laws_own.proofs.Blocks.{end_keeps}
 use Rattle.abstract_steps_laws_own_rows.proofs.OwnFloors.{least_low, own_from, all_cut}
 
@@ -85,3 +88,16 @@ module _ {I : Type 0} {l : LatticeOf I} {n : IntegersOf I} {stands : I → ℤ �
   pub fit_nothing : (number : ℕ) (row : List (Cell I)) → IsOwn row → through l n flow list number row ≡ edge_end l n flow (edge_at flow.edges.items number).from number row
   unfolding through
   fit_nothing number row own = reached_kept (edge_end l n flow (edge_at flow.edges.items number).from number row) (λ s e. left_kept (edge_at flow.edges.items number).from number row s own e)
+
+  -- ---- maps
+
+  same_step : (number : ℕ) (x : Option (List (Cell I))) → maps.IsOwn (flow_machine l n flow list) x → step (flow_machine l n flow list) number x ≡ step (plain_machine l n flow list) number x
+  same_step number None own = refl
+  same_step number (Some row) own = fit_nothing number row own
+
+  -- the inductive maps are those of the system whose edges leave rows as the steps make them
+  pub plain_inductive : (rows : List (Option (List (Cell I)))) → IsInductive (cell_lattice l) (flow_machine l n flow list) rows ↔ IsInductive (cell_lattice l) (plain_machine l n flow list) rows
+  plain_inductive rows = (
+    λ m. record { size = m.size; own = m.own; entry = m.entry; rounded = m.rounded; edge = λ number lt. subst (λ x. reached_leq (cell_lattice l) x (row_at rows (edge_at flow.edges.items number).to) ≡ true) (same_step number (row_at rows (edge_at flow.edges.items number).from) (m.own (edge_at flow.edges.items number).from)) (m.edge number lt) },
+    λ m. record { size = m.size; own = m.own; entry = m.entry; rounded = m.rounded; edge = λ number lt. subst (λ x. reached_leq (cell_lattice l) x (row_at rows (edge_at flow.edges.items number).to) ≡ true) (sym (same_step number (row_at rows (edge_at flow.edges.items number).from) (m.own (edge_at flow.edges.items number).from))) (m.edge number lt) },
+  )
