@@ -1,5 +1,5 @@
 -- Edges leave rows from a floor on.
-use Rattle.std.specs.Prelude.{◌≡◌, ℕ, ◌&&◌, ℤ, pos, Bool, true, false, cond, Option, Some, None, is_some, List, [], ◌∷◌, slice_get, refl}
+use Rattle.std.specs.Prelude.{◌≡◌, ℕ, ◌&&◌, ℤ, Bool, true, false, cond, Option, Some, None, is_some, List, slice_get, refl}
 use Rattle.std.proofs.lemmas.Bool.{and_parts, cond_both}
 use Rattle.cc_base.specs.Lattices.{LatticeOf}
 use Rattle.cc_base.specs.NumberRanges.{Range, range_met}
@@ -24,7 +24,7 @@ use Rattle.value_domain.specs.LabelSets.{no_labels}
 use Rattle.value_domain.specs.ValueTables.{number_value, pointer_value}
 use Rattle.store_domain.specs.ByteWrites.{null_pointer}
 use Rattle.store_domain.specs.RowPositions.{put_value, value_at}
-use Rattle.abstract_steps.specs.Refinements.{object_position, mirrored, is_same_object, value_of_object, number_side, side_value, fits, refined_number, refined, met_number, met, has_number, labelled_number, with_number, named_by, tested_pointer, tested_value, put_at, put_side, refine_one, refine_two, refine_sides, refine_values, refine_integers, refine_pointer_at, refine_pointer, refine_named, refine_in, refine, put_case, refine_value, refine_case_at, refine_case}
+use Rattle.abstract_steps.specs.Refinements.{object_position, mirrored, is_same_object, value_of_object, side_value, fits, refined, met_number, met, has_number, labelled_number, with_number, named_by, tested_pointer, tested_value, put_at, put_side, refine_one, refine_two, refine_sides, refine_values, refine_integers, refine_pointer_at, refine_pointer, refine_named, refine_in, refine, put_case, refine_value, refine_case_at, refine_case}
 use Rattle.abstract_steps.specs.Edges.{deciding_temp, switched, is_other_than, line_call, put_kept, refine_if, kept_behind, behind_test, branch_edge, put_null, no_line_edge, refine_named_case, refine_object, case_edge, line_edge, follow, follow_if, edge}
 use Rattle.abstract_steps_laws_own_stores.specs.Floors.{IsFrom, IsPointerFrom, IsValueFrom, AreFrom, IsLeftFrom, KeepsFrom, LeavesFrom}
 use Rattle.abstract_steps_laws_own_stores.proofs.Ranges.{FloorLaws, met_keeps, least_from, range_from, refined_from, low_from}

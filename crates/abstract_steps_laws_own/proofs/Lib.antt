@@ -3,6 +3,5 @@ pub mod Writes
 pub mod Plans
 pub mod Steps
 pub mod Edges
-pub mod Blocks
 pub mod Starts
 pub mod Systems

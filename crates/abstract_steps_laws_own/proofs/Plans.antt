@@ -1,5 +1,5 @@
 -- What calls do in rows from a floor on leaves rows from it on.
-use Rattle.std.specs.Prelude.{◌≡◌, ℕ, ◌+◌, ◌-◌, ◌^◌, ℤ, pos, negsuc, ◌-ℤ◌, ◌+ℤ◌, ◌≤ℤ◌, int_le, Bool, true, false, cond, not, ◌&&◌, ◌||◌, Option, Some, None, is_none, List, length, slice_get}
+use Rattle.std.specs.Prelude.{◌≡◌, ℕ, ℤ, pos, negsuc, ◌-ℤ◌, ◌+ℤ◌, ◌≤ℤ◌, int_le, Bool, true, false, cond, not, ◌&&◌, Option, Some, None, is_none, List, length, slice_get}
 use Rattle.std.specs.Int.{int_min, int_max, w128, saturate_signed}
 use Rattle.std.specs.Ordering.{int_eq}
 use Rattle.std.proofs.Common.{arith}
@@ -7,7 +7,7 @@ use Rattle.std.proofs.lemmas.Int.{ints, clamps}
 use Rattle.std.proofs.lemmas.Bool.{cond_both, and_parts}
 use Rattle.cc_base.specs.Lattices.{LatticeOf}
 use Rattle.cc_base.specs.NumberRanges.{Range, range_met}
-use Rattle.cc_base.specs.IntegerTypes.{least_of, greatest_of}
+use Rattle.cc_base.specs.IntegerTypes.{greatest_of}
 use Rattle.cc_base.specs.IntegerDomains.{IntegersOf, between_or_least, of_range}
 use Rattle.c_layout.specs.declared.data_model.Model.{Model}
 use Rattle.c_layout.specs.declared.leaf_lists.Class.{Class}
@@ -19,7 +19,7 @@ use Rattle.flow_program.specs.declared.programs.Flow.{Flow}
 use Rattle.pointer_domain.specs.declared.base_sets.Bases.{Bases}
 use Rattle.pointer_domain.specs.declared.pointer_sets.Pointers.{Pointers}
 use Rattle.pointer_domain.specs.BaseSets.{no_base}
-use Rattle.pointer_domain.specs.PointerLattice.{no_pointer, pointer_lattice}
+use Rattle.pointer_domain.specs.PointerLattice.{pointer_lattice}
 use Rattle.pointer_domain.specs.PointerTables.{offsets}
 use Rattle.value_domain.specs.declared.values.Value.{Value}
 use Rattle.value_domain.specs.declared.row_cells.Cell.{Cell}
@@ -31,7 +31,7 @@ use Rattle.store_domain.specs.declared.access_windows.Window.{Window}
 use Rattle.store_domain.specs.declared.allocation.Fresh.{Fresh}
 use Rattle.store_domain.specs.declared.cell_reads.Access.{Access}
 use Rattle.store_domain.specs.AccessWindows.{window_within}
-use Rattle.store_domain.specs.Allocations.{site_of, renew, renewed_pointer}
+use Rattle.store_domain.specs.Allocations.{site_of, renewed_pointer}
 use Rattle.store_domain.specs.ClassNumbers.{class_at, is_pointer}
 use Rattle.store_domain.specs.LeafSelection.{has_stray, is_overlapped, meets_padding}
 use Rattle.store_domain.specs.Loads.{load_base}
@@ -39,7 +39,6 @@ use Rattle.store_domain.specs.LiveBases.{has_base}
 use Rattle.store_domain.specs.NearValues.{near_number}
 use Rattle.store_domain.specs.RowPositions.{leaf_position, class_position, value_at}
 use Rattle.store_domain.specs.ScalarTypes.{kind_of}
-use Rattle.store_domain.specs.Walks.{turns}
 use Rattle.abstract_steps_checks.specs.declared.library_arguments.Argument.{Argument}
 use Rattle.abstract_steps_checks.specs.declared.string_scans.Scanned.{Scanned}
 use Rattle.abstract_steps_checks.specs.LibraryArguments.{after_write, within_bases, check_argument, touched_window, cut_by_room}
@@ -56,7 +55,7 @@ use Rattle.abstract_steps_library.specs.Allocations.{products, instance_size, pl
 use Rattle.abstract_steps_library.specs.Arguments.{value_of_argument, argument_value}
 use Rattle.abstract_steps_library.specs.Calls.{Call}
 use Rattle.abstract_steps_library.specs.Characters.{is_lower, is_upper, has_class, meets, sum_of, difference_of, tested_number, raised, lowered, answer, plan_in, plan_character}
-use Rattle.abstract_steps_library.specs.CopyWrites.{is_read_class, no_bytes, with_cell, with_padding, with_leaf, with_leaves, with_class, with_class_cells, with_rest, with_base, with_base_if, with_base_of, bytes_of_source}
+use Rattle.abstract_steps_library.specs.CopyWrites.{is_read_class, no_bytes, with_cell, with_padding, with_leaf, with_leaves, with_class, with_class_cells, with_base, with_base_if, with_base_of, bytes_of_source}
 use Rattle.abstract_steps_library.specs.Effects.{older_of, put_result, allocated, apply}
 use Rattle.abstract_steps_library.specs.MemoryCalls.{lower_of, is_one_byte, room_trail, target_of, nothing_written, copy_in_window, both_given, copy_both, plan_copy, fill_in_window, fill_trail, fill_given, plan_fill}
 use Rattle.abstract_steps_library.specs.Outputs.{has_place, argument_at, scan_at, scanned_trail, length_of, plan_putchar, plan_puts, plan_printf, strlen_scanned, plan_strlen, plan_strcmp}
@@ -64,7 +63,7 @@ use Rattle.abstract_steps_library.specs.Planning.{plan_call}
 use Rattle.abstract_steps_library.specs.Plans.{harmless}
 use Rattle.abstract_steps_library.specs.Sources.{read_characters_if, read_characters, characters_read, number_of, character_access, characters_of}
 use Rattle.abstract_steps_library.specs.StringCalls.{one_more, one_less, text_effect, text_from_start, two_given, source_characters, strcpy_scanned, plan_strcpy, append_start, append_window, appended, append_effect, strcat_of, strcat_need, strcat_scanned, plan_strcat, strncpy_trail, strncpy_scanned, plan_strncpy, input_characters, line_count, line_trail, line_rule, fgets_given, plan_fgets}
-use Rattle.abstract_steps_laws_own_stores.specs.Floors.{least_number, IsFrom, IsPointerFrom, IsValueFrom, IsReadFrom, AreFrom, IsLeftFrom, KeepsFrom, LeavesFrom}
+use Rattle.abstract_steps_laws_own_stores.specs.Floors.{IsFrom, IsPointerFrom, IsValueFrom, IsReadFrom, AreFrom, KeepsFrom, LeavesFrom}
 use Rattle.abstract_steps_laws_own_stores.proofs.Ranges.{FloorLaws, met_from, least_from, between_from, range_from, near_from, convert_from, whole_from, low_from, count_low}
 use Rattle.abstract_steps_laws_own_stores.proofs.Values.{class_size, no_pointer_from, pointers_join_from, least_value_from, near_value_from, number_from, pointer_from, joined_from, at_from, zero_from}
 use Rattle.abstract_steps_laws_own_stores.proofs.Rows.{walk_keeps, turns_keep, set_from}
@@ -273,13 +272,13 @@ module _ {I : Type 0} {l : LatticeOf I} {n : IntegersOf I} {stands : I → ℤ �
     unfolding with_base with_leaves with_leaf with_class_cells
     base_read base w found h =
         let leaves = walk_keeps AreBytesFrom (with_leaf l n call.flow.model base row w)
-          (λ leaf at x q. bytes_if (is_overlapped call.flow.model leaf w) (with_cell l x (value_at l n row (leaf_position base at)) leaf.class) x (cell_read x (value_at l n row (leaf_position base at)) leaf.class q (at_from k row (leaf_position base at) j)) q)
-          0 base.shape.cells found h in
+        (λ leaf at x q. bytes_if (is_overlapped call.flow.model leaf w) (with_cell l x (value_at l n row (leaf_position base at)) leaf.class) x (cell_read x (value_at l n row (leaf_position base at)) leaf.class q (at_from k row (leaf_position base at) j)) q)
+        0 base.shape.cells found h in
         let read = with_leaves l n call.flow.model base row w found in
         bytes_if base.shape.heap (with_class_cells l n base row w read) (with_padding read (meets_padding call.flow.model base.shape.cells w base.size))
         (turns_keep AreBytesFrom (with_class l n base row (has_stray base.shape.cells Char w))
-          (λ at x q. bytes_if (is_read_class (has_stray base.shape.cells Char w) at) (with_cell l x (value_at l n row (class_position base at)) (class_at at)) x (cell_read x (value_at l n row (class_position base at)) (class_at at) q (at_from k row (class_position base at) j)) q)
-          6 read leaves)
+        (λ at x q. bytes_if (is_read_class (has_stray base.shape.cells Char w) at) (with_cell l x (value_at l n row (class_position base at)) (class_at at)) x (cell_read x (value_at l n row (class_position base at)) (class_at at) q (at_from k row (class_position base at) j)) q)
+        6 read leaves)
         (bytes_if (meets_padding call.flow.model base.shape.cells w base.size) (record { indeterminate = true; labels = all_labels; pointers = read.pointers; numbers = true }) read leaves leaves)
 
     bytes_from : (set : Bases) (w : Option Window) → AreBytesFrom (bytes_of_source l n call.flow row set w)

@@ -1,11 +1,11 @@
 -- Pointers from a floor on: moved, narrowed, touched and given to calls.
-use Rattle.std.specs.Prelude.{◌≡◌, ℕ, ◌<◌, ◌≤ℤ◌, ℤ, pos, negsuc, ◌-ℤ◌, Bool, true, false, cond, Option, Some, None, List, refl}
+use Rattle.std.specs.Prelude.{ℕ, ◌≤ℤ◌, ℤ, pos, ◌-ℤ◌, Bool, false, Some, None, List}
 use Rattle.std.proofs.Common.{arith}
 use Rattle.std.proofs.lemmas.Int.{ints}
 use Rattle.std.proofs.lemmas.Bool.{cond_both}
 use Rattle.cc_base.specs.Lattices.{LatticeOf}
 use Rattle.cc_base.specs.NumberRanges.{Range, range_sum, range_times, range_met}
-use Rattle.cc_base.specs.IntegerDomains.{IntegersOf, of_range}
+use Rattle.cc_base.specs.IntegerDomains.{IntegersOf}
 use Rattle.c_layout.specs.declared.shapes.BaseInfo.{BaseInfo}
 use Rattle.pointer_domain.specs.declared.base_sets.Bases.{Bases}
 use Rattle.pointer_domain.specs.declared.pointer_sets.Pointers.{Pointers}

@@ -1,9 +1,9 @@
 -- The row of the entry is from a floor on.
-use Rattle.std.specs.Prelude.{◌≡◌, ℕ, zero, suc, ◌≤◌, ◌&&◌, ◌||◌, ◌==◌, ℤ, pos, ◌-ℤ◌, ◌≤ℤ◌, nat_le, Bool, true, false, cond, not, Option, Some, None, List, [], ◌∷◌, map, slice_get, refl}
+use Rattle.std.specs.Prelude.{◌≡◌, ℕ, zero, suc, ◌+◌, ◌≤◌, ◌&&◌, ℤ, pos, ◌-ℤ◌, nat_le, Bool, true, false, cond, Option, Some, None, List, [], ◌∷◌, map, slice_get, refl}
 use Rattle.std.specs.List.{list_all}
 use Rattle.std.proofs.Common.{arith}
 use Rattle.std.proofs.lemmas.Int.{ints}
-use Rattle.std.proofs.lemmas.Bool.{and_parts, cond_both, leb-true}
+use Rattle.std.proofs.lemmas.Bool.{and_parts, leb-true}
 use Rattle.cc_base.specs.Lattices.{LatticeOf}
 use Rattle.cc_base.specs.IntegerTypes.{is_size}
 use Rattle.cc_base.specs.IntegerDomains.{IntegersOf}
@@ -13,16 +13,13 @@ use Rattle.c_layout.specs.declared.checked_tree.checked_units.StaticStore.{Stati
 use Rattle.c_layout.specs.declared.checked_tree.checked_units.StaticStore.TheVariants as one
 use Rattle.c_layout.specs.declared.checked_tree.checked_units.StaticValue.{StaticValue}
 use Rattle.c_layout.specs.declared.checked_tree.checked_units.StaticValue.TheVariants.{Number, Null, Address}
-use Rattle.c_layout.specs.declared.leaf_lists.Class.{Class}
 use Rattle.c_layout.specs.declared.leaf_lists.Class.TheVariants as class
 use Rattle.c_layout.specs.declared.shapes.BaseInfo.{BaseInfo}
 use Rattle.flow_program.specs.declared.programs.Flow.{Flow}
 use Rattle.flow_program.specs.declared.programs.InitialObject.{InitialObject}
 use Rattle.flow_program.specs.declared.programs.InitialValue.{InitialValue}
 use Rattle.flow_program.specs.declared.programs.InitialValue.TheVariants as initial
-use Rattle.flow_program.specs.declared.programs.ParameterInput.{ParameterInput}
-use Rattle.flow_program.specs.StaticStarts.{number_of, fits_target, fits_value, value_class, has_base, has_place_in, fits_store, fits_start, has_size_of, is_started, object_count, are_numbered, are_started}
-use Rattle.pointer_domain.specs.declared.pointer_sets.Pointers.{Pointers}
+use Rattle.flow_program.specs.StaticStarts.{number_of, fits_target, fits_value, value_class, has_place_in, fits_store, fits_start, has_size_of, is_started, object_count, are_numbered, are_started}
 use Rattle.pointer_domain.specs.PointerLattice.{no_pointer}
 use Rattle.value_domain.specs.declared.values.Value as values
 use Rattle.value_domain.specs.declared.row_cells.Cell.{Cell}
@@ -38,8 +35,8 @@ use Rattle.store_domain.specs.ScalarTypes.{kind_of}
 use Rattle.store_domain.specs.Walks.{walk}
 use Rattle.abstract_steps_values.specs.Scalars.{class_of_rank, class_of_kind}
 use Rattle.abstract_steps.specs.StartRows.{base_in, static_class, no_value, empty_state, empty_base, empty_base_at, empty_bases, empty_row, pointer_into, static_pointer, static_value, store_static, start_store, store_behind, store_at, start_stores, start_value, start_object, object_behind, object_at, start_objects, put_parameter, start_parameter, parameter_at, start_parameters, started, start_row}
-use Rattle.abstract_steps_laws_own_stores.specs.Floors.{IsFrom, IsPointerFrom, IsValueFrom, IsCellFrom, AreFrom, IsLeftFrom, KeepsFrom, LeavesFrom}
-use Rattle.abstract_steps_laws_own_stores.proofs.Ranges.{FloorLaws, one_from, low_from, convert_from}
+use Rattle.abstract_steps_laws_own_stores.specs.Floors.{IsPointerFrom, IsValueFrom, AreFrom, IsLeftFrom, KeepsFrom, LeavesFrom}
+use Rattle.abstract_steps_laws_own_stores.proofs.Ranges.{FloorLaws, one_from, convert_from}
 use Rattle.abstract_steps_laws_own_stores.proofs.Values.{class_size, no_pointer_from, near_pointer_from, least_value_from, near_value_from, pointer_from, stored_from, whole_range_from}
 use Rattle.abstract_steps_laws_own_stores.proofs.Rows.{set_from, if_from, row_walk, zeros_set}
 use Rattle.abstract_steps_laws_own_stores.proofs.Stores.{typed_store_keeps}
@@ -125,7 +122,7 @@ module _ {I : Type 0} {l : LatticeOf I} {n : IntegersOf I} {stands : I → ℤ �
   stores_kept base size at [] h x j = j
   stores_kept base size at (s ∷ stores) h x j =
       let p = and_parts (fits (Some base) s) (list_all (fits (Some base)) stores) h in
-      stores_kept base size _ stores p.1 (store_behind l n flow base size s x) (behind_kept base size s p.0 x j)
+      stores_kept base size (at + 1) stores p.1 (store_behind l n flow base size s x) (behind_kept base size s p.0 x j)
 
   value_kept : (base size : ℕ) (v : InitialValue) → fits_start flow.model flow.bases.items flow.initial.items (object_count flow.initial.items) (Some base) size v ≡ true → LeavesFrom n floor (start_value l n flow base size v)
   unfolding start_value start_stores
@@ -146,7 +143,7 @@ module _ {I : Type 0} {l : LatticeOf I} {n : IntegersOf I} {stands : I → ℤ �
   objects_kept at [] h state j = j
   objects_kept at (x ∷ objects) h state j =
       let p = and_parts (is_started flow.model flow.bases.items flow.initial.items (object_count flow.initial.items) x) (list_all (is_started flow.model flow.bases.items flow.initial.items (object_count flow.initial.items)) objects) h in
-      objects_kept _ objects p.1 (object_behind l n flow x state) (reached_kept x p.0 state j)
+      objects_kept (at + 1) objects p.1 (object_behind l n flow x state) (reached_kept x p.0 state j)
 
   -- ---- parameters
 

@@ -1,10 +1,10 @@
 -- Instructions leave rows from a floor on.
-use Rattle.std.specs.Prelude.{◌≡◌, ℕ, zero, suc, ◌-◌, ◌^◌, ◌&&◌, ◌||◌, ℤ, pos, negsuc, ◌≤ℤ◌, int_le, Bool, true, false, cond, Option, Some, None, is_none, List, [], ◌∷◌, slice_get, refl}
+use Rattle.std.specs.Prelude.{◌≡◌, ℕ, ◌-◌, ◌^◌, ◌||◌, ℤ, pos, negsuc, ◌≤ℤ◌, int_le, Bool, true, false, cond, Option, Some, None, is_none, List, slice_get, refl}
 use Rattle.std.proofs.Common.{arith}
 use Rattle.std.proofs.lemmas.Int.{ints}
-use Rattle.std.proofs.lemmas.Bool.{and_parts, cond_both}
+use Rattle.std.proofs.lemmas.Bool.{and_parts}
 use Rattle.cc_base.specs.Lattices.{LatticeOf}
-use Rattle.cc_base.specs.NumberRanges.{Range, range_met, range_over, range_difference}
+use Rattle.cc_base.specs.NumberRanges.{range_met, range_over, range_difference}
 use Rattle.cc_base.specs.IntegerTypes.{is_size, least_of, greatest_of}
 use Rattle.cc_base.specs.IntegerDomains.{IntegersOf}
 use Rattle.cc_base.specs.declared.integer_operators.Tri.{Tri}
@@ -18,23 +18,22 @@ use Rattle.flow_program.specs.declared.machine_instructions.Operation.{Operation
 use Rattle.flow_program.specs.declared.machine_instructions.Operation.TheVariants as op
 use Rattle.flow_program.specs.WellFormed.{names_of, is_number, has_temp, fits_operation}
 use Rattle.pointer_domain.specs.declared.pointer_sets.Pointers.{Pointers}
-use Rattle.pointer_domain.specs.BaseSets.{bases_empty}
-use Rattle.pointer_domain.specs.PointerTables.{is_any, offsets, shifted, narrowed, pointers_difference}
+use Rattle.pointer_domain.specs.PointerTables.{is_any, offsets, pointers_difference}
 use Rattle.value_domain.specs.declared.values.Value as values
 use Rattle.value_domain.specs.declared.row_cells.Cell.{Cell}
 use Rattle.value_domain.specs.declared.row_cells.Cell.TheVariants.{Value}
-use Rattle.value_domain.specs.ValueTables.{number_value, pointer_value, truth_number, truth_value}
+use Rattle.value_domain.specs.ValueTables.{number_value, pointer_value, truth_value}
 use Rattle.store_domain.specs.ByteWrites.{null_pointer}
 use Rattle.store_domain.specs.ScalarTypes.{kind_of}
 use Rattle.abstract_steps_checks.specs.Temporaries.{temp_position, temp_value, amount_value, put_temp}
 use Rattle.abstract_steps_values.specs.ResultTemps.{put_number, put_truth, put_pointer}
 use Rattle.abstract_steps_values.specs.Scalars.{class_of}
-use Rattle.abstract_steps_values.specs.IntegerSteps.{constant_step, binary_step, unary_step, compare_step, not_step, put_converted, converted_pointer, convert_value, convert_step}
-use Rattle.abstract_steps_values.specs.PointerSteps.{is_short, address_of, address_in, address_step, touch_part, narrow_touched, narrow_step, signed_amount, put_moved, shift_by, shift_step, has_difference, difference_of, difference_step, relation_step}
-use Rattle.abstract_steps_instructions.specs.MemorySteps.{struct_size, touch_scalar, loaded, put_read, put_loaded, load_step, move_temp, moved_behind, store_to, store_step, touch_struct, copy_touched, kept_target, copy_between, copy_step}
+use Rattle.abstract_steps_values.specs.IntegerSteps.{constant_step, binary_step, unary_step, compare_step, not_step, put_converted, convert_value, convert_step}
+use Rattle.abstract_steps_values.specs.PointerSteps.{is_short, address_of, address_in, address_step, touch_part, narrow_touched, narrow_step, signed_amount, put_moved, shift_by, shift_step, difference_of, difference_step, relation_step}
+use Rattle.abstract_steps_instructions.specs.MemorySteps.{struct_size, touch_scalar, put_read, put_loaded, load_step, move_temp, moved_behind, store_to, store_step, touch_struct, copy_touched, kept_target, copy_between, copy_step}
 use Rattle.abstract_steps_instructions.specs.CallSteps.{call_of, line_call, call_step, line_goes_on, write_line}
 use Rattle.abstract_steps_instructions.specs.Steps.{operate}
-use Rattle.abstract_steps_laws_own_stores.specs.Floors.{least_number, IsFrom, IsPointerFrom, IsValueFrom, IsReadFrom, AreFrom, IsLeftFrom, KeepsFrom, LeavesFrom}
+use Rattle.abstract_steps_laws_own_stores.specs.Floors.{least_number, IsPointerFrom, IsValueFrom, IsReadFrom, AreFrom, IsLeftFrom, KeepsFrom, LeavesFrom}
 use Rattle.abstract_steps_laws_own_stores.proofs.Ranges.{FloorLaws, type_least, met_from, least_from, between_from, range_from, arith_from, unary_from, convert_from, low_from}
 use Rattle.abstract_steps_laws_own_stores.proofs.Values.{class_size, no_pointer_from, number_from, pointer_from, at_from, zero_from}
 use Rattle.abstract_steps_laws_own_stores.proofs.Rows.{set_from, left_if, left_unless}

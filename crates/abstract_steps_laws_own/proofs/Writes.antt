@@ -1,33 +1,25 @@
 -- Bytes that calls write leave rows from a floor on.
-use Rattle.std.specs.Prelude.{ℕ, ◌+◌, ℤ, pos, Bool, true, false, cond, not, ◌||◌, Option, Some, None, is_some, List}
-use Rattle.std.proofs.Common.{arith}
-use Rattle.std.proofs.lemmas.Int.{ints}
+use Rattle.std.specs.Prelude.{◌+◌, ℤ, pos, Bool, true, false, is_some}
 use Rattle.std.proofs.lemmas.Bool.{cond_both}
 use Rattle.cc_base.specs.Lattices.{LatticeOf}
 use Rattle.cc_base.specs.IntegerDomains.{IntegersOf}
 use Rattle.c_layout.specs.declared.data_model.Model.{Model}
 use Rattle.c_layout.specs.declared.leaf_lists.Class.{Class}
 use Rattle.c_layout.specs.declared.leaf_lists.Class.TheVariants.{Char, Short, Int, Long, LongLong, Pointer}
-use Rattle.c_layout.specs.declared.leaf_lists.Leaf.{Leaf}
 use Rattle.c_layout.specs.declared.shapes.BaseInfo.{BaseInfo}
 use Rattle.flow_program.specs.declared.programs.Flow.{Flow}
-use Rattle.pointer_domain.specs.declared.base_sets.Bases.{Bases}
-use Rattle.pointer_domain.specs.declared.pointer_sets.Pointers.{Pointers}
 use Rattle.pointer_domain.specs.PointerLattice.{pointer_lattice}
 use Rattle.value_domain.specs.declared.values.Value.{Value}
-use Rattle.value_domain.specs.declared.row_cells.Cell.{Cell}
 use Rattle.value_domain.specs.declared.row_cells.Cell.TheVariants.{First}
 use Rattle.value_domain.specs.ValueTables.{number_value}
-use Rattle.store_domain.specs.declared.access_windows.Window.{Window}
 use Rattle.store_domain.specs.ByteWrites.{null_pointer, labelled_null, byte_written}
 use Rattle.store_domain.specs.CellReads.{whole_range}
 use Rattle.store_domain.specs.ClassNumbers.{class_at, is_pointer}
 use Rattle.store_domain.specs.FirstZeroWrites.{zero_target}
 use Rattle.store_domain.specs.LeafSelection.{is_overlapped, has_stray}
 use Rattle.store_domain.specs.LiveBases.{has_base, is_one_instance}
-use Rattle.store_domain.specs.RowPositions.{leaf_position, class_position, zero_position, join_value}
+use Rattle.store_domain.specs.RowPositions.{leaf_position, class_position, zero_position}
 use Rattle.store_domain.specs.ScalarTypes.{kind_of}
-use Rattle.abstract_steps_library.specs.declared.copied_bytes.CopiedBytes.{CopiedBytes}
 use Rattle.abstract_steps_library.specs.declared.copied_bytes.CopyWrite.{CopyWrite}
 use Rattle.abstract_steps_library.specs.declared.fill_writes.FillWrite.{FillWrite}
 use Rattle.abstract_steps_library.specs.declared.source_bytes.Characters.{Characters}
@@ -35,7 +27,7 @@ use Rattle.abstract_steps_library.specs.declared.text_writes.TextWrite.{TextWrit
 use Rattle.abstract_steps_library.specs.TextWrites.{character_value, leaf_value, value_of_class, write_leaf, write_leaf_of, write_leaves, write_stray, write_class, write_class_cells, write_zero, write_zeros, write_heap_part, write_base, write_base_if, write_into, write_in, write_text}
 use Rattle.abstract_steps_library.specs.FillWrites.{zeroed, covered_value, is_covered, fill_leaf, fill_leaf_of, fill_leaves, clears_instance, class_value, fill_stray, fill_class, fill_class_cells, fill_zero, fill_zeros, fill_heap_part, fill_base, fill_base_if, fill_in, write_fill}
 use Rattle.abstract_steps_library.specs.CopyWrites.{with_null, copied_value, copy_leaf, copy_leaf_of, copy_leaves, copy_class_of, copy_class_cells, copy_base, copy_base_if, copy_in, write_copy}
-use Rattle.abstract_steps_laws_own_stores.specs.Floors.{IsFrom, IsPointerFrom, IsValueFrom, AreFrom, KeepsFrom}
+use Rattle.abstract_steps_laws_own_stores.specs.Floors.{IsFrom, IsPointerFrom, IsValueFrom, KeepsFrom}
 use Rattle.abstract_steps_laws_own_stores.proofs.Ranges.{FloorLaws, least_from, join_from}
 use Rattle.abstract_steps_laws_own_stores.proofs.Values.{no_pointer_from, pointers_join_from, least_value_from, number_from, whole_class_from, byte_written_from, zero_from}
 use Rattle.abstract_steps_laws_own_stores.proofs.Rows.{set_from, if_from, row_walk, row_turns, zeros_forgotten, join_keeps, write_keeps}

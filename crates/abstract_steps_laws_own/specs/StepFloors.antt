@@ -8,8 +8,8 @@ use Rattle.flow_program.specs.declared.machine_instructions.Operation.{Operation
 use Rattle.flow_program.specs.declared.programs.Flow.{Flow}
 use Rattle.value_domain.specs.declared.row_cells.Cell.{Cell}
 use Rattle.abstract_steps_instructions.specs.Steps.{operate}
+use Rattle.abstract_steps.specs.Edges.{edge}
 use Rattle.abstract_steps.specs.StartRows.{start_row}
-use Rattle.abstract_steps_system.specs.BlockPasses.{edge_end}
 use Rattle.abstract_steps_laws_own_stores.specs.Floors.{IsLeftFrom, LeavesFrom}
 use Rattle.abstract_steps_laws_own.specs.FittingPrograms.{IsFitting}
 
@@ -17,7 +17,7 @@ module _ {I : Type 0} (l : LatticeOf I) (n : IntegersOf I) (floor : ℤ) (flow :
   pub record StepsKeepFloors : Type 0 where
     -- an instruction
     pub instruction : (p : Operation) → fits_operation (names_of flow) p ≡ true → LeavesFrom n floor (λ row. operate l n flow row p)
-    -- the row at the start of a block, taken to the end of an edge
-    pub edge : IsFitting flow → (block number : ℕ) → LeavesFrom n floor (edge_end l n flow block number)
+    -- an edge
+    pub edge : IsFitting flow → (number : ℕ) → LeavesFrom n floor (λ row. edge l n flow row number)
     -- whatever row the entry's is made in
     pub start : are_started flow.model flow.bases.items flow.initial.items ≡ true → (row : List (Cell I)) → IsLeftFrom n floor (start_row l n flow row)

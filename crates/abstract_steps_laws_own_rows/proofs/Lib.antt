@@ -1,3 +1,4 @@
+pub mod Blocks
 pub mod OwnFloors
 pub mod OwnEdges
 pub mod Thresholds

@@ -33,7 +33,7 @@ use Rattle.abstract_steps_laws_own_stores.proofs.Ranges.{FloorLaws}
 use Rattle.abstract_steps_laws_own_rows.specs.OwnLists.{ReachesTypes}
 use Rattle.abstract_steps_laws_own.specs.FittingPrograms.{IsFitting}
 use Rattle.abstract_steps_laws_own_rows.specs.PlainSystems.{plain_machine}
-use Rattle.abstract_steps_laws_own.proofs.Blocks.{end_keeps}
+use Rattle.abstract_steps_laws_own_rows.proofs.Blocks.{end_keeps}
 use Rattle.abstract_steps_laws_own_rows.proofs.OwnFloors.{least_low, own_from, all_cut}
 
 module _ {I : Type 0} {l : LatticeOf I} {n : IntegersOf I} {stands : I → ℤ → Type 0} (o : OrderLaws l) (k : RoundLaws l) (h : HeightLaws l) (b : BoundLaws l n stands) (g : MonotoneLaws l n) (f : RangeLaws l n) (ends : EndLaws l n) (flow : Flow) (list : List ℤ) (near : IsNearList l n list) (reaches : ReachesTypes list) (laid : IsLaidOut (program_bases (length flow.bases.items)) flow) (named : IsNamed flow) (rising : AreRising l n (program_bases (length flow.bases.items)) flow) where

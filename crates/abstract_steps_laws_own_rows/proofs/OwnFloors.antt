@@ -19,6 +19,7 @@ use Rattle.value_domain.specs.Values.{value_lattice}
 use Rattle.value_domain.specs.Cells.{cell_lattice, cell_leq}
 use Rattle.value_domain_laws.specs.Consistency.{AreWords}
 use Rattle.value_domain_laws.proofs.Parts.{pointer_parts, value_parts}
+use Rattle.value_domain_laws.proofs.Ranges.{RangeBelow, bounds_monotone}
 use Rattle.store_domain_laws.specs.TopCells.{top_number, top_value}
 use Rattle.abstract_steps_rows.specs.declared.cell_kinds.CellKind.{CellKind}
 use Rattle.abstract_steps_rows.specs.declared.cell_kinds.CellKind.TheVariants as kind
@@ -98,18 +99,11 @@ module _ {I : Type 0} {l : LatticeOf I} {n : IntegersOf I} {stands : I → ℤ �
   -- ---- rows of the program that are from the first number of the list on
 
   module _ (reach : Reach I) (counts : l.leq reach.counts (n.between (pos 0) the_end) ≡ true) (rises : l.leq (n.between (pos 0) the_end) reach.counts ≡ true) (words : AreWords reach.bases) where
-    top_upper : (x : I) → l.leq x (top_number n) ≡ true → (p q : ℤ) → n.bounds x ≡ Some (p, q) → q ≤ℤ pos (2 ^ 64)
-    top_upper x e p q t =
-        let w = b.wider x (top_number n) p q e t in
-        let u = b.between_bounds (negsuc (2 ^ 64 - 1)) (pos (2 ^ 64)) (omega (arith, ints)) in
-        let s : q ≤ℤ w.1 = w.4 in
-        upper q w.0 w.1 s (same w.0 w.1 (sym w.2) u)
-      where
-        upper : (q c d : ℤ) → q ≤ℤ d → d ≡ pos (2 ^ 64) → q ≤ℤ pos (2 ^ 64)
-        upper q c d h e = grind (arith, ints)
-
-        same : (c d : ℤ) → Some (c, d) ≡ n.bounds (top_number n) → n.bounds (top_number n) ≡ Some (negsuc (2 ^ 64 - 1), pos (2 ^ 64)) → d ≡ pos (2 ^ 64)
-        same c d h e = cc
+    top_upper : (x : I) → l.leq x (top_number n) ≡ true → (p : ℤ × ℤ) → n.bounds x ≡ Some p → p.1 ≤ℤ pos (2 ^ 64)
+    top_upper x e p t =
+        let u = subst (λ r. RangeBelow (n.bounds x) r) (b.between_bounds (negsuc (2 ^ 64 - 1)) (pos (2 ^ 64)) (omega (arith, ints))) (bounds_monotone b x (top_number n) e) in
+        let v : RangeBelow (Some p) (Some (negsuc (2 ^ 64 - 1), pos (2 ^ 64))) = subst (λ r. RangeBelow r (Some (negsuc (2 ^ 64 - 1), pos (2 ^ 64)))) t u in
+        v.1
 
     cut_within : (x : I) → l.leq x (top_number n) ≡ true → IsFrom near.least (n.bounds x) → l.within list x ≡ true
     cut_within x e j = by_range (n.bounds x) refl
@@ -118,7 +112,7 @@ module _ {I : Type 0} {l : LatticeOf I} {n : IntegersOf I} {stands : I → ℤ �
         by_range None t = subst (λ y. l.within list y ≡ true) (sym (b.only_least x t)) (h.least_within list)
         by_range (Some p) t =
             let low : near.least ≤ℤ p.0 = subst (IsFrom near.least) t j in
-            ends.ends_within list x p.0 p.1 t (record { lower = any_below list near.least p.0 low near.ends.lower; upper = any_above list (pos (2 ^ 64)) p.1 (top_upper x e p.0 p.1 t) near.ends.upper })
+            ends.ends_within list x p.0 p.1 t (record { lower = any_below list near.least p.0 low near.ends.lower; upper = any_above list (pos (2 ^ 64)) p.1 (top_upper x e p t) near.ends.upper })
 
     cut_count : (x : I) → l.leq x (top_number n) ≡ true → IsFrom (pos 0) (n.bounds x) → l.leq x reach.counts ≡ true
     cut_count x e j = by_range (n.bounds x) refl
@@ -127,7 +121,7 @@ module _ {I : Type 0} {l : LatticeOf I} {n : IntegersOf I} {stands : I → ℤ �
         by_range None t = subst (λ y. l.leq y reach.counts ≡ true) (sym (b.only_least x t)) (o.least_below reach.counts)
         by_range (Some p) t =
             let low : pos 0 ≤ℤ p.0 = subst (IsFrom (pos 0)) t j in
-            o.transitive x (n.between (pos 0) the_end) reach.counts (b.below_between x p.0 p.1 (pos 0) the_end t low (top_upper x e p.0 p.1 t)) rises
+            o.transitive x (n.between (pos 0) the_end) reach.counts (b.below_between x p.0 p.1 (pos 0) the_end t low (top_upper x e p t)) rises
 
     cut_value : (v : values.Value I) → (value_lattice l).leq v (top_value n reach.bases) ≡ true → IsValueFrom n near.least v → IsCutValue l list reach v
     cut_value v e j =
