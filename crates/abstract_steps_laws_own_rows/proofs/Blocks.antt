@@ -4,9 +4,8 @@ use Rattle.cc_base.specs.Lattices.{LatticeOf}
 use Rattle.cc_base.specs.IntegerDomains.{IntegersOf}
 use Rattle.flow_program.specs.declared.programs.Flow.{Flow}
 use Rattle.flow_program.specs.declared.basic_blocks.BasicBlock.{BasicBlock}
-use Rattle.flow_program.specs.declared.flow_edges.Edge.{Edge}
 use Rattle.flow_program.specs.declared.machine_instructions.Instruction.{Instruction}
-use Rattle.flow_program.specs.WellFormed.{names_of, fits_operation, fits_edge}
+use Rattle.flow_program.specs.WellFormed.{names_of, fits_operation}
 use Rattle.value_domain.specs.declared.row_cells.Cell.{Cell}
 use Rattle.abstract_steps_instructions.specs.Steps.{operate}
 use Rattle.abstract_steps_system.specs.BlockPasses.{instructions_in, instructions_of, rows_behind, block_end, edge_behind, edge_end}

@@ -1,5 +1,5 @@
 -- The numbers of own rows are at least the first number of the list, and rows from it on are cut by no end of the list.
-use Rattle.std.specs.Prelude.{◌≡◌, ◌-◌, ◌^◌, ◌≤ℤ◌, ℕ, ℤ, pos, negsuc, int_le, Bool, true, false, ◌&&◌, Some, None, List, [], ◌∷◌, length, refl}
+use Rattle.std.specs.Prelude.{◌≡◌, ◌-◌, ◌^◌, ◌≤ℤ◌, ℤ, pos, negsuc, int_le, true, Some, None, List, [], ◌∷◌, length, refl}
 use Rattle.std.specs.List.{list_all, list_any}
 use Rattle.std.proofs.Common.{arith, sym, subst, inl, inr}
 use Rattle.std.proofs.lemmas.Int.{ints}
@@ -26,7 +26,7 @@ use Rattle.abstract_steps_rows.specs.declared.cell_kinds.CellKind.TheVariants as
 use Rattle.abstract_steps_rows.specs.declared.own_cells.Reach.{Reach}
 use Rattle.abstract_steps_rows.specs.CellKinds.{first_kind, kinds_behind}
 use Rattle.abstract_steps_rows.specs.Ends.{any_below, any_above}
-use Rattle.abstract_steps_rows.specs.EndLaws.{HasEnds, EndLaws}
+use Rattle.abstract_steps_rows.specs.EndLaws.{EndLaws}
 use Rattle.abstract_steps_rows.specs.OwnRows.{is_consistent, is_own_pointer, is_own_cell, are_own_cells}
 use Rattle.abstract_steps_laws.specs.SystemLaws.{is_near_number, IsNearList}
 use Rattle.abstract_steps_laws.proofs.FittedOrder.{top_cell, top_cells}

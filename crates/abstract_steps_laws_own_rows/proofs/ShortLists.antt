@@ -1,12 +1,11 @@
 -- A list that does not reach the types cuts numbers away.
-use Rattle.std.specs.Prelude.{◌≡◌, true, [], refl}
+use Rattle.std.specs.Prelude.{◌≡◌, [], refl}
 use Rattle.interval_domain.specs.IntervalLattice.{interval_lattice}
 use Rattle.interval_domain.specs.IntervalNumbers.{interval_numbers}
 use Rattle.interval_domain.specs.Spans.{between_or_empty}
 use Rattle.abstract_steps_rows.specs.FittedRows.{row_fit, cell_fit}
 use Rattle.abstract_steps_rows.specs.OwnRows.{bases_below}
 use Rattle.abstract_steps_laws.specs.SystemLaws.{IsNearList}
-use Rattle.abstract_steps_laws_programs.specs.RegularPrograms.{is_near_list}
 use Rattle.abstract_steps_laws_programs.proofs.RegularPrograms.{near_of}
 use Rattle.abstract_steps_laws_own_rows.specs.ShortLists.{short_list, row_of, minus_one}
 

@@ -1,6 +1,6 @@
 -- The thresholds of a well-formed program reach the least number of any type.
-use Rattle.std.specs.Prelude.{◌≡◌, ℕ, zero, suc, ◌*◌, ◌-◌, ◌^◌, ◌<◌, ◌==◌, ◌||◌, ℤ, negsuc, int_le, true, List, [], ◌∷◌, ◌++◌, length, slice_index_or, refl, Contains}
-use Rattle.std.proofs.Common.{arith, sym, subst, ap, inl, inr}
+use Rattle.std.specs.Prelude.{◌≡◌, ℕ, ◌*◌, ◌-◌, ◌^◌, ◌==◌, ◌||◌, ℤ, negsuc, int_le, true, List, slice_index_or}
+use Rattle.std.proofs.Common.{arith, ap, inl, inr}
 use Rattle.std.proofs.lemmas.Int.{ints}
 use Rattle.std.proofs.lemmas.Bool.{and_parts, eqb-true}
 use Rattle.std.proofs.lemmas.List.Elements.{Contains-append_left}
