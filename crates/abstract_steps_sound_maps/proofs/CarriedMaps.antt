@@ -19,7 +19,6 @@ use Rattle.flow_program_machine.specs.FlowStates.{Standing}
 use Rattle.abstract_steps.specs.Edges.{edge}
 use Rattle.abstract_steps_rows.specs.EndLaws.{EndLaws}
 use Rattle.abstract_steps_rows.specs.OwnRows.{program_bases, is_own_row}
-use Rattle.abstract_steps_rows.specs.FittedRows.{row_fit, reached_fit}
 use Rattle.abstract_steps_system.specs.BlockPasses.{block_end, edge_behind, edge_end}
 use Rattle.abstract_steps_system.specs.BlockPasses as passes
 use Rattle.abstract_steps_system.specs.FlowMachines.{edge_at, through, flow_machine}
@@ -28,10 +27,10 @@ use Rattle.abstract_steps_laws_values.specs.LaidOut.{IsLaidOut}
 use Rattle.abstract_steps_laws.specs.ProgramLaws.{IsNamed, AreRising}
 use Rattle.abstract_steps_laws.specs.SystemLaws.{IsNearList}
 use Rattle.abstract_steps_laws.proofs.Systems.{own_rise}
-use Rattle.abstract_steps_laws_programs.proofs.ProgramRows.{leaves_program, fit_kept}
+use Rattle.abstract_steps_laws_own_rows.specs.OwnLists.{ReachesTypes}
+use Rattle.abstract_steps_laws_own_rows.proofs.OwnEdges.{fit_nothing}
 use Rattle.abstract_steps_sound.specs.SoundSteps.{StandsBehind}
 use Rattle.abstract_steps_covered.specs.Covering.{rows_behind, Carries}
-use Rattle.abstract_steps_sound_maps.specs.CarriedMaps.{EdgesLeaveCutRows}
 use Rattle.abstract_steps_sound_maps.proofs.LargerRows.{row_larger}
 
 take_all : {X : Type 0} (xs : List X) → take (length xs) xs ≡ xs
@@ -43,7 +42,7 @@ edge_there [] number e h = absurd (cc)
 edge_there (x ∷ es) zero e h = (omega arith, cc)
 edge_there (x ∷ es) (suc number) e h = let p = edge_there es number e h in (let q = p.0 in omega arith, p.1)
 
-module _ {I : Type 0} {l : LatticeOf I} {n : IntegersOf I} {stands : I → ℤ → Type 0} (o : OrderLaws l) (k : RoundLaws l) (h : HeightLaws l) (b : BoundLaws l n stands) (g : MonotoneLaws l n) (f : RangeLaws l n) (ends : EndLaws l n) (flow : Flow) (list : List ℤ) (near : IsNearList l n list) (laid : IsLaidOut (program_bases (length flow.bases.items)) flow) where
+module _ {I : Type 0} {l : LatticeOf I} {n : IntegersOf I} {stands : I → ℤ → Type 0} (o : OrderLaws l) (k : RoundLaws l) (h : HeightLaws l) (b : BoundLaws l n stands) (g : MonotoneLaws l n) (f : RangeLaws l n) (ends : EndLaws l n) (flow : Flow) (list : List ℤ) (near : IsNearList l n list) (reaches : ReachesTypes list) (laid : IsLaidOut (program_bases (length flow.bases.items)) flow) where
   -- ---- the row at the end of a block
 
   none_behind : (is : List Instruction) → rows_behind l n flow None is ≡ None
@@ -59,7 +58,7 @@ module _ {I : Type 0} {l : LatticeOf I} {n : IntegersOf I} {stands : I → ℤ �
   unfolding block_end
   ended block r = ap (rows_behind l n flow (Some r)) (take_all (rules.instructions_of flow block)) ∙ same_behind (rules.instructions_of flow block) (Some r)
 
-  module _ (named : IsNamed flow) (rising : AreRising l n (program_bases (length flow.bases.items)) flow) (cut : EdgesLeaveCutRows l n stands flow list) (rows : List (Option (List (Cell I)))) (closed : IsInductive (cell_lattice l) (flow_machine l n flow list) rows) where
+  module _ (named : IsNamed flow) (rising : AreRising l n (program_bases (length flow.bases.items)) flow) (rows : List (Option (List (Cell I)))) (closed : IsInductive (cell_lattice l) (flow_machine l n flow list) rows) where
     top_large : (y : List (Cell I)) → is_own_row l n list flow.bases.items flow.width y ≡ true → row_leq (cell_lattice l) y (top_row n (program_bases (length flow.bases.items)) flow.bases.items flow.temps) ≡ true
     top_large y own = (own_rise o k h b g f ends flow list near laid y y own own (row_leq-refl (cell_lattice l) (cell_order o) y)).below.large
 
@@ -87,8 +86,7 @@ module _ {I : Type 0} {l : LatticeOf I} {n : IntegersOf I} {stands : I → ℤ �
         let own : is_own_row l n list flow.bases.items flow.width r ≡ true = subst (IsOwn (flow_machine l n flow list)) at (closed.own e.from) in
         let left : edge_end l n flow e.from number r ≡ Some x = ap (edge_behind l n flow number) ends_so ∙ along in
         let same : edge_end l n flow (edge_at flow.edges.items number).from number r ≡ Some x = subst (λ d. edge_end l n flow d.from number r ≡ Some x) (sym p.1) left in
-        let fit : row_fit l n list flow.bases.items flow.width x ≡ x = fit_kept o k h b g f ends flow list near laid x (leaves_program o k h b g f ends flow list near laid named rising e.from number r x own left) (cut number r x own same) in
-        let made : through l n flow list number r ≡ Some x = ap (reached_fit l n list flow.bases.items flow.width) same ∙ ap Some fit in
+        let made : through l n flow list number r ≡ Some x = fit_nothing o k h b g f ends flow list near reaches laid named rising number r own ∙ same in
         let q = closed.edge number p.0 in
         subst (λ d. reached_leq (cell_lattice l) (Some x) (row_at rows d.to) ≡ true) p.1
         (subst (λ y. reached_leq (cell_lattice l) y (row_at rows (edge_at flow.edges.items number).to) ≡ true) made

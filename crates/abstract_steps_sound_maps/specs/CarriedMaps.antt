@@ -1,5 +1,5 @@
 -- Larger rows stand for more, and inductive maps are carried along edges.
-use Rattle.std.specs.Prelude.{◌≡◌, ℕ, ℤ, true, List, length, Option, Some}
+use Rattle.std.specs.Prelude.{◌≡◌, ℤ, true, List, length, Option}
 use Rattle.cc_base.specs.Lattices.{LatticeOf}
 use Rattle.cc_base.specs.IntegerDomains.{IntegersOf}
 use Rattle.cc_base.specs.InductiveMap.{IsInductive}
@@ -11,13 +11,12 @@ use Rattle.value_domain.specs.Cells.{cell_lattice}
 use Rattle.store_domain_laws.specs.TopRows.{top_row}
 use Rattle.store_domain_meaning.specs.ValueMeaning.{Naming}
 use Rattle.store_domain_meaning.specs.RowMeaning.{MachineState, StandsFor}
-use Rattle.abstract_steps_rows.specs.OwnRows.{program_bases, reach_of, is_own_row}
-use Rattle.abstract_steps_system.specs.BlockPasses.{edge_end}
-use Rattle.abstract_steps_system.specs.FlowMachines.{edge_at, flow_machine}
+use Rattle.abstract_steps_rows.specs.OwnRows.{program_bases}
+use Rattle.abstract_steps_system.specs.FlowMachines.{flow_machine}
 use Rattle.abstract_steps_laws_values.specs.LaidOut.{IsLaidOut}
 use Rattle.abstract_steps_laws.specs.ProgramLaws.{IsNamed, AreRising}
 use Rattle.abstract_steps_laws.specs.SystemLaws.{IsNearList}
-use Rattle.abstract_steps_laws_programs.specs.ProgramRows.{AreCut}
+use Rattle.abstract_steps_laws_own_rows.specs.OwnLists.{ReachesTypes}
 use Rattle.abstract_steps_covered.specs.Covering.{Carries}
 
 module _ {I : Type 0} (l : LatticeOf I) (n : IntegersOf I) (stands : I → ℤ → Type 0) (flow : Flow) where
@@ -25,10 +24,6 @@ module _ {I : Type 0} (l : LatticeOf I) (n : IntegersOf I) (stands : I → ℤ �
   abbrev pub LargerRowsStandForMore : Type 0
   LargerRowsStandForMore = (all : Bases) (naming : Naming) (row larger : List (Cell I)) (s : MachineState) → row_leq (cell_lattice l) row larger ≡ true → row_leq (cell_lattice l) larger (top_row n all flow.bases.items flow.temps) ≡ true → StandsFor l n stands flow naming row s → StandsFor l n stands flow naming larger s
 
-  -- what each edge leaves of an own row has its numbers between the ends of the list, and offsets and lengths that are counts
-  abbrev pub EdgesLeaveCutRows : List ℤ → Type 0
-  EdgesLeaveCutRows list = (number : ℕ) (row left : List (Cell I)) → is_own_row l n list flow.bases.items flow.width row ≡ true → edge_end l n flow (edge_at flow.edges.items number).from number row ≡ Some left → AreCut l list (reach_of l n list (length flow.bases.items)) left
-
   abbrev pub InductiveMapsAreCarried : List ℤ → Type 0
-  InductiveMapsAreCarried list = IsNearList l n list → IsLaidOut (program_bases (length flow.bases.items)) flow → IsNamed flow → AreRising l n (program_bases (length flow.bases.items)) flow → EdgesLeaveCutRows list
+  InductiveMapsAreCarried list = IsNearList l n list → ReachesTypes list → IsLaidOut (program_bases (length flow.bases.items)) flow → IsNamed flow → AreRising l n (program_bases (length flow.bases.items)) flow
       → (rows : List (Option (List (Cell I)))) → IsInductive (cell_lattice l) (flow_machine l n flow list) rows → Carries l n stands flow rows

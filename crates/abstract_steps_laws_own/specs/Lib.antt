@@ -1,0 +1,2 @@
+pub mod FittingPrograms
+pub mod StepFloors

@@ -1,0 +1,35 @@
+-- The systems over intervals of regular programs fit nothing.
+use Rattle.std.specs.Prelude.{◌≡◌, ◌↔◌, ℕ, ℤ, true, Option, List}
+use Rattle.std.proofs.Common.{arith}
+use Rattle.cc_base.specs.InductiveMap.{IsInductive}
+use Rattle.cc_base.specs.Standard.{standard_limits}
+use Rattle.flow_program.specs.declared.programs.Flow.{Flow}
+use Rattle.interval_domain.specs.declared.intervals.Interval.{Interval}
+use Rattle.interval_domain.specs.IntervalLattice.{interval_lattice, interval_order, interval_rounding, interval_heights}
+use Rattle.interval_domain.specs.IntervalNumbers.{interval_numbers, interval_bounding, interval_ranges}
+use Rattle.interval_domain_laws.specs.Operations.{interval_monotone}
+use Rattle.value_domain.specs.declared.row_cells.Cell.{Cell}
+use Rattle.value_domain.specs.Cells.{cell_lattice}
+use Rattle.abstract_steps_rows.specs.IntervalEnds.{interval_ends}
+use Rattle.abstract_steps_rows.specs.OwnRows.{is_own_row}
+use Rattle.abstract_steps_system.specs.BlockPasses.{edge_end}
+use Rattle.abstract_steps_system.specs.FlowMachines.{edge_at, through, flow_machine}
+use Rattle.abstract_steps_laws_programs.specs.RegularPrograms.{is_regular}
+use Rattle.abstract_steps_laws_programs.proofs.WellFormed.{laid_out, all_named}
+use Rattle.abstract_steps_laws_programs.proofs.RegularPrograms.{regular_of}
+use Rattle.abstract_steps_laws_programs.proofs.RegularSystems.{regular_rising}
+use Rattle.abstract_steps_laws_own_rows.specs.OwnLists.{ReachesTypes}
+use Rattle.abstract_steps_laws_own_rows.specs.PlainSystems.{plain_machine}
+use Rattle.abstract_steps_laws_own_rows.proofs.OwnEdges.{fit_nothing, plain_inductive}
+
+module _ (flow : Flow) (list : List ℤ) (h : is_regular flow list ≡ true) (reaches : ReachesTypes list) where
+  pub regular_fit_nothing : (number : ℕ) (row : List (Cell Interval)) → is_own_row interval_lattice interval_numbers list flow.bases.items flow.width row ≡ true
+      → through interval_lattice interval_numbers flow list number row ≡ edge_end interval_lattice interval_numbers flow (edge_at flow.edges.items number).from number row
+  regular_fit_nothing number row own =
+      let p = regular_of flow list h in
+      fit_nothing interval_order interval_rounding interval_heights interval_bounding interval_monotone interval_ranges interval_ends flow list p.near reaches (laid_out standard_limits flow p.well_formed (omega arith)) (all_named standard_limits flow p.well_formed p.scalars) (regular_rising flow list h) number row own
+
+  pub regular_inductive : (rows : List (Option (List (Cell Interval)))) → IsInductive (cell_lattice interval_lattice) (flow_machine interval_lattice interval_numbers flow list) rows ↔ IsInductive (cell_lattice interval_lattice) (plain_machine interval_lattice interval_numbers flow list) rows
+  regular_inductive rows =
+      let p = regular_of flow list h in
+      plain_inductive interval_order interval_rounding interval_heights interval_bounding interval_monotone interval_ranges interval_ends flow list p.near reaches (laid_out standard_limits flow p.well_formed (omega arith)) (all_named standard_limits flow p.well_formed p.scalars) (regular_rising flow list h) rows

@@ -1,0 +1,10 @@
+pub mod Ranges
+pub mod Values
+pub mod Rows
+pub mod Stores
+pub mod Loads
+pub mod Objects
+pub mod Allocations
+pub mod StructReads
+pub mod StructCopies
+pub mod StoreFloors
