@@ -69,11 +69,8 @@ module _ {I K : Type 0} (f : K → ℕ → List (Cell I) → List (Cell I)) wher
 -- ---- bases
 
 module _ {I : Type 0} {l : LatticeOf I} {n : IntegersOf I} {stands : I → ℤ → Type 0} (flow : Flow) (naming : Naming) where
-  abbrev Stands : Memory → ℕ → BaseInfo → List (Cell I) → Type 0
-  Stands memory b base row = StandsBase l n stands flow naming memory b base row
-
   -- what stands for a base is in the cells of the base
-  pub same_base : (memory : Memory) (b : ℕ) (base : BaseInfo) (row after : List (Cell I)) → Fits base → ((at : ℕ) → base.first ≤ at → at < base.first + base_values base → cell_at after at ≡ cell_at row at) → Stands memory b base row → Stands memory b base after
+  pub same_base : (memory : Memory) (b : ℕ) (base : BaseInfo) (row after : List (Cell I)) → Fits base → ((at : ℕ) → base.first ≤ at → at < base.first + base_values base → cell_at after at ≡ cell_at row at) → StandsBase l n stands flow naming memory b base row → StandsBase l n stands flow naming memory b base after
   same_base memory b base row after f same s = record {
     leaves = λ j leaf e.
         let t = slice_get_within base.shape.cells j leaf e in
@@ -142,7 +139,7 @@ module _ {I : Type 0} {l : LatticeOf I} {n : IntegersOf I} {stands : I → ℤ �
         within = λ t scalar e. scalar_in_moves (alike_region region) scalar (s.held.within t scalar e);
         named = λ t x e. named_moves naming state.memory new region.lives x (s.held.named t x e);
       };
-      lives = record { sole = λ d j base e a m h. s.lives.sole d j base e a m (λ f. h (region.lives j ∙ f)); alive = λ d j e. region.lives j ∙ s.lives.alive d j e; named = s.lives.named };
+      lives = record { sole = λ d j base e a m h. s.lives.sole d j base e a m (λ f. h (region.lives j ∙ f)); alive = λ d j e. region.lives j ∙ s.lives.alive d j e; named = s.lives.named; objects = s.lives.objects };
       leaves = λ b j base leaf e f. (all b base e).leaves j leaf f;
       classes = λ b c base e heap h. (all b base e).classes c heap h;
       zeros = λ b z j base part e f h. (all b base e).zeros z j part f h;

@@ -1,6 +1,6 @@
 -- Cells that a window of bytes does not meet, and values that are written.
-use Rattle.std.proofs.Common.{◌≡◌, ℕ, ◌+◌, ◌-◌, ◌<◌, ◌≤◌, Bool, true, false, cond, Some, List, length, arith, subst, sym, ap, ◌∙◌}
-use Rattle.std.specs.Prelude.{slice_get, ℤ, max, count_by}
+use Rattle.std.proofs.Common.{◌≡◌, ℕ, ◌+◌, ◌-◌, ◌<◌, ◌≤◌, Bool, true, false, cond, Some, List, length, arith, subst, sym, refl, ap, ◌∙◌}
+use Rattle.std.specs.Prelude.{slice_get, set, ℤ, max, count_by}
 use Rattle.std.proofs.lemmas.Bool.{true≢false}
 use Rattle.cc_base.specs.Lattices.{LatticeOf, OrderLaws}
 use Rattle.cc_base.specs.IntegerDomains.{IntegersOf, BoundLaws}
@@ -25,6 +25,7 @@ use Rattle.store_domain_meaning.specs.Places.{IsPlaceOf, OwnedByLeaf, OwnedByCla
 use Rattle.store_domain_meaning.specs.ValueMeaning.{Naming}
 use Rattle.store_domain_meaning.specs.RowMeaning.{IsLiveOf, StandsLeaf, StandsClass}
 use Rattle.store_domain_sound.specs.Shapes.{IsShaped, at_offset}
+use Rattle.store_domain_sound.proofs.Classes.{class_above}
 use Rattle.store_domain_sound.proofs.Only.{Only, only_put, only_cond, cell_put}
 use Rattle.store_domain_sound.proofs.Selected.{place_selected, is_stray, counted_place}
 use Rattle.store_domain_sound.proofs.StoreLeaves.{zero_count}
@@ -52,13 +53,14 @@ module _ {I : Type 0} {l : LatticeOf I} {n : IntegersOf I} {stands : I → ℤ �
   pub leaf_missed : (b : ℕ) (leaf : Leaf) (window : Window) → 0 < leaf.stride → ((x : ℕ) → offset ≤ x → x < offset + size → (window.lo ≤ x) × (x ≤ window.hi)) → is_overlapped flow.model leaf window ≡ false
       → (v : values.Value I) → StandsLeaf stands flow naming old b leaf v → StandsLeaf stands flow naming new b leaf v
   leaf_missed b leaf window stride has miss v cell =
+      let some = class_above flow.model leaf.class in
       let met : (a x : ℕ) → IsPlaceOf leaf a → a ≤ x → x < a + class_bytes flow.model leaf.class → offset ≤ x → x < offset + size → ⊥ = λ a x place from to first last.
       let r = has x first last in
       let r0 = r.0 in
       let r1 = r.1 in
       true≢false (sym (place_selected leaf (window_between (window.lo - (class_bytes flow.model leaf.class - 1)) window.hi) a place stride (omega (arith, r0, to)) (omega (arith, r1, from))) ∙ miss) in
       cell_apart o q flow naming s b leaf.class leaf.signed (λ size a. IsPlaceOf leaf a) (OwnedByLeaf flow.model leaf) v cell
-      (λ u a place z from to. met a (max a offset) place (omega arith) (omega (arith, to, z)) (omega arith) (omega (arith, from, z)))
+      (λ u a place z from to. met a (max a offset) place (omega arith) (omega (arith, to, z, some)) (omega arith) (omega (arith, from, z)))
       (λ u a k owns from to. let there = owns.there in let small = owns.small in met owns.start a owns.place (omega (arith, there)) (omega (arith, there, small)) from to)
 
   -- the class cell of characters, where each byte of the window is a leaf's
@@ -67,7 +69,7 @@ module _ {I : Type 0} {l : LatticeOf I} {n : IntegersOf I} {stands : I → ℤ �
   char_missed b base window shape heap has miss v cell =
       let met : (x : ℕ) → offset ≤ x → x < offset + size → (IsLeafPlace base.shape.cells Char x → ⊥) → ⊥ = λ x first last none.
       let r = has x first last in
-      let w : count_by (at_offset Char x) base.shape.cells ≡ 0 = zero_count _ (count_by (at_offset Char x) base.shape.cells) refl (λ k f. none (counted_place base.shape.cells Char x k (shape.single heap) f)) in
+      let w : count_by (at_offset Char x) base.shape.cells ≡ 0 = zero_count (count_by (at_offset Char x) base.shape.cells) (count_by (at_offset Char x) base.shape.cells) refl (λ k f. none (counted_place base.shape.cells Char x k (shape.single heap) f)) in
       true≢false (sym (is_stray base.shape.cells Char (shape.apart heap Char) window x (shape.single heap) r.0 r.1 w) ∙ miss) in
       cell_apart o q flow naming s b Char true (IsClassPlace flow.model base.shape.cells Char) (OwnedByClass flow.model base.shape.cells Char) v cell
       (λ u a place z from to. met a (omega (arith, to)) from place.no_leaf)

@@ -1,5 +1,5 @@
 -- A base whose leaves are written, then its class cells, then its first zeros.
-use Rattle.std.proofs.Common.{◌≡◌, ℕ, zero, suc, ◌+◌, ◌^◌, ◌<◌, ◌≤◌, cond, Some, List, length, arith, subst, sym, refl, ap, ◌∙◌, inl, inr}
+use Rattle.std.proofs.Common.{◌≡◌, ℕ, zero, suc, ◌+◌, ◌^◌, ◌<◌, ◌≤◌, true, cond, Some, List, length, arith, subst, sym, refl, ap, ◌∙◌, inl, inr}
 use Rattle.std.specs.Prelude.{slice_get, ℤ}
 use Rattle.std.proofs.lemmas.Bool.{cases_eq}
 use Rattle.std.proofs.lemmas.Option.{slice_get_within}
@@ -138,9 +138,6 @@ module _ {I : Type 0} {l : LatticeOf I} {n : IntegersOf I} {stands : I → ℤ �
       (leaf_new : (j : ℕ) (leaf : Leaf) → slice_get base.shape.cells j ≡ Some leaf → StandsLeaf stands flow naming new b leaf (value_at l n (f row) (leaf_position base j)))
       (class_new : (r : List (Cell I)) → length r ≡ length row → ((j : ℕ) → base.shape.heap ≡ true → naming j ≡ Some b → StandsState stands naming old (state_at l n r (state_position base)) (life_at old j) (length (bytes_at old j))) → (c : ℕ) → base.shape.heap ≡ true → c < 6 → StandsClass stands flow naming old b base (class_at c) (value_at l n r (class_position base c)) → StandsClass stands flow naming new b base (class_at c) (value_at l n (g r) (class_position base c)))
       (zero_new : (r : List (Cell I)) → length r ≡ length row → (z : ℕ) (part : ZeroPart) → slice_get base.shape.zeros z ≡ Some part → ((j : ℕ) → IsLiveOf naming old b j → StandsZero stands naming old (zero_at l n r (zero_position base z)) (array_bytes part (bytes_at old j))) → (j : ℕ) → IsLiveOf naming old b j → StandsZero stands naming new (zero_at l n (h r) (zero_position base z)) (array_bytes part (bytes_at new j))) where
-    six : base.shape.heap ≡ true → cond {A = ℕ} base.shape.heap 6 0 ≡ 6
-    six heap = rw heap refl
-
     leaf_at : (j : ℕ) (leaf : Leaf) → slice_get base.shape.cells j ≡ Some leaf → StandsLeaf stands flow naming new b leaf (value_at l n (h (g (f row))) (leaf_position base j))
     leaf_at j leaf e =
         let u = slice_get_within base.shape.cells j leaf e in
@@ -161,7 +158,7 @@ module _ {I : Type 0} {l : LatticeOf I} {n : IntegersOf I} {stands : I → ℤ �
 
     class_in : (c : ℕ) → base.shape.heap ≡ true → c < 6 → StandsClass stands flow naming new b base (class_at c) (value_at l n (h (g (f row))) (class_position base c))
     class_in c heap small =
-        let k = six heap in
+        let k : cond {A = ℕ} base.shape.heap 6 0 ≡ 6 = rw heap refl in
         let x = class_is base c fits (omega (arith, k, small)) in
         subst (StandsClass stands flow naming new b base (class_at c))
         (sym (same_value l n (g (f row)) (h (g (f row))) (class_position base c) (of_zeros.keeps (g (f row)) (class_position base c) (λ v w. omega (arith, x, k, small, v)))))

@@ -1,6 +1,6 @@
 -- The arrays that a region meets, and their first zeros.
 use Rattle.std.proofs.Common.{◌≡◌, ℕ, zero, suc, ◌+◌, ◌-◌, ◌^◌, ◌<◌, ◌≤◌, Option, Some, None, List, [], ◌∷◌, length, take, drop, arith, subst, sym, refl, ap, ◌∙◌, inl, inr, ◌⊎◌}
-use Rattle.std.specs.Prelude.{slice_get, set, ℤ, pos, neg_ℤ}
+use Rattle.std.specs.Prelude.{slice_get, set, ℤ, pos, neg_ℤ, ◌<ℤ◌}
 use Rattle.std.proofs.lemmas.Int.{ints}
 use Rattle.std.proofs.lemmas.Bool.{cases_lt}
 use Rattle.std.proofs.lemmas.List.{length-take, length-drop}
@@ -99,10 +99,13 @@ pub record IsText (bytes : List Byte) (k t : ℕ) : Type 0 where
   pub closed : (b : Byte) × (slice_get bytes (k + t) ≡ Some b) × (seen_as b.content ≡ end)
 
 more_text : (x : Byte) (xs : List Byte) (k t : ℕ) → IsText (x ∷ xs) (suc k) t → IsText xs k t
-more_text x xs k t h = record { characters = h.characters; closed = h.closed }
+more_text x xs k t h = record {
+  characters = λ j u. let e : suc k + j ≡ suc (k + j) = omega arith in let r = h.characters j u in (r.0, ap (slice_get (x ∷ xs)) (sym e) ∙ r.1, r.2);
+  closed = let e : suc k + t ≡ suc (k + t) = omega arith in let r = h.closed in (r.0, ap (slice_get (x ∷ xs)) (sym e) ∙ r.1, r.2);
+}
 
 text_length : (bytes : List Byte) (t : ℕ) → IsText bytes 0 t → first_zero bytes ≡ Some t
-text_length [] t h = let e = h.closed.1.0 in cc
+text_length [] t h = let e = h.closed.1 in cc
 text_length (x ∷ xs) zero h =
     let r = h.closed in
     let c : x ≡ r.0 = same_Some x r.0 r.1 in
@@ -110,7 +113,10 @@ text_length (x ∷ xs) zero h =
 text_length (x ∷ xs) (suc t) h =
     let r = h.characters 0 (omega arith) in
     let c : x ≡ r.0 = same_Some x r.0 r.1 in
-    let e = text_length xs t (record { characters = λ j u. h.characters (suc j) (omega (arith, u)); closed = h.closed }) in
+    let e = text_length xs t (record {
+      characters = λ j u. let d : 0 + suc j ≡ suc (0 + j) = omega arith in let w = h.characters (suc j) (omega (arith, u)) in (w.0, ap (slice_get (x ∷ xs)) (sym d) ∙ w.1, w.2);
+      closed = let d : 0 + suc t ≡ suc (0 + t) = omega arith in let w = h.closed in (w.0, ap (slice_get (x ∷ xs)) (sym d) ∙ w.1, w.2);
+    }) in
     ap (λ u. zero_by u (first_zero xs)) (ap (λ u. seen_as u.content) c ∙ r.2) ∙ ap one_more e
 
 -- what a text at k makes of a first zero
@@ -128,26 +134,29 @@ none_is : (f : Option ℕ) → one_more f ≡ None → f ≡ None
 none_is None e = refl
 none_is (Some j) e = cc
 
+next : (k t : ℕ) → suc (k + t) ≡ suc k + t
+next k t = omega arith
+
 text_by : (s : Seen) (k t : ℕ) (f g : Option ℕ) → IsTextAt k t f g → IsTextAt (suc k) t (zero_by s f) (zero_by s g)
 text_by unknown k t f g h = record { behind = λ m e u. cc; before = λ m e u. cc; none = λ e. inr refl; start = λ (e : suc k ≡ 0). absurd (omega (arith, e)) }
 text_by end k t f g h = record {
-  behind = λ m e u. let c : 0 ≡ m = same_Some 0 m e in omega (arith, c, u);
+  behind = λ m e u. let c : 0 ≡ m = same_Some 0 m e in absurd (omega (arith, c, u));
   before = λ m e u. e;
   none = λ e. cc;
   start = λ (e : suc k ≡ 0). absurd (omega (arith, e));
 }
 text_by character k t f g h = record {
-  behind = λ m e u. let r = one_is f m e in let w = r.2 in ap one_more (h.behind r.0 r.1 (omega (arith, u, w)));
+  behind = λ m e u. let r = one_is f m e in let w = r.2 in ap one_more (h.behind r.0 r.1 (omega (arith, u, w))) ∙ ap Some (next k t);
   before = λ m e u. let r = one_is f m e in let w = r.2 in ap one_more (h.before r.0 r.1 (omega (arith, u, w))) ∙ ap Some (sym r.2);
-  none = λ e. elim (h.none (none_is f e)) [ inl u ↦ inl (ap one_more u) | inr u ↦ inr (ap one_more u) ];
+  none = λ e. elim (h.none (none_is f e)) [ inl u ↦ inl (ap one_more u ∙ ap Some (next k t)) | inr u ↦ inr (ap one_more u) ];
   start = λ (e : suc k ≡ 0). absurd (omega (arith, e));
 }
 
 text_at : (xs ys : List Byte) (k t : ℕ) → ((j : ℕ) → j < k → slice_get xs j ≡ slice_get ys j) → IsText ys k t → k < length xs → IsTextAt k t (first_zero xs) (first_zero ys)
-text_at xs ys zero t same h few = let e = text_length ys t h in record {
-  behind = λ m f u. e;
+text_at xs ys zero t same h few = let e = text_length ys t h in let d : t ≡ 0 + t = omega arith in record {
+  behind = λ m f u. e ∙ ap Some d;
   before = λ m f u. absurd (omega (arith, u));
-  none = λ f. inl e;
+  none = λ f. inl (e ∙ ap Some d);
   start = λ f. e;
 }
 text_at [] ys (suc k) t same h few = absurd (omega (arith, few))
