@@ -1,11 +1,10 @@
 -- Calls of `memset` are sound.
-use Rattle.std.proofs.Common.{◌≡◌, ℕ, zero, suc, ◌+◌, ◌-◌, ◌<◌, ◌≤◌, Bool, true, false, cond, not, ◌&&◌, Option, Some, None, List, [], ◌∷◌, ◌++◌, length, arith, subst, sym, refl, ap, ◌∙◌}
-use Rattle.std.specs.Prelude.{slice_get, ℤ, pos, negsuc, ◌≤ℤ◌, is_some, nat_lt, int_le, int_eq, unsigned_abs, replicate}
+use Rattle.std.proofs.Common.{◌≡◌, ℕ, zero, suc, ◌+◌, ◌-◌, ◌<◌, ◌≤◌, Bool, true, false, cond, not, ◌&&◌, Option, Some, None, List, [], ◌∷◌, ◌++◌, length, arith, subst, sym, refl, ap, ◌∙◌, inl, inr, int_eq, mod-lt}
+use Rattle.std.specs.Prelude.{slice_get, ℤ, pos, negsuc, ◌≤ℤ◌, is_some, nat_lt, int_le, unsigned_abs, replicate}
 use Rattle.std.specs.Int.{int_rem_euclid}
 use Rattle.std.specs.List.{list_all}
 use Rattle.std.proofs.lemmas.Int.{ints}
-use Rattle.std.proofs.lemmas.Bool.{and_parts, and_from, lt-ltb, ltb-true, ltb-false}
-use Rattle.std.proofs.lemmas.Nat.{mod-lt}
+use Rattle.std.proofs.lemmas.Bool.{cases_Bool, and_parts, and_from, lt-ltb, ltb-true, ltb-false}
 use Rattle.std.proofs.lemmas.Option.{same_Some}
 use Rattle.cc_base.specs.Lattices.{LatticeOf, OrderLaws}
 use Rattle.cc_base.specs.IntegerDomains.{IntegersOf, BoundLaws}
@@ -43,7 +42,7 @@ use Rattle.abstract_steps_library.specs.declared.memory_calls.Target.{Target}
 use Rattle.abstract_steps_instructions.specs.CallSteps.{call_of}
 use Rattle.lib_models_memory.specs.Labels.{Labels, is_unlabelled}
 use Rattle.lib_models_memory.specs.Bytes.{MachinePointer, into, Content, number, Byte}
-use Rattle.lib_models_memory.specs.Instances.{Memory, live, ended, bytes_at, life_at}
+use Rattle.lib_models_memory.specs.Instances.{Memory, live, ended, bytes_at, byte_at, life_at}
 use Rattle.lib_models_memory.specs.Scalars.{Scalar, integer, pointer}
 use Rattle.lib_models_effects.specs.LibraryCalls.{with_result}
 use Rattle.lib_models_effects.specs.LibraryChecks as machine
@@ -62,6 +61,7 @@ use Rattle.store_domain_sound.proofs.LoadSound.{instance_there}
 use Rattle.store_domain_sound.proofs.Slices.{get_there}
 use Rattle.store_domain_sound.proofs.StoreLeaves.{live_ended, IsAlone, not_older}
 use Rattle.store_domain_sound.proofs.StorePlaces.{not_empty}
+use Rattle.store_domain_sound.proofs.Windows.{WindowHas}
 use Rattle.store_domain_sound_programs.specs.Premises.{HasPremises}
 use Rattle.store_domain_sound_regions.specs.RegionWrites.{IsRegion}
 use Rattle.store_domain_sound_regions.proofs.BaseRows.{none_stands}
@@ -88,6 +88,12 @@ replicated (suc size) c d (suc k) e = replicated size c d k e
 pub replicate_long : {A : Type 0} (size : ℕ) (c : A) → length (replicate size c) ≡ size
 replicate_long zero c = refl
 replicate_long (suc size) c = ap suc (replicate_long size c)
+
+below_one : (z : ℤ) → z ≤ℤ pos 0 → int_le (pos 1) z ≡ false
+below_one z h = elim (cases_Bool (int_le (pos 1) z)) [
+  | inr e ↦ e
+  | inl e ↦ (let g : pos 1 ≤ℤ z = grind (arith, ints) in absurd (omega (arith, ints, g, h)))
+]
 
 pub bits_small : (z : ℤ) → bits_in 1 z < 256
 bits_small (pos a) = mod-lt a (omega arith)
@@ -259,7 +265,7 @@ module _ {I : Type 0} {l : LatticeOf I} {n : IntegersOf I} {stands : I → ℤ �
         sane : IsMemoryOf flow.model flow.bases.items naming memory
         sane = let it = instance_there s.world.memory i alive in contents_sane s.world.memory i offset contents_of it.0 it.1 fits flow.model flow.bases.items naming (λ k c f. (bits_in 1 z, la, sym (replicated size byte c k f), bits_small z)) r.stands_for.sane
 
-        byte_is : (a : ℕ) (x : Byte) → offset ≤ a → a < offset + size → _ → x.content ≡ byte
+        byte_is : (a : ℕ) (x : Byte) → offset ≤ a → a < offset + size → byte_at memory i a ≡ Some x → x.content ≡ byte
         byte_is a x from to f = let long = replicate_long size byte in sym (replicated size byte x.content (a - offset) (region_content written a x from (omega (arith, to, long)) f))
 
         result : IsResult q flow p naming memory (pointer_value l target.rest) (pointer m)
@@ -272,8 +278,11 @@ module _ {I : Type 0} {l : LatticeOf I} {n : IntegersOf I} {stands : I → ℤ �
         laid : IsLaidOut flow (length row)
         laid = subst (IsLaidOut flow) (sym r.long) p.laid
 
-        start : _
+        start : WindowHas (window_within (offsets n target.rest)) offset
         start = start_has o q flow p.shaped naming s.world.memory r.stands_for.sane target.rest i offset lo hi rest.0 within
+
+        on_is : fill_plan.effect ≡ fill_in_window l n call target character (touched_window n target.rest cut) (window_within (offsets n target.rest))
+        on_is = ap (λ b. cond {A = Effect I} b (fill_in_window l n call target character (touched_window n target.rest cut) (window_within (offsets n target.rest))) effect.Unreached) on
 
         -- no byte can be touched, so that none is
         module _ (none : touched_window n target.rest cut ≡ None) where
@@ -288,10 +297,10 @@ module _ {I : Type 0} {l : LatticeOf I} {n : IntegersOf I} {stands : I → ℤ �
                   cc
 
           least_none : int_le (pos 1) (lower_of cut) ≡ false
-          least_none = let a = least_has o q flow p.shaped naming s.world.memory r.stands_for.sane target.rest i offset lo hi rest.0 within cut size cut_size in let b = nothing in let c : (lower_of cut) ≤ℤ pos 0 = omega (arith, ints, a, b) in grind (arith, ints)
+          least_none = let a = least_has o q flow p.shaped naming s.world.memory r.stands_for.sane target.rest i offset lo hi rest.0 within cut size cut_size in let b = nothing in below_one (lower_of cut) (omega (arith, ints, a, b))
 
           none_is : fill_plan.effect ≡ effect.Result (pointer_value l target.rest)
-          none_is = rw (on, none, start.is, least_none) refl
+          none_is = on_is ∙ (ap (λ y. fill_in_window l n call target character y (window_within (offsets n target.rest))) none ∙ ap (λ b. cond {A = Effect I} b effect.Unreached (effect.Result (pointer_value l target.rest))) least_none)
 
           none_good : Good o q flow p naming row s r to has newest fill_plan (goes (Some (pointer m)) (with_contents start_world reach contents_of))
           unfolding apply
@@ -344,7 +353,7 @@ module _ {I : Type 0} {l : LatticeOf I} {n : IntegersOf I} {stands : I → ℤ �
               r.stands_for.sane.one j i st.base base.0 base.1 (not_older base.0.kind (t.single st.base base.0 base.1 own)) (h.named ∙ ap Some same) st.named (λ y. live_ended (sym h.alive ∙ y)) (λ y. live_ended (sym alive ∙ y))
 
           fill_is : fill_plan.effect ≡ effect.Fill write (pointer_value l target.rest)
-          fill_is = rw (on, some, start.is) refl
+          fill_is = on_is ∙ (ap (λ y. fill_in_window l n call target character y (window_within (offsets n target.rest))) some ∙ ap (λ y. fill_in_window l n call target character (Some w) y) start.is)
 
           fill_good : Good o q flow p naming row s r to has newest fill_plan (goes (Some (pointer m)) (with_contents start_world reach contents_of))
           unfolding apply

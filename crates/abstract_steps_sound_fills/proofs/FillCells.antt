@@ -40,7 +40,7 @@ use Rattle.store_domain_meaning.specs.ValueMeaning.{Naming, StandsContent, Stand
 use Rattle.store_domain_meaning.specs.RowMeaning.{IsLiveOf, StandsLeaf, StandsClass}
 use Rattle.store_domain_sound.specs.Shapes.{IsShaped}
 use Rattle.store_domain_sound.proofs.Classes.{class_above}
-use Rattle.store_domain_sound.proofs.Near.{IsNearValue, value_at_near, near_number_from}
+use Rattle.store_domain_sound.proofs.Near.{IsNearValue, value_at_near, near_number_from, near_number_none}
 use Rattle.store_domain_sound.proofs.StoreValues.{written, join_is}
 use Rattle.store_domain_sound_chars.proofs.ByteValues.{written_near}
 use Rattle.store_domain_sound_regions.specs.RegionWrites.{IsRegion}
@@ -71,6 +71,10 @@ number_or : Content → ℕ
 number_or (number k la) = k
 number_or _ = 0
 
+number_is_nil : (y : Labelled) (la : Labels) → number_in y ≡ number 0 la → y.number ≡ 0
+unfolding number_or
+number_is_nil y la e = ap number_or e
+
 -- ---- the value of a cell that is surely covered
 
 module _ {I : Type 0} {l : LatticeOf I} {n : IntegersOf I} {stands : I → ℤ → Type 0} (o : OrderLaws l) (q : BoundLaws l n stands) (flow : Flow) (naming : Naming) {old new : Memory} {i offset size : ℕ} (s : IsRegion old new i offset size) (sane : IsMemoryOf flow.model flow.bases.items naming new) (write : FillWrite) (k : IsFill write new i offset size) where
@@ -92,11 +96,8 @@ module _ {I : Type 0} {l : LatticeOf I} {n : IntegersOf I} {stands : I → ℤ �
 
     zero_near : IsNearValue l n (number_value l (n.one (pos 0)) write.labels)
     zero_near =
-        let none = near_none in
+        let none = near_number_none o q l.least q.least_bounds in
         record { num = near_number_from o q (n.one (pos 0)) (pos 0) (pos 0) (q.one_bounds (pos 0)) (omega (arith, ints)) (omega (arith, ints)); lo = none; rel = none; len = none }
-      where
-        near_none : _
-        near_none = near_number_none o q l.least q.least_bounds
 
     covered_near : IsNearValue l n covered
     covered_near = elim covered_cases [
@@ -114,7 +115,7 @@ module _ {I : Type 0} {l : LatticeOf I} {n : IntegersOf I} {stands : I → ℤ �
           let m = h.each j y small f in
           let one : Byte = record { content = number_in y; tag = m.tag } in
           let r = k.zeros e.1 (a + j) one (omega (arith, from)) (omega (arith, to, small, long)) m.here in
-          ap number_or r.1)) in
+          number_is_nil y r.0 r.1)) in
           subst (λ v. stands v.num (number_of t ns)) (sym e.2) (subst (stands (n.one (pos 0))) (sym nil) (q.one_stands (pos 0))))
     ]
 
@@ -212,9 +213,6 @@ module _ {I : Type 0} {l : LatticeOf I} {n : IntegersOf I} {stands : I → ℤ �
           (z.0, omega (arith, hi, below), omega (arith, ints, high, least, top))
 
       module _ (c : Class) where
-        abbrev p : ℕ → ℕ
-        p number = class_position base number
-
         -- the value with which a class cell is joined stands for what is set
         class_stands : (cleared : Bool) → clears_instance l n base row write ≡ cleared → (y : values.Value I) → IsNearValue l n y → StandsClass stands flow naming old b base c y → StandsClass stands flow naming new b base c (written l n flow.model y (class_value l n flow.model c write cleared) false)
         class_stands false e y fine cell = cell_numbers o q flow naming s sane write.labels k.numbers c true b (IsClassPlace flow.model base.shape.cells c) (OwnedByClass flow.model base.shape.cells c) y fine cell
@@ -229,15 +227,15 @@ module _ {I : Type 0} {l : LatticeOf I} {n : IntegersOf I} {stands : I → ℤ �
             y fine cell
 
     -- a class cell that is joined
-    class_joined : (c number : _) (row r : List (Cell I)) (cleared : Bool) → clears_instance l n base row write ≡ cleared → base.shape.heap ≡ true
+    pub class_joined : (c : Class) (at : ℕ) (row r : List (Cell I)) (cleared : Bool) → clears_instance l n base row write ≡ cleared → base.shape.heap ≡ true
         → ((j : ℕ) → base.shape.heap ≡ true → naming j ≡ Some b → StandsState stands naming old (state_at l n row (state_position base)) (life_at old j) (length (bytes_at old j)))
-        → class_position base number < length r → StandsClass stands flow naming old b base c (value_at l n r (class_position base number)) → StandsClass stands flow naming new b base c (value_at l n (join_value l n r (class_position base number) (class_value l n flow.model c write cleared)) (class_position base number))
-    class_joined c number row r cleared e heap states there cell =
-        subst (StandsClass stands flow naming new b base c) (sym (join_is l n flow.model r (class_position base number) (class_value l n flow.model c write cleared) there))
-        (class_stands row states heap c cleared e (value_at l n r (class_position base number)) (value_at_near o q r (class_position base number)) cell)
+        → class_position base at < length r → StandsClass stands flow naming old b base c (value_at l n r (class_position base at)) → StandsClass stands flow naming new b base c (value_at l n (join_value l n r (class_position base at) (class_value l n flow.model c write cleared)) (class_position base at))
+    class_joined c at row r cleared e heap states there cell =
+        subst (StandsClass stands flow naming new b base c) (sym (join_is l n flow.model r (class_position base at) (class_value l n flow.model c write cleared) there))
+        (class_stands row states heap c cleared e (value_at l n r (class_position base at)) (value_at_near o q r (class_position base at)) cell)
 
     -- the class cell of characters
-    char_filled : (row r : List (Cell I)) (cleared : Bool) → clears_instance l n base row write ≡ cleared → base.shape.heap ≡ true
+    pub char_filled : (row r : List (Cell I)) (cleared : Bool) → clears_instance l n base row write ≡ cleared → base.shape.heap ≡ true
         → ((j : ℕ) → base.shape.heap ≡ true → naming j ≡ Some b → StandsState stands naming old (state_at l n row (state_position base)) (life_at old j) (length (bytes_at old j)))
         → class_position base 0 < length r → StandsClass stands flow naming old b base Char (value_at l n r (class_position base 0)) → StandsClass stands flow naming new b base Char (value_at l n (fill_stray l n flow.model base write cleared r) (class_position base 0))
     char_filled row r cleared e heap states there cell = by_stray (has_stray base.shape.cells Char write.window) refl

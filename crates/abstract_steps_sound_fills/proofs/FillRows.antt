@@ -1,5 +1,5 @@
 -- The row behind `memset` stands for the bytes that it sets.
-use Rattle.std.proofs.Common.{◌≡◌, ℕ, zero, suc, ◌+◌, ◌^◌, ◌<◌, ◌≤◌, Bool, true, false, cond, Some, List, length, arith, subst, sym, refl, ap, ◌∙◌}
+use Rattle.std.proofs.Common.{◌≡◌, ℕ, zero, suc, ◌+◌, ◌-◌, ◌^◌, ◌<◌, ◌≤◌, Bool, true, false, cond, Some, List, length, arith, subst, sym, refl, ap, ◌∙◌}
 use Rattle.std.specs.Prelude.{slice_get, ℤ, is_some}
 use Rattle.std.proofs.lemmas.Option.{slice_get_within}
 use Rattle.cc_base.specs.Lattices.{LatticeOf, OrderLaws}
@@ -37,6 +37,10 @@ use Rattle.store_domain_sound_regions.proofs.ByteRegions.{write_only}
 use Rattle.store_domain_sound_regions.proofs.Layers.{only_turns, value_turn, zero_turn, leaves_within, leaf_turn, zeros_within, part_turn, classes_within, class_turn, class_spared, layers_within, layers_stand}
 use Rattle.abstract_steps_sound_fills.proofs.FillCells.{IsFill, leaf_filled, class_joined, char_filled}
 use Rattle.abstract_steps_sound_fills.proofs.FillZeros.{zero_filled}
+
+cond_hit : {A : Type 0} (b : Bool) (x y : A) → b ≡ true → cond b x y ≡ x
+cond_hit true x y e = refl
+cond_hit false x y e = cc
 
 -- ---- where each part writes
 
@@ -133,9 +137,12 @@ module _ {I : Type 0} {l : LatticeOf I} {n : IntegersOf I} {stands : I → ℤ �
           (subst (λ z. StandsClass stands flow naming old b base (class_at z) (value_at l n (fill_stray l n flow.model base write cleared r) (class_position base z))) (sym next)
           (subst (StandsClass stands flow naming old b base (class_at (suc c))) (sym (same_value l n r _ (class_position base (suc c)) (stray.keeps r (class_position base (suc c)) (λ v w. omega (arith, x, y, v, w))))) cell)))
 
-    class_new : (c : ℕ) → c < 6 → StandsClass stands flow naming old b base (class_at c) (value_at l n r (class_position base c)) → StandsClass stands flow naming new b base (class_at c) (value_at l n (fill_heap_part l n flow.model base write r) (class_position base c))
+    heap_is : fill_heap_part l n flow.model base write r ≡ fill_classes l n flow.model base write (clears_instance l n base r write) r
     unfolding fill_class_cells
-    class_new c small cell = rw heap (class_by (clears_instance l n base r write) refl c small cell)
+    heap_is = cond_hit base.shape.heap (fill_classes l n flow.model base write (clears_instance l n base r write) r) r heap
+
+    class_new : (c : ℕ) → c < 6 → StandsClass stands flow naming old b base (class_at c) (value_at l n r (class_position base c)) → StandsClass stands flow naming new b base (class_at c) (value_at l n (fill_heap_part l n flow.model base write r) (class_position base c))
+    class_new c small cell = subst (λ z. StandsClass stands flow naming new b base (class_at c) (value_at l n z (class_position base c))) (sym heap_is) (class_by (clears_instance l n base r write) refl c small cell)
 
   zero_new : (r : List (Cell I)) → length r ≡ length row → (z : ℕ) (part : ZeroPart) → slice_get base.shape.zeros z ≡ Some part → ((j : ℕ) → IsLiveOf naming old b j → StandsZero stands naming old (zero_at l n r (zero_position base z)) (array_bytes part (bytes_at old j))) → (j : ℕ) → IsLiveOf naming old b j → StandsZero stands naming new (zero_at l n (fill_zeros l n base write alone r) (zero_position base z)) (array_bytes part (bytes_at new j))
   unfolding fill_zeros

@@ -18,7 +18,7 @@ use Rattle.abstract_steps_instructions.specs.StepViolations.{operation_violation
 use Rattle.abstract_steps_instructions.specs.Steps.{operate}
 use Rattle.lib_models_memory.specs.Scalars.{Scalar, integer, pointer}
 use Rattle.lib_models_effects.specs.LibraryCalls.{library}
-use Rattle.lib_models_effects.specs.Worlds.{Stuck}
+use Rattle.lib_models_effects.specs.Worlds.{stops, Stuck}
 use Rattle.flow_program_machine.specs.FlowStates.{Standing, values_of}
 use Rattle.store_domain_meaning.specs.ValueMeaning.{Naming}
 use Rattle.store_domain_sound_programs.specs.Premises.{HasPremises}
@@ -30,7 +30,7 @@ use Rattle.abstract_steps_sound_fills.proofs.WriteCalls.{Good, plain_stop, three
 use Rattle.abstract_steps_sound_fills.proofs.FillCalls.{fill_call_good}
 
 module _ {I : Type 0} {l : LatticeOf I} {n : IntegersOf I} {stands : I → ℤ → Type 0} (o : OrderLaws l) (q : BoundLaws l n stands) (flow : Flow) (p : HasPremises flow) (naming : Naming) (row : List (Cell I)) (s : Standing) (r : IsReached l n stands flow naming row s) (to : Option ℕ) (has : has_result (names_of flow) to ≡ true) (newest : Option ℕ) where
-  stuck_here : (plan : _) → Good o q flow p naming row s r to has newest plan _
+  stuck_here : (plan : _) → Good o q flow p naming row s r to has newest plan (stops Stuck s.world)
   stuck_here plan = plain_stop o q flow p naming row s r to has newest plan s.world.violated (clean q flow p naming row s r plan.violations) Stuck
 
   by_name : (name : LibFn) → SetsBytes name → (items : List ℕ) (wanted : Option ℕ) (vs : List Scalar) → values_of s.temps items ≡ Some vs → TakesSize name items s.temps → Good o q flow p naming row s r to has newest (plan_call l n name (call_of flow items wanted) row) (library flow.model wanted name vs s.world)

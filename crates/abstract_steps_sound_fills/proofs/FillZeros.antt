@@ -6,7 +6,7 @@ use Rattle.std.proofs.lemmas.Bool.{cases_Bool, cases_eq, cases_lt, and_parts, eq
 use Rattle.std.proofs.lemmas.List.{length-set}
 use Rattle.std.proofs.lemmas.Option.{slice_get_within}
 use Rattle.cc_base.specs.Lattices.{LatticeOf, OrderLaws}
-use Rattle.cc_base.specs.IntegerDomains.{IntegersOf, BoundLaws}
+use Rattle.cc_base.specs.IntegerDomains.{IntegersOf, BoundLaws, IsNear}
 use Rattle.cc_base.specs.declared.integer_operators.Tri.TheVariants.{Yes}
 use Rattle.c_layout.specs.declared.shapes.BaseInfo.{BaseInfo}
 use Rattle.c_layout.specs.declared.shapes.ZeroPart.{ZeroPart}
@@ -62,7 +62,7 @@ module _ {I : Type 0} {l : LatticeOf I} {n : IntegersOf I} {stands : I → ℤ �
       t : IsTarget part write.start target
       t = target_is part write.start target found
 
-      put_here : IsIn part.size part.offset offset → (near : _) → StandsZero stands naming old old_zero (array_bytes part (bytes_at old i)) → StandsZero stands naming new (put_at l n old_zero target Yes alone) (array_bytes part (bytes_at new i))
+      put_here : IsIn part.size part.offset offset → (near : IsNear (n.bounds old_zero.at)) → StandsZero stands naming old old_zero (array_bytes part (bytes_at old i)) → StandsZero stands naming new (put_at l n old_zero target Yes alone) (array_bytes part (bytes_at new i))
       unfolding byte_at
       put_here inside near h =
           let start = starts_in part.size part.offset offset inside in
@@ -89,7 +89,7 @@ module _ {I : Type 0} {l : LatticeOf I} {n : IntegersOf I} {stands : I → ℤ �
       put_there : (j : ℕ) → (j ≡ i → (x : ℕ) → IsIn part.size part.offset x → offset ≤ x → x < offset + size → ⊥) → (alone && target.whole) ≡ false → StandsZero stands naming old old_zero (array_bytes part (bytes_at old j)) → StandsZero stands naming new (put_at l n old_zero target Yes alone) (array_bytes part (bytes_at new j))
       put_there j none both h = subst (StandsZero stands naming new (put_at l n old_zero target Yes alone)) (sym (array_apart s part j none)) (put_outside o q old_zero target Yes alone (zero_offset (first_zero (array_bytes part (bytes_at old j)))) both h)
 
-      in_array : (inside : Bool) → lies_in_array write.one_byte inside target ≡ true → (near : _) → (j : ℕ) → IsLiveOf naming old b j → StandsZero stands naming old old_zero (array_bytes part (bytes_at old j)) → StandsZero stands naming new (put_at l n old_zero target Yes alone) (array_bytes part (bytes_at new j))
+      in_array : (inside : Bool) → lies_in_array write.one_byte inside target ≡ true → (near : IsNear (n.bounds old_zero.at)) → (j : ℕ) → IsLiveOf naming old b j → StandsZero stands naming old old_zero (array_bytes part (bytes_at old j)) → StandsZero stands naming new (put_at l n old_zero target Yes alone) (array_bytes part (bytes_at new j))
       in_array inside lies near j alive h = elim (cases_eq j i) [
         | inr ne ↦ put_there j (λ e x f g u. ne e) (not_both alone target.whole (λ a w. ne (single a some j alive))) h
         | inl e ↦ elim (in_or_not part.size part.offset offset) [
@@ -109,7 +109,7 @@ module _ {I : Type 0} {l : LatticeOf I} {n : IntegersOf I} {stands : I → ℤ �
               by_flags false false d h m = cc
 
     -- what the table gives, wherever the write begins
-    inside_stands : (target : ZeroTarget) → zero_target part write.start ≡ Some target → (inside : Bool) → lies_in_array write.one_byte inside target ≡ true → (near : _) → (j : ℕ) → IsLiveOf naming old b j → StandsZero stands naming old old_zero (array_bytes part (bytes_at old j))
+    inside_stands : (target : ZeroTarget) → zero_target part write.start ≡ Some target → (inside : Bool) → lies_in_array write.one_byte inside target ≡ true → (near : IsNear (n.bounds old_zero.at)) → (j : ℕ) → IsLiveOf naming old b j → StandsZero stands naming old old_zero (array_bytes part (bytes_at old j))
         → StandsZero stands naming new (zero_inside l n old_zero target.local write (alone && target.whole)) (array_bytes part (bytes_at new j))
     inside_stands target found inside lies near j alive h = by_known (write.zero && (int_le (pos 1) write.least && (window_is_one target.local && is_up_to n old_zero target.local))) refl
       where
@@ -123,7 +123,7 @@ module _ {I : Type 0} {l : LatticeOf I} {n : IntegersOf I} {stands : I → ℤ �
             let one : pos 1 ≤ℤ write.least = grind (arith, ints) in
             in_array target found a.0 (omega (arith, ints, least, one)) d.0 inside lies near j alive h
 
-    met_stands : (start : Option ZeroTarget) → zero_target part write.start ≡ start → (inside : Bool) → (near : _) → (j : ℕ) → IsLiveOf naming old b j → StandsZero stands naming old old_zero (array_bytes part (bytes_at old j))
+    met_stands : (start : Option ZeroTarget) → zero_target part write.start ≡ start → (inside : Bool) → (near : IsNear (n.bounds old_zero.at)) → (j : ℕ) → IsLiveOf naming old b j → StandsZero stands naming old old_zero (array_bytes part (bytes_at old j))
         → StandsZero stands naming new (zero_met_at l n old_zero write alone inside start) (array_bytes part (bytes_at new j))
     met_stands None found inside near j alive h = any_zero_stands o q naming new (array_bytes part (bytes_at new j)) (small_array part j)
     met_stands (Some target) found inside near j alive h = by_lies (lies_in_array write.one_byte inside target) refl

@@ -1,5 +1,5 @@
 -- Where a library call writes through a pointer: its room, the pointers that go on, and the offsets that it touches.
-use Rattle.std.proofs.Common.{◌≡◌, ℕ, ◌+◌, ◌-◌, ◌<◌, ◌≤◌, Bool, true, false, cond, not, ◌&&◌, ◌||◌, ◌==◌, Option, Some, None, List, length, arith, subst, sym, refl, ap, ◌∙◌}
+use Rattle.std.proofs.Common.{◌≡◌, ℕ, ◌+◌, ◌-◌, ◌^◌, ◌<◌, ◌≤◌, Bool, true, false, cond, not, ◌&&◌, ◌||◌, ◌==◌, Option, Some, None, List, length, arith, subst, sym, refl, ap, ◌∙◌, inl, inr}
 use Rattle.std.specs.Prelude.{slice_get, ℤ, pos, negsuc, ◌-ℤ◌, ◌+ℤ◌, ◌≤ℤ◌, ◌<ℤ◌, is_some, is_none, int_le, int_lt, nat_lt, unsigned_abs}
 use Rattle.std.specs.Int.{int_min, int_max, saturate_signed, w128}
 use Rattle.std.proofs.lemmas.Int.{ints, clamps}
@@ -175,7 +175,7 @@ module _ {I : Type 0} {l : LatticeOf I} {n : IntegersOf I} {stands : I → ℤ �
   -- ---- literals
 
   module _ (alive : life_at memory i ≡ live) where
-    base : BaseInfo
+    abbrev base : BaseInfo
     base = (get_there flow.bases.items st.base (sane.few i st.base st.named)).0
 
     base_at : slice_get flow.bases.items st.base ≡ Some base

@@ -1,5 +1,5 @@
 -- How calls that write go on and stop.
-use Rattle.std.proofs.Common.{◌≡◌, ℕ, suc, ◌+◌, ◌-◌, ◌<◌, ◌≤◌, Bool, true, false, cond, not, ◌&&◌, Option, Some, None, List, [], ◌∷◌, length, arith, subst, sym, refl, ap, ◌∙◌, inl, inr}
+use Rattle.std.proofs.Common.{◌≡◌, ℕ, zero, suc, ◌+◌, ◌-◌, ◌<◌, ◌≤◌, Bool, true, false, cond, not, ◌&&◌, Option, Some, None, List, [], ◌∷◌, length, arith, subst, sym, refl, ap, ◌∙◌, inl, inr}
 use Rattle.std.specs.Prelude.{slice_get, ℤ, pos, ◌≤ℤ◌, nat_lt}
 use Rattle.std.proofs.lemmas.Bool.{cases_Bool, ltb-true, ltb-false}
 use Rattle.cc_base.specs.Lattices.{LatticeOf, OrderLaws}
@@ -104,6 +104,9 @@ pub behind_behind : {A B C : Type 0} (a : Reply A) (f : A → World → Reply B)
 behind_behind (goes x w) f g = refl
 behind_behind (stops why w) f g = refl
 
+labels_shown : (t : Labels) (labels : sets.Labels) → labels_leq (as_set t) labels ≡ true → not (is_unlabelled t) ≡ true → violates (sink_violations labels) rule.Taintsink ≡ true
+labels_shown t labels h e = grind arith
+
 -- a label of the size is told
 pub sink_told : (t : Labels) (told : Violations) (labels : sets.Labels) → labels_leq (as_set t) labels ≡ true → ((r : Rule) → violates (sink_violations labels) r ≡ true → violates told r ≡ true) → AreAdmitted told (cond (not (is_unlabelled t)) (rule.Taintsink ∷ []) [])
 sink_told t told labels below tells = by_flag (not (is_unlabelled t)) refl
@@ -111,9 +114,6 @@ sink_told t told labels below tells = by_flag (not (is_unlabelled t)) refl
     by_flag : (b : Bool) → not (is_unlabelled t) ≡ b → AreAdmitted told (cond b (rule.Taintsink ∷ []) [])
     by_flag false e = none_admitted told
     by_flag true e = one_admitted told rule.Taintsink (tells rule.Taintsink (labels_shown t labels below e))
-
-    labels_shown : (t : Labels) (labels : sets.Labels) → labels_leq (as_set t) labels ≡ true → not (is_unlabelled t) ≡ true → violates (sink_violations labels) rule.Taintsink ≡ true
-    labels_shown t labels h e = grind
 
 module _ {I : Type 0} {l : LatticeOf I} {n : IntegersOf I} {stands : I → ℤ → Type 0} (o : OrderLaws l) (q : BoundLaws l n stands) (flow : Flow) (p : HasPremises flow) (naming : Naming) (row : List (Cell I)) (s : Standing) (r : IsReached l n stands flow naming row s) (to : Option ℕ) (has : has_result (names_of flow) to ≡ true) (newest : Option ℕ) where
   abbrev pub Good : Plan I → Reply (Option Scalar) → Type 0
