@@ -5,3 +5,4 @@ pub mod Targets
 pub mod WriteCalls
 pub mod FillCalls
 pub mod FillSteps
+pub mod Counterexamples
