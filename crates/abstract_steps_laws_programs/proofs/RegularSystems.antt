@@ -2,6 +2,7 @@
 use Rattle.std.specs.Prelude.{◌≡◌, ◌≤◌, ℤ, true, nat_le, List, length}
 use Rattle.std.proofs.Common.{arith}
 use Rattle.std.proofs.lemmas.Bool.{and_parts, leb-true}
+use Rattle.c_layout.specs.StructViews.{structs_view}
 use Rattle.cc_base.specs.Machine.{IsMonotone}
 use Rattle.cc_base.specs.Standard.{standard_limits}
 use Rattle.cc_base.specs.declared.limit_table.Limits.{Limits}
@@ -11,12 +12,13 @@ use Rattle.interval_domain.specs.IntervalLattice.{interval_lattice, interval_ord
 use Rattle.interval_domain.specs.IntervalNumbers.{interval_numbers, interval_bounding, interval_ranges}
 use Rattle.interval_domain_laws.specs.Operations.{interval_monotone}
 use Rattle.value_domain.specs.Cells.{cell_lattice}
+use Rattle.store_domain_laws_layouts.proofs.LaidApart.{apart_spread}
+use Rattle.abstract_steps_laws_structs.specs.SpreadStructs.{AreSpread}
 use Rattle.abstract_steps_rows.specs.OwnRows.{program_bases}
 use Rattle.abstract_steps_system.specs.FlowMachines.{flow_machine}
 use Rattle.abstract_steps_laws.specs.ProgramLaws.{AreRising}
-use Rattle.abstract_steps_laws_programs.specs.CopiedStructs.{CopiesSpread}
-use Rattle.abstract_steps_laws_programs.specs.RegularPrograms.{is_regular}
-use Rattle.abstract_steps_laws_programs.proofs.WellFormed.{well_made, laid_out}
+use Rattle.abstract_steps_laws_programs.specs.RegularPrograms.{has_apart_members, is_regular}
+use Rattle.abstract_steps_laws_programs.proofs.WellFormed.{well_made, has_model, laid_out}
 use Rattle.abstract_steps_laws_programs.proofs.Sites.{all_sites}
 use Rattle.abstract_steps_laws_programs.proofs.AllCalls.{all_rise}
 use Rattle.abstract_steps_laws_programs.proofs.IntervalSystems.{rising_monotone}
@@ -27,12 +29,16 @@ few_bases limits flow h =
     let a = and_parts (nat_le flow.temps limits.temps) _ (well_made limits flow h).within in
     leb-true (length flow.bases.items) limits.bases (and_parts (nat_le (length flow.bases.items) limits.bases) _ a.1).0
 
-module _ (flow : Flow) (list : List ℤ) (h : is_regular flow list ≡ true) (spread : CopiesSpread flow) where
+-- structs whose members stand apart have leaves that share no bytes
+pub apart_members : (limits : Limits) (flow : Flow) → is_well_formed limits flow ≡ true → has_apart_members flow ≡ true → AreSpread flow
+apart_members limits flow h apart = record { each = λ index s e. apart_spread flow.model (has_model limits flow h) (structs_view flow.structs) apart index s e }
+
+module _ (flow : Flow) (list : List ℤ) (h : is_regular flow list ≡ true) where
   pub regular_rising : AreRising interval_lattice interval_numbers (program_bases (length flow.bases.items)) flow
   regular_rising =
       let p = regular_of flow list h in
       all_rise interval_order interval_bounding interval_monotone interval_ranges (program_bases (length flow.bases.items)) flow (laid_out standard_limits flow p.well_formed (omega arith))
-      (all_sites standard_limits flow p.well_formed (few_bases standard_limits flow p.well_formed)) (well_made standard_limits flow p.well_formed).laid spread
+      (all_sites standard_limits flow p.well_formed (few_bases standard_limits flow p.well_formed)) (well_made standard_limits flow p.well_formed).laid (λ block at b i q e c. apart_members standard_limits flow p.well_formed p.apart)
 
   pub regular_monotone : IsMonotone (cell_lattice interval_lattice) (flow_machine interval_lattice interval_numbers flow list)
   regular_monotone =

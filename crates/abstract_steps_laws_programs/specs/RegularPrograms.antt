@@ -1,9 +1,10 @@
--- Well-formed programs whose texts are bytes and whose tests name objects with leaves, and lists of numbers between whose ends
--- their rows are cut.
+-- Well-formed programs whose texts are bytes, whose tests name objects with leaves and whose structs have members that stand
+-- apart, and lists of numbers between whose ends their rows are cut.
 use Rattle.std.specs.Prelude.{ℕ, ◌-◌, ◌^◌, ℤ, pos, negsuc, Bool, true, ◌&&◌, nat_lt, int_le, Option, Some, None, List, length, slice_get, slice_index_or}
 use Rattle.std.specs.Ordering.{int_eq}
 use Rattle.std.specs.List.{list_all}
 use Rattle.cc_base.specs.Standard.{standard_limits}
+use Rattle.c_layout.specs.StructViews.{structs_view}
 use Rattle.c_layout.specs.declared.shapes.BaseInfo.{BaseInfo}
 use Rattle.flow_program.specs.Nearest.{is_among}
 use Rattle.flow_program.specs.WellFormed.{is_well_formed}
@@ -15,6 +16,7 @@ use Rattle.flow_program.specs.declared.flow_edges.Side.TheVariants as side
 use Rattle.flow_program.specs.declared.flow_edges.Test.{Test}
 use Rattle.flow_program.specs.declared.machine_instructions.Operation.{Operation}
 use Rattle.flow_program.specs.declared.machine_instructions.Operation.TheVariants as op
+use Rattle.store_domain_laws_layouts.specs.LaidApart.{are_laid_apart}
 use Rattle.abstract_steps_laws.specs.SystemLaws.{is_near_number}
 
 -- ---- programs
@@ -56,6 +58,10 @@ has_scalars flow =
     list_all (λ b. list_all (λ i. has_bytes i.operation) b.instructions.items) flow.blocks.items
     && list_all (λ e. follows_leaves flow.bases.items e.kind) flow.edges.items
 
+-- the members of its structs stand apart
+abbrev pub has_apart_members : Flow → Bool
+has_apart_members flow = are_laid_apart flow.model (structs_view flow.structs)
+
 -- ---- lists
 
 abbrev pub first_number : List ℤ → ℤ
@@ -78,4 +84,4 @@ is_near_list list =
 
 -- a well-formed program and a list with which its system is monotone
 abbrev pub is_regular : Flow → List ℤ → Bool
-is_regular flow list = is_well_formed standard_limits flow && (has_scalars flow && is_near_list list)
+is_regular flow list = is_well_formed standard_limits flow && (has_scalars flow && (has_apart_members flow && is_near_list list))

@@ -24,7 +24,8 @@ ghost use Rattle.abstract_steps_laws.specs.SystemLaws.{IsNearList};
 ghost use Rattle.abstract_steps_laws_programs.specs.Texts.{HasScalars};
 ghost use Rattle.abstract_steps_laws_programs.specs.NearNumbers.{HasNearMembers};
 ghost use Rattle.abstract_steps_laws_programs.specs.CopiedStructs.{CopiesSpread};
-ghost use Rattle.abstract_steps_laws_programs.specs.RegularPrograms.{is_regular};
+ghost use Rattle.abstract_steps_laws_structs.specs.SpreadStructs.{AreSpread};
+ghost use Rattle.abstract_steps_laws_programs.specs.RegularPrograms.{has_apart_members, is_regular};
 ghost use Rattle.abstract_steps_laws_programs.specs.ProgramRows.{IsProgramRow, AreCut};
 
 use abstract_steps_rows::Bounded;
@@ -58,9 +59,14 @@ pub fn systems_of_intervals_are_monotone()
     ensures spread { (limits : Limits) (flow : Flow) (list : List ℤ) → is_well_formed limits flow ≡ true → limits.pool < 2 ^ 64 → length flow.bases.items ≤ 1016 → HasScalars flow → IsNearList interval_lattice interval_numbers list → CopiesSpread flow → IsMonotone (cell_lattice interval_lattice) (flow_machine interval_lattice interval_numbers flow list) }
 {}
 
-/// The system over intervals of a regular program and list is monotone, under the same premise.
+/// The structs of a well-formed program whose members stand apart have leaves that share no bytes.
+pub fn apart_members_are_spread()
+    ensures { (limits : Limits) (flow : Flow) → is_well_formed limits flow ≡ true → has_apart_members flow ≡ true → AreSpread flow }
+{}
+
+/// The system over intervals of a regular program and list is monotone.
 pub fn regular_programs_are_monotone()
-    ensures { (flow : Flow) (list : List ℤ) → is_regular flow list ≡ true → CopiesSpread flow → IsMonotone (cell_lattice interval_lattice) (flow_machine interval_lattice interval_numbers flow list) }
+    ensures { (flow : Flow) (list : List ℤ) → is_regular flow list ≡ true → IsMonotone (cell_lattice interval_lattice) (flow_machine interval_lattice interval_numbers flow list) }
 {}
 
 /// What edges leave of own rows is of the program's cells, with bounds from -2^64 to 2^64 and pointers into its bases; and the

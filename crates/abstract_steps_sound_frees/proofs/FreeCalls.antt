@@ -1,8 +1,8 @@
 -- Calls of `free` are sound.
-use Rattle.std.proofs.Common.{◌≡◌, ◌⊎◌, ℕ, suc, ◌≤◌, Bool, true, false, cond, not, ◌&&◌, ◌||◌, Option, Some, None, List, [], ◌∷◌, length, arith, subst, sym, refl, ap, ◌∙◌, inl, inr}
+use Rattle.std.proofs.Common.{◌≡◌, ℕ, suc, ◌≤◌, Bool, true, false, not, ◌&&◌, Option, Some, None, List, [], ◌∷◌, subst, sym, refl, ap, ◌∙◌, inl, inr}
 use Rattle.std.specs.Prelude.{slice_get, ℤ, nat_lt, ◌==◌}
 use Rattle.std.specs.List.{list_all}
-use Rattle.std.proofs.lemmas.Bool.{cases_Bool, cases_eq, and_parts, and_from, or_left, or_right, lt-ltb, ltb-true, eqb-true, true≢false}
+use Rattle.std.proofs.lemmas.Bool.{cases_Bool, cases_eq, and_parts, and_from, or_left, or_right, ltb-true, eqb-true, true≢false}
 use Rattle.std.proofs.lemmas.Option.{same_Some}
 use Rattle.cc_base.specs.Lattices.{LatticeOf, OrderLaws}
 use Rattle.cc_base.specs.IntegerDomains.{IntegersOf, BoundLaws}
@@ -10,16 +10,13 @@ use Rattle.cc_base.specs.declared.diagnostics.Rule.TheVariants as rule
 use Rattle.c_layout.specs.declared.library_functions.LibFn.{LibFn}
 use Rattle.c_layout.specs.declared.library_functions.LibFn.TheVariants as f
 use Rattle.c_layout.specs.declared.shapes.BaseInfo.{BaseInfo}
-use Rattle.c_layout.specs.declared.shapes.BaseKind.TheVariants.{Older}
 use Rattle.flow_program.specs.WellFormed.{names_of, has_temp, has_result, is_site, is_optional_extent, fits_operation}
 use Rattle.flow_program.specs.declared.machine_instructions.Operation.{Operation}
 use Rattle.flow_program.specs.declared.machine_instructions.Operation.TheVariants as op
 use Rattle.flow_program.specs.declared.programs.Flow.{Flow}
 use Rattle.pointer_domain.specs.BaseSets.{bases_has, bases_within, bases_count, bases_empty}
 use Rattle.pointer_domain.specs.PointerTables.{is_any}
-use Rattle.pointer_domain.specs.declared.base_sets.Bases.{Bases}
 use Rattle.pointer_domain.specs.declared.pointer_sets.Pointers.{Pointers}
-use Rattle.value_domain.specs.declared.values.Value.{Value}
 use Rattle.value_domain.specs.declared.row_cells.Cell.{Cell}
 use Rattle.store_domain.specs.Freeing.{free, free_bases}
 use Rattle.store_domain.specs.LiveBases.{most_bases, has_base, live_of, single_bases, is_one_instance}
@@ -28,24 +25,22 @@ use Rattle.abstract_steps_checks.specs.AllocationChecks.{heap_of, check_release}
 use Rattle.abstract_steps_checks.specs.ViolationSets.{no_violations, violations_union, violates}
 use Rattle.abstract_steps_checks.specs.declared.allocation_checks.Released.{Released}
 use Rattle.abstract_steps_checks.specs.declared.violation_sets.Violations.{Violations}
-use Rattle.abstract_steps_library.specs.Allocations.{released, free_of, plan_free}
+use Rattle.abstract_steps_library.specs.Allocations.{plan_free}
 use Rattle.abstract_steps_library.specs.Arguments.{argument_value, value_of_argument}
 use Rattle.abstract_steps_library.specs.Effects.{apply}
 use Rattle.abstract_steps_library.specs.Planning.{plan_call}
-use Rattle.abstract_steps_library.specs.declared.call_plans.Effect.TheVariants as effect
 use Rattle.abstract_steps_library.specs.declared.call_plans.Plan.{Plan}
 use Rattle.abstract_steps_instructions.specs.CallSteps.{call_of, call_step}
 use Rattle.abstract_steps_instructions.specs.StepViolations.{operation_violations}
 use Rattle.abstract_steps_instructions.specs.Steps.{operate}
 use Rattle.lib_models_memory.specs.Bytes.{MachinePointer, null, into}
-use Rattle.lib_models_memory.specs.Instances.{Memory, Instance, Storage, allocated, Life, live, ended, freed, life_of, life_at}
+use Rattle.lib_models_memory.specs.Instances.{Memory, Instance, Storage, static, automatic, allocated, literal, Life, live, ended, freed, life_of, life_at}
 use Rattle.lib_models_memory.specs.Scalars.{Scalar, integer, pointer}
-use Rattle.lib_models_effects.specs.AllocationCalls as machine
 use Rattle.lib_models_effects.specs.AllocationCalls.{is_start, freeable_by, freeable, given_back}
 use Rattle.lib_models_effects.specs.LibraryCalls.{library}
 use Rattle.lib_models_effects.specs.ObjectEffects.{set_life}
 use Rattle.lib_models_effects.specs.Touches.{is_allocated, storage_of, storage_at}
-use Rattle.lib_models_effects.specs.Worlds.{World, Reply, goes, stops, behind, done, with_memory, stopped_by, unless, Stuck, Violated}
+use Rattle.lib_models_effects.specs.Worlds.{World, Reply, goes, behind, done, with_memory, stopped_by, unless, Stuck, Violated}
 use Rattle.flow_program_machine.specs.FlowActs.{calling}
 use Rattle.flow_program_machine.specs.FlowStates.{Standing, values_of}
 use Rattle.store_domain_meaning.specs.ValueMeaning.{Naming, StandsInto, StandsByLife, StandsPointer, StandsScalar}
@@ -58,17 +53,20 @@ use Rattle.store_domain_sound.proofs.Slices.{get_there}
 use Rattle.store_domain_sound.proofs.StoreLeaves.{not_older}
 use Rattle.store_domain_sound_programs.specs.Premises.{HasPremises}
 use Rattle.abstract_steps_sound.specs.SoundSteps.{IsReached, StandsBehind, IsStoodFor, StepIsSound}
-use Rattle.abstract_steps_sound.proofs.Admitted.{AreAdmitted, one_admitted, both_admitted}
+use Rattle.abstract_steps_sound.proofs.Admitted.{one_admitted, both_admitted}
 use Rattle.abstract_steps_sound.proofs.Replies.{if_some_good}
 use Rattle.abstract_steps_sound_calls.proofs.Calls.{first_argument, clean, GoodPlan, plan_stops}
 use Rattle.abstract_steps_sound_memory.proofs.LoadSteps.{union_right}
 use Rattle.abstract_steps_sound_frees.specs.FreeCalls.{Frees, IsFreeCall}
 use Rattle.abstract_steps_sound_frees.proofs.ReleasedMemory.{IsReleased, none_released, one_released, others_live, own_freed}
 use Rattle.abstract_steps_sound_frees.proofs.FreedRows.{IsFreeing, freed_stands, freed_short}
-use Rattle.abstract_steps_sound_frees.proofs.Releases.{misplaced, small_base, heap_there, rest_bases, rest_any}
+use Rattle.abstract_steps_sound_frees.proofs.Releases.{misplaced, heap_there, rest_bases, rest_any}
 
 allocated_is : (s : Storage) → is_allocated s ≡ true → s ≡ allocated
-allocated_is s h = cc
+allocated_is static h = cc
+allocated_is automatic h = cc
+allocated_is allocated h = refl
+allocated_is literal h = cc
 
 freed_live : freed ≡ live → ⊥
 freed_live e = cc
@@ -79,7 +77,7 @@ live_ended e = cc
 freed_ended : freed ≡ ended → ⊥
 freed_ended e = cc
 
-module _ {I : Type 0} {l : LatticeOf I} {n : IntegersOf I} {stands : I → ℤ → Type 0} (q : BoundLaws l n stands) (flow : Flow) (p : HasPremises flow) (naming : Naming) (row : List (Cell I)) (s : Standing) (r : IsReached l n stands flow naming row s) (to : Option ℕ) (has : has_result (names_of flow) to ≡ true) (newest : Option ℕ) (items : List ℕ) (wanted : Option ℕ) where
+module _ {I : Type 0} {l : LatticeOf I} {n : IntegersOf I} {stands : I → ℤ → Type 0} (o : OrderLaws l) (q : BoundLaws l n stands) (flow : Flow) (p : HasPremises flow) (naming : Naming) (row : List (Cell I)) (s : Standing) (r : IsReached l n stands flow naming row s) (to : Option ℕ) (has : has_result (names_of flow) to ≡ true) (newest : Option ℕ) (items : List ℕ) (wanted : Option ℕ) where
   abbrev given : Pointers I
   given = (argument_value l n (call_of flow items wanted) row 0).pointer
 
@@ -114,7 +112,7 @@ module _ {I : Type 0} {l : LatticeOf I} {n : IntegersOf I} {stands : I → ℤ �
   abbrev surely : Bool
   surely = is_one_instance flow.bases.items old.rest.bases && not old.rest.null
 
-  goes_to : (t : Option ℕ) → has_result (names_of flow) t ≡ true → (new : Memory) → IsFreeing {I} naming s.world.memory new old.rest.bases surely → is_any old.rest ≡ true → (w : World) → w ≡ with_memory s.world new → IsStoodFor l n stands flow (apply l n flow t newest the_plan.effect row) the_plan.violations (calling s t (goes None w))
+  goes_to : (t : Option ℕ) → has_result (names_of flow) t ≡ true → (new : Memory) → IsFreeing naming s.world.memory new old.rest.bases surely → is_any old.rest ≡ true → (w : World) → w ≡ with_memory s.world new → IsStoodFor l n stands flow (apply l n flow t newest the_plan.effect row) the_plan.violations (calling s t (goes None w))
   unfolding apply plan_free free
   goes_to (Some t) fit new change any w e = plan_stops q flow p naming row s r (Some t) fit newest the_plan Stuck s.world (clean q flow p naming row s r the_plan.violations)
   goes_to None fit new change any w e = subst (λ z. IsStoodFor l n stands flow (apply l n flow None newest the_plan.effect row) the_plan.violations (calling s None (goes None z))) (sym e) (record {
@@ -172,7 +170,7 @@ module _ {I : Type 0} {l : LatticeOf I} {n : IntegersOf I} {stands : I → ℤ �
 
       -- no start of what was allocated
       inner_good : is_start s.world.memory i offset ≡ false → Good (reply_of (into i offset lo hi) (stopped_by s.world rule.Xfree))
-      inner_good e = stopped (into i offset lo hi) rule.Xfree (misplaced q flow p.shaped naming row _ r.stands_for given i offset lo hi above alive st (λ base at heap zero_offset.
+      inner_good e = stopped (into i offset lo hi) rule.Xfree (misplaced o q flow p.shaped naming row _ r.stands_for given i offset lo hi above alive st (λ base at heap zero_offset.
           let a : is_start s.world.memory i offset ≡ true = and_from _ _ (heap_is base at ∙ heap) (rw zero_offset refl) in
           true≢false (sym a ∙ e)))
 
@@ -185,9 +183,9 @@ module _ {I : Type 0} {l : LatticeOf I} {n : IntegersOf I} {stands : I → ℤ �
           let it = instance_there s.world.memory i alive in
           let stored : it.0.storage ≡ allocated = allocated_is it.0.storage (sym (ap (λ z. is_allocated (storage_of z)) it.1) ∙ start.0) in
           let lives : it.0.life ≡ live = sym (ap life_of it.1) ∙ alive in
-          let set : old.rest.bases ≡ heap_of flow.bases.items (live_of l n flow.bases.items row given.bases) = rest_bases q flow p.shaped naming row _ r.stands_for given i offset lo hi above alive st base.0 base.1 heap zero_offset in
-          let some : bases_empty old.rest.bases ≡ false = rest_any q flow p.shaped naming row _ r.stands_for given i offset lo hi above alive st base.0 base.1 heap zero_offset in
-          let there : has_base old.rest.bases st.base ≡ true = subst (λ z. has_base z st.base ≡ true) (sym set) (heap_there q flow p.shaped naming row _ r.stands_for given i offset lo hi above alive st base.0 base.1 heap zero_offset) in
+          let set : old.rest.bases ≡ heap_of flow.bases.items (live_of l n flow.bases.items row given.bases) = rest_bases o q flow p.shaped naming row _ r.stands_for given i offset lo hi above alive st base.0 base.1 heap zero_offset in
+          let some : bases_empty old.rest.bases ≡ false = rest_any o q flow p.shaped naming row _ r.stands_for given i offset lo hi above alive st base.0 base.1 heap zero_offset in
+          let there : has_base old.rest.bases st.base ≡ true = subst (λ z. has_base z st.base ≡ true) (sym set) (heap_there o q flow p.shaped naming row _ r.stands_for given i offset lo hi above alive st base.0 base.1 heap zero_offset) in
           let gone : IsReleased s.world.memory (set_life s.world.memory i freed) = one_released s.world.memory i it.0 it.1 stored lives in
           goes_to to has (set_life s.world.memory i freed) (record {
             released = gone;
@@ -207,7 +205,7 @@ module _ {I : Type 0} {l : LatticeOf I} {n : IntegersOf I} {stands : I → ℤ �
                   | inr ne ↦ (let was : life_at s.world.memory j ≡ live = sym (others_live s.world.memory i j ne) ∙ now in
                       ne (r.stands_for.sane.one j i st.base base.0 base.1 (not_older base.0.kind kind) (named ∙ ap Some same) st.named (λ k. live_ended (sym was ∙ k)) (λ k. live_ended (sym alive ∙ k))))
                 ];
-          }) (or_left _ _ (rw some refl)) (given_back (into i offset lo hi) s.world) refl
+          }) (or_left (not (bases_empty old.rest.bases)) old.rest.null (ap not some)) (given_back (into i offset lo hi) s.world) refl
         where
           freed_now : (it : Instance) → slice_get s.world.memory i ≡ Some it → life_at (set_life s.world.memory i freed) i ≡ freed
           freed_now it at = own_freed s.world.memory i it at
@@ -246,12 +244,12 @@ module _ {I : Type 0} {l : LatticeOf I} {n : IntegersOf I} {stands : I → ℤ �
   by_name f.Free h vs e = arguments_good vs e
   by_name _ h vs e = absurd h
 
-module _ {I : Type 0} {l : LatticeOf I} {n : IntegersOf I} {stands : I → ℤ → Type 0} (q : BoundLaws l n stands) (flow : Flow) (p : HasPremises flow) (naming : Naming) (row : List (Cell I)) (s : Standing) (r : IsReached l n stands flow naming row s) where
-  free_call_sound : (to : Option ℕ) (name : LibFn) (arguments : _) (newest size : Option ℕ) → Frees name → fits_operation (names_of flow) (op.Library to name arguments newest size) ≡ true → StepIsSound l n stands flow row (op.Library to name arguments newest size) s
+module _ {I : Type 0} {l : LatticeOf I} {n : IntegersOf I} {stands : I → ℤ → Type 0} (o : OrderLaws l) (q : BoundLaws l n stands) (flow : Flow) (p : HasPremises flow) (naming : Naming) (row : List (Cell I)) (s : Standing) (r : IsReached l n stands flow naming row s) where
+  pub free_call_sound : (to : Option ℕ) (name : LibFn) (arguments : _) (newest size : Option ℕ) → Frees name → fits_operation (names_of flow) (op.Library to name arguments newest size) ≡ true → StepIsSound l n stands flow row (op.Library to name arguments newest size) s
   unfolding operate call_step operation_violations
   free_call_sound to name arguments newest size is fits =
       let has = (and_parts (has_result (names_of flow) to) (list_all (has_temp (names_of flow)) arguments.items && (is_site flow.bases.items newest && is_optional_extent size)) fits).0 in
-      if_some_good l n stands flow _ _ s r.begun (values_of s.temps arguments.items) _ (λ vs e. by_name q flow p naming row s r to has newest arguments.items size name is vs e)
+      if_some_good l n stands flow _ _ s r.begun (values_of s.temps arguments.items) _ (λ vs e. by_name o q flow p naming row s r to has newest arguments.items size name is vs e)
 
   pub free_step_sound : (i : Operation) → IsFreeCall i → fits_operation (names_of flow) i ≡ true → StepIsSound l n stands flow row i s
   free_step_sound (op.Library to name arguments newest size) is fits = free_call_sound to name arguments newest size is fits

@@ -1,8 +1,7 @@
 -- A row in which bases are freed stands for memory in which instances of theirs are.
-use Rattle.std.proofs.Common.{◌≡◌, ◌⊎◌, ℕ, ◌+◌, ◌-◌, ◌<◌, ◌≤◌, ◌^◌, Bool, true, false, cond, not, ◌&&◌, Option, Some, List, length, arith, subst, sym, refl, ap, ◌∙◌, inl, inr}
+use Rattle.std.proofs.Common.{◌≡◌, ℕ, ◌+◌, ◌-◌, ◌<◌, ◌≤◌, ◌^◌, Bool, true, false, cond, not, ◌&&◌, Some, List, length, arith, subst, sym, refl, ap, ◌∙◌, inl, inr}
 use Rattle.std.specs.Prelude.{slice_get, ℤ, pos, ◌≤ℤ◌}
-use Rattle.std.proofs.lemmas.Bool.{cases_eq, cases_Bool, and_parts, and_from}
-use Rattle.std.proofs.lemmas.Int.{ints}
+use Rattle.std.proofs.lemmas.Bool.{cases_eq, cases_Bool, and_from}
 use Rattle.std.proofs.lemmas.Option.{same_Some, slice_get_within}
 use Rattle.cc_base.specs.Lattices.{LatticeOf}
 use Rattle.cc_base.specs.IntegerDomains.{IntegersOf, BoundLaws}
@@ -18,7 +17,6 @@ use Rattle.pointer_domain.specs.declared.base_sets.Bases.{Bases}
 use Rattle.value_domain.specs.declared.alloc_states.AllocState.{AllocState}
 use Rattle.value_domain.specs.declared.row_cells.Cell.{Cell}
 use Rattle.value_domain.specs.declared.row_cells.Cell.TheVariants.{State}
-use Rattle.store_domain.specs.AccessWindows.{last_offset}
 use Rattle.store_domain.specs.ClassNumbers.{class_at}
 use Rattle.store_domain.specs.Freeing.{is_heap_in, freed_state, free_bases}
 use Rattle.store_domain.specs.LiveBases.{has_base}
@@ -26,7 +24,7 @@ use Rattle.store_domain.specs.NearValues.{near_number, near_value}
 use Rattle.store_domain.specs.RowPositions.{leaf_position, class_position, zero_position, state_position, cell_at, value_in, zero_in, state_in, near_state, value_at, zero_at, state_at}
 use Rattle.store_domain.specs.ScalarTypes.{kind_of}
 use Rattle.abstract_steps_checks.specs.Temporaries.{temp_position, temp_value}
-use Rattle.lib_models_memory.specs.Instances.{Memory, Life, allocated, live, ended, freed, bytes_at, life_at}
+use Rattle.lib_models_memory.specs.Instances.{Memory, Life, live, ended, freed, bytes_at, life_at}
 use Rattle.lib_models_memory.specs.Scalars.{Scalar}
 use Rattle.flow_program_machine.specs.FlowStates.{Standing}
 use Rattle.store_domain_meaning.specs.ValueMeaning.{Naming, StandsScalar, StandsZero, StandsState}
@@ -36,14 +34,14 @@ use Rattle.store_domain_sound.proofs.StoreRows.{leaf_is, class_is, zero_is}
 use Rattle.store_domain_sound_programs.specs.Premises.{HasPremises}
 use Rattle.abstract_steps_sound.specs.SoundSteps.{AreShort, IsReached}
 use Rattle.abstract_steps_sound.proofs.NearScalars.{IsNearNumber, near_offset, near_number_stands}
-use Rattle.abstract_steps_sound_frees.proofs.ReleasedMemory.{IsFreed, IsReleased, was_live, live_of_base, matched_was, scalar_released, named_released, released_sane, scalar_stays, content_stays}
+use Rattle.abstract_steps_sound_frees.proofs.ReleasedMemory.{IsFreed, IsReleased, live_of_base, matched_was, scalar_released, named_released, released_sane, scalar_stays, content_stays}
 use Rattle.abstract_steps_sound_frees.proofs.FreedCells.{free_keeps_cell, free_frees}
 
 freed_live : freed ≡ live → ⊥
 freed_live e = cc
 
 -- which bases are freed, and what is known of the instances
-pub record IsFreeing {I : Type 0} (naming : Naming) (old new : Memory) (set : Bases) (surely : Bool) : Type 0 where
+pub record IsFreeing (naming : Naming) (old new : Memory) (set : Bases) (surely : Bool) : Type 0 where
   pub released : IsReleased old new
   -- an instance that is freed is of one of the bases
   pub inside : (j d : ℕ) → IsFreed old new j → naming j ≡ Some d → has_base set d ≡ true
@@ -51,7 +49,7 @@ pub record IsFreeing {I : Type 0} (naming : Naming) (old new : Memory) (set : Ba
   pub alone : surely ≡ true → (j d : ℕ) → life_at new j ≡ live → naming j ≡ Some d → has_base set d ≡ true → ⊥
 
 module _ {I : Type 0} {l : LatticeOf I} {n : IntegersOf I} {stands : I → ℤ → Type 0} (q : BoundLaws l n stands) (flow : Flow) (p : HasPremises flow) (naming : Naming) (row : List (Cell I)) (s : Standing) (r : IsReached l n stands flow naming row s)
-    (new : Memory) (set : Bases) (surely : Bool) (w : IsFreeing {I} naming s.world.memory new set surely) where
+    (new : Memory) (set : Bases) (surely : Bool) (w : IsFreeing naming s.world.memory new set surely) where
   abbrev old : Memory
   old = s.world.memory
 
@@ -159,7 +157,7 @@ module _ {I : Type 0} {l : LatticeOf I} {n : IntegersOf I} {stands : I → ℤ �
   in_set : (d j : ℕ) (base : BaseInfo) → slice_get flow.bases.items d ≡ Some base → base.shape.heap ≡ true → naming j ≡ Some d → has_base set d ≡ true → StandsState stands naming new (near_state l n (freed_state surely (StateOf base))) (life_at new j) (length (bytes_at old j))
   in_set d j base e heap named has = elim (w.released.lives j) [
     | inl same ↦ subst (λ y. StandsState stands naming new (near_state l n (freed_state surely (StateOf base))) y (length (bytes_at old j))) (sym same)
-      (freed_by (StateOf base) (life_at old j) (length (bytes_at old j)) (near_size j) (λ a b. w.alone b j d (same ∙ a) named has) (r.stands_for.states d j base e heap named))
+        (freed_by (StateOf base) (life_at old j) (length (bytes_at old j)) (near_size j) (λ a b. w.alone b j d (same ∙ a) named has) (r.stands_for.states d j base e heap named))
     | inr gone ↦ (let st : StandsState stands naming old (StateOf base) live (length (bytes_at old j)) = subst (λ y. StandsState stands naming old (StateOf base) y (length (bytes_at old j))) gone.was (r.stands_for.states d j base e heap named) in
         subst (λ y. StandsState stands naming new (near_state l n (freed_state surely (StateOf base))) y (length (bytes_at old j))) (sym gone.is) (near_number_stands q (StateOf base).size (pos (length (bytes_at old j))) (near_size j) st.0, refl))
   ]
@@ -179,10 +177,10 @@ module _ {I : Type 0} {l : LatticeOf I} {n : IntegersOf I} {stands : I → ℤ �
       let b = p.laid.long in
       let long = r.long in
       free_frees l n set surely flow.bases.items row d base e (λ k other f ne hot g.
-        let k1 = state_there k other f hot in
-        let k10 = k1.0 in
-        let k11 = k1.1 in
-        elim (p.laid.laid.apart k d other base f e ne) [ inl h ↦ omega (arith, h, g, k11, a0) | inr h ↦ omega (arith, h, g, a1, k10) ])
+      let k1 = state_there k other f hot in
+      let k10 = k1.0 in
+      let k11 = k1.1 in
+      elim (p.laid.laid.apart k d other base f e ne) [ inl h ↦ omega (arith, h, g, k11, a0) | inr h ↦ omega (arith, h, g, a1, k10) ])
       (omega (arith, a1, c, b, long))
 
   state_by : (d j : ℕ) (base : BaseInfo) → slice_get flow.bases.items d ≡ Some base → base.shape.heap ≡ true → naming j ≡ Some d → StandsState stands naming new (state_at l n after (state_position base)) (life_at new j) (length (bytes_at new j))

@@ -52,7 +52,7 @@ one_released old i it at stored alive = subst (λ z. IsReleased old z) (sym (ap 
   made = length-set old i (record it { life = freed });
 })
   where
-    abbrev gone : Memory
+    gone : Memory
     gone = set old i (record it { life = freed })
 
     same : slice_get (set old i (record it { life = freed })) i ≡ Some (record it { life = freed })

@@ -1,13 +1,13 @@
 -- What a release may violate is admitted, and the pointers that go on are into what is freed.
-use Rattle.std.proofs.Common.{◌≡◌, ℕ, suc, ◌+◌, ◌<◌, ◌≤◌, Bool, true, false, cond, not, ◌&&◌, ◌||◌, Some, None, List, [], ◌∷◌, arith, subst, sym, refl, ap, ◌∙◌, inl, inr}
-use Rattle.std.specs.Prelude.{slice_get, length, ℤ, pos, ◌+ℤ◌, ◌-ℤ◌, ◌≤ℤ◌, int_le, is_none, nat_lt, ◌==◌}
+use Rattle.std.proofs.Common.{◌≡◌, ℕ, suc, ◌+◌, ◌<◌, ◌≤◌, Bool, true, false, not, ◌||◌, Some, None, List, [], ◌∷◌, arith, subst, sym, refl, ap, ◌∙◌, inl, inr}
+use Rattle.std.specs.Prelude.{slice_get, length, ℤ, pos, ◌+ℤ◌, ◌-ℤ◌, ◌≤ℤ◌, nat_lt}
 use Rattle.std.specs.Ordering.{int_eq}
 use Rattle.std.proofs.lemmas.Int.{ints}
-use Rattle.std.proofs.lemmas.Bool.{cases_Bool, and_parts, and_from, or_cases, or_left, or_right, lt-ltb, ltb-true, true≢false}
-use Rattle.std.proofs.lemmas.Option.{slice_get_within, same_Some}
-use Rattle.cc_base.specs.Lattices.{LatticeOf}
+use Rattle.std.proofs.lemmas.Bool.{cases_Bool, and_parts, and_from, or_cases, or_left, or_right, lt-ltb, true≢false}
+use Rattle.std.proofs.lemmas.Option.{same_Some}
+use Rattle.cc_base.specs.Lattices.{LatticeOf, OrderLaws}
 use Rattle.cc_base.specs.IntegerDomains.{IntegersOf, BoundLaws}
-use Rattle.cc_base.specs.NumberRanges.{Range, range_sum}
+use Rattle.cc_base.specs.NumberRanges.{Range}
 use Rattle.c_layout.specs.declared.shapes.BaseInfo.{BaseInfo}
 use Rattle.flow_program.specs.declared.programs.Flow.{Flow}
 use Rattle.pointer_domain.specs.BaseSets.{no_base, bases_has, bases_within, bases_empty}
@@ -21,7 +21,7 @@ use Rattle.store_domain.specs.Freeing.{is_heap_in}
 use Rattle.store_domain.specs.LiveBases.{most_bases, only_base, has_base, with_base_if, may_be_live, live_of}
 use Rattle.store_domain.specs.RowPositions.{state_position, state_at}
 use Rattle.store_domain.specs.Walks.{walk}
-use Rattle.abstract_steps_checks.specs.AllocationChecks.{with_heap, heap_of, may_be_zero, may_differ, is_misplaced, check_release}
+use Rattle.abstract_steps_checks.specs.AllocationChecks.{with_heap, heap_of, may_be_zero, may_differ, check_release}
 use Rattle.abstract_steps_checks.specs.Touches.{is_nowhere}
 use Rattle.lib_models_memory.specs.Instances.{live, life_at, bytes_at}
 use Rattle.store_domain_meaning.specs.ValueMeaning.{Naming, StandsInto, StandsState}
@@ -74,7 +74,7 @@ other_there (Some p) z h e = let a = h.0 in let b = h.1 in by_ends p.0 p.1 z a b
     by_ends : (x y z : ℤ) → x ≤ℤ z → z ≤ℤ y → (z ≡ pos 0 → ⊥) → (not (int_eq x (pos 0)) || not (int_eq y (pos 0))) ≡ true
     by_ends x y z h k e = grind (arith, ints)
 
-module _ {I : Type 0} {l : LatticeOf I} {n : IntegersOf I} {stands : I → ℤ → Type 0} (q : BoundLaws l n stands) (flow : Flow) (shaped : AreShaped flow.bases.items) (naming : Naming) (row : List (Cell I)) (state : MachineState) (s : StandsFor l n stands flow naming row state) (v : Pointers I)
+module _ {I : Type 0} {l : LatticeOf I} {n : IntegersOf I} {stands : I → ℤ → Type 0} (o : OrderLaws l) (q : BoundLaws l n stands) (flow : Flow) (shaped : AreShaped flow.bases.items) (naming : Naming) (row : List (Cell I)) (state : MachineState) (s : StandsFor l n stands flow naming row state) (v : Pointers I)
     (i offset lo hi : ℕ) (above : lo ≤ offset) (alive : life_at state.memory i ≡ live) (st : StandsInto stands naming state.memory v i offset lo hi) where
   abbrev live_set : Bases
   live_set = live_of l n flow.bases.items row v.bases
@@ -110,8 +110,8 @@ module _ {I : Type 0} {l : LatticeOf I} {n : IntegersOf I} {stands : I → ℤ �
   -- no start of an allocated instance
   pub misplaced : ((base : BaseInfo) → slice_get flow.bases.items st.base ≡ Some base → base.shape.heap ≡ true → offset ≡ 0 → ⊥) → (check_release l n flow.bases.items row v).violations.xfree ≡ true
   unfolding check_release
-  misplaced h = or_right v.ended _ (and_from _ _ (rw some_live refl) (elim (cases_Bool (bases_within live_set (heap_of flow.bases.items live_set))) [
-    | inr e ↦ or_left _ _ (rw e refl)
+  misplaced h = or_right v.ended _ (and_from _ _ (ap not some_live) (elim (cases_Bool (bases_within live_set (heap_of flow.bases.items live_set))) [
+    | inr e ↦ or_left _ _ (ap not e)
     | inl e ↦ (let base = base_there in
         let has = within_has live_set (heap_of flow.bases.items live_set) st.base e (and_parts (nat_lt st.base most_bases) (bases_has live_set st.base) in_set).1 in
         let heap = is_heap flow.bases.items st.base base.0 base.1 small_base live_set has in
@@ -127,7 +127,7 @@ module _ {I : Type 0} {l : LatticeOf I} {n : IntegersOf I} {stands : I → ℤ �
     zero_start = zero_there (offsets n v) (pos offset) place_there (ap pos start)
 
     somewhere : is_nowhere n (heap_of flow.bases.items live_set) v.rel ≡ false
-    somewhere = or_none _ _ (not_empty (heap_of flow.bases.items live_set) st.base (and_parts (nat_lt st.base most_bases) (bases_has (heap_of flow.bases.items live_set) st.base) heap_there).1) (bounded _ q v.rel (pos offset -ℤ pos lo) st.relative)
+    somewhere = or_none _ _ (not_empty (heap_of flow.bases.items live_set) st.base (and_parts (nat_lt st.base most_bases) (bases_has (heap_of flow.bases.items live_set) st.base) heap_there).1) (bounded o q v.rel (pos offset -ℤ pos lo) st.relative)
 
     pub rest_bases : (check_release l n flow.bases.items row v).rest.bases ≡ heap_of flow.bases.items live_set
     unfolding check_release

@@ -32,10 +32,10 @@ module _ (flow : Flow) (list : List ℤ) (rows : List (Option (List (Cell Interv
     regular = regular;
     rows = rows;
     inductive = s.inductive;
-    least = λ spread. s.least (regular_monotone flow list regular spread);
+    least = s.least (regular_monotone flow list regular);
     ascending = h.ascending;
     kept = λ d e. h.kept d (e rows s.inductive);
-    made = λ spread d e other p. regular_admits_least flow list regular spread rows other s.inductive (s.least (regular_monotone flow list regular spread)) p d (h.made d e);
+    made = λ d e other p. regular_admits_least flow list regular rows other s.inductive (s.least (regular_monotone flow list regular)) p d (h.made d e);
   }
 
   pub analysed : {V E : Type 0} (items : V → List Diag) (result : Result V E) → IfOk result (λ v. IsOrderedSet (admitted_pairs flow rows) (items v)) → IfOk result (λ v. IsAnalysis flow list (items v))

@@ -13,7 +13,6 @@ use Rattle.interval_domain.specs.declared.intervals.Interval.{Interval}
 use Rattle.interval_domain.specs.IntervalLattice.{interval_lattice}
 use Rattle.interval_domain.specs.IntervalNumbers.{interval_numbers}
 use Rattle.abstract_steps_system.specs.FlowMachines.{flow_machine, has_start}
-use Rattle.abstract_steps_laws_programs.specs.CopiedStructs.{CopiesSpread}
 use Rattle.abstract_steps_laws_programs.specs.RegularPrograms.{is_regular}
 use Rattle.rule_checks.specs.AdmittedRules.{map_pairs}
 
@@ -38,10 +37,10 @@ pub record IsAnalysis (flow : Flow) (list : List ℤ) (found : List Diag) : Type
   -- there is a row of the entry, and rows of the program are cut in order
   pub started : has_start interval_lattice interval_numbers flow ≡ true
   pub regular : is_regular flow list ≡ true
-  -- the least inductive map, where the leaves of the structs that the program copies share no bytes
+  -- the least inductive map
   pub rows : List (Option (List (Cell Interval)))
   pub inductive : IsInductive row_lattice (machine_of flow list) rows
-  pub least : CopiesSpread flow → IsLeast row_lattice (machine_of flow list) rows
+  pub least : IsLeast row_lattice (machine_of flow list) rows
   pub ascending : IsStrictlySortedBy diagnostic_compare found
   pub kept : (d : Diag) → IsAdmitted flow list d → Contains found d
-  pub made : CopiesSpread flow → (d : Diag) → Contains found d → IsAdmitted flow list d
+  pub made : (d : Diag) → Contains found d → IsAdmitted flow list d

@@ -126,8 +126,9 @@ fn analysed_from<L: Ledger>(
 ///
 /// Out of memory, to which come a program that is not well formed within the limits of the product, or
 /// whose blocks and edges make no system; one with a static initializer that has no place, a text of
-/// other characters than bytes, or a test that names an object without a leaf; and a list that does
-/// not go from a number from -2^64 to 0 up to 2^64, or has no 0.
+/// other characters than bytes, a test that names an object without a leaf, or a struct whose members
+/// do not stand one behind the other; and a list that does not go from a number from -2^64 to 0 up to
+/// 2^64, or has no 0.
 pub fn analyse(alloc: Global, flow: &Flow, list: &Thresholds) -> Result<Vec<Diag>, Memory>
     ensures found { IfOk result (λ found. IsAnalysis flow.now list.now found.items) }
 {

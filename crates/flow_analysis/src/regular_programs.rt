@@ -4,6 +4,7 @@ ghost use Rattle.std.specs.List.{list_all};
 ghost use Rattle.abstract_steps_laws.specs.SystemLaws.{is_near_number};
 ghost use Rattle.abstract_steps_laws_programs.specs.RegularPrograms as spec;
 
+use crate::laid_apart::are_laid_apart;
 use c_layout::BaseInfo;
 use cc_base::{Limits, Memory, Text, Thresholds};
 use flow_program::{BasicBlock, Edge, EdgeKind, Flow, Instruction, Operation, Side, Test};
@@ -139,9 +140,9 @@ fn is_near_list(numbers: &[i128]) -> bool
     }
 }
 
-/// Whether a program is well formed within the limits of the product, its texts are of bytes and its
-/// tests name objects with leaves, and rows are cut between the ends of the list in order. Each part
-/// of the program and of the list is looked at once.
+/// Whether a program is well formed within the limits of the product, its texts are of bytes, its
+/// tests name objects with leaves and the members of its structs stand apart, and rows are cut between
+/// the ends of the list in order. Each part of the program and of the list is looked at once.
 ///
 /// # Errors
 ///
@@ -150,5 +151,6 @@ pub fn is_regular(alloc: Global, flow: &Flow, list: &Thresholds) -> Result<bool,
     ensures { IfOk result (λ held. held ≡ spec.is_regular flow.now list.now) }
 {
     let formed = is_well_formed(alloc, flow, &Limits::standard())?;
-    Ok(formed && (has_scalars(flow) && is_near_list(list.as_slice())))
+    let apart = are_laid_apart(&flow.model, &flow.structs);
+    Ok(formed && (has_scalars(flow) && (apart && is_near_list(list.as_slice()))))
 }

@@ -10,7 +10,6 @@ use Rattle.interval_domain.specs.declared.intervals.Interval.{Interval}
 use Rattle.interval_domain.specs.IntervalLattice.{interval_order}
 use Rattle.value_domain.specs.declared.row_cells.Cell.{Cell}
 use Rattle.value_domain.specs.Cells.{cell_order}
-use Rattle.abstract_steps_laws_programs.specs.CopiedStructs.{CopiesSpread}
 use Rattle.abstract_steps_laws_programs.specs.RegularPrograms.{is_regular}
 use Rattle.rule_checks_laws.proofs.LeastMaps.{regular_admits_least}
 use Rattle.flow_analysis.specs.Analyses.{row_lattice, machine_of, admitted_pairs, IsAdmitted, IsAnalysis}
@@ -46,14 +45,14 @@ module _ (flow : Flow) (list : List ℤ) where
       let e = one_least rows other p q in
       record { same = e; there = λ d h. subst (λ m. Contains (admitted_pairs flow m) d) e h; back = λ d h. subst (λ m. Contains (admitted_pairs flow m) d) (sym e) h }
 
-  pub one_answer : CopiesSpread flow → (found other : List Diag) → IsAnalysis flow list found → IsAnalysis flow list other → found ≡ other
-  one_answer spread found other p q = one_list found other p.ascending q.ascending (λ d h. q.kept d (p.made spread d h)) (λ d h. p.kept d (q.made spread d h))
+  pub one_answer : (found other : List Diag) → IsAnalysis flow list found → IsAnalysis flow list other → found ≡ other
+  one_answer found other p q = one_list found other p.ascending q.ascending (λ d h. q.kept d (p.made d h)) (λ d h. p.kept d (q.made d h))
 
-  pub exact_map : is_regular flow list ≡ true → CopiesSpread flow → (rows : Map) → IsLeastMap flow list rows → AdmitsExactly flow list rows
-  exact_map h spread rows p = record {
-    made = λ d e other q. regular_admits_least flow list h spread rows other p.inductive p.least q d e;
+  pub exact_map : is_regular flow list ≡ true → (rows : Map) → IsLeastMap flow list rows → AdmitsExactly flow list rows
+  exact_map h rows p = record {
+    made = λ d e other q. regular_admits_least flow list h rows other p.inductive p.least q d e;
     kept = λ d e. e rows p.inductive;
   }
 
-  pub least_analysis : CopiesSpread flow → (found : List Diag) (a : IsAnalysis flow list found) → IsLeastAnalysis flow list found a.rows
-  least_analysis spread found a = record { least = a.least spread; fewest = a.made spread }
+  pub least_analysis : (found : List Diag) (a : IsAnalysis flow list found) → IsLeastAnalysis flow list found a.rows
+  least_analysis found a = record { least = a.least; fewest = a.made }

@@ -7,28 +7,26 @@ ghost use Rattle.flow_program.specs.declared.programs.Flow.{Flow};
 ghost use Rattle.interval_domain.specs.declared.intervals.Interval.{Interval};
 ghost use Rattle.value_domain.specs.declared.row_cells.Cell.{Cell};
 ghost use Rattle.abstract_steps_laws_programs.specs.RegularPrograms.{is_regular};
-ghost use Rattle.abstract_steps_laws_programs.specs.CopiedStructs.{CopiesSpread};
 ghost use Rattle.flow_analysis.specs.Analyses.{IsAnalysis};
 ghost use Rattle.flow_analysis.specs.StepBounds.{most_edges};
 ghost use Rattle.flow_analysis_laws.specs.CountedSteps.{visits};
 ghost use Rattle.flow_analysis_laws.specs.LeastAnalyses.{IsLeastMap, IsLeastAnalysis, AdmitsExactly, AreAlike};
 
-/// The map of an analysis is the least inductive one, and each diagnostic is one that each inductive map admits, where the
-/// leaves of the structs that the program copies share no bytes.
+/// The map of an analysis is the least inductive one, and each diagnostic is one that each inductive map admits.
 pub fn analyses_are_least()
-    ensures { (flow : Flow) (list : List ℤ) → CopiesSpread flow → (found : List Diag) (a : IsAnalysis flow list found) → IsLeastAnalysis flow list found a.rows }
+    ensures { (flow : Flow) (list : List ℤ) (found : List Diag) (a : IsAnalysis flow list found) → IsLeastAnalysis flow list found a.rows }
 {}
 
 /// What the least inductive map of a regular program admits is just what every inductive map admits.
 pub fn least_maps_are_exact()
-    ensures { (flow : Flow) (list : List ℤ) → is_regular flow list ≡ true → CopiesSpread flow → (rows : List (Option (List (Cell Interval)))) → IsLeastMap flow list rows → AdmitsExactly flow list rows }
+    ensures { (flow : Flow) (list : List ℤ) → is_regular flow list ≡ true → (rows : List (Option (List (Cell Interval)))) → IsLeastMap flow list rows → AdmitsExactly flow list rows }
 {}
 
 /// Two least inductive maps of a system have the same rows and admit the same pairs, and two analyses of a program with the
 /// numbers of one list give the same diagnostics.
 pub fn two_solvers_agree()
     ensures maps { (flow : Flow) (list : List ℤ) (rows other : List (Option (List (Cell Interval)))) → IsLeastMap flow list rows → IsLeastMap flow list other → AreAlike flow rows other }
-    ensures answers { (flow : Flow) (list : List ℤ) → CopiesSpread flow → (found other : List Diag) → IsAnalysis flow list found → IsAnalysis flow list other → found ≡ other }
+    ensures answers { (flow : Flow) (list : List ℤ) (found other : List Diag) → IsAnalysis flow list found → IsAnalysis flow list other → found ≡ other }
 {}
 
 /// An analysis of a well-formed program follows at most so many edges as its edges, heads, cells and temporaries, first zeros,

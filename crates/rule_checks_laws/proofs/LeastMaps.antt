@@ -14,7 +14,6 @@ use Rattle.rule_checks.specs.AdmittedRules.{map_pairs}
 use Rattle.abstract_steps_laws.specs.ProgramLaws.{AreRising}
 use Rattle.abstract_steps_laws.specs.SystemLaws.{IsNearList}
 use Rattle.abstract_steps_laws_programs.specs.Texts.{HasScalars}
-use Rattle.abstract_steps_laws_programs.specs.CopiedStructs.{CopiesSpread}
 use Rattle.abstract_steps_laws_programs.specs.RegularPrograms.{is_regular}
 use Rattle.abstract_steps_laws_programs.proofs.WellFormed.{laid_out, all_named}
 use Rattle.abstract_steps_laws_programs.proofs.RegularSystems.{regular_rising}
@@ -29,7 +28,7 @@ module _ (limits : Limits) (flow : Flow) (list : List ℤ) (h : is_well_formed l
       rows other (p.size ∙ sym q.size) (λ at. p.own at) (λ at. q.own at) (λ at. least other q at) d
       (in_from (map_pairs interval_lattice interval_numbers flow rows) d e))
 
-pub regular_admits_least : (flow : Flow) (list : List ℤ) → is_regular flow list ≡ true → CopiesSpread flow → AdmitsLeast flow list
-regular_admits_least flow list h spread =
+pub regular_admits_least : (flow : Flow) (list : List ℤ) → is_regular flow list ≡ true → AdmitsLeast flow list
+regular_admits_least flow list h =
     let p = regular_of flow list h in
-    admits_least standard_limits flow list p.well_formed (omega arith) p.scalars p.near (regular_rising flow list h spread)
+    admits_least standard_limits flow list p.well_formed (omega arith) p.scalars p.near (regular_rising flow list h)

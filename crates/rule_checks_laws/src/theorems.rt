@@ -9,15 +9,13 @@ ghost use Rattle.interval_domain.specs.IntervalNumbers.{interval_numbers};
 ghost use Rattle.abstract_steps_rows.specs.OwnRows.{program_bases};
 ghost use Rattle.abstract_steps_laws.specs.ProgramLaws.{AreRising};
 ghost use Rattle.abstract_steps_laws.specs.SystemLaws.{IsNearList};
-ghost use Rattle.abstract_steps_laws_programs.specs.CopiedStructs.{CopiesSpread};
 ghost use Rattle.abstract_steps_laws_programs.specs.Texts.{HasScalars};
 ghost use Rattle.abstract_steps_laws_programs.specs.RegularPrograms.{is_regular};
 ghost use Rattle.rule_checks_laws.specs.LeastMaps.{AdmitsLeast};
 
 /// What the least inductive map of intervals of a well-formed program admits, each inductive map admits: of a program whose
-/// library calls and copies of structs grow with the row, and so of a regular one where the leaves of the structs that it
-/// copies share no bytes.
+/// library calls and copies of structs grow with the row, and so of a regular one.
 pub fn least_maps_admit_least()
     ensures programs { (limits : Limits) (flow : Flow) (list : List ℤ) → is_well_formed limits flow ≡ true → limits.pool < 2 ^ 64 → HasScalars flow → IsNearList interval_lattice interval_numbers list → AreRising interval_lattice interval_numbers (program_bases (length flow.bases.items)) flow → AdmitsLeast flow list }
-    ensures regular { (flow : Flow) (list : List ℤ) → is_regular flow list ≡ true → CopiesSpread flow → AdmitsLeast flow list }
+    ensures regular { (flow : Flow) (list : List ℤ) → is_regular flow list ≡ true → AdmitsLeast flow list }
 {}

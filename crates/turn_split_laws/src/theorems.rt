@@ -7,7 +7,6 @@ ghost use Rattle.flow_program_views.specs.ProgramViews.{flow_view};
 ghost use Rattle.value_domain.specs.declared.row_cells.Cell.{Cell};
 ghost use Rattle.interval_domain.specs.declared.intervals.Interval.{Interval};
 ghost use Rattle.abstract_steps_system.specs.SystemChecks.{is_system};
-ghost use Rattle.abstract_steps_laws_programs.specs.CopiedStructs.{CopiesSpread};
 ghost use Rattle.flow_analysis.specs.Analyses.{row_lattice, machine_of, admitted_pairs, IsAnalysis};
 ghost use Rattle.turn_split.specs.Turns.{split};
 ghost use Rattle.turn_split_laws.specs.CopiedMaps.{copied_map};
@@ -21,5 +20,5 @@ pub fn maps_are_copied()
 
 /// Each pair that the analysis finds in a program with turns unrolled, it finds in the program.
 pub fn turned_pairs_are_named()
-    ensures { (turns : ℕ) (flow turned : Flow) (list : List ℤ) → is_system flow ≡ true → flow_view turned ≡ split turns (flow_view flow) → CopiesSpread turned → (found pairs : List Diag) → IsAnalysis flow list found → IsAnalysis turned list pairs → (d : Diag) → Contains pairs d → Contains found d }
+    ensures { (turns : ℕ) (flow turned : Flow) (list : List ℤ) → is_system flow ≡ true → flow_view turned ≡ split turns (flow_view flow) → (found pairs : List Diag) → IsAnalysis flow list found → IsAnalysis turned list pairs → (d : Diag) → Contains pairs d → Contains found d }
 {}

@@ -4,5 +4,5 @@ use Rattle.rule_checks_laws.proofs.theorems.least_maps_admit_least.Goals as goal
 pub returns : goal.returns
 returns c = record {
   programs = λ limits flow list h few scalars near rising. admits_least limits flow list h few scalars near rising;
-  regular = λ flow list h spread. regular_admits_least flow list h spread;
+  regular = λ flow list h. regular_admits_least flow list h;
 }

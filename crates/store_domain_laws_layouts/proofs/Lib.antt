@@ -1,0 +1,5 @@
+pub mod Extents
+pub mod TypeExtents
+pub mod LaidApart
+pub mod MadeLayouts
+pub mod WorkedLayouts

@@ -1,0 +1,2 @@
+pub mod LaidApart
+pub mod MadeLayouts

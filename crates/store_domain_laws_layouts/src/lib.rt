@@ -1,0 +1,6 @@
+//! Laws of the layouts of structs.
+#![tactic(auto)]
+
+mod theorems;
+
+pub use theorems::{made_layouts_stand_apart, structs_laid_apart_are_spread};
