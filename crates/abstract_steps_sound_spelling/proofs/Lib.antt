@@ -1,0 +1,6 @@
+pub mod Texts
+pub mod SpelledCells
+pub mod SpelledZeros
+pub mod SpelledRows
+pub mod SpellSteps
+mod Counterexamples
