@@ -101,7 +101,7 @@ module _ {I : Type 0} {l : LatticeOf I} {n : IntegersOf I} {stands : I → ℤ �
     unfolding byte_at
     tag_there a x from to e =
         let there = instance_there new i (written.region.lives i ∙ alive) in
-        (sane.instances i b info there.0 named at there.1).tags declared a x (sym (ap (λ z. slice_get (bytes_of z) a) there.1) ∙ e) ∙ h.over info a at from to
+        (sane.instances i b info there.0 named at there.1).tags declared a x (sym (ap (λ z. slice_get (bytes_of z) a) there.1) ∙ e) ∙ h.over info at a from to
 
     is_text : IsText new i offset (written_count room text) text
     is_text =

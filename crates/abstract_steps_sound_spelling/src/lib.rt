@@ -3,4 +3,4 @@
 
 mod theorems;
 
-pub use theorems::spell_steps_are_sound;
+pub use theorems::{followed_arrays_are_characters, spell_steps_are_sound};
