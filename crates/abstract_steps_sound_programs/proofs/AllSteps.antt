@@ -23,6 +23,7 @@ use Rattle.abstract_steps_sound_memory.proofs.LoadSteps.{load_sound}
 use Rattle.abstract_steps_sound_memory.proofs.StoreSteps.{store_sound}
 use Rattle.abstract_steps_sound_objects.proofs.Forgetting.{forget_sound}
 use Rattle.abstract_steps_sound_clear.proofs.Clearing.{clear_sound}
+use Rattle.abstract_steps_sound_spelling.proofs.SpellSteps.{spell_step_sound}
 use Rattle.abstract_steps_sound_enter.proofs.Entering.{enter_sound}
 use Rattle.abstract_steps_sound_leave.proofs.Leaving.{leave_sound}
 use Rattle.abstract_steps_sound_calls.proofs.ResultCalls.{result_call_sound}
@@ -35,7 +36,7 @@ use Rattle.abstract_steps_sound_tests.proofs.TestSides.{test_sound}
 use Rattle.abstract_steps_sound_tests.proofs.PointerTests.{pointer_test_sound}
 use Rattle.abstract_steps_sound_tests.proofs.NullTests.{null_test_sound}
 use Rattle.abstract_steps_sound_tests.proofs.CaseSteps.{case_sound}
-use Rattle.abstract_steps_sound_programs.specs.OpenSteps.{IsOpenStep, IsProvedCall, IsOpenEnd, TestIsProved, CaseIsProved, KindIsProved, OpenTestsAreSound}
+use Rattle.abstract_steps_sound_programs.specs.OpenSteps.{IsOpenStep, SpellsOverCharacters, IsProvedCall, IsOpenEnd, TestIsProved, CaseIsProved, KindIsProved, OpenTestsAreSound}
 
 proved_or_not : (name : LibFn) → IsProvedCall name ⊎ (IsProvedCall name → ⊥)
 proved_or_not f.Getchar = inl (inl tt)
@@ -57,7 +58,7 @@ proved_or_not f.Free = inl (inr (inr tt))
 proved_or_not _ = inr (λ h. elim h [ inl e ↦ e | inr g ↦ elim g [ inl e ↦ e | inr e ↦ e ] ])
 
 module _ {I : Type 0} {l : LatticeOf I} {n : IntegersOf I} {stands : I → ℤ → Type 0} (o : OrderLaws l) (q : BoundLaws l n stands) (c : SoundLaws l n stands) (ranges : RangeLaws l n) (flow : Flow) (p : HasPremises flow) where
-  module _ (limits : Limits) (good : is_well_formed limits flow ≡ true) (open_sound : AreSound l n stands flow (λ o. IsOpenStep o × IsDoneIn flow o)) where
+  module _ (limits : Limits) (good : is_well_formed limits flow ≡ true) (texts : SpellsOverCharacters flow) (open_sound : AreSound l n stands flow (λ o. IsOpenStep o × IsDoneIn flow o)) where
     pub steps_go_on : StepsGoOnSoundly l n stands flow
     steps_go_on naming row s i goes fits typed r = by_operation i goes.0 goes.1 fits typed
       where
@@ -90,7 +91,7 @@ module _ {I : Type 0} {l : LatticeOf I} {n : IntegersOf I} {stands : I → ℤ �
         by_operation (op.Enter base) h d f t = enter_sound q flow p naming row s r base f
         by_operation (op.Leave base) h d f t = leave_sound flow p naming row s r base f
         by_operation (op.Clear base) h d f t = clear_sound q flow p limits good naming row s r base f
-        by_operation (op.Spell base offset room text) h d f t = open_sound naming row s (op.Spell base offset room text) (tt, d) f t r
+        by_operation (op.Spell base offset room text) h d f t = spell_step_sound o q flow p limits good naming row s r (op.Spell base offset room text) (texts base offset room text d) f
         by_operation op.Jump h d f t = cc
         by_operation (op.Branch temp kind) h d f t = cc
         by_operation (op.Switch temp kind) h d f t = cc

@@ -20,6 +20,7 @@ use Rattle.abstract_steps_sound.specs.SoundSteps.{AreSound}
 use Rattle.abstract_steps_sound_calls.specs.ResultCalls.{GivesNumber}
 use Rattle.abstract_steps_sound_strings.specs.StringCalls.{ReadsStrings}
 use Rattle.abstract_steps_sound_frees.specs.FreeCalls.{Frees}
+use Rattle.abstract_steps_sound_spelling.specs.SpellSteps.{SpellsBytes}
 use Rattle.abstract_steps_covered.specs.SoundEnds.{IsDoneIn, EndsAreSound}
 use Rattle.abstract_steps_covered.specs.Covering.{Begins, Carries, HasTypedRuns, row_before, Admits}
 use Rattle.abstract_steps_sound_edges.specs.EdgeSteps.{KindIsSound}
@@ -29,12 +30,15 @@ use Rattle.abstract_steps_sound_tests.specs.ScalarObjects.{IsIntegerTest, IsPoin
 abbrev pub IsProvedCall : LibFn → Type 0
 IsProvedCall name = GivesNumber name ⊎ (ReadsStrings name ⊎ Frees name)
 
--- copies of structs, other calls of the library, and texts that are spelled
+-- copies of structs, and other calls of the library
 abbrev pub IsOpenStep : Operation → Type 0
 IsOpenStep (op.Copy to from index) = Unit {0}
 IsOpenStep (op.Library to name arguments site size) = IsProvedCall name → ⊥
-IsOpenStep (op.Spell base offset room text) = Unit {0}
 IsOpenStep _ = ⊥
+
+-- each text that the program spells lies over characters
+abbrev pub SpellsOverCharacters : Flow → Type 0
+SpellsOverCharacters flow = (base offset room : ℕ) (text : List ℕ) → IsDoneIn flow (op.Spell base offset room text) → SpellsBytes flow base offset room text
 
 -- calls of `fgets`
 abbrev pub IsOpenEnd : Operation → Type 0
@@ -62,5 +66,5 @@ module _ {I : Type 0} (l : LatticeOf I) (n : IntegersOf I) (stands : I → ℤ �
 
   -- where the analysis is sound on what is open and the program does, each run is covered by a map that begins with it and carries it on
   abbrev pub CoversButForOpenSteps : Type 0
-  CoversButForOpenSteps = (limits : Limits) → AreHeld limits → is_well_formed limits flow ≡ true → AreSound l n stands flow (λ o. IsOpenStep o × IsDoneIn flow o) → EndsAreSound l n stands flow limits IsOpenEnd → OpenTestsAreSound
+  CoversButForOpenSteps = (limits : Limits) → AreHeld limits → is_well_formed limits flow ≡ true → SpellsOverCharacters flow → AreSound l n stands flow (λ o. IsOpenStep o × IsDoneIn flow o) → EndsAreSound l n stands flow limits IsOpenEnd → OpenTestsAreSound
       → (u : UnitView) (rows : List (Option (List (Cell I)))) → Begins l n stands flow u rows → Carries l n stands flow rows → HasTypedRuns flow u → EachRunIsCovered l n stands flow (row_before l n flow rows) (Admits l n flow rows) u

@@ -1,0 +1,3 @@
+pub mod TextCells
+pub mod TextZeros
+pub mod TextRows
