@@ -1,3 +1,6 @@
 pub mod TextCells
 pub mod TextZeros
 pub mod TextRows
+pub mod SourceCharacters
+pub mod TextRules
+pub mod TextWrites

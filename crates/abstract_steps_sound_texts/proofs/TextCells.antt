@@ -47,15 +47,8 @@ use Rattle.store_domain_sound_chars.proofs.ByteValues.{number_within}
 use Rattle.store_domain_sound_regions.specs.RegionWrites.{IsRegion}
 use Rattle.store_domain_sound_regions.proofs.Regions.{cell_rewritten, cell_numbers}
 use Rattle.store_domain_sound_regions.proofs.ByteRegions.{leaf_missed, char_missed}
+use Rattle.abstract_steps_sound_texts.specs.TextWrites.{IsTextWrite}
 use Rattle.abstract_steps_sound.proofs.NearScalars.{near_number_stands, near_scalar_stands}
-
--- what the analysis knows of a text, or of bytes, that were written
-pub record IsTextWrite {I : Type 0} (l : LatticeOf I) (n : IntegersOf I) (stands : I → ℤ → Type 0) (write : TextWrite I) (new : Memory) (i offset size : ℕ) : Type 0 where
-  pub window : (o : ℕ) → offset ≤ o → o < offset + size → (write.window.lo ≤ o) × (o ≤ write.window.hi)
-  pub start : (write.start.lo ≤ offset) × (offset ≤ write.start.hi)
-  pub one_byte : write.one_byte ≡ true → size ≤ 1
-  pub numbers : (a : ℕ) (x : Byte) → offset ≤ a → a < offset + size → byte_at new i a ≡ Some x → (k : ℕ) × (la : Labels) × (x.content ≡ number k la) × (labels_leq (as_set la) write.characters.labels ≡ true)
-  pub characters : (a : ℕ) (y : Labelled) (x : Byte) → offset ≤ a → a < offset + size → byte_at new i a ≡ Some x → x.content ≡ number_in y → (signed : Bool) → stands (character_value l n write.characters signed).num (number_of signed (y ∷ []))
 
 one_list : (ns : List Labelled) → length ns ≡ 1 → (y : Labelled) × (ns ≡ y ∷ [])
 one_list [] e = cc

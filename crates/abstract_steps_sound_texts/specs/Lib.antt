@@ -1,1 +1,1 @@
-pub mod TextCalls
+pub mod TextWrites
