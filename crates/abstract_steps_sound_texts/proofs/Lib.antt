@@ -4,3 +4,5 @@ pub mod TextRows
 pub mod SourceCharacters
 pub mod TextRules
 pub mod TextWrites
+pub mod TextCalls
+pub mod TextSteps

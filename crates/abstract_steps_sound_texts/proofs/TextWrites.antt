@@ -24,7 +24,7 @@ use Rattle.store_domain_sound_chars.proofs.ByteArrays.{IsIn}
 use Rattle.store_domain_sound_regions.specs.RegionWrites.{IsRegion}
 use Rattle.abstract_steps_sound_texts.specs.TextWrites.{IsTextWrite, HoldsOf}
 use Rattle.abstract_steps_sound_texts.proofs.TextZeros.{IsRuled, says_nothing, says, RuleStands}
-use Rattle.abstract_steps_sound_texts.proofs.TextRows.{text_stands}
+use Rattle.abstract_steps_sound_texts.proofs.TextRows.{text_stands, text_long}
 use Rattle.abstract_steps_sound_texts.proofs.TextRules.{text_rule}
 
 module _ {I : Type 0} {l : LatticeOf I} {n : IntegersOf I} {stands : I → ℤ → Type 0} (o : OrderLaws l) (q : BoundLaws l n stands) (flow : Flow) (naming : Naming) (row : List (Cell I)) (state : MachineState) (laid : IsLaidOut flow (length row)) (s : StandsFor l n stands flow naming row state)
@@ -49,3 +49,6 @@ module _ {I : Type 0} {l : LatticeOf I} {n : IntegersOf I} {stands : I → ℤ �
 
   pub text_write_stands : StandsFor l n stands flow naming (write_text l n flow write row) (record { memory = new; temps = state.temps; entered = state.entered })
   text_write_stands = text_stands o q flow naming row state laid s new i offset size region sane write here single of_base ruled
+
+  pub text_write_long : length (write_text l n flow write row) ≡ length row
+  text_write_long = text_long o q flow naming row state laid s new i offset size region sane write here single of_base ruled
