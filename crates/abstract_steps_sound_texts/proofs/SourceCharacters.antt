@@ -1,14 +1,13 @@
 -- The characters that a call reads stand for those of the machine.
-use Rattle.std.proofs.Common.{◌≡◌, ℕ, zero, suc, ◌+◌, ◌-◌, ◌<◌, ◌≤◌, Bool, true, false, cond, ◌&&◌, Option, Some, None, List, [], ◌∷◌, length, arith, subst, sym, refl, ap, ◌∙◌}
-use Rattle.std.specs.Prelude.{slice_get, ℤ, pos}
-use Rattle.std.proofs.lemmas.Bool.{and_parts, lt-ltb}
+use Rattle.std.proofs.Common.{◌≡◌, ℕ, zero, suc, ◌+◌, ◌<◌, ◌≤◌, Bool, true, false, cond, Option, Some, None, List, [], ◌∷◌, length, arith, subst, sym, refl, ap, ◌∙◌}
+use Rattle.std.specs.Prelude.{slice_get, ℤ}
+use Rattle.std.proofs.lemmas.Bool.{and_parts}
 use Rattle.std.proofs.lemmas.Option.{same_Some, slice_get_within}
 use Rattle.cc_base.specs.Lattices.{LatticeOf, OrderLaws}
 use Rattle.cc_base.specs.IntegerDomains.{IntegersOf, BoundLaws}
 use Rattle.cc_base.specs.IntegerLaws.{SoundLaws}
 use Rattle.cc_base.specs.declared.int_types.IntType.{IntType}
 use Rattle.c_layout.specs.declared.data_model.Model.{Model}
-use Rattle.c_layout.specs.declared.leaf_lists.Class.{Class}
 use Rattle.c_layout.specs.declared.leaf_lists.Class.TheVariants.{Char}
 use Rattle.c_layout.specs.declared.shapes.BaseInfo.{BaseInfo}
 use Rattle.flow_program.specs.declared.machine_instructions.Scalar.TheVariants as of
@@ -22,14 +21,14 @@ use Rattle.value_domain.specs.declared.row_cells.Cell.{Cell}
 use Rattle.store_domain.specs.declared.access_windows.Window.{Window}
 use Rattle.store_domain.specs.declared.cell_reads.Access.{Access}
 use Rattle.store_domain.specs.CellReads.{joined_with, joined}
-use Rattle.store_domain.specs.LiveBases.{has_base, most_bases, is_live_in, may_be_live}
-use Rattle.store_domain.specs.Loads.{load_base, read_base, read_base_if, load_bases}
+use Rattle.store_domain.specs.LiveBases.{has_base, is_live_in, may_be_live}
+use Rattle.store_domain.specs.Loads.{load_base, read_base, load_bases}
 use Rattle.store_domain.specs.Walks.{walk}
-use Rattle.abstract_steps_library.specs.Sources.{character_access, read_characters_if, read_characters, characters_read, number_of, labels_of, characters_of}
+use Rattle.abstract_steps_library.specs.Sources.{character_access, read_characters, characters_read, number_of, labels_of, characters_of}
 use Rattle.lib_models_memory.specs.Labels.{Labels, no_labels}
 use Rattle.lib_models_memory.specs.ScalarSizes.{class_bytes}
 use Rattle.lib_models_memory.specs.Bytes.{Content, Byte}
-use Rattle.lib_models_memory.specs.Instances.{Memory, live, bytes_at, byte_at, life_at}
+use Rattle.lib_models_memory.specs.Instances.{live, bytes_at, byte_at, life_at}
 use Rattle.lib_models_memory.specs.Numbers.{Labelled}
 use Rattle.lib_models_memory.specs.Numbers as numbers
 use Rattle.lib_models_memory.specs.Scalars.{Scalar, integer}

@@ -1,12 +1,11 @@
 -- Calls of `strcpy` are sound.
-use Rattle.std.proofs.Common.{◌≡◌, ℕ, zero, suc, ◌+◌, ◌-◌, ◌^◌, ◌<◌, ◌≤◌, Bool, true, false, cond, not, ◌&&◌, Option, Some, None, List, [], ◌∷◌, ◌++◌, length, arith, subst, sym, refl, ap, ◌∙◌, inl, inr}
-use Rattle.std.specs.Prelude.{slice_get, ℤ, pos, negsuc, ◌+ℤ◌, ◌-ℤ◌, ◌≤ℤ◌, is_some, nat_lt, int_le, unsigned_abs, replicate}
-use Rattle.std.specs.List.{list_all}
+use Rattle.std.proofs.Common.{◌≡◌, ℕ, zero, suc, ◌+◌, ◌-◌, ◌^◌, ◌<◌, ◌≤◌, Bool, true, false, cond, not, ◌&&◌, Option, Some, None, List, [], ◌∷◌, length, arith, subst, sym, refl, ap, ◌∙◌}
+use Rattle.std.specs.Prelude.{slice_get, ℤ, pos, ◌+ℤ◌, ◌-ℤ◌, is_some, nat_lt}
 use Rattle.std.proofs.lemmas.Int.{ints}
-use Rattle.std.proofs.lemmas.Bool.{cases_Bool, and_parts, and_from, lt-ltb, ltb-true, ltb-false}
+use Rattle.std.proofs.lemmas.Bool.{and_parts, lt-ltb, ltb-true, ltb-false}
 use Rattle.std.proofs.lemmas.Option.{same_Some}
 use Rattle.cc_base.specs.Lattices.{LatticeOf, OrderLaws}
-use Rattle.cc_base.specs.IntegerDomains.{IntegersOf, BoundLaws, of_range}
+use Rattle.cc_base.specs.IntegerDomains.{IntegersOf, BoundLaws}
 use Rattle.cc_base.specs.NumberRanges.{Range}
 use Rattle.cc_base.specs.declared.diagnostics.Rule.{Rule}
 use Rattle.cc_base.specs.declared.diagnostics.Rule.TheVariants as rule
@@ -16,37 +15,34 @@ use Rattle.pointer_domain.specs.BaseSets.{bases_has, bases_empty}
 use Rattle.pointer_domain.specs.PointerTables.{offsets}
 use Rattle.pointer_domain.specs.declared.pointer_sets.Pointers.{Pointers}
 use Rattle.value_domain.specs.ValueTables.{pointer_value}
-use Rattle.value_domain.specs.declared.values.Value.{Value}
 use Rattle.value_domain.specs.declared.row_cells.Cell.{Cell}
 use Rattle.value_domain_laws.proofs.Numbers.{RangeHas, bounds_have}
-use Rattle.store_domain.specs.declared.access_windows.Window.{Window}
 use Rattle.store_domain.specs.AccessWindows.{window_within}
 use Rattle.store_domain.specs.LiveBases.{most_bases, has_base, writable_of, is_one_instance}
-use Rattle.abstract_steps_checks.specs.IntegerChecks.{sink_violations}
 use Rattle.abstract_steps_checks.specs.LibraryArguments.{writes_literal, after_write, within_bases, passes_room, cut_by_room, touched_window}
 use Rattle.abstract_steps_checks.specs.ViolationSets.{no_violations, violates}
 use Rattle.abstract_steps_checks.specs.declared.library_arguments.Argument.{Argument}
 use Rattle.abstract_steps_library.specs.Calls.{Call}
 use Rattle.abstract_steps_library.specs.Effects.{apply}
-use Rattle.abstract_steps_library.specs.Plans.{planned, trail_of, checked}
+use Rattle.abstract_steps_library.specs.Plans.{trail_of}
 use Rattle.abstract_steps_library.specs.declared.call_plans.Effect.{Effect}
 use Rattle.abstract_steps_library.specs.declared.call_plans.Effect.TheVariants as effect
 use Rattle.abstract_steps_library.specs.declared.call_plans.Plan.{Plan}
 use Rattle.abstract_steps_library.specs.declared.call_plans.Trail.{Trail}
 use Rattle.abstract_steps_library.specs.declared.memory_calls.Target.{Target}
 use Rattle.abstract_steps_instructions.specs.CallSteps.{call_of}
-use Rattle.lib_models_memory.specs.Labels.{Labels, is_unlabelled}
+use Rattle.lib_models_memory.specs.Labels.{Labels}
 use Rattle.lib_models_memory.specs.Bytes.{MachinePointer, into, Content, number, Byte}
-use Rattle.lib_models_memory.specs.Instances.{Memory, live, ended, bytes_at, byte_at, life_at}
-use Rattle.lib_models_memory.specs.Scalars.{Scalar, integer, pointer}
+use Rattle.lib_models_memory.specs.Instances.{Memory, live, bytes_at, byte_at, life_at}
+use Rattle.lib_models_memory.specs.Scalars.{Scalar, pointer}
 use Rattle.lib_models_effects.specs.LibraryCalls.{with_result}
 use Rattle.lib_models_effects.specs.LibraryChecks as machine
-use Rattle.lib_models_effects.specs.ScalarBytes.{bits_in, refilled}
+use Rattle.lib_models_effects.specs.ScalarBytes.{refilled}
 use Rattle.lib_models_effects.specs.Touches.{storage_at, is_literal, set_bytes}
 use Rattle.lib_models_effects.specs.Worlds.{World, Reply, goes, behind, stopped_by}
 use Rattle.flow_program_machine.specs.FlowStates.{Standing, values_of}
 use Rattle.store_domain_meaning.specs.SoundMemory.{IsContentIn, IsMemoryOf, IsWithin}
-use Rattle.store_domain_meaning.specs.ValueMeaning.{Naming, StandsInto, StandsByLife, StandsPointer, StandsScalar}
+use Rattle.store_domain_meaning.specs.ValueMeaning.{Naming, StandsInto, StandsByLife}
 use Rattle.store_domain_meaning.specs.RowMeaning.{MachineState, IsLiveOf, StandsFor}
 use Rattle.store_domain_meaning.specs.Coverage.{state_of}
 use Rattle.store_domain_sound.specs.Shapes.{AreShaped, IsLaidOut}
@@ -54,34 +50,31 @@ use Rattle.c_layout.specs.declared.shapes.BaseInfo.{BaseInfo}
 use Rattle.store_domain_sound.proofs.Frames.{pointer_in_moves, scalar_moves}
 use Rattle.store_domain_sound.proofs.LoadSound.{instance_there}
 use Rattle.store_domain_sound.proofs.Slices.{get_there}
-use Rattle.store_domain_sound.proofs.StoreLeaves.{live_ended, IsAlone, not_older}
+use Rattle.store_domain_sound.proofs.StoreLeaves.{live_ended, not_older}
 use Rattle.store_domain_sound.proofs.StorePlaces.{not_empty}
 use Rattle.store_domain_sound.proofs.Windows.{WindowHas}
 use Rattle.store_domain_sound_programs.specs.Premises.{HasPremises}
 use Rattle.store_domain_sound_regions.specs.RegionWrites.{IsRegion}
-use Rattle.store_domain_sound_regions.proofs.BaseRows.{none_stands}
 use Rattle.store_domain_sound_regions.proofs.ContentRegions.{IsWritten, contents_written, contents_sane, region_content}
 use Rattle.store_domain_sound_regions.proofs.Regions.{alike_region}
 use Rattle.abstract_steps_sound.specs.SoundSteps.{IsReached}
-use Rattle.abstract_steps_sound.proofs.Admitted.{AreAdmitted, both_admitted}
+use Rattle.abstract_steps_sound.proofs.Admitted.{AreAdmitted}
 use Rattle.abstract_steps_sound.proofs.PutTemps.{IsResult}
-use Rattle.abstract_steps_sound_calls.proofs.Calls.{clean, plan_is}
+use Rattle.abstract_steps_sound_calls.proofs.Calls.{clean}
 use Rattle.abstract_steps_sound_strings.proofs.GivenPointers.{reach_of}
 use Rattle.abstract_steps_sound_strings.proofs.Trails.{still_told, told_here, goes_further}
-use Rattle.abstract_steps_sound_fills.proofs.Targets.{alone_is, within_stands, cut_has, room_told, literal_told, is_writable, after_has, start_has, touched_has, sure_has, least_has, one_has}
-use Rattle.abstract_steps_sound_fills.proofs.WriteCalls.{behind_behind, sink_told, Good, world_with, told_stop, plain_stop, written_good, the_call, value_of, given_at, argument_stands, reach_good, given_within, goes_given, given_into}
-use Rattle.std.specs.Int.{int_min}
+use Rattle.abstract_steps_sound_fills.proofs.Targets.{alone_is, within_stands, cut_has, room_told, literal_told, is_writable, after_has, start_has, touched_has, one_has}
+use Rattle.abstract_steps_sound_fills.proofs.WriteCalls.{behind_behind, Good, told_stop, plain_stop, written_good, given_at, reach_good, given_within, goes_given, given_into}
 use Rattle.std.proofs.lemmas.List.{length-map}
 use Rattle.cc_base.specs.IntegerLaws.{SoundLaws}
 use Rattle.abstract_steps_library.specs.Arguments.{room_violations, literal_violations}
-use Rattle.abstract_steps_library.specs.MemoryCalls.{lower_of, is_one_byte, room_trail, target_of, nothing_written}
+use Rattle.abstract_steps_library.specs.MemoryCalls.{is_one_byte, room_trail, target_of}
 use Rattle.abstract_steps_library.specs.Outputs.{scan_violations, given_trail, scanned_trail, scan_at}
 use Rattle.abstract_steps_library.specs.Sources.{characters_of}
-use Rattle.abstract_steps_library.specs.StringCalls.{less_one, one_more, one_less, text_effect, text_from_start, two_given, source_characters, plan_strcpy}
-use Rattle.abstract_steps_library.specs.TextWrites.{write_text, character_value}
+use Rattle.abstract_steps_library.specs.StringCalls.{less_one, one_more, one_less, text_effect, text_from_start, source_characters, plan_strcpy}
+use Rattle.abstract_steps_library.specs.TextWrites.{write_text}
 use Rattle.abstract_steps_library.specs.declared.source_bytes.Characters.{Characters}
 use Rattle.abstract_steps_library.specs.declared.text_writes.TextWrite.{TextWrite}
-use Rattle.abstract_steps_library.specs.declared.text_writes.ZeroRule.{ZeroRule}
 use Rattle.abstract_steps_library.specs.declared.text_writes.ZeroRule.TheVariants as zero_rule
 use Rattle.abstract_steps_checks.specs.declared.string_scans.Scanned.{Scanned}
 use Rattle.lib_models_effects.specs.MemoryCalls.{with_contents}
@@ -445,8 +438,7 @@ module _ {I : Type 0} {l : LatticeOf I} {n : IntegersOf I} {stands : I → ℤ �
             letters_number k less y b2 f g =
                 let w = read_window (at + k) (omega arith) (omega (arith, less)) in
                 let among = subst (λ v. bases_has read.bases v ≡ true) reads.1 reads.0.among in
-                subst (λ v. ((signed : Bool) → stands (cond signed (characters_of l n flow.model flow.bases.items row read.bases v).signed (characters_of l n flow.model flow.bases.items row read.bases v).unsigned) (number_of signed (y ∷ []))) × (labels_leq (as_set y.labels) (characters_of l n flow.model flow.bases.items row read.bases v).labels ≡ true)) (sym w.is)
-                (
+                subst (λ v. ((signed : Bool) → stands (cond signed (characters_of l n flow.model flow.bases.items row read.bases v).signed (characters_of l n flow.model flow.bases.items row read.bases v).unsigned) (number_of signed (y ∷ []))) × (labels_leq (as_set y.labels) (characters_of l n flow.model flow.bases.items row read.bases v).labels ≡ true)) (sym w.is) (
                   (λ signed. source_number o q c flow p.shaped p.padding naming row (state_of s) r.stands_for read.bases w.window j (at + k) right_st.base read_base.0 read_base.1 right_st.named right_alive among w.from w.to b2 f y g signed),
                   source_labels o q c flow p.shaped p.padding naming row (state_of s) r.stands_for read.bases w.window j (at + k) right_st.base read_base.0 read_base.1 right_st.named right_alive among w.from w.to b2 f y g,
                 )

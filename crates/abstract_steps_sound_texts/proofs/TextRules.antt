@@ -1,12 +1,12 @@
 -- The first zero of an array behind a text, from the length of the text.
-use Rattle.std.proofs.Common.{◌≡◌, ℕ, ◌+◌, ◌-◌, ◌^◌, ◌<◌, ◌≤◌, Bool, true, false, cond, not, ◌&&◌, Option, Some, None, List, length, arith, subst, sym, refl, ap, ◌∙◌, inl, inr, int_eq}
-use Rattle.std.specs.Prelude.{slice_get, ℤ, pos, neg_ℤ, ◌+ℤ◌, ◌≤ℤ◌, ◌<ℤ◌, int_le}
+use Rattle.std.proofs.Common.{◌≡◌, ℕ, ◌+◌, ◌-◌, ◌^◌, ◌<◌, ◌≤◌, Bool, true, false, not, ◌&&◌, Some, None, arith, subst, sym, refl, ap, ◌∙◌, inl, inr, int_eq}
+use Rattle.std.specs.Prelude.{slice_get, ℤ, pos, ◌+ℤ◌, ◌≤ℤ◌, ◌<ℤ◌, int_le}
 use Rattle.std.specs.Int.{int_min}
 use Rattle.std.proofs.lemmas.Int.{ints, clamps}
 use Rattle.std.proofs.lemmas.Bool.{cases_Bool, and_parts, cond_both, true≢false}
 use Rattle.std.proofs.lemmas.Option.{slice_get_within}
 use Rattle.cc_base.specs.Lattices.{LatticeOf, OrderLaws}
-use Rattle.cc_base.specs.IntegerDomains.{IntegersOf, BoundLaws, IsNear, of_range}
+use Rattle.cc_base.specs.IntegerDomains.{IntegersOf, BoundLaws, IsNear}
 use Rattle.cc_base.specs.NumberRanges.{Range}
 use Rattle.c_layout.specs.declared.shapes.ZeroPart.{ZeroPart}
 use Rattle.flow_program.specs.declared.programs.Flow.{Flow}
@@ -29,8 +29,7 @@ use Rattle.store_domain_sound.proofs.Near.{near_number_from}
 use Rattle.store_domain_sound.proofs.Slices.{get_there}
 use Rattle.store_domain_sound.proofs.StoreZeros.{some_between}
 use Rattle.store_domain_sound.proofs.TouchedRest.{near_stands}
-use Rattle.store_domain_sound_chars.proofs.ByteArrays.{IsIn, IsTarget, target_is, local_has, local_small}
-use Rattle.store_domain_sound_chars.proofs.ByteZeros.{offsets_stand}
+use Rattle.store_domain_sound_chars.proofs.ByteArrays.{IsIn, target_is, local_has, local_small}
 use Rattle.store_domain_sound_regions.specs.RegionWrites.{IsRegion}
 use Rattle.store_domain_sound_regions.proofs.RegionArrays.{starts_in, before_in, array_short, array_before, array_there, IsText, wrote_text}
 

@@ -1,6 +1,6 @@
 -- Steps on calls of `strcpy` are sound.
-use Rattle.std.proofs.Common.{◌≡◌, ℕ, true, ◌&&◌, Option, Some, List, [], ◌∷◌, sym, refl, subst, ap, ◌∙◌}
-use Rattle.std.specs.Prelude.{slice_get, ℤ}
+use Rattle.std.proofs.Common.{◌≡◌, ℕ, true, ◌&&◌, Option, Some, List, [], ◌∷◌, refl}
+use Rattle.std.specs.Prelude.{ℤ}
 use Rattle.std.specs.List.{list_all}
 use Rattle.std.proofs.lemmas.Bool.{and_parts}
 use Rattle.cc_base.specs.Lattices.{LatticeOf, OrderLaws}

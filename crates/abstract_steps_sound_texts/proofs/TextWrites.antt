@@ -1,15 +1,11 @@
 -- A text that is written is stood for.
-use Rattle.std.proofs.Common.{◌≡◌, ℕ, ◌+◌, ◌-◌, ◌<◌, ◌≤◌, Bool, true, Some, List, length, arith, subst, sym, refl, ap, ◌∙◌}
+use Rattle.std.proofs.Common.{◌≡◌, ℕ, ◌+◌, ◌-◌, ◌<◌, true, Some, List, length, arith, subst, sym, refl, ap}
 use Rattle.std.specs.Prelude.{slice_get, ℤ}
 use Rattle.cc_base.specs.Lattices.{LatticeOf, OrderLaws}
-use Rattle.cc_base.specs.IntegerDomains.{IntegersOf, BoundLaws, IsNear}
+use Rattle.cc_base.specs.IntegerDomains.{IntegersOf, BoundLaws}
 use Rattle.c_layout.specs.declared.shapes.BaseInfo.{BaseInfo}
-use Rattle.c_layout.specs.declared.shapes.ZeroPart.{ZeroPart}
 use Rattle.flow_program.specs.declared.programs.Flow.{Flow}
-use Rattle.string_domain.specs.declared.first_zeros.FirstZero.{FirstZero}
 use Rattle.value_domain.specs.declared.row_cells.Cell.{Cell}
-use Rattle.store_domain.specs.declared.first_zero_writes.ZeroTarget.{ZeroTarget}
-use Rattle.store_domain.specs.FirstZeroWrites.{zero_target}
 use Rattle.store_domain.specs.LiveBases.{has_base, is_one_instance}
 use Rattle.abstract_steps_library.specs.TextWrites.{zero_after, rule_in, write_into, write_text}
 use Rattle.abstract_steps_library.specs.declared.text_writes.TextWrite.{TextWrite}
@@ -23,7 +19,7 @@ use Rattle.store_domain_sound.specs.Shapes.{IsLaidOut}
 use Rattle.store_domain_sound_chars.proofs.ByteArrays.{IsIn}
 use Rattle.store_domain_sound_regions.specs.RegionWrites.{IsRegion}
 use Rattle.abstract_steps_sound_texts.specs.TextWrites.{IsTextWrite, HoldsOf}
-use Rattle.abstract_steps_sound_texts.proofs.TextZeros.{IsRuled, says_nothing, says, RuleStands}
+use Rattle.abstract_steps_sound_texts.proofs.TextZeros.{IsRuled, says_nothing, says}
 use Rattle.abstract_steps_sound_texts.proofs.TextRows.{text_stands, text_long}
 use Rattle.abstract_steps_sound_texts.proofs.TextRules.{text_rule}
 
