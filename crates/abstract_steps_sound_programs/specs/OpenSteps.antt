@@ -19,14 +19,15 @@ use Rattle.store_domain_sound_programs.specs.Premises.{AreHeld}
 use Rattle.abstract_steps_sound.specs.SoundSteps.{AreSound}
 use Rattle.abstract_steps_sound_calls.specs.ResultCalls.{GivesNumber}
 use Rattle.abstract_steps_sound_strings.specs.StringCalls.{ReadsStrings}
+use Rattle.abstract_steps_sound_texts.specs.TextCalls.{CopiesText}
 use Rattle.abstract_steps_covered.specs.SoundEnds.{IsDoneIn, EndsAreSound}
 use Rattle.abstract_steps_covered.specs.Covering.{Begins, Carries, HasTypedRuns, row_before, Admits}
 use Rattle.abstract_steps_sound_edges.specs.EdgeSteps.{KindIsSound}
 use Rattle.abstract_steps_sound_tests.specs.ScalarObjects.{IsIntegerTest, IsPointerTest, IsNullTest, IsCaseObject}
 
--- calls that give a number for one that is no pointer, and that read strings
+-- calls that give a number for one that is no pointer, that read strings, and that copy them
 abbrev pub IsProvedCall : LibFn → Type 0
-IsProvedCall name = GivesNumber name ⊎ ReadsStrings name
+IsProvedCall name = GivesNumber name ⊎ ReadsStrings name ⊎ CopiesText name
 
 -- copies of structs, other calls of the library, and texts that are spelled
 abbrev pub IsOpenStep : Operation → Type 0
