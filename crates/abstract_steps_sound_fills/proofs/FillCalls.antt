@@ -2,9 +2,8 @@
 use Rattle.std.proofs.Common.{◌≡◌, ℕ, zero, suc, ◌+◌, ◌-◌, ◌<◌, ◌≤◌, Bool, true, false, cond, not, ◌&&◌, Option, Some, None, List, [], ◌∷◌, ◌++◌, length, arith, subst, sym, refl, ap, ◌∙◌, inl, inr, int_eq, mod-lt}
 use Rattle.std.specs.Prelude.{slice_get, ℤ, pos, negsuc, ◌≤ℤ◌, is_some, nat_lt, int_le, unsigned_abs, replicate}
 use Rattle.std.specs.Int.{int_rem_euclid}
-use Rattle.std.specs.List.{list_all}
 use Rattle.std.proofs.lemmas.Int.{ints}
-use Rattle.std.proofs.lemmas.Bool.{cases_Bool, and_parts, and_from, lt-ltb, ltb-true, ltb-false}
+use Rattle.std.proofs.lemmas.Bool.{cases_Bool, and_parts, lt-ltb, ltb-true, ltb-false}
 use Rattle.std.proofs.lemmas.Option.{same_Some}
 use Rattle.cc_base.specs.Lattices.{LatticeOf, OrderLaws}
 use Rattle.cc_base.specs.IntegerDomains.{IntegersOf, BoundLaws}
@@ -15,7 +14,6 @@ use Rattle.flow_program.specs.WellFormed.{names_of, has_result}
 use Rattle.flow_program.specs.declared.programs.Flow.{Flow}
 use Rattle.pointer_domain.specs.BaseSets.{bases_has, bases_empty}
 use Rattle.pointer_domain.specs.PointerTables.{offsets}
-use Rattle.pointer_domain.specs.declared.pointer_sets.Pointers.{Pointers}
 use Rattle.value_domain.specs.ValueTables.{pointer_value}
 use Rattle.value_domain.specs.declared.values.Value.{Value}
 use Rattle.value_domain.specs.declared.row_cells.Cell.{Cell}
@@ -24,14 +22,14 @@ use Rattle.store_domain.specs.declared.access_windows.Window.{Window}
 use Rattle.store_domain.specs.AccessWindows.{window_within}
 use Rattle.store_domain.specs.LiveBases.{has_base, writable_of, is_one_instance}
 use Rattle.abstract_steps_checks.specs.IntegerChecks.{sink_violations}
-use Rattle.abstract_steps_checks.specs.LibraryArguments.{writes_literal, after_write, within_bases, passes_room, cut_by_room, touched_window}
+use Rattle.abstract_steps_checks.specs.LibraryArguments.{writes_literal, after_write, passes_room, cut_by_room, touched_window}
 use Rattle.abstract_steps_checks.specs.ViolationSets.{no_violations, violates}
 use Rattle.abstract_steps_checks.specs.declared.library_arguments.Argument.{Argument}
 use Rattle.abstract_steps_library.specs.Arguments.{room_violations, literal_violations}
 use Rattle.abstract_steps_library.specs.Calls.{Call}
 use Rattle.abstract_steps_library.specs.Effects.{apply}
 use Rattle.abstract_steps_library.specs.FillWrites.{write_fill}
-use Rattle.abstract_steps_library.specs.MemoryCalls.{sure_window, lower_of, is_zero_range, is_one_byte, room_trail, target_of, nothing_written, is_zero_byte, fill_effect, fill_in_window, fill_trail, plan_fill}
+use Rattle.abstract_steps_library.specs.MemoryCalls.{sure_window, lower_of, is_zero_range, is_one_byte, room_trail, target_of, is_zero_byte, fill_in_window, plan_fill}
 use Rattle.abstract_steps_library.specs.Plans.{planned, trail_of, checked}
 use Rattle.abstract_steps_library.specs.declared.call_plans.Effect.{Effect}
 use Rattle.abstract_steps_library.specs.declared.call_plans.Effect.TheVariants as effect
@@ -42,24 +40,24 @@ use Rattle.abstract_steps_library.specs.declared.memory_calls.Target.{Target}
 use Rattle.abstract_steps_instructions.specs.CallSteps.{call_of}
 use Rattle.lib_models_memory.specs.Labels.{Labels, is_unlabelled}
 use Rattle.lib_models_memory.specs.Bytes.{MachinePointer, into, Content, number, Byte}
-use Rattle.lib_models_memory.specs.Instances.{Memory, live, ended, bytes_at, byte_at, life_at}
+use Rattle.lib_models_memory.specs.Instances.{Memory, live, bytes_at, byte_at, life_at}
 use Rattle.lib_models_memory.specs.Scalars.{Scalar, integer, pointer}
 use Rattle.lib_models_effects.specs.LibraryCalls.{with_result}
 use Rattle.lib_models_effects.specs.LibraryChecks as machine
-use Rattle.lib_models_effects.specs.MemoryCalls.{with_contents, fill_memory, memset}
+use Rattle.lib_models_effects.specs.MemoryCalls.{with_contents, fill_memory}
 use Rattle.lib_models_effects.specs.ScalarBytes.{bits_in, refilled}
 use Rattle.lib_models_effects.specs.Touches.{storage_at, is_literal, set_bytes}
 use Rattle.lib_models_effects.specs.Worlds.{World, Reply, goes, behind, stopped_by}
 use Rattle.flow_program_machine.specs.FlowStates.{Standing, values_of}
 use Rattle.store_domain_meaning.specs.SoundMemory.{IsMemoryOf, IsWithin}
-use Rattle.store_domain_meaning.specs.ValueMeaning.{Naming, StandsInto, StandsByLife, StandsPointer, StandsScalar}
-use Rattle.store_domain_meaning.specs.RowMeaning.{IsLiveOf, StandsFor}
+use Rattle.store_domain_meaning.specs.ValueMeaning.{Naming, StandsInto, StandsByLife, StandsScalar}
+use Rattle.store_domain_meaning.specs.RowMeaning.{IsLiveOf}
 use Rattle.store_domain_meaning.specs.Coverage.{state_of}
 use Rattle.store_domain_sound.specs.Shapes.{IsLaidOut}
 use Rattle.store_domain_sound.proofs.Frames.{pointer_in_moves, scalar_moves}
 use Rattle.store_domain_sound.proofs.LoadSound.{instance_there}
 use Rattle.store_domain_sound.proofs.Slices.{get_there}
-use Rattle.store_domain_sound.proofs.StoreLeaves.{live_ended, IsAlone, not_older}
+use Rattle.store_domain_sound.proofs.StoreLeaves.{live_ended, not_older}
 use Rattle.store_domain_sound.proofs.StorePlaces.{not_empty}
 use Rattle.store_domain_sound.proofs.Windows.{WindowHas}
 use Rattle.store_domain_sound_programs.specs.Premises.{HasPremises}
@@ -70,13 +68,13 @@ use Rattle.store_domain_sound_regions.proofs.Regions.{alike_region}
 use Rattle.abstract_steps_sound.specs.SoundSteps.{IsReached}
 use Rattle.abstract_steps_sound.proofs.Admitted.{AreAdmitted, both_admitted}
 use Rattle.abstract_steps_sound.proofs.PutTemps.{IsResult}
-use Rattle.abstract_steps_sound_calls.proofs.Calls.{clean, plan_is}
+use Rattle.abstract_steps_sound_calls.proofs.Calls.{clean}
 use Rattle.abstract_steps_sound_strings.proofs.GivenPointers.{reach_of}
 use Rattle.abstract_steps_sound_strings.proofs.Trails.{still_told, told_here, goes_further}
 use Rattle.abstract_steps_sound_fills.proofs.FillCells.{IsFill}
 use Rattle.abstract_steps_sound_fills.proofs.FillRows.{fill_stands, fill_long}
 use Rattle.abstract_steps_sound_fills.proofs.Targets.{alone_is, within_stands, cut_has, room_told, literal_told, is_writable, after_has, start_has, touched_has, sure_has, least_has, one_has}
-use Rattle.abstract_steps_sound_fills.proofs.WriteCalls.{behind_behind, sink_told, Good, world_with, told_stop, plain_stop, written_good, the_call, value_of, given_at, argument_stands, reach_good, given_within, goes_given, given_into}
+use Rattle.abstract_steps_sound_fills.proofs.WriteCalls.{behind_behind, sink_told, Good, world_with, told_stop, written_good, value_of, given_at, argument_stands, reach_good, given_within, goes_given, given_into}
 
 -- ---- what is set
 

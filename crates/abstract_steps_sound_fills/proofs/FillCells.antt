@@ -1,8 +1,8 @@
 -- What `memset` makes of each cell stands for the bytes that it sets.
-use Rattle.std.proofs.Common.{◌≡◌, ℕ, zero, suc, ◌+◌, ◌*◌, ◌-◌, ◌^◌, ◌<◌, ◌≤◌, Bool, true, false, cond, ◌&&◌, ◌==◌, Option, Some, None, List, [], ◌∷◌, length, arith, subst, sym, refl, ap, ◌∙◌, inl, inr, ◌⊎◌}
-use Rattle.std.specs.Prelude.{slice_get, ℤ, pos, ◌≤ℤ◌, int_le, nat_lt, nat_le, max, unwrap_or}
+use Rattle.std.proofs.Common.{◌≡◌, ℕ, suc, ◌+◌, ◌*◌, ◌^◌, ◌<◌, ◌≤◌, Bool, true, false, cond, ◌&&◌, ◌==◌, Option, Some, None, List, [], ◌∷◌, length, arith, subst, sym, refl, ap, ◌∙◌, inl, inr, ◌⊎◌}
+use Rattle.std.specs.Prelude.{slice_get, ℤ, pos, ◌≤ℤ◌, nat_lt, nat_le}
 use Rattle.std.proofs.lemmas.Int.{ints}
-use Rattle.std.proofs.lemmas.Bool.{cases_Bool, and_parts, leb-true, eqb-true, lt-ltb, true≢false}
+use Rattle.std.proofs.lemmas.Bool.{and_parts, leb-true, eqb-true, lt-ltb, true≢false}
 use Rattle.std.proofs.lemmas.Nat.{pow_pos}
 use Rattle.std.proofs.lemmas.Option.{slice_get_within}
 use Rattle.cc_base.specs.Lattices.{LatticeOf, OrderLaws}
@@ -13,27 +13,23 @@ use Rattle.c_layout.specs.declared.leaf_lists.Leaf.{Leaf}
 use Rattle.c_layout.specs.declared.shapes.BaseInfo.{BaseInfo}
 use Rattle.flow_program.specs.declared.programs.Flow.{Flow}
 use Rattle.value_domain.specs.LabelSets.{labels_leq}
-use Rattle.value_domain.specs.declared.label_sets.Labels as sets
 use Rattle.value_domain.specs.ValueTables.{number_value}
 use Rattle.value_domain.specs.declared.values.Value as values
 use Rattle.value_domain.specs.declared.row_cells.Cell.{Cell}
 use Rattle.store_domain.specs.declared.access_windows.Window.{Window}
-use Rattle.store_domain.specs.AccessWindows.{last_offset, window_between}
-use Rattle.store_domain.specs.ByteWrites.{byte_written, labelled_null}
-use Rattle.store_domain.specs.ClassNumbers.{is_pointer, class_at}
+use Rattle.store_domain.specs.ByteWrites.{byte_written}
+use Rattle.store_domain.specs.ClassNumbers.{is_pointer}
 use Rattle.store_domain.specs.LeafSelection.{is_overlapped, has_stray}
-use Rattle.store_domain.specs.LiveBases.{has_base}
 use Rattle.store_domain.specs.RowPositions.{leaf_position, class_position, state_position, value_at, state_at, join_value, write_value}
-use Rattle.store_domain.specs.Walks.{turns}
-use Rattle.abstract_steps_library.specs.FillWrites.{last_byte, is_covered_by, is_covered, holds_whole, is_from_start, zeroed, covered_value, fill_leaf, fill_leaf_of, fill_leaves, clears_state, clears_instance, class_value, fill_stray, fill_class, fill_classes, fill_class_cells, fill_heap_part}
+use Rattle.abstract_steps_library.specs.FillWrites.{last_byte, is_covered_by, is_covered, holds_whole, is_from_start, covered_value, fill_leaf, fill_leaf_of, clears_instance, class_value, fill_stray}
 use Rattle.abstract_steps_library.specs.declared.fill_writes.FillWrite.{FillWrite}
 use Rattle.lib_models_memory.specs.Labels.{Labels}
 use Rattle.lib_models_memory.specs.ScalarSizes.{class_bytes}
 use Rattle.lib_models_memory.specs.Bytes.{Content, number, Byte}
-use Rattle.lib_models_memory.specs.Instances.{Memory, live, bytes_at, byte_at, life_at}
+use Rattle.lib_models_memory.specs.Instances.{Memory, bytes_at, byte_at, life_at}
 use Rattle.lib_models_memory.specs.Numbers.{Labelled, number_of, unsigned_of}
 use Rattle.store_domain_meaning.specs.Matching.{Matched, number_in, Holds}
-use Rattle.store_domain_meaning.specs.Places.{IsPlaceOf, OwnedByLeaf, OwnedByClass, IsClassPlace, IsLeafPlace}
+use Rattle.store_domain_meaning.specs.Places.{IsPlaceOf, OwnedByLeaf, OwnedByClass, IsClassPlace}
 use Rattle.store_domain_meaning.specs.SeenLabels.{as_set}
 use Rattle.store_domain_meaning.specs.SoundMemory.{IsMemoryOf}
 use Rattle.store_domain_meaning.specs.ValueMeaning.{Naming, StandsContent, StandsState}
@@ -44,7 +40,7 @@ use Rattle.store_domain_sound.proofs.Near.{IsNearValue, value_at_near, near_numb
 use Rattle.store_domain_sound.proofs.StoreValues.{written, join_is}
 use Rattle.store_domain_sound_chars.proofs.ByteValues.{written_near}
 use Rattle.store_domain_sound_regions.specs.RegionWrites.{IsRegion}
-use Rattle.store_domain_sound_regions.proofs.Regions.{HasNumbers, cell_apart, cell_joined, cell_covered, bytes_number, bytes_content, cell_numbers}
+use Rattle.store_domain_sound_regions.proofs.Regions.{cell_joined, cell_covered, bytes_number, bytes_content, cell_numbers}
 use Rattle.store_domain_sound_regions.proofs.ByteRegions.{leaf_missed, char_missed, write_is}
 
 -- what the analysis knows of a fill, of bytes that were set

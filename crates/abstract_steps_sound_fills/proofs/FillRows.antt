@@ -1,5 +1,5 @@
 -- The row behind `memset` stands for the bytes that it sets.
-use Rattle.std.proofs.Common.{◌≡◌, ℕ, zero, suc, ◌+◌, ◌-◌, ◌^◌, ◌<◌, ◌≤◌, Bool, true, false, cond, Some, List, length, arith, subst, sym, refl, ap, ◌∙◌}
+use Rattle.std.proofs.Common.{◌≡◌, ℕ, zero, suc, ◌+◌, ◌-◌, ◌^◌, ◌<◌, ◌≤◌, Bool, true, false, cond, Some, List, length, arith, subst, sym, refl}
 use Rattle.std.specs.Prelude.{slice_get, ℤ, is_some}
 use Rattle.std.proofs.lemmas.Option.{slice_get_within}
 use Rattle.cc_base.specs.Lattices.{LatticeOf, OrderLaws}
@@ -11,14 +11,13 @@ use Rattle.c_layout.specs.declared.shapes.BaseInfo.{BaseInfo}
 use Rattle.c_layout.specs.declared.shapes.ZeroPart.{ZeroPart}
 use Rattle.flow_program.specs.WellFormed.{base_values, base_cells}
 use Rattle.flow_program.specs.declared.programs.Flow.{Flow}
-use Rattle.value_domain.specs.declared.values.Value as values
 use Rattle.value_domain.specs.declared.row_cells.Cell.{Cell}
 use Rattle.value_domain.specs.declared.row_cells.Cell.TheVariants.{First}
 use Rattle.store_domain.specs.ClassNumbers.{class_at}
 use Rattle.store_domain.specs.FirstZeroWrites.{zero_target}
 use Rattle.store_domain.specs.LeafSelection.{is_overlapped, has_stray}
 use Rattle.store_domain.specs.LiveBases.{has_base, is_one_instance}
-use Rattle.store_domain.specs.RowPositions.{leaf_position, class_position, zero_position, state_position, cell_at, value_at, zero_at, state_at, join_value}
+use Rattle.store_domain.specs.RowPositions.{leaf_position, class_position, zero_position, state_position, value_at, zero_at, state_at}
 use Rattle.store_domain.specs.Walks.{walk, turns}
 use Rattle.abstract_steps_library.specs.FillWrites.{is_covered, covered_value, fill_leaf, fill_leaf_of, fill_leaves, clears_instance, class_value, fill_stray, fill_class, fill_classes, fill_class_cells, fill_heap_part, zero_met, fill_zero, fill_zeros, fill_base, fill_base_if, write_fill}
 use Rattle.abstract_steps_library.specs.declared.fill_writes.FillWrite.{FillWrite}
@@ -28,13 +27,13 @@ use Rattle.store_domain_meaning.specs.SoundMemory.{IsMemoryOf}
 use Rattle.store_domain_meaning.specs.ValueMeaning.{Naming, StandsZero, StandsState}
 use Rattle.store_domain_meaning.specs.RowMeaning.{MachineState, array_bytes, IsLiveOf, StandsLeaf, StandsClass, StandsFor}
 use Rattle.store_domain_sound.specs.Shapes.{IsShaped, IsLaidOut}
-use Rattle.store_domain_sound.proofs.Only.{Only, only_leaves, only_more, only_same, only_put, only_cond, only_if, only_then}
+use Rattle.store_domain_sound.proofs.Only.{Only, only_more, only_same, only_put, only_cond, only_if, only_then}
 use Rattle.store_domain_sound.proofs.StoreRows.{Fits, leaf_is, class_is, zero_is, join_only}
 use Rattle.store_domain_sound.proofs.StoreValues.{same_value}
 use Rattle.store_domain_sound_regions.specs.RegionWrites.{IsRegion, WritesWithin, StandsBase}
 use Rattle.store_domain_sound_regions.proofs.BaseRows.{writes_stand, writes_long}
 use Rattle.store_domain_sound_regions.proofs.ByteRegions.{write_only}
-use Rattle.store_domain_sound_regions.proofs.Layers.{only_turns, value_turn, zero_turn, leaves_within, leaf_turn, zeros_within, part_turn, classes_within, class_turn, class_spared, layers_within, layers_stand}
+use Rattle.store_domain_sound_regions.proofs.Layers.{value_turn, zero_turn, leaves_within, leaf_turn, zeros_within, part_turn, classes_within, class_turn, class_spared, layers_within, layers_stand}
 use Rattle.abstract_steps_sound_fills.proofs.FillCells.{IsFill, leaf_filled, class_joined, char_filled}
 use Rattle.abstract_steps_sound_fills.proofs.FillZeros.{zero_filled}
 

@@ -1,6 +1,6 @@
 -- Steps on calls of `memset` are sound.
-use Rattle.std.proofs.Common.{◌≡◌, ℕ, true, ◌&&◌, Option, Some, List, [], ◌∷◌, sym, refl, subst, ap, ◌∙◌}
-use Rattle.std.specs.Prelude.{slice_get, ℤ}
+use Rattle.std.proofs.Common.{◌≡◌, ℕ, true, ◌&&◌, Option, Some, List, [], ◌∷◌, refl}
+use Rattle.std.specs.Prelude.{ℤ}
 use Rattle.std.specs.List.{list_all}
 use Rattle.std.proofs.lemmas.Bool.{and_parts}
 use Rattle.cc_base.specs.Lattices.{LatticeOf, OrderLaws}
@@ -25,7 +25,7 @@ use Rattle.store_domain_sound_programs.specs.Premises.{HasPremises}
 use Rattle.abstract_steps_sound.specs.SoundSteps.{IsReached, StepIsSound}
 use Rattle.abstract_steps_sound.proofs.Replies.{if_some_good}
 use Rattle.abstract_steps_sound_calls.proofs.Calls.{clean}
-use Rattle.abstract_steps_sound_fills.specs.FillCalls.{HasThirdSize, TakesSize, HasSizes, SetsBytes, IsFillCall}
+use Rattle.abstract_steps_sound_fills.specs.FillCalls.{TakesSize, HasSizes, SetsBytes, IsFillCall}
 use Rattle.abstract_steps_sound_fills.proofs.WriteCalls.{Good, plain_stop, three_sized}
 use Rattle.abstract_steps_sound_fills.proofs.FillCalls.{fill_call_good}
 

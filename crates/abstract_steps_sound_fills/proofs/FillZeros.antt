@@ -1,9 +1,8 @@
 -- What `memset` makes of the first zeros stands for the bytes that it sets.
-use Rattle.std.proofs.Common.{◌≡◌, ℕ, ◌+◌, ◌-◌, ◌^◌, ◌<◌, ◌≤◌, Bool, true, false, cond, ◌&&◌, ◌||◌, ◌==◌, Option, Some, None, List, length, arith, subst, sym, refl, ap, ◌∙◌, inl, inr}
-use Rattle.std.specs.Prelude.{slice_get, set, ℤ, pos, ◌≤ℤ◌, int_le, is_some}
+use Rattle.std.proofs.Common.{◌≡◌, ℕ, ◌+◌, ◌-◌, ◌^◌, ◌<◌, ◌≤◌, Bool, true, false, cond, ◌&&◌, ◌||◌, Option, Some, None, List, length, arith, subst, sym, refl, ap, ◌∙◌, inl, inr}
+use Rattle.std.specs.Prelude.{set, ℤ, pos, ◌≤ℤ◌, int_le, is_some}
 use Rattle.std.proofs.lemmas.Int.{ints}
-use Rattle.std.proofs.lemmas.Bool.{cases_Bool, cases_eq, cases_lt, and_parts, eqb-true, true≢false}
-use Rattle.std.proofs.lemmas.List.{length-set}
+use Rattle.std.proofs.lemmas.Bool.{cases_eq, and_parts}
 use Rattle.std.proofs.lemmas.Option.{slice_get_within}
 use Rattle.cc_base.specs.Lattices.{LatticeOf, OrderLaws}
 use Rattle.cc_base.specs.IntegerDomains.{IntegersOf, BoundLaws, IsNear}
@@ -13,11 +12,10 @@ use Rattle.c_layout.specs.declared.shapes.ZeroPart.{ZeroPart}
 use Rattle.flow_program.specs.declared.programs.Flow.{Flow}
 use Rattle.string_domain.specs.declared.first_zeros.FirstZero.{FirstZero}
 use Rattle.value_domain.specs.declared.row_cells.Cell.{Cell}
-use Rattle.store_domain.specs.declared.access_windows.Window.{Window}
 use Rattle.store_domain.specs.declared.first_zero_writes.ZeroTarget.{ZeroTarget}
 use Rattle.store_domain.specs.AccessWindows.{window_is_one}
 use Rattle.store_domain.specs.FirstZeroWrites.{zero_target, any_zero, put_at}
-use Rattle.store_domain.specs.RowPositions.{zero_position, zero_at, put_zero}
+use Rattle.store_domain.specs.RowPositions.{zero_position, zero_at}
 use Rattle.abstract_steps_library.specs.FillWrites.{is_up_to, zero_inside, zero_met_at, zero_met, fill_zero_at, fill_zero}
 use Rattle.abstract_steps_library.specs.TextWrites.{is_whole, lies_in_array}
 use Rattle.abstract_steps_library.specs.declared.fill_writes.FillWrite.{FillWrite}

@@ -1,36 +1,33 @@
 -- Where a library call writes through a pointer: its room, the pointers that go on, and the offsets that it touches.
-use Rattle.std.proofs.Common.{◌≡◌, ℕ, ◌+◌, ◌-◌, ◌^◌, ◌<◌, ◌≤◌, Bool, true, false, cond, not, ◌&&◌, ◌||◌, ◌==◌, Option, Some, None, List, length, arith, subst, sym, refl, ap, ◌∙◌, inl, inr}
-use Rattle.std.specs.Prelude.{slice_get, ℤ, pos, negsuc, ◌-ℤ◌, ◌+ℤ◌, ◌≤ℤ◌, ◌<ℤ◌, is_some, is_none, int_le, int_lt, nat_lt, unsigned_abs}
+use Rattle.std.proofs.Common.{◌≡◌, ℕ, ◌+◌, ◌-◌, ◌^◌, ◌<◌, ◌≤◌, Bool, true, false, cond, not, ◌||◌, ◌==◌, Some, None, List, length, arith, subst, sym, refl, ap, ◌∙◌, inl, inr}
+use Rattle.std.specs.Prelude.{slice_get, ℤ, pos, negsuc, ◌-ℤ◌, ◌+ℤ◌, ◌≤ℤ◌, ◌<ℤ◌, is_none, int_le, int_lt, nat_lt, unsigned_abs}
 use Rattle.std.specs.Int.{int_min, int_max, saturate_signed, w128}
 use Rattle.std.proofs.lemmas.Int.{ints, clamps}
-use Rattle.std.proofs.lemmas.Bool.{cases_Bool, and_parts, and_from, or_right, lt-ltb, ltb-true, eqb-true, true≢false}
+use Rattle.std.proofs.lemmas.Bool.{cases_Bool, and_parts, and_from, or_right, lt-ltb, ltb-true, eqb-true}
 use Rattle.std.proofs.lemmas.Option.{same_Some, slice_get_within}
 use Rattle.cc_base.specs.Lattices.{LatticeOf, OrderLaws}
 use Rattle.cc_base.specs.IntegerDomains.{IntegersOf, BoundLaws}
-use Rattle.cc_base.specs.NumberRanges.{Range, range_between, range_met, range_difference, range_clamped, upper_or}
+use Rattle.cc_base.specs.NumberRanges.{Range, range_met, range_difference, range_clamped, upper_or}
 use Rattle.c_layout.specs.declared.shapes.BaseInfo.{BaseInfo}
 use Rattle.c_layout.specs.declared.shapes.BaseKind.{BaseKind}
 use Rattle.c_layout.specs.declared.shapes.BaseKind.TheVariants.{Static, Automatic, Literal, Newest, Older}
 use Rattle.flow_program.specs.declared.programs.Flow.{Flow}
-use Rattle.pointer_domain.specs.BaseSets.{bases_has, bases_empty, bases_count, bases_within, no_base}
+use Rattle.pointer_domain.specs.BaseSets.{bases_has, bases_count, bases_within, no_base}
 use Rattle.pointer_domain.specs.PointerTables.{the_end, offsets, rooms}
 use Rattle.pointer_domain.specs.declared.base_sets.Bases.{Bases}
 use Rattle.pointer_domain.specs.declared.pointer_sets.Pointers.{Pointers}
-use Rattle.value_domain.specs.declared.row_cells.Cell.{Cell}
 use Rattle.value_domain_laws.proofs.Numbers.{RangeHas, difference_has, upper_above, bounds_have}
 use Rattle.value_domain_laws.proofs.Numbers as numbers
 use Rattle.store_domain.specs.declared.access_windows.Window.{Window}
-use Rattle.store_domain.specs.AccessWindows.{last_offset, window_between, window_of_range, window_within}
+use Rattle.store_domain.specs.AccessWindows.{last_offset, window_between, window_within}
 use Rattle.store_domain.specs.LiveBases.{most_bases, has_base, is_literal_kind, is_writable_in, add_writable, writable_of, single_bases, is_one_instance}
-use Rattle.store_domain.specs.Walks.{walk}
-use Rattle.abstract_steps_checks.specs.LibraryArguments.{is_above_room, cut_by, may_be_none, writes_literal, kept_after, after_write, sum_of, difference_of, last_touched, touched_between, touched_from, within_bases, passes_room, cut_by_room, end_of, touched_window}
+use Rattle.abstract_steps_checks.specs.LibraryArguments.{is_above_room, cut_by, may_be_none, writes_literal, kept_after, after_write, difference_of, last_touched, touched_from, within_bases, passes_room, cut_by_room, end_of, touched_window}
 use Rattle.abstract_steps_library.specs.MemoryCalls.{last_sure, sure_between, sure_window, lower_of, is_one_byte}
 use Rattle.abstract_steps_checks.specs.Touches.{is_nowhere, is_literal_or, any_literal}
-use Rattle.lib_models_memory.specs.Instances.{Memory, live, bytes_at, life_at}
+use Rattle.lib_models_memory.specs.Instances.{Memory, live, life_at}
 use Rattle.lib_models_effects.specs.Touches.{storage_of, storage_at, is_literal}
 use Rattle.store_domain_meaning.specs.SoundMemory.{storage_for, IsInstanceOf, IsMemoryOf, IsWithin}
 use Rattle.store_domain_meaning.specs.ValueMeaning.{Naming, StandsInto}
-use Rattle.store_domain_meaning.specs.RowMeaning.{MachineState, StandsFor}
 use Rattle.store_domain_sound.specs.Shapes.{AreShaped}
 use Rattle.store_domain_sound.proofs.LoadSound.{instance_there}
 use Rattle.store_domain_sound.proofs.OneBases.{one_base}

@@ -1,7 +1,7 @@
 -- How calls that write go on and stop.
-use Rattle.std.proofs.Common.{◌≡◌, ℕ, zero, suc, ◌+◌, ◌-◌, ◌<◌, ◌≤◌, Bool, true, false, cond, not, ◌&&◌, Option, Some, None, List, [], ◌∷◌, length, arith, subst, sym, refl, ap, ◌∙◌, inl, inr}
-use Rattle.std.specs.Prelude.{slice_get, ℤ, pos, ◌≤ℤ◌, nat_lt}
-use Rattle.std.proofs.lemmas.Bool.{cases_Bool, ltb-true, ltb-false}
+use Rattle.std.proofs.Common.{◌≡◌, ℕ, zero, suc, Bool, true, false, cond, not, Option, Some, None, List, [], ◌∷◌, length, arith, subst, sym, refl, ap, ◌∙◌}
+use Rattle.std.specs.Prelude.{slice_get, ℤ, pos, ◌≤ℤ◌}
+use Rattle.std.proofs.lemmas.Bool.{ltb-true}
 use Rattle.cc_base.specs.Lattices.{LatticeOf, OrderLaws}
 use Rattle.cc_base.specs.IntegerDomains.{IntegersOf, BoundLaws}
 use Rattle.cc_base.specs.IntegerTypes.{greatest_of}
@@ -11,32 +11,28 @@ use Rattle.c_layout.specs.declared.leaf_lists.Class.TheVariants.{Pointer}
 use Rattle.flow_program.specs.WellFormed.{names_of, has_result}
 use Rattle.flow_program.specs.declared.programs.Flow.{Flow}
 use Rattle.pointer_domain.specs.BaseSets.{bases_empty}
-use Rattle.pointer_domain.specs.declared.pointer_sets.Pointers.{Pointers}
 use Rattle.value_domain.specs.LabelSets.{labels_leq}
 use Rattle.value_domain.specs.declared.label_sets.Labels as sets
 use Rattle.value_domain.specs.declared.values.Value.{Value}
 use Rattle.value_domain.specs.declared.row_cells.Cell.{Cell}
 use Rattle.store_domain.specs.ScalarTypes.{kind_of}
 use Rattle.abstract_steps_checks.specs.IntegerChecks.{sink_violations}
-use Rattle.abstract_steps_checks.specs.ViolationSets.{no_violations, violates}
+use Rattle.abstract_steps_checks.specs.ViolationSets.{violates}
 use Rattle.abstract_steps_checks.specs.declared.library_arguments.Argument.{Argument}
 use Rattle.abstract_steps_checks.specs.declared.violation_sets.Violations.{Violations}
 use Rattle.abstract_steps_library.specs.Arguments.{argument_value, value_of_argument}
 use Rattle.abstract_steps_library.specs.Calls.{Call}
 use Rattle.abstract_steps_library.specs.Effects.{put_result, apply}
 use Rattle.abstract_steps_library.specs.Outputs.{argument_at}
-use Rattle.abstract_steps_library.specs.Plans.{planned}
-use Rattle.abstract_steps_library.specs.declared.call_plans.Effect.{Effect}
 use Rattle.abstract_steps_library.specs.declared.call_plans.Plan.{Plan}
-use Rattle.abstract_steps_library.specs.declared.call_plans.Trail.{Trail}
 use Rattle.abstract_steps_instructions.specs.CallSteps.{call_of}
 use Rattle.lib_models_memory.specs.Labels.{Labels, is_unlabelled}
 use Rattle.lib_models_memory.specs.Bytes.{MachinePointer, into}
-use Rattle.lib_models_memory.specs.Instances.{Memory, live, ended, freed, bytes_at, life_at}
+use Rattle.lib_models_memory.specs.Instances.{Memory, live, bytes_at, life_at}
 use Rattle.lib_models_memory.specs.Scalars.{Scalar, integer, pointer}
 use Rattle.lib_models_effects.specs.LibraryChecks as machine
 use Rattle.lib_models_effects.specs.NumberedTables.{put_at}
-use Rattle.lib_models_effects.specs.Worlds.{World, Why, Reply, goes, stops, behind, stopped_by, unless, Left, Stuck, Violated}
+use Rattle.lib_models_effects.specs.Worlds.{World, Why, Reply, goes, stops, behind, stopped_by, Stuck, Violated}
 use Rattle.flow_program_machine.specs.FlowStates.{Standing, and_value, values_of}
 use Rattle.flow_program_machine.specs.FlowActs.{calling}
 use Rattle.store_domain_meaning.specs.SeenLabels.{as_set}
@@ -45,13 +41,12 @@ use Rattle.store_domain_meaning.specs.ValueMeaning.{Naming, StandsInto, StandsPo
 use Rattle.store_domain_meaning.specs.RowMeaning.{StandsFor}
 use Rattle.store_domain_meaning.specs.Coverage.{state_of}
 use Rattle.store_domain_sound_programs.specs.Premises.{HasPremises}
-use Rattle.store_domain_sound_regions.specs.RegionWrites.{IsRegion}
 use Rattle.abstract_steps_sound_fills.specs.FillCalls.{HasThirdSize}
 use Rattle.abstract_steps_sound.specs.SoundSteps.{AreShort, IsReached, StandsBehind, IsStoodFor}
-use Rattle.abstract_steps_sound.proofs.Admitted.{AreAdmitted, none_admitted, one_admitted, both_admitted, same_admitted}
+use Rattle.abstract_steps_sound.proofs.Admitted.{AreAdmitted, none_admitted, one_admitted, both_admitted}
 use Rattle.abstract_steps_sound.proofs.PutTemps.{IsResult, put_stands, put_long}
 use Rattle.abstract_steps_sound.proofs.Replies.{stop_good}
-use Rattle.abstract_steps_sound_calls.proofs.Calls.{clean, GoodPlan, plan_stops, plan_is}
+use Rattle.abstract_steps_sound_calls.proofs.Calls.{clean, GoodPlan, plan_stops}
 use Rattle.abstract_steps_sound_strings.proofs.GivenPointers.{ReachEnd, into_live, into_nothing, into_ended, into_freed, reach_end, reach_of, null_told, ended_told, freed_told, given_stands, given_some}
 
 -- ---- arguments

@@ -287,6 +287,7 @@ module _ {I : Type 0} {l : LatticeOf I} {n : IntegersOf I} {stands : I → ℤ �
 
   pub record IsScan (found : Scanned I) : Type 0 where
     pub ended : (m : ℕ) → found_text ≡ machine.ends m → stands found.length (pos m)
+    pub own : (m : ℕ) → found_text ≡ machine.ends m → has_base found.bases st.base ≡ true
     pub based : (m : ℕ) → found_text ≡ machine.ends m → not (bases_empty found.bases) ≡ true
     pub open_end : found_text ≡ machine.unended → not (bases_empty found.unknown) ≡ true
 
@@ -304,6 +305,7 @@ module _ {I : Type 0} {l : LatticeOf I} {n : IntegersOf I} {stands : I → ℤ �
             let c = inside.within in
             let d = small_instance in
             near_stands o q _ (pos m) (omega (arith, ints)) (omega (arith, ints)) (q.larger (scan_base l n base.0 row p).length _ (pos m) all.length (one.ended m e));
+        own = λ m e. let g = q.inside (scan_base l n base.0 row p).length (pos m) (one.ended m e) in all.base (ap is_some g.2);
         based = λ m e. let g = q.inside (scan_base l n base.0 row p).length (pos m) (one.ended m e) in ap not (some_base _ st.base (all.base (ap is_some g.2)));
         open_end = λ e. ap not (some_base _ st.base (all.unknown (one.open_end e)));
       }

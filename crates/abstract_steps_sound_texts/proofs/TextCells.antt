@@ -1,30 +1,25 @@
 -- What a text that is written makes of each cell stands for the bytes of the text.
-use Rattle.std.proofs.Common.{◌≡◌, ℕ, zero, suc, ◌+◌, ◌-◌, ◌^◌, ◌<◌, ◌≤◌, Bool, true, false, cond, Option, Some, None, List, [], ◌∷◌, length, arith, subst, sym, refl, ap, ◌∙◌, inl, inr}
-use Rattle.std.specs.Prelude.{slice_get, ℤ, pos}
-use Rattle.std.proofs.lemmas.Int.{ints}
-use Rattle.std.proofs.lemmas.Bool.{cases_Bool}
+use Rattle.std.proofs.Common.{◌≡◌, ℕ, ◌+◌, ◌<◌, ◌≤◌, Bool, true, false, cond, Some, List, [], ◌∷◌, length, arith, subst, sym, refl, ap}
+use Rattle.std.specs.Prelude.{slice_get, ℤ}
 use Rattle.std.proofs.lemmas.Option.{slice_get_within}
 use Rattle.cc_base.specs.Lattices.{LatticeOf, OrderLaws}
 use Rattle.cc_base.specs.IntegerDomains.{IntegersOf, BoundLaws}
 use Rattle.c_layout.specs.declared.leaf_lists.Class.{Class}
 use Rattle.c_layout.specs.declared.leaf_lists.Class.TheVariants.{Char, Short, Int, Long, LongLong, Pointer}
 use Rattle.c_layout.specs.declared.leaf_lists.Leaf.{Leaf}
-use Rattle.c_layout.specs.declared.data_model.Model.{Model}
 use Rattle.c_layout.specs.declared.shapes.BaseInfo.{BaseInfo}
 use Rattle.flow_program.specs.declared.programs.Flow.{Flow}
-use Rattle.value_domain.specs.LabelSets.{labels_leq}
 use Rattle.value_domain.specs.Values.{value_lattice, value_order}
 use Rattle.value_domain.specs.declared.values.Value as values
 use Rattle.value_domain.specs.declared.row_cells.Cell.{Cell}
 use Rattle.store_domain.specs.ByteWrites.{byte_written}
-use Rattle.store_domain.specs.ClassNumbers.{same_class, is_pointer, class_at}
+use Rattle.store_domain.specs.ClassNumbers.{is_pointer, class_at}
 use Rattle.store_domain.specs.LeafSelection.{is_overlapped, has_stray}
 use Rattle.store_domain.specs.NearValues.{near_value}
 use Rattle.store_domain.specs.RowPositions.{leaf_position, class_position, value_at, join_value}
 use Rattle.store_domain.specs.ScalarTypes.{kind_of}
 use Rattle.abstract_steps_library.specs.TextWrites.{character_value, value_of_class, leaf_value, write_leaf, write_leaf_of, write_stray, write_class}
 use Rattle.abstract_steps_library.specs.declared.text_writes.TextWrite.{TextWrite}
-use Rattle.lib_models_memory.specs.Labels.{Labels}
 use Rattle.lib_models_memory.specs.ScalarSizes.{class_bytes}
 use Rattle.lib_models_memory.specs.Bytes.{Content, indeterminate, number, part, Byte}
 use Rattle.lib_models_memory.specs.Instances.{Memory, bytes_at, byte_at}
@@ -32,30 +27,21 @@ use Rattle.lib_models_memory.specs.Numbers.{Labelled, number_of}
 use Rattle.lib_models_memory.specs.Scalars.{pointer}
 use Rattle.store_domain_meaning.specs.Matching.{Matched, number_in, Holds}
 use Rattle.store_domain_meaning.specs.Places.{IsPlaceOf, OwnedByLeaf, OwnedByClass, IsClassPlace}
-use Rattle.store_domain_meaning.specs.SeenLabels.{as_set}
 use Rattle.store_domain_meaning.specs.SoundMemory.{IsPointerIn, IsContentIn, IsMemoryOf}
 use Rattle.store_domain_meaning.specs.ValueMeaning.{Naming, StandsContent}
 use Rattle.store_domain_meaning.specs.RowMeaning.{IsLiveOf, StandsCell, StandsLeaf, StandsClass}
 use Rattle.store_domain_sound.specs.Shapes.{IsShaped}
-use Rattle.store_domain_sound.proofs.Classes.{class_above, class_size, same_class_is}
+use Rattle.store_domain_sound.proofs.Classes.{class_size}
 use Rattle.store_domain_sound.proofs.FreshValues.{type_near}
 use Rattle.store_domain_sound.proofs.Larger.{value_below, content_larger}
 use Rattle.store_domain_sound.proofs.Near.{IsNearValue, value_at_near}
-use Rattle.store_domain_sound.proofs.Slices.{get_there}
 use Rattle.store_domain_sound.proofs.StoreValues.{written, join_is}
 use Rattle.store_domain_sound_chars.proofs.ByteValues.{number_within}
 use Rattle.store_domain_sound_regions.specs.RegionWrites.{IsRegion}
 use Rattle.store_domain_sound_regions.proofs.Regions.{cell_rewritten, cell_numbers}
 use Rattle.store_domain_sound_regions.proofs.ByteRegions.{leaf_missed, char_missed}
+use Rattle.abstract_steps_sound_texts.specs.TextWrites.{IsTextWrite}
 use Rattle.abstract_steps_sound.proofs.NearScalars.{near_number_stands, near_scalar_stands}
-
--- what the analysis knows of a text, or of bytes, that were written
-pub record IsTextWrite {I : Type 0} (l : LatticeOf I) (n : IntegersOf I) (stands : I → ℤ → Type 0) (write : TextWrite I) (new : Memory) (i offset size : ℕ) : Type 0 where
-  pub window : (o : ℕ) → offset ≤ o → o < offset + size → (write.window.lo ≤ o) × (o ≤ write.window.hi)
-  pub start : (write.start.lo ≤ offset) × (offset ≤ write.start.hi)
-  pub one_byte : write.one_byte ≡ true → size ≤ 1
-  pub numbers : (a : ℕ) (x : Byte) → offset ≤ a → a < offset + size → byte_at new i a ≡ Some x → (k : ℕ) × (la : Labels) × (x.content ≡ number k la) × (labels_leq (as_set la) write.characters.labels ≡ true)
-  pub characters : (a : ℕ) (y : Labelled) (x : Byte) → offset ≤ a → a < offset + size → byte_at new i a ≡ Some x → x.content ≡ number_in y → (signed : Bool) → stands (character_value l n write.characters signed).num (number_of signed (y ∷ []))
 
 one_list : (ns : List Labelled) → length ns ≡ 1 → (y : Labelled) × (ns ≡ y ∷ [])
 one_list [] e = cc

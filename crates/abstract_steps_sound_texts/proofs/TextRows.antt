@@ -1,5 +1,5 @@
 -- The row behind a text that is written stands for the bytes of the text.
-use Rattle.std.proofs.Common.{◌≡◌, ℕ, zero, suc, ◌+◌, ◌-◌, ◌^◌, ◌<◌, ◌≤◌, Bool, true, false, cond, Some, List, length, arith, subst, sym, refl, ap, ◌∙◌}
+use Rattle.std.proofs.Common.{◌≡◌, ℕ, zero, suc, ◌+◌, ◌-◌, ◌^◌, ◌<◌, ◌≤◌, Bool, true, false, cond, Some, List, length, arith, subst, sym, refl}
 use Rattle.std.specs.Prelude.{slice_get, ℤ, is_some}
 use Rattle.std.proofs.lemmas.Option.{slice_get_within}
 use Rattle.cc_base.specs.Lattices.{LatticeOf, OrderLaws}
@@ -18,13 +18,13 @@ use Rattle.store_domain.specs.ClassNumbers.{class_at}
 use Rattle.store_domain.specs.FirstZeroWrites.{zero_target}
 use Rattle.store_domain.specs.LeafSelection.{is_overlapped, has_stray}
 use Rattle.store_domain.specs.LiveBases.{has_base, is_one_instance}
-use Rattle.store_domain.specs.RowPositions.{leaf_position, class_position, zero_position, state_position, cell_at, value_at, zero_at, state_at, join_value}
+use Rattle.store_domain.specs.RowPositions.{leaf_position, class_position, zero_position, value_at, zero_at}
 use Rattle.store_domain.specs.Walks.{walk, turns}
 use Rattle.abstract_steps_library.specs.TextWrites.{character_value, leaf_value, write_leaf, write_leaf_of, write_leaves, write_stray, write_class, write_class_cells, write_heap_part, zero_met, write_zero, write_zeros, write_base, write_base_if, write_into, write_text}
 use Rattle.abstract_steps_library.specs.declared.text_writes.TextWrite.{TextWrite}
-use Rattle.lib_models_memory.specs.Instances.{Memory, bytes_at, life_at}
+use Rattle.lib_models_memory.specs.Instances.{Memory, bytes_at}
 use Rattle.store_domain_meaning.specs.SoundMemory.{IsMemoryOf}
-use Rattle.store_domain_meaning.specs.ValueMeaning.{Naming, StandsZero, StandsState}
+use Rattle.store_domain_meaning.specs.ValueMeaning.{Naming, StandsZero}
 use Rattle.store_domain_meaning.specs.RowMeaning.{MachineState, array_bytes, IsLiveOf, StandsLeaf, StandsClass, StandsFor}
 use Rattle.store_domain_sound.specs.Shapes.{IsShaped, IsLaidOut}
 use Rattle.store_domain_sound.proofs.Only.{Only, only_more, only_same, only_put, only_cond, only_if, only_then}
@@ -33,7 +33,8 @@ use Rattle.store_domain_sound.proofs.StoreValues.{same_value}
 use Rattle.store_domain_sound_regions.specs.RegionWrites.{IsRegion, WritesWithin, StandsBase}
 use Rattle.store_domain_sound_regions.proofs.BaseRows.{writes_stand, writes_long}
 use Rattle.store_domain_sound_regions.proofs.Layers.{value_turn, zero_turn, leaves_within, leaf_turn, zeros_within, part_turn, classes_within, class_turn, class_spared, layers_within, layers_stand}
-use Rattle.abstract_steps_sound_texts.proofs.TextCells.{IsTextWrite, leaf_written, char_written, class_written}
+use Rattle.abstract_steps_sound_texts.specs.TextWrites.{IsTextWrite}
+use Rattle.abstract_steps_sound_texts.proofs.TextCells.{leaf_written, char_written, class_written}
 use Rattle.abstract_steps_sound_texts.proofs.TextZeros.{IsRuled, zero_written}
 
 cond_hit : {A : Type 0} (b : Bool) (x y : A) → b ≡ true → cond b x y ≡ x

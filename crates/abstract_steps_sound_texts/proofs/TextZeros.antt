@@ -1,6 +1,6 @@
 -- What a text that is written makes of the first zeros stands for the bytes of the text.
-use Rattle.std.proofs.Common.{◌≡◌, ℕ, ◌+◌, ◌-◌, ◌^◌, ◌<◌, ◌≤◌, Bool, true, false, cond, ◌&&◌, ◌||◌, Option, Some, None, List, length, arith, subst, sym, refl, ap, ◌∙◌, inl, inr, ◌⊎◌}
-use Rattle.std.specs.Prelude.{slice_get, ℤ, is_some}
+use Rattle.std.proofs.Common.{◌≡◌, ℕ, ◌+◌, ◌-◌, ◌^◌, ◌<◌, ◌≤◌, Bool, true, false, cond, ◌&&◌, ◌||◌, Option, Some, None, List, length, arith, subst, sym, refl, ◌∙◌, inl, inr, ◌⊎◌}
+use Rattle.std.specs.Prelude.{ℤ, is_some}
 use Rattle.std.proofs.lemmas.Bool.{cases_eq, true≢false}
 use Rattle.cc_base.specs.Lattices.{LatticeOf, OrderLaws}
 use Rattle.cc_base.specs.IntegerDomains.{IntegersOf, BoundLaws, IsNear}
@@ -9,16 +9,13 @@ use Rattle.c_layout.specs.declared.shapes.ZeroPart.{ZeroPart}
 use Rattle.flow_program.specs.declared.programs.Flow.{Flow}
 use Rattle.string_domain.specs.declared.first_zeros.FirstZero.{FirstZero}
 use Rattle.value_domain.specs.declared.row_cells.Cell.{Cell}
-use Rattle.store_domain.specs.declared.access_windows.Window.{Window}
 use Rattle.store_domain.specs.declared.first_zero_writes.ZeroTarget.{ZeroTarget}
 use Rattle.store_domain.specs.FirstZeroWrites.{zero_target, any_zero}
-use Rattle.store_domain.specs.RowPositions.{zero_position, zero_at, put_zero}
+use Rattle.store_domain.specs.RowPositions.{zero_position, zero_at}
 use Rattle.abstract_steps_library.specs.TextWrites.{is_whole, lies_in_array, zero_after, sure_zero, zero_met_at, zero_met, write_zero_at, write_zero}
 use Rattle.abstract_steps_library.specs.declared.text_writes.TextWrite.{TextWrite}
-use Rattle.abstract_steps_library.specs.declared.text_writes.ZeroRule.{ZeroRule}
-use Rattle.abstract_steps_library.specs.declared.text_writes.ZeroRule.TheVariants.{Text, Append, Any}
-use Rattle.lib_models_memory.specs.Instances.{Memory, bytes_at, byte_at}
-use Rattle.store_domain_meaning.specs.FirstZeroBytes.{first_zero, zero_offset}
+use Rattle.abstract_steps_library.specs.declared.text_writes.ZeroRule.TheVariants.{Any}
+use Rattle.lib_models_memory.specs.Instances.{Memory, bytes_at}
 use Rattle.store_domain_meaning.specs.SoundMemory.{IsMemoryOf}
 use Rattle.store_domain_meaning.specs.ValueMeaning.{Naming, StandsZero}
 use Rattle.store_domain_meaning.specs.RowMeaning.{IsLiveOf, array_bytes}
@@ -26,7 +23,7 @@ use Rattle.store_domain_sound.proofs.Texts.{zero_near}
 use Rattle.store_domain_sound_chars.proofs.ByteArrays.{IsIn, in_or_not, target_is, target_there, whole_in}
 use Rattle.store_domain_sound_regions.specs.RegionWrites.{IsRegion}
 use Rattle.store_domain_sound_regions.proofs.RegionArrays.{array_short, array_apart, put_zero_stands, any_zero_stands}
-use Rattle.abstract_steps_sound_texts.proofs.TextCells.{IsTextWrite}
+use Rattle.abstract_steps_sound_texts.specs.TextWrites.{IsTextWrite}
 
 not_both : (a b : Bool) → (a ≡ true → b ≡ true → ⊥) → (a && b) ≡ false
 not_both true true n = absurd (n refl refl)

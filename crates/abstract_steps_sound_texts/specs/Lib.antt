@@ -1,1 +1,2 @@
+pub mod TextWrites
 pub mod TextCalls

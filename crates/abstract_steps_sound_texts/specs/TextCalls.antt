@@ -1,4 +1,4 @@
--- When the analysis's step on calls that write texts is sound.
+-- When the analysis's step on calls that copy a text is sound.
 use Rattle.std.specs.Prelude.{ℤ}
 use Rattle.cc_base.specs.Lattices.{LatticeOf}
 use Rattle.cc_base.specs.IntegerDomains.{IntegersOf}

@@ -1,27 +1,24 @@
 -- Rows that are written base by base.
-use Rattle.std.proofs.Common.{◌≡◌, ℕ, zero, suc, ◌+◌, ◌-◌, ◌^◌, ◌<◌, ◌≤◌, Bool, true, false, cond, Some, List, [], ◌∷◌, length, arith, subst, sym, refl, ap, ◌∙◌, inl, inr}
+use Rattle.std.proofs.Common.{◌≡◌, ℕ, zero, suc, ◌+◌, ◌<◌, ◌≤◌, Bool, true, false, cond, Some, List, [], ◌∷◌, length, arith, subst, sym, refl, ap, ◌∙◌, inl, inr}
 use Rattle.std.specs.Prelude.{slice_get, ℤ}
 use Rattle.std.proofs.lemmas.Bool.{cases_Bool, true≢false}
 use Rattle.std.proofs.lemmas.Option.{slice_get_within}
 use Rattle.cc_base.specs.Lattices.{LatticeOf, OrderLaws}
 use Rattle.cc_base.specs.IntegerDomains.{IntegersOf, BoundLaws}
-use Rattle.c_layout.specs.declared.leaf_lists.Leaf.{Leaf}
 use Rattle.c_layout.specs.declared.shapes.BaseInfo.{BaseInfo}
-use Rattle.c_layout.specs.declared.shapes.ZeroPart.{ZeroPart}
-use Rattle.flow_program.specs.WellFormed.{base_values, base_cells}
+use Rattle.flow_program.specs.WellFormed.{base_values}
 use Rattle.flow_program.specs.declared.programs.Flow.{Flow}
 use Rattle.pointer_domain.specs.declared.base_sets.Bases.{Bases}
 use Rattle.value_domain.specs.declared.row_cells.Cell.{Cell}
 use Rattle.store_domain.specs.ClassNumbers.{class_at}
 use Rattle.store_domain.specs.LiveBases.{has_base}
-use Rattle.store_domain.specs.RowPositions.{leaf_position, class_position, zero_position, state_position, cell_at, value_at, zero_at, state_at}
+use Rattle.store_domain.specs.RowPositions.{leaf_position, class_position, zero_position, state_position, cell_at, zero_at, state_at}
 use Rattle.store_domain.specs.Walks.{walk}
 use Rattle.abstract_steps_checks.specs.Temporaries.{temp_position, temp_value}
 use Rattle.lib_models_memory.specs.Instances.{Memory, Life, live, ended, freed, bytes_at, byte_at, life_at}
-use Rattle.lib_models_memory.specs.Scalars.{Scalar, pointer}
-use Rattle.store_domain_meaning.specs.SoundMemory.{IsMemoryOf, IsNamed}
+use Rattle.store_domain_meaning.specs.SoundMemory.{IsMemoryOf}
 use Rattle.store_domain_meaning.specs.ValueMeaning.{Naming, StandsScalar, StandsZero, StandsState}
-use Rattle.store_domain_meaning.specs.RowMeaning.{MachineState, array_bytes, IsLiveOf, StandsLeaf, StandsClass, StandsFor}
+use Rattle.store_domain_meaning.specs.RowMeaning.{MachineState, array_bytes, StandsLeaf, StandsClass, StandsFor}
 use Rattle.store_domain_sound.specs.Shapes.{IsLaidOut}
 use Rattle.store_domain_sound.proofs.Frames.{live_moves, scalar_in_moves, scalar_moves}
 use Rattle.store_domain_sound.proofs.StoreRows.{Fits, leaf_is, class_is, zero_is}

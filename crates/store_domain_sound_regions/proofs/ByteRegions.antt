@@ -1,11 +1,10 @@
 -- Cells that a window of bytes does not meet, and values that are written.
-use Rattle.std.proofs.Common.{◌≡◌, ℕ, ◌+◌, ◌-◌, ◌<◌, ◌≤◌, Bool, true, false, cond, Some, List, length, arith, subst, sym, refl, ap, ◌∙◌}
-use Rattle.std.specs.Prelude.{slice_get, set, ℤ, max, count_by}
+use Rattle.std.proofs.Common.{◌≡◌, ℕ, ◌+◌, ◌-◌, ◌<◌, ◌≤◌, Bool, true, false, List, length, arith, sym, refl, ap, ◌∙◌}
+use Rattle.std.specs.Prelude.{set, ℤ, max, count_by}
 use Rattle.std.proofs.lemmas.Bool.{true≢false}
 use Rattle.cc_base.specs.Lattices.{LatticeOf, OrderLaws}
 use Rattle.cc_base.specs.IntegerDomains.{IntegersOf, BoundLaws}
 use Rattle.c_layout.specs.declared.data_model.Model.{Model}
-use Rattle.c_layout.specs.declared.leaf_lists.Class.{Class}
 use Rattle.c_layout.specs.declared.leaf_lists.Class.TheVariants.{Char}
 use Rattle.c_layout.specs.declared.leaf_lists.Leaf.{Leaf}
 use Rattle.c_layout.specs.declared.shapes.BaseInfo.{BaseInfo}
@@ -20,13 +19,13 @@ use Rattle.store_domain.specs.LeafSelection.{is_overlapped, has_stray}
 use Rattle.store_domain.specs.NearValues.{near_value}
 use Rattle.store_domain.specs.RowPositions.{value_at, value_in, join_value, write_value}
 use Rattle.lib_models_memory.specs.ScalarSizes.{class_bytes}
-use Rattle.lib_models_memory.specs.Instances.{Memory, bytes_at}
+use Rattle.lib_models_memory.specs.Instances.{Memory}
 use Rattle.store_domain_meaning.specs.Places.{IsPlaceOf, OwnedByLeaf, OwnedByClass, IsClassPlace, IsLeafPlace}
 use Rattle.store_domain_meaning.specs.ValueMeaning.{Naming}
-use Rattle.store_domain_meaning.specs.RowMeaning.{IsLiveOf, StandsLeaf, StandsClass}
+use Rattle.store_domain_meaning.specs.RowMeaning.{StandsLeaf, StandsClass}
 use Rattle.store_domain_sound.specs.Shapes.{IsShaped, at_offset}
 use Rattle.store_domain_sound.proofs.Classes.{class_above}
-use Rattle.store_domain_sound.proofs.Only.{Only, only_put, only_cond, cell_put}
+use Rattle.store_domain_sound.proofs.Only.{Only, only_put, cell_put}
 use Rattle.store_domain_sound.proofs.Selected.{place_selected, is_stray, counted_place}
 use Rattle.store_domain_sound.proofs.StoreLeaves.{zero_count}
 use Rattle.store_domain_sound.proofs.StoreValues.{written}

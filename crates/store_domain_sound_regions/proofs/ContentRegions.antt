@@ -1,8 +1,7 @@
 -- Contents that are written under the tags that are there.
-use Rattle.std.proofs.Common.{◌≡◌, ℕ, zero, suc, ◌+◌, ◌-◌, ◌<◌, ◌≤◌, Some, List, [], ◌∷◌, length, take, drop, arith, subst, sym, refl, ap, ◌∙◌, inl, inr}
+use Rattle.std.proofs.Common.{◌≡◌, ℕ, zero, suc, ◌+◌, ◌-◌, ◌<◌, ◌≤◌, Some, List, [], ◌∷◌, length, drop, arith, subst, sym, refl, ap, ◌∙◌, inl, inr}
 use Rattle.std.specs.Prelude.{slice_get, set}
 use Rattle.std.proofs.lemmas.Bool.{cases_eq, cases_lt}
-use Rattle.std.proofs.lemmas.List.{length-drop}
 use Rattle.std.proofs.lemmas.Option.{same_Some, slice_get_within}
 use Rattle.c_layout.specs.declared.data_model.Model.{Model}
 use Rattle.c_layout.specs.declared.shapes.BaseInfo.{BaseInfo}
@@ -74,8 +73,7 @@ module _ (old : Memory) (i offset : ℕ) (cs : List Content) (it : Instance) (at
   own_byte k c e =
       let far = long in
       let small = slice_get_within cs k c e in
-      let b = get_there it.bytes (offset + k) (omega (arith, far, small)) in
-      (
+      let b = get_there it.bytes (offset + k) (omega (arith, far, small)) in (
         b.0,
         ap (λ x. slice_get (bytes_of x) (offset + k)) at ∙ b.1,
         ap (λ x. slice_get (bytes_of x) (offset + k)) new_is ∙ (back_at offset it.bytes (filled (drop offset it.bytes) cs) (offset + k) k (omega (arith, far)) refl ∙ filled_in (drop offset it.bytes) cs k b.0 c (get_drop offset it.bytes k (offset + k) refl ∙ b.1) e),
