@@ -1,1 +1,5 @@
 pub mod Stacks
+pub mod Plain
+pub mod Entries
+pub mod Unknown
+pub mod Conditions

@@ -2,4 +2,5 @@ pub mod TestViews
 pub mod ReadViews
 pub mod ItemViews
 pub mod Standings
+pub mod Scans
 pub mod Jumps

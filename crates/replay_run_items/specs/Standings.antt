@@ -49,20 +49,24 @@ abbrev pub unless_used : Bool → Standing → Standing
 unless_used true s = s
 unless_used false s = with_item item.Drop s
 
+-- other items that follow where a condition holds and where it does not
+abbrev pub ways : List Item → List Item → Standing → Standing
+ways holding failing s = record { items = s.items; yes = holding; no = failing; objects = [] }
+
 -- items that follow where a condition holds; what followed so far follows where it does not
 abbrev pub following : List Item → Standing → Standing
-following items s = record s { yes = items; no = s.yes }
+following items s = ways items s.yes s
 
 abbrev pub picked : UnitView → FormTree → Standing → Standing
-picked u (tree.Conditional c a b) s = record s { yes = condition u false a s.yes s.no; no = condition u false b s.yes s.no }
-picked u _ s = s
+picked u (tree.Conditional c a b) s = ways (condition u false a s.yes s.no) (condition u false b s.yes s.no) s
+picked u _ s = ways s.yes s.no s
 
 abbrev pub on_term : UnitView → Use7 → TermTree → Standing → Standing
 on_term u use_of.Value e s = with_item (item.Value e) s
 on_term u use_of.Unused e s = with_item (item.Unused e) s
 on_term u (use_of.Choose is_test) e s = with_item (item.Choose (term_at e) (test_if u is_test e) (items_of s.yes) (items_of s.no)) s
-on_term u (use_of.AndThen is_test) e s = record s { yes = condition u is_test e s.yes s.no }
-on_term u (use_of.OrElse is_test) e s = record s { no = condition u is_test e s.yes s.no }
+on_term u (use_of.AndThen is_test) e s = ways (condition u is_test e s.yes s.no) s.no s
+on_term u (use_of.OrElse is_test) e s = ways s.yes (condition u is_test e s.yes s.no) s
 on_term u use_of.Pick e s = picked u (term_form e) s
 on_term u (use_of.After arm) e s = following (arm_items arm e) s
 
@@ -100,7 +104,7 @@ on_item u (held.Stores at local stores) s = with_items (all_stored at local (map
 on_item u (held.ReadLine at wants_line) s = on_line at wants_line s
 on_item u held.AfterNothing s = following [] s
 on_item u (held.AfterTruth holds) s = following (truth_of holds) s
-on_item u held.Negated s = record s { yes = s.no; no = s.yes }
+on_item u held.Negated s = ways s.no s.yes s
 on_item u (held.Statement how x) s = on_statement how (statement_tree x.now) s
 on_item u (held.Statements xs) s = with_items (list_statements (map statement_tree xs.now)) s
 on_item u held.TurnEnd s = with_item item.TurnEnd s
@@ -134,3 +138,7 @@ standing u items = newest_first u (reverse items)
 -- the stack is another one, unless memory ran out
 abbrev pub Stacks : {E : Type 0} → UnitView → (Standing → Standing) → List Item7 → Result (Unit {0}) E → List Item7 → Type 0
 Stacks u becomes old result new = IfOk result (λ _. standing u new ≡ becomes (standing u old))
+
+-- so many items more stand first, unless memory ran out
+abbrev pub Adds : {E : Type 0} → UnitView → List Item → List Item7 → Result (Unit {0}) E → List Item7 → Type 0
+Adds u more old result new = IfOk result (λ _. (standing u new).items ≡ more ++ (standing u old).items)

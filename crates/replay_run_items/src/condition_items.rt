@@ -60,7 +60,6 @@ fn push_logical<'a>(
         LogicalOp::And => push_item(control, Item7::Term(Use7::AndThen(is_test), right)),
         LogicalOp::Or => push_item(control, Item7::Term(Use7::OrElse(is_test), right)),
     }
-    Ok(())
 }
 
 /// The items of a condition, which lead to the targets that are pushed already.

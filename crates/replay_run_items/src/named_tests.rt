@@ -3,7 +3,7 @@ ghost use Rattle.std.specs.Prelude.{◌≡◌, Some};
 ghost use Rattle.c_layout.specs.CheckedUnits.{UnitView};
 ghost use Rattle.std.specs.Option.{option_map};
 ghost use Rattle.c_layout.specs.CheckedTrees.{term_tree, lvalue_tree};
-ghost use Rattle.flow_lower_tasks.specs.TermKinds.{seen_lvalue};
+ghost use Rattle.flow_lower_tasks.specs.TermKinds.{meaning, seen_lvalue};
 ghost use Rattle.flow_lower_conditions.specs.Tests as names;
 ghost use Rattle.ref_machine.specs.TermTests as spec;
 ghost use Rattle.replay_run_items.specs.TestViews.{side_view, test_view};
@@ -176,7 +176,7 @@ fn relation_test(left: &CheckedTerm, rel: Rel, right: &CheckedTerm) -> Option<Na
 }
 
 fn integers_test(op: BinaryOp, left: &CheckedTerm, right: &CheckedTerm) -> Option<NamedTest7>
-    ensures { option_map test_view result ≡ spec.operator_test (spec.meaning op) (term_tree left.now) (term_tree right.now) }
+    ensures { option_map test_view result ≡ spec.operator_test (meaning op) (term_tree left.now) (term_tree right.now) }
 {
     match meaning(op) {
         OperatorMeaning::Truth(rel) => relation_test(left, rel, right),

@@ -8,7 +8,8 @@ ghost use Rattle.ref_machine.specs.LabelSearch as search;
 ghost use Rattle.replay_run_statements.specs.LabelViews.{sought_view, looks_into_switches, Finds};
 ghost use Rattle.replay_run_items.specs.Standings.{standing};
 
-use crate::statement_items::{push_do_test, push_for_step, push_statements, push_while_turn};
+use crate::loop_items::{push_do_test, push_for_step, push_while_turn};
+use crate::statement_items::push_statements;
 use c_layout::{CaseLabel, CheckedStatement, Function};
 use replay_run_items::{Item7, Way7, push_item};
 use std::alloc::AllocError;

@@ -3,10 +3,10 @@
 
 mod choices;
 mod label_search;
+mod loop_items;
 mod statement_items;
 
 pub use choices::follow;
 pub use label_search::{Sought7, case_of, find, find_label, has_label, is_in};
-pub use statement_items::{
-    push_after, push_body, push_loop, push_next, push_statement, push_statements,
-};
+pub use loop_items::push_loop;
+pub use statement_items::{push_body, push_statement, push_statements};

@@ -1,268 +1,57 @@
 //! The items of statements.
-ghost use Rattle.std.specs.Prelude.{◌≡◌, [], ◌∷◌, ◌++◌, map, true, false, Some};
+ghost use Rattle.std.specs.Prelude.{[], ◌∷◌, ◌++◌, map, true, Some};
 ghost use Rattle.std.specs.Option.{option_map};
-ghost use Rattle.c_layout.specs.CheckedTrees.{term_tree, statement_tree};
+ghost use Rattle.c_layout.specs.CheckedTrees.{term_tree, lvalue_tree, statement_tree, store_tree, StoreCopy};
 ghost use Rattle.c_layout.specs.CheckedUnits.{UnitView, function_view};
 ghost use Rattle.ref_machine.specs.Items as machine;
-ghost use Rattle.ref_machine.specs.ConditionItems.{condition, arm, choice_of, truth_of};
+ghost use Rattle.ref_machine.specs.ConditionItems.{condition};
 ghost use Rattle.ref_machine.specs.StatementItems as spec;
 ghost use Rattle.ref_machine.specs.StatementItems.{list_statements};
-ghost use Rattle.replay_run_items.specs.ItemViews.{turn_items, next_items, arm_items, loop_item, loop_turn};
-ghost use Rattle.replay_run_items.specs.Standings.{on_item, with_item, with_items, added, Stacks};
+ghost use Rattle.replay_run_items.specs.ItemViews.{loop_item, select_item};
+ghost use Rattle.replay_run_items.specs.Standings.{Adds};
 
-use c_layout::{CheckedStatement, CheckedTerm, Function, ObjectRef};
+use crate::loop_items::push_test;
+use c_layout::{CheckedStatement, CheckedTerm, Function, InitStore, Lvalue, ObjectRef};
 use cc_base::Place;
 use flow_lower_tasks::scalar;
-use replay_run_items::{Arm7, Change7, Item7, Next7, Operation7, Use7, Way7, push_condition, push_copy, push_item, push_store};
+use replay_run_items::{
+    Change7, Item7, Next7, Operation7, Use7, Way7, push_copy, push_item, push_store,
+};
 use std::alloc::AllocError;
-
-// A condition and what follows it.
-fn push_test<'a>(
-    control: &mut Vec<Item7<'a>>,
-    condition: &'a CheckedTerm,
-    held: Item7<'a>,
-    failed: Item7<'a>,
-) -> Result<(), AllocError>
-    ensures { (u : UnitView) → Stacks u (λ s. with_items (condition u true (term_tree condition.now) (on_item u held.entry (on_item u failed.entry s)).yes (on_item u held.entry (on_item u failed.entry s)).no) (on_item u held.entry (on_item u failed.entry s))) control.old.items result control.new.items }
-{
-    push_item(control, failed)?;
-    push_item(control, held)?;
-    push_condition(control, condition, true)
-}
-
-/// Statements, one after the other.
-pub fn push_statements<'a>(
-    control: &mut Vec<Item7<'a>>,
-    statements: &'a [CheckedStatement],
-) -> Result<(), AllocError>
-    ensures { (u : UnitView) → Stacks u (λ s. with_items (list_statements (map statement_tree statements.now)) s) control.old.items result control.new.items }
-{
-    push_item(control, Item7::Statements(statements))
-}
-
-// ---- loops
-
-/// The test of a `do` loop behind its body.
-pub fn push_do_test<'a>(
-    control: &mut Vec<Item7<'a>>,
-    statement: &'a CheckedStatement,
-    condition: &'a CheckedTerm,
-) -> Result<(), AllocError>
-    ensures { (u : UnitView) → Stacks u (λ s. with_items (machine.TurnEnd ∷ condition u true (term_tree condition.now) (turn_items (statement_tree statement.now)) []) s) control.old.items result control.new.items }
-{
-    push_test(
-        control,
-        condition,
-        Item7::Statement(Way7::After(Next7::Turn), statement),
-        Item7::AfterNothing,
-    )?;
-    push_item(control, Item7::TurnEnd)
-}
-
-fn push_clause<'a>(
-    control: &mut Vec<Item7<'a>>,
-    clause: &'a Option<CheckedTerm>,
-) -> Result<(), AllocError>
-    ensures { (u : UnitView) → Stacks u (λ s. added (spec.clause (option_map term_tree clause.now)) s) control.old.items result control.new.items }
-{
-    match clause {
-        Some(term) => push_item(control, Item7::Term(Use7::Unused, term)),
-        None => Ok(()),
-    }
-}
-
-/// What follows the body of a `for` loop.
-pub fn push_for_step<'a>(
-    control: &mut Vec<Item7<'a>>,
-    statement: &'a CheckedStatement,
-    step: &'a Option<CheckedTerm>,
-) -> Result<(), AllocError>
-    ensures { (u : UnitView) → Stacks u (λ s. with_items (machine.TurnEnd ∷ (spec.clause (option_map term_tree step.now) ++ (machine.Hop ∷ (loop_item (statement_tree statement.now) ∷ [])))) s) control.old.items result control.new.items }
-{
-    push_item(control, Item7::Statement(Way7::Turn, statement))?;
-    push_item(control, Item7::Hop)?;
-    push_clause(control, step)?;
-    push_item(control, Item7::TurnEnd)
-}
-
-/// What follows the body of a `while` loop.
-pub fn push_while_turn<'a>(
-    control: &mut Vec<Item7<'a>>,
-    statement: &'a CheckedStatement,
-) -> Result<(), AllocError>
-    ensures { (u : UnitView) → Stacks u (λ s. with_items (machine.Hop ∷ (machine.TurnEnd ∷ (loop_item (statement_tree statement.now) ∷ []))) s) control.old.items result control.new.items }
-{
-    push_item(control, Item7::Statement(Way7::Turn, statement))?;
-    push_item(control, Item7::TurnEnd)?;
-    push_item(control, Item7::Hop)
-}
-
-/// The next turn of a loop: its condition, or the body of a `do` loop.
-pub fn push_loop<'a>(
-    control: &mut Vec<Item7<'a>>,
-    statement: &'a CheckedStatement,
-) -> Result<(), AllocError>
-    ensures { (u : UnitView) → Stacks u (λ s. added (loop_turn u (statement_tree statement.now)) s) control.old.items result control.new.items }
-{
-    match statement {
-        CheckedStatement::While(condition, _) => push_test(
-            control,
-            condition,
-            Item7::Statement(Way7::After(Next7::Turn), statement),
-            Item7::AfterNothing,
-        ),
-        CheckedStatement::Do(body, condition) => {
-            push_do_test(control, statement, condition)?;
-            push_item(control, Item7::Statement(Way7::Whole, body))
-        }
-        CheckedStatement::For(_, _, Some(condition), _, _) => push_test(
-            control,
-            condition,
-            Item7::Statement(Way7::After(Next7::Turn), statement),
-            Item7::AfterNothing,
-        ),
-        CheckedStatement::For(_, _, None, _, _) => push_turn(control, statement),
-        CheckedStatement::Value(_)
-        | CheckedStatement::Nothing
-        | CheckedStatement::Forget(_, _)
-        | CheckedStatement::Start(_, _, _)
-        | CheckedStatement::StartCopy(_, _, _)
-        | CheckedStatement::StartList(_, _, _)
-        | CheckedStatement::Block(_, _)
-        | CheckedStatement::If(_, _)
-        | CheckedStatement::IfElse(_, _, _) => Ok(()),
-        CheckedStatement::Switch(_, _, _, _, _, _)
-        | CheckedStatement::Case(_, _)
-        | CheckedStatement::Default(_)
-        | CheckedStatement::Label(_, _)
-        | CheckedStatement::Goto(_)
-        | CheckedStatement::Break
-        | CheckedStatement::Continue
-        | CheckedStatement::Return(_, _) => Ok(()),
-    }
-}
-
-// What follows the condition of a loop that holds.
-fn push_turn<'a>(
-    control: &mut Vec<Item7<'a>>,
-    statement: &'a CheckedStatement,
-) -> Result<(), AllocError>
-    ensures { (u : UnitView) → Stacks u (λ s. added (turn_items (statement_tree statement.now)) s) control.old.items result control.new.items }
-{
-    match statement {
-        CheckedStatement::While(_, body) => {
-            push_while_turn(control, statement)?;
-            push_item(control, Item7::Statement(Way7::Whole, body))
-        }
-        CheckedStatement::Do(_, _) => push_item(control, Item7::Statement(Way7::Turn, statement)),
-        CheckedStatement::For(_, _, _, step, body) => {
-            push_for_step(control, statement, step)?;
-            push_item(control, Item7::Statement(Way7::Whole, body))
-        }
-        CheckedStatement::Value(_)
-        | CheckedStatement::Nothing
-        | CheckedStatement::Forget(_, _)
-        | CheckedStatement::Start(_, _, _)
-        | CheckedStatement::StartCopy(_, _, _)
-        | CheckedStatement::StartList(_, _, _)
-        | CheckedStatement::Block(_, _)
-        | CheckedStatement::If(_, _)
-        | CheckedStatement::IfElse(_, _, _) => Ok(()),
-        CheckedStatement::Switch(_, _, _, _, _, _)
-        | CheckedStatement::Case(_, _)
-        | CheckedStatement::Default(_)
-        | CheckedStatement::Label(_, _)
-        | CheckedStatement::Goto(_)
-        | CheckedStatement::Break
-        | CheckedStatement::Continue
-        | CheckedStatement::Return(_, _) => Ok(()),
-    }
-}
-
-// ---- what follows conditions
-
-fn push_arm<'a>(
-    control: &mut Vec<Item7<'a>>,
-    used: bool,
-    term: &'a CheckedTerm,
-) -> Result<(), AllocError>
-    ensures { (u : UnitView) → Stacks u (λ s. with_item (arm used (term_tree term.now)) s) control.old.items result control.new.items }
-{
-    if used {
-        push_item(control, Item7::Term(Use7::Value, term))
-    } else {
-        push_item(control, Item7::Term(Use7::Unused, term))
-    }
-}
-
-/// The items that a statement is where they follow a condition.
-pub fn push_next<'a>(
-    control: &mut Vec<Item7<'a>>,
-    next: Next7,
-    statement: &'a CheckedStatement,
-) -> Result<(), AllocError>
-    ensures { (u : UnitView) → Stacks u (λ s. added (next_items next (statement_tree statement.now)) s) control.old.items result control.new.items }
-{
-    match next {
-        Next7::Body => push_item(control, Item7::Statement(Way7::Whole, statement)),
-        Next7::BodyHop => {
-            push_item(control, Item7::Hop)?;
-            push_item(control, Item7::Statement(Way7::Whole, statement))
-        }
-        Next7::Turn => push_turn(control, statement),
-    }
-}
-
-// 0 or 1 by the value of a term.
-fn push_truth<'a>(control: &mut Vec<Item7<'a>>, term: &'a CheckedTerm) -> Result<(), AllocError>
-    ensures { (u : UnitView) → Stacks u (λ s. with_items (choice_of (term_tree term.now) (truth_of true) (truth_of false)) s) control.old.items result control.new.items }
-{
-    push_item(control, Item7::AfterTruth(false))?;
-    push_item(control, Item7::AfterTruth(true))?;
-    push_item(control, Item7::Term(Use7::Choose(false), term))?;
-    push_item(control, Item7::Term(Use7::Value, term))
-}
-
-/// The items that a term is where they follow a condition.
-pub fn push_after<'a>(
-    control: &mut Vec<Item7<'a>>,
-    arm: Arm7,
-    term: &'a CheckedTerm,
-) -> Result<(), AllocError>
-    ensures { (u : UnitView) → Stacks u (λ s. with_items (arm_items arm (term_tree term.now)) s) control.old.items result control.new.items }
-{
-    match arm {
-        Arm7::Arm(used) => push_arm(control, used, term),
-        Arm7::ArmHop(used) => {
-            push_item(control, Item7::Hop)?;
-            push_arm(control, used, term)
-        }
-        Arm7::Right => push_truth(control, term),
-    }
-}
 
 // ---- returns
 
-// The value of the entry is only computed; a function that was called stores it.
+// The value of the entry is only computed.
+fn push_ignored<'a>(control: &mut Vec<Item7<'a>>, value: &'a CheckedTerm) -> Result<(), AllocError>
+    ensures { (u : UnitView) → Adds u (machine.Value (term_tree value.now) ∷ (machine.Drop ∷ [])) control.old.items result control.new.items }
+{
+    push_item(control, Item7::Drop)?;
+    push_item(control, Item7::Term(Use7::Value, value))?;
+    Ok(())
+}
+
+// A function that was called stores its value.
+fn push_outcome<'a>(
+    control: &mut Vec<Item7<'a>>,
+    at: Place,
+    value: &'a CheckedTerm,
+) -> Result<(), AllocError>
+    ensures { (u : UnitView) → Adds u (spec.outcome at (term_tree value.now)) control.old.items result control.new.items }
+{
+    push_store(control, at, value)?;
+    push_item(control, Item7::Outcome(at))?;
+    Ok(())
+}
+
 fn push_returned<'a>(
     control: &mut Vec<Item7<'a>>,
     is_entry: bool,
     at: Place,
     value: &'a CheckedTerm,
 ) -> Result<(), AllocError>
-    ensures { (u : UnitView) → Stacks u (λ s. with_items (spec.returned is_entry at (Some (term_tree value.now))) s) control.old.items result control.new.items }
+    ensures { (u : UnitView) → Adds u (spec.returned is_entry at (Some (term_tree value.now))) control.old.items result control.new.items }
 {
-    push_item(control, Item7::Drop)?;
-    if is_entry {
-        push_item(control, Item7::Term(Use7::Value, value))
-    } else {
-        push_item(
-            control,
-            Item7::Do(at, Operation7::Store(scalar(&value.ctype))),
-        )?;
-        push_item(control, Item7::Term(Use7::Value, value))?;
-        push_item(control, Item7::Outcome(at))
-    }
+    if is_entry { push_ignored(control, value) } else { push_outcome(control, at, value) }
 }
 
 fn push_return<'a>(
@@ -271,7 +60,7 @@ fn push_return<'a>(
     at: Place,
     value: &'a Option<CheckedTerm>,
 ) -> Result<(), AllocError>
-    ensures { (u : UnitView) → Stacks u (λ s. with_items (spec.returned is_entry at (option_map term_tree value.now) ++ machine.LeaveFunction ∷ []) s) control.old.items result control.new.items }
+    ensures { (u : UnitView) → Adds u (spec.returned is_entry at (option_map term_tree value.now) ++ machine.LeaveFunction ∷ []) control.old.items result control.new.items }
 {
     push_item(control, Item7::LeaveFunction)?;
     match value {
@@ -280,21 +69,57 @@ fn push_return<'a>(
     }
 }
 
-// ---- statements
+// ---- objects
 
-fn push_for<'a>(
+fn push_start<'a>(
     control: &mut Vec<Item7<'a>>,
-    statement: &'a CheckedStatement,
-    objects: &'a [u32],
-    first: &'a [CheckedStatement],
+    at: Place,
+    local: u32,
+    value: &'a CheckedTerm,
 ) -> Result<(), AllocError>
-    ensures { (u : UnitView) → Stacks u (λ s. with_items (machine.Enters objects.now ∷ (list_statements (map statement_tree first.now) ++ (loop_item (statement_tree statement.now) ∷ (machine.LoopEnd ∷ (machine.Leaves objects.now ∷ []))))) s) control.old.items result control.new.items }
+    ensures { (u : UnitView) → Adds u (spec.start_scalar at local 0 (term_tree value.now)) control.old.items result control.new.items }
 {
-    push_item(control, Item7::Leaves(objects))?;
-    push_item(control, Item7::LoopEnd)?;
-    push_item(control, Item7::Statement(Way7::Turn, statement))?;
-    push_statements(control, first)?;
-    push_item(control, Item7::Enters(objects))
+    push_store(control, at, value)?;
+    push_item(control, Item7::Object(at, ObjectRef::Local(local), 0))?;
+    Ok(())
+}
+
+fn push_start_copy<'a>(
+    control: &mut Vec<Item7<'a>>,
+    at: Place,
+    local: u32,
+    source: &'a Lvalue,
+) -> Result<(), AllocError>
+    ensures { (u : UnitView) → Adds u (spec.stored at local (StoreCopy 0 (lvalue_tree source.now))) control.old.items result control.new.items }
+{
+    push_copy(control, at, source)?;
+    push_item(control, Item7::Object(at, ObjectRef::Local(local), 0))?;
+    Ok(())
+}
+
+fn push_start_list<'a>(
+    control: &mut Vec<Item7<'a>>,
+    at: Place,
+    local: u32,
+    stores: &'a [InitStore],
+) -> Result<(), AllocError>
+    ensures { (u : UnitView) → Adds u (machine.OnObject at local machine.Clear ∷ spec.all_stored at local (map store_tree stores.now)) control.old.items result control.new.items }
+{
+    push_item(control, Item7::Stores(at, local, stores))?;
+    push_item(control, Item7::OnObject(at, local, Change7::Clear))?;
+    Ok(())
+}
+
+// ---- statements in statements
+
+/// Statements, one after the other.
+pub fn push_statements<'a>(
+    control: &mut Vec<Item7<'a>>,
+    statements: &'a [CheckedStatement],
+) -> Result<(), AllocError>
+    ensures { (u : UnitView) → Adds u (list_statements (map statement_tree statements.now)) control.old.items result control.new.items }
+{
+    push_item(control, Item7::Statements(statements))
 }
 
 fn push_block<'a>(
@@ -302,23 +127,88 @@ fn push_block<'a>(
     objects: &'a [u32],
     statements: &'a [CheckedStatement],
 ) -> Result<(), AllocError>
-    ensures { (u : UnitView) → Stacks u (λ s. with_items (machine.Enters objects.now ∷ (list_statements (map statement_tree statements.now) ++ machine.Leaves objects.now ∷ [])) s) control.old.items result control.new.items }
+    ensures { (u : UnitView) → Adds u (machine.Enters objects.now ∷ (list_statements (map statement_tree statements.now) ++ machine.Leaves objects.now ∷ [])) control.old.items result control.new.items }
 {
     push_item(control, Item7::Leaves(objects))?;
     push_statements(control, statements)?;
-    push_item(control, Item7::Enters(objects))
+    push_item(control, Item7::Enters(objects))?;
+    Ok(())
 }
 
-fn push_two<'a>(
+fn push_if<'a>(
     control: &mut Vec<Item7<'a>>,
-    later: Item7<'a>,
-    first: Item7<'a>,
+    condition: &'a CheckedTerm,
+    body: &'a CheckedStatement,
 ) -> Result<(), AllocError>
-    ensures { (u : UnitView) → Stacks u (λ s. on_item u first.entry (on_item u later.entry s)) control.old.items result control.new.items }
+    ensures { (u : UnitView) → Adds u (condition u true (term_tree condition.now) (machine.Statement (statement_tree body.now) ∷ []) []) control.old.items result control.new.items }
 {
-    push_item(control, later)?;
-    push_item(control, first)
+    let held = Item7::Statement(Way7::After(Next7::Body), body);
+    push_test(control, condition, held, Item7::AfterNothing)
 }
+
+fn push_if_else<'a>(
+    control: &mut Vec<Item7<'a>>,
+    condition: &'a CheckedTerm,
+    first: &'a CheckedStatement,
+    second: &'a CheckedStatement,
+) -> Result<(), AllocError>
+    ensures { (u : UnitView) → Adds u (condition u true (term_tree condition.now) (machine.Statement (statement_tree first.now) ∷ (machine.Hop ∷ [])) (machine.Statement (statement_tree second.now) ∷ [])) control.old.items result control.new.items }
+{
+    let held = Item7::Statement(Way7::After(Next7::BodyHop), first);
+    let failed = Item7::Statement(Way7::After(Next7::Body), second);
+    push_test(control, condition, held, failed)
+}
+
+// A loop and where `break` leads.
+fn push_looped<'a>(
+    control: &mut Vec<Item7<'a>>,
+    statement: &'a CheckedStatement,
+) -> Result<(), AllocError>
+    ensures { (u : UnitView) → Adds u (loop_item (statement_tree statement.now) ∷ (machine.LoopEnd ∷ [])) control.old.items result control.new.items }
+{
+    push_item(control, Item7::LoopEnd)?;
+    push_item(control, Item7::Statement(Way7::Turn, statement))?;
+    Ok(())
+}
+
+fn push_for<'a>(
+    control: &mut Vec<Item7<'a>>,
+    statement: &'a CheckedStatement,
+    objects: &'a [u32],
+    first: &'a [CheckedStatement],
+) -> Result<(), AllocError>
+    ensures { (u : UnitView) → Adds u (machine.Enters objects.now ∷ (list_statements (map statement_tree first.now) ++ (loop_item (statement_tree statement.now) ∷ (machine.LoopEnd ∷ (machine.Leaves objects.now ∷ []))))) control.old.items result control.new.items }
+{
+    push_item(control, Item7::Leaves(objects))?;
+    push_looped(control, statement)?;
+    push_statements(control, first)?;
+    push_item(control, Item7::Enters(objects))?;
+    Ok(())
+}
+
+fn push_switch<'a>(
+    control: &mut Vec<Item7<'a>>,
+    statement: &'a CheckedStatement,
+    value: &'a CheckedTerm,
+) -> Result<(), AllocError>
+    ensures { (u : UnitView) → Adds u (machine.Value (term_tree value.now) ∷ (select_item (statement_tree statement.now) ∷ (machine.LoopEnd ∷ []))) control.old.items result control.new.items }
+{
+    push_item(control, Item7::LoopEnd)?;
+    push_item(control, Item7::Statement(Way7::Select, statement))?;
+    push_item(control, Item7::Term(Use7::Value, value))?;
+    Ok(())
+}
+
+fn push_whole<'a>(
+    control: &mut Vec<Item7<'a>>,
+    statement: &'a CheckedStatement,
+) -> Result<(), AllocError>
+    ensures { (u : UnitView) → Adds u (machine.Statement (statement_tree statement.now) ∷ []) control.old.items result control.new.items }
+{
+    push_item(control, Item7::Statement(Way7::Whole, statement))
+}
+
+// ---- statements
 
 /// The items of a statement of the entry or of a function that was called.
 pub fn push_statement<'a>(
@@ -326,65 +216,37 @@ pub fn push_statement<'a>(
     is_entry: bool,
     statement: &'a CheckedStatement,
 ) -> Result<(), AllocError>
-    ensures { (u : UnitView) → Stacks u (λ s. added (spec.of_statement u is_entry (statement_tree statement.now)) s) control.old.items result control.new.items }
+    ensures { (u : UnitView) → Adds u (spec.of_statement u is_entry (statement_tree statement.now)) control.old.items result control.new.items }
 {
     match statement {
         CheckedStatement::Value(term) => push_item(control, Item7::Term(Use7::Unused, term)),
         CheckedStatement::Nothing => Ok(()),
-        CheckedStatement::Forget(at, local) => push_item(
-            control,
-            Item7::OnObject(*at, *local, Change7::Forget),
-        ),
-        CheckedStatement::Start(at, local, value) => {
-            push_store(control, *at, value)?;
-            push_item(control, Item7::Object(*at, ObjectRef::Local(*local), 0))
+        CheckedStatement::Forget(at, local) => {
+            push_item(control, Item7::OnObject(*at, *local, Change7::Forget))
         }
+        CheckedStatement::Start(at, local, value) => push_start(control, *at, *local, value),
         CheckedStatement::StartCopy(at, local, source) => {
-            push_copy(control, *at, source)?;
-            push_item(control, Item7::Object(*at, ObjectRef::Local(*local), 0))
+            push_start_copy(control, *at, *local, source)
         }
-        CheckedStatement::StartList(at, local, stores) => push_two(
-            control,
-            Item7::Stores(*at, *local, stores.as_slice()),
-            Item7::OnObject(*at, *local, Change7::Clear),
-        ),
+        CheckedStatement::StartList(at, local, stores) => {
+            push_start_list(control, *at, *local, stores.as_slice())
+        }
         CheckedStatement::Block(objects, statements) => {
             push_block(control, objects.as_slice(), statements.as_slice())
         }
-        CheckedStatement::If(condition, body) => push_test(
-            control,
-            condition,
-            Item7::Statement(Way7::After(Next7::Body), body),
-            Item7::AfterNothing,
-        ),
-        CheckedStatement::IfElse(condition, first, second) => push_test(
-            control,
-            condition,
-            Item7::Statement(Way7::After(Next7::BodyHop), first),
-            Item7::Statement(Way7::After(Next7::Body), second),
-        ),
-        CheckedStatement::While(_, _) | CheckedStatement::Do(_, _) => push_two(
-            control,
-            Item7::LoopEnd,
-            Item7::Statement(Way7::Turn, statement),
-        ),
+        CheckedStatement::If(condition, body) => push_if(control, condition, body),
+        CheckedStatement::IfElse(condition, first, second) => {
+            push_if_else(control, condition, first, second)
+        }
+        CheckedStatement::While(_, _) => push_looped(control, statement),
+        CheckedStatement::Do(_, _) => push_looped(control, statement),
         CheckedStatement::For(objects, first, _, _, _) => {
             push_for(control, statement, objects.as_slice(), first.as_slice())
         }
-        CheckedStatement::Switch(_, value, _, _, _, _) => {
-            push_item(control, Item7::LoopEnd)?;
-            push_two(
-                control,
-                Item7::Statement(Way7::Select, statement),
-                Item7::Term(Use7::Value, value),
-            )
-        }
-        CheckedStatement::Case(_, body)
-        | CheckedStatement::Default(body)
-        | CheckedStatement::Label(_, body) => push_item(
-            control,
-            Item7::Statement(Way7::Whole, body),
-        ),
+        CheckedStatement::Switch(_, value, _, _, _, _) => push_switch(control, statement, value),
+        CheckedStatement::Case(_, body) => push_whole(control, body),
+        CheckedStatement::Default(body) => push_whole(control, body),
+        CheckedStatement::Label(_, body) => push_whole(control, body),
         CheckedStatement::Goto(label) => push_item(control, Item7::GoTo(*label)),
         CheckedStatement::Break => push_item(control, Item7::BreakOut),
         CheckedStatement::Continue => push_item(control, Item7::NextTurn),
@@ -394,10 +256,11 @@ pub fn push_statement<'a>(
 
 /// What a function does from the end of its prologue on.
 pub fn push_body<'a>(control: &mut Vec<Item7<'a>>, function: &'a Function) -> Result<(), AllocError>
-    ensures { (u : UnitView) → Stacks u (λ s. with_items (spec.body (function_view function.now)) s) control.old.items result control.new.items }
+    ensures { (u : UnitView) → Adds u (spec.body (function_view function.now)) control.old.items result control.new.items }
 {
     push_item(control, Item7::EndBody)?;
     push_item(control, Item7::Leaves(function.scope.as_slice()))?;
     push_statements(control, function.body.as_slice())?;
-    push_item(control, Item7::Enters(function.scope.as_slice()))
+    push_item(control, Item7::Enters(function.scope.as_slice()))?;
+    Ok(())
 }

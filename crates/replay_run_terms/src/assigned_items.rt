@@ -6,7 +6,7 @@ ghost use Rattle.flow_lower_tasks.specs.TermKinds.{meaning};
 ghost use Rattle.flow_lower_expressions.specs.Assignments as assignments;
 ghost use Rattle.ref_machine.specs.TermItems as spec;
 ghost use Rattle.ref_machine.specs.TermItems.{if_used};
-ghost use Rattle.replay_run_items.specs.Standings.{with_items, added, Stacks};
+ghost use Rattle.replay_run_items.specs.Standings.{with_items, Stacks, Adds};
 
 use crate::operated_items::{push_at, push_converted, push_do, push_if_unused};
 use c_layout::{BinaryOp, CheckedTerm, Lvalue, StepOp, StepTime};
@@ -30,7 +30,8 @@ pub fn push_assignment<'a>(
     push_if_unused(control, used)?;
     push_do(control, target.place, Operation7::Store(scalar(&target.ctype)))?;
     push_item(control, Item7::Term(Use7::Value, value))?;
-    push_item(control, Item7::Address(target))
+    push_item(control, Item7::Address(target))?;
+    Ok(())
 }
 
 // The address is formed once, then the right value is computed, then the old value is loaded.
@@ -44,7 +45,8 @@ fn push_sides<'a>(
 {
     push_do(control, target.place, Operation7::LoadUnder(kind))?;
     push_item(control, Item7::Term(Use7::Value, value))?;
-    push_item(control, Item7::Address(target))
+    push_item(control, Item7::Address(target))?;
+    Ok(())
 }
 
 fn number_operator(sense: OperatorMeaning) -> IntOp
@@ -72,7 +74,8 @@ fn push_compound_value<'a>(
     push_converted(control, at, kind, own)?;
     push_do(control, at, Operation7::Binary(Order7::RightFirst, sign, kind))?;
     push_converted(control, at, own, kind)?;
-    push_sides(control, target, value, Scalar::Int(own))
+    push_sides(control, target, value, Scalar::Int(own))?;
+    Ok(())
 }
 
 /// An assignment by an operator on integers.
@@ -88,7 +91,8 @@ pub fn push_compound<'a>(
     ensures { (u : UnitView) → Stacks u (λ s. with_items (if_used used (spec.compound at (meaning op) kind (lvalue_tree target.now) (term_tree value.now))) s) control.old.items result control.new.items }
 {
     push_if_unused(control, used)?;
-    push_compound_value(control, at, op, kind, target, value)
+    push_compound_value(control, at, op, kind, target, value)?;
+    Ok(())
 }
 
 /// An assignment by `+=` or `-=` to a pointer.
@@ -106,7 +110,8 @@ pub fn push_compound_shift<'a>(
     push_if_unused(control, used)?;
     push_do(control, target.place, Operation7::Store(Scalar::Pointer))?;
     push_do(control, at, Operation7::Shift(Order7::RightFirst, size, back))?;
-    push_sides(control, target, value, Scalar::Pointer)
+    push_sides(control, target, value, Scalar::Pointer)?;
+    Ok(())
 }
 
 // ---- steps
@@ -138,7 +143,7 @@ fn push_store_step<'a>(
 
 // The old value of a postfix step that is used stays below the new one.
 fn push_kept<'a>(control: &mut Vec<Item7<'a>>, keeps: bool) -> Result<(), AllocError>
-    ensures { (u : UnitView) → Stacks u (λ s. added (spec.kept keeps) s) control.old.items result control.new.items }
+    ensures { (u : UnitView) → Adds u (spec.kept keeps) control.old.items result control.new.items }
 {
     if keeps {
         push_item(control, Item7::Again)
@@ -163,7 +168,8 @@ fn push_step_value<'a>(
     push_do(control, at, Operation7::BinaryByOne(step_operator(op), kind))?;
     push_converted(control, at, own, kind)?;
     push_kept(control, keeps)?;
-    push_at(control, Operation7::LoadOver(Scalar::Int(own)), target)
+    push_at(control, Operation7::LoadOver(Scalar::Int(own)), target)?;
+    Ok(())
 }
 
 /// `++` or `--` of an integer.
@@ -179,7 +185,8 @@ pub fn push_step<'a>(
     ensures { (u : UnitView) → Stacks u (λ s. with_items (if_used used (spec.step at op kind (lvalue_tree target.now) (assignments.keeps_old time used))) s) control.old.items result control.new.items }
 {
     push_if_unused(control, used)?;
-    push_step_value(control, at, op, kind, target, keeps_old(time, used))
+    push_step_value(control, at, op, kind, target, keeps_old(time, used))?;
+    Ok(())
 }
 
 fn push_moved<'a>(
@@ -195,7 +202,8 @@ fn push_moved<'a>(
     push_store_step(control, target, Scalar::Pointer, keeps)?;
     push_do(control, at, Operation7::ShiftByOne(size, is_backward(op)))?;
     push_kept(control, keeps)?;
-    push_at(control, Operation7::LoadOver(Scalar::Pointer), target)
+    push_at(control, Operation7::LoadOver(Scalar::Pointer), target)?;
+    Ok(())
 }
 
 /// `++` or `--` of a pointer.
@@ -211,5 +219,6 @@ pub fn push_pointer_step<'a>(
     ensures { (u : UnitView) → Stacks u (λ s. with_items (if_used used (spec.pointer_step at op size (lvalue_tree target.now) (assignments.keeps_old time used))) s) control.old.items result control.new.items }
 {
     push_if_unused(control, used)?;
-    push_moved(control, at, op, size, target, keeps_old(time, used))
+    push_moved(control, at, op, size, target, keeps_old(time, used))?;
+    Ok(())
 }

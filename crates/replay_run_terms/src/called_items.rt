@@ -1,5 +1,5 @@
 //! The items of calls.
-ghost use Rattle.std.specs.Prelude.{◌≡◌, [], ◌∷◌, ◌++◌, map};
+ghost use Rattle.std.specs.Prelude.{◌≡◌, [], ◌∷◌, ◌++◌, ◌||◌, not, map};
 ghost use Rattle.std.specs.Option.{option_map};
 ghost use Rattle.c_layout.specs.Types.{view};
 ghost use Rattle.c_layout.specs.CheckedTrees.{term_tree, term_trees};
@@ -16,6 +16,13 @@ use cc_base::Place;
 use replay_run_items::{Item7, Operation7, push_item};
 use std::alloc::AllocError;
 
+// Whether no value is to be dropped behind a call that gives one or not.
+fn is_kept(used: bool, gives: bool) -> bool
+    ensures { result ≡ (used || not gives) }
+{
+    used || !gives
+}
+
 fn push_invoked<'a>(
     control: &mut Vec<Item7<'a>>,
     at: Place,
@@ -26,7 +33,8 @@ fn push_invoked<'a>(
     ensures { (u : UnitView) → Stacks u (λ s. with_items (spec.arguments (term_trees (map term_tree arguments.now)) ++ machine.Invoke at function (spec.argument_count (term_trees (map term_tree arguments.now))) is_used ∷ []) s) control.old.items result control.new.items }
 {
     push_item(control, Item7::Invoke(at, function, arguments.len(), is_used))?;
-    push_item(control, Item7::Values(arguments))
+    push_item(control, Item7::Values(arguments))?;
+    Ok(())
 }
 
 /// A call of a function of the unit, which gives a value where the flag is set.
@@ -40,8 +48,9 @@ pub fn push_call<'a>(
 ) -> Result<(), AllocError>
     ensures { (u : UnitView) → Stacks u (λ s. with_items (spec.left_if is_used used (spec.arguments (term_trees (map term_tree arguments.now)) ++ machine.Invoke at function (spec.argument_count (term_trees (map term_tree arguments.now))) is_used ∷ [])) s) control.old.items result control.new.items }
 {
-    push_if_unused(control, used || !is_used)?;
-    push_invoked(control, at, function, arguments, is_used)
+    push_if_unused(control, is_kept(used, is_used))?;
+    push_invoked(control, at, function, arguments, is_used)?;
+    Ok(())
 }
 
 fn gives(function: LibFn) -> bool
@@ -96,7 +105,8 @@ fn push_asked<'a>(
 {
     let target = allocated_type(allocated);
     push_do(control, at, Operation7::Library(function, arguments.len(), target))?;
-    push_item(control, Item7::Values(arguments))
+    push_item(control, Item7::Values(arguments))?;
+    Ok(())
 }
 
 /// A call of a library function.
@@ -110,6 +120,7 @@ pub fn push_library<'a>(
 ) -> Result<(), AllocError>
     ensures { (u : UnitView) → Stacks u (λ s. with_items (spec.left_if (calls.gives function) used (spec.library_items at function (term_trees (map term_tree arguments.now)) (option_map view allocated.now))) s) control.old.items result control.new.items }
 {
-    push_if_unused(control, used || !gives(function))?;
-    push_asked(control, at, function, arguments, allocated)
+    push_if_unused(control, is_kept(used, gives(function)))?;
+    push_asked(control, at, function, arguments, allocated)?;
+    Ok(())
 }

@@ -9,7 +9,7 @@ ghost use Rattle.ref_machine.specs.Operations as op;
 ghost use Rattle.ref_machine.specs.Operations.{size_of};
 ghost use Rattle.ref_machine.specs.TermItems.{address_items, converted, if_used, operating, order_of};
 ghost use Rattle.replay_run_items.specs.ItemViews.{operation_view, order_view};
-ghost use Rattle.replay_run_items.specs.Standings.{with_item, with_items, added, unless_used, Stacks};
+ghost use Rattle.replay_run_items.specs.Standings.{with_item, with_items, unless_used, Stacks, Adds};
 
 use c_layout::{BinaryOp, CType, Checked, CheckedTerm, Lvalue, LvalueForm};
 use cc_base::{IntType, Place};
@@ -53,7 +53,8 @@ fn push_member<'a>(
 {
     let size = type_bytes(&lvalue.ctype, &unit.structs, unit.model.pointer)?;
     push_do(control, lvalue.place, Operation7::Narrow(offset, size))?;
-    push_item(control, Item7::Address(outer))
+    push_item(control, Item7::Address(outer))?;
+    Ok(())
 }
 
 fn push_copied<'a>(
@@ -65,7 +66,8 @@ fn push_copied<'a>(
 {
     push_do(control, target.place, Operation7::Copy(&target.ctype))?;
     push_item(control, Item7::Address(source))?;
-    push_item(control, Item7::Address(target))
+    push_item(control, Item7::Address(target))?;
+    Ok(())
 }
 
 fn push_then<'a>(
@@ -76,7 +78,8 @@ fn push_then<'a>(
     ensures { (u : UnitView) → Stacks u (λ s. with_items (machine.Unused (term_tree left.now) ∷ (machine.Address (lvalue_tree right.now) ∷ [])) s) control.old.items result control.new.items }
 {
     push_item(control, Item7::Address(right))?;
-    push_item(control, Item7::Term(Use7::Unused, left))
+    push_item(control, Item7::Term(Use7::Unused, left))?;
+    Ok(())
 }
 
 /// The items that push the pointer to an lvalue.
@@ -112,7 +115,7 @@ pub fn push_converted<'a>(
     old: IntType,
     new: IntType,
 ) -> Result<(), AllocError>
-    ensures { (u : UnitView) → Stacks u (λ s. added (converted at old new) s) control.old.items result control.new.items }
+    ensures { (u : UnitView) → Adds u (converted at old new) control.old.items result control.new.items }
 {
     if is_kind(old, new) {
         Ok(())
@@ -156,7 +159,8 @@ pub fn push_none<'a>(
     ensures { (u : UnitView) → Stacks u (λ s. with_items (if_used used (machine.Do at (operation_view operation.entry) ∷ [])) s) control.old.items result control.new.items }
 {
     push_if_unused(control, used)?;
-    push_do(control, at, operation)
+    push_do(control, at, operation)?;
+    Ok(())
 }
 
 /// An operand and an operation.
@@ -171,7 +175,8 @@ pub fn push_one<'a>(
 {
     push_if_unused(control, used)?;
     push_do(control, at, operation)?;
-    push_item(control, Item7::Term(Use7::Value, operand))
+    push_item(control, Item7::Term(Use7::Value, operand))?;
+    Ok(())
 }
 
 /// Two operands and an operation.
@@ -188,7 +193,8 @@ pub fn push_two<'a>(
     push_if_unused(control, used)?;
     push_do(control, at, operation)?;
     push_item(control, Item7::Term(Use7::Value, right))?;
-    push_item(control, Item7::Term(Use7::Value, left))
+    push_item(control, Item7::Term(Use7::Value, left))?;
+    Ok(())
 }
 
 /// An operand alone.
@@ -200,7 +206,8 @@ pub fn push_operand<'a>(
     ensures { (u : UnitView) → Stacks u (λ s. with_items (if_used used (machine.Value (term_tree operand.now) ∷ [])) s) control.old.items result control.new.items }
 {
     push_if_unused(control, used)?;
-    push_item(control, Item7::Term(Use7::Value, operand))
+    push_item(control, Item7::Term(Use7::Value, operand))?;
+    Ok(())
 }
 
 /// A pointer to an lvalue alone.
@@ -212,7 +219,8 @@ pub fn push_pointer<'a>(
     ensures { (u : UnitView) → Stacks u (λ s. with_items (if_used used (machine.Address (lvalue_tree lvalue.now) ∷ [])) s) control.old.items result control.new.items }
 {
     push_if_unused(control, used)?;
-    push_item(control, Item7::Address(lvalue))
+    push_item(control, Item7::Address(lvalue))?;
+    Ok(())
 }
 
 /// A pointer to an lvalue and an operation.
@@ -224,5 +232,6 @@ pub fn push_at<'a>(
     ensures { (u : UnitView) → Stacks u (λ s. with_items (machine.Address (lvalue_tree lvalue.now) ∷ (machine.Do (lvalue_at (lvalue_tree lvalue.now)) (operation_view operation.entry) ∷ [])) s) control.old.items result control.new.items }
 {
     push_do(control, lvalue.place, operation)?;
-    push_item(control, Item7::Address(lvalue))
+    push_item(control, Item7::Address(lvalue))?;
+    Ok(())
 }

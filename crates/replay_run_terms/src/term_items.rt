@@ -35,7 +35,8 @@ fn push_load<'a>(
     ensures { (u : UnitView) → Stacks u (λ s. with_items (if_used used (machine.Address (lvalue_tree lvalue.now) ∷ (machine.Do (lvalue_at (lvalue_tree lvalue.now)) (op.Load (scalar_of (lvalue_type (lvalue_tree lvalue.now)))) ∷ []))) s) control.old.items result control.new.items }
 {
     push_if_unused(control, used)?;
-    push_at(control, Operation7::Load(scalar(&lvalue.ctype)), lvalue)
+    push_at(control, Operation7::Load(scalar(&lvalue.ctype)), lvalue)?;
+    Ok(())
 }
 
 fn push_decay<'a>(
@@ -48,7 +49,8 @@ fn push_decay<'a>(
 {
     let size = type_bytes(&lvalue.ctype, &unit.structs, unit.model.pointer)?;
     push_if_unused(control, used)?;
-    push_at(control, Operation7::Narrow(0, size), lvalue)
+    push_at(control, Operation7::Narrow(0, size), lvalue)?;
+    Ok(())
 }
 
 // ---- values that branch
@@ -86,7 +88,8 @@ fn push_logical<'a>(
     push_if_unused(control, used)?;
     push_later(control, op, right)?;
     push_item(control, Item7::Term(Use7::Choose(false), left))?;
-    push_item(control, Item7::Term(Use7::Value, left))
+    push_item(control, Item7::Term(Use7::Value, left))?;
+    Ok(())
 }
 
 // Behind its first arm control goes round the second one.
@@ -101,7 +104,8 @@ fn push_conditional<'a>(
 {
     push_item(control, Item7::Term(Use7::After(Arm7::Arm(used)), second))?;
     push_item(control, Item7::Term(Use7::After(Arm7::ArmHop(used)), first))?;
-    push_condition(control, test, true)
+    push_condition(control, test, true)?;
+    Ok(())
 }
 
 fn push_arm<'a>(
@@ -127,7 +131,8 @@ fn push_comma<'a>(
     ensures { (u : UnitView) → Stacks u (λ s. with_items (machine.Unused (term_tree first.now) ∷ (spec.arm used (term_tree second.now) ∷ [])) s) control.old.items result control.new.items }
 {
     push_arm(control, used, second)?;
-    push_item(control, Item7::Term(Use7::Unused, first))
+    push_item(control, Item7::Term(Use7::Unused, first))?;
+    Ok(())
 }
 
 // ---- terms
