@@ -124,11 +124,7 @@ fn is_open(scopes: &[Vec<u32>], object: u32) -> bool
 }
 
 // The objects of a scope that no known scope has.
-fn push_unknown(
-    list: &mut Vec<u32>,
-    known: &[Vec<u32>],
-    scope: &[u32],
-) -> Result<(), AllocError>
+fn push_unknown(list: &mut Vec<u32>, known: &[Vec<u32>], scope: &[u32]) -> Result<(), AllocError>
     ensures { IfOk result (λ _. list.new.items ≡ list.old.items ++ machine.without (machine.all_of (scopes_view known.now)) scope.now) }
 {
     for object in scope {

@@ -255,10 +255,7 @@ fn meet_pick<'a>(
 }
 
 // An item that is no part of a condition stays.
-fn meet_item<'a>(
-    control: &mut Vec<Item7<'a>>,
-    item: Item7<'a>,
-) -> Result<Option<bool>, AllocError>
+fn meet_item<'a>(control: &mut Vec<Item7<'a>>, item: Item7<'a>) -> Result<Option<bool>, AllocError>
     ensures { (u : UnitView) → IfOk result (λ found. (found ≡ None) × ((standing u control.new.items).items ≡ (on_item u item.entry (standing u control.old.items)).items)) }
 {
     push_item(control, item)?;

@@ -51,7 +51,11 @@ fn push_returned<'a>(
 ) -> Result<(), AllocError>
     ensures { (u : UnitView) → Adds u (spec.returned is_entry at (Some (term_tree value.now))) control.old.items result control.new.items }
 {
-    if is_entry { push_ignored(control, value) } else { push_outcome(control, at, value) }
+    if is_entry {
+        push_ignored(control, value)
+    } else {
+        push_outcome(control, at, value)
+    }
 }
 
 fn push_return<'a>(

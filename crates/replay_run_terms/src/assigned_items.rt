@@ -11,7 +11,9 @@ ghost use Rattle.replay_run_items.specs.Standings.{with_items, Stacks, Adds};
 use crate::operated_items::{push_at, push_converted, push_do, push_if_unused};
 use c_layout::{BinaryOp, CheckedTerm, Lvalue, StepOp, StepTime};
 use cc_base::{IntOp, IntType, Place};
-use flow_lower_tasks::{OperatorMeaning, integer_type, is_backward, meaning, scalar, step_operator};
+use flow_lower_tasks::{
+    OperatorMeaning, integer_type, is_backward, meaning, scalar, step_operator,
+};
 use flow_program::Scalar;
 use replay_run_items::{Item7, Operation7, Order7, Use7, push_item};
 use std::alloc::AllocError;
@@ -28,7 +30,11 @@ pub fn push_assignment<'a>(
     ensures { (u : UnitView) → Stacks u (λ s. with_items (if_used used (spec.assignment (lvalue_tree target.now) (term_tree value.now))) s) control.old.items result control.new.items }
 {
     push_if_unused(control, used)?;
-    push_do(control, target.place, Operation7::Store(scalar(&target.ctype)))?;
+    push_do(
+        control,
+        target.place,
+        Operation7::Store(scalar(&target.ctype)),
+    )?;
     push_item(control, Item7::Term(Use7::Value, value))?;
     push_item(control, Item7::Address(target))?;
     Ok(())
@@ -72,7 +78,11 @@ fn push_compound_value<'a>(
     let sign = number_operator(meaning(op));
     push_do(control, target.place, Operation7::Store(Scalar::Int(own)))?;
     push_converted(control, at, kind, own)?;
-    push_do(control, at, Operation7::Binary(Order7::RightFirst, sign, kind))?;
+    push_do(
+        control,
+        at,
+        Operation7::Binary(Order7::RightFirst, sign, kind),
+    )?;
     push_converted(control, at, own, kind)?;
     push_sides(control, target, value, Scalar::Int(own))?;
     Ok(())
@@ -109,7 +119,11 @@ pub fn push_compound_shift<'a>(
 {
     push_if_unused(control, used)?;
     push_do(control, target.place, Operation7::Store(Scalar::Pointer))?;
-    push_do(control, at, Operation7::Shift(Order7::RightFirst, size, back))?;
+    push_do(
+        control,
+        at,
+        Operation7::Shift(Order7::RightFirst, size, back),
+    )?;
     push_sides(control, target, value, Scalar::Pointer)?;
     Ok(())
 }
@@ -165,7 +179,11 @@ fn push_step_value<'a>(
     let own = integer_type(&target.ctype);
     push_store_step(control, target, Scalar::Int(own), keeps)?;
     push_converted(control, at, kind, own)?;
-    push_do(control, at, Operation7::BinaryByOne(step_operator(op), kind))?;
+    push_do(
+        control,
+        at,
+        Operation7::BinaryByOne(step_operator(op), kind),
+    )?;
     push_converted(control, at, own, kind)?;
     push_kept(control, keeps)?;
     push_at(control, Operation7::LoadOver(Scalar::Int(own)), target)?;

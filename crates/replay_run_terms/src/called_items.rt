@@ -32,7 +32,10 @@ fn push_invoked<'a>(
 ) -> Result<(), AllocError>
     ensures { (u : UnitView) → Stacks u (λ s. with_items (spec.arguments (term_trees (map term_tree arguments.now)) ++ machine.Invoke at function (spec.argument_count (term_trees (map term_tree arguments.now))) is_used ∷ []) s) control.old.items result control.new.items }
 {
-    push_item(control, Item7::Invoke(at, function, arguments.len(), is_used))?;
+    push_item(
+        control,
+        Item7::Invoke(at, function, arguments.len(), is_used),
+    )?;
     push_item(control, Item7::Values(arguments))?;
     Ok(())
 }
@@ -104,7 +107,11 @@ fn push_asked<'a>(
     ensures { (u : UnitView) → Stacks u (λ s. with_items (spec.library_items at function (term_trees (map term_tree arguments.now)) (option_map view allocated.now)) s) control.old.items result control.new.items }
 {
     let target = allocated_type(allocated);
-    push_do(control, at, Operation7::Library(function, arguments.len(), target))?;
+    push_do(
+        control,
+        at,
+        Operation7::Library(function, arguments.len(), target),
+    )?;
     push_item(control, Item7::Values(arguments))?;
     Ok(())
 }

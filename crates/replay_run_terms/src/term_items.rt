@@ -156,7 +156,13 @@ pub fn push_term<'a>(
         TermForm::AddressOf(lvalue) => push_pointer(control, used, lvalue),
         TermForm::Decay(lvalue) => push_decay(control, unit, used, lvalue),
         TermForm::Convert(_, a) => {
-            push_one(control, used, at, Operation7::Convert(scalar(&term.ctype)), a)
+            push_one(
+                control,
+                used,
+                at,
+                Operation7::Convert(scalar(&term.ctype)),
+                a,
+            )
         }
         TermForm::Discard(a) => push_item(control, Item7::Term(Use7::Unused, a)),
         TermForm::Plus(a) => push_operand(control, used, a),
@@ -200,7 +206,14 @@ pub fn push_term<'a>(
             push_call(control, used, at, *function, arguments.as_slice(), *is_used)
         }
         TermForm::Library(function, arguments, allocated) => {
-            push_library(control, used, at, *function, arguments.as_slice(), allocated)
+            push_library(
+                control,
+                used,
+                at,
+                *function,
+                arguments.as_slice(),
+                allocated,
+            )
         }
     }
 }
