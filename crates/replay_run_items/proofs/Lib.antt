@@ -3,3 +3,4 @@ pub mod Plain
 pub mod Entries
 pub mod Unknown
 pub mod Conditions
+pub mod Tests

@@ -140,6 +140,7 @@ fn test_with(
 }
 
 // A constant on the left and an object on the right: the relation is turned round.
+#[tactic(auto, using(crate::proofs::Tests::turned_round))]
 fn turned_test(
     constant: Option<i128>,
     rel: Rel,
