@@ -1,0 +1,2 @@
+pub mod OutcomeViews
+pub mod Replays

@@ -1,0 +1,2 @@
+pub mod MachineViews
+pub mod Moves

@@ -1,0 +1,175 @@
+//! Calls of functions of the unit, and returns from them.
+use crate::machines::{Frame7, Machine, function_at, held, local_type, pop_value, result_object};
+use c_layout::{Checked, Function};
+use cc_base::Place;
+use flow_lower_tasks::{is_void, scalar};
+use lib_models_instances::Value7;
+use lib_models_replay::{Cause, Halt, store};
+use replay_run_items::{Item7, Operation7, open_scopes, push_body, push_item, push_objects};
+use std::alloc::AllocError;
+use std::mem;
+
+// ---- calls
+
+// All parameters and the result are entered, then the arguments are stored, then the body is done.
+fn push_prologue<'a>(
+    control: &mut Vec<Item7<'a>>,
+    function: &'a Function,
+    outcome: u32,
+    count: usize,
+) -> Result<(), AllocError> {
+    push_body(control, function)?;
+    push_item(control, Item7::Drops(count))?;
+    push_item(
+        control,
+        Item7::Binds(function.place, 0, function.parameters, count),
+    )?;
+    if !is_void(&function.result) {
+        push_item(control, Item7::Also(outcome))?;
+    }
+    push_item(control, Item7::AlsoFrom(0, function.parameters))?;
+    push_item(control, Item7::EntersBelow)
+}
+
+/// A function is called with so many of the newest values.
+pub fn invoke<'a>(
+    m: &mut Machine<'a>,
+    unit: &'a Checked,
+    at: Place,
+    number: u32,
+    count: usize,
+    used: bool,
+) -> Result<(), Halt> {
+    let function = function_at(unit, number)?;
+    let outcome = result_object(function)?;
+    let alloc = m.world.alloc;
+    let mut control = Vec::new(alloc);
+    held(push_prologue(&mut control, function, outcome, count))?;
+    let caller = Frame7 {
+        function: m.function,
+        names: mem::replace(&mut m.names, Vec::new(alloc)),
+        control: mem::replace(&mut m.control, control),
+        at,
+        used,
+    };
+    m.function = number;
+    match m.frames.push(caller) {
+        Ok(()) => Ok(()),
+        Err(_) => Err(Halt::Memory),
+    }
+}
+
+/// The arguments are stored in parameters, from one on: the first step of the first store.
+pub fn push_binds(
+    control: &mut Vec<Item7>,
+    at: Place,
+    local: u32,
+    left: u32,
+    count: usize,
+) -> Result<(), AllocError> {
+    match local.checked_add(1) {
+        Some(next) => {
+            if left > 1 {
+                push_item(control, Item7::Binds(at, next, left - 1, count))?;
+            }
+            let depth = (count as u64).saturating_sub(u64::from(next));
+            push_item(control, Item7::Bind(at, local, depth))
+        }
+        None => Err(AllocError),
+    }
+}
+
+// The value so far below the newest.
+fn value_below(values: &[Value7], depth: u64) -> Option<Value7> {
+    let above = values.len() as u64;
+    if depth < above {
+        Some(values[(above - 1 - depth) as usize])
+    } else {
+        None
+    }
+}
+
+/// The newest value is the pointer to a parameter, where the value so far below it is stored.
+pub fn bind_parameter(m: &mut Machine, unit: &Checked, local: u32, depth: u64) -> Result<(), Halt> {
+    let function = function_at(unit, m.function)?;
+    let at = pop_value(&mut m.values)?;
+    match value_below(m.values.as_slice(), depth) {
+        None => Err(Halt::Stops(Cause::Stuck)),
+        Some(value) => {
+            let kind = scalar(local_type(function, local));
+            store(&mut m.world, &unit.model, kind, at, value)?;
+            Ok(())
+        }
+    }
+}
+
+// ---- returns
+
+// The result is loaded where the call's value is used, and its object is left in any case.
+fn push_epilogue<'a>(
+    control: &mut Vec<Item7<'a>>,
+    function: &Function,
+    at: Place,
+    used: bool,
+) -> Result<(), AllocError> {
+    if is_void(&function.result) {
+        return Ok(());
+    }
+    push_item(control, Item7::LeaveOutcome(at))?;
+    if !used {
+        return Ok(());
+    }
+    push_item(
+        control,
+        Item7::Do(at, Operation7::Load(scalar(&function.result))),
+    )?;
+    push_item(control, Item7::Outcome(at))
+}
+
+// A function that was called leaves its parameters; a return goes to the end of the function.
+fn push_behind_body<'a>(
+    control: &mut Vec<Item7<'a>>,
+    function: &Function,
+    hops: bool,
+    callers: &[Frame7],
+) -> Result<(), AllocError> {
+    match callers.last() {
+        None => Ok(()),
+        Some(caller) => {
+            push_epilogue(control, function, caller.at, caller.used)?;
+            if hops {
+                push_item(control, Item7::Hop)?;
+            }
+            push_item(control, Item7::AlsoFrom(0, function.parameters))?;
+            push_item(control, Item7::LeavesBelow)
+        }
+    }
+}
+
+/// At a return all blocks are left, innermost first.
+pub fn leave_function(m: &mut Machine, unit: &Checked) -> Result<(), Halt> {
+    let function = function_at(unit, m.function)?;
+    let Ok(scopes) = open_scopes(m.world.alloc, m.control.as_slice()) else {
+        return Err(Halt::Memory);
+    };
+    m.control.clear();
+    held(push_behind_body(&mut m.control, function, true, m.frames.as_slice()))?;
+    for scope in scopes.iter().rev() {
+        held(push_objects(&mut m.control, scope.as_slice()))?;
+    }
+    held(push_item(&mut m.control, Item7::LeavesBelow))
+}
+
+/// The body of a function ends.
+pub fn end_body(m: &mut Machine, unit: &Checked) -> Result<(), Halt> {
+    let function = function_at(unit, m.function)?;
+    m.control.clear();
+    held(push_behind_body(&mut m.control, function, false, m.frames.as_slice()))
+}
+
+/// The function that waits goes on.
+pub fn back_to<'a>(m: &mut Machine<'a>, caller: Frame7<'a>) {
+    m.function = caller.function;
+    m.names = caller.names;
+    m.control = caller.control;
+}

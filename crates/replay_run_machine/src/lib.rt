@@ -1,0 +1,15 @@
+//! The machine of the source over the memory that a program keeps: one turn after the other.
+#![tactic(auto)]
+
+mod branch_turns;
+mod call_turns;
+mod jump_turns;
+mod machines;
+mod object_turns;
+mod operations;
+mod sizes;
+mod turns;
+
+pub use machines::{Frame7, Machine, next_item};
+pub use sizes::asked_bytes;
+pub use turns::{Turned7, begin, turn};
