@@ -1,3 +1,4 @@
 pub mod ByteSteps
 pub mod InstanceSteps
 pub mod NumberSteps
+pub mod Totals

@@ -1,6 +1,6 @@
 //! The memory of a run: its instances by their numbers.
-ghost use Rattle.std.specs.Prelude.{◌≡◌, ◌+◌, ◌<◌, ◌≤◌, ◌++◌, [], ◌∷◌, length, OnOk, OnErr, IfOk, slice_get, Some};
-ghost use Rattle.lib_models_memory.specs.Instances.{ended, freed, bytes_at, life_at};
+ghost use Rattle.std.specs.Prelude.{◌≡◌, ◌+◌, ◌<◌, ◌≤◌, ◌++◌, [], ◌∷◌, length, OnOk, OnErr, IfOk, slice_get, Some, true};
+ghost use Rattle.lib_models_memory.specs.Instances.{ended, freed, bytes_at, life_at, total_size};
 ghost use Rattle.lib_models_effects.specs.ObjectEffects.{fresh, blank_bytes, set_life, all_of};
 ghost use Rattle.lib_models_effects.specs.ScalarBytes.{region, replaced, refilled};
 ghost use Rattle.lib_models_effects.specs.Touches.{is_allocated, storage_at, set_bytes};
@@ -26,15 +26,20 @@ pub struct Memory7 {
     alloc: Global,
     pub(crate) model: Model,
     pub(crate) instances: Vec<Instance>,
+    // how many bytes all instances have together
+    total_bytes: u64,
 }
 
 impl std::marker::Model for Memory7 {
-    ghost use Rattle.std.specs.Prelude.{map};
+    ghost use Rattle.std.specs.Prelude.{◌≡◌, map};
+    ghost use Rattle.lib_models_memory.specs.Instances.{total_size};
     ghost use Rattle.lib_models_instances.specs.InstanceViews.{Instances, instance_view};
 
     ghost Value = { Instances };
 
     ghost view = { λ m. record { model = m.model; memory = map instance_view m.instances.items } };
+
+    ghost invariant = { λ m. m.total_bytes ≡ total_size (map instance_view m.instances.items) };
 }
 
 impl Memory7 {
@@ -46,7 +51,15 @@ impl Memory7 {
             alloc,
             model: *model,
             instances: Vec::new(alloc),
+            total_bytes: 0,
         }
+    }
+
+    /// Whether the memory is under a model.
+    pub fn is_under(&self, model: &Model) -> bool
+        ensures { result ≡ true → self.now.model ≡ model.now }
+    {
+        self.model == *model
     }
 
     /// Makes a live instance of `size` indeterminate bytes, with the tags of the leaves of its
@@ -57,6 +70,9 @@ impl Memory7 {
         ensures made { OnOk result (self.new ≡ remembering self.old (self.old.memory ++ fresh (storage_view kind) (blank_bytes self.old.model tags.now 0 size) ∷ [])) }
         ensures err { OnErr result (self.new ≡ self.old) }
     {
+        let Some(total) = self.total_bytes.checked_add(size) else {
+            return Err(Memory);
+        };
         let bytes = blank(self.alloc, &self.model, tags, size)?;
         let number = self.instances.len() as u32;
         self.instances.push(Instance {
@@ -64,6 +80,7 @@ impl Memory7 {
             state: InstState::Live,
             bytes,
         })?;
+        self.total_bytes = total;
         Ok(number)
     }
 
@@ -95,6 +112,13 @@ impl Memory7 {
         ensures { result ≡ length self.now.memory }
     {
         self.instances.len()
+    }
+
+    /// How many bytes all instances have together, those that have ended too.
+    pub fn total(&self) -> u64
+        ensures { result ≡ total_size self.now.memory }
+    {
+        self.total_bytes
     }
 
     /// The storage of an instance.

@@ -8,6 +8,7 @@ use Rattle.lib_models_instances.specs.ByteViews.{byte_view, bytes_view}
 use Rattle.lib_models_instances.specs.InstanceViews.{Instances, remembering, instance_view, with_byte}
 use Rattle.lib_models_instances.specs.declared.instances.Instance as held
 use Rattle.lib_models_instances.proofs.InstanceSteps.{storage_there, bytes_there, changed, there_by}
+use Rattle.lib_models_instances.proofs.Totals.{total_written}
 use Rattle.lib_models_instances.proofs.instance_memory.Memory7.set_byte.Goals as goal
 
 pub returns : goal.returns
@@ -31,3 +32,14 @@ returns c =
     let now : Instances = record { model = c.self.inside.model; memory = map instance_view (set xs i y) } in
     subst (λ it. now ≡ remembering it (set_bytes it.memory i (with_byte (is_allocated (storage_at it.memory i)) b (bytes_at it.memory i) at))) c.self.view_is
     (ap (λ m. record { model = c.self.inside.model; memory = m }) (changed xs i x y _ there refl refl made))
+
+pub invariant_of-self : goal.invariant_of-self
+invariant_of-self c =
+    let xs = c.self.inside.instances.items in
+    let x = c.index_mut-instance.result.now in
+    let asked : c.args.at < length (bytes_at (map instance_view xs) c.args.inst) = subst (λ it. c.args.at < length (bytes_at it.memory c.args.inst)) (sym c.self.view_is) c.requires in
+    let there : slice_get xs c.args.inst ≡ Some x = slice_get_read xs (length xs) c.args.inst x refl (there_by xs c.args.inst c.args.at asked) c.index_mut-instance.ensures.value in
+    let y : held.Instance = record { kind = x.kind; state = x.state; bytes = with_items x.bytes c.put_byte.new.bytes } in
+    let long : length c.put_byte.new.bytes ≡ x.bytes.len = c.put_byte.auto.bytes ∙ c.as_mut_slice.ensures.len in
+    let items : (with_items x.bytes c.put_byte.new.bytes).items ≡ c.put_byte.new.bytes = with_items_is x.bytes c.put_byte.new.bytes long in
+    c.self.invariant ∙ sym (total_written xs c.args.inst x y there (ap length items ∙ c.put_byte.auto.bytes ∙ ap length c.as_mut_slice.ensures.value))
