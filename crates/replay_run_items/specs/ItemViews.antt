@@ -8,10 +8,6 @@ use Rattle.c_layout.specs.CheckedTrees.{TermTree, StatementTree}
 use Rattle.c_layout.specs.CheckedUnits.{UnitView}
 use Rattle.c_layout.specs.declared.type_terms.CType.{CType}
 use Rattle.c_layout.specs.declared.checked_tree.checked_terms.ObjectRef.TheVariants.{Local}
-use Rattle.cc_base.specs.declared.int_types.IntType.{IntType}
-use Rattle.flow_program.specs.declared.machine_instructions.Scalar as declared
-use Rattle.flow_lower_tasks.specs.declared.term_kinds.OperatorMeaning.{OperatorMeaning}
-use Rattle.flow_lower_tasks.specs.declared.term_kinds.OperatorMeaning.TheVariants as meant
 use Rattle.flow_lower_conditions.specs.Tests.{named}
 use Rattle.ref_machine.specs.Operations as op
 use Rattle.ref_machine.specs.Operations.{Operation, Order}
@@ -61,16 +57,6 @@ operation_view (operation.Difference size) = op.Difference size
 operation_view (operation.ComparePointers rel) = op.ComparePointers rel
 operation_view (operation.Convert kind) = op.Convert kind
 operation_view (operation.Library function count target) = op.Library function count (type_seen target)
-
--- an operator on integers of a type
-abbrev pub operated : OperatorMeaning → IntType → Operation
-operated (meant.Number sign) kind = op.Binary op.LeftFirst sign kind
-operated (meant.Truth rel) kind = op.Compare rel
-
--- the store of a step at a place
-abbrev pub store_step_at : Place → declared.Scalar → Bool → List Item
-store_step_at at kind true = item.Do at (op.StoreOver kind) ∷ []
-store_step_at at kind false = item.Do at (op.Store kind) ∷ []
 
 abbrev pub change_view : Change7 → Change
 change_view change.Forget = item.Forget

@@ -9,9 +9,9 @@ use lib_models_replay::{Cause, Halt, is_false_value};
 use lib_models_replay_calls::fgets;
 use lib_models_replay_tests::{Side7, Test7, opposite, pass_case, pass_test};
 use replay_run_items::{
-    Item7, NamedSide7, NamedTest7, Sought7, case_of, drop_loop, enter_first, find, follow, is_in,
-    open_scopes, test_of,
+    Item7, NamedSide7, NamedTest7, drop_loop, enter_first, open_scopes, test_of,
 };
+use replay_run_statements::{Sought7, case_of, find, follow, is_in};
 
 // ---- tests
 

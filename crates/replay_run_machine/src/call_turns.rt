@@ -5,7 +5,8 @@ use cc_base::Place;
 use flow_lower_tasks::{is_void, scalar};
 use lib_models_instances::Value7;
 use lib_models_replay::{Cause, Halt, store};
-use replay_run_items::{Item7, Operation7, open_scopes, push_body, push_item, push_objects};
+use replay_run_items::{Item7, Operation7, open_scopes, push_item, push_objects};
+use replay_run_statements::push_body;
 use std::alloc::AllocError;
 use std::mem;
 

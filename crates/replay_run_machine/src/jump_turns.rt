@@ -2,7 +2,8 @@
 use crate::machines::{Machine, function_at, held};
 use c_layout::Checked;
 use lib_models_replay::{Cause, Halt};
-use replay_run_items::{drop_loop, drop_turn, find_label, has_label, jump, open_scopes};
+use replay_run_items::{drop_loop, drop_turn, jump, open_scopes};
+use replay_run_statements::{find_label, has_label};
 
 fn scopes_of(m: &Machine) -> Result<Vec<Vec<u32>>, Halt> {
     match open_scopes(m.world.alloc, m.control.as_slice()) {

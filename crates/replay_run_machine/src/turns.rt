@@ -15,10 +15,9 @@ use c_layout::{Checked, CheckedStatement, CheckedTerm, InitStore, ObjectRef};
 use cc_base::Place;
 use lib_models_replay::{Cause, Halt, World7, truth_value};
 use lib_models_replay_inputs::entry_parameters;
-use replay_run_items::{
-    Item7, Use7, Way7, push_address, push_body, push_item, push_loop, push_statement,
-    push_statements, push_term,
-};
+use replay_run_items::{Item7, Use7, Way7, push_item};
+use replay_run_statements::{push_body, push_loop, push_statement, push_statements};
+use replay_run_terms::{push_address, push_term};
 use std::alloc::{AllocError, Global};
 
 /// What a turn comes to, and the place of its step, where it is one.

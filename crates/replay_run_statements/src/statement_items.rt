@@ -10,12 +10,10 @@ ghost use Rattle.ref_machine.specs.StatementItems.{list_statements};
 ghost use Rattle.replay_run_items.specs.ItemViews.{turn_items, next_items, arm_items, loop_item, loop_turn};
 ghost use Rattle.replay_run_items.specs.Standings.{on_item, with_item, with_items, added, Stacks};
 
-use crate::condition_items::push_condition;
-use crate::items::{Arm7, Change7, Item7, Next7, Operation7, Use7, Way7};
-use crate::store_items::{push_copy, push_item, push_store};
 use c_layout::{CheckedStatement, CheckedTerm, Function, ObjectRef};
 use cc_base::Place;
 use flow_lower_tasks::scalar;
+use replay_run_items::{Arm7, Change7, Item7, Next7, Operation7, Use7, Way7, push_condition, push_copy, push_item, push_store};
 use std::alloc::AllocError;
 
 // A condition and what follows it.

@@ -5,13 +5,12 @@ ghost use Rattle.c_layout.specs.CheckedUnits.{UnitView, function_view};
 ghost use Rattle.ref_machine.specs.Items as machine;
 ghost use Rattle.ref_machine.specs.Items.{Item};
 ghost use Rattle.ref_machine.specs.LabelSearch as search;
-ghost use Rattle.replay_run_items.specs.LabelViews.{sought_view, looks_into_switches, Finds};
+ghost use Rattle.replay_run_statements.specs.LabelViews.{sought_view, looks_into_switches, Finds};
 ghost use Rattle.replay_run_items.specs.Standings.{standing};
 
-use crate::items::{Item7, Way7};
 use crate::statement_items::{push_do_test, push_for_step, push_statements, push_while_turn};
-use crate::store_items::push_item;
 use c_layout::{CaseLabel, CheckedStatement, Function};
+use replay_run_items::{Item7, Way7, push_item};
 use std::alloc::AllocError;
 
 /// A label of the function, or one of the innermost switch.

@@ -3,8 +3,8 @@ use Rattle.std.specs.Prelude.{◌≡◌, Bool, true, false, List, Option, Some, 
 use Rattle.ref_machine.specs.Items.{Item}
 use Rattle.ref_machine.specs.LabelSearch as search
 use Rattle.ref_machine.specs.LabelSearch.{Sought}
-use Rattle.replay_run_items.specs.declared.label_search.Sought7.{Sought7}
-use Rattle.replay_run_items.specs.declared.label_search.Sought7.TheVariants as sought
+use Rattle.replay_run_statements.specs.declared.label_search.Sought7.{Sought7}
+use Rattle.replay_run_statements.specs.declared.label_search.Sought7.TheVariants as sought
 
 abbrev pub sought_view : Sought7 → Sought
 sought_view (sought.Label n) = search.label n

@@ -6,7 +6,7 @@ use Rattle.ref_machine.specs.Items.{Item, Statement}
 use Rattle.ref_machine.specs.StatementItems.{statements, list_statements}
 use Rattle.ref_machine.specs.LabelSearch as search
 use Rattle.ref_machine.specs.LabelSearch.{Sought, first, here_or, inside_switch, found, found_in, found_among}
-use Rattle.replay_run_items.specs.LabelViews.{looks_into_switches}
+use Rattle.replay_run_statements.specs.LabelViews.{looks_into_switches}
 
 pub some_first : (a b : Option (List Item)) → is_some (first a b) ≡ (is_some a || is_some b)
 some_first None b = refl
