@@ -1,21 +1,17 @@
 -- The run that a replay follows, and what it comes to.
-use Rattle.std.specs.Prelude.{◌≡◌, ◌<◌, ℕ, ◌+◌, ℤ, Bool, true, false, cond, ◌||◌, nat_lt, nat_le, List, [], ◌∷◌, map, length}
+use Rattle.std.specs.Prelude.{◌≡◌, ◌<◌, ℕ, ℤ, Bool, true, false, ◌||◌, nat_lt, nat_le, List, map}
 use Rattle.cc_base.specs.DiagnosticOrder.{IsOrderedSet}
 use Rattle.cc_base.specs.declared.diagnostics.Diag.{Diag}
 use Rattle.c_layout.specs.CheckedUnits.{UnitView}
-use Rattle.lib_models_memory.specs.Instances.{Memory}
 use Rattle.lib_models_effects.specs.Worlds.{Violation}
 use Rattle.ref_machine.specs.SourceRuns.{SourceRun, world_of, found_in, steps_of, Run}
 use Rattle.ref_machine.specs.RunFacts.{has_stopped, end_of, used, size}
+use Rattle.lib_models_replay_inputs.specs.Sums.{most_bytes, IsPassed}
 use Rattle.replay_run.specs.OutcomeViews.{OutcomeView}
 use Rattle.replay_run.specs.declared.outcomes.ReplayStop.{ReplayStop}
 use Rattle.replay_run.specs.declared.outcomes.ReplayStop.TheVariants as stop
 
 -- ---- the run
-
--- the most bytes that all instances have together
-abbrev pub most_bytes : ℕ
-most_bytes = 4194304
 
 abbrev pub is_large : SourceRun → Bool
 is_large r = nat_lt most_bytes (size r)
@@ -49,16 +45,11 @@ pub record IsOutcome (u : UnitView) (draws : List ℤ) (steps : ℕ) (o : Outcom
 
 -- ---- its size
 
--- the sum of the sizes, from one on, up to the instance with which it passes a number
-abbrev pub passing_from : ℕ → ℕ → Memory → ℕ
-passing_from most sum [] = sum
-passing_from most sum (i ∷ is) = cond (nat_lt most (sum + length i.bytes)) (sum + length i.bytes) (passing_from most (sum + length i.bytes) is)
-
+-- the run is too large, first by so many bytes
 pub record IsTooLarge (u : UnitView) (draws : List ℤ) (steps count limit : ℕ) : Type 0 where
   pub run : SourceRun
   pub replayed : Replayed u draws steps run
-  pub large : is_large run ≡ true
-  pub count : count ≡ passing_from most_bytes 0 (world_of run).memory
+  pub passed : IsPassed count (world_of run).memory
   pub limit : limit ≡ most_bytes
 
 -- ---- no outcome

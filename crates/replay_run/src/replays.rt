@@ -4,12 +4,12 @@ ghost use Rattle.c_layout.specs.CheckedUnits.{unit_view};
 ghost use Rattle.replay_run.specs.Replays.{IsOutcome, IsStop};
 
 use crate::outcomes::{End, Outcome, ReplayStop};
-use crate::runs::{MOST_BYTES, follow, no_outcome};
+use crate::runs::{follow, no_outcome};
 use c_layout::Checked;
 use cc_base::{Diag, ordered_diagnostics};
 use lib_models_instances::Memory7;
 use lib_models_replay::World7;
-use lib_models_replay_inputs::{InstanceSum, start};
+use lib_models_replay_inputs::start;
 use lib_models_replay_starts::is_sound;
 use replay_run_machine::begin;
 use std::alloc::Global;
@@ -35,12 +35,8 @@ pub fn replay(
         return Err(ReplayStop::Memory);
     }
     let mut found = Vec::new(alloc);
-    let mut sum = InstanceSum {
-        bytes: 0,
-        limit: MOST_BYTES,
-    };
     let mut world = world_before(alloc, unit, draws)?;
-    match start(&mut world, unit, &mut sum) {
+    match start(&mut world, unit) {
         Ok(()) => {}
         Err(stop) => {
             let end = no_outcome(stop)?;
@@ -51,7 +47,7 @@ pub fn replay(
         Ok(m) => m,
         Err(_) => return Err(ReplayStop::Memory),
     };
-    let end = follow(&mut m, unit, &mut sum, &mut found, steps)?;
+    let end = follow(&mut m, unit, &mut found, steps)?;
     Ok(outcome(found, end, &m.world))
 }
 

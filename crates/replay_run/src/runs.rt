@@ -6,11 +6,8 @@ use crate::outcomes::{End, ReplayStop};
 use c_layout::Checked;
 use cc_base::{Diag, Place};
 use lib_models_replay::{Cause, Halt, World7};
-use lib_models_replay_inputs::{InstanceSum, StartStop};
+use lib_models_replay_inputs::{MOST_BYTES, StartStop, may_make};
 use replay_run_machine::{Machine, asked_bytes, next_item, turn};
-
-/// The most bytes that all instances have together.
-pub const MOST_BYTES: u64 = 4_194_304;
 
 /// How a run stands that has stopped.
 pub fn end_by(cause: Cause) -> End {
@@ -55,19 +52,21 @@ fn note(found: &mut Vec<Diag>, w: &World7, counted: Option<Place>) -> Result<(),
     Ok(())
 }
 
-// One turn more; whether it is a step.
+// One turn more; whether it is a step. No more bytes are made than there may be.
 fn go_on<'a>(
     m: &mut Machine<'a>,
     unit: &'a Checked,
-    sum: &mut InstanceSum,
     found: &mut Vec<Diag>,
 ) -> Result<bool, StartStop>
     requires { is_model unit.now.model ≡ true }
 {
     let item = next_item(&mut m.control);
     let asked = asked_bytes(m, unit, item)?;
-    sum.add(asked)?;
+    may_make(&m.world, asked)?;
     let turned = turn(m, unit, item);
+    if m.world.memory.total() > MOST_BYTES {
+        return Err(StartStop::Memory);
+    }
     note(found, &m.world, turned.counted)?;
     turned.reply?;
     Ok(turned.counted.is_some())
@@ -77,7 +76,6 @@ fn go_on<'a>(
 pub fn follow<'a>(
     m: &mut Machine<'a>,
     unit: &'a Checked,
-    sum: &mut InstanceSum,
     found: &mut Vec<Diag>,
     steps: u64,
 ) -> Result<End, ReplayStop>
@@ -88,7 +86,7 @@ pub fn follow<'a>(
         if made >= steps {
             return Ok(End::Steps);
         }
-        match go_on(m, unit, sum, found) {
+        match go_on(m, unit, found) {
             Ok(true) => made += 1,
             Ok(false) => {}
             Err(stop) => return no_outcome(stop),

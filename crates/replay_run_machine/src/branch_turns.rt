@@ -1,5 +1,5 @@
 //! Turns that choose what follows: conditions, lines that are read, and switches.
-use crate::machines::{Machine, held, instance_of, pop_value};
+use crate::machines::{Machine, instance_of};
 use c_layout::{Checked, CheckedStatement, CheckedTerm};
 use cc_base::Rel;
 use flow_lower_conditions::{NamedObject, named};
@@ -11,6 +11,7 @@ use lib_models_replay_tests::{Side7, Test7, opposite, pass_case, pass_test};
 use replay_run_items::{
     Item7, NamedSide7, NamedTest7, drop_loop, enter_first, open_scopes, test_of,
 };
+use replay_run_operations::pop_value;
 use replay_run_statements::{Sought7, case_of, find, follow, is_in};
 
 // ---- tests
@@ -66,7 +67,10 @@ pub fn choose(
             None => {}
         }
     }
-    held(follow(&mut m.control, holds))
+    match follow(&mut m.control, holds) {
+        Ok(()) => Ok(()),
+        Err(_) => Err(Halt::Memory),
+    }
 }
 
 /// A line is read, and a condition goes on by whether there was one.
@@ -76,7 +80,10 @@ pub fn read_line(m: &mut Machine, unit: &Checked, wants_line: bool) -> Result<()
     let text = pop_value(&mut m.values)?;
     let line = fgets(&mut m.world, &unit.model, text, size, stream)?;
     let found = !is_false_value(line);
-    held(follow(&mut m.control, found == wants_line))
+    match follow(&mut m.control, found == wants_line) {
+        Ok(()) => Ok(()),
+        Err(_) => Err(Halt::Memory),
+    }
 }
 
 // ---- switches
@@ -123,11 +130,16 @@ fn land<'a>(m: &mut Machine<'a>, body: &'a CheckedStatement, sought: Sought7) ->
         return Err(Halt::Memory);
     };
     if is_in(sought, body) {
-        held(find(&mut m.control, sought, body))?;
+        let Ok(()) = find(&mut m.control, sought, body) else {
+            return Err(Halt::Memory);
+        };
     } else {
         land_behind(&mut m.control, sought)?;
     }
-    held(enter_first(alloc, &mut m.control, from.as_slice()))
+    match enter_first(alloc, &mut m.control, from.as_slice()) {
+        Ok(()) => Ok(()),
+        Err(_) => Err(Halt::Memory),
+    }
 }
 
 /// The newest value selects a label of a switch's body.

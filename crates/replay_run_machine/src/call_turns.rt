@@ -1,13 +1,26 @@
 //! Calls of functions of the unit, and returns from them.
-use crate::machines::{Frame7, Machine, function_at, held, local_type, pop_value, result_object};
+ghost use Rattle.std.specs.Prelude.{◌≡◌, ◌∷◌, ◌++◌, [], map, reverse, IfOk};
+ghost use Rattle.c_layout.specs.CheckedUnits.{UnitView, unit_view, function_view};
+ghost use Rattle.lib_models_instances.specs.ByteViews.{scalar_view};
+ghost use Rattle.lib_models_memory.specs.Bytes.{MachinePointer};
+ghost use Rattle.ref_machine.specs.CallSteps as machine;
+ghost use Rattle.ref_machine.specs.Items as item;
+ghost use Rattle.ref_machine.specs.Scopes.{open_scopes, all_of};
+ghost use Rattle.ref_machine.specs.StatementItems.{body};
+ghost use Rattle.replay_run_items.specs.Standings.{standing};
+ghost use Rattle.replay_run_machine.specs.MachineViews.{frame_view, state_view};
+ghost use Rattle.replay_run_machine.specs.Moves.{Moves};
+
+use crate::machines::{Frame7, Machine, function_at, local_type, result_object};
 use c_layout::{Checked, Function};
 use cc_base::Place;
 use flow_lower_tasks::{is_void, scalar};
 use lib_models_instances::Value7;
-use lib_models_replay::{Cause, Halt, store};
+use lib_models_replay::{Cause, Halt};
 use replay_run_items::{Item7, Operation7, open_scopes, push_item, push_objects};
+use replay_run_operations::{pop_value, store_to};
 use replay_run_statements::push_body;
-use std::alloc::AllocError;
+use std::alloc::{AllocError, Global};
 use std::mem;
 
 // ---- calls
@@ -45,7 +58,9 @@ pub fn invoke<'a>(
     let outcome = result_object(function)?;
     let alloc = m.world.alloc;
     let mut control = Vec::new(alloc);
-    held(push_prologue(&mut control, function, outcome, count))?;
+    let Ok(()) = push_prologue(&mut control, function, outcome, count) else {
+        return Err(Halt::Memory);
+    };
     let caller = Frame7 {
         function: m.function,
         names: mem::replace(&mut m.names, Vec::new(alloc)),
@@ -98,7 +113,7 @@ pub fn bind_parameter(m: &mut Machine, unit: &Checked, local: u32, depth: u64) -
         None => Err(Halt::Stops(Cause::Stuck)),
         Some(value) => {
             let kind = scalar(local_type(function, local));
-            store(&mut m.world, &unit.model, kind, at, value)?;
+            store_to(&mut m.world, unit, kind, at, value)?;
             Ok(())
         }
     }
@@ -147,25 +162,43 @@ fn push_behind_body<'a>(
     }
 }
 
+fn push_scopes(control: &mut Vec<Item7>, scopes: &[Vec<u32>]) -> Result<(), AllocError> {
+    for scope in scopes.iter().rev() {
+        push_objects(control, scope.as_slice())?;
+    }
+    push_item(control, Item7::LeavesBelow)
+}
+
+// All blocks are left, innermost first, and then the function.
+fn leave_blocks<'a>(
+    alloc: Global,
+    control: &mut Vec<Item7<'a>>,
+    function: &Function,
+    callers: &[Frame7],
+) -> Result<(), AllocError> {
+    let scopes = open_scopes(alloc, control.as_slice())?;
+    control.clear();
+    push_behind_body(control, function, true, callers)?;
+    push_scopes(control, scopes.as_slice())
+}
+
 /// At a return all blocks are left, innermost first.
 pub fn leave_function(m: &mut Machine, unit: &Checked) -> Result<(), Halt> {
     let function = function_at(unit, m.function)?;
-    let Ok(scopes) = open_scopes(m.world.alloc, m.control.as_slice()) else {
-        return Err(Halt::Memory);
-    };
-    m.control.clear();
-    held(push_behind_body(&mut m.control, function, true, m.frames.as_slice()))?;
-    for scope in scopes.iter().rev() {
-        held(push_objects(&mut m.control, scope.as_slice()))?;
+    match leave_blocks(m.world.alloc, &mut m.control, function, m.frames.as_slice()) {
+        Ok(()) => Ok(()),
+        Err(_) => Err(Halt::Memory),
     }
-    held(push_item(&mut m.control, Item7::LeavesBelow))
 }
 
 /// The body of a function ends.
 pub fn end_body(m: &mut Machine, unit: &Checked) -> Result<(), Halt> {
     let function = function_at(unit, m.function)?;
     m.control.clear();
-    held(push_behind_body(&mut m.control, function, false, m.frames.as_slice()))
+    match push_behind_body(&mut m.control, function, false, m.frames.as_slice()) {
+        Ok(()) => Ok(()),
+        Err(_) => Err(Halt::Memory),
+    }
 }
 
 /// The function that waits goes on.

@@ -6,8 +6,8 @@ mod call_turns;
 mod jump_turns;
 mod machines;
 mod object_turns;
-mod operations;
 mod sizes;
+mod store_turns;
 mod turns;
 
 pub use machines::{Frame7, Machine, next_item};

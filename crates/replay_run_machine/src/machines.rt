@@ -1,22 +1,22 @@
 //! Where a run of the source stands.
-ghost use Rattle.std.specs.Prelude.{◌≡◌, ℕ, [], ◌∷◌, true, Some, None, MatchOption, MatchResult, IfOk, IfErr};
+ghost use Rattle.std.specs.Prelude.{◌≡◌, [], true, Some, None, MatchOption, MatchResult, IfOk, IfErr};
 ghost use Rattle.c_layout.specs.Types.{view};
 ghost use Rattle.c_layout.specs.CheckedUnits.{UnitView, unit_view, function_view};
 ghost use Rattle.flow_lower_functions.specs.Functions.{local_type};
 ghost use Rattle.lib_models_effects.specs.NumberedTables.{set_at};
-ghost use Rattle.lib_models_instances.specs.ByteViews.{scalar_view};
 ghost use Rattle.lib_models_replay.specs.declared.worlds.Halt.TheVariants as halt;
 ghost use Rattle.lib_models_replay.specs.declared.worlds.Cause.TheVariants as cause;
 ghost use Rattle.ref_machine.specs.SourceStates.{function_at, result_object, instance_of};
 ghost use Rattle.replay_run_items.specs.Standings.{Standing, on_item, standing};
-ghost use Rattle.replay_run_machine.specs.MachineViews.{names_view, pending};
+ghost use Rattle.replay_run_machine.specs.MachineViews.{names_view};
+ghost use Rattle.replay_run_machine.specs.Moves.{object_type};
 
 use c_layout::{CType, Checked, Function, ObjectRef};
 use cc_base::Place;
 use lib_models_instances::Value7;
 use lib_models_replay::{Cause, Halt, World7};
 use replay_run_items::{Item7, Use7, Way7};
-use std::alloc::{AllocError, Global};
+use std::alloc::Global;
 
 /// A function that waits for a call: its number, the instances that its objects name, what it still
 /// has to do behind the call, the call's place, and whether its value is used.
@@ -76,33 +76,6 @@ pub fn next_item<'a>(control: &mut Vec<Item7<'a>>) -> Option<Item7<'a>>
         }
     }
     None
-}
-
-/// What a list has taken in, or want of memory.
-pub fn held(pushed: Result<(), AllocError>) -> Result<(), Halt> {
-    match pushed {
-        Ok(()) => Ok(()),
-        Err(_) => Err(Halt::Memory),
-    }
-}
-
-pub fn push_value(values: &mut Vec<Value7>, value: Value7) -> Result<(), Halt>
-    ensures pushed { IfOk result (λ _. pending values.new.items ≡ scalar_view value ∷ pending values.old.items) }
-    ensures memory { IfErr result (λ h. h ≡ halt.Memory) }
-{
-    match values.push(value) {
-        Ok(()) => Ok(()),
-        Err(_) => Err(Halt::Memory),
-    }
-}
-
-pub fn pop_value(values: &mut Vec<Value7>) -> Result<Value7, Halt>
-    ensures { MatchResult result (λ value. pending values.old.items ≡ scalar_view value ∷ pending values.new.items) (λ h. (h ≡ halt.Stops cause.Stuck) × (pending values.old.items ≡ [])) }
-{
-    match values.pop() {
-        Some(value) => Ok(value),
-        None => Err(Halt::Stops(Cause::Stuck)),
-    }
 }
 
 // ---- what is there, without which a run is stuck
@@ -169,7 +142,7 @@ pub fn instance_of(names: &[Option<u32>], object: ObjectRef) -> Result<u32, Halt
 
 /// A local object names an instance, or none.
 pub fn set_name(names: &mut Vec<Option<u32>>, local: u32, inst: Option<u32>) -> Result<(), Halt>
-    ensures named { IfOk result (λ _. (n : ℕ) → names_view names.new.items n ≡ set_at (names_view names.old.items) local inst n) }
+    ensures named { IfOk result (λ _. names_view names.new.items ≡ set_at (names_view names.old.items) local inst) }
     ensures memory { IfErr result (λ h. h ≡ halt.Memory) }
 {
     let at = local as usize;
@@ -184,7 +157,9 @@ pub fn set_name(names: &mut Vec<Option<u32>>, local: u32, inst: Option<u32>) -> 
 }
 
 /// The type of an object.
-pub fn type_of<'a>(unit: &'a Checked, function: u32, object: ObjectRef) -> Result<&'a CType, Halt> {
+pub fn type_of<'a>(unit: &'a Checked, function: u32, object: ObjectRef) -> Result<&'a CType, Halt>
+    ensures { MatchResult result (λ t. object_type (unit_view unit.now) function object ≡ Some (view t.now)) (λ h. (h ≡ halt.Stops cause.Stuck) × (object_type (unit_view unit.now) function object ≡ None)) }
+{
     match object {
         ObjectRef::Static(number) => match unit.objects.get(number as usize) {
             Some(found) => Ok(&found.ctype),
@@ -195,7 +170,14 @@ pub fn type_of<'a>(unit: &'a Checked, function: u32, object: ObjectRef) -> Resul
 }
 
 /// A machine of no function and no item.
-pub fn at_rest<'a>(alloc: Global, function: u32, world: World7) -> Machine<'a> {
+pub fn at_rest<'a>(alloc: Global, function: u32, world: World7) -> Machine<'a>
+    ensures world { result.world ≡ world.entry }
+    ensures function { result.function ≡ function }
+    ensures names { result.names.items ≡ [] }
+    ensures control { result.control.items ≡ [] }
+    ensures values { result.values.items ≡ [] }
+    ensures frames { result.frames.items ≡ [] }
+{
     Machine {
         function,
         names: Vec::new(alloc),

@@ -3,12 +3,12 @@ ghost use Rattle.std.specs.Prelude.{◌≡◌, true};
 ghost use Rattle.c_layout.specs.Models.{is_model};
 
 use crate::machines::{Machine, function_at, local_type, name_of};
-use crate::operations::newest;
 use c_layout::{Checked, LibFn};
 use flow_program::type_bytes;
 use lib_models_instances::{InstKind, InstState, Pointer7, Value7};
 use lib_models_replay::{Halt, World7, most_size};
 use replay_run_items::{Item7, Operation7};
+use replay_run_operations::newest;
 
 // ---- objects
 

@@ -5,17 +5,18 @@ ghost use Rattle.c_layout.specs.Models.{is_model};
 use crate::branch_turns::{choose, read_line, select};
 use crate::call_turns::{back_to, bind_parameter, end_body, invoke, leave_function, push_binds};
 use crate::jump_turns::{break_out, go_to, next_turn};
-use crate::machines::{Machine, at_rest, held, pop_value, push_value, set_name};
+use crate::machines::{Machine, at_rest, set_name};
 use crate::object_turns::{
-    begin_store, change, enter_object, leave_object, leave_outcome, next_object, point_to,
-    point_to_literal, point_to_outcome,
+    change, enter_object, leave_object, leave_outcome, next_object, point_to, point_to_literal,
+    point_to_outcome,
 };
-use crate::operations::perform;
+use crate::store_turns::begin_store;
 use c_layout::{Checked, CheckedStatement, CheckedTerm, InitStore, ObjectRef};
 use cc_base::Place;
 use lib_models_replay::{Cause, Halt, World7, truth_value};
 use lib_models_replay_inputs::entry_parameters;
 use replay_run_items::{Item7, Use7, Way7, push_item};
+use replay_run_operations::{perform, pop_value, push_value};
 use replay_run_statements::{push_body, push_loop, push_statement, push_statements};
 use replay_run_terms::{push_address, push_term};
 use std::alloc::{AllocError, Global};
@@ -38,6 +39,14 @@ fn step(at: Place, reply: Result<(), Halt>) -> Turned7 {
     Turned7 {
         reply,
         counted: Some(at),
+    }
+}
+
+// What a list has taken in, or want of memory.
+fn held(pushed: Result<(), AllocError>) -> Result<(), Halt> {
+    match pushed {
+        Ok(()) => Ok(()),
+        Err(_) => Err(Halt::Memory),
     }
 }
 

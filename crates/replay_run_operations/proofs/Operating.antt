@@ -1,0 +1,41 @@
+-- Operations on the values that are pending.
+use Rattle.std.proofs.Common.{◌≡◌, ◌<◌, ℕ, List, [], ◌∷◌, length, Result, refl, sym, subst, arith}
+use Rattle.lib_models_memory.specs.Scalars.{Scalar}
+use Rattle.lib_models_effects.specs.Worlds.{World, Reply}
+use Rattle.lib_models_instances.specs.declared.byte_forms.Value7.{Value7}
+use Rattle.lib_models_replay.specs.WorldViews.{HaltsAs}
+use Rattle.lib_models_replay.specs.declared.worlds.Cause.TheVariants as cause
+use Rattle.lib_models_replay.specs.declared.worlds.Halt.{Halt}
+use Rattle.lib_models_replay.specs.declared.worlds.Halt.TheVariants as halt
+use Rattle.ref_machine.specs.Operations as op
+use Rattle.ref_machine.specs.Operations.{Order, on_one, on_two, pushing}
+use Rattle.replay_run_operations.specs.Operands.{two_above}
+use Rattle.replay_run_operations.specs.Pending.{Operates}
+
+-- a run that is stuck for want of values
+pub stuck_at : (reply : List Scalar → Reply (List Scalar)) (vs : List Scalar) (h : Halt) (w : World) → (h ≡ halt.Stops cause.Stuck) × (vs ≡ []) → HaltsAs (reply []) (halt.Stops cause.Stuck) w → HaltsAs (reply vs) h w
+stuck_at reply vs h w p e = subst (λ xs. HaltsAs (reply xs) h w) (sym p.1) (subst (λ k. HaltsAs (reply []) k w) (sym p.0) e)
+
+pub one_stuck : (vs : List Scalar) (w : World) (effect : Scalar → World → Reply Scalar) (h : Halt) → (h ≡ halt.Stops cause.Stuck) × (vs ≡ []) → HaltsAs (on_one vs w effect) h w
+one_stuck vs w effect h p = stuck_at (λ xs. on_one xs w effect) vs h w p refl
+
+pub one_given : (vs rest : List Scalar) (a : Scalar) (w v : World) (effect : Scalar → World → Reply Scalar) (r : Result (Unit {0}) Halt) (values : List Value7) → vs ≡ a ∷ rest → Operates (pushing rest (effect a w)) r values v → Operates (on_one vs w effect) r values v
+one_given vs rest a w v effect r values e p = subst (λ xs. Operates (on_one xs w effect) r values v) (sym e) p
+
+few_values : (o : Order) (vs : List Scalar) (w : World) (effect : Scalar → Scalar → World → Reply Scalar) → length vs < 2 → HaltsAs (on_two o vs w effect) (halt.Stops cause.Stuck) w
+few_values op.LeftFirst [] w effect h = refl
+few_values op.RightFirst [] w effect h = refl
+few_values op.LeftFirst (a ∷ []) w effect h = refl
+few_values op.RightFirst (a ∷ []) w effect h = refl
+few_values op.LeftFirst (a ∷ (b ∷ vs)) w effect h = absurd (omega arith)
+few_values op.RightFirst (a ∷ (b ∷ vs)) w effect h = absurd (omega arith)
+
+pub two_stuck : (o : Order) (vs : List Scalar) (w : World) (effect : Scalar → Scalar → World → Reply Scalar) (h : Halt) → (h ≡ halt.Stops cause.Stuck) × (length vs < 2) → HaltsAs (on_two o vs w effect) h w
+two_stuck o vs w effect h p = subst (λ k. HaltsAs (on_two o vs w effect) k w) (sym p.0) (few_values o vs w effect p.1)
+
+two_there : (o : Order) (rest : List Scalar) (a b : Scalar) (w v : World) (effect : Scalar → Scalar → World → Reply Scalar) (r : Result (Unit {0}) Halt) (values : List Value7) → Operates (pushing rest (effect a b w)) r values v → Operates (on_two o (two_above o a b rest) w effect) r values v
+two_there op.LeftFirst rest a b w v effect r values p = p
+two_there op.RightFirst rest a b w v effect r values p = p
+
+pub two_given : (o : Order) (vs rest : List Scalar) (a b : Scalar) (w v : World) (effect : Scalar → Scalar → World → Reply Scalar) (r : Result (Unit {0}) Halt) (values : List Value7) → vs ≡ two_above o a b rest → Operates (pushing rest (effect a b w)) r values v → Operates (on_two o vs w effect) r values v
+two_given o vs rest a b w v effect r values e p = subst (λ xs. Operates (on_two o xs w effect) r values v) (sym e) (two_there o rest a b w v effect r values p)
