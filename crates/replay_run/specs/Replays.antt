@@ -20,12 +20,16 @@ is_large r = nat_lt most_bytes (size r)
 abbrev pub is_over : ℕ → SourceRun → Bool
 is_over steps r = has_stopped r || (nat_le steps (steps_of r) || is_large r)
 
--- the run of the fewest turns that is over
-pub record Replayed (u : UnitView) (draws : List ℤ) (steps : ℕ) (r : SourceRun) : Type 0 where
+-- a run of so many turns, with none of fewer that is over
+pub record Reaches (u : UnitView) (draws : List ℤ) (steps : ℕ) (r : SourceRun) : Type 0 where
   pub turns : ℕ
   pub is : Run u draws turns ≡ r
-  pub over : is_over steps r ≡ true
   pub first : (n : ℕ) → n < turns → is_over steps (Run u draws n) ≡ false
+
+-- the run of the fewest turns that is over
+pub record Replayed (u : UnitView) (draws : List ℤ) (steps : ℕ) (r : SourceRun) : Type 0 where
+  pub reached : Reaches u draws steps r
+  pub over : is_over steps r ≡ true
 
 -- ---- its outcome
 

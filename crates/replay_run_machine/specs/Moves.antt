@@ -8,6 +8,8 @@ use Rattle.c_layout.specs.declared.checked_tree.checked_terms.ObjectRef.TheVaria
 use Rattle.lib_models_effects.specs.Worlds.{Reply, goes}
 use Rattle.lib_models_replay.specs.WorldViews.{world_view, HaltsAs}
 use Rattle.lib_models_replay.specs.declared.worlds.Halt.{Halt}
+use Rattle.ref_machine.specs.Items.{Item}
+use Rattle.ref_machine.specs.Scopes.{jump}
 use Rattle.ref_machine.specs.SourceStates.{State, static_type, local_of, function_at}
 use Rattle.ref_machine.specs.SourceSteps.{Turned}
 use Rattle.replay_run_machine.specs.MachineViews.{state_view}
@@ -28,3 +30,8 @@ pub record TurnsTo (u : UnitView) (turned : Turned) (t : Turned7) (m : Machine) 
 abbrev pub object_type : UnitView → ℕ → ObjectRef → Option Ty
 object_type u f (Static n) = static_type (slice_get u.objects n)
 object_type u f (Local n) = local_of (function_at u f) n
+
+-- a list of items is what a jump to others comes to, where they are found
+abbrev pub JumpsTo : Option (List Item) → List Item → List Item → Type 0
+JumpsTo None from now = Unit {0}
+JumpsTo (Some to) from now = now ≡ jump from to

@@ -1,13 +1,13 @@
 //! Turns that go somewhere else in a function.
-ghost use Rattle.std.specs.Prelude.{◌≡◌, map, IfOk, IfErr};
-ghost use Rattle.c_layout.specs.CheckedUnits.{UnitView, unit_view};
-ghost use Rattle.lib_models_replay.specs.declared.worlds.Halt.TheVariants as halt;
+ghost use Rattle.std.specs.Prelude.{◌≡◌, IfOk};
+ghost use Rattle.c_layout.specs.CheckedUnits.{UnitView, unit_view, function_view};
+ghost use Rattle.ref_machine.specs.LabelSearch.{from_label};
 ghost use Rattle.ref_machine.specs.ObjectSteps.{on};
 ghost use Rattle.ref_machine.specs.Scopes as scopes;
 ghost use Rattle.ref_machine.specs.SourceSteps as machine;
 ghost use Rattle.replay_run_items.specs.Standings.{standing};
 ghost use Rattle.replay_run_machine.specs.MachineViews.{state_view};
-ghost use Rattle.replay_run_machine.specs.Moves.{Moves};
+ghost use Rattle.replay_run_machine.specs.Moves.{JumpsTo, Moves};
 
 use crate::machines::{Machine, function_at};
 use c_layout::{Checked, Function};
@@ -22,7 +22,9 @@ fn jump_to_label<'a>(
     control: &mut Vec<Item7<'a>>,
     function: &'a Function,
     label: u32,
-) -> Result<(), AllocError> {
+) -> Result<(), AllocError>
+    ensures { (u : UnitView) → IfOk result (λ _. JumpsTo (from_label u (function_view function.now) label) (standing u control.old.items).items (standing u control.new.items).items) }
+{
     let from = open_scopes(alloc, control.as_slice())?;
     control.clear();
     find_label(control, function, label)?;

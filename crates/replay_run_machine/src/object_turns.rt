@@ -129,8 +129,8 @@ pub fn leave_outcome(m: &mut Machine, unit: &Checked) -> Result<(), Halt>
 
 // ---- objects of the entries below
 
-// Whether an entry of a list of items ends the objects that one above it enters or leaves.
-fn ends_objects(item: &Item7) -> bool
+/// Whether an entry of a list of items ends the objects that one above it enters or leaves.
+pub fn ends_objects(item: &Item7) -> bool
     ensures { (u : UnitView) (s : Standing) → result ≡ true → (on_item u item.now s).objects ≡ [] }
 {
     match item {
