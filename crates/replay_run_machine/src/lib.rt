@@ -3,6 +3,7 @@
 
 mod branch_turns;
 mod call_turns;
+mod item_turns;
 mod jump_turns;
 mod machines;
 mod object_turns;
@@ -10,6 +11,7 @@ mod sizes;
 mod store_turns;
 mod turns;
 
+pub use item_turns::Turned7;
 pub use machines::{Frame7, Machine, next_item};
 pub use sizes::asked_bytes;
-pub use turns::{Turned7, begin, turn};
+pub use turns::{begin, turn};

@@ -1,5 +1,5 @@
 //! Where a run of the source stands.
-ghost use Rattle.std.specs.Prelude.{◌≡◌, [], true, Some, None, MatchOption, MatchResult, IfOk, IfErr};
+ghost use Rattle.std.specs.Prelude.{◌≡◌, [], true, Some, None, MatchResult, IfOk, IfErr};
 ghost use Rattle.c_layout.specs.Types.{view};
 ghost use Rattle.c_layout.specs.CheckedUnits.{UnitView, unit_view, function_view};
 ghost use Rattle.flow_lower_functions.specs.Functions.{local_type};
@@ -8,7 +8,7 @@ ghost use Rattle.lib_models_replay.specs.declared.worlds.Halt.TheVariants as hal
 ghost use Rattle.lib_models_replay.specs.declared.worlds.Cause.TheVariants as cause;
 ghost use Rattle.ref_machine.specs.SourceStates.{function_at, result_object, instance_of};
 ghost use Rattle.replay_run_items.specs.Standings.{Standing, on_item, standing};
-ghost use Rattle.replay_run_machine.specs.MachineViews.{names_view};
+ghost use Rattle.replay_run_machine.specs.MachineViews.{items_with, names_view};
 ghost use Rattle.replay_run_machine.specs.Moves.{object_type};
 
 use c_layout::{CType, Checked, Function, ObjectRef};
@@ -68,7 +68,7 @@ fn is_silent(item: &Item7) -> bool
 
 /// Takes the next item, where there is one.
 pub fn next_item<'a>(control: &mut Vec<Item7<'a>>) -> Option<Item7<'a>>
-    ensures { (u : UnitView) → MatchOption result ((standing u control.old.items).items ≡ []) (λ item. (standing u control.old.items).items ≡ (on_item u item (standing u control.new.items)).items) }
+    ensures { (u : UnitView) → (standing u control.old.items).items ≡ items_with u result (standing u control.new.items) }
 {
     while let Some(item) = control.pop() {
         if !is_silent(&item) {

@@ -1,4 +1,9 @@
 //! Turns on the stores of initializers.
+ghost use Rattle.c_layout.specs.CheckedTrees.{store_tree};
+ghost use Rattle.c_layout.specs.CheckedUnits.{unit_view};
+ghost use Rattle.ref_machine.specs.StatementItems.{stored};
+ghost use Rattle.replay_run_machine.specs.Moves.{Moves, turn_with};
+
 use crate::machines::{Machine, named};
 use crate::object_turns::point_to;
 use c_layout::{Checked, InitStore, ObjectRef};
@@ -14,7 +19,9 @@ pub fn begin_store<'a>(
     at: Place,
     local: u32,
     store: &'a InitStore,
-) -> Result<(), Halt> {
+) -> Result<(), Halt>
+    ensures { Moves (unit_view unit.now) (turn_with (unit_view unit.now) (stored at local (store_tree store.now)) m.old).reply result m.new }
+{
     match store {
         InitStore::Value(offset, value) => {
             let Ok(()) = push_store(&mut m.control, at, value) else {
