@@ -1,5 +1,5 @@
 -- The start of a run, step by step.
-use Rattle.std.proofs.Common.{◌≡◌, ℕ, ℤ, Bool, true, false, List, [], ◌∷◌, ◌++◌, length, map, refl, sym, ap, subst, ◌∙◌}
+use Rattle.std.proofs.Common.{◌≡◌, ℕ, ℤ, Bool, true, false, List, [], ◌∷◌, ◌++◌, length, map, Result, refl, sym, ap, subst, ◌∙◌}
 use Rattle.cc_base.specs.IntegerTypes.{least_of, greatest_of}
 use Rattle.cc_base.specs.declared.int_types.IntType.{IntType}
 use Rattle.c_layout.specs.Types as ty
@@ -8,12 +8,14 @@ use Rattle.c_layout.specs.CheckedUnits.{UnitView, StaticView, LiteralView, Local
 use Rattle.lib_models_memory.specs.Bytes.{Byte}
 use Rattle.lib_models_memory.specs.Instances.{Instance, Memory, total_size}
 use Rattle.lib_models_effects.specs.ObjectEffects.{with_instance}
-use Rattle.lib_models_effects.specs.UnitStarts.{static_instance, literal_made, input, with_parameter, with_parameters}
+use Rattle.lib_models_effects.specs.UnitStarts.{static_instance, literal_made, input, with_parameter, with_parameters, entry_parameters}
 use Rattle.lib_models_effects.specs.Worlds.{World, Reply, goes, stops, behind, done, drawn_in, drawn_from, world_of}
-use Rattle.lib_models_replay.specs.WorldViews.{why_view}
+use Rattle.lib_models_replay.specs.WorldViews.{why_view, HaltsAs}
+use Rattle.lib_models_replay.specs.declared.worlds.Halt.{Halt}
+use Rattle.lib_models_replay.specs.declared.worlds.Halt.TheVariants as halt
 use Rattle.lib_models_replay_starts.specs.Rewrites.{objects_made, literals_made}
-use Rattle.lib_models_replay_inputs.specs.Starts.{StopsStart}
-use Rattle.lib_models_replay_inputs.specs.Sums.{most_bytes, PassesBy}
+use Rattle.lib_models_replay_inputs.specs.Starts.{StopsStart, StartsAs, started}
+use Rattle.lib_models_replay_inputs.specs.Sums.{most_bytes, PassesBy, stop_by}
 use Rattle.lib_models_replay_inputs.specs.declared.instance_sums.StartStop.{StartStop}
 use Rattle.lib_models_replay_inputs.specs.declared.instance_sums.StartStop.TheVariants as stop
 use Rattle.lib_models_replay_inputs.proofs.Passing.{Extends, none_more, append_both, extends_none, extends_one, extends_both, passes_at, passed_by}
@@ -82,3 +84,49 @@ stops_behind stop.Memory r next v p e = tt
 
 pub parameter_stops : (u : UnitView) (l : LocalView) (ls : List LocalView) (why : StartStop) (w v : World) → StopsStart (with_parameter u l.ctype w) why v → StopsStart (with_parameters u (l ∷ ls) w) why v
 parameter_stops u l ls why w v e = stops_behind why (with_parameter u l.ctype w) (with_parameters u ls) v (parameters_extend u ls) e
+
+-- ---- halts
+
+pub memory_stops : (h : Halt) (why : StartStop) (reply : Reply (Unit {0})) (v : World) → h ≡ halt.Memory → why ≡ stop_by h → StopsStart reply why v
+memory_stops h why reply v e f = subst (λ k. StopsStart reply k v) (sym (f ∙ ap stop_by e)) tt
+
+draw_halts : (h : Halt) (r : Reply ℤ) (next : ℤ → World → Reply (Unit {0})) (v : World) → HaltsAs r h v → StopsStart (behind r next) (stop_by h) v
+draw_halts (halt.Stops why) r next v e = ap (λ z. behind z next) e
+draw_halts halt.Memory r next v e = tt
+
+pub draw_stops : (h : Halt) (why : StartStop) (r : Reply ℤ) (next : ℤ → World → Reply (Unit {0})) (v : World) → HaltsAs r h v → why ≡ stop_by h → StopsStart (behind r next) why v
+draw_stops h why r next v e f = subst (λ k. StopsStart (behind r next) k v) (sym f) (draw_halts h r next v e)
+
+pub drawn_starts : (r : Reply ℤ) (next : ℤ → World → Reply (Unit {0})) (n : ℤ) (w v : World) (result : Result (Unit {0}) StartStop) → r ≡ goes n w → StartsAs (next n w) result v → StartsAs (behind r next) result v
+drawn_starts r next n w v result e p = subst (λ z. StartsAs (behind z next) result v) (sym e) p
+
+-- ---- the whole start
+
+stops_in : (why : StartStop) (m : World) (r : Reply (Unit {0})) (v : World) → Extends m.memory (world_of r).memory → StopsStart (done m) why v → StopsStart r why v
+stops_in (stop.Stops why) m r v p e = cc
+stops_in (stop.Large count) m r v p e = passed_by most_bytes count m.memory (world_of r).memory p e
+stops_in stop.Memory m r v p e = tt
+
+abbrev behind_literals : UnitView → World → Reply (Unit {0})
+behind_literals u w = with_parameters u (entry_parameters u) (literals_made u.literals w)
+
+pub start_objects : (u : UnitView) (w v : World) (why : StartStop) → StopsStart (done (objects_made u u.objects w)) why v → StopsStart (started u w) why v
+start_objects u w v why e =
+    let made = objects_made u u.objects w in
+    let spelt = literals_made u.literals made in
+    stops_in why made (started u w) v (extends_both made.memory spelt.memory (world_of (started u w)).memory (literals_extend u.literals made) (parameters_extend u (entry_parameters u) spelt)) e
+
+same_done : (a b : World) → done a ≡ done b → a ≡ b
+same_done a b e = cc
+
+pub start_literals : (u : UnitView) (w z v : World) (why : StartStop) → done (objects_made u u.objects w) ≡ done z → StopsStart (done (literals_made u.literals z)) why v → StopsStart (started u w) why v
+start_literals u w z v why e p =
+    let spelt = literals_made u.literals z in
+    subst (λ y. StopsStart (behind_literals u y) why v) (sym (same_done (objects_made u u.objects w) z e))
+    (stops_in why spelt (behind_literals u z) v (parameters_extend u (entry_parameters u) spelt) p)
+
+pub start_parameters : (u : UnitView) (w y z v : World) (ls : List LocalView) (result : Result (Unit {0}) StartStop) → done (objects_made u u.objects w) ≡ done y → done (literals_made u.literals y) ≡ done z → ls ≡ entry_parameters u → StartsAs (with_parameters u ls z) result v → StartsAs (started u w) result v
+start_parameters u w y z v ls result e f g p =
+    subst (λ x. StartsAs (behind_literals u x) result v) (sym (same_done (objects_made u u.objects w) y e))
+    (subst (λ x. StartsAs (with_parameters u (entry_parameters u) x) result v) (sym (same_done (literals_made u.literals y) z f))
+    (subst (λ ps. StartsAs (with_parameters u ps z) result v) g p))
