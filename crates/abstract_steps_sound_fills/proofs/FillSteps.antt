@@ -25,7 +25,8 @@ use Rattle.store_domain_sound_programs.specs.Premises.{HasPremises}
 use Rattle.abstract_steps_sound.specs.SoundSteps.{IsReached, StepIsSound}
 use Rattle.abstract_steps_sound.proofs.Replies.{if_some_good}
 use Rattle.abstract_steps_sound_calls.proofs.Calls.{clean}
-use Rattle.abstract_steps_sound_fills.specs.FillCalls.{TakesSize, HasSizes, SetsBytes, IsFillCall}
+use Rattle.abstract_steps_sound.specs.OperandTypes.{TakesSize, HasOperands}
+use Rattle.abstract_steps_sound_fills.specs.FillCalls.{SetsBytes, IsFillCall}
 use Rattle.abstract_steps_sound_fills.proofs.WriteCalls.{Good, plain_stop, three_sized}
 use Rattle.abstract_steps_sound_fills.proofs.FillCalls.{fill_call_good}
 
@@ -53,6 +54,6 @@ module _ {I : Type 0} {l : LatticeOf I} {n : IntegersOf I} {stands : I → ℤ �
       let has = (and_parts (has_result (names_of flow) to) (list_all (has_temp (names_of flow)) arguments.items && (is_site flow.bases.items newest && is_optional_extent size)) fits).0 in
       if_some_good l n stands flow _ _ s r.begun (values_of s.temps arguments.items) _ (λ vs e. by_name o q flow p naming row s r to has newest name is arguments.items size vs e sized)
 
-  pub fill_step_sound : (i : Operation) → IsFillCall i → fits_operation (names_of flow) i ≡ true → HasSizes i s.temps → StepIsSound l n stands flow row i s
+  pub fill_step_sound : (i : Operation) → IsFillCall i → fits_operation (names_of flow) i ≡ true → HasOperands i s.temps → StepIsSound l n stands flow row i s
   fill_step_sound (op.Library to name arguments newest size) is fits sized = fill_call_sound to name arguments newest size is fits sized
   fill_step_sound i is fits sized = absurd is

@@ -41,7 +41,7 @@ use Rattle.store_domain_meaning.specs.ValueMeaning.{Naming, StandsInto, StandsPo
 use Rattle.store_domain_meaning.specs.RowMeaning.{StandsFor}
 use Rattle.store_domain_meaning.specs.Coverage.{state_of}
 use Rattle.store_domain_sound_programs.specs.Premises.{HasPremises}
-use Rattle.abstract_steps_sound_fills.specs.FillCalls.{HasThirdSize}
+use Rattle.abstract_steps_sound.specs.OperandTypes.{HasThirdSize}
 use Rattle.abstract_steps_sound.specs.SoundSteps.{AreShort, IsReached, StandsBehind, IsStoodFor}
 use Rattle.abstract_steps_sound.proofs.Admitted.{AreAdmitted, none_admitted, one_admitted, both_admitted}
 use Rattle.abstract_steps_sound.proofs.PutTemps.{IsResult, put_stands, put_long}

@@ -30,6 +30,7 @@ use Rattle.abstract_steps_sound_calls.proofs.ResultCalls.{result_call_sound}
 use Rattle.abstract_steps_sound_strings.proofs.StringCalls.{string_call_sound}
 use Rattle.abstract_steps_sound_frees.proofs.FreeCalls.{free_call_sound}
 use Rattle.abstract_steps_sound_texts.proofs.TextSteps.{text_call_sound}
+use Rattle.abstract_steps_sound_fills.proofs.FillSteps.{fill_call_sound}
 use Rattle.abstract_steps_covered.specs.SoundEnds.{IsDoneIn, GoesOn, EndsBlock, EndIsSound, EndsAreSound, StepsGoOnSoundly, EndsGoOnSoundly}
 use Rattle.abstract_steps_sound_edges.specs.EdgeSteps.{IsPlainEnd, TestIsSound, CaseIsSound, KindIsSound, TestsAreSound}
 use Rattle.abstract_steps_sound_edges.proofs.EdgeSteps.{end_sound}
@@ -56,8 +57,9 @@ proved_or_not f.Strlen = inl (inr (inl tt))
 proved_or_not f.Strcmp = inl (inr (inl tt))
 proved_or_not f.Puts = inl (inr (inl tt))
 proved_or_not f.Free = inl (inr (inr (inl tt)))
-proved_or_not f.Strcpy = inl (inr (inr (inr tt)))
-proved_or_not _ = inr (λ h. elim h [ inl e ↦ e | inr g ↦ elim g [ inl e ↦ e | inr k ↦ elim k [ inl e ↦ e | inr e ↦ e ] ] ])
+proved_or_not f.Strcpy = inl (inr (inr (inr (inl tt))))
+proved_or_not f.Memset = inl (inr (inr (inr (inr tt))))
+proved_or_not _ = inr (λ h. elim h [ inl e ↦ e | inr g ↦ elim g [ inl e ↦ e | inr k ↦ elim k [ inl e ↦ e | inr m ↦ elim m [ inl e ↦ e | inr e ↦ e ] ] ] ])
 
 module _ {I : Type 0} {l : LatticeOf I} {n : IntegersOf I} {stands : I → ℤ → Type 0} (o : OrderLaws l) (q : BoundLaws l n stands) (c : SoundLaws l n stands) (ranges : RangeLaws l n) (flow : Flow) (p : HasPremises flow) where
   module _ (limits : Limits) (good : is_well_formed limits flow ≡ true) (texts : SpellsOverCharacters flow) (open_sound : AreSound l n stands flow (λ o. IsOpenStep o × IsDoneIn flow o)) where
@@ -88,7 +90,10 @@ module _ {I : Type 0} {l : LatticeOf I} {n : IntegersOf I} {stands : I → ℤ �
               | inl h ↦ string_call_sound o q flow p naming row s r to name arguments site size h f
               | inr k ↦ elim k [
                 | inl h ↦ free_call_sound o q flow p naming row s r to name arguments site size h f
-                | inr h ↦ text_call_sound o q c flow p naming row s r to name arguments site size h f
+                | inr m ↦ elim m [
+                  | inl h ↦ text_call_sound o q c flow p naming row s r to name arguments site size h f
+                  | inr h ↦ fill_call_sound o q flow p naming row s r to name arguments site size h f t
+                ]
               ]
             ]
           ]

@@ -22,14 +22,15 @@ use Rattle.abstract_steps_sound_strings.specs.StringCalls.{ReadsStrings}
 use Rattle.abstract_steps_sound_frees.specs.FreeCalls.{Frees}
 use Rattle.abstract_steps_sound_spelling.specs.SpellSteps.{SpellsBytes}
 use Rattle.abstract_steps_sound_texts.specs.TextCalls.{CopiesText}
+use Rattle.abstract_steps_sound_fills.specs.FillCalls.{SetsBytes}
 use Rattle.abstract_steps_covered.specs.SoundEnds.{IsDoneIn, EndsAreSound}
 use Rattle.abstract_steps_covered.specs.Covering.{Begins, Carries, HasTypedRuns, row_before, Admits}
 use Rattle.abstract_steps_sound_edges.specs.EdgeSteps.{KindIsSound}
 use Rattle.abstract_steps_sound_tests.specs.ScalarObjects.{IsIntegerTest, IsPointerTest, IsNullTest, IsCaseObject}
 
--- calls that give a number for one that is no pointer, that read strings, that free, and that copy strings
+-- calls that give a number for one that is no pointer, that read strings, that free, that copy strings, and that set bytes
 abbrev pub IsProvedCall : LibFn → Type 0
-IsProvedCall name = GivesNumber name ⊎ (ReadsStrings name ⊎ (Frees name ⊎ CopiesText name))
+IsProvedCall name = GivesNumber name ⊎ (ReadsStrings name ⊎ (Frees name ⊎ (CopiesText name ⊎ SetsBytes name)))
 
 -- copies of structs, and other calls of the library
 abbrev pub IsOpenStep : Operation → Type 0
