@@ -25,8 +25,8 @@ Options, each at most once; a verb takes those of others and leaves them unused:
                         [default: lp64]
   --format FORMAT       text, json or sarif, for check [default: text]
   --entry NAME          the function at which runs start [default: main]
-  --turns K             0 to 64: so many turns of each loop are analysed one by
-                        one, for check [default: none is]
+  --turns K             0 to 64: the first K turns back, of all loops together,
+                        are analysed one by one, for check [default: none is]
   --base FILE           a SARIF report, for gate, which needs it
   --cert FILE           a certificate, for verify, which needs it
   --seed N              0 to 2147483647, for load [default: 1]
