@@ -75,7 +75,7 @@ pub record HasSecond (temps : ℕ → Option Scalar) (items : List ℕ) (at : �
   pub there : slice_get items at ≡ Some temp
   pub has : temps temp ≡ Some v
 
-and_parts_some : (a : Option Scalar) (b : Option (List Scalar)) (v : Scalar) (vs : List Scalar) → and_value a b ≡ Some (v ∷ vs) → (a ≡ Some v) × (b ≡ Some vs)
+pub and_parts_some : (a : Option Scalar) (b : Option (List Scalar)) (v : Scalar) (vs : List Scalar) → and_value a b ≡ Some (v ∷ vs) → (a ≡ Some v) × (b ≡ Some vs)
 and_parts_some None b v vs e = cc
 and_parts_some (Some x) None v vs e = cc
 and_parts_some (Some x) (Some xs) v vs e = (cc, cc)
@@ -90,7 +90,7 @@ argument_there temps (t ∷ ts) (x ∷ xs) e (suc at) v h =
     let w = argument_there temps ts xs r.1 at v h in
     record { temp = w.temp; there = w.there; has = w.has }
 
-behind_behind : {A B C : Type 0} (a : Reply A) (f : A → World → Reply B) (g : B → World → Reply C) → behind (behind a f) g ≡ behind a (λ x w. behind (f x w) g)
+pub behind_behind : {A B C : Type 0} (a : Reply A) (f : A → World → Reply B) (g : B → World → Reply C) → behind (behind a f) g ≡ behind a (λ x w. behind (f x w) g)
 behind_behind (goes x w) f g = refl
 behind_behind (stops why w) f g = refl
 

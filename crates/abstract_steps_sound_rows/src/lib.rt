@@ -1,0 +1,2 @@
+//! Worked rows of soundness: tables that what rows stand for refuses.
+#![tactic(auto)]
