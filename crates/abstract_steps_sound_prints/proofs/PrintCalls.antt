@@ -214,6 +214,7 @@ module _ {I : Type 0} {l : LatticeOf I} {n : IntegersOf I} {stands : I → ℤ �
       where
         reach : IsLiveReach m a
         reach = are.0
+
         here : slice_get vs (suc j) ≡ Some (pointer (into reach.i reach.offset reach.lo reach.hi))
         here = lies_first j (pointer m) rest lies ∙ ap (λ z. Some (pointer z)) reach.is
 

@@ -184,16 +184,19 @@ before_store flow site = record { whole = whole; byte = byte }
   where
     number_is : (a : Labelled) → a.number ≡ 1 → Stands one (number_of true (a ∷ []))
     number_is a e = let f : number_of true (a ∷ []) ≡ pos 1 = ap (λ n. signed_of 8 (n + 256 * 0)) e in subst (Stands one) (sym f) (le_z_yes tt, le_z_yes tt)
+
     whole : (i offset : ℕ) (numbers : List Labelled) → IsLiveOf one_site (two_instances 1 1) 0 i → IsClassPlace flow.model site.shape.cells Char (length (bytes_at (two_instances 1 1) i)) offset → is_pointer Char ≡ false → Holds flow.model (two_instances 1 1) i offset Char numbers → Stands one (number_of true numbers)
     whole i offset [] lives place np holds = let e : 0 ≡ 1 = holds.size in absurd (omega (arith))
     whole i offset (a ∷ (b ∷ bs)) lives place np holds = let e : suc (suc (length bs)) ≡ 1 = holds.size in absurd (omega (arith))
     whole i offset (a ∷ []) lives place np holds = let m = holds.each 0 a (omega (arith)) refl in number_is a (holds_one i offset a m.tag place.fits m.here)
+
     seen : (i offset : ℕ) (content : Content) (tag : Option Tag) → byte_at (two_instances 1 1) i offset ≡ Some (record { content = content; tag = tag }) → content ≡ number 1 no_labels
     seen zero zero content tag e = sym (seen_in _ _ e)
     seen (suc zero) zero content tag e = sym (seen_in _ _ e)
     seen zero (suc offset) content tag e = cc
     seen (suc zero) (suc offset) content tag e = cc
     seen (suc (suc i)) offset content tag e = cc
+
     byte : (i offset k : ℕ) (content : Content) → IsLiveOf one_site (two_instances 1 1) 0 i → OwnedByClass flow.model site.shape.cells Char offset k → Matched (two_instances 1 1) i offset Char k content → StandsContent Stands one_site (two_instances 1 1) (value_of one) Char content
     byte i offset k content lives owned m = subst (StandsContent Stands one_site (two_instances 1 1) (value_of one) Char) (sym (seen i offset content m.tag m.here)) (refl, λ e. cc)
 
@@ -238,13 +241,16 @@ before_character flow m = record { whole = whole; byte = byte }
   where
     digit : (i offset : ℕ) (numbers : List Labelled) (holds : Holds flow.model (int_object 0) i offset Int numbers) (k : ℕ) (a : Labelled) → k < length numbers → slice_get numbers k ≡ Some a → a.number ≡ 0
     digit i offset numbers holds k a p e = let x = holds.each k a p e in number_seen a (zero_seen i (offset + k) (number_in a) x.tag x.here)
+
     is_zero : (a b c d : Labelled) → a.number ≡ 0 → b.number ≡ 0 → c.number ≡ 0 → d.number ≡ 0 → Stands none (number_of true (a ∷ (b ∷ (c ∷ (d ∷ [])))))
     is_zero a b c d e f g h =
         let z : unsigned_of (a ∷ (b ∷ (c ∷ (d ∷ [])))) ≡ 0 = omega (arith) in
         let s : number_of true (a ∷ (b ∷ (c ∷ (d ∷ [])))) ≡ pos 0 = ap (signed_of 32) z in
         subst (Stands none) (sym s) (le_z_yes tt, le_z_yes tt)
+
     four : (numbers : List Labelled) → length numbers ≡ class_bytes flow.model Int → length numbers ≡ 4
     four numbers e = e ∙ ap (λ m. class_bytes m Int) m
+
     by_digits : (numbers : List Labelled) → length numbers ≡ 4 → ((k : ℕ) (a : Labelled) → k < length numbers → slice_get numbers k ≡ Some a → a.number ≡ 0) → Stands none (number_of true numbers)
     by_digits (a ∷ (b ∷ (c ∷ (d ∷ [])))) e f = is_zero a b c d (f 0 a (omega (arith)) refl) (f 1 b (omega (arith)) refl) (f 2 c (omega (arith)) refl) (f 3 d (omega (arith)) refl)
     by_digits [] e f = absurd (omega (arith))
@@ -252,8 +258,10 @@ before_character flow m = record { whole = whole; byte = byte }
     by_digits (a ∷ (b ∷ [])) e f = absurd (omega (arith))
     by_digits (a ∷ (b ∷ (c ∷ []))) e f = absurd (omega (arith))
     by_digits (a ∷ (b ∷ (c ∷ (d ∷ (x ∷ xs))))) e f = absurd (omega (arith))
+
     whole : (i offset : ℕ) (numbers : List Labelled) → IsLiveOf one_site (int_object 0) 0 i → IsPlaceOf int_leaf offset → is_pointer Int ≡ false → Holds flow.model (int_object 0) i offset Int numbers → Stands none (number_of true numbers)
     whole i offset numbers lives place np holds = by_digits numbers (four numbers holds.size) (digit i offset numbers holds)
+
     byte : (i offset k : ℕ) (content : Content) → IsLiveOf one_site (int_object 0) 0 i → OwnedByLeaf flow.model int_leaf offset k → Matched (int_object 0) i offset Int k content → StandsContent Stands one_site (int_object 0) (value_of none) Int content
     byte i offset k content lives owned x = subst (StandsContent Stands one_site (int_object 0) (value_of none) Int) (sym (zero_seen i offset content x.tag x.here)) (refl, λ e. cc)
 
@@ -266,8 +274,10 @@ holds_digits model e = record { size = subst (λ m. 4 ≡ class_bytes m Int) (sy
   where
     digit : (a b : Labelled) → Some a ≡ Some b → a ≡ b
     digit a b e = cc
+
     seen : (k : ℕ) (a b : Labelled) → a ≡ b → byte_at (int_object 1) 0 k ≡ Some (record { content = number_in a; tag = tag_of Int k }) → Matched (int_object 1) 0 k Int k (number_in b)
     seen k a b e f = record { tag = tag_of Int k; here = f ∙ ap (λ x. Some (record { content = number_in x; tag = tag_of Int k })) e; fits = (refl, refl) }
+
     each : (k : ℕ) (n : Labelled) → k < length digits → slice_get digits k ≡ Some n → Matched (int_object 1) 0 (0 + k) Int k (number_in n)
     each zero n p f = seen 0 _ n (digit _ n f) refl
     each (suc zero) n p f = seen 1 _ n (digit _ n f) refl

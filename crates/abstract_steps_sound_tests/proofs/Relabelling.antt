@@ -147,3 +147,35 @@ set_relabels m g i kind memory it at short =
 pub bounded_relabels : (m : Model) (rel : Rel) (k : IntType) (i : ℕ) (kind : _) (other : Labels) (memory : Memory) (it : Instance) → slice_get memory i ≡ Some it → length it.bytes ≤ scalar_size m kind → (b : Bool) → is_unlabelled other ≡ b → IsRelabelling memory (bounded m rel k (object i kind) other memory) i (side_change b rel k)
 bounded_relabels m rel k i kind other memory it at short true e = rw e (set_relabels m (λ s. dropped_labels rel s k) i kind memory it at short)
 bounded_relabels m rel k i kind other memory it at short false e = rw e (record { rewrite = stays_rewrite memory i; each = λ o b f. (b, f, id_relabelled b.content) })
+
+-- ---- one change behind the other
+
+pub change_drops : (b : Bool) (rel : Rel) (k : IntType) (s : Labels) → labels_leq (as_set (side_change b rel k s)) (as_set s) ≡ true
+change_drops true rel k s = subst (λ z. labels_leq z (as_set s) ≡ true) (sym (same_dropped rel s k)) (dropped_below rel (as_set s) k)
+change_drops false rel k s = labels_order.reflexive (as_set s)
+
+relabelled_twice : (f g : Labels → Labels) (c : Content) → relabelled g (relabelled f c) ≡ relabelled (λ s. g (f s)) c
+relabelled_twice f g indeterminate = refl
+relabelled_twice f g (number n la) = refl
+relabelled_twice f g (part p k) = refl
+
+rewrites_follow : {old middle new : Memory} (i : ℕ) → IsRewrite old middle i → IsRewrite middle new i → IsRewrite old new i
+rewrites_follow i x y = record {
+  alike = record {
+    lives = λ j. y.alike.lives j ∙ x.alike.lives j;
+    lengths = λ j. y.alike.lengths j ∙ x.alike.lengths j;
+    made = y.alike.made ∙ x.alike.made;
+  };
+  storages = λ j. y.storages j ∙ x.storages j;
+  others = λ j o ne. y.others j o ne ∙ x.others j o ne;
+  own = λ o b e. let m = y.own o b e in let w = x.own o m.old m.there in record { old = w.old; there = w.there; tag = m.tag ∙ w.tag };
+}
+
+pub relabellings_follow : {old middle new : Memory} (i : ℕ) (f g : Labels → Labels) → IsRelabelling old middle i f → IsRelabelling middle new i g → IsRelabelling old new i (λ s. g (f s))
+relabellings_follow i f g x y = record {
+  rewrite = rewrites_follow i x.rewrite y.rewrite;
+  each = λ o b e.
+      let m = y.each o b e in
+      let w = x.each o m.0 m.1 in
+      (w.0, w.1, m.2 ∙ (ap (relabelled g) w.2 ∙ relabelled_twice f g w.0.content));
+}

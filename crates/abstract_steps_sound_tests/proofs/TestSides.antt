@@ -1,4 +1,4 @@
--- Tests on integers of two sides: each side is refined in turn, as both were before.
+-- Tests on integers of two sides that are not one object: each side is refined in turn, as both were before.
 use Rattle.std.proofs.Common.{◌≡◌, ℕ, Bool, true, false, cond, Option, Some, None, List, [], length, take, subst, sym, refl, ap, ◌∙◌, inl, inr}
 use Rattle.std.specs.Prelude.{ℤ, pos, ◌≤ℤ◌}
 use Rattle.std.proofs.lemmas.Bool.{cases_Bool, and_from, eqb-false}
@@ -20,19 +20,17 @@ use Rattle.value_domain.specs.declared.values.Value as values
 use Rattle.value_domain.specs.declared.row_cells.Cell.{Cell}
 use Rattle.store_domain.specs.RowPositions.{leaf_position, put_value}
 use Rattle.store_domain.specs.ScalarTypes.{kind_of}
-use Rattle.abstract_steps.specs.Refinements.{position_of, mirrored, is_same_object, value_of_object, side_value, refined, put_at, put_side, has_number, met, refine_one, refine_two, refine_sides, refine_values, refine_integers, refine_in, refine}
+use Rattle.abstract_steps.specs.Refinements.{position_of, mirrored, is_same_object, value_of_object, side_value, refined, put_at, put_side, has_number, met, refine_one, refine_two, refine_sides, refine_values, refine_integers, refine_in}
 use Rattle.abstract_steps_checks.specs.ViolationSets.{no_violations}
 use Rattle.lib_models_memory.specs.Labels.{Labels, is_unlabelled}
 use Rattle.lib_models_memory.specs.Instances.{Memory, bytes_at}
 use Rattle.lib_models_memory.specs.Scalars.{Scalar, integer}
 use Rattle.lib_models_effects.specs.ScalarBytes.{contents}
 use Rattle.lib_models_effects.specs.Accesses.{scalar_in}
-use Rattle.lib_models_effects.specs.Tests as machine
 use Rattle.lib_models_effects.specs.Tests.{TestedSide, SideTest, object, constant, nothing, scalar_size, side_scalar, test_holds, side_labels, bounded, after_test, passing}
 use Rattle.lib_models_effects.specs.Worlds.{World, Reply, Stuck, with_memory}
 use Rattle.flow_program_machine.specs.FlowStates.{Standing}
-use Rattle.flow_program_machine.specs.FlowEdges.{with_side, in_world, testing}
-use Rattle.flow_program_views.specs.ProgramViews.{flow_view}
+use Rattle.flow_program_machine.specs.FlowEdges.{with_side, in_world}
 use Rattle.store_domain_meaning.specs.ValueMeaning.{Naming}
 use Rattle.store_domain_meaning.specs.RowMeaning.{StandsFor}
 use Rattle.store_domain_meaning.specs.SeenLabels.{as_set}
@@ -43,16 +41,16 @@ use Rattle.abstract_steps_sound.proofs.NearScalars.{near_number_stands}
 use Rattle.abstract_steps_sound.proofs.Replies.{clean_stop_good, if_some_good}
 use Rattle.abstract_steps_sound.proofs.TypeRanges.{bounds_some}
 use Rattle.abstract_steps_sound_edges.proofs.EdgeSteps.{is_near}
-use Rattle.abstract_steps_sound_tests.specs.ScalarObjects.{IsScalarObject, NamesScalar, IsIntegerTest}
+use Rattle.abstract_steps_sound_tests.specs.ScalarObjects.{IsScalarObject, NamesScalar}
 use Rattle.abstract_steps_sound_tests.proofs.TestSteps.{mirrored_holds, turned_is, both_integers, refined_stands, HasSide, object_has, object_changed, others_stay, values_stay, object_long, object_lengths}
 
 -- a side, as the machine sees it where its object names an instance
-abbrev tested : Side → ℕ → TestedSide
+abbrev pub tested : Side → ℕ → TestedSide
 tested (side.Object b kind) i = object i kind
 tested (side.Number z) i = constant z
 tested side.Null i = nothing
 
-abbrev IsSeen : Flow → (ℕ → Option ℕ) → Side → ℕ → Type 0
+abbrev pub IsSeen : Flow → (ℕ → Option ℕ) → Side → ℕ → Type 0
 IsSeen flow entered (side.Object b kind) i = IsScalarObject flow b kind × (entered b ≡ Some i)
 IsSeen flow entered (side.Number z) i = is_number z ≡ true
 IsSeen flow entered side.Null i = Unit {0}
@@ -182,7 +180,7 @@ module _ {I : Type 0} {l : LatticeOf I} {n : IntegersOf I} {stands : I → ℤ �
           right_number = bounds_some q new_right.num b.b also;
         }
 
-    sides_good : IsStoodFor l n stands flow (refine_in l n flow test (Some k) row) no_violations (in_world s (passing (test_holds flow.model memory this) (with_memory s.world after)))
+    pub sides_good : IsStoodFor l n stands flow (refine_in l n flow test (Some k) row) no_violations (in_world s (passing (test_holds flow.model memory this) (with_memory s.world after)))
     unfolding refine_integers refine_values refine_sides refine_two
     sides_good = by_truth (test_holds flow.model memory this) refl
       where
@@ -213,15 +211,7 @@ module _ {I : Type 0} {l : LatticeOf I} {n : IntegersOf I} {stands : I → ℤ �
 -- ---- the machine's sides
 
 module _ {I : Type 0} {l : LatticeOf I} {n : IntegersOf I} {stands : I → ℤ → Type 0} (flow : Flow) (s : Standing) (clean : s.world.violated ≡ []) (after : Option (List (Cell I))) where
-  side_good : (x : Side) → NamesScalar flow x → (use_it : TestedSide → Reply Standing) → ((i : ℕ) → IsSeen flow s.bases x i → IsStoodFor l n stands flow after no_violations (use_it (tested x i))) → IsStoodFor l n stands flow after no_violations (with_side s x use_it)
+  pub side_good : (x : Side) → NamesScalar flow x → (use_it : TestedSide → Reply Standing) → ((i : ℕ) → IsSeen flow s.bases x i → IsStoodFor l n stands flow after no_violations (use_it (tested x i))) → IsStoodFor l n stands flow after no_violations (with_side s x use_it)
   side_good (side.Object b kind) t use_it h = if_some_good l n stands flow after no_violations s clean (s.bases b) (λ i. use_it (object i kind)) (λ i e. h i (t, e))
   side_good (side.Number z) t use_it h = h 0 t
   side_good side.Null t use_it h = h 0 tt
-
-module _ {I : Type 0} {l : LatticeOf I} {n : IntegersOf I} {stands : I → ℤ → Type 0} (o : OrderLaws l) (q : BoundLaws l n stands) (c : SoundLaws l n stands) (flow : Flow) (p : HasPremises flow) (naming : Naming) (row : List (Cell I)) (s : Standing) (r : IsReached l n stands flow naming row s) where
-  pub test_sound : (test : Test) → IsIntegerTest flow test → IsStoodFor l n stands flow (refine l n flow test row) no_violations (testing (flow_view flow) s (Some test))
-  unfolding refine
-  test_sound test t = subst (λ z. IsStoodFor l n stands flow (refine_in l n flow test z row) no_violations (with_side s test.left (λ left. with_side s test.right (λ right. in_world s (machine.pass_test flow.model (record { left = left; rel = test.rel; right = right; common = z }) s.world))))) (sym t.is)
-      (side_good flow s r.begun (refine_in l n flow test (Some t.common) row) test.left t.left _ (λ i left.
-      side_good flow s r.begun (refine_in l n flow test (Some t.common) row) test.right t.right _ (λ j right.
-      sides_good o q c flow p naming row s r test t.common t.size t.apart i j left right)))

@@ -1,5 +1,5 @@
 -- Objects that tests on edges name: each is one scalar, of the kind that the test reads.
-use Rattle.std.specs.Prelude.{◌≡◌, ℕ, ℤ, true, false, Some, None, [], ◌∷◌, slice_get}
+use Rattle.std.specs.Prelude.{◌≡◌, ℕ, ℤ, true, Some, None, [], ◌∷◌, slice_get}
 use Rattle.cc_base.specs.Lattices.{LatticeOf}
 use Rattle.cc_base.specs.IntegerDomains.{IntegersOf}
 use Rattle.cc_base.specs.IntegerTypes.{is_size}
@@ -13,7 +13,7 @@ use Rattle.flow_program.specs.declared.flow_edges.Test.{Test}
 use Rattle.flow_program.specs.declared.machine_instructions.Scalar as declared
 use Rattle.flow_program.specs.declared.machine_instructions.Scalar.TheVariants as of
 use Rattle.flow_program.specs.declared.programs.Flow.{Flow}
-use Rattle.abstract_steps.specs.Refinements.{is_same_object, named_by}
+use Rattle.abstract_steps.specs.Refinements.{named_by}
 use Rattle.lib_models_memory.specs.ScalarSizes.{class_bytes}
 use Rattle.lib_models_effects.specs.Accesses.{class_in}
 use Rattle.lib_models_effects.specs.Tests.{scalar_size}
@@ -47,11 +47,10 @@ pub record IsCaseObject (flow : Flow) (b : ℕ) : Type 0 where
   pub is : slice_get flow.bases.items b ≡ Some info
   pub scalar : IsScalarObject flow b (of.Int (integer_in info))
 
--- a test on integers of two sides, of which both are scalars, and not one object
+-- a test on integers of two sides, of which both are scalars
 pub record IsIntegerTest (flow : Flow) (test : Test) : Type 0 where
   pub left : NamesScalar flow test.left
   pub right : NamesScalar flow test.right
-  pub apart : is_same_object test.left test.right ≡ false
   pub common : IntType
   pub is : test.common ≡ Some common
   pub size : is_size common.bytes ≡ true

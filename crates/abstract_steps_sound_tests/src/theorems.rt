@@ -6,7 +6,7 @@ ghost use Rattle.abstract_steps_sound_tests.specs.ScalarObjects.{IntegerTestsAre
 
 use cc_base::IntDomain;
 
-/// Relations of integers, where each object that is named is one scalar, and both sides do not name one object.
+/// Relations of integers, where each object that is named is one scalar; both sides may name one object.
 pub fn integer_tests_are_sound<I: IntDomain>()
     ensures { (flow : Flow) → SoundLaws I.lattice I.numbers I.stands → IntegerTestsAreSound I.lattice I.numbers I.stands flow }
 {}

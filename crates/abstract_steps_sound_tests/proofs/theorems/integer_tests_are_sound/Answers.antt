@@ -1,4 +1,4 @@
-use Rattle.abstract_steps_sound_tests.proofs.TestSides.{test_sound}
+use Rattle.abstract_steps_sound_tests.proofs.IntegerTests.{test_sound}
 use Rattle.abstract_steps_sound_tests.proofs.theorems.integer_tests_are_sound.Goals as goal
 
 pub returns : goal.returns
