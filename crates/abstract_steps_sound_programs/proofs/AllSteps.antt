@@ -1,5 +1,5 @@
 -- All instructions are sound where those are on which it is open.
-use Rattle.std.proofs.Common.{◌≡◌, ℕ, true, Option, Some, None, subst, refl, sym, inl, inr, ◌⊎◌}
+use Rattle.std.proofs.Common.{◌≡◌, ℕ, true, Option, Some, None, subst, refl, sym, inl, inr}
 use Rattle.std.specs.Prelude.{ℤ}
 use Rattle.cc_base.specs.Lattices.{LatticeOf, OrderLaws}
 use Rattle.cc_base.specs.IntegerDomains.{IntegersOf, BoundLaws, RangeLaws}
@@ -28,44 +28,57 @@ use Rattle.abstract_steps_sound_enter.proofs.Entering.{enter_sound}
 use Rattle.abstract_steps_sound_leave.proofs.Leaving.{leave_sound}
 use Rattle.abstract_steps_sound_calls.proofs.ResultCalls.{result_call_sound}
 use Rattle.abstract_steps_sound_strings.proofs.StringCalls.{string_call_sound}
+use Rattle.abstract_steps_sound_prints.proofs.PrintCalls.{print_call_sound}
 use Rattle.abstract_steps_sound_frees.proofs.FreeCalls.{free_call_sound}
 use Rattle.abstract_steps_sound_texts.proofs.TextSteps.{text_call_sound}
 use Rattle.abstract_steps_sound_fills.proofs.FillSteps.{fill_call_sound}
+use Rattle.abstract_steps_sound_moves.proofs.CopySteps.{copy_call_sound}
+use Rattle.abstract_steps_sound_bounded_texts.proofs.BoundedSteps.{bounded_call_sound}
+use Rattle.abstract_steps_sound_appends.proofs.ApartTexts.{well_formed_apart}
+use Rattle.abstract_steps_sound_appends.proofs.AppendSteps.{append_call_sound}
 use Rattle.abstract_steps_covered.specs.SoundEnds.{IsDoneIn, GoesOn, EndsBlock, EndIsSound, EndsAreSound, StepsGoOnSoundly, EndsGoOnSoundly}
 use Rattle.abstract_steps_sound_edges.specs.EdgeSteps.{IsPlainEnd, TestIsSound, CaseIsSound, KindIsSound, TestsAreSound}
 use Rattle.abstract_steps_sound_edges.proofs.EdgeSteps.{end_sound}
-use Rattle.abstract_steps_sound_tests.proofs.TestSides.{test_sound}
+use Rattle.abstract_steps_sound_tests.proofs.IntegerTests.{test_sound}
 use Rattle.abstract_steps_sound_tests.proofs.PointerTests.{pointer_test_sound}
 use Rattle.abstract_steps_sound_tests.proofs.NullTests.{null_test_sound}
 use Rattle.abstract_steps_sound_tests.proofs.CaseSteps.{case_sound}
-use Rattle.abstract_steps_sound_programs.specs.OpenSteps.{IsOpenStep, SpellsOverCharacters, IsProvedCall, IsOpenEnd, TestIsProved, CaseIsProved, KindIsProved, OpenTestsAreSound}
-
-proved_or_not : (name : LibFn) → IsProvedCall name ⊎ (IsProvedCall name → ⊥)
-proved_or_not f.Getchar = inl (inl tt)
-proved_or_not f.Putchar = inl (inl tt)
-proved_or_not f.Exit = inl (inl tt)
-proved_or_not f.Abort = inl (inl tt)
-proved_or_not f.Isalpha = inl (inl tt)
-proved_or_not f.Isdigit = inl (inl tt)
-proved_or_not f.Isspace = inl (inl tt)
-proved_or_not f.Isupper = inl (inl tt)
-proved_or_not f.Islower = inl (inl tt)
-proved_or_not f.Isalnum = inl (inl tt)
-proved_or_not f.Toupper = inl (inl tt)
-proved_or_not f.Tolower = inl (inl tt)
-proved_or_not f.Strlen = inl (inr (inl tt))
-proved_or_not f.Strcmp = inl (inr (inl tt))
-proved_or_not f.Puts = inl (inr (inl tt))
-proved_or_not f.Free = inl (inr (inr (inl tt)))
-proved_or_not f.Strcpy = inl (inr (inr (inr (inl tt))))
-proved_or_not f.Memset = inl (inr (inr (inr (inr tt))))
-proved_or_not _ = inr (λ h. elim h [ inl e ↦ e | inr g ↦ elim g [ inl e ↦ e | inr k ↦ elim k [ inl e ↦ e | inr m ↦ elim m [ inl e ↦ e | inr e ↦ e ] ] ] ])
+use Rattle.abstract_steps_sound_programs.specs.OpenSteps.{IsOpenStep, SpellsOverCharacters, IsOpenEnd, TestIsProved, CaseIsProved, KindIsProved, OpenTestsAreSound}
 
 module _ {I : Type 0} {l : LatticeOf I} {n : IntegersOf I} {stands : I → ℤ → Type 0} (o : OrderLaws l) (q : BoundLaws l n stands) (c : SoundLaws l n stands) (ranges : RangeLaws l n) (flow : Flow) (p : HasPremises flow) where
   module _ (limits : Limits) (good : is_well_formed limits flow ≡ true) (texts : SpellsOverCharacters flow) (open_sound : AreSound l n stands flow (λ o. IsOpenStep o × IsDoneIn flow o)) where
     pub steps_go_on : StepsGoOnSoundly l n stands flow
     steps_go_on naming row s i goes fits typed r = by_operation i goes.0 goes.1 fits typed
       where
+        by_name : (to : Option ℕ) (name : LibFn) (arguments : _) (site size : Option ℕ) → IsDoneIn flow (op.Library to name arguments site size) → fits_operation (names_of flow) (op.Library to name arguments site size) ≡ true → HasOperands (op.Library to name arguments site size) s.temps → StepIsSound l n stands flow row (op.Library to name arguments site size) s
+        by_name to f.Getchar arguments site size d e t = result_call_sound o q c flow p naming row s r to f.Getchar arguments site size tt e
+        by_name to f.Putchar arguments site size d e t = result_call_sound o q c flow p naming row s r to f.Putchar arguments site size tt e
+        by_name to f.Exit arguments site size d e t = result_call_sound o q c flow p naming row s r to f.Exit arguments site size tt e
+        by_name to f.Abort arguments site size d e t = result_call_sound o q c flow p naming row s r to f.Abort arguments site size tt e
+        by_name to f.Isalpha arguments site size d e t = result_call_sound o q c flow p naming row s r to f.Isalpha arguments site size tt e
+        by_name to f.Isdigit arguments site size d e t = result_call_sound o q c flow p naming row s r to f.Isdigit arguments site size tt e
+        by_name to f.Isspace arguments site size d e t = result_call_sound o q c flow p naming row s r to f.Isspace arguments site size tt e
+        by_name to f.Isupper arguments site size d e t = result_call_sound o q c flow p naming row s r to f.Isupper arguments site size tt e
+        by_name to f.Islower arguments site size d e t = result_call_sound o q c flow p naming row s r to f.Islower arguments site size tt e
+        by_name to f.Isalnum arguments site size d e t = result_call_sound o q c flow p naming row s r to f.Isalnum arguments site size tt e
+        by_name to f.Toupper arguments site size d e t = result_call_sound o q c flow p naming row s r to f.Toupper arguments site size tt e
+        by_name to f.Tolower arguments site size d e t = result_call_sound o q c flow p naming row s r to f.Tolower arguments site size tt e
+        by_name to f.Strlen arguments site size d e t = string_call_sound o q flow p naming row s r to f.Strlen arguments site size tt e
+        by_name to f.Strcmp arguments site size d e t = string_call_sound o q flow p naming row s r to f.Strcmp arguments site size tt e
+        by_name to f.Puts arguments site size d e t = string_call_sound o q flow p naming row s r to f.Puts arguments site size tt e
+        by_name to f.Printf arguments site size d e t = print_call_sound o q flow p naming row s r to f.Printf arguments site size tt e
+        by_name to f.Free arguments site size d e t = free_call_sound o q flow p naming row s r to f.Free arguments site size tt e
+        by_name to f.Strcpy arguments site size d e t = text_call_sound o q c flow p naming row s r to f.Strcpy arguments site size tt e
+        by_name to f.Memset arguments site size d e t = fill_call_sound o q flow p naming row s r to f.Memset arguments site size tt e t
+        by_name to f.Malloc arguments site size d e t = open_sound naming row s (op.Library to f.Malloc arguments site size) (tt, d) e t r
+        by_name to f.Calloc arguments site size d e t = open_sound naming row s (op.Library to f.Calloc arguments site size) (tt, d) e t r
+        by_name to f.Realloc arguments site size d e t = open_sound naming row s (op.Library to f.Realloc arguments site size) (tt, d) e t r
+        by_name to f.Memcpy arguments site size d e t = copy_call_sound o q flow p naming row s r to f.Memcpy arguments site size tt e t
+        by_name to f.Memmove arguments site size d e t = copy_call_sound o q flow p naming row s r to f.Memmove arguments site size tt e t
+        by_name to f.Strncpy arguments site size d e t = bounded_call_sound o q c flow p naming row s r to f.Strncpy arguments site size tt e t
+        by_name to f.Strcat arguments site size d e t = append_call_sound o q c flow p (well_formed_apart limits flow good) naming row s r to f.Strcat arguments site size tt e
+        by_name to f.Fgets arguments site size d e t = open_sound naming row s (op.Library to f.Fgets arguments site size) (tt, d) e t r
+
         by_operation : (i : Operation) → GoesOn i → IsDoneIn flow i → fits_operation (names_of flow) i ≡ true → HasOperands i s.temps → StepIsSound l n stands flow row i s
         by_operation (op.Constant to number kind) h d f t = value_step_sound q c ranges flow p naming row s r (op.Constant to number kind) refl f t
         by_operation (op.Binary to operator left right kind) h d f t = value_step_sound q c ranges flow p naming row s r (op.Binary to operator left right kind) refl f t
@@ -82,22 +95,7 @@ module _ {I : Type 0} {l : LatticeOf I} {n : IntegersOf I} {stands : I → ℤ �
         by_operation (op.Store to from kind kept) h d f t = store_sound o q c ranges flow p naming row s r to from kind kept f
         by_operation (op.Forget base) h d f t = forget_sound q flow p naming row s r base f
         by_operation (op.Copy to from index) h d f t = open_sound naming row s (op.Copy to from index) (tt, d) f t r
-        by_operation (op.Library to name arguments site size) h d f t = elim (proved_or_not name) [
-          | inr e ↦ open_sound naming row s (op.Library to name arguments site size) (e, d) f t r
-          | inl e ↦ elim e [
-            | inl h ↦ result_call_sound o q c flow p naming row s r to name arguments site size h f
-            | inr g ↦ elim g [
-              | inl h ↦ string_call_sound o q flow p naming row s r to name arguments site size h f
-              | inr k ↦ elim k [
-                | inl h ↦ free_call_sound o q flow p naming row s r to name arguments site size h f
-                | inr m ↦ elim m [
-                  | inl h ↦ text_call_sound o q c flow p naming row s r to name arguments site size h f
-                  | inr h ↦ fill_call_sound o q flow p naming row s r to name arguments site size h f t
-                ]
-              ]
-            ]
-          ]
-        ]
+        by_operation (op.Library to name arguments site size) h d f t = by_name to name arguments site size d f t
         by_operation (op.Enter base) h d f t = enter_sound q flow p naming row s r base f
         by_operation (op.Leave base) h d f t = leave_sound flow p naming row s r base f
         by_operation (op.Clear base) h d f t = clear_sound q flow p limits good naming row s r base f

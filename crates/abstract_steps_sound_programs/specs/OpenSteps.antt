@@ -5,6 +5,7 @@ use Rattle.cc_base.specs.IntegerDomains.{IntegersOf}
 use Rattle.cc_base.specs.declared.limit_table.Limits.{Limits}
 use Rattle.c_layout.specs.CheckedUnits.{UnitView}
 use Rattle.c_layout.specs.declared.library_functions.LibFn.{LibFn}
+use Rattle.c_layout.specs.declared.library_functions.LibFn.TheVariants as f
 use Rattle.flow_program.specs.WellFormed.{is_well_formed}
 use Rattle.flow_program.specs.declared.flow_edges.Edge.{Edge}
 use Rattle.flow_program.specs.declared.flow_edges.EdgeKind.{EdgeKind}
@@ -17,25 +18,24 @@ use Rattle.value_domain.specs.declared.row_cells.Cell.{Cell}
 use Rattle.store_domain_meaning.specs.Coverage.{EachRunIsCovered}
 use Rattle.store_domain_sound_programs.specs.Premises.{AreHeld}
 use Rattle.abstract_steps_sound.specs.SoundSteps.{AreSound}
-use Rattle.abstract_steps_sound_calls.specs.ResultCalls.{GivesNumber}
-use Rattle.abstract_steps_sound_strings.specs.StringCalls.{ReadsStrings}
-use Rattle.abstract_steps_sound_frees.specs.FreeCalls.{Frees}
 use Rattle.abstract_steps_sound_spelling.specs.SpellSteps.{SpellsBytes}
-use Rattle.abstract_steps_sound_texts.specs.TextCalls.{CopiesText}
-use Rattle.abstract_steps_sound_fills.specs.FillCalls.{SetsBytes}
 use Rattle.abstract_steps_covered.specs.SoundEnds.{IsDoneIn, EndsAreSound}
 use Rattle.abstract_steps_covered.specs.Covering.{Begins, Carries, HasTypedRuns, row_before, Admits}
 use Rattle.abstract_steps_sound_edges.specs.EdgeSteps.{KindIsSound}
 use Rattle.abstract_steps_sound_tests.specs.ScalarObjects.{IsIntegerTest, IsPointerTest, IsNullTest, IsCaseObject}
 
--- calls that give a number for one that is no pointer, that read strings, that free, that copy strings, and that set bytes
-abbrev pub IsProvedCall : LibFn → Type 0
-IsProvedCall name = GivesNumber name ⊎ (ReadsStrings name ⊎ (Frees name ⊎ (CopiesText name ⊎ SetsBytes name)))
+-- calls of the library that allocate; and `fgets` as any other call
+abbrev pub IsOpenCall : LibFn → Type 0
+IsOpenCall f.Malloc = Unit {0}
+IsOpenCall f.Calloc = Unit {0}
+IsOpenCall f.Realloc = Unit {0}
+IsOpenCall f.Fgets = Unit {0}
+IsOpenCall _ = ⊥
 
--- copies of structs, and other calls of the library
+-- copies of structs, and these calls
 abbrev pub IsOpenStep : Operation → Type 0
 IsOpenStep (op.Copy to from index) = Unit {0}
-IsOpenStep (op.Library to name arguments site size) = IsProvedCall name → ⊥
+IsOpenStep (op.Library to name arguments site size) = IsOpenCall name
 IsOpenStep _ = ⊥
 
 -- each text that the program spells lies over characters
