@@ -6,3 +6,4 @@ pub mod AppendWrites
 pub mod AppendPlaces
 pub mod AppendCalls
 pub mod AppendSteps
+pub mod Counterexamples
