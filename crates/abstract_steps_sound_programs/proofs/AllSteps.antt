@@ -36,14 +36,16 @@ use Rattle.abstract_steps_sound_moves.proofs.CopySteps.{copy_call_sound}
 use Rattle.abstract_steps_sound_bounded_texts.proofs.BoundedSteps.{bounded_call_sound}
 use Rattle.abstract_steps_sound_appends.proofs.ApartTexts.{well_formed_apart}
 use Rattle.abstract_steps_sound_appends.proofs.AppendSteps.{append_call_sound}
-use Rattle.abstract_steps_covered.specs.SoundEnds.{IsDoneIn, GoesOn, EndsBlock, EndIsSound, EndsAreSound, StepsGoOnSoundly, EndsGoOnSoundly}
+use Rattle.abstract_steps_sound_lines.specs.LineEnds.{IsLineEnd}
+use Rattle.abstract_steps_sound_lines.proofs.LineEnds.{line_end_sound}
+use Rattle.abstract_steps_covered.specs.SoundEnds.{IsDoneIn, GoesOn, EndsBlock, EndIsSound, StepsGoOnSoundly, EndsGoOnSoundly}
 use Rattle.abstract_steps_sound_edges.specs.EdgeSteps.{IsPlainEnd, TestIsSound, CaseIsSound, KindIsSound, TestsAreSound}
 use Rattle.abstract_steps_sound_edges.proofs.EdgeSteps.{end_sound}
 use Rattle.abstract_steps_sound_tests.proofs.IntegerTests.{test_sound}
 use Rattle.abstract_steps_sound_tests.proofs.PointerTests.{pointer_test_sound}
 use Rattle.abstract_steps_sound_tests.proofs.NullTests.{null_test_sound}
 use Rattle.abstract_steps_sound_tests.proofs.CaseSteps.{case_sound}
-use Rattle.abstract_steps_sound_programs.specs.OpenSteps.{IsOpenStep, SpellsOverCharacters, IsOpenEnd, TestIsProved, CaseIsProved, KindIsProved, OpenTestsAreSound}
+use Rattle.abstract_steps_sound_programs.specs.OpenSteps.{IsOpenStep, SpellsOverCharacters, TestIsProved, CaseIsProved, KindIsProved, OpenTestsAreSound}
 
 module _ {I : Type 0} {l : LatticeOf I} {n : IntegersOf I} {stands : I → ℤ → Type 0} (o : OrderLaws l) (q : BoundLaws l n stands) (c : SoundLaws l n stands) (ranges : RangeLaws l n) (flow : Flow) (p : HasPremises flow) where
   module _ (limits : Limits) (good : is_well_formed limits flow ≡ true) (texts : SpellsOverCharacters flow) (open_sound : AreSound l n stands flow (λ o. IsOpenStep o × IsDoneIn flow o)) where
@@ -106,7 +108,7 @@ module _ {I : Type 0} {l : LatticeOf I} {n : IntegersOf I} {stands : I → ℤ �
         by_operation (op.ReadLine to text count stream) h d f t = cc
         by_operation op.Stop h d f t = cc
 
-  module _ (limits : Limits) (tests : TestsAreSound l n stands flow) (open_sound : EndsAreSound l n stands flow limits IsOpenEnd) where
+  module _ (limits : Limits) (tests : TestsAreSound l n stands flow) where
     pub ends_go_on : EndsGoOnSoundly l n stands flow limits
     ends_go_on good naming row s i last ends r = by_operation i.operation refl
       where
@@ -118,7 +120,7 @@ module _ {I : Type 0} {l : LatticeOf I} {n : IntegersOf I} {stands : I → ℤ �
         by_operation (op.Branch temp kind) e = plain (subst IsPlainEnd (sym e) tt)
         by_operation (op.Switch temp kind) e = plain (subst IsPlainEnd (sym e) tt)
         by_operation op.Stop e = plain (subst IsPlainEnd (sym e) tt)
-        by_operation (op.ReadLine to text count stream) e = open_sound good naming row s i last (subst IsOpenEnd (sym e) tt) r
+        by_operation (op.ReadLine to text count stream) e = line_end_sound o q flow p naming row s r limits good i last (subst IsLineEnd (sym e) tt)
         by_operation (op.Constant to number kind) e = absurd (subst EndsBlock e ends refl)
         by_operation (op.Binary to operator left right kind) e = absurd (subst EndsBlock e ends refl)
         by_operation (op.Unary to operator operand kind) e = absurd (subst EndsBlock e ends refl)
