@@ -27,7 +27,7 @@ use Rattle.abstract_steps_rows.specs.FittedRows.{list_ends}
 use Rattle.abstract_steps_laws.specs.ProgramLaws.{HasBytes, HasLeaf, NamesLeaf, TestsLeaves, MatchesLeaf, FollowsLeaves}
 use Rattle.abstract_steps_laws.specs.SystemLaws.{is_near_number, IsNearList}
 use Rattle.abstract_steps_laws_programs.specs.Texts.{HasScalars}
-use Rattle.abstract_steps_laws_programs.specs.RegularPrograms.{is_byte, has_bytes, has_leaf, names_leaf, tests_leaves, matches_leaf, follows_leaves, has_scalars, has_apart_members, first_number, last_number, is_near_list, is_regular}
+use Rattle.abstract_steps_laws_programs.specs.RegularPrograms.{is_byte, has_bytes, has_leaf, names_leaf, tests_leaves, matches_leaf, follows_leaves, has_scalars, has_initial_bytes, has_apart_members, first_number, last_number, is_near_list, is_regular}
 use Rattle.abstract_steps_laws_programs.proofs.NearLists.{round_stays}
 use Rattle.abstract_steps_laws_programs.proofs.WellFormed.{all_at}
 
@@ -120,12 +120,14 @@ near_of list h =
 pub record Regular (flow : Flow) (list : List ℤ) : Type 0 where
   pub well_formed : is_well_formed standard_limits flow ≡ true
   pub scalars : HasScalars flow
+  pub initial : has_initial_bytes flow ≡ true
   pub apart : has_apart_members flow ≡ true
   pub near : IsNearList interval_lattice interval_numbers list
 
 pub regular_of : (flow : Flow) (list : List ℤ) → is_regular flow list ≡ true → Regular flow list
 regular_of flow list h =
-    let a = and_parts (is_well_formed standard_limits flow) (has_scalars flow && (has_apart_members flow && is_near_list list)) h in
-    let c = and_parts (has_scalars flow) (has_apart_members flow && is_near_list list) a.1 in
-    let d = and_parts (has_apart_members flow) (is_near_list list) c.1 in
-    record { well_formed = a.0; scalars = scalars_of flow c.0; apart = d.0; near = near_of list d.1 }
+    let a = and_parts (is_well_formed standard_limits flow) (has_scalars flow && (has_initial_bytes flow && (has_apart_members flow && is_near_list list))) h in
+    let c = and_parts (has_scalars flow) (has_initial_bytes flow && (has_apart_members flow && is_near_list list)) a.1 in
+    let d = and_parts (has_initial_bytes flow) (has_apart_members flow && is_near_list list) c.1 in
+    let e = and_parts (has_apart_members flow) (is_near_list list) d.1 in
+    record { well_formed = a.0; scalars = scalars_of flow c.0; initial = d.0; apart = e.0; near = near_of list e.1 }

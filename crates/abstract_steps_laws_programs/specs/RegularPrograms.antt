@@ -1,14 +1,18 @@
--- Well-formed programs whose texts are bytes, whose tests name objects with leaves and whose structs have members that stand
+-- Well-formed programs whose texts are bytes, those that they begin with too, whose tests name objects with leaves and whose structs have members that stand
 -- apart, and lists of numbers between whose ends their rows are cut.
 use Rattle.std.specs.Prelude.{ℕ, ◌-◌, ◌^◌, ℤ, pos, negsuc, Bool, true, ◌&&◌, nat_lt, int_le, Option, Some, None, List, length, slice_get, slice_index_or}
 use Rattle.std.specs.Ordering.{int_eq}
 use Rattle.std.specs.List.{list_all}
 use Rattle.cc_base.specs.Standard.{standard_limits}
 use Rattle.c_layout.specs.StructViews.{structs_view}
+use Rattle.c_layout.specs.declared.checked_tree.checked_units.StaticStore.{StaticStore}
+use Rattle.c_layout.specs.declared.checked_tree.checked_units.StaticStore.TheVariants as store
 use Rattle.c_layout.specs.declared.shapes.BaseInfo.{BaseInfo}
 use Rattle.flow_program.specs.Nearest.{is_among}
 use Rattle.flow_program.specs.WellFormed.{is_well_formed}
 use Rattle.flow_program.specs.declared.programs.Flow.{Flow}
+use Rattle.flow_program.specs.declared.programs.InitialValue.{InitialValue}
+use Rattle.flow_program.specs.declared.programs.InitialValue.TheVariants as initial
 use Rattle.flow_program.specs.declared.flow_edges.EdgeKind.{EdgeKind}
 use Rattle.flow_program.specs.declared.flow_edges.EdgeKind.TheVariants as edge
 use Rattle.flow_program.specs.declared.flow_edges.Side.{Side}
@@ -58,6 +62,19 @@ has_scalars flow =
     list_all (λ b. list_all (λ i. has_bytes i.operation) b.instructions.items) flow.blocks.items
     && list_all (λ e. follows_leaves flow.bases.items e.kind) flow.edges.items
 
+-- the characters of a text that an initializer spells are bytes
+abbrev pub spells_bytes : StaticStore → Bool
+spells_bytes (store.Value offset v) = true
+spells_bytes (store.Spell offset room text) = list_all is_byte text
+
+abbrev pub begins_with_bytes : InitialValue → Bool
+begins_with_bytes (initial.Stores stores) = list_all spells_bytes stores.items
+begins_with_bytes (initial.Literal text) = list_all is_byte text
+
+-- so are those of all texts that are there when a program begins
+abbrev pub has_initial_bytes : Flow → Bool
+has_initial_bytes flow = list_all (λ x. begins_with_bytes x.value) flow.initial.items
+
 -- the members of its structs stand apart
 abbrev pub has_apart_members : Flow → Bool
 has_apart_members flow = are_laid_apart flow.model (structs_view flow.structs)
@@ -84,4 +101,4 @@ is_near_list list =
 
 -- a well-formed program and a list with which its system is monotone
 abbrev pub is_regular : Flow → List ℤ → Bool
-is_regular flow list = is_well_formed standard_limits flow && (has_scalars flow && (has_apart_members flow && is_near_list list))
+is_regular flow list = is_well_formed standard_limits flow && (has_scalars flow && (has_initial_bytes flow && (has_apart_members flow && is_near_list list)))

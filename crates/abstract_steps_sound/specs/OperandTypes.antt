@@ -29,8 +29,16 @@ abbrev pub HasThirdSize : List ℕ → (ℕ → Option Scalar) → Type 0
 HasThirdSize (first ∷ (second ∷ (third ∷ []))) temps = HasSize (temps third)
 HasThirdSize arguments temps = Unit {0}
 
+-- each argument is a size, or no number
+abbrev pub HasSizes : List ℕ → (ℕ → Option Scalar) → Type 0
+HasSizes [] temps = Unit {0}
+HasSizes (temp ∷ rest) temps = HasSize (temps temp) × HasSizes rest temps
+
 -- what a function takes as a size is one, as it is of an unsigned type
 abbrev pub TakesSize : LibFn → List ℕ → (ℕ → Option Scalar) → Type 0
+TakesSize f.Malloc arguments temps = HasSizes arguments temps
+TakesSize f.Calloc arguments temps = HasSizes arguments temps
+TakesSize f.Realloc arguments temps = HasSizes arguments temps
 TakesSize f.Memset arguments temps = HasThirdSize arguments temps
 TakesSize f.Memcpy arguments temps = HasThirdSize arguments temps
 TakesSize f.Memmove arguments temps = HasThirdSize arguments temps

@@ -1,4 +1,5 @@
--- What a text that is written makes of the first zeros stands for its bytes, where the rule holds of each array of the base.
+-- What a text that is written makes of the first zeros stands for its bytes, where the rule holds of each array of the
+-- base.
 use Rattle.std.proofs.Common.{◌≡◌, ℕ, ◌+◌, ◌-◌, ◌^◌, ◌<◌, ◌≤◌, Bool, true, false, cond, ◌&&◌, ◌||◌, Option, Some, None, List, length, arith, subst, sym, refl, ◌∙◌, inl, inr, ◌⊎◌}
 use Rattle.std.specs.Prelude.{slice_get, ℤ, is_some}
 use Rattle.std.proofs.lemmas.Bool.{cases_eq, true≢false}

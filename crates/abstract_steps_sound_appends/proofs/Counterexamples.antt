@@ -1,6 +1,6 @@
--- Without arrays that stand apart the law on texts that are appended is false. Of the bytes 'a' 0 'b' 0 0 let all be one array
--- and those from the third on another, and let "c" be appended to "b": the rule adds its length to both first zeros, but that of
--- the first array stays where it is.
+-- Without arrays that stand apart the law on texts that are appended is false. Of the bytes 'a' 0 'b' 0 0 let all be
+-- one array and those from the third on another, and let "c" be appended to "b": the rule adds its length to both first
+-- zeros, but that of the first array stays where it is.
 use Rattle.std.proofs.Common.{◌≡◌, ℕ, ◌+◌, Some, None, List, [], ◌∷◌, drop, refl}
 use Rattle.lib_models_memory.specs.Labels.{no_labels}
 use Rattle.lib_models_memory.specs.Bytes.{number, Byte}

@@ -21,7 +21,8 @@ use Rattle.store_domain_sound_regions.specs.RegionWrites.{IsRegion}
 use Rattle.abstract_steps_sound_texts.specs.TextWrites.{IsTextWrite, IsWrittenText}
 use Rattle.abstract_steps_sound_appends.specs.ApartTexts.{HasByte}
 
--- the text that was there ends at the offset, but where its end is unknown: in each array that has the byte it is the first zero
+-- the text that was there ends at the offset, but where its end is unknown: in each array that has the byte it is the
+-- first zero
 pub record EndsAt (flow : Flow) (naming : Naming) (old : Memory) (i offset : ℕ) (unknown : Bases) : Type 0 where
   pub zero : (b z : ℕ) (base : BaseInfo) (part : ZeroPart) → naming i ≡ Some b → has_base unknown b ≡ false → slice_get flow.bases.items b ≡ Some base → slice_get base.shape.zeros z ≡ Some part → HasByte part offset → first_zero (array_bytes part (bytes_at old i)) ≡ Some (offset - part.offset)
 

@@ -1,8 +1,8 @@
-//! What a text that is appended to another makes of a row stands for the memory in which its bytes were written, where the
-//! text that was there is known to end at the first of them or nothing is said of it. So where a row stands for a state, the
-//! row behind a call that appends a text stands for the state behind it, there is none only where no run goes on, and each rule
-//! that the call violates is admitted. It is asked that no byte of an object is one of two arrays that are followed for their
-//! first zeros, as it is in each well-formed program.
+//! What a text that is appended to another makes of a row stands for the memory in which its bytes were written, where
+//! the text that was there is known to end at the first of them or nothing is said of it. So where a row stands for a
+//! state, the row behind a call that appends a text stands for the state behind it, there is none only where no run
+//! goes on, and each rule that the call violates is admitted. It is asked that no byte of an object is one of two
+//! arrays that are followed for their first zeros, as it is in each well-formed program.
 ghost use Rattle.cc_base.specs.IntegerLaws.{SoundLaws};
 ghost use Rattle.flow_program.specs.declared.programs.Flow.{Flow};
 ghost use Rattle.abstract_steps_sound_appends.specs.ApartTexts.{WellFormedHasApartTexts};
@@ -11,7 +11,8 @@ ghost use Rattle.abstract_steps_sound_appends.specs.AppendWrites.{AppendWritesSt
 
 use cc_base::IntDomain;
 
-/// The arrays of an object that are followed for their first zeros stand behind each other; an instance of an allocation is one.
+/// The arrays of an object that are followed for their first zeros stand behind each other; an instance of an
+/// allocation is one.
 pub fn well_formed_programs_have_apart_texts()
     ensures { WellFormedHasApartTexts }
 {}

@@ -1,6 +1,6 @@
-//! A call of `fgets` ends its block. Where a row stands for a state, the row that comes along the edge that is taken stands for the
-//! state there: with no line, that of the null pointer; with a line, that in which its bytes were written. Each rule that the
-//! call violates is admitted.
+//! A call of `fgets` ends its block. Where a row stands for a state, the row that comes along the edge that is taken
+//! stands for the state there: with no line, that of the null pointer; with a line, that in which its bytes were
+//! written. Each rule that the call violates is admitted.
 ghost use Rattle.flow_program.specs.declared.programs.Flow.{Flow};
 ghost use Rattle.abstract_steps_sound_lines.specs.LineEnds.{LineEndsAreSound};
 

@@ -36,6 +36,7 @@ use Rattle.abstract_steps_sound_moves.proofs.CopySteps.{copy_call_sound}
 use Rattle.abstract_steps_sound_bounded_texts.proofs.BoundedSteps.{bounded_call_sound}
 use Rattle.abstract_steps_sound_appends.proofs.ApartTexts.{well_formed_apart}
 use Rattle.abstract_steps_sound_appends.proofs.AppendSteps.{append_call_sound}
+use Rattle.abstract_steps_sound_allocations.proofs.AllocationSteps.{allocation_call_sound}
 use Rattle.abstract_steps_sound_lines.specs.LineEnds.{IsLineEnd}
 use Rattle.abstract_steps_sound_lines.proofs.LineEnds.{line_end_sound}
 use Rattle.abstract_steps_covered.specs.SoundEnds.{IsDoneIn, GoesOn, EndsBlock, EndIsSound, StepsGoOnSoundly, EndsGoOnSoundly}
@@ -45,10 +46,10 @@ use Rattle.abstract_steps_sound_tests.proofs.IntegerTests.{test_sound}
 use Rattle.abstract_steps_sound_tests.proofs.PointerTests.{pointer_test_sound}
 use Rattle.abstract_steps_sound_tests.proofs.NullTests.{null_test_sound}
 use Rattle.abstract_steps_sound_tests.proofs.CaseSteps.{case_sound}
-use Rattle.abstract_steps_sound_programs.specs.OpenSteps.{IsOpenStep, SpellsOverCharacters, TestIsProved, CaseIsProved, KindIsProved, OpenTestsAreSound}
+use Rattle.abstract_steps_sound_programs.specs.OpenSteps.{IsOpenStep, SpellsOverCharacters, AllocatesAtSites, TestIsProved, CaseIsProved, KindIsProved, OpenTestsAreSound}
 
 module _ {I : Type 0} {l : LatticeOf I} {n : IntegersOf I} {stands : I → ℤ → Type 0} (o : OrderLaws l) (q : BoundLaws l n stands) (c : SoundLaws l n stands) (ranges : RangeLaws l n) (flow : Flow) (p : HasPremises flow) where
-  module _ (limits : Limits) (good : is_well_formed limits flow ≡ true) (texts : SpellsOverCharacters flow) (open_sound : AreSound l n stands flow (λ o. IsOpenStep o × IsDoneIn flow o)) where
+  module _ (limits : Limits) (good : is_well_formed limits flow ≡ true) (texts : SpellsOverCharacters flow) (sites : AllocatesAtSites flow) (open_sound : AreSound l n stands flow (λ o. IsOpenStep o × IsDoneIn flow o)) where
     pub steps_go_on : StepsGoOnSoundly l n stands flow
     steps_go_on naming row s i goes fits typed r = by_operation i goes.0 goes.1 fits typed
       where
@@ -72,8 +73,10 @@ module _ {I : Type 0} {l : LatticeOf I} {n : IntegersOf I} {stands : I → ℤ �
         by_name to f.Free arguments site size d e t = free_call_sound o q flow p naming row s r to f.Free arguments site size tt e
         by_name to f.Strcpy arguments site size d e t = text_call_sound o q c flow p naming row s r to f.Strcpy arguments site size tt e
         by_name to f.Memset arguments site size d e t = fill_call_sound o q flow p naming row s r to f.Memset arguments site size tt e t
-        by_name to f.Malloc arguments site size d e t = open_sound naming row s (op.Library to f.Malloc arguments site size) (tt, d) e t r
-        by_name to f.Calloc arguments site size d e t = open_sound naming row s (op.Library to f.Calloc arguments site size) (tt, d) e t r
+        by_name to f.Malloc arguments None size d e t = absurd (sites to f.Malloc arguments size d tt)
+        by_name to f.Malloc arguments (Some newest) size d e t = allocation_call_sound o q flow limits good p naming row s r to f.Malloc arguments newest size tt e t
+        by_name to f.Calloc arguments None size d e t = absurd (sites to f.Calloc arguments size d tt)
+        by_name to f.Calloc arguments (Some newest) size d e t = allocation_call_sound o q flow limits good p naming row s r to f.Calloc arguments newest size tt e t
         by_name to f.Realloc arguments site size d e t = open_sound naming row s (op.Library to f.Realloc arguments site size) (tt, d) e t r
         by_name to f.Memcpy arguments site size d e t = copy_call_sound o q flow p naming row s r to f.Memcpy arguments site size tt e t
         by_name to f.Memmove arguments site size d e t = copy_call_sound o q flow p naming row s r to f.Memmove arguments site size tt e t

@@ -18,16 +18,15 @@ use Rattle.value_domain.specs.declared.row_cells.Cell.{Cell}
 use Rattle.store_domain_meaning.specs.Coverage.{EachRunIsCovered}
 use Rattle.store_domain_sound_programs.specs.Premises.{AreHeld}
 use Rattle.abstract_steps_sound.specs.SoundSteps.{AreSound}
+use Rattle.abstract_steps_sound_allocations.specs.AllocationCalls.{Allocates}
 use Rattle.abstract_steps_sound_spelling.specs.SpellSteps.{SpellsBytes}
 use Rattle.abstract_steps_covered.specs.SoundEnds.{IsDoneIn}
 use Rattle.abstract_steps_covered.specs.Covering.{Begins, Carries, HasTypedRuns, row_before, Admits}
 use Rattle.abstract_steps_sound_edges.specs.EdgeSteps.{KindIsSound}
 use Rattle.abstract_steps_sound_tests.specs.ScalarObjects.{IsIntegerTest, IsPointerTest, IsNullTest, IsCaseObject}
 
--- calls of the library that allocate; and `fgets` as any other call
+-- calls of `realloc`; and `fgets` as any other call
 abbrev pub IsOpenCall : LibFn → Type 0
-IsOpenCall f.Malloc = Unit {0}
-IsOpenCall f.Calloc = Unit {0}
 IsOpenCall f.Realloc = Unit {0}
 IsOpenCall f.Fgets = Unit {0}
 IsOpenCall _ = ⊥
@@ -41,6 +40,10 @@ IsOpenStep _ = ⊥
 -- each text that the program spells lies over characters
 abbrev pub SpellsOverCharacters : Flow → Type 0
 SpellsOverCharacters flow = (base offset room : ℕ) (text : List ℕ) → IsDoneIn flow (op.Spell base offset room text) → SpellsBytes flow base offset room text
+
+-- each call that allocates has a site
+abbrev pub AllocatesAtSites : Flow → Type 0
+AllocatesAtSites flow = (to : Option ℕ) (name : LibFn) (arguments : _) (size : Option ℕ) → IsDoneIn flow (op.Library to name arguments None size) → Allocates name → ⊥
 
 -- tests of integers of two objects or numbers, tests of pointers, and cases of an integer object
 abbrev pub TestIsProved : Flow → Option Test → Type 0
@@ -63,5 +66,5 @@ module _ {I : Type 0} (l : LatticeOf I) (n : IntegersOf I) (stands : I → ℤ �
 
   -- where the analysis is sound on what is open and the program does, each run is covered by a map that begins with it and carries it on
   abbrev pub CoversButForOpenSteps : Type 0
-  CoversButForOpenSteps = (limits : Limits) → AreHeld limits → is_well_formed limits flow ≡ true → SpellsOverCharacters flow → AreSound l n stands flow (λ o. IsOpenStep o × IsDoneIn flow o) → OpenTestsAreSound
+  CoversButForOpenSteps = (limits : Limits) → AreHeld limits → is_well_formed limits flow ≡ true → SpellsOverCharacters flow → AllocatesAtSites flow → AreSound l n stands flow (λ o. IsOpenStep o × IsDoneIn flow o) → OpenTestsAreSound
       → (u : UnitView) (rows : List (Option (List (Cell I)))) → Begins l n stands flow u rows → Carries l n stands flow rows → HasTypedRuns flow u → EachRunIsCovered l n stands flow (row_before l n flow rows) (Admits l n flow rows) u

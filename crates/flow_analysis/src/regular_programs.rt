@@ -5,9 +5,11 @@ ghost use Rattle.abstract_steps_laws.specs.SystemLaws.{is_near_number};
 ghost use Rattle.abstract_steps_laws_programs.specs.RegularPrograms as spec;
 
 use crate::laid_apart::are_laid_apart;
-use c_layout::BaseInfo;
+use c_layout::{BaseInfo, StaticStore};
 use cc_base::{Limits, Memory, Text, Thresholds};
-use flow_program::{BasicBlock, Edge, EdgeKind, Flow, Instruction, Operation, Side, Test};
+use flow_program::{
+    BasicBlock, Edge, EdgeKind, Flow, InitialValue, Instruction, Operation, Side, Test,
+};
 use flow_program_checks::is_well_formed;
 use std::alloc::Global;
 
@@ -112,6 +114,34 @@ fn has_scalars(flow: &Flow) -> bool
         && edges_follow_leaves(flow.bases.as_slice(), flow.edges.as_slice())
 }
 
+/// Whether the characters of a text that an initializer spells are bytes.
+fn spells_bytes(store: &StaticStore) -> bool
+    ensures { result ≡ spec.spells_bytes store.now }
+{
+    match store {
+        StaticStore::Value(_, _) => true,
+        StaticStore::Spell(_, _, text) => are_bytes(text),
+    }
+}
+
+fn begins_with_bytes(value: &InitialValue) -> bool
+    ensures { result ≡ spec.begins_with_bytes value.now }
+{
+    match value {
+        InitialValue::Stores(stores) => stores.as_slice().iter().all(|store| spells_bytes(store)),
+        InitialValue::Literal(text) => are_bytes(text),
+    }
+}
+
+fn has_initial_bytes(flow: &Flow) -> bool
+    ensures { result ≡ spec.has_initial_bytes flow.now }
+{
+    flow.initial
+        .as_slice()
+        .iter()
+        .all(|object| begins_with_bytes(&object.value))
+}
+
 fn is_near_number(least: i128, number: i128) -> bool
     ensures { result ≡ is_near_number least number }
 {
@@ -140,9 +170,10 @@ fn is_near_list(numbers: &[i128]) -> bool
     }
 }
 
-/// Whether a program is well formed within the limits of the product, its texts are of bytes, its
-/// tests name objects with leaves and the members of its structs stand apart, and rows are cut between
-/// the ends of the list in order. Each part of the program and of the list is looked at once.
+/// Whether a program is well formed within the limits of the product, its texts are of bytes, those
+/// that it begins with too, its tests name objects with leaves and the members of its structs stand
+/// apart, and rows are cut between the ends of the list in order. Each part of the program and of the
+/// list is looked at once.
 ///
 /// # Errors
 ///
@@ -152,5 +183,6 @@ pub fn is_regular(alloc: Global, flow: &Flow, list: &Thresholds) -> Result<bool,
 {
     let formed = is_well_formed(alloc, flow, &Limits::standard())?;
     let apart = are_laid_apart(&flow.model, &flow.structs);
-    Ok(formed && (has_scalars(flow) && (apart && is_near_list(list.as_slice()))))
+    let near = is_near_list(list.as_slice());
+    Ok(formed && (has_scalars(flow) && (has_initial_bytes(flow) && (apart && near))))
 }

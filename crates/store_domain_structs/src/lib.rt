@@ -9,4 +9,5 @@ mod leaf_numbers;
 mod padding_writes;
 mod struct_copy;
 
+pub use leaf_counts::{Table, bytes_in};
 pub use struct_copy::{StructCopy, copy_struct};

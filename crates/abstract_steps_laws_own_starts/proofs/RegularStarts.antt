@@ -1,0 +1,61 @@
+-- Regular programs begin with own rows of intervals.
+use Rattle.std.specs.Prelude.{◌≡◌, ◌≤◌, ◌↔◌, ℤ, true, nat_le, Option, List, length}
+use Rattle.std.proofs.Common.{arith, sym, subst, ap}
+use Rattle.std.proofs.lemmas.Bool.{and_parts, leb-true}
+use Rattle.cc_base.specs.InductiveMap.{IsInductive}
+use Rattle.cc_base.specs.Machine.{Machine}
+use Rattle.cc_base.specs.Standard.{standard_limits}
+use Rattle.flow_program.specs.WellFormed.{is_well_formed}
+use Rattle.flow_program.specs.declared.programs.Flow.{Flow}
+use Rattle.interval_domain.specs.declared.intervals.Interval.{Interval}
+use Rattle.interval_domain.specs.IntervalLattice.{interval_lattice, interval_order, interval_rounding, interval_heights}
+use Rattle.interval_domain.specs.IntervalNumbers.{interval_numbers, interval_bounding, interval_ranges}
+use Rattle.interval_domain_laws.specs.Operations.{interval_monotone}
+use Rattle.value_domain.specs.Cells.{cell_lattice}
+use Rattle.value_domain.specs.declared.row_cells.Cell.{Cell}
+use Rattle.abstract_steps_rows.specs.IntervalEnds.{interval_ends}
+use Rattle.abstract_steps_system.specs.FlowMachines.{has_start, known_start, flow_machine}
+use Rattle.abstract_steps_laws_programs.specs.RegularPrograms.{is_regular}
+use Rattle.abstract_steps_laws_programs.proofs.RegularPrograms.{Regular, regular_of}
+use Rattle.abstract_steps_laws_programs.proofs.WellFormed.{well_made}
+use Rattle.abstract_steps_laws_own_rows.specs.OwnLists.{ReachesTypes}
+use Rattle.abstract_steps_laws_own_rows.specs.PlainSystems.{plain_machine}
+use Rattle.abstract_steps_laws_own_rows.proofs.IntervalSystems.{regular_inductive}
+use Rattle.abstract_steps_laws_own_starts.specs.StartLaws.{StartsOwn, FitsNoStart}
+use Rattle.abstract_steps_laws_own_starts.specs.UnfittedSystems.{unfitted_machine}
+use Rattle.abstract_steps_laws_own_starts.proofs.OwnStarts.{start_own, start_fits_nothing}
+
+few_bases : (flow : Flow) → is_well_formed standard_limits flow ≡ true → length flow.bases.items ≤ 1016
+few_bases flow h =
+    let a = and_parts (nat_le flow.temps standard_limits.temps) _ (well_made standard_limits flow h).within in
+    leb-true (length flow.bases.items) 1016 (and_parts (nat_le (length flow.bases.items) standard_limits.bases) _ a.1).0
+
+module _ (flow : Flow) (list : List ℤ) (h : is_regular flow list ≡ true) (reaches : ReachesTypes list) where
+  regular : Regular flow list
+  regular = regular_of flow list h
+
+  pub regular_own : StartsOwn interval_lattice interval_numbers flow list
+  regular_own row left e q =
+      start_own interval_order interval_rounding interval_heights interval_bounding interval_monotone interval_ranges
+      interval_ends standard_limits flow list regular.well_formed (omega arith) (few_bases flow regular.well_formed)
+      regular.initial regular.near reaches row left e q
+
+  pub regular_fits : FitsNoStart interval_lattice interval_numbers flow list
+  regular_fits s =
+      start_fits_nothing interval_order interval_rounding interval_heights interval_bounding interval_monotone
+      interval_ranges interval_ends standard_limits flow list regular.well_formed (omega arith)
+      (few_bases flow regular.well_formed) regular.initial regular.near reaches s
+
+  -- the inductive maps are those of the system without any fit
+  abbrev IsClosed : Machine (Cell Interval) → List (Option (List (Cell Interval))) → Type 0
+  IsClosed m rows = IsInductive (cell_lattice interval_lattice) m rows
+
+  pub regular_maps : has_start interval_lattice interval_numbers flow ≡ true
+      → (rows : List (Option (List (Cell Interval))))
+      → IsClosed (flow_machine interval_lattice interval_numbers flow list) rows
+      ↔ IsClosed (unfitted_machine interval_lattice interval_numbers flow list) rows
+  regular_maps s rows =
+      let plain = plain_machine interval_lattice interval_numbers flow list in
+      subst (λ start. IsClosed (flow_machine interval_lattice interval_numbers flow list) rows
+      ↔ IsClosed (record plain { start = start }) rows) (sym (ap (known_start flow.width) (regular_fits s)))
+      (regular_inductive flow list h reaches rows)

@@ -1,0 +1,3 @@
+pub mod NewestValues
+pub mod PendingValues
+pub mod Operating
