@@ -37,6 +37,7 @@ use Rattle.abstract_steps_sound_bounded_texts.proofs.BoundedSteps.{bounded_call_
 use Rattle.abstract_steps_sound_appends.proofs.ApartTexts.{well_formed_apart}
 use Rattle.abstract_steps_sound_appends.proofs.AppendSteps.{append_call_sound}
 use Rattle.abstract_steps_sound_allocations.proofs.AllocationSteps.{allocation_call_sound}
+use Rattle.abstract_steps_sound_reallocations.proofs.ReallocationCalls.{reallocation_call_sound}
 use Rattle.abstract_steps_sound_lines.specs.LineEnds.{IsLineEnd}
 use Rattle.abstract_steps_sound_lines.proofs.LineEnds.{line_end_sound}
 use Rattle.abstract_steps_covered.specs.SoundEnds.{IsDoneIn, GoesOn, EndsBlock, EndIsSound, StepsGoOnSoundly, EndsGoOnSoundly}
@@ -73,11 +74,12 @@ module _ {I : Type 0} {l : LatticeOf I} {n : IntegersOf I} {stands : I → ℤ �
         by_name to f.Free arguments site size d e t = free_call_sound o q flow p naming row s r to f.Free arguments site size tt e
         by_name to f.Strcpy arguments site size d e t = text_call_sound o q c flow p naming row s r to f.Strcpy arguments site size tt e
         by_name to f.Memset arguments site size d e t = fill_call_sound o q flow p naming row s r to f.Memset arguments site size tt e t
-        by_name to f.Malloc arguments None size d e t = absurd (sites to f.Malloc arguments size d tt)
+        by_name to f.Malloc arguments None size d e t = absurd (sites to f.Malloc arguments size d (inl tt))
         by_name to f.Malloc arguments (Some newest) size d e t = allocation_call_sound o q flow limits good p naming row s r to f.Malloc arguments newest size tt e t
-        by_name to f.Calloc arguments None size d e t = absurd (sites to f.Calloc arguments size d tt)
+        by_name to f.Calloc arguments None size d e t = absurd (sites to f.Calloc arguments size d (inl tt))
         by_name to f.Calloc arguments (Some newest) size d e t = allocation_call_sound o q flow limits good p naming row s r to f.Calloc arguments newest size tt e t
-        by_name to f.Realloc arguments site size d e t = open_sound naming row s (op.Library to f.Realloc arguments site size) (tt, d) e t r
+        by_name to f.Realloc arguments None size d e t = absurd (sites to f.Realloc arguments size d (inr tt))
+        by_name to f.Realloc arguments (Some newest) size d e t = reallocation_call_sound o q c ranges flow limits good p naming row s r to f.Realloc arguments newest size tt e t
         by_name to f.Memcpy arguments site size d e t = copy_call_sound o q flow p naming row s r to f.Memcpy arguments site size tt e t
         by_name to f.Memmove arguments site size d e t = copy_call_sound o q flow p naming row s r to f.Memmove arguments site size tt e t
         by_name to f.Strncpy arguments site size d e t = bounded_call_sound o q c flow p naming row s r to f.Strncpy arguments site size tt e t

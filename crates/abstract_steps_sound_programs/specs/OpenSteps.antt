@@ -19,15 +19,15 @@ use Rattle.store_domain_meaning.specs.Coverage.{EachRunIsCovered}
 use Rattle.store_domain_sound_programs.specs.Premises.{AreHeld}
 use Rattle.abstract_steps_sound.specs.SoundSteps.{AreSound}
 use Rattle.abstract_steps_sound_allocations.specs.AllocationCalls.{Allocates}
+use Rattle.abstract_steps_sound_reallocations.specs.ReallocationCalls.{Reallocates}
 use Rattle.abstract_steps_sound_spelling.specs.SpellSteps.{SpellsBytes}
 use Rattle.abstract_steps_covered.specs.SoundEnds.{IsDoneIn}
 use Rattle.abstract_steps_covered.specs.Covering.{Begins, Carries, HasTypedRuns, row_before, Admits}
 use Rattle.abstract_steps_sound_edges.specs.EdgeSteps.{KindIsSound}
 use Rattle.abstract_steps_sound_tests.specs.ScalarObjects.{IsIntegerTest, IsPointerTest, IsNullTest, IsCaseObject}
 
--- calls of `realloc`; and `fgets` as any other call
+-- `fgets` as any other call, which no program has: its calls end their blocks
 abbrev pub IsOpenCall : LibFn → Type 0
-IsOpenCall f.Realloc = Unit {0}
 IsOpenCall f.Fgets = Unit {0}
 IsOpenCall _ = ⊥
 
@@ -43,7 +43,7 @@ SpellsOverCharacters flow = (base offset room : ℕ) (text : List ℕ) → IsDon
 
 -- each call that allocates has a site
 abbrev pub AllocatesAtSites : Flow → Type 0
-AllocatesAtSites flow = (to : Option ℕ) (name : LibFn) (arguments : _) (size : Option ℕ) → IsDoneIn flow (op.Library to name arguments None size) → Allocates name → ⊥
+AllocatesAtSites flow = (to : Option ℕ) (name : LibFn) (arguments : _) (size : Option ℕ) → IsDoneIn flow (op.Library to name arguments None size) → Allocates name ⊎ Reallocates name → ⊥
 
 -- tests of integers of two objects or numbers, tests of pointers, and cases of an integer object
 abbrev pub TestIsProved : Flow → Option Test → Type 0

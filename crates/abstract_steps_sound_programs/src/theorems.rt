@@ -7,8 +7,8 @@ ghost use Rattle.abstract_steps_sound_programs.specs.OpenSteps.{CoversButForOpen
 
 use cc_base::IntDomain;
 
-/// Open are copies of structs and calls of `realloc`; each text that the program spells is asked to lie over characters, and each
-/// call that allocates to have a site.
+/// Open are copies of structs; each text that the program spells is asked to lie over characters, and each call that allocates to
+/// have a site.
 pub fn runs_are_covered_but_for_open_steps<I: IntDomain>()
     ensures { (flow : Flow) → SoundLaws I.lattice I.numbers I.stands → CoversButForOpenSteps I.lattice I.numbers I.stands flow }
 {}
