@@ -7,6 +7,7 @@ use Rattle.cc_base.specs.RowLaws.{row_leq-refl, row_leq-length}
 use Rattle.cc_base.specs.InductiveMap.{IsInductive, IsOwn, row_at, step}
 use Rattle.cc_base.specs.IntegerDomains.{IntegersOf, BoundLaws, RangeLaws}
 use Rattle.cc_base.specs.IntegerLaws.{MonotoneLaws}
+use Rattle.c_layout.specs.CheckedUnits.{UnitView}
 use Rattle.flow_program.specs.declared.flow_edges.Edge.{Edge}
 use Rattle.flow_program.specs.declared.machine_instructions.Instruction.{Instruction}
 use Rattle.flow_program.specs.declared.programs.Flow.{Flow}
@@ -21,7 +22,7 @@ use Rattle.abstract_steps_rows.specs.EndLaws.{EndLaws}
 use Rattle.abstract_steps_rows.specs.OwnRows.{program_bases, is_own_row}
 use Rattle.abstract_steps_system.specs.BlockPasses.{block_end, edge_behind, edge_end}
 use Rattle.abstract_steps_system.specs.BlockPasses as passes
-use Rattle.abstract_steps_system.specs.FlowMachines.{edge_at, through, flow_machine}
+use Rattle.abstract_steps_system.specs.FlowMachines.{edge_at, start_of, through, flow_machine}
 use Rattle.rule_checks.specs.AdmittedRules as rules
 use Rattle.abstract_steps_laws_values.specs.LaidOut.{IsLaidOut}
 use Rattle.abstract_steps_laws.specs.ProgramLaws.{IsNamed, AreRising}
@@ -30,7 +31,8 @@ use Rattle.abstract_steps_laws.proofs.Systems.{own_rise}
 use Rattle.abstract_steps_laws_own_rows.specs.OwnLists.{ReachesTypes}
 use Rattle.abstract_steps_laws_own_rows.proofs.OwnEdges.{fit_nothing}
 use Rattle.abstract_steps_sound.specs.SoundSteps.{StandsBehind}
-use Rattle.abstract_steps_covered.specs.Covering.{rows_behind, Carries}
+use Rattle.abstract_steps_covered.specs.Covering.{rows_behind, Begins, Carries}
+use Rattle.abstract_steps_sound_maps.specs.CarriedMaps.{EntryStands}
 use Rattle.abstract_steps_sound_maps.proofs.LargerRows.{row_larger}
 
 take_all : {X : Type 0} (xs : List X) → take (length xs) xs ≡ xs
@@ -102,3 +104,6 @@ module _ {I : Type 0} {l : LatticeOf I} {n : IntegersOf I} {stands : I → ℤ �
         let along = behind.is in
         entered s x (row_at rows e.to) (record { row = x; is = refl; long = behind.long; naming = behind.naming; stands_for = behind.stands_for; short = behind.short }) (closed.own e.to)
         (by_row number e (row_at rows e.from) row x there refl before along)
+
+    pub map_begins : (u : UnitView) → EntryStands l n stands flow list u → Begins l n stands flow u rows
+    map_begins u start draws s e = entered s (start_of l n flow list) (row_at rows 0) (start draws s e) (closed.own 0) closed.entry

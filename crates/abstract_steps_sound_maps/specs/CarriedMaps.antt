@@ -1,10 +1,14 @@
--- Larger rows stand for more, and inductive maps are carried along edges.
-use Rattle.std.specs.Prelude.{◌≡◌, ℤ, true, List, length, Option}
+-- Larger rows stand for more, and inductive maps begin with the entry's row and are carried along edges.
+use Rattle.std.specs.Prelude.{◌≡◌, ℤ, true, List, [], length, Option, Some}
 use Rattle.cc_base.specs.Lattices.{LatticeOf}
 use Rattle.cc_base.specs.IntegerDomains.{IntegersOf}
 use Rattle.cc_base.specs.InductiveMap.{IsInductive}
 use Rattle.cc_base.specs.Rows.{row_leq}
+use Rattle.c_layout.specs.CheckedUnits.{UnitView}
 use Rattle.flow_program.specs.declared.programs.Flow.{Flow}
+use Rattle.flow_program_views.specs.ProgramViews.{flow_view}
+use Rattle.flow_program_machine.specs.FlowStates.{Standing, running}
+use Rattle.flow_program_machine.specs.FlowStarts.{flow_begin}
 use Rattle.pointer_domain.specs.declared.base_sets.Bases.{Bases}
 use Rattle.value_domain.specs.declared.row_cells.Cell.{Cell}
 use Rattle.value_domain.specs.Cells.{cell_lattice}
@@ -12,12 +16,13 @@ use Rattle.store_domain_laws.specs.TopRows.{top_row}
 use Rattle.store_domain_meaning.specs.ValueMeaning.{Naming}
 use Rattle.store_domain_meaning.specs.RowMeaning.{MachineState, StandsFor}
 use Rattle.abstract_steps_rows.specs.OwnRows.{program_bases}
-use Rattle.abstract_steps_system.specs.FlowMachines.{flow_machine}
+use Rattle.abstract_steps_system.specs.FlowMachines.{start_of, flow_machine}
 use Rattle.abstract_steps_laws_values.specs.LaidOut.{IsLaidOut}
 use Rattle.abstract_steps_laws.specs.ProgramLaws.{IsNamed, AreRising}
 use Rattle.abstract_steps_laws.specs.SystemLaws.{IsNearList}
 use Rattle.abstract_steps_laws_own_rows.specs.OwnLists.{ReachesTypes}
-use Rattle.abstract_steps_covered.specs.Covering.{Carries}
+use Rattle.abstract_steps_sound.specs.SoundSteps.{StandsBehind}
+use Rattle.abstract_steps_covered.specs.Covering.{Begins, Carries}
 
 module _ {I : Type 0} (l : LatticeOf I) (n : IntegersOf I) (stands : I → ℤ → Type 0) (flow : Flow) where
   -- a row between another one and the greatest row
@@ -27,3 +32,11 @@ module _ {I : Type 0} (l : LatticeOf I) (n : IntegersOf I) (stands : I → ℤ �
   abbrev pub InductiveMapsAreCarried : List ℤ → Type 0
   InductiveMapsAreCarried list = IsNearList l n list → ReachesTypes list → IsLaidOut (program_bases (length flow.bases.items)) flow → IsNamed flow → AreRising l n (program_bases (length flow.bases.items)) flow
       → (rows : List (Option (List (Cell I)))) → IsInductive (cell_lattice l) (flow_machine l n flow list) rows → Carries l n stands flow rows
+
+  -- the row of the system's entry stands for the states in which runs of a unit begin
+  abbrev pub EntryStands : List ℤ → UnitView → Type 0
+  EntryStands list u = (draws : List ℤ) (s : Standing) → flow_begin u (flow_view flow) draws ≡ running s [] → StandsBehind l n stands flow (Some (start_of l n flow list)) s
+
+  abbrev pub InductiveMapsBegin : List ℤ → Type 0
+  InductiveMapsBegin list = IsNearList l n list → ReachesTypes list → IsLaidOut (program_bases (length flow.bases.items)) flow → IsNamed flow → AreRising l n (program_bases (length flow.bases.items)) flow
+      → (rows : List (Option (List (Cell I)))) → IsInductive (cell_lattice l) (flow_machine l n flow list) rows → (u : UnitView) → EntryStands list u → Begins l n stands flow u rows

@@ -3,4 +3,4 @@
 
 mod theorems;
 
-pub use theorems::{inductive_maps_are_carried, larger_rows_stand_for_more};
+pub use theorems::{inductive_maps_are_carried, inductive_maps_begin, larger_rows_stand_for_more};

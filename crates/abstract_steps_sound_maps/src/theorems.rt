@@ -2,7 +2,7 @@
 ghost use Rattle.std.specs.Prelude.{ℤ, List};
 ghost use Rattle.cc_base.specs.IntegerLaws.{MonotoneLaws};
 ghost use Rattle.flow_program.specs.declared.programs.Flow.{Flow};
-ghost use Rattle.abstract_steps_sound_maps.specs.CarriedMaps.{LargerRowsStandForMore, InductiveMapsAreCarried};
+ghost use Rattle.abstract_steps_sound_maps.specs.CarriedMaps.{LargerRowsStandForMore, InductiveMapsAreCarried, InductiveMapsBegin};
 
 use abstract_steps_rows::Bounded;
 use cc_base::IntDomain;
@@ -15,4 +15,9 @@ pub fn larger_rows_stand_for_more<I: IntDomain>()
 /// Where the row that comes along an edge stands for a state, so does the row that the map has for the block that the edge enters.
 pub fn inductive_maps_are_carried<I: Bounded>()
     ensures { MonotoneLaws I.lattice I.numbers → (flow : Flow) (list : List ℤ) → InductiveMapsAreCarried I.lattice I.numbers I.stands flow list }
+{}
+
+/// Where the row of the system's entry stands for the states in which runs begin, so does the row that the map has there.
+pub fn inductive_maps_begin<I: Bounded>()
+    ensures { MonotoneLaws I.lattice I.numbers → (flow : Flow) (list : List ℤ) → InductiveMapsBegin I.lattice I.numbers I.stands flow list }
 {}

@@ -1,0 +1,40 @@
+-- When what an analysis finds holds each pair that a run violates.
+use Rattle.std.specs.Prelude.{ℕ, ℤ, List}
+use Rattle.std.specs.List.{Contains}
+use Rattle.cc_base.specs.declared.diagnostics.Diag.{Diag}
+use Rattle.c_layout.specs.CheckedUnits.{UnitView}
+use Rattle.flow_program.specs.declared.programs.Flow.{Flow}
+use Rattle.interval_domain.specs.Spans.{Stands}
+use Rattle.interval_domain.specs.IntervalLattice.{interval_lattice}
+use Rattle.interval_domain.specs.IntervalNumbers.{interval_numbers}
+use Rattle.lib_models_effects.specs.Worlds.{Violation}
+use Rattle.flow_program_views.specs.ProgramViews.{flow_view}
+use Rattle.flow_program_machine.specs.FlowStates.{found_in}
+use Rattle.flow_program_machine.specs.FlowSteps.{flow_steps}
+use Rattle.flow_program_machine.specs.FlowStarts.{flow_begin}
+use Rattle.abstract_steps_laws_own_rows.specs.OwnLists.{ReachesTypes}
+use Rattle.abstract_steps_sound.specs.SoundSteps.{AreSound}
+use Rattle.abstract_steps_sound_maps.specs.CarriedMaps.{EntryStands}
+use Rattle.abstract_steps_covered.specs.Covering.{HasTypedRuns}
+use Rattle.abstract_steps_covered.specs.SoundEnds.{IsDoneIn}
+use Rattle.abstract_steps_sound_programs.specs.OpenSteps.{IsOpenStep, SpellsOverCharacters, AllocatesAtSites, OpenTestsAreSound}
+
+-- what is not proved of lowered programs, or of instructions, yet
+pub record Suffices (flow : Flow) (list : List ℤ) : Type 0 where
+  pub reaches : ReachesTypes list
+  pub texts : SpellsOverCharacters flow
+  pub sites : AllocatesAtSites flow
+  pub steps : AreSound interval_lattice interval_numbers Stands flow (λ o. IsOpenStep o × IsDoneIn flow o)
+  pub tests : OpenTestsAreSound interval_lattice interval_numbers Stands flow
+
+-- a pair that a run of the program violates, under some numbers of the outside, after some steps
+pub record IsViolatedIn (flow : Flow) (u : UnitView) (v : Violation) : Type 0 where
+  pub draws : List ℤ
+  pub steps : ℕ
+  pub there : Contains (found_in (flow_steps (flow_view flow) steps (flow_begin u (flow_view flow) draws))) v
+
+-- each pair that a run of a unit by this program violates is found, where the row of the entry stands for the start of
+-- the unit and operands are of their types in its runs
+abbrev pub HoldsEachPair : Flow → List ℤ → List Diag → Type 0
+HoldsEachPair flow list found = (u : UnitView) → EntryStands interval_lattice interval_numbers Stands flow list u → HasTypedRuns flow u
+    → (v : Violation) → IsViolatedIn flow u v → Contains found (record { place = v.at; rule = v.rule })
