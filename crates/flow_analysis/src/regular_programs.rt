@@ -124,11 +124,17 @@ fn spells_bytes(store: &StaticStore) -> bool
     }
 }
 
+fn stores_spell_bytes(stores: &[StaticStore]) -> bool
+    ensures { result ≡ list_all spec.spells_bytes stores.now }
+{
+    stores.iter().all(|store| spells_bytes(store))
+}
+
 fn begins_with_bytes(value: &InitialValue) -> bool
     ensures { result ≡ spec.begins_with_bytes value.now }
 {
     match value {
-        InitialValue::Stores(stores) => stores.as_slice().iter().all(|store| spells_bytes(store)),
+        InitialValue::Stores(stores) => stores_spell_bytes(stores.as_slice()),
         InitialValue::Literal(text) => are_bytes(text),
     }
 }

@@ -1,5 +1,5 @@
 -- Conditions on lines.
-use Rattle.std.proofs.Common.{◌≡◌, ℕ, ℤ, Bool, true, false, Option, List, [], ◌∷◌, Result, IfOk, refl, ap}
+use Rattle.std.proofs.Common.{◌≡◌, ℕ, ℤ, Bool, true, false, Option, List, [], ◌∷◌, Result, refl, ap}
 use Rattle.c_layout.specs.CheckedTrees as tree
 use Rattle.c_layout.specs.CheckedTrees.{TermTree, Typed, FormTree}
 use Rattle.c_layout.specs.CheckedUnits.{UnitView}

@@ -1,16 +1,13 @@
 -- Entries of a stack that no jump looks for.
-use Rattle.std.proofs.Common.{◌≡◌, ℕ, Bool, true, false, List, [], ◌∷◌, map, refl, sym, ◌∙◌}
+use Rattle.std.proofs.Common.{◌≡◌, ℕ, Bool, true, false, List, [], map, refl}
 use Rattle.std.specs.Borrow.{Bor}
 use Rattle.c_layout.specs.CheckedTrees as tree
 use Rattle.c_layout.specs.CheckedTrees.{TermTree, Typed, StatementTree, term_tree, term_trees, statement_tree, store_tree}
 use Rattle.c_layout.specs.CheckedUnits.{UnitView}
 use Rattle.cc_base.specs.declared.diagnostics.Place.{Place}
 use Rattle.flow_lower_functions.specs.Functions.{numbers_from}
-use Rattle.flow_lower_tasks.specs.TermKinds.{term_form}
-use Rattle.ref_machine.specs.Items as item
-use Rattle.ref_machine.specs.Items.{Item}
 use Rattle.ref_machine.specs.Scopes.{open_scopes, behind_loop, behind_turn}
-use Rattle.replay_run_items.specs.Standings.{Standing, on_item, on_term, on_statement, on_line, picked}
+use Rattle.replay_run_items.specs.Standings.{Standing, on_item, on_term, on_statement, on_line}
 use Rattle.replay_run_items.specs.declared.items.Item7.{Item7}
 use Rattle.replay_run_items.specs.declared.items.Item7.TheVariants as held
 use Rattle.replay_run_items.specs.declared.items.Use7.{Use7}

@@ -1,5 +1,5 @@
 -- How many arguments a call has.
-use Rattle.std.proofs.Common.{◌≡◌, ◌+◌, suc, List, [], ◌∷◌, length, map, refl, ap, sym, ◌∙◌, add-one}
+use Rattle.std.proofs.Common.{◌≡◌, suc, List, [], ◌∷◌, length, map, refl, ap, sym, ◌∙◌, add-one}
 use Rattle.c_layout.specs.CheckedTrees.{term_tree, term_trees}
 use Rattle.c_layout.specs.declared.checked_tree.checked_terms.CheckedTerm.{CheckedTerm}
 use Rattle.ref_machine.specs.TermItems.{argument_count}

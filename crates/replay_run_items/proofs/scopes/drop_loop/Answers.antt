@@ -1,4 +1,4 @@
-use Rattle.std.proofs.Common.{◌≡◌, [], ◌∷◌, ◌++◌, ◌+◌, List, length, Option, None, MatchOption, vec_len, subst, ap, sym, ◌∙◌, arith}
+use Rattle.std.proofs.Common.{◌≡◌, [], ◌∷◌, ◌++◌, ◌+◌, length, Option, None, MatchOption, vec_len, subst, ap, sym, ◌∙◌, arith}
 use Rattle.ref_machine.specs.Scopes.{behind_loop}
 use Rattle.replay_run_items.specs.Standings.{standing}
 use Rattle.replay_run_items.specs.declared.items.Item7.{Item7}

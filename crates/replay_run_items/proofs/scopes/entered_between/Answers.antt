@@ -1,4 +1,4 @@
-use Rattle.std.proofs.Common.{◌≡◌, ◌<◌, ◌++◌, ap, sym, ◌∙◌, arith}
+use Rattle.std.proofs.Common.{◌<◌, ◌++◌, ap, sym, ◌∙◌, arith}
 use Rattle.ref_machine.specs.Scopes.{all_of, without}
 use Rattle.replay_run_items.specs.Scans.{scopes_view}
 use Rattle.replay_run_items.proofs.Objects.{entered_at}

@@ -1,4 +1,4 @@
-use Rattle.std.proofs.Common.{◌≡◌, ◌+◌, ◌||◌, true, false, drop, ap, sym, ◌∙◌, arith}
+use Rattle.std.proofs.Common.{◌≡◌, ◌+◌, ◌||◌, true, false, drop, ap, sym, ◌∙◌}
 use Rattle.ref_machine.specs.Scopes.{is_in, all_of}
 use Rattle.replay_run_items.specs.Scans.{scopes_view}
 use Rattle.replay_run_items.proofs.Objects.{open_at}

@@ -1,4 +1,4 @@
-use Rattle.std.proofs.Common.{◌≡◌, ◌+◌, ◌++◌, drop, ap, sym, ◌∙◌, append_assoc}
+use Rattle.std.proofs.Common.{◌+◌, ◌++◌, drop, ap, sym, ◌∙◌, append_assoc}
 use Rattle.ref_machine.specs.Scopes.{all_of, without}
 use Rattle.replay_run_items.specs.Scans.{scopes_view}
 use Rattle.replay_run_items.proofs.Objects.{left_at}

@@ -1,8 +1,8 @@
-use Rattle.std.proofs.Common.{◌≡◌, ◌+◌, [], ◌∷◌, ◌++◌, length, take, reverse, ap, sym, subst, ◌∙◌, arith}
+use Rattle.std.proofs.Common.{◌≡◌, ◌+◌, [], ◌∷◌, ◌++◌, take, reverse, ap, sym, subst, ◌∙◌}
 use Rattle.std.proofs.lemmas.List.{take_more, take_all}
 use Rattle.ref_machine.specs.Scopes as machine
 use Rattle.replay_run_items.specs.Scans.{scopes_view, Scans}
-use Rattle.replay_run_items.specs.Standings.{Standing, on_item, standing}
+use Rattle.replay_run_items.specs.Standings.{Standing, standing}
 use Rattle.replay_run_items.proofs.Objects.{view-reverse}
 use Rattle.replay_run_items.proofs.Stacks.{stacked, standing_none}
 use Rattle.replay_run_items.proofs.scopes.open_scopes.Goals as goal
