@@ -1,5 +1,5 @@
 //! The memory of a run: its instances by their numbers.
-ghost use Rattle.std.specs.Prelude.{◌≡◌, ◌+◌, ◌<◌, ◌≤◌, ◌++◌, [], ◌∷◌, length, OnOk, OnErr, IfOk, slice_get, Some, true};
+ghost use Rattle.std.specs.Prelude.{◌≡◌, ◌+◌, ◌<◌, ◌≤◌, ◌++◌, [], ◌∷◌, length, OnOk, OnErr, IfOk, IsTrue, ◌↔◌, slice_get, Some};
 ghost use Rattle.lib_models_memory.specs.Instances.{ended, freed, bytes_at, life_at, total_size};
 ghost use Rattle.lib_models_effects.specs.ObjectEffects.{fresh, blank_bytes, set_life, all_of};
 ghost use Rattle.lib_models_effects.specs.ScalarBytes.{region, replaced, refilled};
@@ -57,13 +57,14 @@ impl Memory7 {
 
     /// Whether the memory is under a model.
     pub fn is_under(&self, model: &Model) -> bool
-        ensures { result ≡ true → self.now.model ≡ model.now }
+        ensures { IsTrue result ↔ (self.now.model ≡ model.now) }
     {
         self.model == *model
     }
 
     /// Makes a live instance of `size` indeterminate bytes, with the tags of the leaves of its
-    /// object's type, and answers its number. On want of memory all is as before.
+    /// object's type, and answers its number. On want of memory all is as before; so it is where
+    /// all instances together would have 2^64 bytes.
     pub fn enter(&mut self, kind: InstKind, tags: &[Leaf], size: u64) -> Result<u32, Memory>
         requires { length self.old.memory < 4294967295 }
         ensures number { IfOk result (λ n. n ≡ length self.old.memory) }

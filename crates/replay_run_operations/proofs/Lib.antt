@@ -1,0 +1,3 @@
+pub mod Newest
+pub mod PendingValues
+pub mod Operating
