@@ -60,6 +60,8 @@ pub fn spell_in(
 }
 
 /// A text of an initializer and its closing zero, as far as they fit into so many bytes at an offset.
-pub fn spell(w: &mut World7, inst: u32, offset: u64, room: u64, text: &[u8]) -> Result<(), Halt> {
+pub fn spell(w: &mut World7, inst: u32, offset: u64, room: u64, text: &[u8]) -> Result<(), Halt>
+    ensures { Leaves (machine.spelled inst offset room text.now (world_view w.old)) result (world_view w.new) }
+{
     spell_in(w.alloc, &mut w.memory, Spot { inst, offset }, room, text)
 }
