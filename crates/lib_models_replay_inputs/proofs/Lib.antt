@@ -1,3 +1,4 @@
 pub mod Passing
 pub mod Lengths
 pub mod StartSteps
+pub mod StartLoops

@@ -1,11 +1,11 @@
 -- Sums of sizes that pass a number.
-use Rattle.std.proofs.Common.{◌≡◌, ℕ, ◌+◌, ◌<◌, ◌≤◌, ◌⊎◌, Bool, cond, nat_lt, List, [], ◌∷◌, ◌++◌, length, refl, sym, ap, subst, ◌∙◌, arith, ⊎_elim}
+use Rattle.std.proofs.Common.{◌≡◌, ℕ, ◌+◌, ◌<◌, ◌≤◌, true, false, cond, nat_lt, [], ◌∷◌, ◌++◌, length, refl, sym, ap, subst, ◌∙◌, arith, ⊎_elim}
 use Rattle.std.proofs.lemmas.Bool.{cases_lt, lt-ltb, le-ltb}
 use Rattle.lib_models_memory.specs.Instances.{Instance, Memory, total_size}
 use Rattle.lib_models_replay_inputs.specs.Sums.{passing_from, PassesAt, PassesWith}
 
 pub total_append : (m n : Memory) → total_size (m ++ n) ≡ total_size m + total_size n
-total_append [] n = refl
+total_append [] n = omega arith
 total_append (i ∷ is) n =
     let rest : total_size (is ++ n) ≡ total_size is + total_size n = total_append is n in
     omega arith
@@ -42,17 +42,17 @@ pub passes_at : (most count size : ℕ) (before : Memory) (x : Instance) → Pas
 passes_at most count size before x p e =
     let within = p.within in
     let passes = p.passes in
-    let counted = p.count in
+    let counted = p.counted in
     let all : total_size (before ++ x ∷ []) ≡ total_size before + (length x.bytes + 0) = total_append before (x ∷ []) in
     let same : (0 + total_size before) + length x.bytes ≡ total_size before + size = omega arith in
-    record { large = omega arith; count = counted ∙ sym same ∙ sym (passing_at most 0 before x [] (omega arith) (omega arith)) }
+    record { large = omega arith; counted = counted ∙ sym same ∙ sym (passing_at most 0 before x [] (omega arith) (omega arith)) }
 
 pub passed_more : (most count : ℕ) (m more : Memory) → PassesAt most count m → PassesAt most count (m ++ more)
 passed_more most count m more p =
     let large = p.large in
-    let counted = p.count in
+    let counted = p.counted in
     let all : total_size (m ++ more) ≡ total_size m + total_size more = total_append m more in
-    record { large = omega arith; count = counted ∙ sym (passing_more most 0 m more (omega arith) (omega arith)) }
+    record { large = omega arith; counted = counted ∙ sym (passing_more most 0 m more (omega arith) (omega arith)) }
 
 -- memory with more instances
 pub record Extends (m n : Memory) : Type 0 where

@@ -1,16 +1,15 @@
 -- The start of a run, step by step.
-use Rattle.std.proofs.Common.{◌≡◌, ℕ, ℤ, Bool, true, false, List, [], ◌∷◌, ◌++◌, length, map, Result, refl, sym, ap, subst, ◌∙◌}
+use Rattle.std.proofs.Common.{◌≡◌, ℕ, ℤ, Bool, true, false, List, [], ◌∷◌, ◌++◌, length, map, Result, sym, ap, subst, ◌∙◌}
 use Rattle.cc_base.specs.IntegerTypes.{least_of, greatest_of}
 use Rattle.cc_base.specs.declared.int_types.IntType.{IntType}
 use Rattle.c_layout.specs.Types as ty
 use Rattle.c_layout.specs.Types.{Ty}
 use Rattle.c_layout.specs.CheckedUnits.{UnitView, StaticView, LiteralView, LocalView}
-use Rattle.lib_models_memory.specs.Bytes.{Byte}
 use Rattle.lib_models_memory.specs.Instances.{Instance, Memory, total_size}
 use Rattle.lib_models_effects.specs.ObjectEffects.{with_instance}
 use Rattle.lib_models_effects.specs.UnitStarts.{static_instance, literal_made, input, with_parameter, with_parameters, entry_parameters}
 use Rattle.lib_models_effects.specs.Worlds.{World, Reply, goes, stops, behind, done, drawn_in, drawn_from, world_of}
-use Rattle.lib_models_replay.specs.WorldViews.{why_view, HaltsAs}
+use Rattle.lib_models_replay.specs.WorldViews.{HaltsAs}
 use Rattle.lib_models_replay.specs.declared.worlds.Halt.{Halt}
 use Rattle.lib_models_replay.specs.declared.worlds.Halt.TheVariants as halt
 use Rattle.lib_models_replay_starts.specs.Rewrites.{objects_made, literals_made}
@@ -116,7 +115,7 @@ start_objects u w v why e =
     let spelt = literals_made u.literals made in
     stops_in why made (started u w) v (extends_both made.memory spelt.memory (world_of (started u w)).memory (literals_extend u.literals made) (parameters_extend u (entry_parameters u) spelt)) e
 
-same_done : (a b : World) → done a ≡ done b → a ≡ b
+pub same_done : (a b : World) → done a ≡ done b → a ≡ b
 same_done a b e = cc
 
 pub start_literals : (u : UnitView) (w z v : World) (why : StartStop) → done (objects_made u u.objects w) ≡ done z → StopsStart (done (literals_made u.literals z)) why v → StopsStart (started u w) why v

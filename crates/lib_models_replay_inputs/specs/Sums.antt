@@ -1,5 +1,5 @@
 -- The sizes of instances, added up to a limit.
-use Rattle.std.specs.Prelude.{◌≡◌, ◌<◌, ◌≤◌, ℕ, ◌+◌, cond, nat_lt, List, [], ◌∷◌, length}
+use Rattle.std.specs.Prelude.{◌≡◌, ◌<◌, ◌≤◌, ℕ, ◌+◌, cond, nat_lt, [], ◌∷◌, length}
 use Rattle.lib_models_memory.specs.Instances.{Memory, total_size}
 use Rattle.lib_models_replay.specs.declared.worlds.Halt.{Halt}
 use Rattle.lib_models_replay.specs.declared.worlds.Halt.TheVariants as halt
@@ -18,7 +18,7 @@ passing_from most sum (i ∷ is) = cond (nat_lt most (sum + length i.bytes)) (su
 -- all instances of memory together have more bytes than a number, first so many
 pub record PassesAt (most count : ℕ) (memory : Memory) : Type 0 where
   pub large : most < total_size memory
-  pub count : count ≡ passing_from most 0 memory
+  pub counted : count ≡ passing_from most 0 memory
 
 -- memory is too large
 abbrev pub IsPassed : ℕ → Memory → Type 0
@@ -28,7 +28,7 @@ IsPassed count memory = PassesAt most_bytes count memory
 pub record PassesWith (most sum size count : ℕ) : Type 0 where
   pub within : sum ≤ most
   pub passes : most < sum + size
-  pub count : count ≡ sum + size
+  pub counted : count ≡ sum + size
 
 -- a size that passes the limit is no other stop than that
 abbrev pub PassesBy : ℕ → ℕ → StartStop → Type 0

@@ -60,12 +60,7 @@ fn make_parameter(
 }
 
 // A parameter of an integer type takes a number.
-fn with_number(
-    w: &mut World7,
-    unit: &Checked,
-    t: &CType,
-    kind: IntType,
-) -> Result<(), StartStop>
+fn with_number(w: &mut World7, unit: &Checked, t: &CType, kind: IntType) -> Result<(), StartStop>
     requires model { is_model unit.now.model ≡ true }
     requires integer { view t.now ≡ Int kind }
     ensures { StartsAs (machine.with_parameter (unit_view unit.now) (Int kind) (world_view w.old)) result (world_view w.new) }

@@ -29,7 +29,13 @@ pub fn may_make(w: &World7, size: u128) -> Result<(), StartStop>
         return Err(StartStop::Memory);
     }
     match made.checked_add(size) {
-        Some(sum) => { if sum <= most { Ok(()) } else { Err(StartStop::Large(sum)) } }
+        Some(sum) => {
+            if sum <= most {
+                Ok(())
+            } else {
+                Err(StartStop::Large(sum))
+            }
+        }
         None => Err(StartStop::Memory),
     }
 }
