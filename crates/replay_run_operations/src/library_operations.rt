@@ -58,7 +58,13 @@ pub fn call_library(
     ensures { Operates (machine.call_library (unit_view unit.now) function count (type_seen target) (pending values.old.items) (world_view w.old)) result values.new.items (world_view w.new) }
 {
     let wanted = target_size(unit, target)?;
-    let outcome = library(w, &unit.model, wanted, function, newest(values.as_slice(), count))?;
+    let outcome = library(
+        w,
+        &unit.model,
+        wanted,
+        function,
+        newest(values.as_slice(), count),
+    )?;
     drop_newest(values, count);
     push_outcome(values, outcome)
 }

@@ -54,5 +54,12 @@ pub fn copy_to(
     ensures { ComesTo scalar_view (copies.copy_struct (unit_view unit.now).model (leaves (unit_view unit.now) (view t.now)) (size_of (unit_view unit.now) (view t.now)) (scalar_view to) (scalar_view from) (world_view w.old)) result (world_view w.new) }
 {
     let layout = layout_of(w.alloc, t, &unit.structs, &unit.model)?;
-    copy_struct(w, &unit.model, layout.leaves.as_slice(), layout.size, to, from)
+    copy_struct(
+        w,
+        &unit.model,
+        layout.leaves.as_slice(),
+        layout.size,
+        to,
+        from,
+    )
 }
