@@ -1,3 +1,3 @@
-pub mod Newest
+pub mod NewestValues
 pub mod PendingValues
 pub mod Operating

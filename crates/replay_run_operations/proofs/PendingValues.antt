@@ -6,7 +6,7 @@ use Rattle.lib_models_instances.specs.ByteViews.{scalar_view}
 use Rattle.lib_models_instances.specs.declared.byte_forms.Value7.{Value7}
 use Rattle.ref_machine.specs.Operations.{newest}
 use Rattle.replay_run_operations.specs.Pending.{pending}
-use Rattle.replay_run_operations.proofs.Newest.{newest_is, rest_is}
+use Rattle.replay_run_operations.proofs.NewestValues.{newest_is, rest_is}
 
 pub pending_more : (vs : List Value7) (v : Value7) → pending (vs ++ v ∷ []) ≡ scalar_view v ∷ pending vs
 pending_more vs v = ap reverse (map-append scalar_view vs (v ∷ [])) ∙ reverse-append (map scalar_view vs) (scalar_view v ∷ [])

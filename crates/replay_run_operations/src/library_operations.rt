@@ -18,7 +18,7 @@ use lib_models_replay_calls::library;
 
 /// The size of what an allocation is for.
 pub fn target_size(unit: &Checked, target: Option<&CType>) -> Result<Option<u64>, Halt>
-    ensures size { IfOk result (λ size. size ≡ machine.target_size (unit_view unit.now) (type_seen target)) }
+    ensures size { IfOk result (λ size. size ≡ machine.target_size (unit_view unit.now) (type_seen target.entry)) }
     ensures memory { IfErr result (λ h. h ≡ halt.Memory) }
 {
     match target {
@@ -55,7 +55,7 @@ pub fn call_library(
     target: Option<&CType>,
 ) -> Result<(), Halt>
     requires { is_model unit.now.model ≡ true }
-    ensures { Operates (machine.call_library (unit_view unit.now) function count (type_seen target) (pending values.old.items) (world_view w.old)) result values.new.items (world_view w.new) }
+    ensures { Operates (machine.call_library (unit_view unit.now) function count (type_seen target.entry) (pending values.old.items) (world_view w.old)) result values.new.items (world_view w.new) }
 {
     let wanted = target_size(unit, target)?;
     let outcome = library(

@@ -37,7 +37,7 @@ fn one(
     operation: Operation7,
     operand: Value7,
 ) -> Result<Value7, Halt>
-    ensures { ComesTo scalar_view (one_of (unit_view unit.now) (operation_view operation) (scalar_view operand) (world_view w.old)) result (world_view w.new) }
+    ensures { ComesTo scalar_view (one_of (unit_view unit.now) (operation_view operation.entry) (scalar_view operand) (world_view w.old)) result (world_view w.new) }
 {
     match operation {
         Operation7::Load(kind) => load_from(w, unit, kind, operand),
@@ -57,7 +57,7 @@ fn operate_one(
     unit: &Checked,
     operation: Operation7,
 ) -> Result<(), Halt>
-    ensures { Operates (machine.on_one (pending values.old.items) (world_view w.old) (one_of (unit_view unit.now) (operation_view operation))) result values.new.items (world_view w.new) }
+    ensures { Operates (machine.on_one (pending values.old.items) (world_view w.old) (one_of (unit_view unit.now) (operation_view operation.entry))) result values.new.items (world_view w.new) }
 {
     let operand = pop_value(values)?;
     let given = one(w, unit, operation, operand);
@@ -73,7 +73,7 @@ fn two(
     both: Operands,
 ) -> Result<Value7, Halt>
     requires { is_model unit.now.model ≡ true }
-    ensures { ComesTo scalar_view (two_of (unit_view unit.now) (operation_view operation) (scalar_view both.left) (scalar_view both.right) (world_view w.old)) result (world_view w.new) }
+    ensures { ComesTo scalar_view (two_of (unit_view unit.now) (operation_view operation.entry) (scalar_view both.left) (scalar_view both.right) (world_view w.old)) result (world_view w.new) }
 {
     match operation {
         Operation7::Store(kind) => store_to(w, unit, kind, both.left, both.right),
@@ -88,7 +88,7 @@ fn two(
 }
 
 fn order_in(operation: Operation7) -> Order7
-    ensures { order_view result ≡ order_of (operation_view operation) }
+    ensures { order_view result ≡ order_of (operation_view operation.entry) }
 {
     match operation {
         Operation7::Shift(order, _, _) => order,
@@ -104,7 +104,7 @@ fn operate_two(
     operation: Operation7,
 ) -> Result<(), Halt>
     requires { is_model unit.now.model ≡ true }
-    ensures { Operates (machine.on_two (order_of (operation_view operation)) (pending values.old.items) (world_view w.old) (two_of (unit_view unit.now) (operation_view operation))) result values.new.items (world_view w.new) }
+    ensures { Operates (machine.on_two (order_of (operation_view operation.entry)) (pending values.old.items) (world_view w.old) (two_of (unit_view unit.now) (operation_view operation.entry))) result values.new.items (world_view w.new) }
 {
     let both = pop_two(values, order_in(operation))?;
     let given = two(w, unit, operation, both);
@@ -168,7 +168,7 @@ pub fn perform(
     operation: Operation7,
 ) -> Result<(), Halt>
     requires { is_model unit.now.model ≡ true }
-    ensures { Operates (machine.perform (unit_view unit.now) (operation_view operation) (pending values.old.items) (world_view w.old)) result values.new.items (world_view w.new) }
+    ensures { Operates (machine.perform (unit_view unit.now) (operation_view operation.entry) (pending values.old.items) (world_view w.old)) result values.new.items (world_view w.new) }
 {
     match operation {
         Operation7::Number(n) => push_value(values, Value7::Int(*n, unlabelled())),
