@@ -1,5 +1,6 @@
 -- Entries of a stack that no jump looks for.
-use Rattle.std.proofs.Common.{◌≡◌, Bool, true, false, List, [], ◌∷◌, map, refl, sym, ◌∙◌}
+use Rattle.std.proofs.Common.{◌≡◌, ℕ, Bool, true, false, List, [], ◌∷◌, map, refl, sym, ◌∙◌}
+use Rattle.std.specs.Borrow.{Bor}
 use Rattle.c_layout.specs.CheckedTrees as tree
 use Rattle.c_layout.specs.CheckedTrees.{TermTree, Typed, StatementTree, term_tree, term_trees, statement_tree, store_tree}
 use Rattle.c_layout.specs.CheckedUnits.{UnitView}
@@ -138,3 +139,10 @@ entry_objects u (held.ReadLine at false) s h = refl
 entry_objects u (held.Also object) s h = cc
 entry_objects u (held.AlsoFrom from count) s h = cc
 entry_objects u i s h = refl
+
+pub no_scope : (i : Item7) → ((objects : Bor (List ℕ)) → i ≡ held.Leaves objects → ⊥) → (i ≡ held.LeavesBelow → ⊥) → ((object : ℕ) → i ≡ held.Also object → ⊥) → ((from count : ℕ) → i ≡ held.AlsoFrom from count → ⊥) → is_scope i ≡ false
+no_scope (held.Leaves objects) own below single more = absurd (own objects refl)
+no_scope held.LeavesBelow own below single more = absurd (below refl)
+no_scope (held.Also object) own below single more = absurd (single object refl)
+no_scope (held.AlsoFrom from count) own below single more = absurd (more from count refl)
+no_scope i own below single more = refl

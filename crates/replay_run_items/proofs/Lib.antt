@@ -1,6 +1,9 @@
+pub mod Trees
+pub mod Sequels
 pub mod Stacks
 pub mod Plain
 pub mod Entries
 pub mod Unknown
+pub mod Objects
 pub mod Conditions
 pub mod Tests

@@ -5,8 +5,12 @@ use Rattle.ref_machine.specs.Items as item
 use Rattle.ref_machine.specs.Items.{Item}
 use Rattle.ref_machine.specs.TermItems.{if_used, left_if}
 use Rattle.c_layout.specs.CheckedUnits.{UnitView}
-use Rattle.replay_run_items.specs.Standings.{Standing, with_item, with_items, unless_used, on_item, newest_first, standing}
+use Rattle.replay_run_items.specs.Standings.{Standing, nothing_left, with_item, with_items, unless_used, on_item, newest_first, standing}
 use Rattle.replay_run_items.specs.declared.items.Item7.{Item7}
+
+pub standing_none : (u : UnitView) → standing u [] ≡ nothing_left
+unfolding standing
+standing_none u = refl
 
 pub standing_more : (u : UnitView) (xs : List Item7) (i : Item7) → standing u (xs ++ i ∷ []) ≡ on_item u i (standing u xs)
 unfolding standing

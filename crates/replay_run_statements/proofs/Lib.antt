@@ -1,2 +1,5 @@
 pub mod Labels
 pub mod Entries
+pub mod Ends
+pub mod Lasts
+pub mod Finds

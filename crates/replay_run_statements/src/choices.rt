@@ -1,18 +1,44 @@
 //! What follows a condition that holds or not.
-ghost use Rattle.std.specs.Prelude.{◌≡◌, [], ◌∷◌, true, false, None, IfOk};
+ghost use Rattle.std.specs.Prelude.{◌≡◌, ◌++◌, List, [], ◌∷◌, true, false, None, IfOk};
 ghost use Rattle.c_layout.specs.CheckedTrees.{term_tree, statement_tree};
 ghost use Rattle.c_layout.specs.CheckedUnits.{UnitView};
 ghost use Rattle.ref_machine.specs.Items as machine;
 ghost use Rattle.ref_machine.specs.ConditionItems.{condition, arm, choice_of, truth_of};
 ghost use Rattle.replay_run_items.specs.ItemViews.{arm_items, next_items};
 ghost use Rattle.replay_run_items.specs.Standings.{ways, following, on_item, on_term, on_statement, standing, Adds};
+ghost use Rattle.replay_run_items.specs.declared.items.Item7.{Item7};
 ghost use Rattle.replay_run_items.specs.declared.items.Use7.TheVariants as use_of;
-ghost use Rattle.replay_run_statements.specs.Choices.{followed, is_target, IsMet, Meets, Stays};
+ghost use Rattle.replay_run_statements.specs.Choices.{followed, is_target, is_target_term, is_target_statement, IsMet, Meets, Stays};
 
 use crate::loop_items::push_turn;
 use c_layout::{CheckedStatement, CheckedTerm, TermForm};
 use replay_run_items::{Arm7, Item7, Next7, Use7, Way7, push_condition, push_item};
 use std::alloc::AllocError;
+
+fn is_target_term(how: Use7) -> bool
+    ensures { result ≡ is_target_term how }
+{
+    match how {
+        Use7::After(_) => true,
+        Use7::Value => false,
+        Use7::Unused => false,
+        Use7::Choose(_) => false,
+        Use7::AndThen(_) => false,
+        Use7::OrElse(_) => false,
+        Use7::Pick => false,
+    }
+}
+
+fn is_target_statement(way: Way7) -> bool
+    ensures { result ≡ is_target_statement way }
+{
+    match way {
+        Way7::After(_) => true,
+        Way7::Whole => false,
+        Way7::Turn => false,
+        Way7::Select => false,
+    }
+}
 
 // Whether an entry of a list of items is what follows a condition.
 fn is_target(item: &Item7) -> bool
@@ -21,9 +47,19 @@ fn is_target(item: &Item7) -> bool
     match item {
         Item7::AfterNothing => true,
         Item7::AfterTruth(_) => true,
-        Item7::Term(Use7::After(_), _) => true,
-        Item7::Statement(Way7::After(_), _) => true,
+        Item7::Term(how, _) => is_target_term(*how),
+        Item7::Statement(way, _) => is_target_statement(*way),
         _ => false,
+    }
+}
+
+// Whether the newest entry is what follows a condition.
+fn ends_in_target(control: &[Item7]) -> bool
+    ensures { (items : List Item7) (item : Item7) → control.now ≡ items ++ item ∷ [] → result ≡ is_target item }
+{
+    match control.last() {
+        Some(item) => is_target(item),
+        None => false,
     }
 }
 
@@ -31,13 +67,10 @@ fn is_target(item: &Item7) -> bool
 fn drop_failed(control: &mut Vec<Item7>)
     ensures { (u : UnitView) → (standing u control.new.items).items ≡ (standing u control.old.items).items }
 {
-    let is_there = match control.last() {
-        Some(item) => is_target(item),
-        None => false,
-    };
-    if is_there {
-        let _ = control.pop();
+    if !ends_in_target(control.as_slice()) {
+        return;
     }
+    let _ = control.pop();
 }
 
 // ---- what follows a condition
@@ -249,14 +282,40 @@ fn meet_pick<'a>(
     ensures stays { IfOk result (λ found. Stays control.old.items found control.new.items) }
 {
     match &term.form {
+        TermForm::Number(_) => Ok(Some(holds)),
+        TermForm::Sizeof(_, None, _) => Ok(Some(holds)),
+        TermForm::Sizeof(_, Some(_), _) => Ok(Some(holds)),
+        TermForm::Load(_) => Ok(Some(holds)),
+        TermForm::AddressOf(_) => Ok(Some(holds)),
+        TermForm::Decay(_) => Ok(Some(holds)),
+        TermForm::Convert(_, _) => Ok(Some(holds)),
+        TermForm::Discard(_) => Ok(Some(holds)),
+        TermForm::Plus(_) => Ok(Some(holds)),
+        TermForm::Minus(_) => Ok(Some(holds)),
+        TermForm::Complement(_) => Ok(Some(holds)),
+        TermForm::Not(_) => Ok(Some(holds)),
+        TermForm::Integer(_, _, _) => Ok(Some(holds)),
+        TermForm::Shift(_, _, _, _) => Ok(Some(holds)),
+        TermForm::Difference(_, _, _) => Ok(Some(holds)),
+        TermForm::Compare(_, _, _) => Ok(Some(holds)),
+        TermForm::Logical(_, _, _) => Ok(Some(holds)),
         TermForm::Conditional(_, first, second) => meet_arms(control, first, second, holds),
-        _ => Ok(Some(holds)),
+        TermForm::Comma(_, _) => Ok(Some(holds)),
+        TermForm::Assign(_, _) => Ok(Some(holds)),
+        TermForm::Compound(_, _, _, _) => Ok(Some(holds)),
+        TermForm::CompoundShift(_, _, _, _) => Ok(Some(holds)),
+        TermForm::Step(_, _, _, _) => Ok(Some(holds)),
+        TermForm::StepPointer(_, _, _, _) => Ok(Some(holds)),
+        TermForm::Struct(_) => Ok(Some(holds)),
+        TermForm::Call(_, _, _) => Ok(Some(holds)),
+        TermForm::Library(_, _, _) => Ok(Some(holds)),
     }
 }
 
 // An item that is no part of a condition stays.
 fn meet_item<'a>(control: &mut Vec<Item7<'a>>, item: Item7<'a>) -> Result<Option<bool>, AllocError>
-    ensures { (u : UnitView) → IfOk result (λ found. (found ≡ None) × ((standing u control.new.items).items ≡ (on_item u item.entry (standing u control.old.items)).items)) }
+    ensures none { IfOk result (λ found. found ≡ None) }
+    ensures pushed { (u : UnitView) → IfOk result (λ _. (standing u control.new.items).items ≡ (on_item u item.entry (standing u control.old.items)).items) }
 {
     push_item(control, item)?;
     Ok(None)

@@ -18,7 +18,7 @@ use std::alloc::AllocError;
 #[derive(Clone, Copy)]
 pub enum Sought7 {
     Label(u32),
-    Case(u32),
+    Case(usize),
     Other,
 }
 
@@ -35,7 +35,7 @@ fn is_case(sought: Sought7, number: u32) -> bool
     ensures { result ≡ search.is_case (sought_view sought) number }
 {
     match sought {
-        Sought7::Case(n) => n == number,
+        Sought7::Case(n) => n == number as usize,
         Sought7::Label(_) | Sought7::Other => false,
     }
 }
@@ -137,13 +137,13 @@ fn find_in<'a>(
 ) -> Result<(), AllocError>
     ensures { (u : UnitView) → IfOk result (λ _. Finds (search.found_among u (sought_view sought) (map statement_tree statements.now) (standing u control.old.items).items) (standing u control.new.items).items) }
 {
-    let mut rest = statements;
-    while let Some((statement, later)) = rest.split_first() {
+    let mut at = 0;
+    for statement in statements {
+        at += 1;
         if is_in(sought, statement) {
-            push_statements(control, later)?;
+            push_statements(control, &statements[at..])?;
             return find(control, sought, statement);
         }
-        rest = later;
     }
     Ok(())
 }
@@ -233,7 +233,7 @@ pub fn case_of(labels: &[CaseLabel], value: i128) -> Sought7
 {
     for (n, label) in labels.iter().enumerate() {
         if label.value == value {
-            return Sought7::Case(n as u32);
+            return Sought7::Case(n);
         }
     }
     Sought7::Other

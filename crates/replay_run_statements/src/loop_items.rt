@@ -16,15 +16,15 @@ use std::alloc::AllocError;
 /// A condition, and what follows it where it holds and where it does not.
 pub fn push_test<'a>(
     control: &mut Vec<Item7<'a>>,
-    condition: &'a CheckedTerm,
+    test: &'a CheckedTerm,
     held: Item7<'a>,
     failed: Item7<'a>,
 ) -> Result<(), AllocError>
-    ensures { (u : UnitView) → Stacks u (λ s. let t = on_item u held.entry (on_item u failed.entry s) in with_items (condition u true (term_tree condition.now) t.yes t.no) t) control.old.items result control.new.items }
+    ensures { (u : UnitView) → Stacks u (λ s. let t = on_item u held.entry (on_item u failed.entry s) in with_items (condition u true (term_tree test.now) t.yes t.no) t) control.old.items result control.new.items }
 {
     push_item(control, failed)?;
     push_item(control, held)?;
-    push_condition(control, condition, true)?;
+    push_condition(control, test, true)?;
     Ok(())
 }
 
@@ -47,23 +47,23 @@ pub fn push_while_turn<'a>(
 fn push_turn_test<'a>(
     control: &mut Vec<Item7<'a>>,
     statement: &'a CheckedStatement,
-    condition: &'a CheckedTerm,
+    test: &'a CheckedTerm,
 ) -> Result<(), AllocError>
-    ensures { (u : UnitView) → Adds u (condition u true (term_tree condition.now) (turn_items (statement_tree statement.now)) []) control.old.items result control.new.items }
+    ensures { (u : UnitView) → Adds u (condition u true (term_tree test.now) (turn_items (statement_tree statement.now)) []) control.old.items result control.new.items }
 {
     let held = Item7::Statement(Way7::After(Next7::Turn), statement);
-    push_test(control, condition, held, Item7::AfterNothing)
+    push_test(control, test, held, Item7::AfterNothing)
 }
 
 /// The test of a `do` loop behind its body.
 pub fn push_do_test<'a>(
     control: &mut Vec<Item7<'a>>,
     statement: &'a CheckedStatement,
-    condition: &'a CheckedTerm,
+    test: &'a CheckedTerm,
 ) -> Result<(), AllocError>
-    ensures { (u : UnitView) → Adds u (machine.TurnEnd ∷ condition u true (term_tree condition.now) (turn_items (statement_tree statement.now)) []) control.old.items result control.new.items }
+    ensures { (u : UnitView) → Adds u (machine.TurnEnd ∷ condition u true (term_tree test.now) (turn_items (statement_tree statement.now)) []) control.old.items result control.new.items }
 {
-    push_turn_test(control, statement, condition)?;
+    push_turn_test(control, statement, test)?;
     push_item(control, Item7::TurnEnd)?;
     Ok(())
 }
@@ -159,11 +159,11 @@ fn push_do_turn<'a>(
     control: &mut Vec<Item7<'a>>,
     statement: &'a CheckedStatement,
     body: &'a CheckedStatement,
-    condition: &'a CheckedTerm,
+    test: &'a CheckedTerm,
 ) -> Result<(), AllocError>
-    ensures { (u : UnitView) → Adds u (machine.Statement (statement_tree body.now) ∷ (machine.TurnEnd ∷ condition u true (term_tree condition.now) (turn_items (statement_tree statement.now)) [])) control.old.items result control.new.items }
+    ensures { (u : UnitView) → Adds u (machine.Statement (statement_tree body.now) ∷ (machine.TurnEnd ∷ condition u true (term_tree test.now) (turn_items (statement_tree statement.now)) [])) control.old.items result control.new.items }
 {
-    push_do_test(control, statement, condition)?;
+    push_do_test(control, statement, test)?;
     push_item(control, Item7::Statement(Way7::Whole, body))?;
     Ok(())
 }

@@ -141,26 +141,26 @@ fn push_block<'a>(
 
 fn push_if<'a>(
     control: &mut Vec<Item7<'a>>,
-    condition: &'a CheckedTerm,
+    test: &'a CheckedTerm,
     body: &'a CheckedStatement,
 ) -> Result<(), AllocError>
-    ensures { (u : UnitView) → Adds u (condition u true (term_tree condition.now) (machine.Statement (statement_tree body.now) ∷ []) []) control.old.items result control.new.items }
+    ensures { (u : UnitView) → Adds u (condition u true (term_tree test.now) (machine.Statement (statement_tree body.now) ∷ []) []) control.old.items result control.new.items }
 {
     let held = Item7::Statement(Way7::After(Next7::Body), body);
-    push_test(control, condition, held, Item7::AfterNothing)
+    push_test(control, test, held, Item7::AfterNothing)
 }
 
 fn push_if_else<'a>(
     control: &mut Vec<Item7<'a>>,
-    condition: &'a CheckedTerm,
+    test: &'a CheckedTerm,
     first: &'a CheckedStatement,
     second: &'a CheckedStatement,
 ) -> Result<(), AllocError>
-    ensures { (u : UnitView) → Adds u (condition u true (term_tree condition.now) (machine.Statement (statement_tree first.now) ∷ (machine.Hop ∷ [])) (machine.Statement (statement_tree second.now) ∷ [])) control.old.items result control.new.items }
+    ensures { (u : UnitView) → Adds u (condition u true (term_tree test.now) (machine.Statement (statement_tree first.now) ∷ (machine.Hop ∷ [])) (machine.Statement (statement_tree second.now) ∷ [])) control.old.items result control.new.items }
 {
     let held = Item7::Statement(Way7::After(Next7::BodyHop), first);
     let failed = Item7::Statement(Way7::After(Next7::Body), second);
-    push_test(control, condition, held, failed)
+    push_test(control, test, held, failed)
 }
 
 // A loop and where `break` leads.

@@ -8,12 +8,13 @@ ghost use Rattle.ref_machine.specs.TermItems as spec;
 ghost use Rattle.ref_machine.specs.TermItems.{if_used};
 ghost use Rattle.replay_run_items.specs.Standings.{with_items, Stacks, Adds};
 
-use crate::operated_items::{push_at, push_converted, push_do, push_if_unused};
+use crate::operated_items::{
+    integer_kind_of, kind_of_lvalue, push_at, push_converted, push_do, push_if_unused,
+    push_on_lvalue,
+};
 use c_layout::{BinaryOp, CheckedTerm, Lvalue, StepOp, StepTime};
 use cc_base::{IntOp, IntType, Place};
-use flow_lower_tasks::{
-    OperatorMeaning, integer_type, is_backward, meaning, scalar, step_operator,
-};
+use flow_lower_tasks::{OperatorMeaning, is_backward, meaning, step_operator};
 use flow_program::Scalar;
 use replay_run_items::{Item7, Operation7, Order7, Use7, push_item};
 use std::alloc::AllocError;
@@ -30,11 +31,7 @@ pub fn push_assignment<'a>(
     ensures { (u : UnitView) → Stacks u (λ s. with_items (if_used used (spec.assignment (lvalue_tree target.now) (term_tree value.now))) s) control.old.items result control.new.items }
 {
     push_if_unused(control, used)?;
-    push_do(
-        control,
-        target.place,
-        Operation7::Store(scalar(&target.ctype)),
-    )?;
+    push_on_lvalue(control, target, Operation7::Store(kind_of_lvalue(target)))?;
     push_item(control, Item7::Term(Use7::Value, value))?;
     push_item(control, Item7::Address(target))?;
     Ok(())
@@ -49,7 +46,7 @@ fn push_sides<'a>(
 ) -> Result<(), AllocError>
     ensures { (u : UnitView) → Stacks u (λ s. with_items (spec.sides (lvalue_tree target.now) (term_tree value.now) kind) s) control.old.items result control.new.items }
 {
-    push_do(control, target.place, Operation7::LoadUnder(kind))?;
+    push_on_lvalue(control, target, Operation7::LoadUnder(kind))?;
     push_item(control, Item7::Term(Use7::Value, value))?;
     push_item(control, Item7::Address(target))?;
     Ok(())
@@ -74,9 +71,9 @@ fn push_compound_value<'a>(
 ) -> Result<(), AllocError>
     ensures { (u : UnitView) → Stacks u (λ s. with_items (spec.compound at (meaning op) kind (lvalue_tree target.now) (term_tree value.now)) s) control.old.items result control.new.items }
 {
-    let own = integer_type(&target.ctype);
+    let own = integer_kind_of(target);
     let sign = number_operator(meaning(op));
-    push_do(control, target.place, Operation7::Store(Scalar::Int(own)))?;
+    push_on_lvalue(control, target, Operation7::Store(Scalar::Int(own)))?;
     push_converted(control, at, kind, own)?;
     push_do(
         control,
@@ -118,7 +115,7 @@ pub fn push_compound_shift<'a>(
     ensures { (u : UnitView) → Stacks u (λ s. with_items (if_used used (spec.compound_shift at back size (lvalue_tree target.now) (term_tree value.now))) s) control.old.items result control.new.items }
 {
     push_if_unused(control, used)?;
-    push_do(control, target.place, Operation7::Store(Scalar::Pointer))?;
+    push_on_lvalue(control, target, Operation7::Store(Scalar::Pointer))?;
     push_do(
         control,
         at,
@@ -149,9 +146,9 @@ fn push_store_step<'a>(
     ensures { (u : UnitView) → Stacks u (λ s. with_items (spec.store_step (lvalue_tree target.now) kind keeps) s) control.old.items result control.new.items }
 {
     if keeps {
-        push_do(control, target.place, Operation7::StoreOver(kind))
+        push_on_lvalue(control, target, Operation7::StoreOver(kind))
     } else {
-        push_do(control, target.place, Operation7::Store(kind))
+        push_on_lvalue(control, target, Operation7::Store(kind))
     }
 }
 
@@ -176,7 +173,7 @@ fn push_step_value<'a>(
 ) -> Result<(), AllocError>
     ensures { (u : UnitView) → Stacks u (λ s. with_items (spec.step at op kind (lvalue_tree target.now) keeps) s) control.old.items result control.new.items }
 {
-    let own = integer_type(&target.ctype);
+    let own = integer_kind_of(target);
     push_store_step(control, target, Scalar::Int(own), keeps)?;
     push_converted(control, at, kind, own)?;
     push_do(

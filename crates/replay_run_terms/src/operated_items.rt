@@ -1,5 +1,5 @@
 //! The items of lvalues, and of operators: operands from left to right, and then the operator.
-ghost use Rattle.std.specs.Prelude.{◌≡◌, [], ◌∷◌};
+ghost use Rattle.std.specs.Prelude.{◌≡◌, [], ◌∷◌, IfOk};
 ghost use Rattle.c_layout.specs.Types.{view, same_kind};
 ghost use Rattle.c_layout.specs.CheckedTrees.{term_tree, lvalue_tree};
 ghost use Rattle.c_layout.specs.CheckedUnits.{UnitView, unit_view};
@@ -7,13 +7,13 @@ ghost use Rattle.flow_lower_tasks.specs.TermKinds.{meaning, lvalue_at, lvalue_ty
 ghost use Rattle.ref_machine.specs.Items as machine;
 ghost use Rattle.ref_machine.specs.Operations as op;
 ghost use Rattle.ref_machine.specs.Operations.{size_of};
-ghost use Rattle.ref_machine.specs.TermItems.{address_items, converted, if_used, operating, order_of};
+ghost use Rattle.ref_machine.specs.TermItems.{address_items, converted, if_used, integer_kind, lvalue_kind, operating, order_of};
 ghost use Rattle.replay_run_items.specs.ItemViews.{operation_view, order_view};
 ghost use Rattle.replay_run_items.specs.Standings.{with_item, with_items, unless_used, Stacks, Adds};
 
 use c_layout::{BinaryOp, CType, Checked, CheckedTerm, Lvalue, LvalueForm};
 use cc_base::{IntType, Place};
-use flow_lower_tasks::{OperatorMeaning, integer_type, meaning};
+use flow_lower_tasks::{OperatorMeaning, integer_type, meaning, scalar};
 use flow_program::{Scalar, type_bytes};
 use replay_run_items::{Item7, Operation7, Order7, Use7, push_item};
 use std::alloc::AllocError;
@@ -42,6 +42,38 @@ pub fn push_if_unused<'a>(control: &mut Vec<Item7<'a>>, used: bool) -> Result<()
 
 // ---- lvalues
 
+/// An operation at the place of an lvalue.
+pub fn push_on_lvalue<'a>(
+    control: &mut Vec<Item7<'a>>,
+    lvalue: &Lvalue,
+    operation: Operation7<'a>,
+) -> Result<(), AllocError>
+    ensures { (u : UnitView) → Stacks u (λ s. with_item (machine.Do (lvalue_at (lvalue_tree lvalue.now)) (operation_view operation.entry)) s) control.old.items result control.new.items }
+{
+    push_do(control, lvalue.place, operation)
+}
+
+/// How the value of an lvalue is kept.
+pub fn kind_of_lvalue(lvalue: &Lvalue) -> Scalar
+    ensures { result ≡ lvalue_kind (lvalue_tree lvalue.now) }
+{
+    scalar(&lvalue.ctype)
+}
+
+pub fn integer_kind_of(lvalue: &Lvalue) -> IntType
+    ensures { result ≡ integer_kind (lvalue_tree lvalue.now) }
+{
+    integer_type(&lvalue.ctype)
+}
+
+/// The size of an lvalue in bytes.
+pub fn lvalue_bytes(unit: &Checked, lvalue: &Lvalue) -> Result<u64, AllocError>
+    ensures { IfOk result (λ n. n ≡ size_of (unit_view unit.now) (lvalue_type (lvalue_tree lvalue.now))) }
+{
+    let size = type_bytes(&lvalue.ctype, &unit.structs, unit.model.pointer)?;
+    Ok(size)
+}
+
 fn push_member<'a>(
     control: &mut Vec<Item7<'a>>,
     unit: &Checked,
@@ -51,8 +83,8 @@ fn push_member<'a>(
 ) -> Result<(), AllocError>
     ensures { Stacks (unit_view unit.now) (λ s. with_items (machine.Address (lvalue_tree outer.now) ∷ (machine.Do (lvalue_at (lvalue_tree lvalue.now)) (op.Narrow offset (size_of (unit_view unit.now) (lvalue_type (lvalue_tree lvalue.now)))) ∷ [])) s) control.old.items result control.new.items }
 {
-    let size = type_bytes(&lvalue.ctype, &unit.structs, unit.model.pointer)?;
-    push_do(control, lvalue.place, Operation7::Narrow(offset, size))?;
+    let size = lvalue_bytes(unit, lvalue)?;
+    push_on_lvalue(control, lvalue, Operation7::Narrow(offset, size))?;
     push_item(control, Item7::Address(outer))?;
     Ok(())
 }
@@ -64,7 +96,7 @@ fn push_copied<'a>(
 ) -> Result<(), AllocError>
     ensures { (u : UnitView) → Stacks u (λ s. with_items (machine.Address (lvalue_tree target.now) ∷ (machine.Address (lvalue_tree source.now) ∷ (machine.Do (lvalue_at (lvalue_tree target.now)) (op.Copy (lvalue_type (lvalue_tree target.now))) ∷ []))) s) control.old.items result control.new.items }
 {
-    push_do(control, target.place, Operation7::Copy(&target.ctype))?;
+    push_on_lvalue(control, target, Operation7::Copy(&target.ctype))?;
     push_item(control, Item7::Address(source))?;
     push_item(control, Item7::Address(target))?;
     Ok(())
@@ -231,7 +263,7 @@ pub fn push_at<'a>(
 ) -> Result<(), AllocError>
     ensures { (u : UnitView) → Stacks u (λ s. with_items (machine.Address (lvalue_tree lvalue.now) ∷ (machine.Do (lvalue_at (lvalue_tree lvalue.now)) (operation_view operation.entry) ∷ [])) s) control.old.items result control.new.items }
 {
-    push_do(control, lvalue.place, operation)?;
+    push_on_lvalue(control, lvalue, operation)?;
     push_item(control, Item7::Address(lvalue))?;
     Ok(())
 }

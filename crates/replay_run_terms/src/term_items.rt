@@ -15,13 +15,12 @@ use crate::assigned_items::{
 };
 use crate::called_items::{push_call, push_library};
 use crate::operated_items::{
-    operating, order_of, push_at, push_if_unused, push_none, push_one, push_operand, push_pointer,
-    push_two,
+    kind_of_lvalue, lvalue_bytes, operating, order_of, push_at, push_if_unused, push_none,
+    push_one, push_operand, push_pointer, push_two,
 };
 use c_layout::{Checked, CheckedTerm, LogicalOp, Lvalue, TermForm};
 use cc_base::UnOp;
 use flow_lower_tasks::{integer_type, relation, scalar};
-use flow_program::type_bytes;
 use replay_run_items::{Arm7, Item7, Operation7, Use7, push_condition, push_item};
 use std::alloc::AllocError;
 
@@ -35,7 +34,7 @@ fn push_load<'a>(
     ensures { (u : UnitView) → Stacks u (λ s. with_items (if_used used (machine.Address (lvalue_tree lvalue.now) ∷ (machine.Do (lvalue_at (lvalue_tree lvalue.now)) (op.Load (scalar_of (lvalue_type (lvalue_tree lvalue.now)))) ∷ []))) s) control.old.items result control.new.items }
 {
     push_if_unused(control, used)?;
-    push_at(control, Operation7::Load(scalar(&lvalue.ctype)), lvalue)?;
+    push_at(control, Operation7::Load(kind_of_lvalue(lvalue)), lvalue)?;
     Ok(())
 }
 
@@ -47,7 +46,7 @@ fn push_decay<'a>(
 ) -> Result<(), AllocError>
     ensures { Stacks (unit_view unit.now) (λ s. with_items (if_used used (machine.Address (lvalue_tree lvalue.now) ∷ (machine.Do (lvalue_at (lvalue_tree lvalue.now)) (op.Narrow 0 (op.size_of (unit_view unit.now) (lvalue_type (lvalue_tree lvalue.now)))) ∷ []))) s) control.old.items result control.new.items }
 {
-    let size = type_bytes(&lvalue.ctype, &unit.structs, unit.model.pointer)?;
+    let size = lvalue_bytes(unit, lvalue)?;
     push_if_unused(control, used)?;
     push_at(control, Operation7::Narrow(0, size), lvalue)?;
     Ok(())

@@ -1,5 +1,10 @@
-use Rattle.std.proofs.Common.{refl}
+use Rattle.std.proofs.Common.{[], ◌∷◌, ap, sym}
+use Rattle.c_layout.specs.CheckedTrees.{lvalue_tree}
+use Rattle.ref_machine.specs.Operations as op
+use Rattle.ref_machine.specs.Items as machine
+use Rattle.replay_run_items.specs.Standings.{with_items, standing}
+use Rattle.replay_run_items.proofs.Trees.{type_of_lvalue}
 use Rattle.replay_run_items.proofs.store_items.push_copy.Goals as goal
 
 pub returns : goal.returns
-returns c = λ u. rw (c.in_ok-push_item-3.ensures u, c.in_ok-push_item-2.ensures u, c.in_ok-push_item.ensures u) refl
+returns c = λ u. rw (c.in_ok-push_item-3.ensures u, c.in_ok-push_item-2.ensures u, c.in_ok-push_item.ensures u) (ap (λ t. with_items (machine.Address (lvalue_tree c.args.source.now) ∷ (machine.Do c.args.at (op.Copy t) ∷ (machine.Drop ∷ []))) (standing u c.args.control.now.items)) (sym (type_of_lvalue c.args.source.now)))

@@ -1,4 +1,4 @@
-use Rattle.std.proofs.Common.{◌≡◌, map}
+use Rattle.std.proofs.Common.{◌≡◌, map, drop}
 use Rattle.c_layout.specs.CheckedTrees.{statement_tree}
 use Rattle.c_layout.specs.CheckedUnits.{UnitView}
 use Rattle.ref_machine.specs.LabelSearch as search
@@ -7,4 +7,4 @@ use Rattle.replay_run_statements.specs.LabelViews.{sought_view}
 use Rattle.replay_run_statements.proofs.label_search.+descent.Given as goal
 
 abbrev pub invariant-find_in-loop-statement : goal.invariant-find_in-loop-statement
-invariant-find_in-loop-statement l = (u : UnitView) → search.found_among u (sought_view l.sought) (map statement_tree l.rest) (standing u l.control.items).items ≡ search.found_among u (sought_view l.sought) (map statement_tree l.statements) (standing u l.control.items).items
+invariant-find_in-loop-statement l = (l.at ≡ l.statement-index) × (l.control.items ≡ l.initial.control.items) × ((u : UnitView) → search.found_among u (sought_view l.sought) (map statement_tree (drop l.statement-index l.statements)) (standing u l.control.items).items ≡ search.found_among u (sought_view l.sought) (map statement_tree l.statements) (standing u l.control.items).items)

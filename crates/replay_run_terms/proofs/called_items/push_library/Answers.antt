@@ -9,4 +9,4 @@ use Rattle.replay_run_items.proofs.Stacks.{left_dropped}
 use Rattle.replay_run_terms.proofs.called_items.push_library.Goals as goal
 
 pub returns : goal.returns
-returns c = λ u. rw (c.in_ok-push_asked.ensures u, c.in_ok-push_if_unused.ensures u, c.is_kept.ensures) (left_dropped (calls.gives c.args.function) c.args.used (spec.library_items c.args.at c.args.function (term_trees (map term_tree c.args.arguments.now)) (option_map view c.args.allocated.now)) (standing u c.args.control.now.items))
+returns c = λ u. rw (c.in_ok-push_asked.ensures u, c.in_ok-push_if_unused.ensures u, c.is_kept.ensures, c.gives.ensures) (left_dropped (calls.gives c.args.function) c.args.used (spec.library_items c.args.at c.args.function (term_trees (map term_tree c.args.arguments.now)) (option_map view c.args.allocated.now)) (standing u c.args.control.now.items))

@@ -1,5 +1,14 @@
-use Rattle.std.proofs.Common.{refl}
+use Rattle.std.proofs.Common.{[], ◌∷◌, ap, sym}
+use Rattle.c_layout.specs.CheckedTrees.{lvalue_tree}
+use Rattle.flow_lower_tasks.specs.TermKinds.{lvalue_at}
+use Rattle.ref_machine.specs.Items as machine
+use Rattle.ref_machine.specs.Operations as op
+use Rattle.replay_run_items.specs.Standings.{with_items, standing}
+use Rattle.replay_run_items.proofs.Trees.{type_of_lvalue}
 use Rattle.replay_run_terms.proofs.operated_items.push_copied.Goals as goal
 
 pub returns : goal.returns
-returns c = λ u. rw (c.in_ok-push_item-2.ensures u, c.in_ok-push_item.ensures u, c.in_ok-push_do.ensures u) refl
+returns c = λ u.
+    let target = lvalue_tree c.args.target.now in
+    rw (c.in_ok-push_item-2.ensures u, c.in_ok-push_item.ensures u, c.in_ok-push_on_lvalue.ensures u)
+    (ap (λ t. with_items (machine.Address target ∷ (machine.Address (lvalue_tree c.args.source.now) ∷ (machine.Do (lvalue_at target) (op.Copy t) ∷ []))) (standing u c.args.control.now.items)) (sym (type_of_lvalue c.args.target.now)))

@@ -9,4 +9,4 @@ use Rattle.replay_run_items.proofs.Stacks.{dropped}
 use Rattle.replay_run_terms.proofs.term_items.push_decay.Goals as goal
 
 pub returns : goal.returns
-returns c = rw (c.in_ok-push_at.ensures (unit_view c.args.unit.now), c.in_ok-push_if_unused.ensures (unit_view c.args.unit.now)) (dropped c.args.used (machine.Address (lvalue_tree c.args.lvalue.now) ∷ (machine.Do (lvalue_at (lvalue_tree c.args.lvalue.now)) (op.Narrow 0 (op.size_of (unit_view c.args.unit.now) (lvalue_type (lvalue_tree c.args.lvalue.now)))) ∷ [])) (standing (unit_view c.args.unit.now) c.args.control.now.items))
+returns c = rw (c.in_ok-push_at.ensures (unit_view c.args.unit.now), c.in_ok-push_if_unused.ensures (unit_view c.args.unit.now), c.in_ok-size.ensures) (dropped c.args.used (machine.Address (lvalue_tree c.args.lvalue.now) ∷ (machine.Do (lvalue_at (lvalue_tree c.args.lvalue.now)) (op.Narrow 0 (op.size_of (unit_view c.args.unit.now) (lvalue_type (lvalue_tree c.args.lvalue.now)))) ∷ [])) (standing (unit_view c.args.unit.now) c.args.control.now.items))

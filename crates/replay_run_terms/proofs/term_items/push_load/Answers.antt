@@ -8,4 +8,4 @@ use Rattle.replay_run_items.proofs.Stacks.{dropped}
 use Rattle.replay_run_terms.proofs.term_items.push_load.Goals as goal
 
 pub returns : goal.returns
-returns c = λ u. rw (c.in_ok-push_at.ensures u, c.in_ok-push_if_unused.ensures u) (dropped c.args.used (machine.Address (lvalue_tree c.args.lvalue.now) ∷ (machine.Do (lvalue_at (lvalue_tree c.args.lvalue.now)) (op.Load (scalar_of (lvalue_type (lvalue_tree c.args.lvalue.now)))) ∷ [])) (standing u c.args.control.now.items))
+returns c = λ u. rw (c.in_ok-push_at.ensures u, c.in_ok-push_if_unused.ensures u, c.kind_of_lvalue.ensures) (dropped c.args.used (machine.Address (lvalue_tree c.args.lvalue.now) ∷ (machine.Do (lvalue_at (lvalue_tree c.args.lvalue.now)) (op.Load (scalar_of (lvalue_type (lvalue_tree c.args.lvalue.now)))) ∷ [])) (standing u c.args.control.now.items))

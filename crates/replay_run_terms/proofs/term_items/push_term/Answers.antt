@@ -1,0 +1,51 @@
+use Rattle.std.proofs.Common.{rules, ◌≡◌, ap, sym, ◌∙◌}
+use Rattle.c_layout.specs.Types.{view}
+use Rattle.c_layout.specs.CheckedTrees as tree
+use Rattle.c_layout.specs.CheckedTrees.{TermTree, Typed, term_tree, lvalue_tree}
+use Rattle.c_layout.specs.CheckedUnits.{unit_view}
+use Rattle.c_layout.specs.declared.checked_tree.checked_terms.CheckedTerm as of_term
+use Rattle.c_layout.specs.declared.checked_tree.checked_terms.TermForm as of_form
+use Rattle.cc_base.specs.declared.int_types.IntType.{IntType}
+use Rattle.flow_lower_expressions.specs.Assignments.{keeps_old}
+use Rattle.ref_machine.specs.TermItems.{if_used, step}
+use Rattle.ref_machine.specs.ConditionItems.{term_items}
+use Rattle.replay_run_items.specs.Standings.{Standing, with_items, standing}
+use Rattle.replay_run_items.proofs.Sequels.{goes_on}
+use Rattle.replay_run_terms.proofs.term_items.push_term.Goals as goal
+
+pub returns-in-Discard : goal.returns-in-Discard
+returns-in-Discard c =
+    let u = unit_view c.args.unit.now in
+    let s = standing u c.args.control.now.items in
+    let whole : TermTree → Standing = λ e. with_items (term_items u c.args.used e) s in
+    let seen = Typed c.args.term.now.place (view c.args.term.now.ctype) c.args.term.now.parens c.args.term.now.constant (tree.Discard (term_tree c.deref-in-Discard.result.now)) in
+    let is : term_tree c.args.term.now ≡ seen = search (rules, of_term.the_lemmas, of_form.the_lemmas) in
+    goes_on c.push_item.result (standing u c.push_item.new.control.items) (whole seen) (whole (term_tree c.args.term.now)) (ap whole (sym is)) (c.push_item.ensures u)
+
+pub returns-in-Conditional : goal.returns-in-Conditional
+returns-in-Conditional c =
+    let u = unit_view c.args.unit.now in
+    let s = standing u c.args.control.now.items in
+    let whole : TermTree → Standing = λ e. with_items (term_items u c.args.used e) s in
+    let seen = Typed c.args.term.now.place (view c.args.term.now.ctype) c.args.term.now.parens c.args.term.now.constant (tree.Conditional (term_tree c.deref-in-Conditional.result.now) (term_tree c.deref-in-Conditional-2.result.now) (term_tree c.deref-in-Conditional-3.result.now)) in
+    let is : term_tree c.args.term.now ≡ seen = search (rules, of_term.the_lemmas, of_form.the_lemmas) in
+    goes_on c.push_conditional.result (standing u c.push_conditional.new.control.items) (whole seen) (whole (term_tree c.args.term.now)) (ap whole (sym is)) (c.push_conditional.ensures u)
+
+pub returns-in-Comma : goal.returns-in-Comma
+returns-in-Comma c =
+    let u = unit_view c.args.unit.now in
+    let s = standing u c.args.control.now.items in
+    let whole : TermTree → Standing = λ e. with_items (term_items u c.args.used e) s in
+    let seen = Typed c.args.term.now.place (view c.args.term.now.ctype) c.args.term.now.parens c.args.term.now.constant (tree.Comma (term_tree c.deref-in-Comma.result.now) (term_tree c.deref-in-Comma-2.result.now)) in
+    let is : term_tree c.args.term.now ≡ seen = search (rules, of_term.the_lemmas, of_form.the_lemmas) in
+    goes_on c.push_comma.result (standing u c.push_comma.new.control.items) (whole seen) (whole (term_tree c.args.term.now)) (ap whole (sym is)) (c.push_comma.ensures u)
+
+pub returns-in-Step : goal.returns-in-Step
+returns-in-Step c =
+    let u = unit_view c.args.unit.now in
+    let s = standing u c.args.control.now.items in
+    let whole : TermTree → Standing = λ e. with_items (term_items u c.args.used e) s in
+    let seen = Typed c.args.term.now.place (view c.args.term.now.ctype) c.args.term.now.parens c.args.term.now.constant (tree.Step c.in-Step.op c.in-Step.time (view c.in-Step.kind) (lvalue_tree c.deref-in-Step.result.now)) in
+    let is : term_tree c.args.term.now ≡ seen = search (rules, of_term.the_lemmas, of_form.the_lemmas) in
+    let stepped : IntType → Standing = λ kind. with_items (if_used c.args.used (step c.args.term.now.place c.in-Step.op kind (lvalue_tree c.deref-in-Step.result.now) (keeps_old c.in-Step.time c.args.used))) s in
+    goes_on c.push_step.result (standing u c.push_step.new.control.items) (stepped c.integer_type-in-Step.result) (whole (term_tree c.args.term.now)) (ap stepped c.integer_type-in-Step.ensures ∙ ap whole (sym is)) (c.push_step.ensures u)
