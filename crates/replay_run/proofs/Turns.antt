@@ -90,7 +90,7 @@ too_large u draws steps count r p q =
       run = r;
       replayed = record { reached = p; over = or_last (has_stopped r) (nat_le steps (steps_of r)) (is_large r) (lt-ltb most_bytes (size r) large) };
       passed = q;
-      limit = refl;
+      most = refl;
     }
 
 -- a turn behind which the run is followed no further

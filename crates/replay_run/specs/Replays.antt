@@ -54,7 +54,7 @@ pub record IsTooLarge (u : UnitView) (draws : List ℤ) (steps count limit : ℕ
   pub run : SourceRun
   pub replayed : Replayed u draws steps run
   pub passed : IsPassed count (world_of run).memory
-  pub limit : limit ≡ most_bytes
+  pub most : limit ≡ most_bytes
 
 -- ---- no outcome
 

@@ -79,7 +79,7 @@ fn used(draws: &[i128], world: &World7) -> u64
 }
 
 fn outcome(found: Vec<Diag>, draws: &[i128], end: End, world: &World7) -> Outcome
-    ensures diags { IsOrderedSet found.entry.items result.diags }
+    ensures diags { IsOrderedSet found.items result.diags }
     ensures end { result.end ≡ end_view end }
     ensures used { result.used ≡ length draws.now - length (world_view world.now).draws }
 {
@@ -115,8 +115,8 @@ fn replay_from(
     steps: u64,
 ) -> Result<Outcome, ReplayStop>
     requires { is_model unit.now.model ≡ true }
-    ensures outcome { source_begin (unit_view unit.now) draws.now ≡ begun_by (unit_view unit.now) (done (world_view world.entry)) → IfOk result (λ o. IsOutcome (unit_view unit.now) draws.now steps o) }
-    ensures stop { source_begin (unit_view unit.now) draws.now ≡ begun_by (unit_view unit.now) (done (world_view world.entry)) → IfErr result (λ s. IsStop (unit_view unit.now) draws.now steps s) }
+    ensures outcome { source_begin (unit_view unit.now) draws.now ≡ begun_by (unit_view unit.now) (done (world_view world)) → IfOk result (λ o. IsOutcome (unit_view unit.now) draws.now steps o) }
+    ensures stop { source_begin (unit_view unit.now) draws.now ≡ begun_by (unit_view unit.now) (done (world_view world)) → IfErr result (λ s. IsStop (unit_view unit.now) draws.now steps s) }
 {
     if world.memory.total() > MOST_BYTES {
         return Err(ReplayStop::Memory);

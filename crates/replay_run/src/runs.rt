@@ -118,7 +118,7 @@ pub fn follow<'a>(
     ensures { (draws : List ℤ) → Reaches (unit_view unit.now) draws steps (run_view (unit_view unit.now) m.old found.old.items 0) → FollowsTo (unit_view unit.now) draws steps result m.new found.new.items }
 {
     let mut made = 0u64;
-    for _ in 0..u64::MAX {
+    'turns: for _ in 0..u64::MAX {
         if made >= steps {
             return Ok(End::Steps);
         }

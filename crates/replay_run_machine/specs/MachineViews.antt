@@ -1,6 +1,7 @@
 -- Where a run of a program stands, as the machine has it.
-use Rattle.std.specs.Prelude.{ℕ, Bool, true, false, List, [], ◌∷◌, map, reverse, Option, Some, None, slice_get}
+use Rattle.std.specs.Prelude.{ℕ, Bool, true, false, cond, nat_lt, List, [], ◌∷◌, map, reverse, Option, Some, None, slice_get}
 use Rattle.c_layout.specs.CheckedUnits.{UnitView}
+use Rattle.lib_models_effects.specs.UnitStarts.{parameter_instance}
 use Rattle.lib_models_replay.specs.WorldViews.{world_view}
 use Rattle.ref_machine.specs.Items.{Item, Hop}
 use Rattle.ref_machine.specs.SourceStates.{Frame, State}
@@ -31,9 +32,13 @@ state_view u m = record {
   world = world_view m.world;
 }
 
--- objects with one before them, where there is one
+-- the first so many objects, the entry's parameters, name their instances
+abbrev pub parameters_named : UnitView → ℕ → ℕ → Option ℕ
+parameters_named u count n = cond (nat_lt n count) (Some (parameter_instance u n)) None
+
+-- objects with one before them; none where there is none
 abbrev pub with_next : Option ℕ → List ℕ → List ℕ
-with_next None objects = objects
+with_next None objects = []
 with_next (Some n) objects = n ∷ objects
 
 -- a step without effect, or none

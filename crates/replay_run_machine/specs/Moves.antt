@@ -1,5 +1,5 @@
 -- What parts of turns come to.
-use Rattle.std.specs.Prelude.{◌≡◌, ℕ, Option, Some, None, List, ◌++◌, slice_get, Result, Ok, Err}
+use Rattle.std.specs.Prelude.{◌≡◌, ℕ, Bool, true, false, not, Option, Some, None, List, ◌++◌, slice_get, Result, Ok, Err}
 use Rattle.std.specs.Option.{option_map}
 use Rattle.cc_base.specs.declared.diagnostics.Place.{Place}
 use Rattle.c_layout.specs.Types.{Ty}
@@ -27,10 +27,16 @@ abbrev pub Moves : UnitView → Reply State → Result (Unit {0}) Halt → Machi
 Moves u reply (Ok x) m = reply ≡ goes (state_view u m) (world_view m.world)
 Moves u reply (Err h) m = HaltsAs reply h (world_view m.world)
 
+-- the place of a step, unless memory ran out
+abbrev pub CountsAs : Option Place → Result (Unit {0}) Halt → Option Place → Type 0
+CountsAs expected (Ok x) counted = expected ≡ counted
+CountsAs expected (Err (halt.Stops why)) counted = expected ≡ counted
+CountsAs expected (Err halt.Memory) counted = Unit {0}
+
 -- a turn, and the place of its step
 pub record TurnsTo (u : UnitView) (turned : Turned) (t : Turned7) (m : Machine) : Type 0 where
   pub reply : Moves u turned.reply t.reply m
-  pub counted : turned.counted ≡ t.counted
+  pub counted : CountsAs turned.counted t.reply t.counted
 
 -- the type of an object of a function or of static storage
 abbrev pub object_type : UnitView → ℕ → ObjectRef → Option Ty
@@ -54,6 +60,11 @@ HeldAs (Err e) r = r ≡ Err halt.Memory
 -- the turn of a machine with an item on top of its list
 abbrev pub turn_of : UnitView → Item7 → Machine → Turned
 turn_of u i m = turn_by u (state_view u m) (on_item u i (standing u m.control.items)).items
+
+-- whether a condition holds that wants a line or none
+abbrev pub holds_on : Bool → Bool → Bool
+holds_on true none = not none
+holds_on false none = none
 
 -- what a side of a test is, where its object is there
 abbrev pub tested_as : (ℕ → Option ℕ) → NamedSide → Option TestedSide

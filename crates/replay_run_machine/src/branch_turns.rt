@@ -11,13 +11,14 @@ ghost use Rattle.lib_models_replay.specs.declared.worlds.Halt.TheVariants as hal
 ghost use Rattle.lib_models_replay_tests.specs.SideViews.{side_view};
 ghost use Rattle.ref_machine.specs.BranchSteps as machine;
 ghost use Rattle.ref_machine.specs.SourceStates.{instance_of};
+ghost use Rattle.ref_machine.specs.TermTests.{test_if};
 ghost use Rattle.ref_machine.specs.SourceSteps.{turn_by};
 ghost use Rattle.replay_run_items.specs.Standings.{on_term, on_line, on_statement, standing};
 ghost use Rattle.replay_run_items.specs.TestViews as tests;
 ghost use Rattle.replay_run_items.specs.declared.items.Use7.TheVariants as use_of;
 ghost use Rattle.replay_run_items.specs.declared.items.Way7.TheVariants as way;
 ghost use Rattle.replay_run_machine.specs.MachineViews.{state_view};
-ghost use Rattle.replay_run_machine.specs.Moves.{Moves, tested_as};
+ghost use Rattle.replay_run_machine.specs.Moves.{Moves, holds_on, tested_as};
 ghost use Rattle.replay_run_statements.specs.LabelViews.{sought_view};
 
 use crate::machines::{Machine, instance_of};
@@ -63,7 +64,8 @@ fn relation_on(held: bool, rel: Rel) -> Rel
 
 // The run goes on where a test agrees with memory.
 fn testing(m: &mut Machine, unit: &Checked, test: NamedTest7, held: bool) -> Result<(), Halt>
-    ensures { Moves (unit_view unit.now) (machine.testing (unit_view unit.now) (state_view (unit_view unit.now) m.old) (Some (tests.test_view test)) held) result m.new }
+    ensures control { m.new.control ≡ m.old.control }
+    ensures moves { Moves (unit_view unit.now) (machine.testing (unit_view unit.now) (state_view (unit_view unit.now) m.old) (Some (tests.test_view test)) held) result m.new }
 {
     let left = tested_object(m, test.left)?;
     let right = tested_side(m, test.right)?;
@@ -81,6 +83,26 @@ fn testing(m: &mut Machine, unit: &Checked, test: NamedTest7, held: bool) -> Res
 
 // ---- conditions
 
+// A condition that is a test agrees with memory.
+fn pass_known(
+    m: &mut Machine,
+    unit: &Checked,
+    term: &CheckedTerm,
+    is_test: bool,
+    holds: bool,
+) -> Result<(), Halt>
+    ensures control { m.new.control ≡ m.old.control }
+    ensures moves { Moves (unit_view unit.now) (machine.testing (unit_view unit.now) (state_view (unit_view unit.now) m.old) (test_if (unit_view unit.now) is_test (term_tree term.now)) holds) result m.new }
+{
+    if !is_test {
+        return Ok(());
+    }
+    match test_of(term, unit.model.int) {
+        Some(test) => testing(m, unit, test, holds),
+        None => Ok(()),
+    }
+}
+
 /// A condition goes on by the newest value.
 pub fn choose(
     m: &mut Machine,
@@ -92,16 +114,18 @@ pub fn choose(
 {
     let value = pop_value(&mut m.values)?;
     let holds = !is_false_value(value);
-    if is_test {
-        match test_of(term, unit.model.int) {
-            Some(test) => testing(m, unit, test, holds)?,
-            None => {}
-        }
-    }
+    pass_known(m, unit, term, is_test, holds)?;
     match follow(&mut m.control, holds) {
         Ok(()) => Ok(()),
         Err(_) => Err(Halt::Memory),
     }
+}
+
+// Whether a condition on a line holds.
+fn line_holds(wants_line: bool, none: bool) -> bool
+    ensures { result ≡ holds_on wants_line none }
+{
+    if wants_line { !none } else { none }
 }
 
 /// A line is read, and a condition goes on by whether there was one.
@@ -112,8 +136,8 @@ pub fn read_line(m: &mut Machine, unit: &Checked, wants_line: bool) -> Result<()
     let size = pop_value(&mut m.values)?;
     let text = pop_value(&mut m.values)?;
     let line = fgets(&mut m.world, &unit.model, text, size, stream)?;
-    let found = !is_false_value(line);
-    match follow(&mut m.control, found == wants_line) {
+    let holds = line_holds(wants_line, is_false_value(line));
+    match follow(&mut m.control, holds) {
         Ok(()) => Ok(()),
         Err(_) => Err(Halt::Memory),
     }

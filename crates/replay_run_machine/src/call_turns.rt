@@ -42,7 +42,8 @@ fn push_bound<'a>(
     push_item(
         control,
         Item7::Binds(function.place, 0, function.parameters, count),
-    )
+    )?;
+    Ok(())
 }
 
 // The object of the result, where there is one.
@@ -58,7 +59,8 @@ fn push_result<'a>(
     if is_void(&function.result) {
         return Ok(());
     }
-    push_item(control, Item7::Also(outcome))
+    push_item(control, Item7::Also(outcome))?;
+    Ok(())
 }
 
 // All parameters and the result are entered, then the arguments are stored, then the body is done.
@@ -74,7 +76,8 @@ fn push_prologue<'a>(
     push_bound(control, function, count)?;
     push_result(control, function, outcome)?;
     push_item(control, Item7::AlsoFrom(0, function.parameters))?;
-    push_item(control, Item7::EntersBelow)
+    push_item(control, Item7::EntersBelow)?;
+    Ok(())
 }
 
 /// A function is called with so many of the newest values.
@@ -126,7 +129,8 @@ pub fn push_binds(
                 push_item(control, Item7::Binds(at, next, left - 1, count))?;
             }
             let depth = (count as u64).saturating_sub(u64::from(next));
-            push_item(control, Item7::Bind(at, local, depth))
+            push_item(control, Item7::Bind(at, local, depth))?;
+            Ok(())
         }
         None => Err(AllocError),
     }
@@ -178,7 +182,8 @@ fn push_loaded<'a>(
         control,
         Item7::Do(at, Operation7::Load(scalar(&function.result))),
     )?;
-    push_item(control, Item7::Outcome(at))
+    push_item(control, Item7::Outcome(at))?;
+    Ok(())
 }
 
 // And its object is left in any case.
@@ -193,7 +198,19 @@ fn push_epilogue<'a>(
         return Ok(());
     }
     push_item(control, Item7::LeaveOutcome(caller.at))?;
-    push_loaded(control, function, caller.at, caller.used)
+    push_loaded(control, function, caller.at, caller.used)?;
+    Ok(())
+}
+
+// A step without effect, or none.
+fn push_hop_if(control: &mut Vec<Item7>, hops: bool) -> Result<(), AllocError>
+    ensures { (u : UnitView) → Stacks u (λ s. added (hop_if hops) s) control.old.items result control.new.items }
+{
+    if !hops {
+        return Ok(());
+    }
+    push_item(control, Item7::Hop)?;
+    Ok(())
 }
 
 // What follows the body of a function that was called.
@@ -203,14 +220,14 @@ fn push_behind_call<'a>(
     hops: bool,
     caller: &Frame7,
 ) -> Result<(), AllocError>
+    requires { control.old.items ≡ [] }
     ensures { (u : UnitView) → Stacks u (λ s. with_items (machine.behind_body (function_view function.now) (hop_if hops) (frame_view u caller.now ∷ [])) s) control.old.items result control.new.items }
 {
     push_epilogue(control, function, caller)?;
-    if hops {
-        push_item(control, Item7::Hop)?;
-    }
+    push_hop_if(control, hops)?;
     push_item(control, Item7::AlsoFrom(0, function.parameters))?;
-    push_item(control, Item7::LeavesBelow)
+    push_item(control, Item7::LeavesBelow)?;
+    Ok(())
 }
 
 // A function that was called leaves its parameters; a return goes to the end of the function.
@@ -220,11 +237,15 @@ fn push_behind_body<'a>(
     hops: bool,
     callers: &[Frame7],
 ) -> Result<(), AllocError>
+    requires { control.old.items ≡ [] }
     ensures { (u : UnitView) → Stacks u (λ s. added (machine.behind_body (function_view function.now) (hop_if hops) (reverse (map (frame_view u) callers.now))) s) control.old.items result control.new.items }
 {
     match callers.last() {
         None => Ok(()),
-        Some(caller) => push_behind_call(control, function, hops, caller),
+        Some(caller) => {
+            push_behind_call(control, function, hops, caller)?;
+            Ok(())
+        }
     }
 }
 
@@ -232,10 +253,13 @@ fn push_behind_body<'a>(
 fn push_scopes(control: &mut Vec<Item7>, scopes: &[Vec<u32>]) -> Result<(), AllocError>
     ensures { (u : UnitView) → IfOk result (λ _. (standing u control.new.items).items ≡ item.Leaves (all_of (map (λ scope. scope.items) scopes.now) ++ (standing u control.old.items).objects) ∷ (standing u control.old.items).items) }
 {
-    for scope in scopes.iter().rev() {
-        push_objects(control, scope.as_slice())?;
+    let mut k = scopes.len();
+    'back: while k > 0 {
+        k -= 1;
+        push_objects(control, scopes[k].as_slice())?;
     }
-    push_item(control, Item7::LeavesBelow)
+    push_item(control, Item7::LeavesBelow)?;
+    Ok(())
 }
 
 // All blocks are left, innermost first, and then the function.
@@ -250,7 +274,8 @@ fn leave_blocks<'a>(
     let scopes = open_scopes(alloc, control.as_slice())?;
     control.clear();
     push_behind_body(control, function, true, callers)?;
-    push_scopes(control, scopes.as_slice())
+    push_scopes(control, scopes.as_slice())?;
+    Ok(())
 }
 
 /// At a return all blocks are left, innermost first.

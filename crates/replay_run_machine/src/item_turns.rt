@@ -232,7 +232,8 @@ fn push_first<'a>(
     ensures { (u : UnitView) → IfOk result (λ _. (standing u control.new.items).items ≡ of_statement u is_entry (statement_tree first.now) ++ (list_statements (map statement_tree rest.now) ++ (standing u control.old.items).items)) }
 {
     push_statements(control, rest)?;
-    push_statement(control, is_entry, first)
+    push_statement(control, is_entry, first)?;
+    Ok(())
 }
 
 /// The first of some statements is done.

@@ -28,7 +28,8 @@ fn jump_to_label<'a>(
     let from = open_scopes(alloc, control.as_slice())?;
     control.clear();
     find_label(control, function, label)?;
-    jump(alloc, control, from.as_slice())
+    jump(alloc, control, from.as_slice())?;
+    Ok(())
 }
 
 /// `goto`

@@ -171,7 +171,7 @@ pub fn type_of<'a>(unit: &'a Checked, function: u32, object: ObjectRef) -> Resul
 
 /// A machine of no function and no item.
 pub fn at_rest<'a>(alloc: Global, function: u32, world: World7) -> Machine<'a>
-    ensures world { result.world ≡ world.entry }
+    ensures world { result.world ≡ world }
     ensures function { result.function ≡ function }
     ensures names { result.names.items ≡ [] }
     ensures control { result.control.items ≡ [] }

@@ -38,12 +38,7 @@ fn pointer_into(inst: u32, offset: u64, size: u64) -> Value7
 }
 
 /// A pointer to a byte of an object, into the whole of it.
-pub fn point_to(
-    m: &mut Machine,
-    unit: &Checked,
-    object: ObjectRef,
-    offset: u64,
-) -> Result<(), Halt>
+pub fn point_to(m: &mut Machine, unit: &Checked, object: ObjectRef, offset: u64) -> Result<(), Halt>
     ensures { Moves (unit_view unit.now) (machine.point_to (unit_view unit.now) (state_view (unit_view unit.now) m.old) object offset) result m.new }
 {
     let t = type_of(unit, m.function, object)?;
@@ -78,12 +73,7 @@ pub fn point_to_outcome(m: &mut Machine, unit: &Checked) -> Result<(), Halt>
 // ---- lifetimes
 
 // A fresh instance of an object of a function, which its name stands for from now on.
-fn enter_fresh(
-    m: &mut Machine,
-    unit: &Checked,
-    function: &Function,
-    local: u32,
-) -> Result<(), Halt>
+fn enter_fresh(m: &mut Machine, unit: &Checked, function: &Function, local: u32) -> Result<(), Halt>
     requires { is_model unit.now.model ≡ true }
     ensures { Moves (unit_view unit.now) (machine.on (machine.enter_fresh (unit_view unit.now) (state_view (unit_view unit.now) m.old) local (function_view function.now))) result m.new }
 {

@@ -27,15 +27,23 @@ fn first_below(control: &[Item7]) -> Result<Option<u32>, Halt>
     ensures first { (u : UnitView) → IfOk result (λ first. first ≡ first_of (standing u control.now).objects) }
     ensures memory { IfErr result (λ h. h ≡ halt.Memory) }
 {
-    for item in control.iter().rev() {
-        match item {
-            Item7::Also(object) => return Ok(Some(*object)),
+    let mut k = control.len();
+    'back: while k > 0 {
+        k -= 1;
+        match control[k] {
+            Item7::Also(object) => return Ok(Some(object)),
             Item7::AlsoFrom(from, count) => {
-                if *count > 0 {
-                    return Ok(Some(*from));
+                if count > 0 {
+                    return Ok(Some(from));
                 }
             }
-            other => { return if ends_objects(other) { Ok(None) } else { Err(Halt::Memory) }; }
+            other => {
+                return if ends_objects(&other) {
+                    Ok(None)
+                } else {
+                    Err(Halt::Memory)
+                };
+            }
         }
     }
     Ok(None)
@@ -43,19 +51,25 @@ fn first_below(control: &[Item7]) -> Result<Option<u32>, Halt>
 
 // The size of an object of the function that runs.
 fn own_size(m: &Machine, unit: &Checked, object: u32) -> Result<u128, Halt>
-    ensures { IfOk result (λ n. n ≡ type_size (unit_view unit.now) (machine.function_at (unit_view unit.now) m.now.function) object) }
+    ensures memory { IfErr result (λ h. h ≡ halt.Memory) }
+    ensures size { IfOk result (λ n. n ≡ type_size (unit_view unit.now) (machine.function_at (unit_view unit.now) m.now.function) object) }
 {
     let Ok(function) = function_at(unit, m.function) else {
         return Ok(0);
     };
-    match type_bytes(local_type(function, object), &unit.structs, unit.model.pointer) {
+    match type_bytes(
+        local_type(function, object),
+        &unit.structs,
+        unit.model.pointer,
+    ) {
         Ok(size) => Ok(u128::from(size)),
         Err(_) => Err(Halt::Memory),
     }
 }
 
 fn named_size(m: &Machine, unit: &Checked, object: u32) -> Result<u128, Halt>
-    ensures { IfOk result (λ n. n ≡ entered_size (unit_view unit.now) (state_view (unit_view unit.now) m.now) (Some object)) }
+    ensures memory { IfErr result (λ h. h ≡ halt.Memory) }
+    ensures size { IfOk result (λ n. n ≡ entered_size (unit_view unit.now) (state_view (unit_view unit.now) m.now) (Some object)) }
 {
     match name_of(m.names.as_slice(), object) {
         Some(_) => Ok(0),
@@ -64,7 +78,8 @@ fn named_size(m: &Machine, unit: &Checked, object: u32) -> Result<u128, Halt>
 }
 
 fn entered_bytes(m: &Machine, unit: &Checked, object: Option<u32>) -> Result<u128, Halt>
-    ensures { IfOk result (λ n. n ≡ entered_size (unit_view unit.now) (state_view (unit_view unit.now) m.now) object) }
+    ensures memory { IfErr result (λ h. h ≡ halt.Memory) }
+    ensures size { IfOk result (λ n. n ≡ entered_size (unit_view unit.now) (state_view (unit_view unit.now) m.now) object) }
 {
     match object {
         None => Ok(0),
@@ -109,6 +124,7 @@ fn may_free(w: &World7, p: Pointer7) -> bool
 }
 
 fn product(count: i128, size: i128) -> Result<u128, Halt>
+    ensures memory { IfErr result (λ h. h ≡ halt.Memory) }
     ensures product { IfOk result (λ n. n ≡ size_of count * size_of size) }
 {
     match count.unsigned_abs().checked_mul(size.unsigned_abs()) {
@@ -124,7 +140,8 @@ fn called_bytes(
     arguments: &[Value7],
 ) -> Result<u128, Halt>
     requires { is_model unit.now.model ≡ true }
-    ensures { IfOk result (λ n. (n ≡ 0) ⊎ (n ≡ called_size unit.now.model function (map scalar_view arguments.now) (world_view w.now))) }
+    ensures memory { IfErr result (λ h. h ≡ halt.Memory) }
+    ensures size { IfOk result (λ n. (n ≡ 0) ⊎ (n ≡ called_size unit.now.model function (map scalar_view arguments.now) (world_view w.now))) }
 {
     match (function, arguments) {
         (LibFn::Malloc, [Value7::Int(size, _)]) => Ok(given_bytes(w, unit, size.unsigned_abs())),
@@ -145,13 +162,12 @@ fn called_bytes(
 /// How many bytes the instance has that the next turn makes; 0 where it makes none.
 pub fn asked_bytes(m: &Machine, unit: &Checked, item: Option<Item7>) -> Result<u128, Halt>
     requires { is_model unit.now.model ≡ true }
-    ensures { IfOk result (IsMadeBy (unit_view unit.now) (state_view (unit_view unit.now) m.now) (items_with (unit_view unit.now) item (standing (unit_view unit.now) m.now.control.items))) }
+    ensures memory { IfErr result (λ h. h ≡ halt.Memory) }
+    ensures size { IfOk result (IsMadeBy (unit_view unit.now) (state_view (unit_view unit.now) m.now) (items_with (unit_view unit.now) item.entry (standing (unit_view unit.now) m.now.control.items))) }
 {
     match item {
         Some(Item7::Enters(objects)) => entered_bytes(m, unit, objects.first().copied()),
-        Some(Item7::EntersBelow) => {
-            entered_bytes(m, unit, first_below(m.control.as_slice())?)
-        }
+        Some(Item7::EntersBelow) => { entered_bytes(m, unit, first_below(m.control.as_slice())?) }
         Some(Item7::Do(_, Operation7::Library(function, count, _))) => {
             called_bytes(&m.world, unit, function, newest(m.values.as_slice(), count))
         }

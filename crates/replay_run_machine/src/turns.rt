@@ -1,12 +1,16 @@
 //! Turns of the source: one item after the other. Those that are steps are counted.
-ghost use Rattle.std.specs.Prelude.{◌≡◌, true, IfOk};
+ghost use Rattle.std.specs.Prelude.{◌≡◌, [], true, None, IfOk};
+ghost use Rattle.c_layout.specs.CheckedTrees.{statement_tree};
 ghost use Rattle.c_layout.specs.CheckedUnits.{UnitView, unit_view};
 ghost use Rattle.c_layout.specs.Models.{is_model};
 ghost use Rattle.lib_models_replay.specs.WorldViews.{world_view};
 ghost use Rattle.ref_machine.specs.SourceRuns.{first_state};
 ghost use Rattle.ref_machine.specs.SourceSteps as machine;
-ghost use Rattle.replay_run_machine.specs.MachineViews.{state_view, state_with};
-ghost use Rattle.replay_run_machine.specs.Moves.{TurnsTo, turn_of};
+ghost use Rattle.ref_machine.specs.SourceSteps.{turn_by};
+ghost use Rattle.replay_run_items.specs.Standings.{on_statement, standing};
+ghost use Rattle.replay_run_items.specs.declared.items.Way7.TheVariants as way;
+ghost use Rattle.replay_run_machine.specs.MachineViews.{names_view, parameters_named, state_view, state_with};
+ghost use Rattle.replay_run_machine.specs.Moves.{HeldAs, TurnsTo, turn_of};
 
 use crate::branch_turns::{choose, read_line, select};
 use crate::call_turns::{back_to, bind_parameter, end_body, invoke, leave_function};
@@ -27,7 +31,10 @@ use replay_run_statements::{push_body, push_loop, push_statement};
 use replay_run_terms::{push_address, push_term};
 use std::alloc::{AllocError, Global};
 
+// Other items in the place of one, or want of memory.
 fn instead(pushed: Result<(), AllocError>) -> Turned7
+    ensures reply { HeldAs pushed result.reply }
+    ensures counted { result.counted ≡ None }
 {
     quiet(held(pushed))
 }
@@ -113,11 +120,10 @@ fn act_by_jump<'a>(m: &mut Machine<'a>, unit: &'a Checked, item: Item7<'a>) -> T
     }
 }
 
-fn select_at<'a>(
-    m: &mut Machine<'a>,
-    unit: &'a Checked,
-    statement: &'a CheckedStatement,
-) -> Turned7 {
+// The newest value selects a label.
+fn select_at<'a>(m: &mut Machine<'a>, unit: &'a Checked, statement: &'a CheckedStatement) -> Turned7
+    ensures { TurnsTo (unit_view unit.now) (turn_by (unit_view unit.now) (state_view (unit_view unit.now) m.old) (on_statement way.Select (statement_tree statement.now) (standing (unit_view unit.now) m.old.control.items)).items) result m.new }
+{
     match statement {
         CheckedStatement::Switch(at, _, _, _, _, _) => step(*at, select(m, unit, statement)),
         _ => quiet(Err(Halt::Memory)),
@@ -150,25 +156,26 @@ pub fn turn<'a>(m: &mut Machine<'a>, unit: &'a Checked, item: Option<Item7<'a>>)
 }
 
 // The entry's parameters name their instances.
-fn name_parameters(
-    names: &mut Vec<Option<u32>>,
-    unit: &Checked,
-    count: usize,
-) -> Result<(), Halt> {
+fn name_parameters(names: &mut Vec<Option<u32>>, unit: &Checked, count: usize) -> Result<(), Halt>
+    requires { names.old.items ≡ [] }
+    ensures { IfOk result (λ _. names_view names.new.items ≡ parameters_named (unit_view unit.now) count) }
+{
     let first = unit.objects.len() as u64 + unit.literals.len() as u64;
     for k in 0..count {
-        match (u32::try_from(k), u32::try_from(first + k as u64)) {
-            (Ok(local), Ok(inst)) => set_name(names, local, Some(inst))?,
-            (Ok(_), Err(_)) => return Err(Halt::Memory),
-            (Err(_), _) => return Err(Halt::Memory),
-        }
+        let Ok(local) = u32::try_from(k) else {
+            return Err(Halt::Memory);
+        };
+        let Ok(inst) = u32::try_from(first.saturating_add(k as u64)) else {
+            return Err(Halt::Memory);
+        };
+        set_name(names, local, Some(inst))?;
     }
     Ok(())
 }
 
 /// The machine before the first turn, in the world in which a run begins.
 pub fn begin<'a>(alloc: Global, unit: &'a Checked, world: World7) -> Result<Machine<'a>, Halt>
-    ensures { IfOk result (λ m. state_view (unit_view unit.now) m ≡ first_state (unit_view unit.now) (world_view world.entry)) }
+    ensures { IfOk result (λ m. state_view (unit_view unit.now) m ≡ first_state (unit_view unit.now) (world_view world)) }
 {
     let mut m = at_rest(alloc, unit.entry, world);
     name_parameters(&mut m.names, unit, entry_parameters(unit).len())?;
