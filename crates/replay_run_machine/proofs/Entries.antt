@@ -60,3 +60,7 @@ entry_is u xs k d i positive within is =
     ∙ ap (standing u) (take_more xs (k - 1) d below)
     ∙ standing_more u (take (k - 1) xs) (get_or xs (k - 1) d)
     ∙ ap (λ j. on_item u j (standing u (take (k - 1) xs))) is
+
+pub added_none : (items : List Item) → (added items nothing_left).items ≡ items
+added_none [] = refl
+added_none (i ∷ is) = append-nil (i ∷ is)

@@ -13,15 +13,19 @@ use Rattle.lib_models_replay.specs.declared.worlds.Halt.TheVariants as halt
 use Rattle.ref_machine.specs.BranchSteps.{with_side}
 use Rattle.ref_machine.specs.Items as item
 use Rattle.ref_machine.specs.Items.{NamedSide, Item}
+use Rattle.c_layout.specs.CheckedTrees as tree
+use Rattle.c_layout.specs.CheckedTrees.{StatementTree}
+use Rattle.replay_run_items.specs.ItemViews.{loop_item, loop_turn}
+use Rattle.replay_run_items.specs.Standings.{Standing, on_line}
 use Rattle.ref_machine.specs.ObjectSteps.{on}
 use Rattle.ref_machine.specs.SourceStates.{State, if_some, with_object, instance_of, first_do}
-use Rattle.ref_machine.specs.SourceSteps.{Turned, turn_by, enter_all, leave_all}
+use Rattle.ref_machine.specs.SourceSteps.{Turned, quiet, turn_by, enter_all, leave_all}
 use Rattle.replay_run_machine.specs.MachineViews.{state_view}
 use Rattle.replay_run_machine.specs.Moves.{Moves, CountsAs, TurnsTo, HeldAs, tested_as, turn_with}
 use Rattle.replay_run_machine.specs.declared.machines.Machine.{Machine}
 use Rattle.replay_run_machine.specs.declared.item_turns.Turned7.{Turned7}
 
-counts_exact : (a b : Option Place) (r : Result (Unit {0}) Halt) → a ≡ b → CountsAs a r b
+pub counts_exact : (a b : Option Place) (r : Result (Unit {0}) Halt) → a ≡ b → CountsAs a r b
 counts_exact a b (Ok x) e = e
 counts_exact a b (Err (halt.Stops why)) e = e
 counts_exact a b (Err halt.Memory) e = tt
@@ -74,3 +78,15 @@ pub side_there : (s : State) (side : NamedSide) (use_it : TestedSide → Reply S
 side_there s (item.named o) use_it x e = object_there s (instance_of s.names o.object) (λ i. object i o.kind) use_it x e
 side_there s (item.number n) use_it x e = let same : _ ≡ x = cc in ap use_it same
 side_there s item.nothing use_it x e = let same : _ ≡ x = cc in ap use_it same
+
+-- ---- lines and loops
+
+pub line_counted : (u : UnitView) (at : Place) (wants : Bool) (st : Standing) (s : State) → (turn_by u s (on_line at wants st).items).counted ≡ Some at
+line_counted u at true st s = refl
+line_counted u at false st s = refl
+
+pub loop_turned : (u : UnitView) (s : State) (items : List Item) (x : StatementTree) → quiet (on (first_do (loop_turn u x) (record s { control = items }))) ≡ turn_by u s (loop_item x ∷ items)
+loop_turned u s items (tree.While c body) = refl
+loop_turned u s items (tree.Do body c) = refl
+loop_turned u s items (tree.For objects first c step body) = refl
+loop_turned u s items x = refl

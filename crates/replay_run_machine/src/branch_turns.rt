@@ -49,7 +49,10 @@ fn tested_side(m: &Machine, side_named: NamedSide7) -> Result<Side7, Halt>
     ensures { (u : UnitView) → MatchResult result (λ side. tested_as (state_view u m.now).names (tests.side_view side_named) ≡ Some (side_view side)) (λ h. (h ≡ halt.Stops cause.Stuck) × (tested_as (state_view u m.now).names (tests.side_view side_named) ≡ None)) }
 {
     match side_named {
-        NamedSide7::Object(found) => tested_object(m, found),
+        NamedSide7::Object(found) => {
+            let side = tested_object(m, found)?;
+            Ok(side)
+        }
         NamedSide7::Number(n) => Ok(Side7::Constant(n)),
         NamedSide7::Nothing => Ok(Side7::Nothing),
     }

@@ -1,20 +1,23 @@
-use Rattle.std.proofs.Common.{rules, ◌≡◌, ◌<◌, ◌∷◌, ◌++◌, [], map, replicate, reverse, slice_get, IfOk, ℕ, ◌+◌, ◌-◌, ◌*◌, ◌≤◌, length, ◌/◌, ◌%◌, Bool, true, false, nat_eq, nat_lt, List, slice_index_or, slice_set, bit_and, bit_or, Fits, w8, w32, w64, Bor, MutBor}
-use Rattle.c_layout.specs.CheckedUnits.{UnitView, unit_view, function_view}
-use Rattle.c_layout.specs.declared.checked_tree.checked_terms.ObjectRef.TheVariants.{Local}
-use Rattle.flow_lower_functions.specs.Functions.{numbers_from}
-use Rattle.lib_models_replay_calls.specs.Results.{result_view}
-use Rattle.ref_machine.specs.CallSteps as machine
-use Rattle.ref_machine.specs.Items as item
-use Rattle.ref_machine.specs.Scopes.{open_scopes, all_of}
-use Rattle.ref_machine.specs.SourceStates.{result_object}
-use Rattle.ref_machine.specs.StatementItems.{body}
-use Rattle.replay_run_items.specs.ItemViews.{bindings}
-use Rattle.replay_run_items.specs.Standings.{standing, with_items, added, Stacks}
-use Rattle.replay_run_machine.specs.MachineViews.{frame_view, state_view, hop_if}
-use Rattle.replay_run_machine.specs.Moves.{Moves}
-use Rattle.replay_run_operations.specs.Pending.{pending}
+use Rattle.std.proofs.Common.{[], map, reverse, sym, ap, ◌∙◌}
+use Rattle.c_layout.specs.CheckedUnits.{unit_view, function_view}
+use Rattle.ref_machine.specs.CallSteps.{behind_body}
+use Rattle.ref_machine.specs.ObjectSteps.{on}
+use Rattle.ref_machine.specs.SourceStates.{if_some}
+use Rattle.replay_run_items.specs.Standings.{Standing, added, standing}
+use Rattle.replay_run_items.proofs.Stacks.{standing_none}
+use Rattle.replay_run_machine.specs.MachineViews.{frame_view, state_view}
+use Rattle.replay_run_machine.proofs.Entries.{added_none}
 use Rattle.replay_run_machine.proofs.call_turns.end_body.Goals as goal
 
--- src/call_turns.rt:282:1
 pub returns-in-Ok : goal.returns-in-Ok
-returns-in-Ok c = ?
+returns-in-Ok c =
+    let u = unit_view c.args.unit.now in
+    let s = state_view u c.args.m.now in
+    let f = function_view c.in_ok-function.function.now in
+    let items = behind_body f [] s.frames in
+    ap (λ o. if_some s o (λ g. on (record s { control = behind_body g [] s.frames }))) c.in_ok-function.ensures
+    ∙ ap (λ is. on (record s { control = is }))
+    (sym (ap (λ (t : Standing). t.items) (c.in-Ok.ensures u)
+    ∙ ap (λ fs. (added (behind_body f [] (reverse (map (frame_view u) fs))) (standing u c.clear.new.self.items)).items) c.as_slice.ensures.value
+    ∙ ap (λ (t : Standing). (added items t).items) (ap (standing u) c.clear.ensures.items ∙ standing_none u)
+    ∙ added_none items))

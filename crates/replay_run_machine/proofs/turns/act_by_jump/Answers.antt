@@ -1,21 +1,18 @@
-use Rattle.std.proofs.Common.{rules, ◌≡◌, [], true, None, IfOk, ℕ, ◌+◌, ◌-◌, ◌*◌, ◌<◌, ◌≤◌, length, ◌/◌, ◌%◌, Bool, false, nat_eq, nat_lt, List, ◌∷◌, ◌++◌, slice_index_or, slice_set, bit_and, bit_or, Fits, w8, w32, w64, Bor, MutBor}
-use Rattle.c_layout.specs.CheckedTrees.{statement_tree}
-use Rattle.c_layout.specs.CheckedUnits.{UnitView, unit_view}
-use Rattle.c_layout.specs.Models.{is_model}
-use Rattle.lib_models_replay.specs.WorldViews.{world_view}
-use Rattle.ref_machine.specs.SourceRuns.{first_state}
-use Rattle.ref_machine.specs.SourceSteps as machine
-use Rattle.ref_machine.specs.SourceSteps.{turn_by}
-use Rattle.replay_run_items.specs.Standings.{on_statement, standing}
-use Rattle.replay_run_items.specs.declared.items.Way7.TheVariants as way
-use Rattle.replay_run_machine.specs.MachineViews.{names_view, parameters_named, state_view, state_with}
-use Rattle.replay_run_machine.specs.Moves.{HeldAs, TurnsTo, turn_of}
+use Rattle.std.proofs.Common.{Some, None, refl, sym, ap}
+use Rattle.c_layout.specs.CheckedUnits.{unit_view}
+use Rattle.replay_run_items.specs.declared.items.Item7.TheVariants as held
+use Rattle.replay_run_machine.specs.Moves.{turn_of}
+use Rattle.replay_run_machine.proofs.ToldTurns.{turns_by, turns_same}
 use Rattle.replay_run_machine.proofs.turns.act_by_jump.Goals as goal
 
--- src/turns.rt:106:1
 pub returns-in-BreakOut : goal.returns-in-BreakOut
-returns-in-BreakOut c = ?
+returns-in-BreakOut c =
+    let u = unit_view c.args.unit.now in
+    turns_same u (turn_of u (held.BreakOut) c.args.m.now) (turn_of u c.args.item c.args.m.now) c.quiet-in-BreakOut.result c.break_out.new.m (ap (λ i. turn_of u i c.args.m.now) (sym c.in-BreakOut.is))
+    (turns_by u (turn_of u (held.BreakOut) c.args.m.now) c.quiet-in-BreakOut.result c.break_out.new.m c.break_out.result None c.quiet-in-BreakOut.ensures (c.break_out.ensures u) refl)
 
--- src/turns.rt:106:1
 pub returns-in-NextTurn : goal.returns-in-NextTurn
-returns-in-NextTurn c = ?
+returns-in-NextTurn c =
+    let u = unit_view c.args.unit.now in
+    turns_same u (turn_of u (held.NextTurn) c.args.m.now) (turn_of u c.args.item c.args.m.now) c.quiet-in-NextTurn.result c.next_turn.new.m (ap (λ i. turn_of u i c.args.m.now) (sym c.in-NextTurn.is))
+    (turns_by u (turn_of u (held.NextTurn) c.args.m.now) c.quiet-in-NextTurn.result c.next_turn.new.m c.next_turn.result None c.quiet-in-NextTurn.ensures (c.next_turn.ensures u) refl)

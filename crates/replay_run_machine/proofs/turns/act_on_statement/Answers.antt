@@ -1,29 +1,31 @@
-use Rattle.std.proofs.Common.{rules, ◌≡◌, [], true, None, IfOk, ℕ, ◌+◌, ◌-◌, ◌*◌, ◌<◌, ◌≤◌, length, ◌/◌, ◌%◌, Bool, false, nat_eq, nat_lt, List, ◌∷◌, ◌++◌, slice_index_or, slice_set, bit_and, bit_or, Fits, w8, w32, w64, Bor, MutBor}
+use Rattle.std.proofs.Common.{Some, None, refl, sym, ap, ◌∙◌}
+use Rattle.c_layout.specs.CheckedUnits.{unit_view}
+use Rattle.replay_run_items.specs.declared.items.Item7.TheVariants as held
+use Rattle.replay_run_machine.specs.Moves.{turn_of}
+use Rattle.replay_run_machine.proofs.ToldTurns.{turns_by, turns_same, line_counted, loop_turned, moves_held, counts_exact}
 use Rattle.c_layout.specs.CheckedTrees.{statement_tree}
-use Rattle.c_layout.specs.CheckedUnits.{UnitView, unit_view}
-use Rattle.c_layout.specs.Models.{is_model}
-use Rattle.lib_models_replay.specs.WorldViews.{world_view}
-use Rattle.ref_machine.specs.SourceRuns.{first_state}
-use Rattle.ref_machine.specs.SourceSteps as machine
-use Rattle.ref_machine.specs.SourceSteps.{turn_by}
-use Rattle.replay_run_items.specs.Standings.{on_statement, standing}
-use Rattle.replay_run_items.specs.declared.items.Way7.TheVariants as way
-use Rattle.replay_run_machine.specs.MachineViews.{names_view, parameters_named, state_view, state_with}
-use Rattle.replay_run_machine.specs.Moves.{HeldAs, TurnsTo, turn_of}
+use Rattle.ref_machine.specs.ObjectSteps.{on}
+use Rattle.ref_machine.specs.SourceStates.{first_do}
+use Rattle.ref_machine.specs.SourceSteps.{quiet}
+use Rattle.replay_run_items.specs.ItemViews.{loop_turn}
+use Rattle.replay_run_items.specs.Standings.{standing}
+use Rattle.replay_run_machine.specs.MachineViews.{state_view}
 use Rattle.replay_run_machine.proofs.turns.act_on_statement.Goals as goal
 
--- src/turns.rt:84:1
 pub returns-in-ReadLine : goal.returns-in-ReadLine
-returns-in-ReadLine c = ?
+returns-in-ReadLine c =
+    let u = unit_view c.args.unit.now in
+    turns_same u (turn_of u (held.ReadLine c.in-ReadLine.at c.in-ReadLine.wants_line) c.args.m.now) (turn_of u c.args.item c.args.m.now) c.step-in-ReadLine.result c.read_line.new.m (ap (λ i. turn_of u i c.args.m.now) (sym c.in-ReadLine.is))
+    (turns_by u (turn_of u (held.ReadLine c.in-ReadLine.at c.in-ReadLine.wants_line) c.args.m.now) c.step-in-ReadLine.result c.read_line.new.m c.read_line.result (Some c.in-ReadLine.at) c.step-in-ReadLine.ensures (c.read_line.ensures c.in-ReadLine.at) (line_counted u c.in-ReadLine.at c.in-ReadLine.wants_line (standing u c.args.m.now.control.items) (state_view u c.args.m.now)))
 
--- src/turns.rt:84:1
 pub returns-in-Statement-Whole-default : goal.returns-in-Statement-Whole-default
 returns-in-Statement-Whole-default c = ?
 
--- src/turns.rt:84:1
 pub returns-in-Statement-Turn-default : goal.returns-in-Statement-Turn-default
 returns-in-Statement-Turn-default c = ?
 
--- src/turns.rt:84:1
 pub returns-in-Statements : goal.returns-in-Statements
-returns-in-Statements c = ?
+returns-in-Statements c =
+    let u = unit_view c.args.unit.now in
+    turns_same u (turn_of u (held.Statements c.in-Statements.statements) c.args.m.now) (turn_of u c.args.item c.args.m.now) c.first_statement.result c.first_statement.new.m (ap (λ i. turn_of u i c.args.m.now) (sym c.in-Statements.is))
+    (c.first_statement.ensures u)
