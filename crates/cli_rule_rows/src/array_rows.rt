@@ -2,7 +2,7 @@
 use crate::call::{NONE, Unit, check_all};
 use std::test::Fail;
 
-const ARRAYS: [Unit; 7] = [
+const ARRAYS: [Unit; 8] = [
     (
         "int main(void){int a[10];int i;for(i=0;i<10;i++)a[i]=i;return 0;}",
         0,
@@ -37,6 +37,13 @@ const ARRAYS: [Unit; 7] = [
         "int main(void){int a[4]={0};unsigned i=0;i--;return a[i];}",
         1,
         "a.c:1:54: invptr: pointer is out of bounds\na.c:1:54: taintsink: tainted value reaches a sink\n2 diagnostics in a.c\n",
+    ),
+    // A folded leaf of characters whose places are 3 bytes apart, copied over integers: the second
+    // integer has the byte of a place that is not its own.
+    (
+        "#include <string.h>\nstruct t{char a;char b;char c;};struct s{struct t x[65];};struct s g;int main(void){int a[64];char u;memset(a,0,sizeof a);memcpy(&g.x[2].a,&u,1);*(struct s *)a=g;return a[1];}",
+        1,
+        "a.c:2:171: uninitref: uninitialized memory is read\n1 diagnostics in a.c\n",
     ),
 ];
 

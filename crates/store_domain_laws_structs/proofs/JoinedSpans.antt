@@ -6,7 +6,7 @@ use Rattle.std.proofs.lemmas.Bool.{or_parts, or_cases, ltb-true, ltb-false, eqb-
 use Rattle.store_domain.specs.RowPositions.{capped}
 use Rattle.store_domain.specs.AccessWindows.{window_between, last_offset}
 use Rattle.store_domain_structs.specs.declared.copy_places.Span.{Span}
-use Rattle.store_domain_structs.specs.CopyPlaces.{span_width, is_apart, all_in_one, span_joined, span_widened}
+use Rattle.store_domain_structs.specs.CopyPlaces.{span_width, is_apart, all_in_one, span_joined, span_raised}
 use Rattle.store_domain_laws_structs.specs.LargerSpans.{SpanWithin}
 
 pub less_times : (k c s : ℕ) → k ≤ c → k * s ≤ c * s
@@ -85,14 +85,14 @@ joined_below s u h k (one c a b) = by_tests (is_apart s) (is_apart u)
     by_tests false true = one c a (omega arith)
     by_tests false false = one refl a (let l = last in omega arith)
 
--- ---- with bytes before each offset
+-- ---- with bytes behind each offset
 
-pub widened_below : (s u : Span) (bytes : ℕ) → SpanBelow s u → SpanBelow (span_widened s bytes) (span_widened u bytes)
-widened_below s u bytes (same a b d c) = same (omega arith) b d c
-widened_below s u bytes (one c a b) = one c (omega arith) b
+pub raised_below : (s u : Span) (bytes : ℕ) → SpanBelow s u → SpanBelow (span_raised s bytes) (span_raised u bytes)
+raised_below s u bytes (same a b d c) = same a (omega arith) d c
+raised_below s u bytes (one c a b) = one c a (omega arith)
 
-pub widened_span : (s : Span) (bytes : ℕ) → IsSpan s → IsSpan (span_widened s bytes)
-widened_span s bytes h = record { some = (let a = h.some in omega arith); near = h.near; short = h.short }
+pub raised_span : (s : Span) (bytes : ℕ) → IsSpan s → IsSpan (span_raised s bytes)
+raised_span s bytes h = record { some = (let a = h.some in let b = h.near in omega arith); near = omega arith; short = h.short }
 
 -- ---- joined once is joined
 

@@ -3,7 +3,8 @@ use Rattle.std.specs.Prelude.{◌≡◌, ℕ, ◌+◌, ◌-◌, ◌*◌, ◌^◌
 use Rattle.std.proofs.Common.{add-mul, arith, ap, ◌∙◌, subst, sym, inl, inr}
 use Rattle.std.proofs.lemmas.Bool.{and_parts, and_from, eqb-true, cases_lt}
 use Rattle.c_layout.specs.declared.data_model.Model.{Model}
-use Rattle.c_layout.specs.declared.leaf_lists.Class.TheVariants.{Char}
+use Rattle.c_layout.specs.declared.leaf_lists.Class.{Class}
+use Rattle.c_layout.specs.declared.leaf_lists.Class.TheVariants.{Char, Short, Int, Long, LongLong, Pointer}
 use Rattle.c_layout.specs.declared.leaf_lists.Leaf.{Leaf}
 use Rattle.store_domain.specs.ScalarTypes.{class_bytes}
 use Rattle.store_domain.specs.ClassNumbers.{same_class}
@@ -12,16 +13,22 @@ use Rattle.store_domain.specs.AccessWindows.{window_between}
 use Rattle.store_domain.specs.LeafSelection.{has_place_in}
 use Rattle.store_domain_laws.proofs.PlacesOfLeaves.{place_of_test}
 use Rattle.store_domain_structs.specs.declared.copy_places.Span.{Span}
-use Rattle.store_domain_structs.specs.CopyPlaces.{any_below, shifted, span_width, span_joined, span_window, span_widened, one_place_meets, alike_meets, window_meets, each_meets, several_meet, joined_meet, meets, is_reached, is_touched}
+use Rattle.store_domain_structs.specs.CopyPlaces.{any_below, shifted, span_width, span_joined, span_window, span_raised, one_place_meets, alike_meets, window_meets, each_meets, several_meet, joined_meet, meets, leaf_raised, is_reached, is_touched}
 use Rattle.store_domain_laws_structs.specs.LargerSpans.{SpanWithin, IsMetToo}
 use Rattle.store_domain_laws_structs.proofs.Places.{test_of_place, window_more, any_more, any_found}
-use Rattle.store_domain_laws_structs.proofs.JoinedSpans.{SpanBelow, same, one, IsSpan, span_end, less_times, below_of, small_span, large_span, joined_span, joined_below, widened_below, widened_span}
+use Rattle.store_domain_laws_structs.proofs.JoinedSpans.{SpanBelow, same, one, IsSpan, span_end, less_times, below_of, small_span, large_span, joined_span, joined_below, raised_below, raised_span}
 
 -- a leaf whose places lie within 2^61 bytes
 pub record IsShort (leaf : Leaf) : Type 0 where
   pub some : 0 < leaf.count
   pub apart : 0 < leaf.stride
   pub near : leaf.offset + leaf.count * leaf.stride ≤ 2 ^ 61
+
+-- so that they do where each place is a scalar's size further on
+pub record IsNear (leaf : Leaf) : Type 0 where
+  pub some : 0 < leaf.count
+  pub apart : 0 < leaf.stride
+  pub near : leaf.offset + leaf.count * leaf.stride ≤ 2 ^ 61 + 8
 
 -- ---- the same windows, with more offsets each
 
@@ -80,7 +87,7 @@ pub record LiesIn (leaf : Leaf) (s : Span) : Type 0 where
   pub from : s.first.lo ≤ leaf.offset + turn * leaf.stride
   pub to : leaf.offset + turn * leaf.stride ≤ span_end s
 
-module _ (leaf : Leaf) (s : Span) (f : IsShort leaf) (h : IsSpan s) where
+module _ (leaf : Leaf) (s : Span) (f : IsNear leaf) (h : IsSpan s) where
   one_lies : one_place_meets leaf s ≡ true → LiesIn leaf s
   one_lies e =
       let p = place_of_test (record leaf { offset = s.first.lo; stride = s.stride; count = s.count }) (window_between (leaf.offset - span_width s) leaf.offset) e in
@@ -136,21 +143,39 @@ module _ (leaf : Leaf) (s : Span) (f : IsShort leaf) (h : IsSpan s) where
       by_test true e = let p = place_of_test leaf s.first e in let a = p.from in let b = p.to in let near = h.near in record { turn = p.turn; below = p.below; from = a; to = omega arith }
       by_test false e = several_lies e
 
-one_meets : (leaf : Leaf) (s u : Span) → IsShort leaf → u.count ≡ 1 → u.first.lo ≤ s.first.lo → span_end s ≤ u.first.hi → LiesIn leaf s → joined_meet leaf u ≡ true
+one_meets : (leaf : Leaf) (s u : Span) → IsNear leaf → u.count ≡ 1 → u.first.lo ≤ s.first.lo → span_end s ≤ u.first.hi → LiesIn leaf s → joined_meet leaf u ≡ true
 unfolding joined_meet
 one_meets leaf s u f c a b p =
     let x = p.from in let y = p.to in
     subst (λ z. cond (z == 1) (has_place_in leaf u.first) (several_meet leaf u) ≡ true) (sym c) (test_of_place leaf u.first (record { turn = p.turn; below = p.below; from = omega arith; to = omega arith; apart = f.apart }))
 
-pub meet_more : (leaf : Leaf) → IsShort leaf → (s u : Span) → IsSpan s → SpanBelow s u → joined_meet leaf s ≡ true → joined_meet leaf u ≡ true
+pub meet_more : (leaf : Leaf) → IsNear leaf → (s u : Span) → IsSpan s → SpanBelow s u → joined_meet leaf s ≡ true → joined_meet leaf u ≡ true
 meet_more leaf f s u h (same a b d c) e = same_more leaf s u a h.some b d c e
 meet_more leaf f s u h (one c a b) e = one_meets leaf s u f c a b (meet_lies leaf s f h e)
 
-pub meets_more : (leaf : Leaf) → IsShort leaf → (s u : Span) → IsSpan s → IsSpan u → SpanBelow s u → meets leaf s ≡ true → meets leaf u ≡ true
+pub meets_more : (leaf : Leaf) → IsNear leaf → (s u : Span) → IsSpan s → IsSpan u → SpanBelow s u → meets leaf s ≡ true → meets leaf u ≡ true
 unfolding meets
 meets_more leaf f s u h k i e = meet_more leaf f (span_joined s) (span_joined u) (joined_span s h) (joined_below s u h k i) e
 
 -- ---- leaves of larger spans
+
+short_near : (leaf : Leaf) → IsShort leaf → IsNear leaf
+short_near leaf f = record { some = f.some; apart = f.apart; near = (let a = f.near in omega arith) }
+
+raised_near : (leaf : Leaf) (bytes : ℕ) → bytes ≤ 8 → IsShort leaf → IsNear (leaf_raised leaf bytes)
+raised_near leaf bytes h f = record { some = f.some; apart = f.apart; near = (let a = f.near in omega arith) }
+
+either_small : (c : Bool) (a b : ℕ) → a ≤ 8 → b ≤ 8 → cond c a b ≤ 8
+either_small true a b h k = h
+either_small false a b h k = k
+
+class_small : (m : Model) (c : Class) → class_bytes m c ≤ 8
+class_small m Char = omega arith
+class_small m Short = omega arith
+class_small m Int = either_small (m.int == 2) 2 4 (omega arith) (omega arith)
+class_small m Long = either_small (m.long == 4) 4 8 (omega arith) (omega arith)
+class_small m LongLong = omega arith
+class_small m Pointer = either_small (m.pointer == 4) 4 8 (omega arith) (omega arith)
 
 pub met_too : (m : Model) (leaf : Leaf) → IsShort leaf → (s u : Span) → SpanWithin s u → IsMetToo m s u leaf
 unfolding is_reached is_touched
@@ -159,9 +184,10 @@ met_too m leaf f s u i =
     let k = large_span s u i in
     let b = below_of s u i in
     let bytes = class_bytes m leaf.class - 1 in
+    let small = class_small m leaf.class in
     record {
-      own = λ class e. let p = and_parts (same_class leaf.class class) (meets leaf s) e in and_from _ _ p.0 (meets_more leaf f s u h k b p.1);
-      other = λ e. let p = and_parts (not (same_class leaf.class Char)) (meets leaf (span_widened (span_joined s) bytes)) e in
-          and_from _ _ p.0 (meets_more leaf f (span_widened (span_joined s) bytes) (span_widened (span_joined u) bytes) (widened_span (span_joined s) bytes (joined_span s h)) (widened_span (span_joined u) bytes (joined_span u k))
-          (widened_below (span_joined s) (span_joined u) bytes (joined_below s u h k b)) p.1);
+      own = λ class e. let p = and_parts (same_class leaf.class class) (meets leaf s) e in and_from _ _ p.0 (meets_more leaf (short_near leaf f) s u h k b p.1);
+      other = λ e. let p = and_parts (not (same_class leaf.class Char)) (meets (leaf_raised leaf bytes) (span_raised (span_joined s) bytes)) e in
+          and_from _ _ p.0 (meets_more (leaf_raised leaf bytes) (raised_near leaf bytes (omega arith) f) (span_raised (span_joined s) bytes) (span_raised (span_joined u) bytes) (raised_span (span_joined s) bytes (joined_span s h)) (raised_span (span_joined u) bytes (joined_span u k))
+          (raised_below (span_joined s) (span_joined u) bytes (joined_below s u h k b)) p.1);
     }

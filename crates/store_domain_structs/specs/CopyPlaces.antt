@@ -45,9 +45,13 @@ span_joined s = cond (is_apart s) s (all_in_one s)
 abbrev pub span_window : Span → ℕ → Window
 span_window s number = shifted s.first (capped (number * s.stride))
 
--- with so many bytes before each offset
-abbrev pub span_widened : Span → ℕ → Span
-span_widened s bytes = record s { first = window_between (s.first.lo - bytes) s.first.hi }
+-- with so many bytes behind each offset
+abbrev pub span_raised : Span → ℕ → Span
+span_raised s bytes = record s { first = window_between s.first.lo (capped (s.first.hi + bytes)) }
+
+-- each place so many bytes further on
+abbrev pub leaf_raised : Leaf → ℕ → Leaf
+leaf_raised leaf bytes = record leaf { offset = capped (leaf.offset + bytes) }
 
 -- how many offsets there are, where no window overlaps the next one
 abbrev pub span_size : Span → ℕ
@@ -81,9 +85,10 @@ meets leaf s = joined_meet leaf (span_joined s)
 unfoldable pub is_reached : Leaf → Class → Span → Bool
 is_reached leaf class s = same_class leaf.class class && meets leaf s
 
--- a byte of a leaf that is none of characters lies in the span
+-- a byte of a leaf that is none of characters lies in the span: the last byte of the scalar lies at an offset of it or
+-- behind one by fewer bytes than the scalar has. (Windows that are widened downwards would be cut at 0 together.)
 unfoldable pub is_touched : Model → Leaf → Span → Bool
-is_touched m leaf s = not (same_class leaf.class Char) && meets leaf (span_widened (span_joined s) (class_bytes m leaf.class - 1))
+is_touched m leaf s = not (same_class leaf.class Char) && meets (leaf_raised leaf (class_bytes m leaf.class - 1)) (span_raised (span_joined s) (class_bytes m leaf.class - 1))
 
 unfoldable pub reached_count : List Leaf → Class → Span → ℕ
 reached_count leaves class s = count_by (λ leaf. is_reached leaf class s) leaves

@@ -1,7 +1,7 @@
 //! The offsets that a leaf of a copied struct can have in an object: those of a folded leaf stand at
 //! each of its places.
 ghost use Rattle.std.specs.Prelude.{◌≡◌, ◌<◌};
-ghost use Rattle.store_domain_structs.specs.CopyPlaces.{shifted, span_of_leaf, span_width, span_is_one, is_apart, all_in_one, span_joined, span_window, span_widened, span_size, one_place_meets, alike_meets, each_meets, several_meet, joined_meet, meets, is_reached, is_touched, reached_count, span_has_stray};
+ghost use Rattle.store_domain_structs.specs.CopyPlaces.{shifted, span_of_leaf, span_width, span_is_one, is_apart, all_in_one, span_joined, span_window, span_raised, span_size, one_place_meets, alike_meets, each_meets, several_meet, joined_meet, meets, is_reached, leaf_raised, is_touched, reached_count, span_has_stray};
 
 use c_layout::{Class, Leaf, Model};
 use store_domain::{Window, bytes_of, has_place_in, same_class};
@@ -89,14 +89,14 @@ impl Span {
         shifted(self.first, number.saturating_mul(self.stride))
     }
 
-    /// The span of the offsets up to so many bytes before each one.
-    fn widened(self, bytes: u64) -> Span
-        ensures { result ≡ span_widened self bytes }
+    /// The span of the offsets up to so many bytes behind each one.
+    fn raised(self, bytes: u64) -> Span
+        ensures { result ≡ span_raised self bytes }
     {
         Span {
             first: Window {
-                lo: self.first.lo.saturating_sub(bytes),
-                hi: self.first.hi,
+                lo: self.first.lo,
+                hi: self.first.hi.saturating_add(bytes),
             },
             stride: self.stride,
             count: self.count,
@@ -202,13 +202,29 @@ pub fn is_reached(leaf: Leaf, class: Class, span: Span) -> bool
     same_class(leaf.class, class) && meets(leaf, span)
 }
 
-/// Whether a byte of a leaf that is none of characters lies in the span.
+/// The leaf with each place so many bytes further on.
+fn raised(leaf: Leaf, bytes: u64) -> Leaf
+    ensures { result ≡ leaf_raised leaf bytes }
+{
+    Leaf {
+        offset: leaf.offset.saturating_add(bytes),
+        class: leaf.class,
+        signed: leaf.signed,
+        stride: leaf.stride,
+        count: leaf.count,
+    }
+}
+
+/// Whether a byte of a leaf that is none of characters lies in the span. The last byte of the scalar
+/// is looked for behind the offsets of the span, since windows that are widened downwards would be
+/// cut at 0 together.
 #[tactic(auto, unfolding(crate::specs::CopyPlaces::is_touched))]
 pub fn is_touched(model: &Model, leaf: Leaf, span: Span) -> bool
     ensures { result ≡ is_touched model.now leaf span }
 {
-    let before = bytes_of(model, leaf.class).saturating_sub(1);
-    !same_class(leaf.class, Class::Char) && meets(leaf, span.joined().widened(before))
+    let behind = bytes_of(model, leaf.class).saturating_sub(1);
+    !same_class(leaf.class, Class::Char)
+        && meets(raised(leaf, behind), span.joined().raised(behind))
 }
 
 /// How many leaves the access reaches.
