@@ -1,0 +1,4 @@
+mod LostBytes
+pub mod CopiedMemory
+pub mod CopyGoes
+mod SpanBytes

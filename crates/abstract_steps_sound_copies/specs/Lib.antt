@@ -1,0 +1,3 @@
+pub mod LostBytes
+pub mod CopiedMemory
+pub mod SpanBytes

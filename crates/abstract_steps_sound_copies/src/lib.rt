@@ -1,0 +1,6 @@
+//! Copies of structs: what is proved of them, and where the analysis's step is not sound.
+#![tactic(auto)]
+
+mod theorems;
+
+pub use theorems::{copies_keep_memory, folded_characters_lose_bytes, spans_see_bytes};
