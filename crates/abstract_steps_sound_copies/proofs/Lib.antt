@@ -2,3 +2,7 @@ mod LostBytes
 pub mod CopiedMemory
 pub mod CopyGoes
 mod SpanBytes
+pub mod KeptValues
+pub mod LeafWritten
+mod LeafMade
+mod CopiedZeros

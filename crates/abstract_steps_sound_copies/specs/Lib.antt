@@ -1,3 +1,4 @@
 pub mod LostBytes
 pub mod CopiedMemory
+pub mod CopiedZeros
 pub mod SpanBytes

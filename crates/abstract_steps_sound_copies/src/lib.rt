@@ -3,4 +3,6 @@
 
 mod theorems;
 
-pub use theorems::{copies_keep_memory, folded_characters_lose_bytes, spans_see_bytes};
+pub use theorems::{
+    copied_zeros_stand, copies_keep_memory, folded_characters_lose_bytes, spans_see_bytes,
+};

@@ -4,6 +4,7 @@ ghost use Rattle.c_layout.specs.declared.data_model.Model.{Model};
 ghost use Rattle.c_layout.specs.declared.shapes.BaseInfo.{BaseInfo};
 ghost use Rattle.store_domain_sound.specs.Shapes.{AreShaped};
 ghost use Rattle.abstract_steps_sound_copies.specs.CopiedMemory.{CopyKeeps};
+ghost use Rattle.abstract_steps_sound_copies.specs.CopiedZeros.{CopiedZerosStand};
 ghost use Rattle.abstract_steps_sound_copies.specs.LostBytes.{LosesByte};
 ghost use Rattle.abstract_steps_sound_copies.specs.SpanBytes.{SpansSee};
 
@@ -25,4 +26,9 @@ pub fn folded_characters_lose_bytes<I: IntDomain>()
 /// where there are several windows and the first begins too near to the object's start.
 pub fn spans_see_bytes()
     ensures { (m : Model) → SpansSee m }
+{}
+
+/// The first zeros of a base stand for its arrays behind a copy of bytes, where the copy is exact with those of the source.
+pub fn copied_zeros_stand<I: IntDomain>()
+    ensures { CopiedZerosStand I.lattice I.numbers I.stands }
 {}
