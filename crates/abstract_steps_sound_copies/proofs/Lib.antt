@@ -6,3 +6,4 @@ pub mod KeptValues
 pub mod LeafWritten
 mod LeafMade
 mod CopiedZeros
+mod LeafWrites

@@ -4,5 +4,6 @@
 mod theorems;
 
 pub use theorems::{
-    copied_zeros_stand, copies_keep_memory, folded_characters_lose_bytes, spans_see_bytes,
+    copied_zeros_stand, copies_keep_memory, folded_characters_lose_bytes, leaf_writes_stand,
+    spans_see_bytes,
 };

@@ -5,6 +5,7 @@ ghost use Rattle.c_layout.specs.declared.shapes.BaseInfo.{BaseInfo};
 ghost use Rattle.store_domain_sound.specs.Shapes.{AreShaped};
 ghost use Rattle.abstract_steps_sound_copies.specs.CopiedMemory.{CopyKeeps};
 ghost use Rattle.abstract_steps_sound_copies.specs.CopiedZeros.{CopiedZerosStand};
+ghost use Rattle.abstract_steps_sound_copies.specs.LeafWrites.{LeafWritesStand};
 ghost use Rattle.abstract_steps_sound_copies.specs.LostBytes.{LosesByte};
 ghost use Rattle.abstract_steps_sound_copies.specs.SpanBytes.{SpansSee};
 
@@ -31,4 +32,10 @@ pub fn spans_see_bytes()
 /// The first zeros of a base stand for its arrays behind a copy of bytes, where the copy is exact with those of the source.
 pub fn copied_zeros_stand<I: IntDomain>()
     ensures { CopiedZerosStand I.lattice I.numbers I.stands }
+{}
+
+/// That a cell stands for a number or for what a byte holds is kept by the write of a leaf where the cell is not written in
+/// its place, and comes to the cells that the write reaches where it holds of the value that is written.
+pub fn leaf_writes_stand<I: IntDomain>()
+    ensures { LeafWritesStand I.lattice I.numbers I.stands }
 {}
