@@ -18,8 +18,8 @@ use std::alloc::{AllocError, Global};
 use syntax_rules::syntactic;
 use turn_split::split;
 
-/// How a unit is judged: its model, the function at which runs start, and how many turns of each loop
-/// are analysed by themselves, where some are.
+/// How a unit is judged: its model, the function at which runs start, and how many turns of loops,
+/// counted over all loops together, are analysed by themselves, where some are.
 #[derive(Clone, Copy)]
 pub struct Setting<'a> {
     pub model: &'a Model,

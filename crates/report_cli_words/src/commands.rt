@@ -23,7 +23,8 @@ pub struct Command {
     pub format: Format,
     /// The function at which runs start.
     pub entry: String,
-    /// How many turns of each loop are analysed by themselves, from 0 to 64; None where none are.
+    /// How many turns of loops, counted over all loops together, are analysed by themselves, from 0 to
+    /// 64; None where none are.
     pub turns: Option<u32>,
     /// From 0 to 2147483647.
     pub seed: u32,
