@@ -28,6 +28,6 @@ module _ {I : Type 0} {l : LatticeOf I} {n : IntegersOf I} {stands : I → ℤ �
       (elim (cases_Bool (is_same_object test.left test.right)) [
         | inl same ↦ same_object_good o q c flow p naming row s r test t.common t.size test.left test.right same t.left t.right
         | inr apart ↦ side_good flow s r.begun (refine_in l n flow test (Some t.common) row) test.left t.left _ (λ i left.
-        side_good flow s r.begun (refine_in l n flow test (Some t.common) row) test.right t.right _ (λ j right.
-        sides_good o q c flow p naming row s r test t.common t.size apart i j left right))
+            side_good flow s r.begun (refine_in l n flow test (Some t.common) row) test.right t.right _ (λ j right.
+            sides_good o q c flow p naming row s r test t.common t.size apart i j left right))
       ])
