@@ -60,6 +60,7 @@ pub fn kind_of_lvalue(lvalue: &Lvalue) -> Scalar
     scalar(&lvalue.ctype)
 }
 
+/// The integer type of an lvalue (6.5.16), or where it has none what `integer_type` gives of its type.
 pub fn integer_kind_of(lvalue: &Lvalue) -> IntType
     ensures { result ≡ integer_kind (lvalue_tree lvalue.now) }
 {
