@@ -1,4 +1,3 @@
-mod Copies
 mod SameOperations
 mod SameEdges
 mod SameStarts

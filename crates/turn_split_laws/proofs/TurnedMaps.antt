@@ -27,7 +27,7 @@ use Rattle.abstract_steps_system.specs.FlowMachines.{edge_at, known_start, start
 use Rattle.abstract_steps_system.specs.SystemChecks.{is_sound_edge, is_in_order, is_few, is_system}
 use Rattle.turn_split.specs.Turns.{copies, last_copy, number_in, copy_behind, all_copies, split, edge_copy}
 use Rattle.turn_split_laws.specs.SameParts.{SameParts}
-use Rattle.turn_split_laws.proofs.Copies.{Placed, placed, copies_length, copy_at, number_below}
+use Rattle.turn_split_runs.proofs.CopiedLists.{Placed, placed, copies_length, copy_at, number_below}
 use Rattle.turn_split_laws.proofs.SameOperations.{operate_same}
 use Rattle.turn_split_laws.proofs.SameEdges.{follow_same}
 use Rattle.turn_split_laws.proofs.SameStarts.{start_same}

@@ -16,7 +16,7 @@ use Rattle.rule_checks_laws.proofs.FewestPairs.{In, AreIn, in_left, in_right, in
 use Rattle.turn_split.specs.Turns.{copies, number_in, split}
 use Rattle.turn_split_laws.specs.SameParts.{SameParts}
 use Rattle.turn_split_laws.specs.CopiedMaps.{copied_map}
-use Rattle.turn_split_laws.proofs.Copies.{placed, copies_length}
+use Rattle.turn_split_runs.proofs.CopiedLists.{placed, copies_length}
 use Rattle.turn_split_laws.proofs.SameOperations.{operate_same, violations_same}
 use Rattle.turn_split_laws.proofs.TurnedPrograms.{same_parts, size, steps_same}
 use Rattle.turn_split_laws.proofs.TurnedMaps.{step_same, steps_behind, row_of}

@@ -15,7 +15,7 @@ use Rattle.abstract_steps_system.specs.BlockPasses.{instructions_in}
 use Rattle.abstract_steps_system.specs.FlowMachines.{head_in, edge_at, no_edge}
 use Rattle.turn_split.specs.Turns.{copies, last_copy, turns_of, number_in, copy_behind, edge_copy, block_copy, all_copies, split}
 use Rattle.turn_split_laws.specs.SameParts.{SameParts}
-use Rattle.turn_split_laws.proofs.Copies.{copies_length, copy_at}
+use Rattle.turn_split_runs.proofs.CopiedLists.{copies_length, copy_at}
 
 -- ---- blocks by their views
 

@@ -1,12 +1,12 @@
--- Lists that are copies of others, one after the other.
-use Rattle.std.specs.Prelude.{◌≡◌, ℕ, zero, suc, ◌+◌, ◌-◌, ◌*◌, ◌<◌, ◌≤◌, List, [], ◌∷◌, ◌++◌, length, slice_get, refl, ◌⊎◌}
-use Rattle.std.proofs.Common.{arith, sym, subst, ap, ◌∙◌, inl, inr}
+-- Lists that are copies of others, one after the other: places in them, and parts of them.
+use Rattle.std.specs.Prelude.{◌≡◌, ℕ, zero, suc, ◌+◌, ◌-◌, ◌*◌, ◌<◌, ◌≤◌, Option, Some, None, List, [], ◌∷◌, ◌++◌, length, take, drop, slice_get, refl}
+use Rattle.std.proofs.Common.{arith, sym, ap, ◌∙◌, inl, inr}
 use Rattle.std.proofs.Math.Nat.{add-mul, mul-le-mul_left, mul_comm}
 use Rattle.std.proofs.lemmas.Bool.{cases_lt}
 use Rattle.std.proofs.lemmas.List.{length-append}
 use Rattle.turn_split.specs.Turns.{number_in, all_copies}
 
--- ---- numbers in copies
+-- ---- places
 
 one_more : (m g : ℕ) → suc m * g ≡ g + m * g
 one_more m g =
@@ -45,8 +45,6 @@ placed size (suc n) b h = elim (cases_lt b (n * size)) [
   where
     last : n * size ≤ b → Placed size (suc n) b
     last k = let e = one_more n size in record { copy = n; place = b - n * size; in_copies = omega arith; in_copy = omega arith; is = omega arith }
-
--- ---- lists
 
 get_left : {V : Type 0} (xs ys : List V) (i : ℕ) → i < length xs → slice_get (xs ++ ys) i ≡ slice_get xs i
 get_left [] ys i h = absurd (omega arith)
@@ -87,3 +85,53 @@ module _ {V : Type 0} (of : ℕ → List V) (size : ℕ) (long : (k : ℕ) → l
           let e : k ≡ n = omega arith in
           let f : number_in size k j ≡ number_in size n j = ap (λ z. number_in size z j) e in
           get_right (all_copies of n) (of n) (number_in size k j) j (omega arith) ∙ ap (λ z. slice_get (of z) j) (sym e)
+
+-- ---- parts
+
+-- what is left behind a place begins with what stands there
+drop_at : {V : Type 0} (xs : List V) (p : ℕ) (x : V) → slice_get xs p ≡ Some x → drop p xs ≡ x ∷ drop (suc p) xs
+drop_at [] p x e = absurd (cc)
+drop_at (y ∷ xs) zero x e = ap (λ z. z ∷ xs) (same y x e)
+  where
+    same : {V : Type 0} (y x : V) → Some y ≡ Some x → y ≡ x
+    same y x e = cc
+drop_at (y ∷ xs) (suc p) x e = drop_at xs p x e
+
+drop_past : {V : Type 0} (xs : List V) (p : ℕ) → slice_get xs p ≡ None → drop p xs ≡ []
+drop_past [] zero e = refl
+drop_past [] (suc p) e = refl
+drop_past (y ∷ xs) zero e = absurd (cc)
+drop_past (y ∷ xs) (suc p) e = drop_past xs p e
+
+-- parts with the same elements are the same
+pub same_part : {V : Type 0} (xs ys : List V) (m p q : ℕ) → ((i : ℕ) → i < m → slice_get xs (p + i) ≡ slice_get ys (q + i)) → take m (drop p xs) ≡ take m (drop q ys)
+same_part xs ys zero p q h = refl
+same_part xs ys (suc m) p q h = begun (slice_get xs p) refl (same_part xs ys m (suc p) (suc q) rest)
+  where
+    zero_more : (k : ℕ) → k + 0 ≡ k
+    zero_more k = omega arith
+
+    first : slice_get xs p ≡ slice_get ys q
+    first = ap (slice_get xs) (sym (zero_more p)) ∙ (h 0 (omega arith) ∙ ap (slice_get ys) (zero_more q))
+
+    rest : (i : ℕ) → i < m → slice_get xs (suc p + i) ≡ slice_get ys (suc q + i)
+    rest i less =
+        let a : suc p + i ≡ p + suc i = omega arith in
+        let b : q + suc i ≡ suc q + i = omega arith in
+        ap (slice_get xs) a ∙ (h (suc i) (omega arith) ∙ ap (slice_get ys) b)
+
+    begun : (o : Option _) → slice_get xs p ≡ o → take m (drop (suc p) xs) ≡ take m (drop (suc q) ys) → take (suc m) (drop p xs) ≡ take (suc m) (drop q ys)
+    begun None e r = ap (λ z. take (suc m) z) (drop_past xs p e ∙ sym (drop_past ys q (sym first ∙ e)))
+    begun (Some x) e r =
+        ap (λ z. take (suc m) z) (drop_at xs p x e)
+        ∙ (ap (λ z. x ∷ z) r
+        ∙ sym (ap (λ z. take (suc m) z) (drop_at ys q x (sym first ∙ e))))
+
+-- what stands in a part stands in the list
+pub in_part : {V : Type 0} (xs : List V) (m p i : ℕ) (x : V) → slice_get (take m (drop p xs)) i ≡ Some x → slice_get xs (p + i) ≡ Some x
+in_part xs zero p i x e = absurd (cc)
+in_part [] (suc m) zero i x e = absurd (cc)
+in_part [] (suc m) (suc p) i x e = absurd (cc)
+in_part (y ∷ xs) (suc m) zero zero x e = e
+in_part (y ∷ xs) (suc m) zero (suc i) x e = ap (slice_get (y ∷ xs)) (let k : 0 + suc i ≡ suc (0 + i) = omega arith in k) ∙ in_part xs m zero i x e
+in_part (y ∷ xs) (suc m) (suc p) i x e = ap (slice_get (y ∷ xs)) (let k : suc p + i ≡ suc (p + i) = omega arith in k) ∙ in_part xs (suc m) p i x e

@@ -1,0 +1,5 @@
+pub mod CopiedLists
+mod MovedStandings
+mod MovedEdges
+mod SameSteps
+mod LinkedPrograms
