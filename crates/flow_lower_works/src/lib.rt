@@ -1,0 +1,6 @@
+//! Laws on the works of which templates are made.
+#![tactic(auto)]
+
+mod theorems;
+
+pub use theorems::templates_are_derived;
