@@ -1,24 +1,22 @@
 -- A copy of a struct between two instances, and which cells the write of a leaf replaces.
-use Rattle.std.proofs.Common.{◌≡◌, ℕ, ◌+◌, ◌-◌, ◌*◌, ◌<◌, ◌≤◌, ◌^◌, Bool, true, false, cond, ◌&&◌, Option, Some, None, List, length, arith, subst, sym, refl, ap, ◌∙◌, inl, inr, ◌⊎◌}
+use Rattle.std.proofs.Common.{◌≡◌, ℕ, ◌+◌, ◌-◌, ◌*◌, ◌<◌, ◌≤◌, ◌^◌, Bool, true, false, cond, ◌&&◌, Some, List, length, arith, subst, sym, refl, ap, ◌∙◌, inl, inr}
 use Rattle.std.specs.Prelude.{slice_get, ◌==◌, nat_lt}
 use Rattle.std.proofs.lemmas.Bool.{cases_eq, and_parts, eqb-true, ltb-true}
-use Rattle.std.proofs.lemmas.Nat.{mul-le}
 use Rattle.std.proofs.lemmas.Option.{same_Some, slice_get_within}
 use Rattle.c_layout.specs.StructViews.{StructView}
 use Rattle.c_layout.specs.declared.data_model.Model.{Model}
 use Rattle.c_layout.specs.declared.leaf_lists.Leaf.{Leaf}
 use Rattle.c_layout.specs.declared.shapes.BaseInfo.{BaseInfo}
-use Rattle.flow_program.specs.WellFormed.{base_cells, base_values}
+use Rattle.flow_program.specs.WellFormed.{base_cells}
 use Rattle.flow_program.specs.declared.programs.Flow.{Flow}
 use Rattle.pointer_domain.specs.BaseSets.{bases_has, bases_count, bases_within}
 use Rattle.pointer_domain.specs.declared.base_sets.Bases.{Bases}
 use Rattle.store_domain.specs.declared.access_windows.Window.{Window}
-use Rattle.store_domain.specs.AccessWindows.{window_between}
 use Rattle.store_domain.specs.LiveBases.{most_bases, has_base, single_bases, is_one_instance}
-use Rattle.store_domain.specs.RowPositions.{capped, leaf_position}
+use Rattle.store_domain.specs.RowPositions.{leaf_position}
 use Rattle.lib_models_memory.specs.ScalarSizes.{class_bytes, same_class}
 use Rattle.lib_models_memory.specs.Bytes.{Byte}
-use Rattle.lib_models_memory.specs.Instances.{Memory, live, ended, bytes_at, byte_at, life_at}
+use Rattle.lib_models_memory.specs.Instances.{Memory, live, bytes_at, byte_at, life_at}
 use Rattle.lib_models_memory.specs.Tags.{tag_at}
 use Rattle.lib_models_effects.specs.StructCopies.{fits_leaf, may_be_copied, copied_tag}
 use Rattle.lib_models_effects.specs.Touches.{is_allocated, storage_at}
@@ -34,8 +32,7 @@ use Rattle.store_domain_sound.proofs.StoreLeaves.{live_ended, not_older}
 use Rattle.store_domain_sound.proofs.StoreRows.{Fits, leaf_is, class_is}
 use Rattle.store_domain_sound_regions.specs.RegionWrites.{IsRegion}
 use Rattle.store_domain_sound_spans.specs.SpanBytes.{IsInSpan, IsShortSpan}
-use Rattle.store_domain_structs.specs.CopyPlaces.{span_of_leaf, span_width, span_is_one, is_apart, all_in_one, span_joined, joined_meet, meets, is_reached}
-use Rattle.store_domain_structs.specs.LeafCopies.{is_strong}
+use Rattle.store_domain_structs.specs.CopyPlaces.{span_of_leaf, span_is_one, is_apart, all_in_one, joined_meet, meets, is_reached}
 use Rattle.store_domain_structs.specs.LeafNumbers.{struct_leaf}
 use Rattle.store_domain_structs.specs.StructCopies.{Route, route_for, leaf_access}
 use Rattle.store_domain_structs.specs.declared.copy_places.Span.{Span}
@@ -44,7 +41,7 @@ use Rattle.abstract_steps_sound_copied_cells.specs.LeafWrites.{IsReplacedAt}
 use Rattle.abstract_steps_sound_copied_leaves.proofs.Cells.{CellName, leaf_cell, class_cell, IsThere, position, Owns}
 use Rattle.abstract_steps_sound_copied_leaves.proofs.ReadCells.{AreFew, IsSpot}
 use Rattle.abstract_steps_sound_copied_leaves.proofs.StraySpans.{hit_of}
-use Rattle.abstract_steps_sound_copied_leaves.proofs.Structs.{IsPlain, IsStruct}
+use Rattle.abstract_steps_sound_copied_leaves.specs.StructLeaves.{IsPlain, IsStruct}
 
 -- a byte of the region, and where it comes from
 pub record Came (m : Model) (leaves : List Leaf) (old : Memory) (i offset j at x : ℕ) (y : Byte) : Type 0 where

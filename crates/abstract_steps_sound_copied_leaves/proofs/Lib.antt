@@ -2,7 +2,6 @@ pub mod StraySpans
 pub mod OwnPlaces
 pub mod ReadCells
 pub mod ReadValues
-pub mod NearReads
 pub mod Cells
 pub mod SourceReads
 pub mod Structs

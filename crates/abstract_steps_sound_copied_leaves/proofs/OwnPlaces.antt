@@ -1,16 +1,13 @@
 -- The cell of a class at an offset of a base: that of a leaf, or the class cell of a heap base.
-use Rattle.std.proofs.Common.{◌≡◌, ℕ, zero, suc, ◌+◌, ◌-◌, ◌<◌, ◌≤◌, Bool, true, false, Option, Some, None, List, arith, subst, sym, refl, ap, ◌∙◌, inl, inr, ◌⊎◌}
-use Rattle.std.specs.Prelude.{slice_get, count_by}
-use Rattle.std.proofs.lemmas.Bool.{cases_lt}
+use Rattle.std.proofs.Common.{◌≡◌, ℕ, zero, suc, ◌+◌, Bool, true, false, Option, Some, None, arith, subst, sym, refl, ◌∙◌, inl, inr, ◌⊎◌}
+use Rattle.std.specs.Prelude.{count_by}
 use Rattle.c_layout.specs.declared.data_model.Model.{Model}
 use Rattle.c_layout.specs.declared.leaf_lists.Class.{Class}
-use Rattle.c_layout.specs.declared.leaf_lists.Leaf.{Leaf}
 use Rattle.c_layout.specs.declared.shapes.BaseInfo.{BaseInfo}
-use Rattle.lib_models_memory.specs.ScalarSizes.{class_bytes}
 use Rattle.lib_models_memory.specs.Bytes.{Tag}
 use Rattle.lib_models_memory.specs.Tags.{tag_of, tag_at}
 use Rattle.store_domain_meaning.specs.Matching.{Fits}
-use Rattle.store_domain_meaning.specs.Places.{IsPlaceOf, IsLeafPlace, OwnedByLeaf}
+use Rattle.store_domain_meaning.specs.Places.{IsPlaceOf, IsLeafPlace}
 use Rattle.store_domain_sound.specs.Shapes.{IsShaped, at_offset}
 use Rattle.store_domain_sound.proofs.Selected.{counted_place}
 use Rattle.store_domain_sound.proofs.TagPlaces.{is_tagged}

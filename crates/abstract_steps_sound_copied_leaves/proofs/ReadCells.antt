@@ -1,7 +1,7 @@
 -- What a leaf's read gives of the cells that it reaches.
-use Rattle.std.proofs.Common.{◌≡◌, ℕ, ◌+◌, ◌-◌, ◌*◌, ◌<◌, ◌≤◌, ◌^◌, Bool, true, false, cond, not, ◌&&◌, Option, Some, None, List, length, arith, subst, sym, refl, ap, ◌∙◌, inl, inr}
+use Rattle.std.proofs.Common.{◌≡◌, ℕ, ◌+◌, ◌-◌, ◌*◌, ◌<◌, ◌≤◌, ◌^◌, Bool, true, false, cond, ◌&&◌, Option, Some, None, List, length, arith, subst, sym, refl}
 use Rattle.std.specs.Prelude.{slice_get, count_by}
-use Rattle.std.proofs.lemmas.Bool.{and_from, lt-ltb}
+use Rattle.std.proofs.lemmas.Bool.{and_from}
 use Rattle.std.proofs.lemmas.Nat.{mul-le}
 use Rattle.cc_base.specs.Lattices.{LatticeOf, OrderLaws}
 use Rattle.cc_base.specs.IntegerDomains.{IntegersOf}
@@ -21,7 +21,7 @@ use Rattle.store_domain.specs.LeafSelection.{meets_padding}
 use Rattle.store_domain.specs.LiveBases.{has_base}
 use Rattle.store_domain.specs.RowPositions.{leaf_position, class_position, value_at}
 use Rattle.store_domain.specs.ScalarTypes.{kind_of}
-use Rattle.store_domain.specs.Walks.{walk, turns}
+use Rattle.store_domain.specs.Walks.{turns}
 use Rattle.store_domain.specs.declared.access_windows.Window.{Window}
 use Rattle.store_domain_meaning.specs.Places.{IsPlaceOf, OwnedByLeaf, IsLeafPlace}
 use Rattle.store_domain_sound.specs.Gives.{Gives}
@@ -30,20 +30,17 @@ use Rattle.store_domain_sound.proofs.Classes.{is_same_class}
 use Rattle.store_domain_sound.proofs.Found.{given_left, given_by_right, if_keeps, if_gives}
 use Rattle.store_domain_sound.proofs.Walks.{walk_keeps, walk_meets, turns_meet}
 use Rattle.store_domain_sound_spans.specs.SpanBytes.{IsInSpan, IsShortSpan, SpanSees}
-use Rattle.store_domain_sound_spans.proofs.SpanBytes.{spans_see, joined_short, joined_has}
+use Rattle.store_domain_sound_spans.proofs.SpanBytes.{spans_see, joined_has}
 use Rattle.store_domain_laws_shapes.proofs.LeafBytes.{few_bytes}
 use Rattle.store_domain_structs.proofs.Somewhere.{somewhere}
-use Rattle.store_domain_structs.specs.CopyPlaces.{any_below, span_joined, span_window, is_reached, is_touched, span_has_stray}
+use Rattle.store_domain_structs.specs.CopyPlaces.{span_joined, span_window, is_reached, is_touched, span_has_stray}
 use Rattle.store_domain_structs.specs.LeafCopies.{window_padded, any_padded, span_meets_padding, reaches_class, own_leaf, read_own_leaf, read_class_cell, read_own, other_leaf, read_other_leaf, read_class_byte, read_class_bytes, read_padding, read_bytes, read_others, read_base, read_base_if, read_from, read_leaf}
 use Rattle.store_domain_structs.specs.declared.copy_places.Span.{Span}
 use Rattle.store_domain_structs.specs.declared.leaf_copies.LeafAccess.{LeafAccess}
+use Rattle.abstract_steps_sound_copied_leaves.specs.StructLeaves.{IsFew}
 use Rattle.abstract_steps_sound_copied_leaves.proofs.StraySpans.{span_stray}
 
--- the leaves of a base have few places, none of them more than 2^61 bytes off
-pub record IsFew (leaf : Leaf) : Type 0 where
-  pub count : leaf.count ≤ 2 ^ 61
-  pub end : leaf.offset + leaf.count * leaf.stride ≤ 2 ^ 61
-
+-- the leaves of a base have few places, none of them far off
 abbrev pub AreFew : BaseInfo → Type 0
 AreFew base = (j : ℕ) (leaf : Leaf) → slice_get base.shape.cells j ≡ Some leaf → IsFew leaf
 

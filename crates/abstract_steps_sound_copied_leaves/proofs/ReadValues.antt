@@ -1,5 +1,5 @@
 -- What cells give of numbers and of bytes where they are read, and where what was read is stored.
-use Rattle.std.proofs.Common.{◌≡◌, ℕ, ◌<◌, Bool, true, false, cond, not, ◌||◌, Option, Some, None, List, length, arith, subst, sym, refl, ap, ◌∙◌, inl, inr}
+use Rattle.std.proofs.Common.{◌≡◌, ℕ, ◌<◌, Bool, true, false, cond, not, ◌||◌, Option, Some, None, List, length, arith, subst, sym, refl, inl, inr}
 use Rattle.std.specs.Prelude.{slice_get, ℤ}
 use Rattle.std.proofs.lemmas.Bool.{cases_Bool, true≢false}
 use Rattle.cc_base.specs.Lattices.{LatticeOf, OrderLaws}
@@ -12,8 +12,6 @@ use Rattle.c_layout.specs.declared.data_model.Model.{Model}
 use Rattle.c_layout.specs.declared.leaf_lists.Class.{Class}
 use Rattle.c_layout.specs.declared.leaf_lists.Class.TheVariants.{Char}
 use Rattle.value_domain.specs.LabelSets.{all_labels, labels_leq}
-use Rattle.value_domain.specs.ValueTables.{blank_value}
-use Rattle.value_domain.specs.Values.{value_lattice}
 use Rattle.value_domain.specs.declared.label_sets.Labels as sets
 use Rattle.value_domain.specs.declared.values.Value.{Value}
 use Rattle.store_domain.specs.ByteWrites.{byte_written}

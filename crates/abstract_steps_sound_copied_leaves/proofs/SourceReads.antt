@@ -1,11 +1,10 @@
 -- What a leaf's read gives for the bytes of the source, where the row tells what its cells hold of them.
-use Rattle.std.proofs.Common.{◌≡◌, ℕ, zero, suc, ◌+◌, ◌-◌, ◌<◌, ◌≤◌, ◌^◌, Bool, true, false, ◌||◌, Option, Some, None, List, length, arith, subst, sym, refl, ap, ◌∙◌, inl, inr, ◌⊎◌}
-use Rattle.std.specs.Prelude.{slice_get, ℤ, count_by, ◌==◌}
+use Rattle.std.proofs.Common.{◌≡◌, ℕ, zero, suc, ◌+◌, ◌-◌, ◌<◌, ◌≤◌, ◌^◌, Bool, true, false, ◌||◌, Option, Some, None, List, length, arith, subst, sym, refl, ap, ◌∙◌, inl, inr}
+use Rattle.std.specs.Prelude.{slice_get, count_by, ◌==◌}
 use Rattle.std.proofs.lemmas.Bool.{cases_Bool, cases_lt, and_parts, eqb-true}
 use Rattle.std.proofs.lemmas.Option.{slice_get_within}
 use Rattle.cc_base.specs.Lattices.{LatticeOf, OrderLaws}
-use Rattle.cc_base.specs.IntegerDomains.{IntegersOf, BoundLaws}
-use Rattle.cc_base.specs.IntegerLaws.{SoundLaws}
+use Rattle.cc_base.specs.IntegerDomains.{IntegersOf}
 use Rattle.c_layout.specs.declared.leaf_lists.Class.{Class}
 use Rattle.c_layout.specs.declared.leaf_lists.Class.TheVariants.{Char, Short, Int, Long, LongLong, Pointer}
 use Rattle.c_layout.specs.declared.leaf_lists.Leaf.{Leaf}
@@ -16,23 +15,22 @@ use Rattle.value_domain.specs.Values.{value_lattice}
 use Rattle.value_domain.specs.declared.values.Value.{Value}
 use Rattle.value_domain.specs.declared.row_cells.Cell.{Cell}
 use Rattle.store_domain.specs.CellReads.{whole_range, as_read, byte_read}
-use Rattle.store_domain.specs.ClassNumbers.{class_number, class_at, is_pointer}
-use Rattle.store_domain.specs.RowPositions.{leaf_position, class_position, value_at}
+use Rattle.store_domain.specs.ClassNumbers.{class_number, class_at}
+use Rattle.store_domain.specs.RowPositions.{value_at}
 use Rattle.store_domain.specs.ScalarTypes.{kind_of}
 use Rattle.lib_models_memory.specs.ScalarSizes.{class_bytes, same_class}
-use Rattle.lib_models_memory.specs.Bytes.{Content, Tag, Byte}
+use Rattle.lib_models_memory.specs.Bytes.{Tag, Byte}
 use Rattle.lib_models_memory.specs.Instances.{Memory, Instance, live, bytes_of, bytes_at, byte_at, life_at}
-use Rattle.lib_models_memory.specs.Numbers.{Labelled, number_of}
 use Rattle.lib_models_memory.specs.Tags.{tag_of, fits_tag, tag_at}
 use Rattle.lib_models_effects.specs.StructCopies.{fits_leaf}
 use Rattle.lib_models_effects.specs.Touches.{is_allocated, storage_of, storage_at}
-use Rattle.store_domain_meaning.specs.Matching.{Fits, Matched, number_in, Holds}
-use Rattle.store_domain_meaning.specs.Places.{IsPlaceOf, OwnedByLeaf, OwnedByClass, IsLeafPlace, IsClassPlace}
+use Rattle.store_domain_meaning.specs.Matching.{Fits}
+use Rattle.store_domain_meaning.specs.Places.{OwnedByLeaf, OwnedByClass, IsLeafPlace, IsClassPlace}
 use Rattle.store_domain_meaning.specs.SoundMemory.{IsMemoryOf}
 use Rattle.store_domain_meaning.specs.ValueMeaning.{Naming}
 use Rattle.store_domain_sound.specs.Gives.{Gives}
 use Rattle.store_domain_sound.specs.Shapes.{IsShaped, SeesPadding, at_offset}
-use Rattle.store_domain_sound.proofs.Classes.{same_class_is, is_same_class, class_above, class_small, class_number_back}
+use Rattle.store_domain_sound.proofs.Classes.{same_class_is, class_small, class_number_back}
 use Rattle.store_domain_sound.proofs.LoadSound.{instance_there}
 use Rattle.store_domain_sound.proofs.Selected.{counted_place, uncounted_place}
 use Rattle.store_domain_sound.proofs.TagPlaces.{is_tagged}

@@ -1,5 +1,5 @@
 -- The leaves of a struct that share no bytes, and the tags that they give.
-use Rattle.std.proofs.Common.{◌≡◌, ℕ, zero, suc, ◌+◌, ◌-◌, ◌*◌, ◌/◌, ◌%◌, ◌<◌, ◌≤◌, ◌^◌, Option, Some, None, List, [], ◌∷◌, arith, subst, sym, refl, ap, ◌∙◌, inl, inr}
+use Rattle.std.proofs.Common.{◌≡◌, ℕ, zero, suc, ◌+◌, ◌-◌, ◌*◌, ◌/◌, ◌%◌, ◌≤◌, Option, Some, None, List, [], ◌∷◌, arith, subst, sym, refl, ap, ◌∙◌}
 use Rattle.std.specs.Prelude.{slice_get, nat_lt, nat_le, ◌&&◌, cond}
 use Rattle.std.proofs.lemmas.Bool.{and_from, lt-ltb, le-leb, cond-true}
 use Rattle.std.proofs.lemmas.Nat.{div-mul-add, mod-mul-add}
@@ -11,19 +11,7 @@ use Rattle.lib_models_memory.specs.Bytes.{Tag}
 use Rattle.lib_models_memory.specs.Tags.{tag_of, stride_tag, distance_tag, leaf_tag, or_tag, tag_at}
 use Rattle.store_domain_meaning.specs.Places.{OwnedByLeaf}
 use Rattle.store_domain_sound.proofs.TagPlaces.{is_tagged}
-
--- a leaf of some place that is no longer than its stride, within 2^30 bytes
-pub record IsPlain (m : Model) (leaf : Leaf) : Type 0 where
-  pub some : 0 < leaf.count
-  pub fits : class_bytes m leaf.class ≤ leaf.stride
-  pub few : leaf.count ≤ 2 ^ 30
-  pub near : leaf.count * leaf.stride ≤ 2 ^ 30
-
-pub record IsStruct (m : Model) (leaves : List Leaf) (size : ℕ) : Type 0 where
-  pub small : size ≤ 2 ^ 30
-  pub plain : (number : ℕ) (leaf : Leaf) → slice_get leaves number ≡ Some leaf → IsPlain m leaf
-  pub inside : (number d k : ℕ) (leaf : Leaf) → slice_get leaves number ≡ Some leaf → OwnedByLeaf m leaf d k → d < size
-  pub one : (a c d j k : ℕ) (x y : Leaf) → slice_get leaves a ≡ Some x → slice_get leaves c ≡ Some y → OwnedByLeaf m x d j → OwnedByLeaf m y d k → a ≡ c
+use Rattle.abstract_steps_sound_copied_leaves.specs.StructLeaves.{IsStruct}
 
 -- ---- one leaf
 

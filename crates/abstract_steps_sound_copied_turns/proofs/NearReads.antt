@@ -1,5 +1,5 @@
 -- What a leaf's read gives has near bounds.
-use Rattle.std.proofs.Common.{◌≡◌, ℕ, ◌+◌, Bool, true, false, cond, Option, Some, None, List}
+use Rattle.std.proofs.Common.{◌+◌, Bool, true, false, cond, Option, Some, None, List}
 use Rattle.std.specs.Prelude.{ℤ}
 use Rattle.cc_base.specs.Lattices.{LatticeOf, OrderLaws}
 use Rattle.cc_base.specs.IntegerDomains.{IntegersOf, BoundLaws, RangeLaws}
@@ -15,7 +15,7 @@ use Rattle.store_domain.specs.ClassNumbers.{class_number, class_at, same_class}
 use Rattle.store_domain.specs.LiveBases.{has_base}
 use Rattle.store_domain.specs.RowPositions.{leaf_position, class_position, value_at}
 use Rattle.store_domain.specs.ScalarTypes.{kind_of}
-use Rattle.store_domain.specs.Walks.{walk, turns}
+use Rattle.store_domain.specs.Walks.{turns}
 use Rattle.store_domain_sound.proofs.Near.{value_at_near}
 use Rattle.store_domain_sound.proofs.Walks.{walk_keeps, turns_keep}
 use Rattle.store_domain_structs.specs.CopyPlaces.{is_reached, is_touched}
