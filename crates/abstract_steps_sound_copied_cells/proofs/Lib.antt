@@ -1,0 +1,4 @@
+pub mod KeptValues
+pub mod LeafWritten
+pub mod LeafMade
+pub mod LeafWrites

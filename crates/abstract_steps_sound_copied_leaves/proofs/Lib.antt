@@ -1,0 +1,9 @@
+pub mod StraySpans
+pub mod OwnPlaces
+pub mod ReadCells
+pub mod ReadValues
+pub mod Cells
+pub mod SourceReads
+pub mod Structs
+pub mod Copies
+pub mod LeafReads

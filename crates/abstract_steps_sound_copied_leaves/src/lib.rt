@@ -1,0 +1,2 @@
+//! Reads of leaves of copied structs.
+#![tactic(auto)]

@@ -1,0 +1,3 @@
+pub mod CopiedMemory
+pub mod CopyGoes
+pub mod CopiedZeros

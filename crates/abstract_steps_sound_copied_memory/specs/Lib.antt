@@ -1,0 +1,2 @@
+pub mod CopiedMemory
+pub mod CopiedZeros

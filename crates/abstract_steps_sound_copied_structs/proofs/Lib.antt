@@ -1,0 +1,2 @@
+pub mod ListedStructs
+mod LostLeaves

@@ -1,0 +1,2 @@
+pub mod StructTables
+pub mod LostLeaves

@@ -1,0 +1,9 @@
+pub mod NearReads
+pub mod Batches
+pub mod AwayCells
+pub mod TargetPlaces
+pub mod Known
+pub mod MadeCells
+pub mod FinishWrites
+pub mod PaddedCells
+pub mod StructPadding
