@@ -1,0 +1,4 @@
+pub mod TableWalks
+pub mod NotedBases
+pub mod EntryBases
+pub mod LoweredStarts

@@ -1,0 +1,7 @@
+//! What an analysis finds holds each pair that a run of a unit violates, where the program begins with what is in the
+//! unit's tables.
+#![tactic(auto)]
+
+mod theorems;
+
+pub use theorems::{lowered_runs_are_sound, unit_runs_are_sound};
