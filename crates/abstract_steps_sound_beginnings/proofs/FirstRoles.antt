@@ -17,7 +17,7 @@ use Rattle.flow_program_machine.specs.FlowStates.{Standing}
 use Rattle.flow_program_machine.specs.FlowStarts.{Names, name_objects, start_names}
 use Rattle.flow_lower_counts.specs.SharedObjects.{literal_type}
 use Rattle.flow_lower.specs.BaseTables.{found_in, known}
-use Rattle.lib_models_memory.specs.Instances.{literal, automatic, Memory, Instance}
+use Rattle.lib_models_memory.specs.Instances.{automatic, Memory, Instance}
 use Rattle.lib_models_effects.specs.NumberedTables.{empty_table}
 use Rattle.lib_models_effects.specs.ObjectEffects.{fresh}
 use Rattle.lib_models_effects.specs.UnitStarts.{base_instance, static_instance, literal_made, entry_parameters}

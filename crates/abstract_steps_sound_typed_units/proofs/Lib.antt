@@ -1,0 +1,2 @@
+pub mod TypedUnits
+pub mod TypedRows

@@ -1,0 +1,3 @@
+pub mod PlainRuns
+pub mod PlainPrograms
+pub mod WorkedProgram

@@ -1,0 +1,2 @@
+pub mod PlainPrograms
+pub mod WorkedPrograms

@@ -1,0 +1,28 @@
+-- A program with which all that the soundness of analyses supposes holds.
+use Rattle.std.specs.Prelude.{◌≡◌, ℤ, true, List}
+use Rattle.std.specs.List.{Contains}
+use Rattle.cc_base.specs.declared.diagnostics.Diag.{Diag}
+use Rattle.c_layout.specs.CheckedUnits.{UnitView}
+use Rattle.flow_program.specs.declared.programs.Flow.{Flow}
+use Rattle.interval_domain.specs.IntervalLattice.{interval_lattice}
+use Rattle.interval_domain.specs.IntervalNumbers.{interval_numbers}
+use Rattle.lib_models_effects.specs.Worlds.{Violation}
+use Rattle.flow_analysis.specs.Analyses.{IsAnalysis}
+use Rattle.abstract_steps_system.specs.FlowMachines.{has_start}
+use Rattle.abstract_steps_laws_programs.specs.RegularPrograms.{is_regular}
+use Rattle.abstract_steps_covered.specs.Covering.{HasTypedRuns}
+use Rattle.abstract_steps_sound_analyses.specs.SoundAnalyses.{Suffices, IsViolatedIn}
+use Rattle.abstract_steps_sound_beginnings.specs.UnitStarts.{StartsAs}
+
+-- all premises but an analysis, which has a start and a regular program
+pub record MeetsAllPremises (flow : Flow) (list : List ℤ) (u : UnitView) : Type 0 where
+  pub regular : is_regular flow list ≡ true
+  pub started : has_start interval_lattice interval_numbers flow ≡ true
+  pub suffices : Suffices flow list
+  pub starts : StartsAs u flow
+  pub typed : HasTypedRuns flow u
+
+-- the pair is violated in a run of the unit, and among what each analysis of the program finds
+pub record IsFoundIn (flow : Flow) (list : List ℤ) (u : UnitView) (v : Violation) : Type 0 where
+  pub violated : IsViolatedIn flow u v
+  pub all : (found : List Diag) → IsAnalysis flow list found → Contains found (record { place = v.at; rule = v.rule })
