@@ -1,4 +1,4 @@
--- Where a span has an offset at which no leaf of a class stands, it has more offsets than there are leaves that it reaches.
+-- Where a span has an offset at which no leaf of a class stands, it has more offsets than the leaves that it reaches.
 use Rattle.std.proofs.Common.{◌≡◌, ℕ, zero, suc, ◌+◌, ◌-◌, ◌*◌, ◌<◌, ◌≤◌, ◌^◌, Bool, true, false, cond, ◌&&◌, ◌||◌, Some, List, [], ◌∷◌, length, arith, subst, sym, refl, ap, ◌∙◌, inl, inr}
 use Rattle.std.specs.Prelude.{slice_get, nat_le, nat_lt, ◌==◌, count_by}
 use Rattle.std.proofs.lemmas.Bool.{cases_eq, cases_lt, and_parts, and_from, le-leb, lt-ltb, eqb-true, or_left, or_right, eq-eqb}

@@ -40,8 +40,8 @@ module _ {I : Type 0} (l : LatticeOf I) (n : IntegersOf I) (stands : I → ℤ �
     pub fits : e.source.first + base_values e.source ≤ length row
     pub zeros : (z : ℕ) (part : ZeroPart) → slice_get e.source.shape.zeros z ≡ Some part → ZeroStands naming old e.source row z part j
 
-  -- where the arrays of a base have their first zeros in a row, they have them behind the copy: those that the window of the
-  -- copied bytes meets take the source's where the copy is exact
+  -- where the arrays of a base have their first zeros in a row, they have them behind the copy: those that the window
+  -- of the copied bytes meets take the source's where the copy is exact
   abbrev pub CopiedZerosStand : Type 0
   CopiedZerosStand = (naming : Naming) (bases : List BaseInfo) (behind : ℕ) → AreLaid bases behind → (old new : Memory) (i to j from size : ℕ) → ComesFrom old new i to j from size → ((h : ℕ) → length (bytes_at old h) ≤ 2 ^ 63)
       → (b : ℕ) (base : BaseInfo) → slice_get bases b ≡ Some base → (w : Window) → ((x : ℕ) → to ≤ x → x < to + size → (w.lo ≤ x) × (x ≤ w.hi)) → (row : List (Cell I)) → base.first + base_values base ≤ length row

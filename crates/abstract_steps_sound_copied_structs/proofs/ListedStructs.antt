@@ -5,7 +5,7 @@ use Rattle.std.specs.List.{list_all}
 use Rattle.std.proofs.lemmas.Bool.{cases_Bool, and_parts, leb-true, leb-false}
 use Rattle.std.proofs.lemmas.Nat.{mul-le}
 use Rattle.std.proofs.lemmas.Option.{slice_get_within, get_or_from_slice_get}
-use Rattle.c_layout.specs.Leaves.{is_short, behind_short, long_count, behind_long, full_count, behind_all, short_count, repeated, of_fields, leaf, plain_unit, plain_leaves, folded_unit, folded_leaves, leaves_of}
+use Rattle.c_layout.specs.Leaves.{is_short, behind_short, long_count, behind_long, full_count, behind_all, short_count, repeated, of_fields, plain_unit, plain_leaves, folded_unit, folded_leaves, leaves_of}
 use Rattle.c_layout.specs.Layout.{size_of_type}
 use Rattle.c_layout.specs.Models.{is_model}
 use Rattle.c_layout.specs.StructViews.{FieldView, StructView, structs_view, no_struct, struct_at}
@@ -143,8 +143,8 @@ module _ (m : Model) (model : is_model m ≡ true) (structs : List StructView) (
   below : (number : ℕ) (x : Leaf) → slice_get leaves number ≡ Some x → number < s.leaves
   below number x e = let a = slice_get_within leaves number x e in let b = h.counted in omega (arith, a, b)
 
-  pub listed : s.leaves ≤ 2 ^ 62 → IsListed m structs index s
-  listed few = record {
+  pub listed : IsListed m structs index s
+  listed = record {
     struct = record {
       small = small;
       plain = λ number x e.
@@ -155,7 +155,6 @@ module _ (m : Model) (model : is_model m ≡ true) (structs : List StructView) (
     };
     numbered = h.numbered;
     counted = h.counted;
-    few = few;
   }
 
 -- ---- the leaves of bases
@@ -202,5 +201,5 @@ meets_structs limits flow h apart numbered =
     let g = well_formed_good limits flow h in
     record {
       few = λ b j base leaf at e. few_of_base flow.model base (all_at (is_shaped flow.model) flow.bases.items b base g.shaped at) j leaf e;
-      listed = λ index s at. let k = numbered index s at in listed flow.model g.model (structs_view flow.structs) apart index s at k.0 k.1;
+      listed = λ index s at. listed flow.model g.model (structs_view flow.structs) apart index s at (numbered index s at);
     }

@@ -1,5 +1,6 @@
--- Why the leaves of a struct by number are asked to be those of its type: in a table whose structs stand in a circle they are not, and the copy
--- loses a member. Checks of units make no such table; the tests of well-formed programs let it pass.
+-- Why the leaves of a struct by number are asked to be those of its type: in a table whose structs stand in a circle
+-- they are not, and the copy loses a member. Checks of units make no such table; the tests of well-formed programs let
+-- it pass.
 use Rattle.std.specs.Prelude.{◌≡◌, ℕ, true, Some, None, List, [], ◌∷◌, slice_get}
 use Rattle.c_layout.specs.Leaves.{leaves_of}
 use Rattle.c_layout.specs.Models.{lp64}

@@ -1,5 +1,5 @@
 -- What the law on copies of structs asks of a program's structs and bases.
-use Rattle.std.specs.Prelude.{◌≡◌, ℕ, ◌≤◌, ◌^◌, true, Some, List, length, slice_get}
+use Rattle.std.specs.Prelude.{◌≡◌, ℕ, true, Some, List, length, slice_get}
 use Rattle.cc_base.specs.declared.limit_table.Limits.{Limits}
 use Rattle.c_layout.specs.Leaves.{leaves_of}
 use Rattle.c_layout.specs.StructViews.{StructView, structs_view}
@@ -23,7 +23,6 @@ pub record IsListed (m : Model) (structs : List StructView) (index : ℕ) (s : S
   pub struct : IsStruct m (leaves_of structs m.pointer (Struct index)) s.size
   pub numbered : (number : ℕ) → slice_get (leaves_of structs m.pointer (Struct index)) number ≡ struct_leaf structs m.pointer index number
   pub counted : s.leaves ≡ length (leaves_of structs m.pointer (Struct index))
-  pub few : s.leaves ≤ 2 ^ 62
 
 pub record HasStructs (flow : Flow) : Type 0 where
   -- the leaves of each base have few places, none of them far off
@@ -33,4 +32,4 @@ pub record HasStructs (flow : Flow) : Type 0 where
 -- well-formed programs whose members stand apart, where the leaves of each struct by number are those of its type
 abbrev pub MeetsStructs : Type 0
 MeetsStructs = (limits : Limits) (flow : Flow) → is_well_formed limits flow ≡ true → are_laid_apart flow.model (structs_view flow.structs) ≡ true
-    → ((index : ℕ) (s : StructView) → slice_get (structs_view flow.structs) index ≡ Some s → IsNumbered flow.model (structs_view flow.structs) index s × (s.leaves ≤ 2 ^ 62)) → HasStructs flow
+    → ((index : ℕ) (s : StructView) → slice_get (structs_view flow.structs) index ≡ Some s → IsNumbered flow.model (structs_view flow.structs) index s) → HasStructs flow

@@ -2,7 +2,8 @@
 ghost use Rattle.abstract_steps_sound_copied_structs.specs.LostLeaves.{LosesLeaf};
 ghost use Rattle.abstract_steps_sound_copied_structs.specs.StructTables.{MeetsStructs};
 
-/// Well-formed programs have such structs where members stand apart and the leaves of each struct by number are those of its type.
+/// Well-formed programs have such structs where members stand apart and the leaves of each struct by number are those
+/// of its type.
 pub fn well_formed_programs_have_structs()
     ensures { MeetsStructs }
 {}

@@ -159,7 +159,7 @@ module _ {flow : Flow} {naming : Naming} {old new : Memory} (k : Copied flow nam
       in_row : (x : CellName) → IsThere flow.model k.source_side.base x → position flow.model k.source_side.base x < length row
       in_row x there = (let a = position_in k k.source_side.b k.source_side.base k.source_side.at x there in let b = a.1 in let d = k.laid.laid.close k.source_side.b k.source_side.base k.source_side.at in omega (arith, b, d, wide))
 
-      -- no leaf that is copied replaces the cell: no byte is of two leaves, and both sides have none in common but at one spot
+      -- no leaf that is copied replaces the cell: no byte is of two leaves, and both sides are one spot or apart
       spare : (d y : ℕ) (x : CellName) → IsThere flow.model k.source_side.base x → OwnedByLeaf flow.model leaf d y → (m : ℕ) → Owns flow.model k.source_side.base x (k.at + d) m → (other : ℕ) (before : Leaf) → 0 ≤ other → other < t → slice_get k.leaves other ≡ Some before → Spares before (position flow.model k.source_side.base x)
       spare d y x there own m owns other before low less g = spared k other k.source_side.b k.source_side.base before g k.source_side.at x there k.j (k.at + d) m live_source owns
           (λ same from owned.

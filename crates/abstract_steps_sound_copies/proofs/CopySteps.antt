@@ -71,6 +71,7 @@ use Rattle.abstract_steps_sound_copied_memory.proofs.CopiedMemory.{copied_byte, 
 use Rattle.abstract_steps_sound_copied_memory.proofs.CopyGoes.{CopyGoes, copy_goes, copies_keep}
 use Rattle.abstract_steps_sound_copied_leaves.proofs.Copies.{Copied, Came, IsSide, route}
 use Rattle.abstract_steps_sound_copied_structs.specs.StructTables.{IsListed, HasStructs}
+use Rattle.abstract_steps_sound_copied_structs.proofs.FewLeaves.{no_more_than_bytes}
 use Rattle.abstract_steps_sound_copies.specs.CopySteps.{IsCopy}
 use Rattle.abstract_steps_sound_copies.proofs.CopyRows.{route_stands}
 
@@ -254,7 +255,7 @@ module _ {I : Type 0} {l : LatticeOf I} {n : IntegersOf I} {stands : I → ℤ �
         }
 
         few_leaves : length leaves ≤ 2 ^ 62
-        few_leaves = let a = listed.few in let b = listed.counted in omega (arith, a, b)
+        few_leaves = let a = no_more_than_bytes flow.model leaves t.size listed.struct in let b = listed.struct.small in omega (arith, a, b)
 
         wide : p.laid.behind ≤ length row
         wide = subst (λ z. p.laid.behind ≤ z) (sym r.long) p.laid.long
