@@ -31,7 +31,7 @@ use Rattle.store_domain_sound_programs.proofs.ShapedBases.{all_at}
 use Rattle.abstract_steps_sound.specs.OperandTypes.{HasOperands}
 use Rattle.abstract_steps_sound.specs.SoundSteps.{AreShort, IsReached, StandsBehind}
 use Rattle.abstract_steps_covered.specs.SoundEnds.{StepsGoOnSoundly, EndsGoOnSoundly}
-use Rattle.abstract_steps_covered.specs.Covering.{rows_behind, row_before, Admits, Begins, Carries, HasTypedRuns}
+use Rattle.abstract_steps_covered.specs.Covering.{rows_behind, row_before, Admits, Begins, Carries, HasTypedRuns, TypesOperands}
 use Rattle.abstract_steps_covered.proofs.AdmittedPairs.{cons_cases, map_admits}
 use Rattle.abstract_steps_covered.proofs.Blocks.{IsAt, is_at, block_facts, goes_or_ends, last_is, get_last}
 use Rattle.abstract_steps_covered.proofs.GoingOn.{go_on}
@@ -61,7 +61,11 @@ module _ {I : Type 0} (l : LatticeOf I) (n : IntegersOf I) (stands : I → ℤ �
   one_behind reached (x ∷ xs) zero i row e h = let d : x ≡ i = cc in ap (λ z. row_behind l n flow z reached) d ∙ ap (row_behind l n flow i) h
   one_behind reached (x ∷ xs) (suc k) i row e h = one_behind (row_behind l n flow x reached) xs k i row e h
 
-  module _ (limits : Limits) (good : is_well_formed limits flow ≡ true) (steps_sound : StepsGoOnSoundly l n stands flow) (ends_sound : EndsGoOnSoundly l n stands flow limits) (u : UnitView) (rows : List (Option (List (Cell I)))) (begins : Begins l n stands flow u rows) (carries : Carries l n stands flow rows) (typed : HasTypedRuns flow u) where
+  -- operands are such as their instructions suppose where a run stands for which the row there does
+  abbrev OperandsAt : UnitView → List (Option (List (Cell I))) → Type 0
+  OperandsAt u rows = (draws : List ℤ) (count : ℕ) (s : Standing) (found : List Violation) → flow_steps f count (flow_begin u f draws) ≡ running s found → (naming : Naming) (row : List (Cell I)) (i : Instruction) → slice_get (instructions_of flow s.block) s.at ≡ Some i → row_before l n flow rows s.block s.at ≡ Some row → StandsFor l n stands flow naming row (state_of s) → HasOperands i.operation s.temps
+
+  module _ (limits : Limits) (good : is_well_formed limits flow ≡ true) (steps_sound : StepsGoOnSoundly l n stands flow) (ends_sound : EndsGoOnSoundly l n stands flow limits) (u : UnitView) (rows : List (Option (List (Cell I)))) (begins : Begins l n stands flow u rows) (carries : Carries l n stands flow rows) (operands_at : OperandsAt u rows) where
     -- what holds where a run stands
     record IsHere (s : Standing) : Type 0 where
       row : List (Cell I)
@@ -198,14 +202,26 @@ module _ {I : Type 0} (l : LatticeOf I) (n : IntegersOf I) (stands : I → ℤ �
     step_at s found run operands (Some i) e = step_is_good s found run operands i (is_at flow s.block s.at i e)
 
     step_run : (draws : List ℤ) (count : ℕ) (r : FlowRun) → flow_steps f count (flow_begin u f draws) ≡ r → IsGood r → IsGood (flow_step f r)
-    step_run draws count (running s found) e run = step_at s found run (λ i h. typed draws count s found i e h) (slice_get (block_of f s.block).steps s.at) refl
+    step_run draws count (running s found) e run = step_at s found run (λ i h. let k = run.here s found refl in operands_at draws count s found e k.naming k.row i h k.before k.stands_for) (slice_get (block_of f s.block).steps s.at) refl
     step_run draws count (stopped why w found) e run = run
 
     steps_good : (draws : List ℤ) (count : ℕ) → IsGood (flow_steps f count (flow_begin u f draws))
     steps_good draws zero = start_good draws
     steps_good draws (suc count) = step_run draws count (flow_steps f count (flow_begin u f draws)) refl (steps_good draws count)
 
-    pub runs_covered : EachRunIsCovered l n stands flow (row_before l n flow rows) (Admits l n flow rows) u
-    runs_covered draws count =
+    good_covered : EachRunIsCovered l n stands flow (row_before l n flow rows) (Admits l n flow rows) u
+    good_covered draws count =
         let r = steps_good draws count in
         record { here = λ s found e. let h = r.here s found e in record { row = h.row; naming = h.naming; before = h.before; stands_for = h.stands_for }; all = r.all }
+
+  module _ (limits : Limits) (good : is_well_formed limits flow ≡ true) (steps_sound : StepsGoOnSoundly l n stands flow) (ends_sound : EndsGoOnSoundly l n stands flow limits) (u : UnitView) (rows : List (Option (List (Cell I)))) (begins : Begins l n stands flow u rows) (carries : Carries l n stands flow rows) where
+    pub runs_covered : HasTypedRuns flow u → EachRunIsCovered l n stands flow (row_before l n flow rows) (Admits l n flow rows) u
+    runs_covered typed = good_covered limits good steps_sound ends_sound u rows begins carries (λ draws count s found e naming row i h before there. typed draws count s found i e h)
+
+    pub runs_covered_by_rows : TypesOperands l n stands flow rows → EachRunIsCovered l n stands flow (row_before l n flow rows) (Admits l n flow rows) u
+    runs_covered_by_rows types = good_covered limits good steps_sound ends_sound u rows begins carries (λ draws count s found e naming row i h before there. types naming row s i h before there)
+
+    pub runs_typed_by_rows : TypesOperands l n stands flow rows → HasTypedRuns flow u
+    runs_typed_by_rows types draws count s found i e h =
+        let there = (runs_covered_by_rows types draws count).here s found e in
+        types there.naming there.row s i h there.before there.stands_for

@@ -20,7 +20,9 @@ use Rattle.flow_program_views.specs.ProgramViews.{flow_view}
 use Rattle.flow_program_machine.specs.FlowStates.{Standing, running}
 use Rattle.flow_program_machine.specs.FlowSteps.{flow_steps}
 use Rattle.flow_program_machine.specs.FlowStarts.{flow_begin}
-use Rattle.store_domain_meaning.specs.Coverage.{EachRunIsCovered}
+use Rattle.store_domain_meaning.specs.Coverage.{state_of, EachRunIsCovered}
+use Rattle.store_domain_meaning.specs.RowMeaning.{StandsFor}
+use Rattle.store_domain_meaning.specs.ValueMeaning.{Naming}
 use Rattle.abstract_steps_sound.specs.OperandTypes.{HasOperands}
 use Rattle.abstract_steps_sound.specs.SoundSteps.{StandsBehind}
 use Rattle.abstract_steps_covered.specs.SoundEnds.{StepsGoOnSoundly, EndsGoOnSoundly}
@@ -56,3 +58,12 @@ module _ {I : Type 0} (l : LatticeOf I) (n : IntegersOf I) (stands : I → ℤ �
   abbrev pub IsCoveredByLaws : Type 0
   IsCoveredByLaws = (limits : Limits) → is_well_formed limits flow ≡ true → StepsGoOnSoundly l n stands flow → EndsGoOnSoundly l n stands flow limits
       → (u : UnitView) (rows : List (Option (List (Cell I)))) → Begins u rows → Carries rows → HasTypedRuns flow u → EachRunIsCovered l n stands flow (row_before l n flow rows) (Admits l n flow rows) u
+
+  -- where the row before an instruction stands for a state, the operands there are such as the instruction supposes
+  abbrev pub TypesOperands : List (Option (List (Cell I))) → Type 0
+  TypesOperands rows = (naming : Naming) (row : List (Cell I)) (s : Standing) (i : Instruction) → slice_get (instructions_of flow s.block) s.at ≡ Some i → row_before l n flow rows s.block s.at ≡ Some row → StandsFor l n stands flow naming row (state_of s) → HasOperands i.operation s.temps
+
+  -- where such a map begins with a run and carries it on, it covers the run, whose operands are of their types
+  abbrev pub IsTypedByRows : Type 0
+  IsTypedByRows = (limits : Limits) → is_well_formed limits flow ≡ true → StepsGoOnSoundly l n stands flow → EndsGoOnSoundly l n stands flow limits
+      → (u : UnitView) (rows : List (Option (List (Cell I)))) → Begins u rows → Carries rows → TypesOperands rows → EachRunIsCovered l n stands flow (row_before l n flow rows) (Admits l n flow rows) u × HasTypedRuns flow u

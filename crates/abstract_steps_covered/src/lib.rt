@@ -3,4 +3,4 @@
 
 mod theorems;
 
-pub use theorems::runs_are_covered;
+pub use theorems::{runs_are_covered, runs_are_typed_by_rows};

@@ -1,7 +1,7 @@
 //! A map from blocks to rows covers each run of a well-formed program: the row before the next instruction stands for the state
 //! there, and what the run has violated is admitted. This is by induction over the steps of a run, from laws on single
 //! instructions, of which some are proved elsewhere and some are open.
-ghost use Rattle.abstract_steps_covered.specs.Covering.{IsCoveredByLaws};
+ghost use Rattle.abstract_steps_covered.specs.Covering.{IsCoveredByLaws, IsTypedByRows};
 ghost use Rattle.flow_program.specs.declared.programs.Flow.{Flow};
 
 use cc_base::IntDomain;
@@ -10,4 +10,10 @@ use cc_base::IntDomain;
 /// operands are of their instructions' types.
 pub fn runs_are_covered<I: IntDomain>()
     ensures { (flow : Flow) → IsCoveredByLaws I.lattice I.numbers I.stands flow }
+{}
+
+/// Where operands are of their instructions' types in each state for which the rows of the map stand, they are so in each run,
+/// and the map covers it.
+pub fn runs_are_typed_by_rows<I: IntDomain>()
+    ensures { (flow : Flow) → IsTypedByRows I.lattice I.numbers I.stands flow }
 {}

@@ -1,1 +1,2 @@
 pub mod SoundAnalyses
+pub mod CheckedAnalyses

@@ -1,5 +1,5 @@
 -- Each inductive map covers each run, so an analysis, which has what all of them admit, holds each pair.
-use Rattle.std.specs.Prelude.{◌≡◌, ◌≤◌, ◌<◌, ◌^◌, ℕ, ℤ, true, List, Option, length}
+use Rattle.std.specs.Prelude.{◌≡◌, ℤ, true, List, Option}
 use Rattle.std.specs.List.{Contains}
 use Rattle.std.proofs.Common.{arith}
 use Rattle.cc_base.specs.InductiveMap.{IsInductive}
@@ -15,7 +15,7 @@ use Rattle.interval_domain_laws.specs.Operations.{interval_monotone, interval_so
 use Rattle.value_domain.specs.declared.row_cells.Cell.{Cell}
 use Rattle.lib_models_effects.specs.Worlds.{Violation}
 use Rattle.store_domain_meaning.specs.Coverage.{EachRunIsCovered}
-use Rattle.store_domain_sound_programs.specs.Premises.{AreHeld}
+use Rattle.store_domain_sound_programs.specs.Premises.{AreHeld, HasPremises}
 use Rattle.store_domain_sound_programs.proofs.WellFormedPremises.{meets_premises}
 use Rattle.abstract_steps_rows.specs.IntervalEnds.{interval_ends}
 use Rattle.abstract_steps_laws_programs.proofs.WellFormed.{laid_out, all_named}
@@ -24,33 +24,52 @@ use Rattle.abstract_steps_laws_programs.proofs.RegularSystems.{regular_rising}
 use Rattle.flow_analysis.specs.Analyses.{row_lattice, machine_of, IsAnalysis}
 use Rattle.abstract_steps_sound_maps.specs.CarriedMaps.{EntryStands}
 use Rattle.abstract_steps_sound_maps.proofs.CarriedMaps.{map_carried, map_begins}
-use Rattle.abstract_steps_covered.specs.Covering.{HasTypedRuns, row_before, Admits}
-use Rattle.abstract_steps_covered.proofs.Covering.{runs_covered}
+use Rattle.abstract_steps_covered.specs.Covering.{Begins, Carries, HasTypedRuns, row_before, Admits}
+use Rattle.abstract_steps_covered.specs.SoundEnds.{StepsGoOnSoundly, EndsGoOnSoundly}
+use Rattle.abstract_steps_covered.proofs.Covering.{runs_covered, runs_typed_by_rows}
+use Rattle.abstract_steps_sound_operands.proofs.TypedMaps.{map_types}
+use Rattle.operand_checks.specs.TypedRows.{is_typed_map}
 use Rattle.abstract_steps_sound_programs.proofs.AllSteps.{steps_go_on, ends_go_on, tests_sound}
-use Rattle.abstract_steps_sound_analyses.specs.SoundAnalyses.{Suffices, IsViolatedIn, HoldsEachPair}
+use Rattle.abstract_steps_sound_analyses.specs.SoundAnalyses.{Suffices, IsViolatedIn}
 
 -- the limits of the product are such as the theorems on the store ask
-standard_held : AreHeld standard_limits
+pub standard_held : AreHeld standard_limits
 standard_held = record { bases = omega (arith); pool = omega (arith) }
 
 module _ (flow : Flow) (list : List ℤ) (found : List Diag) (a : IsAnalysis flow list found) (suffices : Suffices flow list) where
   regular : Regular flow list
   regular = regular_of flow list a.regular
 
-  module _ (u : UnitView) (start : EntryStands interval_lattice interval_numbers Stands flow list u) (typed : HasTypedRuns flow u) where
-    covered : (rows : List (Option (List (Cell Interval)))) → IsInductive row_lattice (machine_of flow list) rows → EachRunIsCovered interval_lattice interval_numbers Stands flow (row_before interval_lattice interval_numbers flow rows) (Admits interval_lattice interval_numbers flow rows) u
-    covered rows closed =
-        let p = meets_premises standard_limits flow standard_held regular.well_formed in
+  p : HasPremises flow
+  p = meets_premises standard_limits flow standard_held regular.well_formed
+
+  steps : StepsGoOnSoundly interval_lattice interval_numbers Stands flow
+  steps = steps_go_on interval_order interval_bounding interval_sound interval_ranges flow p standard_limits regular.well_formed suffices.texts suffices.sites suffices.steps
+
+  ends : EndsGoOnSoundly interval_lattice interval_numbers Stands flow standard_limits
+  ends = ends_go_on interval_order interval_bounding interval_sound interval_ranges flow p standard_limits (tests_sound interval_order interval_bounding interval_sound interval_ranges flow p suffices.tests)
+
+  module _ (rows : List (Option (List (Cell Interval)))) (closed : IsInductive row_lattice (machine_of flow list) rows) where
+    begins : (u : UnitView) → EntryStands interval_lattice interval_numbers Stands flow list u → Begins interval_lattice interval_numbers Stands flow u rows
+    begins u start =
         let laid = laid_out standard_limits flow regular.well_formed (omega (arith)) in
         let named = all_named standard_limits flow regular.well_formed regular.scalars in
-        let rising = regular_rising flow list a.regular in
-        runs_covered _ _ _ flow standard_limits regular.well_formed
-        (steps_go_on interval_order interval_bounding interval_sound interval_ranges flow p standard_limits regular.well_formed suffices.texts suffices.sites suffices.steps)
-        (ends_go_on interval_order interval_bounding interval_sound interval_ranges flow p standard_limits (tests_sound interval_order interval_bounding interval_sound interval_ranges flow p suffices.tests))
-        u rows
-        (map_begins interval_order interval_rounding interval_heights interval_bounding interval_monotone interval_ranges interval_ends flow list regular.near suffices.reaches laid named rising rows closed u start)
-        (map_carried interval_order interval_rounding interval_heights interval_bounding interval_monotone interval_ranges interval_ends flow list regular.near suffices.reaches laid named rising rows closed)
-        typed
+        map_begins interval_order interval_rounding interval_heights interval_bounding interval_monotone interval_ranges interval_ends flow list regular.near suffices.reaches laid named (regular_rising flow list a.regular) rows closed u start
 
-    pub each_pair : (v : Violation) → IsViolatedIn flow u v → Contains found (record { place = v.at; rule = v.rule })
-    each_pair v there = a.kept (record { place = v.at; rule = v.rule }) (λ rows closed. (covered rows closed there.draws there.steps).all v there.there)
+    carried : Carries interval_lattice interval_numbers Stands flow rows
+    carried =
+        let laid = laid_out standard_limits flow regular.well_formed (omega (arith)) in
+        let named = all_named standard_limits flow regular.well_formed regular.scalars in
+        map_carried interval_order interval_rounding interval_heights interval_bounding interval_monotone interval_ranges interval_ends flow list regular.near suffices.reaches laid named (regular_rising flow list a.regular) rows closed
+
+  module _ (u : UnitView) (start : EntryStands interval_lattice interval_numbers Stands flow list u) where
+    -- an inductive map by whose rows operands lie within their types tells that they do so in each run
+    pub typed_runs : (rows : List (Option (List (Cell Interval)))) → IsInductive row_lattice (machine_of flow list) rows → is_typed_map interval_lattice interval_numbers flow rows ≡ true → HasTypedRuns flow u
+    typed_runs rows closed typed = runs_typed_by_rows _ _ _ flow standard_limits regular.well_formed steps ends u rows (begins rows closed u start) (carried rows closed) (map_types interval_bounding flow rows typed)
+
+    module _ (typed : HasTypedRuns flow u) where
+      covered : (rows : List (Option (List (Cell Interval)))) → IsInductive row_lattice (machine_of flow list) rows → EachRunIsCovered interval_lattice interval_numbers Stands flow (row_before interval_lattice interval_numbers flow rows) (Admits interval_lattice interval_numbers flow rows) u
+      covered rows closed = runs_covered _ _ _ flow standard_limits regular.well_formed steps ends u rows (begins rows closed u start) (carried rows closed) typed
+
+      pub each_pair : (v : Violation) → IsViolatedIn flow u v → Contains found (record { place = v.at; rule = v.rule })
+      each_pair v there = a.kept (record { place = v.at; rule = v.rule }) (λ rows closed. (covered rows closed there.draws there.steps).all v there.there)

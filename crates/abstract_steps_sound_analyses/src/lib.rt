@@ -3,4 +3,4 @@
 
 mod theorems;
 
-pub use theorems::analyses_are_sound;
+pub use theorems::{analyses_are_sound, checked_analyses_are_sound};

@@ -35,7 +35,7 @@ use Rattle.lib_models_effects.specs.Accesses.{class_in}
 use Rattle.lib_models_effects.specs.Tests.{object, object_bytes, side_scalar, object_relabelled, is_number, passing, pass_case}
 use Rattle.lib_models_effects.specs.Worlds.{World, Stuck, with_memory}
 use Rattle.flow_program_machine.specs.FlowStates.{Standing, with_instance}
-use Rattle.flow_program_machine.specs.FlowEdges.{in_world, integer_in, matching}
+use Rattle.flow_program_machine.specs.FlowEdges.{in_world, first_signed, integer_in, matching}
 use Rattle.flow_program_views.specs.ProgramViews.{flow_view}
 use Rattle.store_domain_meaning.specs.ValueMeaning.{Naming}
 use Rattle.store_domain_meaning.specs.RowMeaning.{StandsFor}
@@ -145,8 +145,17 @@ module _ {I : Type 0} {l : LatticeOf I} {n : IntegersOf I} {stands : I → ℤ �
           }
 
 module _ {I : Type 0} {l : LatticeOf I} {n : IntegersOf I} {stands : I → ℤ → Type 0} (o : OrderLaws l) (q : BoundLaws l n stands) (flow : Flow) (p : HasPremises flow) (naming : Naming) (row : List (Cell I)) (s : Standing) (r : IsReached l n stands flow naming row s) where
+  -- a case looks at the size and the sign of the type alone
+  same_case : (i : ℕ) (value : ℤ) (w : World) (a k : IntType) → a.bytes ≡ k.bytes → a.signed ≡ k.signed → pass_case flow.model i a value w ≡ pass_case flow.model i k value w
+  same_case i value w a k e f =
+      ap (λ z. pass_case flow.model i (record { bytes = z; signed = a.signed; rank = a.rank }) value w) e
+      ∙ ap (λ z. pass_case flow.model i (record { bytes = k.bytes; signed = z; rank = a.rank }) value w) f
+
   pub case_sound : (value : ℤ) (b : ℕ) → IsCaseObject flow b → IsStoodFor l n stands flow (refine_case l n flow b value row) no_violations (matching (flow_view flow) s value (Some b))
   case_sound value b t = if_some_good l n stands flow (refine_case l n flow b value row) no_violations s r.begun (slice_get flow.bases.items b) (λ base. with_instance s b (λ i. in_world s (pass_case flow.model i (integer_in base) value s.world))) (λ base e.
       if_some_good l n stands flow (refine_case l n flow b value row) no_violations s r.begun (s.bases b) (λ i. in_world s (pass_case flow.model i (integer_in base) value s.world)) (λ i en.
-      let same : t.info ≡ base = same_Some t.info base (sym t.is ∙ e) in
-      case_good o q flow p naming row s r b i (integer_in base) (subst (λ z. IsScalarObject flow b (of.Int (integer_in z))) same t.scalar) en value))
+      let same : base ≡ t.scalar.info = sym (same_Some t.scalar.info base (sym t.scalar.is ∙ e)) in
+      let bytes : base.size ≡ t.kind.bytes = ap (λ z. z.size) same ∙ (t.scalar.size ∙ sym t.scalar.bytes) in
+      let signed : first_signed base.shape.cells ≡ t.kind.signed = ap (λ z. first_signed z.shape.cells) same ∙ (ap first_signed t.scalar.cells ∙ t.scalar.signed) in
+      subst (λ z. IsStoodFor l n stands flow (refine_case l n flow b value row) no_violations (in_world s z)) (sym (same_case i value s.world (integer_in base) t.kind bytes signed))
+      (case_good o q flow p naming row s r b i t.kind t.scalar en value)))

@@ -17,7 +17,6 @@ use Rattle.abstract_steps.specs.Refinements.{named_by}
 use Rattle.lib_models_memory.specs.ScalarSizes.{class_bytes}
 use Rattle.lib_models_effects.specs.Accesses.{class_in}
 use Rattle.lib_models_effects.specs.Tests.{scalar_size}
-use Rattle.flow_program_machine.specs.FlowEdges.{integer_in}
 use Rattle.store_domain_sound.specs.Scalars.{signed_in}
 use Rattle.store_domain_sound_programs.specs.Premises.{HasPremises}
 use Rattle.abstract_steps_sound_edges.specs.EdgeSteps.{TestIsSound, CaseIsSound}
@@ -41,11 +40,10 @@ NamesScalar flow (side.Object b kind) = IsScalarObject flow b kind
 NamesScalar flow (side.Number z) = is_number z ≡ true
 NamesScalar flow side.Null = Unit {0}
 
--- an object that is switched on: one integer of its own type
+-- an object that is switched on: one integer, of whatever rank
 pub record IsCaseObject (flow : Flow) (b : ℕ) : Type 0 where
-  pub info : BaseInfo
-  pub is : slice_get flow.bases.items b ≡ Some info
-  pub scalar : IsScalarObject flow b (of.Int (integer_in info))
+  pub kind : IntType
+  pub scalar : IsScalarObject flow b (of.Int kind)
 
 -- a test on integers of two sides, of which both are scalars
 pub record IsIntegerTest (flow : Flow) (test : Test) : Type 0 where

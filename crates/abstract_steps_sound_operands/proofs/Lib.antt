@@ -1,0 +1,2 @@
+pub mod TypedOperands
+pub mod TypedMaps

@@ -1,0 +1,5 @@
+pub mod Instructions
+pub mod Sites
+pub mod SpelledTexts
+pub mod ScalarTests
+pub mod OpenSteps

@@ -1,0 +1,4 @@
+pub mod Sites
+pub mod SpelledTexts
+pub mod ScalarTests
+pub mod SoundParts
