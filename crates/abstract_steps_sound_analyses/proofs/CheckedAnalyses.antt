@@ -16,7 +16,6 @@ use Rattle.store_domain_sound_programs.proofs.WellFormedPremises.{meets_premises
 use Rattle.abstract_steps_laws_programs.specs.RegularPrograms.{has_scalars, has_initial_bytes, has_apart_members, is_near_list}
 use Rattle.abstract_steps_laws_programs.proofs.RegularPrograms.{regular_of}
 use Rattle.flow_analysis.specs.Analyses.{IsAnalysis}
-use Rattle.abstract_steps_sound_parts.specs.SoundParts.{CopiesAreSound}
 use Rattle.abstract_steps_sound_parts.proofs.Sites.{sites_there}
 use Rattle.abstract_steps_sound_parts.proofs.SpelledTexts.{texts_over}
 use Rattle.abstract_steps_sound_parts.proofs.ScalarTests.{kinds_proved}
@@ -25,7 +24,7 @@ use Rattle.abstract_steps_sound_analyses.specs.SoundAnalyses.{Suffices}
 use Rattle.abstract_steps_sound_analyses.specs.CheckedAnalyses.{IsChecked, FindsEachPair}
 use Rattle.abstract_steps_sound_analyses.proofs.SoundAnalyses.{standard_held, typed_runs, each_pair}
 
-module _ (flow : Flow) (list : List ℤ) (found : List Diag) (a : IsAnalysis flow list found) (checked : IsChecked flow list) (copies : CopiesAreSound interval_lattice interval_numbers Stands flow) where
+module _ (flow : Flow) (list : List ℤ) (found : List Diag) (a : IsAnalysis flow list found) (checked : IsChecked flow list) where
   suffices : Suffices flow list
   suffices =
       let regular = regular_of flow list a.regular in
@@ -39,11 +38,12 @@ module _ (flow : Flow) (list : List ℤ) (found : List Diag) (a : IsAnalysis flo
         reaches = checked.reaches;
         texts = texts_over flow p b.0 t.0;
         sites = sites_there flow s.0;
-        steps = open_sound interval_lattice interval_numbers Stands flow e.0 copies;
+        copies = checked.copies;
+        steps = open_sound interval_lattice interval_numbers Stands flow e.0;
         tests = λ number x is. inl (kinds_proved flow t.1 number x is);
       }
 
 pub finds_each_pair : (flow : Flow) (list : List ℤ) (found : List Diag) → IsAnalysis flow list found → IsChecked flow list → FindsEachPair flow list found
-finds_each_pair flow list found a checked copies u start v there =
-    let enough = suffices flow list found a checked copies in
+finds_each_pair flow list found a checked u start v there =
+    let enough = suffices flow list found a checked in
     each_pair flow list found a enough u start (typed_runs flow list found a enough u start checked.rows checked.inductive checked.typed) v there

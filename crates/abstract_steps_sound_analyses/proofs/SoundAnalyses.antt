@@ -28,7 +28,7 @@ use Rattle.abstract_steps_covered.specs.Covering.{Begins, Carries, HasTypedRuns,
 use Rattle.abstract_steps_covered.specs.SoundEnds.{StepsGoOnSoundly, EndsGoOnSoundly}
 use Rattle.abstract_steps_covered.proofs.Covering.{runs_covered, runs_typed_by_rows}
 use Rattle.abstract_steps_sound_operands.proofs.TypedMaps.{map_types}
-use Rattle.operand_checks.specs.TypedRows.{is_typed_map}
+use Rattle.rule_checks_operands.specs.TypedRows.{is_typed_map}
 use Rattle.abstract_steps_sound_programs.proofs.AllSteps.{steps_go_on, ends_go_on, tests_sound}
 use Rattle.abstract_steps_sound_analyses.specs.SoundAnalyses.{Suffices, IsViolatedIn}
 
@@ -44,7 +44,7 @@ module _ (flow : Flow) (list : List ℤ) (found : List Diag) (a : IsAnalysis flo
   p = meets_premises standard_limits flow standard_held regular.well_formed
 
   steps : StepsGoOnSoundly interval_lattice interval_numbers Stands flow
-  steps = steps_go_on interval_order interval_bounding interval_sound interval_ranges flow p standard_limits regular.well_formed suffices.texts suffices.sites suffices.steps
+  steps = steps_go_on interval_order interval_bounding interval_sound interval_ranges flow p standard_limits regular.well_formed suffices.texts suffices.sites suffices.copies suffices.steps
 
   ends : EndsGoOnSoundly interval_lattice interval_numbers Stands flow standard_limits
   ends = ends_go_on interval_order interval_bounding interval_sound interval_ranges flow p standard_limits (tests_sound interval_order interval_bounding interval_sound interval_ranges flow p suffices.tests)

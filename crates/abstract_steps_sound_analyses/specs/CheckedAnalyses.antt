@@ -11,12 +11,12 @@ use Rattle.interval_domain.specs.IntervalLattice.{interval_lattice}
 use Rattle.interval_domain.specs.IntervalNumbers.{interval_numbers}
 use Rattle.interval_domain.specs.declared.intervals.Interval.{Interval}
 use Rattle.value_domain.specs.declared.row_cells.Cell.{Cell}
-use Rattle.operand_checks.specs.TypedRows.{is_typed_map}
+use Rattle.rule_checks_operands.specs.TypedRows.{is_typed_map}
 use Rattle.lib_models_effects.specs.Worlds.{Violation}
 use Rattle.flow_analysis.specs.Analyses.{row_lattice, machine_of}
 use Rattle.abstract_steps_laws_own_rows.specs.OwnLists.{ReachesTypes}
 use Rattle.abstract_steps_sound_maps.specs.CarriedMaps.{EntryStands}
-use Rattle.abstract_steps_sound_parts.specs.SoundParts.{CopiesAreSound}
+use Rattle.abstract_steps_sound_programs.specs.OpenSteps.{CopiesListed}
 use Rattle.abstract_steps_sound_analyses.specs.SoundAnalyses.{IsViolatedIn}
 
 -- what a computation decides: the parts of the program are such as the theorems on them ask, the list goes as far down as the
@@ -24,12 +24,13 @@ use Rattle.abstract_steps_sound_analyses.specs.SoundAnalyses.{IsViolatedIn}
 pub record IsChecked (flow : Flow) (list : List ℤ) : Type 0 where
   pub parts : has_sound_parts flow ≡ true
   pub reaches : ReachesTypes list
+  pub copies : CopiesListed flow
   pub rows : List (Option (List (Cell Interval)))
   pub inductive : IsInductive row_lattice (machine_of flow list) rows
   pub typed : is_typed_map interval_lattice interval_numbers flow rows ≡ true
 
--- each pair that a run of a unit by this program violates is found, where the analysis is sound on copies of structs and the row
--- of the entry stands for the start of the unit
+-- each pair that a run of a unit by this program violates is found, where the row of the entry stands for the start of
+-- the unit
 abbrev pub FindsEachPair : Flow → List ℤ → List Diag → Type 0
-FindsEachPair flow list found = CopiesAreSound interval_lattice interval_numbers Stands flow → (u : UnitView) → EntryStands interval_lattice interval_numbers Stands flow list u
+FindsEachPair flow list found = (u : UnitView) → EntryStands interval_lattice interval_numbers Stands flow list u
     → (v : Violation) → IsViolatedIn flow u v → Contains found (record { place = v.at; rule = v.rule })

@@ -17,13 +17,14 @@ use Rattle.abstract_steps_sound.specs.SoundSteps.{AreSound}
 use Rattle.abstract_steps_sound_maps.specs.CarriedMaps.{EntryStands}
 use Rattle.abstract_steps_covered.specs.Covering.{HasTypedRuns}
 use Rattle.abstract_steps_covered.specs.SoundEnds.{IsDoneIn}
-use Rattle.abstract_steps_sound_programs.specs.OpenSteps.{IsOpenStep, SpellsOverCharacters, AllocatesAtSites, OpenTestsAreSound}
+use Rattle.abstract_steps_sound_programs.specs.OpenSteps.{IsOpenStep, SpellsOverCharacters, AllocatesAtSites, CopiesListed, OpenTestsAreSound}
 
--- what is not proved of lowered programs, or of instructions, yet
+-- what is not proved of lowered programs yet
 pub record Suffices (flow : Flow) (list : List ℤ) : Type 0 where
   pub reaches : ReachesTypes list
   pub texts : SpellsOverCharacters flow
   pub sites : AllocatesAtSites flow
+  pub copies : CopiesListed flow
   pub steps : AreSound interval_lattice interval_numbers Stands flow (λ o. IsOpenStep o × IsDoneIn flow o)
   pub tests : OpenTestsAreSound interval_lattice interval_numbers Stands flow
 

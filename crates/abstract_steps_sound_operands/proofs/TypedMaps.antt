@@ -9,7 +9,7 @@ use Rattle.flow_program.specs.declared.machine_instructions.Instruction.{Instruc
 use Rattle.flow_program.specs.declared.programs.Flow.{Flow}
 use Rattle.value_domain.specs.declared.row_cells.Cell.{Cell}
 use Rattle.rule_checks.specs.AdmittedRules.{instructions_of, row_behind}
-use Rattle.operand_checks.specs.TypedRows.{has_operands, is_typed_at, are_typed_from, are_typed, is_typed_block, is_typed_entry, are_typed_rows, is_typed_map}
+use Rattle.rule_checks_operands.specs.TypedRows.{has_operands, is_typed_at, are_typed_from, are_typed, is_typed_block, is_typed_entry, are_typed_rows, is_typed_map}
 use Rattle.store_domain_meaning.specs.Coverage.{state_of}
 use Rattle.abstract_steps_covered.specs.Covering.{rows_behind, row_before, TypesOperands}
 use Rattle.abstract_steps_covered.proofs.AdmittedPairs.{none_behind}

@@ -23,7 +23,7 @@ use Rattle.value_domain.specs.declared.row_cells.Cell.{Cell}
 use Rattle.value_domain.specs.declared.values.Value.{Value}
 use Rattle.value_domain_laws.proofs.BaseChanges.{has_none}
 use Rattle.abstract_steps_checks.specs.Temporaries.{temp_value}
-use Rattle.operand_checks.specs.TypedRows.{is_natural, is_of_kind, is_size_in, has_third_size, takes_size, has_operands}
+use Rattle.rule_checks_operands.specs.TypedRows.{is_natural, is_of_kind, is_size_in, has_third_size, takes_size, has_operands}
 use Rattle.lib_models_memory.specs.Bytes.{MachinePointer, null, into}
 use Rattle.lib_models_memory.specs.Instances.{Memory, Life, live, ended, freed, life_at}
 use Rattle.lib_models_memory.specs.Scalars.{Scalar, integer, pointer}

@@ -8,7 +8,7 @@ use Rattle.flow_program.specs.WellFormed.{is_well_formed}
 use Rattle.flow_program.specs.declared.machine_instructions.Operation.{Operation}
 use Rattle.flow_program.specs.declared.programs.Flow.{Flow}
 use Rattle.value_domain.specs.declared.row_cells.Cell.{Cell}
-use Rattle.operand_checks.specs.TypedRows.{has_operands, is_typed_map}
+use Rattle.rule_checks_operands.specs.TypedRows.{has_operands, is_typed_map}
 use Rattle.store_domain_meaning.specs.ValueMeaning.{Naming}
 use Rattle.store_domain_meaning.specs.RowMeaning.{MachineState, StandsFor}
 use Rattle.store_domain_meaning.specs.Coverage.{EachRunIsCovered}

@@ -1,4 +1,4 @@
--- Where each call of `fgets` ends its block, the analysis is sound on what is open if it is on copies of structs.
+-- Where each call of `fgets` ends its block, no instruction of the program is open.
 use Rattle.std.proofs.Common.{◌≡◌, true, not, sym}
 use Rattle.std.specs.Prelude.{ℤ}
 use Rattle.std.proofs.lemmas.Bool.{true≢false}
@@ -13,18 +13,16 @@ use Rattle.flow_program_objects.specs.Sites.{is_fgets, reads_no_line, ends_with_
 use Rattle.abstract_steps_sound.specs.SoundSteps.{AreSound}
 use Rattle.abstract_steps_covered.specs.SoundEnds.{IsDoneIn}
 use Rattle.abstract_steps_sound_programs.specs.OpenSteps.{IsOpenCall, IsOpenStep}
-use Rattle.abstract_steps_sound_parts.specs.SoundParts.{IsCopy, CopiesAreSound}
 use Rattle.abstract_steps_sound_parts.proofs.Instructions.{done_in}
 
 not_open : (name : LibFn) → not (is_fgets name) ≡ true → IsOpenCall name → ⊥
 not_open f.Fgets h c = true≢false (sym h)
 not_open _ h c = absurd c
 
-copy_is : (flow : Flow) → ends_with_lines flow ≡ true → (o : Operation) → IsDoneIn flow o → IsOpenStep o → IsCopy o
-copy_is flow h (op.Copy to from index) d c = tt
-copy_is flow h (op.Library to name arguments site size) d c = absurd (not_open name (done_in flow reads_no_line h (op.Library to name arguments site size) d) c)
-copy_is flow h _ d c = absurd c
+none_open : (flow : Flow) → ends_with_lines flow ≡ true → (o : Operation) → IsDoneIn flow o → IsOpenStep o → ⊥
+none_open flow h (op.Library to name arguments site size) d c = not_open name (done_in flow reads_no_line h (op.Library to name arguments site size) d) c
+none_open flow h _ d c = absurd c
 
 module _ {I : Type 0} (l : LatticeOf I) (n : IntegersOf I) (stands : I → ℤ → Type 0) (flow : Flow) where
-  pub open_sound : ends_with_lines flow ≡ true → CopiesAreSound l n stands flow → AreSound l n stands flow (λ o. IsOpenStep o × IsDoneIn flow o)
-  open_sound h copies naming row s o goes fits typed reached = copies naming row s o (copy_is flow h o goes.1 goes.0, goes.1) fits typed reached
+  pub open_sound : ends_with_lines flow ≡ true → AreSound l n stands flow (λ o. IsOpenStep o × IsDoneIn flow o)
+  open_sound h naming row s o goes fits typed reached = absurd (none_open flow h o goes.1 goes.0)

@@ -24,15 +24,7 @@ TextsLieOverCharacters flow = HasPremises flow → has_scalars flow ≡ true →
 abbrev pub TestsAreProved : Flow → Type 0
 TestsAreProved flow = all_follow_scalars flow ≡ true → (number : ℕ) (e : Edge) → slice_get flow.edges.items number ≡ Some e → KindIsProved flow e.kind
 
--- the one instruction on which it is open that the analysis is sound
-abbrev pub IsCopy : Operation → Type 0
-IsCopy (op.Copy to from index) = Unit {0}
-IsCopy _ = ⊥
-
 module _ {I : Type 0} (l : LatticeOf I) (n : IntegersOf I) (stands : I → ℤ → Type 0) (flow : Flow) where
-  abbrev pub CopiesAreSound : Type 0
-  CopiesAreSound = AreSound l n stands flow (λ o. IsCopy o × IsDoneIn flow o)
-
-  -- where each call of `fgets` ends its block, copies alone are open
-  abbrev pub OnlyCopiesAreOpen : Type 0
-  OnlyCopiesAreOpen = ends_with_lines flow ≡ true → CopiesAreSound → AreSound l n stands flow (λ o. IsOpenStep o × IsDoneIn flow o)
+  -- where each call of `fgets` ends its block, the analysis is sound on all instructions of the program
+  abbrev pub NoStepIsOpen : Type 0
+  NoStepIsOpen = ends_with_lines flow ≡ true → AreSound l n stands flow (λ o. IsOpenStep o × IsDoneIn flow o)

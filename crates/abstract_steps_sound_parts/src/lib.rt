@@ -4,5 +4,5 @@
 mod theorems;
 
 pub use theorems::{
-    calls_have_sites, only_copies_are_open, tests_are_proved, texts_lie_over_characters,
+    calls_have_sites, no_step_is_open, tests_are_proved, texts_lie_over_characters,
 };

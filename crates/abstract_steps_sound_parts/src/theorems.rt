@@ -1,6 +1,6 @@
 //! Premises on programs that a computation decides.
 ghost use Rattle.flow_program.specs.declared.programs.Flow.{Flow};
-ghost use Rattle.abstract_steps_sound_parts.specs.SoundParts.{CallsHaveSites, TextsLieOverCharacters, TestsAreProved, OnlyCopiesAreOpen};
+ghost use Rattle.abstract_steps_sound_parts.specs.SoundParts.{CallsHaveSites, TextsLieOverCharacters, TestsAreProved, NoStepIsOpen};
 
 use cc_base::IntDomain;
 
@@ -19,8 +19,7 @@ pub fn tests_are_proved()
     ensures { (flow : Flow) → TestsAreProved flow }
 {}
 
-/// Where each call of `fgets` ends its block, the analysis is sound on all instructions of the program if it is on copies of
-/// structs.
-pub fn only_copies_are_open<I: IntDomain>()
-    ensures { (flow : Flow) → OnlyCopiesAreOpen I.lattice I.numbers I.stands flow }
+/// Where each call of `fgets` ends its block, the analysis is sound on all instructions of the program.
+pub fn no_step_is_open<I: IntDomain>()
+    ensures { (flow : Flow) → NoStepIsOpen I.lattice I.numbers I.stands flow }
 {}

@@ -32,6 +32,7 @@ use Rattle.abstract_steps_sound_prints.proofs.PrintCalls.{print_call_sound}
 use Rattle.abstract_steps_sound_frees.proofs.FreeCalls.{free_call_sound}
 use Rattle.abstract_steps_sound_texts.proofs.TextSteps.{text_call_sound}
 use Rattle.abstract_steps_sound_fills.proofs.FillSteps.{fill_call_sound}
+use Rattle.abstract_steps_sound_copies.proofs.CopySteps.{copy_sound}
 use Rattle.abstract_steps_sound_moves.proofs.CopySteps.{copy_call_sound}
 use Rattle.abstract_steps_sound_bounded_texts.proofs.BoundedSteps.{bounded_call_sound}
 use Rattle.abstract_steps_sound_appends.proofs.ApartTexts.{well_formed_apart}
@@ -47,10 +48,10 @@ use Rattle.abstract_steps_sound_tests.proofs.IntegerTests.{test_sound}
 use Rattle.abstract_steps_sound_tests.proofs.PointerTests.{pointer_test_sound}
 use Rattle.abstract_steps_sound_tests.proofs.NullTests.{null_test_sound}
 use Rattle.abstract_steps_sound_tests.proofs.CaseSteps.{case_sound}
-use Rattle.abstract_steps_sound_programs.specs.OpenSteps.{IsOpenStep, SpellsOverCharacters, AllocatesAtSites, TestIsProved, CaseIsProved, KindIsProved, OpenTestsAreSound}
+use Rattle.abstract_steps_sound_programs.specs.OpenSteps.{IsOpenStep, SpellsOverCharacters, AllocatesAtSites, CopiesListed, TestIsProved, CaseIsProved, KindIsProved, OpenTestsAreSound}
 
 module _ {I : Type 0} {l : LatticeOf I} {n : IntegersOf I} {stands : I → ℤ → Type 0} (o : OrderLaws l) (q : BoundLaws l n stands) (c : SoundLaws l n stands) (ranges : RangeLaws l n) (flow : Flow) (p : HasPremises flow) where
-  module _ (limits : Limits) (good : is_well_formed limits flow ≡ true) (texts : SpellsOverCharacters flow) (sites : AllocatesAtSites flow) (open_sound : AreSound l n stands flow (λ o. IsOpenStep o × IsDoneIn flow o)) where
+  module _ (limits : Limits) (good : is_well_formed limits flow ≡ true) (texts : SpellsOverCharacters flow) (sites : AllocatesAtSites flow) (copies : CopiesListed flow) (open_sound : AreSound l n stands flow (λ o. IsOpenStep o × IsDoneIn flow o)) where
     pub steps_go_on : StepsGoOnSoundly l n stands flow
     steps_go_on naming row s i goes fits typed r = by_operation i goes.0 goes.1 fits typed
       where
@@ -101,7 +102,7 @@ module _ {I : Type 0} {l : LatticeOf I} {n : IntegersOf I} {stands : I → ℤ �
         by_operation (op.Load to from kind) h d f t = load_sound o q c flow p naming row s r to from kind f
         by_operation (op.Store to from kind kept) h d f t = store_sound o q c ranges flow p naming row s r to from kind kept f
         by_operation (op.Forget base) h d f t = forget_sound q flow p naming row s r base f
-        by_operation (op.Copy to from index) h d f t = open_sound naming row s (op.Copy to from index) (tt, d) f t r
+        by_operation (op.Copy to from index) h d f t = copy_sound o q c ranges flow p (copies to from index d) naming row s r to from index f
         by_operation (op.Library to name arguments site size) h d f t = by_name to name arguments site size d f t
         by_operation (op.Enter base) h d f t = enter_sound q flow p naming row s r base f
         by_operation (op.Leave base) h d f t = leave_sound flow p naming row s r base f

@@ -21,6 +21,7 @@ use Rattle.abstract_steps_sound.specs.SoundSteps.{AreSound}
 use Rattle.abstract_steps_sound_allocations.specs.AllocationCalls.{Allocates}
 use Rattle.abstract_steps_sound_reallocations.specs.ReallocationCalls.{Reallocates}
 use Rattle.abstract_steps_sound_spelling.specs.SpellSteps.{SpellsBytes}
+use Rattle.abstract_steps_sound_copied_structs.specs.StructTables.{HasStructs}
 use Rattle.abstract_steps_covered.specs.SoundEnds.{IsDoneIn}
 use Rattle.abstract_steps_covered.specs.Covering.{Begins, Carries, HasTypedRuns, row_before, Admits}
 use Rattle.abstract_steps_sound_edges.specs.EdgeSteps.{KindIsSound}
@@ -31,9 +32,7 @@ abbrev pub IsOpenCall : LibFn → Type 0
 IsOpenCall f.Fgets = Unit {0}
 IsOpenCall _ = ⊥
 
--- copies of structs, and these calls
 abbrev pub IsOpenStep : Operation → Type 0
-IsOpenStep (op.Copy to from index) = Unit {0}
 IsOpenStep (op.Library to name arguments site size) = IsOpenCall name
 IsOpenStep _ = ⊥
 
@@ -44,6 +43,10 @@ SpellsOverCharacters flow = (base offset room : ℕ) (text : List ℕ) → IsDon
 -- each call that allocates has a site
 abbrev pub AllocatesAtSites : Flow → Type 0
 AllocatesAtSites flow = (to : Option ℕ) (name : LibFn) (arguments : _) (size : Option ℕ) → IsDoneIn flow (op.Library to name arguments None size) → Allocates name ⊎ Reallocates name → ⊥
+
+-- where a struct is copied, the leaves of each struct by number are those of its type, and share no bytes
+abbrev pub CopiesListed : Flow → Type 0
+CopiesListed flow = (to from index : ℕ) → IsDoneIn flow (op.Copy to from index) → HasStructs flow
 
 -- tests of integers of two objects or numbers, tests of pointers, and cases of an integer object
 abbrev pub TestIsProved : Flow → Option Test → Type 0
@@ -66,5 +69,5 @@ module _ {I : Type 0} (l : LatticeOf I) (n : IntegersOf I) (stands : I → ℤ �
 
   -- where the analysis is sound on what is open and the program does, each run is covered by a map that begins with it and carries it on
   abbrev pub CoversButForOpenSteps : Type 0
-  CoversButForOpenSteps = (limits : Limits) → AreHeld limits → is_well_formed limits flow ≡ true → SpellsOverCharacters flow → AllocatesAtSites flow → AreSound l n stands flow (λ o. IsOpenStep o × IsDoneIn flow o) → OpenTestsAreSound
+  CoversButForOpenSteps = (limits : Limits) → AreHeld limits → is_well_formed limits flow ≡ true → SpellsOverCharacters flow → AllocatesAtSites flow → CopiesListed flow → AreSound l n stands flow (λ o. IsOpenStep o × IsDoneIn flow o) → OpenTestsAreSound
       → (u : UnitView) (rows : List (Option (List (Cell I)))) → Begins l n stands flow u rows → Carries l n stands flow rows → HasTypedRuns flow u → EachRunIsCovered l n stands flow (row_before l n flow rows) (Admits l n flow rows) u

@@ -7,8 +7,9 @@ ghost use Rattle.abstract_steps_sound_programs.specs.OpenSteps.{CoversButForOpen
 
 use cc_base::IntDomain;
 
-/// Open are copies of structs; each text that the program spells is asked to lie over characters, and each call that allocates to
-/// have a site.
+/// Open is `fgets` as any other call, which no program has; each text that the program spells is asked to lie over
+/// characters, each call that allocates to have a site, and a program that copies a struct to have the leaves of each
+/// struct by number as its type has them.
 pub fn runs_are_covered_but_for_open_steps<I: IntDomain>()
     ensures { (flow : Flow) → SoundLaws I.lattice I.numbers I.stands → CoversButForOpenSteps I.lattice I.numbers I.stands flow }
 {}

@@ -25,3 +25,14 @@ HoldsPairsOfUnits flow found = (u : UnitView) → StartsAs u flow → HoldsPairs
 -- of the unit whose program it is, where the unit's initializers are typed and its entry takes integers
 abbrev pub HoldsPairsOfLowered : Flow → List Diag → Type 0
 HoldsPairsOfLowered flow found = (u : UnitView) (limits : Limits) → IsLowering u limits (flow_view flow) → HasTypedInitializers u → HasIntegerParameters u → HoldsPairsOf flow found u
+
+-- ---- where what is supposed of the program and of its operands is decided by a computation
+
+abbrev pub FindsPairsOf : Flow → List Diag → UnitView → Type 0
+FindsPairsOf flow found u = (v : Violation) → IsViolatedIn flow u v → Contains found (record { place = v.at; rule = v.rule })
+
+abbrev pub FindsPairsOfUnits : Flow → List Diag → Type 0
+FindsPairsOfUnits flow found = (u : UnitView) → StartsAs u flow → FindsPairsOf flow found u
+
+abbrev pub FindsPairsOfLowered : Flow → List Diag → Type 0
+FindsPairsOfLowered flow found = (u : UnitView) (limits : Limits) → IsLowering u limits (flow_view flow) → HasTypedInitializers u → HasIntegerParameters u → FindsPairsOf flow found u

@@ -4,4 +4,7 @@
 
 mod theorems;
 
-pub use theorems::{lowered_runs_are_sound, unit_runs_are_sound};
+pub use theorems::{
+    checked_lowered_runs_are_sound, checked_unit_runs_are_sound, lowered_runs_are_sound,
+    unit_runs_are_sound,
+};

@@ -27,7 +27,6 @@ module _ (size : ℕ) (flow : Flow) (plain : is_plain_program size flow ≡ true
   no_open_call _ h is = absurd h
 
   no_open_step : (o : Operation) → IsOpenStep o → is_plain size o ≡ true → ⊥
-  no_open_step (op.Copy to from index) h is = cc
   no_open_step (op.Library to function arguments site wanted) h is =
       let a = and_parts (is_malloc function && is_some site) (is_beside size to && list_all (λ t. t == size) arguments.items) is in
       no_open_call function h (and_parts (is_malloc function) (is_some site) a.0).0
@@ -51,11 +50,15 @@ module _ (size : ℕ) (flow : Flow) (plain : is_plain_program size flow ≡ true
   no_spell : (base offset room : ℕ) (text : List ℕ) → is_plain size (op.Spell base offset room text) ≡ true → ⊥
   no_spell base offset room text is = cc
 
+  no_copy : (to from index : ℕ) → is_plain size (op.Copy to from index) ≡ true → ⊥
+  no_copy to from index is = cc
+
   pub plain_suffices : (list : List ℤ) → ReachesTypes list → Suffices flow list
   plain_suffices list reaches = record {
     reaches = reaches;
     texts = λ base offset room text d. absurd (no_spell base offset room text (done_plain (op.Spell base offset room text) d));
     sites = λ to name arguments wanted d allocates. no_site name to arguments wanted (done_plain (op.Library to name arguments None wanted) d);
+    copies = λ to from index d. absurd (no_copy to from index (done_plain (op.Copy to from index) d));
     steps = λ naming row s o is fits operands reached. absurd (no_open_step o is.0 (done_plain o is.1));
     tests = λ number e at. inl (edge_proved e.kind (all_at (λ x. is_plain_edge x.kind) flow.edges.items number e (parts size flow plain).1 at));
   }

@@ -1,5 +1,5 @@
 pub mod CopiedLists
 mod MovedStandings
 mod MovedEdges
-mod SameSteps
-mod LinkedPrograms
+pub mod SameSteps
+pub mod LinkedPrograms

@@ -1,5 +1,0 @@
-use Rattle.abstract_steps_sound_parts.proofs.OpenSteps.{open_sound}
-use Rattle.abstract_steps_sound_parts.proofs.theorems.only_copies_are_open.Goals as goal
-
-pub returns : goal.returns
-returns g c = λ flow lines copies naming row s o goes fits typed reached. open_sound _ _ _ flow lines copies naming row s o goes fits typed reached
