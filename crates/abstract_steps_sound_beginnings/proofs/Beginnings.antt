@@ -50,11 +50,12 @@ use Rattle.abstract_steps_sound_starts.proofs.StaticBytes.{bytes_are_stored}
 use Rattle.abstract_steps_sound_beginnings.specs.TypedInitializers.{IsTypedValue, type_tag, AreTypedStores}
 use Rattle.abstract_steps_sound_beginnings.specs.UnitStarts.{IsBaseOf, StartsAs}
 use Rattle.abstract_steps_sound_beginnings.specs.Beginnings.{RunsBegin}
-use Rattle.abstract_steps_sound_beginnings.proofs.Positions.{base_of, IsObjectAt, IsLiteralAt}
-use Rattle.abstract_steps_sound_beginnings.proofs.StartBytes.{input_at}
-use Rattle.abstract_steps_sound_beginnings.proofs.FirstMemory.{IsFirst, front, run_first}
+use Rattle.abstract_steps_sound_first_memory.proofs.Positions.{base_of, IsObjectAt, IsLiteralAt}
+use Rattle.abstract_steps_sound_first_memory.proofs.StartBytes.{input_at}
+use Rattle.abstract_steps_sound_first_memory.specs.FirstStates.{front, IsFirst}
+use Rattle.abstract_steps_sound_first_memory.proofs.FirstMemory.{run_first}
 use Rattle.abstract_steps_sound_beginnings.proofs.FirstRoles as roles
-use Rattle.abstract_steps_sound_beginnings.proofs.WellStarted.{WellStarted, well_started, are_bytes, IsAimed, aimed}
+use Rattle.abstract_steps_sound_first_memory.proofs.WellStarted.{WellStarted, well_started, are_bytes, IsAimed, aimed}
 use Rattle.abstract_steps_sound_beginnings.proofs.FirstSanity as sanity
 
 -- the one leaf of an integer

@@ -24,10 +24,10 @@ use Rattle.lib_models_effects.specs.UnitStarts.{base_instance, static_instance, 
 use Rattle.store_domain_meaning.specs.ValueMeaning.{Naming}
 use Rattle.store_domain_sound.proofs.Slices.{get_left, get_right, get_there, get_map}
 use Rattle.abstract_steps_sound_beginnings.specs.UnitStarts.{IsBaseOf, StartsAs}
-use Rattle.abstract_steps_sound_beginnings.proofs.Positions.{none_some, IsObjectAt, IsLiteralAt, items_long, item_at, item_instance}
-use Rattle.abstract_steps_sound_beginnings.proofs.StartBytes.{input_bytes}
-use Rattle.abstract_steps_sound_beginnings.proofs.FirstMemory.{get_mapped, IsFirst, front}
-use Rattle.abstract_steps_sound_beginnings.proofs.FirstNames.{objects_named, objects_there, parameters_named, parameters_stay, parameters_there}
+use Rattle.abstract_steps_sound_first_memory.proofs.Positions.{none_some, IsObjectAt, IsLiteralAt, items_long, item_at, item_instance}
+use Rattle.abstract_steps_sound_first_memory.specs.FirstStates.{input_bytes, front, IsFirst}
+use Rattle.abstract_steps_sound_first_memory.proofs.FirstMemory.{get_mapped}
+use Rattle.abstract_steps_sound_first_memory.proofs.FirstNames.{objects_named, objects_there, parameters_named, parameters_stay, parameters_there}
 
 module _ (u : UnitView) (flow : Flow) (a : StartsAs u flow) where
   abbrev items : List InitialObject

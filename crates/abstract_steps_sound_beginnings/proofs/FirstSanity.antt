@@ -61,11 +61,11 @@ use Rattle.flow_lower_counts.specs.SharedObjects.{literal_type}
 use Rattle.flow_lower.specs.BaseTables.{known}
 use Rattle.abstract_steps_sound_beginnings.specs.TypedInitializers.{HasScalar, AreTypedStores}
 use Rattle.abstract_steps_sound_beginnings.specs.UnitStarts.{IsBaseOf, StartsAs}
-use Rattle.abstract_steps_sound_beginnings.proofs.Positions.{IsObjectAt, IsLiteralAt}
-use Rattle.abstract_steps_sound_beginnings.proofs.StartBytes.{IsNumberByte, numbers_at, parts_at, text_at, stored_long, zeros_long, AreHeldBytes, AreFine, AreFineStores, stored_held, typed_tags, zeros_held, input_long, input_at}
-use Rattle.abstract_steps_sound_beginnings.proofs.FirstMemory.{IsFirst}
+use Rattle.abstract_steps_sound_first_memory.proofs.Positions.{IsObjectAt, IsLiteralAt}
+use Rattle.abstract_steps_sound_first_memory.proofs.StartBytes.{IsNumberByte, numbers_at, parts_at, text_at, stored_long, zeros_long, AreHeldBytes, AreFine, AreFineStores, stored_held, typed_tags, zeros_held, input_long, input_at}
+use Rattle.abstract_steps_sound_first_memory.specs.FirstStates.{IsFirst}
 use Rattle.abstract_steps_sound_beginnings.proofs.FirstRoles as roles
-use Rattle.abstract_steps_sound_beginnings.proofs.WellStarted.{WellStarted, well_started, are_bytes, IsAimed, aimed}
+use Rattle.abstract_steps_sound_first_memory.proofs.WellStarted.{WellStarted, well_started, are_bytes, IsAimed, aimed}
 
 static_allocated : static ≡ allocated → ⊥
 static_allocated e = cc

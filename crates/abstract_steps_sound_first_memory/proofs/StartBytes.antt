@@ -20,6 +20,7 @@ use Rattle.lib_models_effects.specs.UnitStarts.{base_instance, value_bytes, all_
 use Rattle.store_domain_laws.specs.StoreLaws.{AreBytes}
 use Rattle.store_domain_sound.proofs.Slices.{get_map}
 use Rattle.abstract_steps_sound_enter.proofs.GrownSanity.{blank_long, blank_byte}
+use Rattle.abstract_steps_sound_first_memory.specs.FirstStates.{input_bytes}
 
 no_element : {A : Type 0} (x : A) (k : ℕ) → slice_get [] k ≡ Some x → ⊥
 no_element x k e = cc
@@ -196,10 +197,7 @@ module _ (u : UnitView) where
 
   -- ---- parameters
 
-  abbrev pub input_bytes : IntType → ℤ → List Byte
-  input_bytes kind n = refilled (typed_bytes u (Int kind)) 0 (scalar_bytes kind.bytes (integer n (input_labels kind)))
-
-  pub input_long : (kind : IntType) (n : ℤ) → length (input_bytes kind n) ≡ kind.bytes
+  pub input_long : (kind : IntType) (n : ℤ) → length (input_bytes u kind n) ≡ kind.bytes
   input_long kind n = refilled_long 0 (typed_bytes u (Int kind)) (scalar_bytes kind.bytes (integer n (input_labels kind))) ∙ typed_long (Int kind)
 
   filled_whole : (bs : List Byte) (cs : List Content) → length bs ≤ length cs → (x : ℕ) (b : Byte) → slice_get (filled bs cs) x ≡ Some b → slice_get cs x ≡ Some b.content
@@ -210,7 +208,7 @@ module _ (u : UnitView) where
   filled_whole (a ∷ bs) (c ∷ cs) long (suc x) b e = filled_whole bs cs (omega (arith, long)) x b e
 
   -- each byte is one of a number with the labels of input, under the tag of its offset
-  pub input_at : (kind : IntType) (n : ℤ) (x : ℕ) (b : Byte) → slice_get (input_bytes kind n) x ≡ Some b → (b.tag ≡ typed_tags (Int kind) x) × IsNumberByte (input_labels kind) b.content
+  pub input_at : (kind : IntType) (n : ℤ) (x : ℕ) (b : Byte) → slice_get (input_bytes u kind n) x ≡ Some b → (b.tag ≡ typed_tags (Int kind) x) × IsNumberByte (input_labels kind) b.content
   input_at kind n x b e =
       let bs : List Byte = typed_bytes u (Int kind) in
       let cs : List Content = number_bytes kind.bytes (bits_in kind.bytes n) (input_labels kind) in

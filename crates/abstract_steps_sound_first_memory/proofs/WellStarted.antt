@@ -18,7 +18,7 @@ use Rattle.flow_program.specs.declared.programs.ParameterInput.{ParameterInput}
 use Rattle.store_domain_laws.specs.StoreLaws.{AreBytes}
 use Rattle.store_domain_sound_programs.proofs.ShapedBases.{all_at}
 use Rattle.abstract_steps_laws_programs.specs.RegularPrograms.{is_byte}
-use Rattle.abstract_steps_sound_beginnings.proofs.Positions.{same_statics}
+use Rattle.abstract_steps_sound_first_memory.proofs.Positions.{same_statics}
 
 pub record WellStarted (flow : Flow) : Type 0 where
   pub model : is_model flow.model ≡ true

@@ -4,18 +4,17 @@ use Rattle.std.specs.Prelude.{slice_get, map, ℤ, int_le, ◌&&◌}
 use Rattle.std.proofs.lemmas.List.{length-append, length-map}
 use Rattle.std.proofs.lemmas.Option.{same_Some, slice_get_within}
 use Rattle.cc_base.specs.IntegerTypes.{least_of, greatest_of}
-use Rattle.cc_base.specs.declared.int_types.IntType.{IntType}
 use Rattle.c_layout.specs.Types.{Ty, Int, Pointer, Array, Struct, Void}
-use Rattle.c_layout.specs.CheckedUnits.{LocalView, StaticView, LiteralView, UnitView}
+use Rattle.c_layout.specs.CheckedUnits.{LocalView, UnitView}
 use Rattle.flow_program_views.specs.ProgramViews.{FlowView}
 use Rattle.flow_program_machine.specs.FlowStates.{Standing, running}
-use Rattle.flow_program_machine.specs.FlowStarts.{first_standing, begun_by, flow_begin}
+use Rattle.flow_program_machine.specs.FlowStarts.{begun_by, flow_begin}
 use Rattle.lib_models_memory.specs.Instances.{automatic, Memory, Instance}
 use Rattle.lib_models_effects.specs.ObjectEffects.{fresh}
 use Rattle.lib_models_effects.specs.UnitStarts.{static_instance, literal_made, start_memory, input, with_parameter, with_parameters, entry_parameters, world_before, start_world}
 use Rattle.lib_models_effects.specs.Worlds.{World, Reply, goes, stops, world_of, behind, done, drawn_in, drawn_from, drawn}
 use Rattle.store_domain_sound.proofs.Slices.{get_left, get_right}
-use Rattle.abstract_steps_sound_beginnings.proofs.StartBytes.{input_bytes}
+use Rattle.abstract_steps_sound_first_memory.specs.FirstStates.{input_bytes, IsInput, front, IsFirst}
 
 behind_goes : {A B : Type 0} (r : Reply A) (next : A → World → Reply B) (y : B) (after : World) → behind r next ≡ goes y after → (v : A) × (w : World) × (r ≡ goes v w) × (next v w ≡ goes y after)
 behind_goes (goes v w) next y after e = (v, w, refl, e)
@@ -32,16 +31,9 @@ get_mapped f (y ∷ ys) (suc k) x e = get_mapped f ys k x e
 module _ (u : UnitView) where
   -- ---- parameters
 
-  -- the instance of a parameter, which took a number
-  pub record IsInput (t : Ty) (it : Instance) : Type 0 where
-    pub kind : IntType
-    pub is : t ≡ Int kind
-    pub value : ℤ
-    pub made : it ≡ fresh automatic (input_bytes u kind value)
-
   record IsOneMore (t : Ty) (w after : World) : Type 0 where
     it : Instance
-    made : IsInput t it
+    made : IsInput u t it
     grown : after.memory ≡ w.memory ++ it ∷ []
 
   drawn_same : (b : Bool) (n : ℤ) (w : World) (x : ℤ) (after : World) → drawn_in b n w ≡ goes x after → after ≡ w
@@ -70,7 +62,7 @@ module _ (u : UnitView) where
   pub record IsTakenIn (ls : List LocalView) (before after : Memory) : Type 0 where
     pub long : length after ≡ length before + length ls
     pub stay : (i : ℕ) → i < length before → slice_get after i ≡ slice_get before i
-    pub each : (j : ℕ) (l : LocalView) → slice_get ls j ≡ Some l → (it : Instance) × IsInput l.ctype it × (slice_get after (length before + j) ≡ Some it)
+    pub each : (j : ℕ) (l : LocalView) → slice_get ls j ≡ Some l → (it : Instance) × IsInput u l.ctype it × (slice_get after (length before + j) ≡ Some it)
 
   taken_in : (ls : List LocalView) (w : World) (x : Unit {0}) (after : World) → with_parameters u ls w ≡ goes x after → IsTakenIn ls w.memory after.memory
   taken_in [] w x after e =
@@ -90,36 +82,24 @@ module _ (u : UnitView) where
         each = λ j k h. at_index j k h one.it one.made (rest.stay (length w.memory) (omega (arith, add)) ∙ get_right w.memory (one.it ∷ []) (length w.memory) 0 (omega arith)) (λ i y d. let r = rest.each i y d in let z : length now + i ≡ length w.memory + suc i = omega (arith, add) in (r.0, r.1, sym (ap (slice_get after.memory) z) ∙ r.2));
       }
     where
-      at_index : (j : ℕ) (k : LocalView) → slice_get (l ∷ ls) j ≡ Some k → (it : Instance) → IsInput l.ctype it → slice_get after.memory (length w.memory) ≡ Some it
-          → ((i : ℕ) (y : LocalView) → slice_get ls i ≡ Some y → (it : Instance) × IsInput y.ctype it × (slice_get after.memory (length w.memory + suc i) ≡ Some it))
-          → (it : Instance) × IsInput k.ctype it × (slice_get after.memory (length w.memory + j) ≡ Some it)
+      at_index : (j : ℕ) (k : LocalView) → slice_get (l ∷ ls) j ≡ Some k → (it : Instance) → IsInput u l.ctype it → slice_get after.memory (length w.memory) ≡ Some it
+          → ((i : ℕ) (y : LocalView) → slice_get ls i ≡ Some y → (it : Instance) × IsInput u y.ctype it × (slice_get after.memory (length w.memory + suc i) ≡ Some it))
+          → (it : Instance) × IsInput u k.ctype it × (slice_get after.memory (length w.memory + j) ≡ Some it)
       at_index zero k h it made there others =
           let z : length w.memory ≡ length w.memory + 0 = omega arith in
-          (it, subst (λ y. IsInput y.ctype it) (same_Some l k h) made, sym (ap (slice_get after.memory) z) ∙ there)
+          (it, subst (λ y. IsInput u y.ctype it) (same_Some l k h) made, sym (ap (slice_get after.memory) z) ∙ there)
       at_index (suc j) k h it made there others = others j k h
 
   -- ---- all of it
 
-  abbrev pub front : ℕ
-  front = length u.objects + length u.literals
-
-  start_long : length (start_memory u) ≡ front
+  start_long : length (start_memory u) ≡ front u
   start_long =
       let a = length-append (map (static_instance u) u.objects) (map literal_made u.literals) in
       let b = length-map u.objects (static_instance u) in
       let c = length-map u.literals literal_made in
       omega (arith, a, b, c)
 
-  -- the first state of a run
-  pub record IsFirst (f : FlowView) (s : Standing) : Type 0 where
-    pub world : World
-    pub is : first_standing u f world ≡ s
-    pub long : length world.memory ≡ front + length (entry_parameters u)
-    pub objects : (k : ℕ) (o : StaticView) → slice_get u.objects k ≡ Some o → slice_get world.memory k ≡ Some (static_instance u o)
-    pub literals : (k : ℕ) (l : LiteralView) → slice_get u.literals k ≡ Some l → slice_get world.memory (length u.objects + k) ≡ Some (literal_made l)
-    pub inputs : (j : ℕ) (l : LocalView) → slice_get (entry_parameters u) j ≡ Some l → (it : Instance) × IsInput l.ctype it × (slice_get world.memory (front + j) ≡ Some it)
-
-  first_of : (f : FlowView) (draws : List ℤ) (s : Standing) (r : Reply (Unit {0})) → start_world u draws ≡ r → begun_by u f r ≡ running s [] → IsFirst f s
+  first_of : (f : FlowView) (draws : List ℤ) (s : Standing) (r : Reply (Unit {0})) → start_world u draws ≡ r → begun_by u f r ≡ running s [] → IsFirst u f s
   first_of f draws s (stops why w) is e = absurd (cc)
   first_of f draws s (goes x w) is e =
       let t = taken_in (entry_parameters u) (world_before u draws) x w is in
@@ -132,8 +112,8 @@ module _ (u : UnitView) where
         long = omega (arith, long, start);
         objects = λ k o h. let within = slice_get_within u.objects k o h in t.stay k (omega (arith, start, within)) ∙ (get_left (map (static_instance u) u.objects) (map literal_made u.literals) k (omega (arith, few, within)) ∙ get_mapped (static_instance u) u.objects k o h);
         literals = λ k l h. let within = slice_get_within u.literals k l h in t.stay (length u.objects + k) (omega (arith, start, within)) ∙ (get_right (map (static_instance u) u.objects) (map literal_made u.literals) (length u.objects + k) k (omega (arith, few)) ∙ get_mapped literal_made u.literals k l h);
-        inputs = λ j l h. let r = t.each j l h in let z : length (start_memory u) + j ≡ front + j = ap (λ m. m + j) start in (r.0, r.1, sym (ap (slice_get w.memory) z) ∙ r.2);
+        inputs = λ j l h. let r = t.each j l h in let z : length (start_memory u) + j ≡ front u + j = ap (λ m. m + j) start in (r.0, r.1, sym (ap (slice_get w.memory) z) ∙ r.2);
       }
 
-  pub run_first : (f : FlowView) (draws : List ℤ) (s : Standing) → flow_begin u f draws ≡ running s [] → IsFirst f s
+  pub run_first : (f : FlowView) (draws : List ℤ) (s : Standing) → flow_begin u f draws ≡ running s [] → IsFirst u f s
   run_first f draws s e = first_of f draws s (start_world u draws) refl e

@@ -1,0 +1,5 @@
+pub mod Positions
+pub mod StartBytes
+pub mod FirstMemory
+pub mod FirstNames
+pub mod WellStarted
