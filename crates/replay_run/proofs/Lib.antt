@@ -1,0 +1,4 @@
+pub mod Allocations
+pub mod Growth
+pub mod Turns
+pub mod TurnsTold
