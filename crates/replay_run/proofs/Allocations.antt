@@ -11,7 +11,7 @@ use Rattle.lib_models_memory.specs.Scalars.{Scalar}
 use Rattle.lib_models_effects.specs.AllocationCalls.{untyped, resized, old_bytes, moved_to, allocated_with, if_given, allocate, is_start, freeable, freeable_by, given_back}
 use Rattle.lib_models_effects.specs.LibraryChecks.{most_size}
 use Rattle.lib_models_effects.specs.ObjectEffects.{fresh, with_life, set_life}
-use Rattle.lib_models_effects.specs.Worlds.{World, Reply, goes, stops, behind, done, drawn_in, drawn_from, world_of}
+use Rattle.lib_models_effects.specs.Worlds.{World, Reply, behind, done, drawn_in, drawn_from, world_of}
 use Rattle.lib_models_replay_inputs.specs.Sums.{most_bytes, IsPassed, PassesAt, PassesWith}
 use Rattle.lib_models_replay_inputs.proofs.Passing.{passes_at}
 use Rattle.replay_run_machine.specs.Asked.{given_size, is_live, may_be_freed}

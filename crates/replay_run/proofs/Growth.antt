@@ -1,5 +1,5 @@
 -- Turns that make memory too large.
-use Rattle.std.proofs.Common.{◌≡◌, ℕ, ◌*◌, ℤ, Bool, List, [], ◌∷◌, ◌++◌, length, drop, Option, Some, None, refl, sym, ap, subst, ◌∙◌}
+use Rattle.std.proofs.Common.{◌≡◌, ℕ, ◌*◌, List, [], ◌∷◌, drop, Option, Some, None, refl, sym, ap, subst}
 use Rattle.c_layout.specs.CheckedUnits.{FunctionView, UnitView}
 use Rattle.c_layout.specs.declared.data_model.Model.{Model}
 use Rattle.c_layout.specs.declared.library_functions.LibFn.{LibFn}
@@ -9,7 +9,7 @@ use Rattle.lib_models_memory.specs.Bytes.{indeterminate, number}
 use Rattle.lib_models_memory.specs.Instances.{automatic, total_size}
 use Rattle.lib_models_memory.specs.Labels.{no_labels}
 use Rattle.lib_models_memory.specs.Scalars.{Scalar, integer, pointer}
-use Rattle.lib_models_effects.specs.AllocationCalls.{asked_for}
+use Rattle.lib_models_effects.specs.AllocationCalls.{asked_for, malloc, calloc, realloc}
 use Rattle.lib_models_effects.specs.LibraryCalls.{library, with_result}
 use Rattle.lib_models_effects.specs.LibraryChecks.{size_of, with_size}
 use Rattle.lib_models_effects.specs.ObjectEffects.{blank_bytes}
@@ -20,9 +20,9 @@ use Rattle.ref_machine.specs.ObjectSteps.{on, enter_fresh, enter_if}
 use Rattle.ref_machine.specs.Operations as op
 use Rattle.ref_machine.specs.Operations.{Operation, newest, pushing_result, perform}
 use Rattle.ref_machine.specs.SourceStates.{State, if_some, first_do, function_at}
-use Rattle.ref_machine.specs.SourceSteps.{turn, turn_by, operate}
+use Rattle.ref_machine.specs.SourceSteps.{turn, turn_by}
 use Rattle.lib_models_replay_inputs.specs.Sums.{most_bytes, IsPassed, PassesWith}
-use Rattle.lib_models_replay_inputs.proofs.Lengths.{length_blank}
+use Rattle.lib_models_instances.proofs.Totals.{length_blank}
 use Rattle.replay_run_machine.specs.Asked.{type_size, named_size, called_size, operated_size, made_by}
 use Rattle.replay_run.proofs.Allocations.{nothing_passes, fresh_passes, untyped_passes, freed_passes}
 
@@ -64,9 +64,9 @@ passed_with : (r : Reply Scalar) (count : ℕ) → IsPassed count (world_of r).m
 passed_with r count p = subst (λ (w : World). IsPassed count w.memory) (sym (with_result_world r)) p
 
 allocates : (m : Model) (wanted : Option ℕ) (function : LibFn) (arguments : List Scalar) (w : World) (count : ℕ) → PassesWith most_bytes (total_size w.memory) (called_size m function arguments w) count → IsPassed count (world_of (library m wanted function arguments w)).memory
-allocates m wanted f.Malloc (integer n labels ∷ []) w count p = passed_with _ count (untyped_passes m indeterminate (size_of n) count (asked_for wanted (size_of n) (with_size w labels)) p)
-allocates m wanted f.Calloc (integer k s ∷ (integer n t ∷ [])) w count p = passed_with _ count (untyped_passes m (number 0 no_labels) (size_of k * size_of n) count (asked_for wanted (size_of k * size_of n) (with_size (with_size w s) t)) p)
-allocates m wanted f.Realloc (pointer q ∷ (integer n labels ∷ [])) w count p = passed_with _ count (freed_passes m q (size_of n) count (asked_for wanted (size_of n) (with_size w labels)) p)
+allocates m wanted f.Malloc (integer n labels ∷ []) w count p = passed_with (malloc m wanted (integer n labels ∷ []) w) count (untyped_passes m indeterminate (size_of n) count (asked_for wanted (size_of n) (with_size w labels)) p)
+allocates m wanted f.Calloc (integer k s ∷ (integer n t ∷ [])) w count p = passed_with (calloc m wanted (integer k s ∷ (integer n t ∷ [])) w) count (untyped_passes m (number 0 no_labels) (size_of k * size_of n) count (asked_for wanted (size_of k * size_of n) (with_size (with_size w s) t)) p)
+allocates m wanted f.Realloc (pointer q ∷ (integer n labels ∷ [])) w count p = passed_with (realloc m wanted (pointer q ∷ (integer n labels ∷ [])) w) count (freed_passes m q (size_of n) count (asked_for wanted (size_of n) (with_size w labels)) p)
 allocates m wanted function arguments w count p = absurd (nothing_passes most_bytes (total_size w.memory) count p)
 
 called : (u : UnitView) (s : State) (operation : Operation) (count : ℕ) → PassesWith most_bytes (total_size s.world.memory) (operated_size u s operation) count → IsPassed count (world_of (perform u operation s.values s.world)).memory
@@ -89,8 +89,14 @@ named_anyway : (u : UnitView) (s : State) (n : ℕ) (o : Option ℕ) → named_s
 named_anyway u s n None = refl
 named_anyway u s n (Some i) = refl
 
+called_anyway : (m : Model) (function : LibFn) (arguments : List Scalar) (w : World) → called_size m function arguments (unviolated w) ≡ called_size m function arguments w
+called_anyway m f.Malloc (integer n labels ∷ []) w = refl
+called_anyway m f.Calloc (integer k s ∷ (integer n t ∷ [])) w = refl
+called_anyway m f.Realloc (pointer q ∷ (integer n labels ∷ [])) w = refl
+called_anyway m function arguments w = refl
+
 pub made_anyway : (u : UnitView) (s : State) (items : List Item) → made_by u (record s { world = unviolated s.world }) items ≡ made_by u s items
 made_anyway u s (item.Enters [] ∷ items) = refl
 made_anyway u s (item.Enters (n ∷ ns) ∷ items) = named_anyway u s n (s.names n)
-made_anyway u s (item.Do at (op.Library function n target) ∷ items) = refl
+made_anyway u s (item.Do at (op.Library function n target) ∷ items) = called_anyway u.model function (newest n s.values) s.world
 made_anyway u s items = refl

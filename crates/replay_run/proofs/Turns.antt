@@ -1,9 +1,9 @@
 -- Runs that are followed turn by turn.
-use Rattle.std.proofs.Common.{◌≡◌, ℕ, zero, suc, ◌+◌, ◌<◌, ◌≤◌, ◌⊎◌, ℤ, Bool, true, false, ◌||◌, nat_lt, nat_le, List, [], ◌∷◌, map, Some, Result, Ok, Err, refl, sym, ap, subst, ◌∙◌, arith, ⊎_elim}
+use Rattle.std.proofs.Common.{◌≡◌, ℕ, suc, ◌+◌, ◌<◌, ◌≤◌, ℤ, Bool, true, false, ◌||◌, nat_le, List, [], ◌∷◌, map, Some, Result, Ok, Err, refl, sym, ap, subst, ◌∙◌, arith, ⊎_elim}
 use Rattle.std.proofs.lemmas.Bool.{cases_lt, lt-ltb, le-ltb, le-leb, lt-leb}
 use Rattle.cc_base.specs.declared.diagnostics.Diag.{Diag}
 use Rattle.c_layout.specs.CheckedUnits.{UnitView}
-use Rattle.lib_models_memory.specs.Instances.{Memory, total_size}
+use Rattle.lib_models_memory.specs.Instances.{total_size}
 use Rattle.lib_models_replay.specs.WorldViews.{why_view}
 use Rattle.lib_models_replay.specs.declared.worlds.Cause.{Cause}
 use Rattle.lib_models_replay_inputs.specs.Sums.{most_bytes, IsPassed}
@@ -68,7 +68,7 @@ made_all u draws steps m found made p h k = record {
   world = refl;
 }
 
-or_last : (a b c : Bool) → c ≡ true → a || (b || c) ≡ true
+pub or_last : (a b c : Bool) → c ≡ true → a || (b || c) ≡ true
 or_last true b c e = refl
 or_last false true c e = refl
 or_last false false c e = e

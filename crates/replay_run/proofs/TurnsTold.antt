@@ -1,15 +1,15 @@
 -- One turn of a run that is followed.
-use Rattle.std.proofs.Common.{◌≡◌, ℕ, ◌+◌, ◌≤◌, ◌⊎◌, List, [], ◌∷◌, ◌++◌, map, Option, Some, None, Bool, is_some, Result, Ok, Err, refl, sym, ap, subst, ◌∙◌, ⊎_elim}
+use Rattle.std.proofs.Common.{◌≡◌, ℕ, ◌+◌, ◌≤◌, List, [], ◌∷◌, ◌++◌, map, Option, Some, None, Bool, is_some, Result, Ok, Err, refl, sym, ap, subst, ◌∙◌, ⊎_elim}
 use Rattle.cc_base.specs.declared.diagnostics.Diag.{Diag}
 use Rattle.cc_base.specs.declared.diagnostics.Place.{Place}
 use Rattle.c_layout.specs.CheckedUnits.{UnitView}
 use Rattle.lib_models_memory.specs.Instances.{Memory, total_size}
 use Rattle.lib_models_effects.specs.Worlds.{World, Why, Violation, Reply, goes, stops}
 use Rattle.lib_models_effects.specs.Worlds as worlds
-use Rattle.lib_models_replay.specs.WorldViews.{world_view, why_view, HaltsAs}
+use Rattle.lib_models_replay.specs.WorldViews.{world_view, why_view}
 use Rattle.lib_models_replay.specs.declared.worlds.Halt.{Halt}
 use Rattle.lib_models_replay.specs.declared.worlds.Halt.TheVariants as halt
-use Rattle.lib_models_replay_inputs.specs.Sums.{most_bytes, IsPassed, PassesAt, PassesBy, PassesWith, stop_by}
+use Rattle.lib_models_replay_inputs.specs.Sums.{most_bytes, IsPassed, PassesBy, PassesWith, stop_by}
 use Rattle.lib_models_replay_inputs.specs.declared.instance_sums.StartStop.{StartStop}
 use Rattle.lib_models_replay_inputs.specs.declared.instance_sums.StartStop.TheVariants as stop
 use Rattle.ref_machine.specs.Items as item
@@ -23,7 +23,7 @@ use Rattle.replay_run_machine.specs.MachineViews.{state_view}
 use Rattle.replay_run_machine.specs.Moves.{Moves, CountsAs, TurnsTo}
 use Rattle.replay_run_machine.specs.declared.machines.Machine.{Machine}
 use Rattle.replay_run_machine.specs.declared.item_turns.Turned7.{Turned7}
-use Rattle.replay_run.specs.Following.{violation_of, run_view, stopped_view, counted_if, StopsWith, GoesOn, StaysWithin, told_of}
+use Rattle.replay_run.specs.Following.{violation_of, run_view, counted_if, GoesOn, StaysWithin, told_of}
 use Rattle.replay_run.proofs.Allocations.{nothing_passes}
 use Rattle.replay_run.proofs.Growth.{turn_passes, made_anyway}
 

@@ -23,13 +23,16 @@ use lib_models_replay_starts::is_sound;
 use replay_run_machine::begin;
 use std::alloc::Global;
 
-/// The run of a checked unit that takes its numbers of the outside from `draws` and makes at most
-/// `steps` steps, from 0 to 1,000,000.
+/// What the run of a checked unit comes to (5.1.2.3 of ISO/IEC 9899:2011) that takes its numbers of the
+/// outside from `draws`, in order, and is followed until it has stopped or has made `steps` steps, from
+/// 0 to 1,000,000. The numbers are the values of the entry's parameters, characters and lines that are
+/// read, answers to allocations, and what `printf` returns; there may be any number of them, and one
+/// that is missing or out of its range ends the run. So the outcome depends on the arguments alone.
 ///
 /// # Errors
 ///
-/// `Large` where the instances of all objects together pass 4,194,304 bytes before the run has stopped
-/// or made its steps, and `Memory` on want of memory.
+/// `Large` where the instances of all objects together pass 4,194,304 bytes in the run as far as it is
+/// followed, and `Memory` on want of memory.
 pub fn replay(
     alloc: Global,
     unit: &Checked,
@@ -98,7 +101,9 @@ fn told_small(
     world: &World7,
 ) -> Result<Outcome, ReplayStop>
     ensures within { IfOk result (λ _. total_size world.now.memory.memory ≤ most_bytes) }
-    ensures outcome { IfOk result (λ o. o ≡ record { diags = []; end = end_view end; used = length draws.now - length (world_view world.now).draws }) }
+    ensures diags { IfOk result (λ o. IsOrderedSet [] o.diags) }
+    ensures end { IfOk result (λ o. o.end ≡ end_view end) }
+    ensures used { IfOk result (λ o. o.used ≡ length draws.now - length (world_view world.now).draws) }
     ensures memory { IfErr result (λ s. s ≡ stop.Memory) }
 {
     if world.memory.total() > MOST_BYTES {

@@ -8,7 +8,7 @@ ghost use Rattle.lib_models_replay_inputs.specs.Sums.{most_bytes};
 ghost use Rattle.lib_models_replay_inputs.specs.declared.instance_sums.StartStop.TheVariants as stop;
 ghost use Rattle.ref_machine.specs.RunFacts as run;
 ghost use Rattle.ref_machine.specs.SourceRuns.{at_place, violations};
-ghost use Rattle.replay_run.specs.Following.{violation_of, run_view, told_of, EndsAs, GoesOn, StaysWithin, FollowsTo};
+ghost use Rattle.replay_run.specs.Following.{violation_of, run_view, counted_if, told_of, EndsAs, GoesOn, StaysWithin, FollowsTo};
 ghost use Rattle.replay_run.specs.OutcomeViews.{end_view};
 ghost use Rattle.replay_run.specs.Replays.{Reaches};
 
@@ -106,6 +106,14 @@ fn go_on<'a>(
     told(turned)
 }
 
+// How many steps a turn is.
+fn steps_in(is_step: bool) -> u64
+    ensures counted { result ≡ counted_if is_step }
+    ensures few { result ≤ 1 }
+{
+    if is_step { 1 } else { 0 }
+}
+
 /// Follows a run until it is over, which memory is not too large for.
 pub fn follow<'a>(
     m: &mut Machine<'a>,
@@ -123,8 +131,7 @@ pub fn follow<'a>(
             return Ok(End::Steps);
         }
         match go_on(m, unit, found) {
-            Ok(true) => made += 1,
-            Ok(false) => {}
+            Ok(is_step) => made += steps_in(is_step),
             Err(stop) => return no_outcome(stop),
         }
     }

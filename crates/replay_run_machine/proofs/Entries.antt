@@ -1,6 +1,8 @@
 -- The entries of a stack that is gone over from its newest one on.
-use Rattle.std.proofs.Common.{◌≡◌, ℕ, zero, suc, ◌+◌, ◌-◌, ◌<◌, ◌≤◌, List, [], ◌∷◌, ◌++◌, length, get_or, take, drop, map, reverse, Vec, Global, Bool, true, false, Option, Some, None, Result, Ok, Err, IfOk, refl, sym, ap, ◌∙◌, arith, append_assoc}
-use Rattle.std.proofs.lemmas.List.{at_drop_more, take_more, append-nil, map-append, reverse-append}
+use Rattle.std.proofs.Common.{◌≡◌, ℕ, zero, suc, ◌+◌, ◌-◌, ◌<◌, ◌≤◌, ◌==◌, List, [], ◌∷◌, ◌++◌, length, get_or, take, drop, map, reverse, Vec, vec_len, Global, Bool, true, false, Option, Some, None, Result, Ok, Err, IfOk, refl, sym, ap, ◌∙◌, arith, append_assoc}
+use Rattle.std.proofs.lemmas.List.{at_drop_more, take_more, append-nil, map-append, reverse-append, length-reverse, length-map}
+use Rattle.std.proofs.lemmas.Bool.Decides.{nat_tests}
+use Rattle.std.proofs.lemmas.Grind.{common_steps}
 use Rattle.flow_lower_functions.specs.Functions.{numbers_from}
 use Rattle.lib_models_replay.specs.declared.worlds.Halt.{Halt}
 use Rattle.replay_run_machine.specs.MachineViews.{with_next, hop_if, frame_view}
@@ -10,6 +12,8 @@ use Rattle.ref_machine.specs.Items as item
 use Rattle.ref_machine.specs.Items.{Item}
 use Rattle.c_layout.specs.CheckedUnits.{UnitView}
 use Rattle.ref_machine.specs.Scopes.{all_of}
+use Rattle.ref_machine.specs.SourceStates.{Frame}
+use Rattle.ref_machine.specs.SourceSteps.{is_entry}
 use Rattle.replay_run_items.specs.Standings.{Standing, nothing_left, with_items, added, on_item, standing}
 use Rattle.replay_run_items.specs.declared.items.Item7.{Item7}
 use Rattle.replay_run_items.proofs.Stacks.{standing_more}
@@ -80,3 +84,13 @@ first_number from (suc n) ns h = refl
 -- a function more that waits
 pub frames_more : (u : UnitView) (fs : List Frame7) (f : Frame7) → reverse (map (frame_view u) (fs ++ f ∷ [])) ≡ frame_view u f ∷ reverse (map (frame_view u) fs)
 frames_more u fs f = ap reverse (map-append (frame_view u) fs (f ∷ [])) ∙ reverse-append (map (frame_view u) fs) (frame_view u f ∷ [])
+
+-- whether none waits
+entry_by_length : (fs : List Frame) (n : ℕ) → length fs ≡ n → (n == 0) ≡ is_entry fs
+entry_by_length [] n e = ap (λ k. k == 0) (sym e)
+entry_by_length (f ∷ fs) n e = let above : 0 < n = omega arith in grind (arith, nat_tests)
+
+pub frames_empty : (u : UnitView) (fs : Vec Frame7 Global) → (vec_len fs == 0) ≡ is_entry (reverse (map (frame_view u) fs.items))
+frames_empty u fs =
+    let long : vec_len fs ≡ length fs.items = grind (arith, common_steps) in
+    entry_by_length (reverse (map (frame_view u) fs.items)) (vec_len fs) (length-reverse (map (frame_view u) fs.items) ∙ length-map fs.items (frame_view u) ∙ sym long)

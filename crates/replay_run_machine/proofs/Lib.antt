@@ -4,3 +4,6 @@ pub mod ParameterNames
 pub mod Entries
 pub mod Followed
 pub mod ToldTurns
+pub mod Jumped
+pub mod Selected
+pub mod Begun

@@ -9,6 +9,7 @@ use Rattle.c_layout.specs.declared.checked_tree.checked_terms.ObjectRef.TheVaria
 use Rattle.lib_models_effects.specs.Tests.{TestedSide, object, constant, nothing}
 use Rattle.lib_models_effects.specs.Worlds.{Reply, goes}
 use Rattle.lib_models_replay.specs.WorldViews.{world_view, HaltsAs}
+use Rattle.lib_models_replay.specs.declared.worlds.Cause.TheVariants as cause
 use Rattle.lib_models_replay.specs.declared.worlds.Halt.{Halt}
 use Rattle.lib_models_replay.specs.declared.worlds.Halt.TheVariants as halt
 use Rattle.ref_machine.specs.Items as item
@@ -47,6 +48,12 @@ object_type u f (Local n) = local_of (function_at u f) n
 abbrev pub JumpsTo : Option (List Item) → List Item → List Item → Type 0
 JumpsTo None from now = Unit {0}
 JumpsTo (Some to) from now = now ≡ jump from to
+
+-- what a switch goes on with; where that is nothing it is stuck, unless memory ran out
+abbrev pub LandsOn : Option (List Item) → Result (Unit {0}) Halt → List Item → Type 0
+LandsOn to (Ok x) now = to ≡ Some now
+LandsOn to (Err (halt.Stops why)) now = (why ≡ cause.Stuck) × (to ≡ None)
+LandsOn to (Err halt.Memory) now = Unit {0}
 
 -- the turn of a machine whose next items are these
 abbrev pub turn_with : UnitView → List Item → Machine → Turned

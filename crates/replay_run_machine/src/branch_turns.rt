@@ -10,6 +10,7 @@ ghost use Rattle.lib_models_replay.specs.declared.worlds.Cause.TheVariants as ca
 ghost use Rattle.lib_models_replay.specs.declared.worlds.Halt.TheVariants as halt;
 ghost use Rattle.lib_models_replay_tests.specs.SideViews.{side_view};
 ghost use Rattle.ref_machine.specs.BranchSteps as machine;
+ghost use Rattle.ref_machine.specs.LabelSearch.{found};
 ghost use Rattle.ref_machine.specs.SourceStates.{instance_of};
 ghost use Rattle.ref_machine.specs.TermTests.{test_if};
 ghost use Rattle.ref_machine.specs.SourceSteps.{turn_by};
@@ -18,7 +19,7 @@ ghost use Rattle.replay_run_items.specs.TestViews as tests;
 ghost use Rattle.replay_run_items.specs.declared.items.Use7.TheVariants as use_of;
 ghost use Rattle.replay_run_items.specs.declared.items.Way7.TheVariants as way;
 ghost use Rattle.replay_run_machine.specs.MachineViews.{state_view};
-ghost use Rattle.replay_run_machine.specs.Moves.{Moves, holds_on, tested_as};
+ghost use Rattle.replay_run_machine.specs.Moves.{Moves, LandsOn, holds_on, tested_as};
 ghost use Rattle.replay_run_statements.specs.LabelViews.{sought_view};
 
 use crate::machines::{Machine, instance_of};
@@ -190,6 +191,25 @@ fn land_behind(control: &mut Vec<Item7>, sought: Sought7) -> Result<(), Halt>
     }
 }
 
+// The list goes on at a label of a switch's body, or behind the body.
+fn land_on<'a>(
+    control: &mut Vec<Item7<'a>>,
+    body: &'a CheckedStatement,
+    sought: Sought7,
+) -> Result<(), Halt>
+    ensures { (u : UnitView) → let items = (standing u control.old.items).items in LandsOn (machine.landing (sought_view sought) (found u (sought_view sought) (statement_tree body.now) items) items) result (standing u control.new.items).items }
+{
+    if is_in(sought, body) {
+        match find(control, sought, body) {
+            Ok(()) => Ok(()),
+            Err(_) => Err(Halt::Memory),
+        }
+    } else {
+        land_behind(control, sought)
+    }
+}
+
+// The run goes on there, behind the entries of what lives there.
 fn land<'a>(m: &mut Machine<'a>, body: &'a CheckedStatement, sought: Sought7) -> Result<(), Halt>
     ensures { (u : UnitView) → Moves u (machine.land u (statement_tree body.now) (sought_view sought) (state_view u m.old)) result m.new }
 {
@@ -197,13 +217,7 @@ fn land<'a>(m: &mut Machine<'a>, body: &'a CheckedStatement, sought: Sought7) ->
     let Ok(from) = open_scopes(alloc, m.control.as_slice()) else {
         return Err(Halt::Memory);
     };
-    if is_in(sought, body) {
-        let Ok(()) = find(&mut m.control, sought, body) else {
-            return Err(Halt::Memory);
-        };
-    } else {
-        land_behind(&mut m.control, sought)?;
-    }
+    land_on(&mut m.control, body, sought)?;
     match enter_first(alloc, &mut m.control, from.as_slice()) {
         Ok(()) => Ok(()),
         Err(_) => Err(Halt::Memory),

@@ -80,6 +80,24 @@ fn act_on_object<'a>(m: &mut Machine<'a>, unit: &'a Checked, item: Item7<'a>) ->
     }
 }
 
+// The items of a statement.
+fn do_statement<'a>(
+    m: &mut Machine<'a>,
+    unit: &Checked,
+    statement: &'a CheckedStatement,
+) -> Turned7
+    ensures { TurnsTo (unit_view unit.now) (turn_by (unit_view unit.now) (state_view (unit_view unit.now) m.old) (on_statement way.Whole (statement_tree statement.now) (standing (unit_view unit.now) m.old.control.items)).items) result m.new }
+{
+    instead(push_statement(&mut m.control, m.frames.is_empty(), statement))
+}
+
+// The items of the next turn of a loop.
+fn do_turn<'a>(m: &mut Machine<'a>, unit: &Checked, statement: &'a CheckedStatement) -> Turned7
+    ensures { TurnsTo (unit_view unit.now) (turn_by (unit_view unit.now) (state_view (unit_view unit.now) m.old) (on_statement way.Turn (statement_tree statement.now) (standing (unit_view unit.now) m.old.control.items)).items) result m.new }
+{
+    instead(push_loop(&mut m.control, statement))
+}
+
 // What an item of a statement does.
 fn act_on_statement<'a>(m: &mut Machine<'a>, unit: &'a Checked, item: Item7<'a>) -> Turned7
     ensures { TurnsTo (unit_view unit.now) (turn_of (unit_view unit.now) item.entry m.old) result m.new }
@@ -90,11 +108,9 @@ fn act_on_statement<'a>(m: &mut Machine<'a>, unit: &'a Checked, item: Item7<'a>)
             choose(m, unit, term, is_test),
         ),
         Item7::ReadLine(at, wants_line) => step(at, read_line(m, unit, wants_line)),
-        Item7::Statement(Way7::Whole, statement) => {
-            instead(push_statement(&mut m.control, m.frames.is_empty(), statement))
-        }
+        Item7::Statement(Way7::Whole, statement) => do_statement(m, unit, statement),
         Item7::Statements(statements) => first_statement(m, statements),
-        Item7::Statement(Way7::Turn, statement) => instead(push_loop(&mut m.control, statement)),
+        Item7::Statement(Way7::Turn, statement) => do_turn(m, unit, statement),
         Item7::Statement(Way7::Select, statement) => select_at(m, unit, statement),
         Item7::TurnEnd => quiet(Ok(())),
         Item7::LoopEnd => quiet(Ok(())),
@@ -180,12 +196,10 @@ pub fn begin<'a>(alloc: Global, unit: &'a Checked, world: World7) -> Result<Mach
     let mut m = at_rest(alloc, unit.entry, world);
     name_parameters(&mut m.names, unit, entry_parameters(unit).len())?;
     match unit.functions.get(unit.entry as usize) {
-        Some(function) => {
-            let Ok(()) = push_body(&mut m.control, function) else {
-                return Err(Halt::Memory);
-            };
-        }
-        None => {}
+        Some(function) => match push_body(&mut m.control, function) {
+            Ok(()) => Ok(m),
+            Err(_) => Err(Halt::Memory),
+        },
+        None => Ok(m),
     }
-    Ok(m)
 }

@@ -18,12 +18,6 @@ returns-in-ReadLine c =
     turns_same u (turn_of u (held.ReadLine c.in-ReadLine.at c.in-ReadLine.wants_line) c.args.m.now) (turn_of u c.args.item c.args.m.now) c.step-in-ReadLine.result c.read_line.new.m (ap (λ i. turn_of u i c.args.m.now) (sym c.in-ReadLine.is))
     (turns_by u (turn_of u (held.ReadLine c.in-ReadLine.at c.in-ReadLine.wants_line) c.args.m.now) c.step-in-ReadLine.result c.read_line.new.m c.read_line.result (Some c.in-ReadLine.at) c.step-in-ReadLine.ensures (c.read_line.ensures c.in-ReadLine.at) (line_counted u c.in-ReadLine.at c.in-ReadLine.wants_line (standing u c.args.m.now.control.items) (state_view u c.args.m.now)))
 
-pub returns-in-Statement-Whole-default : goal.returns-in-Statement-Whole-default
-returns-in-Statement-Whole-default c = ?
-
-pub returns-in-Statement-Turn-default : goal.returns-in-Statement-Turn-default
-returns-in-Statement-Turn-default c = ?
-
 pub returns-in-Statements : goal.returns-in-Statements
 returns-in-Statements c =
     let u = unit_view c.args.unit.now in
