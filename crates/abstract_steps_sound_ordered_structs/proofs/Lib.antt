@@ -3,4 +3,5 @@ mod MemberLeaves
 mod PlainLeaves
 mod FoldedLeaves
 pub mod OrderedStructs
+pub mod MadeTables
 mod WorkedOrders

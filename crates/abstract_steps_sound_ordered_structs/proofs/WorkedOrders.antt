@@ -1,5 +1,5 @@
 -- Tables of structs: nested ones are ordered, whatever their numbers are; circles and members of no type are not.
-use Rattle.std.specs.Prelude.{◌≡◌, ℕ, true, false, List, [], ◌∷◌, length, refl}
+use Rattle.std.specs.Prelude.{◌≡◌, ℕ, true, false, Some, None, List, [], ◌∷◌, length, refl}
 use Rattle.c_layout.specs.Leaves.{leaves_of}
 use Rattle.c_layout.specs.Models.{lp64}
 use Rattle.c_layout.specs.StructViews.{FieldView, StructView}
@@ -7,6 +7,7 @@ use Rattle.c_layout.specs.Types.{Ty, Int, Pointer, Array, Struct, Void}
 use Rattle.flow_program.specs.StructCounts.{are_counted}
 use Rattle.store_domain_laws_layouts.specs.LaidApart.{are_laid_apart}
 use Rattle.abstract_steps_sound_copied_structs.specs.LostLeaves as lost
+use Rattle.abstract_steps_sound_ordered_structs.specs.MadeTables.{Declare, Complete, all_stepped}
 use Rattle.abstract_steps_sound_ordered_structs.specs.OrderedStructs.{are_ordered}
 
 abbrev member : Ty → ℕ → FieldView
@@ -23,7 +24,8 @@ struct fields size align leaves plain_leaves = record { fields = fields; complet
 
 -- ---- nested structs
 
--- struct shelf { struct box { char mark; int sides[3]; } rows[2][100]; struct shelf *next; }; the box has the larger number
+-- struct shelf { struct box { char mark; int sides[3]; } rows[2][100]; struct shelf *next; };
+-- the box has the larger number
 abbrev shelf : StructView
 shelf = struct (member (Array (Array (Struct 1) 100) 2) 0 ∷ (member (Pointer (Struct 0)) 3200 ∷ [])) 3208 8 9 801
 
@@ -42,6 +44,17 @@ crate_ordered = refl
 
 none_ordered : are_ordered [] ≡ true
 none_ordered = refl
+
+-- the shelf is declared before its box, and complete behind it
+made_table : all_stepped lp64 (Declare ∷ (Declare ∷ (Complete 1 (([], char) ∷ (([], Array int 3) ∷ [])) ∷ (Complete 0 (([], Array (Array (Struct 1) 100) 2) ∷ (([], Pointer (Struct 0)) ∷ [])) ∷ [])))) [] ≡ Some (shelf ∷ (box ∷ []))
+made_table = refl
+
+-- no struct gets a member of its own type, nor members twice
+own_refused : all_stepped lp64 (Declare ∷ (Complete 0 (([], Struct 0) ∷ []) ∷ [])) [] ≡ None
+own_refused = refl
+
+twice_refused : all_stepped lp64 (Declare ∷ (Complete 0 [] ∷ (Complete 0 [] ∷ []))) [] ≡ None
+twice_refused = refl
 
 -- ---- tables that checks of units do not make
 

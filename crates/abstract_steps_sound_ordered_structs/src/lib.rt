@@ -3,4 +3,6 @@
 
 mod theorems;
 
-pub use theorems::{ordered_programs_have_structs, ordered_structs_are_numbered};
+pub use theorems::{
+    made_tables_are_ordered, ordered_programs_have_structs, ordered_structs_are_numbered,
+};
