@@ -1,0 +1,7 @@
+mod RepeatedLeaves
+mod MemberLeaves
+mod PlainLeaves
+mod FoldedLeaves
+pub mod OrderedStructs
+pub mod MadeTables
+mod WorkedOrders

@@ -1,0 +1,3 @@
+pub mod OrderedStructs
+pub mod OrderedPrograms
+pub mod MadeTables
