@@ -20,6 +20,7 @@ use Rattle.abstract_steps_sound_parts.proofs.Sites.{sites_there}
 use Rattle.abstract_steps_sound_parts.proofs.SpelledTexts.{texts_over}
 use Rattle.abstract_steps_sound_parts.proofs.ScalarTests.{kinds_proved}
 use Rattle.abstract_steps_sound_parts.proofs.OpenSteps.{open_sound}
+use Rattle.abstract_steps_sound_ordered_structs.proofs.OrderedStructs.{has_structs}
 use Rattle.abstract_steps_sound_analyses.specs.SoundAnalyses.{Suffices}
 use Rattle.abstract_steps_sound_analyses.specs.CheckedAnalyses.{IsChecked, FindsEachPair}
 use Rattle.abstract_steps_sound_analyses.proofs.SoundAnalyses.{standard_held, typed_runs, each_pair}
@@ -34,11 +35,13 @@ module _ (flow : Flow) (list : List ℤ) (found : List Diag) (a : IsAnalysis flo
       let t = and_parts (spells_over_characters flow) (all_follow_scalars flow) e.1 in
       let w = and_parts (is_well_formed standard_limits flow) (has_scalars flow && (has_initial_bytes flow && (has_apart_members flow && is_near_list list))) a.regular in
       let b = and_parts (has_scalars flow) (has_initial_bytes flow && (has_apart_members flow && is_near_list list)) w.1 in
+      let i = and_parts (has_initial_bytes flow) (has_apart_members flow && is_near_list list) b.1 in
+      let m = and_parts (has_apart_members flow) (is_near_list list) i.1 in
       record {
         reaches = checked.reaches;
         texts = texts_over flow p b.0 t.0;
         sites = sites_there flow s.0;
-        copies = checked.copies;
+        copies = λ to from index d. has_structs standard_limits flow regular.well_formed m.0 checked.structs;
         steps = open_sound interval_lattice interval_numbers Stands flow e.0;
         tests = λ number x is. inl (kinds_proved flow t.1 number x is);
       }

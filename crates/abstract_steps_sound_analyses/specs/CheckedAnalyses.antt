@@ -4,6 +4,7 @@ use Rattle.std.specs.List.{Contains}
 use Rattle.cc_base.specs.InductiveMap.{IsInductive}
 use Rattle.cc_base.specs.declared.diagnostics.Diag.{Diag}
 use Rattle.c_layout.specs.CheckedUnits.{UnitView}
+use Rattle.c_layout.specs.StructViews.{structs_view}
 use Rattle.flow_program.specs.declared.programs.Flow.{Flow}
 use Rattle.flow_program_objects.specs.SoundParts.{has_sound_parts}
 use Rattle.interval_domain.specs.Spans.{Stands}
@@ -16,15 +17,16 @@ use Rattle.lib_models_effects.specs.Worlds.{Violation}
 use Rattle.flow_analysis.specs.Analyses.{row_lattice, machine_of}
 use Rattle.abstract_steps_laws_own_rows.specs.OwnLists.{ReachesTypes}
 use Rattle.abstract_steps_sound_maps.specs.CarriedMaps.{EntryStands}
-use Rattle.abstract_steps_sound_programs.specs.OpenSteps.{CopiesListed}
+use Rattle.abstract_steps_sound_ordered_structs.specs.OrderedStructs.{are_ordered}
 use Rattle.abstract_steps_sound_analyses.specs.SoundAnalyses.{IsViolatedIn}
 
--- what a computation decides: the parts of the program are such as the theorems on them ask, the list goes as far down as the
--- integer types, and by the rows of some inductive map, as the least one, operands lie within their types
+-- what a computation decides: the parts of the program are such as the theorems on them ask, its structs stand in no
+-- circle, the list goes as far down as the integer types, and by the rows of some inductive map, as the least one,
+-- operands lie within their types
 pub record IsChecked (flow : Flow) (list : List ℤ) : Type 0 where
   pub parts : has_sound_parts flow ≡ true
   pub reaches : ReachesTypes list
-  pub copies : CopiesListed flow
+  pub structs : are_ordered (structs_view flow.structs) ≡ true
   pub rows : List (Option (List (Cell Interval)))
   pub inductive : IsInductive row_lattice (machine_of flow list) rows
   pub typed : is_typed_map interval_lattice interval_numbers flow rows ≡ true
