@@ -16,10 +16,10 @@ use Rattle.store_domain_sound_programs.proofs.WellFormedPremises.{meets_premises
 use Rattle.abstract_steps_laws_programs.specs.RegularPrograms.{has_scalars, has_initial_bytes, has_apart_members, is_near_list}
 use Rattle.abstract_steps_laws_programs.proofs.RegularPrograms.{regular_of}
 use Rattle.flow_analysis.specs.Analyses.{IsAnalysis}
-use Rattle.abstract_steps_sound_parts.proofs.Sites.{sites_there}
-use Rattle.abstract_steps_sound_parts.proofs.SpelledTexts.{texts_over}
-use Rattle.abstract_steps_sound_parts.proofs.ScalarTests.{kinds_proved}
-use Rattle.abstract_steps_sound_parts.proofs.OpenSteps.{open_sound}
+use Rattle.abstract_steps_sound_analyses.proofs.Sites.{sites_there}
+use Rattle.abstract_steps_sound_analyses.proofs.SpelledTexts.{texts_over}
+use Rattle.abstract_steps_sound_analyses.proofs.ScalarTests.{kinds_proved}
+use Rattle.abstract_steps_sound_analyses.proofs.OpenSteps.{open_sound}
 use Rattle.abstract_steps_sound_ordered_structs.proofs.OrderedStructs.{has_structs}
 use Rattle.abstract_steps_sound_analyses.specs.SoundAnalyses.{Suffices}
 use Rattle.abstract_steps_sound_analyses.specs.CheckedAnalyses.{IsChecked, FindsEachPair}

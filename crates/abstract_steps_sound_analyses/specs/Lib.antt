@@ -1,2 +1,3 @@
 pub mod SoundAnalyses
 pub mod CheckedAnalyses
+pub mod SoundParts

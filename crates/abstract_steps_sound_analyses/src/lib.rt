@@ -3,4 +3,7 @@
 
 mod theorems;
 
-pub use theorems::{analyses_are_sound, checked_analyses_are_sound};
+pub use theorems::{
+    analyses_are_sound, calls_have_sites, checked_analyses_are_sound, no_step_is_open,
+    tests_are_proved, texts_lie_over_characters,
+};

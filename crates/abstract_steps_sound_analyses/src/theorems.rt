@@ -6,6 +6,9 @@ ghost use Rattle.flow_program.specs.declared.programs.Flow.{Flow};
 ghost use Rattle.flow_analysis.specs.Analyses.{IsAnalysis};
 ghost use Rattle.abstract_steps_sound_analyses.specs.SoundAnalyses.{Suffices, HoldsEachPair};
 ghost use Rattle.abstract_steps_sound_analyses.specs.CheckedAnalyses.{IsChecked, FindsEachPair};
+ghost use Rattle.abstract_steps_sound_analyses.specs.SoundParts.{CallsHaveSites, TextsLieOverCharacters, TestsAreProved, NoStepIsOpen};
+
+use cc_base::IntDomain;
 
 /// Each rule that a run of the program violates at a place is among what an analysis finds, where what is open holds.
 pub fn analyses_are_sound()
@@ -15,4 +18,24 @@ pub fn analyses_are_sound()
 /// So it is where what is supposed of the program and of its operands is decided by a computation.
 pub fn checked_analyses_are_sound()
     ensures { (flow : Flow) (list : List ℤ) (found : List Diag) → IsAnalysis flow list found → IsChecked flow list → FindsEachPair flow list found }
+{}
+
+/// Each call that allocates has a site.
+pub fn calls_have_sites()
+    ensures { (flow : Flow) → CallsHaveSites flow }
+{}
+
+/// Each text that a program spells lies over characters.
+pub fn texts_lie_over_characters()
+    ensures { (flow : Flow) → TextsLieOverCharacters flow }
+{}
+
+/// The tests and the cases of edges are such as are proved sound.
+pub fn tests_are_proved()
+    ensures { (flow : Flow) → TestsAreProved flow }
+{}
+
+/// Where each call of `fgets` ends its block, the analysis is sound on all instructions of the program.
+pub fn no_step_is_open<I: IntDomain>()
+    ensures { (flow : Flow) → NoStepIsOpen I.lattice I.numbers I.stands flow }
 {}

@@ -1,1 +1,5 @@
 pub mod SoundUnits
+pub mod PlainRuns
+pub mod PlainPrograms
+pub mod WorkedProgram
+mod TurnedSound

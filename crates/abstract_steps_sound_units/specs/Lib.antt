@@ -1,1 +1,4 @@
 pub mod SoundUnits
+pub mod PlainPrograms
+pub mod WorkedPrograms
+pub mod TurnedSound

@@ -1,12 +1,19 @@
 //! What an analysis says of the runs of units. What is supposed beside an analysis is named in the specification of
 //! each theorem.
-ghost use Rattle.std.specs.Prelude.{ℤ, List};
+ghost use Rattle.std.specs.Prelude.{ℤ, List, ◌≡◌, ℕ, true};
 ghost use Rattle.cc_base.specs.declared.diagnostics.Diag.{Diag};
 ghost use Rattle.flow_program.specs.declared.programs.Flow.{Flow};
 ghost use Rattle.flow_analysis.specs.Analyses.{IsAnalysis};
 ghost use Rattle.abstract_steps_sound_analyses.specs.SoundAnalyses.{Suffices};
 ghost use Rattle.abstract_steps_sound_analyses.specs.CheckedAnalyses.{IsChecked};
 ghost use Rattle.abstract_steps_sound_units.specs.SoundUnits.{HoldsPairsOfUnits, HoldsPairsOfLowered, FindsPairsOfUnits, FindsPairsOfLowered};
+ghost use Rattle.c_layout.specs.CheckedUnits.{UnitView};
+ghost use Rattle.lib_models_effects.specs.Worlds.{Violation};
+ghost use Rattle.abstract_steps_covered.specs.Covering.{HasTypedRuns};
+ghost use Rattle.abstract_steps_laws_own_starts.specs.CutStarts.{type_list};
+ghost use Rattle.abstract_steps_sound_units.specs.PlainPrograms.{is_plain_program};
+ghost use Rattle.abstract_steps_sound_units.specs.WorkedPrograms.{MeetsAllPremises, IsFoundIn};
+ghost use Rattle.abstract_steps_sound_units.specs.TurnedSound.{FindsTurnedPairs};
 
 /// Each rule that a run of a unit violates at a place is among what an analysis of the program finds, where the program
 /// begins with what is in the unit's tables.
@@ -28,4 +35,21 @@ pub fn checked_unit_runs_are_sound()
 /// And of a unit and its lowered program.
 pub fn checked_lowered_runs_are_sound()
     ensures { (flow : Flow) (list : List ℤ) (found : List Diag) → IsAnalysis flow list found → IsChecked flow list → FindsPairsOfLowered flow found }
+{}
+
+/// In each run of a program that is plain by a look at its instructions operands are such as these suppose.
+pub fn plain_programs_are_typed()
+    ensures { (size : ℕ) (flow : Flow) → is_plain_program size flow ≡ true → (u : UnitView) → HasTypedRuns flow u }
+{}
+
+/// There is a program, with a loop over a string and an allocation, of which all premises hold: a run of it reads behind
+/// its string, and each analysis of it finds that.
+pub fn premises_can_be_met()
+    ensures { Flow → (flow : Flow) × (u : UnitView) × MeetsAllPremises flow type_list u × (v : Violation) × IsFoundIn flow type_list u v }
+{}
+
+/// Each rule that a run of a program violates at a place is among what an analysis of the program with turns unrolled
+/// finds, where what is supposed of the unrolled program is decided by a computation.
+pub fn turned_analyses_are_sound()
+    ensures { FindsTurnedPairs }
 {}

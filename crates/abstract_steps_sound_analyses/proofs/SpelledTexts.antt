@@ -23,7 +23,7 @@ use Rattle.abstract_steps_laws_programs.specs.RegularPrograms.{is_byte, has_byte
 use Rattle.abstract_steps_sound_spelling.specs.SpellSteps.{AreCharacters}
 use Rattle.abstract_steps_sound_spelling.proofs.FollowedArrays.{followed_characters}
 use Rattle.abstract_steps_sound_programs.specs.OpenSteps.{SpellsOverCharacters}
-use Rattle.abstract_steps_sound_parts.proofs.Instructions.{done_in}
+use Rattle.abstract_steps_sound_analyses.proofs.Instructions.{done_in}
 
 are_bytes : (text : List ℕ) → list_all is_byte text ≡ true → AreBytes text
 are_bytes [] h = tt

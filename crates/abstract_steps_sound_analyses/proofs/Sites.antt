@@ -9,7 +9,7 @@ use Rattle.flow_program_objects.specs.Sites.{allocates, has_site, has_sites}
 use Rattle.abstract_steps_sound_allocations.specs.AllocationCalls.{Allocates}
 use Rattle.abstract_steps_sound_reallocations.specs.ReallocationCalls.{Reallocates}
 use Rattle.abstract_steps_sound_programs.specs.OpenSteps.{AllocatesAtSites}
-use Rattle.abstract_steps_sound_parts.proofs.Instructions.{done_in}
+use Rattle.abstract_steps_sound_analyses.proofs.Instructions.{done_in}
 
 none_without : (name : LibFn) → (not (allocates name) || false) ≡ true → Allocates name ⊎ Reallocates name → ⊥
 none_without f.Malloc h a = true≢false (sym h)

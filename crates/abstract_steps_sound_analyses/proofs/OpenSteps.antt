@@ -13,7 +13,7 @@ use Rattle.flow_program_objects.specs.Sites.{is_fgets, reads_no_line, ends_with_
 use Rattle.abstract_steps_sound.specs.SoundSteps.{AreSound}
 use Rattle.abstract_steps_covered.specs.SoundEnds.{IsDoneIn}
 use Rattle.abstract_steps_sound_programs.specs.OpenSteps.{IsOpenCall, IsOpenStep}
-use Rattle.abstract_steps_sound_parts.proofs.Instructions.{done_in}
+use Rattle.abstract_steps_sound_analyses.proofs.Instructions.{done_in}
 
 not_open : (name : LibFn) → not (is_fgets name) ≡ true → IsOpenCall name → ⊥
 not_open f.Fgets h c = true≢false (sym h)

@@ -50,10 +50,10 @@ use Rattle.abstract_steps_laws_own_starts.specs.CutStarts.{type_list}
 use Rattle.abstract_steps_sound_analyses.specs.SoundAnalyses.{IsViolatedIn}
 use Rattle.abstract_steps_sound_beginnings.specs.UnitStarts.{IsBaseOf, StartsAs}
 use Rattle.abstract_steps_sound_units.proofs.SoundUnits.{units_hold}
-use Rattle.abstract_steps_sound_worked.specs.PlainPrograms.{is_plain_program}
-use Rattle.abstract_steps_sound_worked.specs.WorkedPrograms.{MeetsAllPremises, IsFoundIn}
-use Rattle.abstract_steps_sound_worked.proofs.PlainRuns.{plain_typed}
-use Rattle.abstract_steps_sound_worked.proofs.PlainPrograms.{plain_suffices}
+use Rattle.abstract_steps_sound_units.specs.PlainPrograms.{is_plain_program}
+use Rattle.abstract_steps_sound_units.specs.WorkedPrograms.{MeetsAllPremises, IsFoundIn}
+use Rattle.abstract_steps_sound_units.proofs.PlainRuns.{plain_typed}
+use Rattle.abstract_steps_sound_units.proofs.PlainPrograms.{plain_suffices}
 
 none_some : {A : Type 0} (x : A) → None ≡ Some x → ⊥
 none_some x e = cc

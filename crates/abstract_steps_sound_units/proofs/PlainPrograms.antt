@@ -15,8 +15,8 @@ use Rattle.abstract_steps_laws_own_rows.specs.OwnLists.{ReachesTypes}
 use Rattle.abstract_steps_covered.specs.SoundEnds.{IsDoneIn}
 use Rattle.abstract_steps_sound_programs.specs.OpenSteps.{IsOpenCall, IsOpenStep, KindIsProved}
 use Rattle.abstract_steps_sound_analyses.specs.SoundAnalyses.{Suffices}
-use Rattle.abstract_steps_sound_worked.specs.PlainPrograms.{is_beside, is_malloc, is_plain, is_plain_edge, is_plain_program}
-use Rattle.abstract_steps_sound_worked.proofs.PlainRuns.{parts, plain_instruction}
+use Rattle.abstract_steps_sound_units.specs.PlainPrograms.{is_beside, is_malloc, is_plain, is_plain_edge, is_plain_program}
+use Rattle.abstract_steps_sound_units.proofs.PlainRuns.{parts, plain_instruction}
 
 module _ (size : ℕ) (flow : Flow) (plain : is_plain_program size flow ≡ true) where
   done_plain : (o : Operation) → IsDoneIn flow o → is_plain size o ≡ true

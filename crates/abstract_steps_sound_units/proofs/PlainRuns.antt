@@ -42,7 +42,7 @@ use Rattle.abstract_steps_covered.specs.Covering.{HasTypedRuns}
 use Rattle.abstract_steps_covered.proofs.Blocks.{is_at}
 use Rattle.store_domain_sound.proofs.Slices.{get_take, get_drop, get_map}
 use Rattle.store_domain_sound_programs.proofs.ShapedBases.{all_at}
-use Rattle.abstract_steps_sound_worked.specs.PlainPrograms.{is_beside, is_malloc, is_plain, is_plain_edge, is_plain_program}
+use Rattle.abstract_steps_sound_units.specs.PlainPrograms.{is_beside, is_malloc, is_plain, is_plain_edge, is_plain_program}
 
 module _ (size : ℕ) where
   -- the run stops, or goes on with a size there

@@ -1,5 +1,0 @@
-pub mod Instructions
-pub mod Sites
-pub mod SpelledTexts
-pub mod ScalarTests
-pub mod OpenSteps

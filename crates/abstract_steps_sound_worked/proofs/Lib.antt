@@ -1,3 +1,0 @@
-pub mod PlainRuns
-pub mod PlainPrograms
-pub mod WorkedProgram

@@ -1,5 +1,0 @@
-use Rattle.abstract_steps_sound_worked.proofs.WorkedProgram.{program, unit, meets, violation, found}
-use Rattle.abstract_steps_sound_worked.proofs.theorems.premises_can_be_met.Goals as goal
-
-pub returns : goal.returns
-returns c = λ some. (program some, unit some, meets some, violation some, found some)

@@ -1,2 +1,0 @@
-pub mod PlainPrograms
-pub mod WorkedPrograms
