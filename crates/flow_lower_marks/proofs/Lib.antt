@@ -1,0 +1,4 @@
+mod DebtsOfStatements
+mod DebtsOfSwitches
+mod MarkedOnce
+pub mod MarkedTemplates
