@@ -1,19 +1,17 @@
 -- Conditions that go on by a value.
-use Rattle.std.proofs.Common.{◌≡◌, ℕ, Bool, true, false, not, cond, List, [], ◌∷◌, ◌++◌, Option, Some, None, Result, refl, sym, ap, subst, ◌∙◌}
+use Rattle.std.proofs.Common.{◌≡◌, Bool, true, false, not, cond, List, [], ◌∷◌, ◌++◌, Option, Result, refl, sym, ap, subst, ◌∙◌}
 use Rattle.cc_base.specs.declared.diagnostics.Place.{Place}
-use Rattle.c_layout.specs.CheckedTrees.{TermTree}
 use Rattle.c_layout.specs.CheckedUnits.{UnitView}
 use Rattle.lib_models_memory.specs.Scalars.{Scalar, is_false}
 use Rattle.lib_models_effects.specs.LibraryCalls.{fgets}
-use Rattle.lib_models_effects.specs.Worlds.{World, Reply, goes, behind}
+use Rattle.lib_models_effects.specs.Worlds.{World, goes, behind}
 use Rattle.lib_models_replay.specs.declared.worlds.Halt.{Halt}
 use Rattle.ref_machine.specs.BranchSteps.{testing, choose_by, choose, read_line}
-use Rattle.ref_machine.specs.Items.{NamedTest, Item, Items, items_of, listed}
+use Rattle.ref_machine.specs.Items.{NamedTest, Item, items_of, listed}
 use Rattle.ref_machine.specs.ObjectSteps.{on}
 use Rattle.ref_machine.specs.SourceStates.{State, first_do}
 use Rattle.ref_machine.specs.SourceSteps.{turn_by}
 use Rattle.replay_run_items.specs.Standings.{Standing, on_line}
-use Rattle.replay_run_machine.specs.MachineViews.{state_view}
 use Rattle.replay_run_machine.specs.Moves.{Moves, holds_on}
 use Rattle.replay_run_machine.specs.declared.machines.Machine.{Machine}
 

@@ -1,5 +1,5 @@
 -- Lists of items that a jump or a label leads to.
-use Rattle.std.proofs.Common.{◌≡◌, ℕ, Bool, true, false, List, Option, Some, None, is_some, Result, Ok, Err, MatchResult, refl, sym, ap, ◌∙◌}
+use Rattle.std.proofs.Common.{◌≡◌, ℕ, true, false, List, Option, Some, None, is_some, Result, Ok, Err, MatchResult, refl, sym, ap, ◌∙◌}
 use Rattle.c_layout.specs.CheckedUnits.{UnitView}
 use Rattle.lib_models_effects.specs.Worlds.{Reply, goes}
 use Rattle.lib_models_replay.specs.WorldViews.{world_view}

@@ -7,3 +7,4 @@ pub mod ToldTurns
 pub mod Jumped
 pub mod Selected
 pub mod Begun
+pub mod Invoked

@@ -1,5 +1,5 @@
 -- Switches by the newest value.
-use Rattle.std.proofs.Common.{◌≡◌, ℕ, ℤ, List, [], ◌∷◌, Option, Result, Ok, Err, refl, sym, ap, subst, ◌∙◌}
+use Rattle.std.proofs.Common.{◌≡◌, ℤ, List, [], ◌∷◌, Option, Result, sym, ap, ◌∙◌}
 use Rattle.c_layout.specs.CheckedTrees.{StatementTree}
 use Rattle.c_layout.specs.CheckedUnits.{UnitView}
 use Rattle.c_layout.specs.declared.checked_tree.checked_statements.CaseLabel.{CaseLabel}
@@ -12,7 +12,6 @@ use Rattle.lib_models_replay.specs.declared.worlds.Halt.{Halt}
 use Rattle.ref_machine.specs.BranchSteps.{on_case, land, select}
 use Rattle.ref_machine.specs.LabelSearch.{Sought, case_of}
 use Rattle.ref_machine.specs.SourceStates.{State, stuck_at}
-use Rattle.replay_run_machine.specs.MachineViews.{state_view}
 use Rattle.replay_run_machine.specs.Moves.{Moves}
 use Rattle.replay_run_machine.specs.declared.machines.Machine.{Machine}
 use Rattle.replay_run_machine.proofs.ToldTurns.{moves_same}

@@ -1,12 +1,12 @@
 -- Turns that are others with other words.
-use Rattle.std.proofs.Common.{◌≡◌, ℕ, suc, ◌-◌, ◌<◌, List, [], ◌∷◌, ◌++◌, map, reverse, replicate, Bool, true, false, Option, Some, None, Result, Ok, Err, IfOk, refl, sym, ap, subst, ◌∙◌, arith}
+use Rattle.std.proofs.Common.{◌≡◌, ℕ, suc, ◌-◌, ◌<◌, List, [], ◌∷◌, ◌++◌, replicate, Bool, true, false, Option, Some, None, Result, Ok, Err, IfOk, refl, sym, ap, subst, ◌∙◌, arith}
 use Rattle.std.specs.Option.{option_map}
 use Rattle.cc_base.specs.declared.diagnostics.Place.{Place}
-use Rattle.c_layout.specs.CheckedUnits.{UnitView, FunctionView}
+use Rattle.c_layout.specs.CheckedUnits.{UnitView}
 use Rattle.c_layout.specs.declared.checked_tree.checked_terms.ObjectRef.{ObjectRef}
 use Rattle.lib_models_effects.specs.Tests.{TestedSide, object}
-use Rattle.lib_models_effects.specs.Worlds.{World, Reply, goes, stops, Stuck}
-use Rattle.lib_models_replay.specs.WorldViews.{world_view, HaltsAs, ComesTo, nothing_view, why_view}
+use Rattle.lib_models_effects.specs.Worlds.{Reply, goes, stops, Stuck}
+use Rattle.lib_models_replay.specs.WorldViews.{world_view, HaltsAs, ComesTo, nothing_view}
 use Rattle.lib_models_replay.specs.declared.worlds.Cause.TheVariants as cause
 use Rattle.lib_models_replay.specs.declared.worlds.Halt.{Halt}
 use Rattle.lib_models_replay.specs.declared.worlds.Halt.TheVariants as halt

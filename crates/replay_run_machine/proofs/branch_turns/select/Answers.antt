@@ -1,11 +1,10 @@
-use Rattle.std.proofs.Common.{rules, ◌≡◌, ◌∷◌, ℤ, Vec, Global, refl, ap, sym, ◌∙◌}
+use Rattle.std.proofs.Common.{rules, ◌≡◌, ◌∷◌, ℤ, Vec, Global, ap, sym, ◌∙◌}
 use Rattle.std.specs.Option.{option_map}
 use Rattle.c_layout.specs.CheckedTrees as tree
 use Rattle.c_layout.specs.CheckedTrees.{StatementTree, term_tree, statement_tree}
 use Rattle.c_layout.specs.CheckedUnits.{unit_view}
 use Rattle.c_layout.specs.declared.checked_tree.checked_statements.CheckedStatement as of_statement
 use Rattle.flow_lower_conditions.specs.Tests.{named}
-use Rattle.lib_models_memory.specs.Scalars.{Scalar}
 use Rattle.lib_models_effects.specs.Worlds.{Reply, behind}
 use Rattle.lib_models_instances.specs.ByteViews.{scalar_view, labels_view}
 use Rattle.lib_models_replay.specs.WorldViews.{world_view}

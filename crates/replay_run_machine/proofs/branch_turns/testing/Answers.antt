@@ -1,4 +1,4 @@
-use Rattle.std.proofs.Common.{◌≡◌, Some, Err, refl, sym, ap, ◌∙◌}
+use Rattle.std.proofs.Common.{◌≡◌, Some, refl, sym, ap, ◌∙◌}
 use Rattle.std.proofs.lemmas.Result.{err_from_is_err_and}
 use Rattle.cc_base.specs.declared.integer_operators.Rel.{Rel}
 use Rattle.c_layout.specs.CheckedUnits.{unit_view}
@@ -6,7 +6,7 @@ use Rattle.lib_models_effects.specs.Tests.{TestedSide, object, pass_test}
 use Rattle.lib_models_effects.specs.Worlds.{Reply}
 use Rattle.lib_models_replay_tests.specs.SideViews.{side_view}
 use Rattle.ref_machine.specs.BranchSteps as machine
-use Rattle.ref_machine.specs.SourceStates.{State, with_object}
+use Rattle.ref_machine.specs.SourceStates.{State}
 use Rattle.replay_run_items.specs.TestViews as tests
 use Rattle.replay_run_machine.specs.MachineViews.{state_view}
 use Rattle.replay_run_machine.proofs.ToldTurns.{moves_same, moves_stuck, moves_in_world, named_there, named_lost, side_there, side_lost}

@@ -3,7 +3,6 @@ use Rattle.c_layout.specs.CheckedUnits.{function_view}
 use Rattle.flow_lower_functions.specs.Functions.{numbers_from}
 use Rattle.ref_machine.specs.CallSteps.{epilogue}
 use Rattle.ref_machine.specs.Items as item
-use Rattle.ref_machine.specs.Items.{Item}
 use Rattle.replay_run_items.specs.Standings.{Standing, with_item, with_items, added, standing}
 use Rattle.replay_run_items.proofs.Stacks.{standing_none}
 use Rattle.replay_run_machine.specs.MachineViews.{frame_view, hop_if}

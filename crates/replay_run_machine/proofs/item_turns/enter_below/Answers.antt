@@ -1,4 +1,4 @@
-use Rattle.std.proofs.Common.{[], refl, sym, ap, ◌∙◌, Ok, None}
+use Rattle.std.proofs.Common.{refl, sym, ap, ◌∙◌, Ok, None}
 use Rattle.c_layout.specs.CheckedUnits.{unit_view}
 use Rattle.ref_machine.specs.ObjectSteps.{on}
 use Rattle.replay_run_items.specs.Standings.{standing}

@@ -1,19 +1,33 @@
-use Rattle.std.proofs.Common.{rules, ◌≡◌, ◌∷◌, ◌++◌, [], replicate, true, map, Some, None, IfOk, ℕ, ◌+◌, ◌-◌, ◌*◌, ◌<◌, ◌≤◌, length, ◌/◌, ◌%◌, Bool, false, nat_eq, nat_lt, List, slice_index_or, slice_set, bit_and, bit_or, Fits, w8, w32, w64, Bor, MutBor}
-use Rattle.c_layout.specs.CheckedTrees.{term_trees, term_tree, statement_tree, store_tree}
-use Rattle.c_layout.specs.CheckedUnits.{UnitView, unit_view}
-use Rattle.c_layout.specs.Models.{is_model}
-use Rattle.flow_lower_functions.specs.Functions.{numbers_from}
-use Rattle.ref_machine.specs.Items as item
-use Rattle.ref_machine.specs.SourceSteps as machine
-use Rattle.ref_machine.specs.StatementItems.{of_statement, list_statements, all_stored}
-use Rattle.ref_machine.specs.ConditionItems.{term_items}
-use Rattle.ref_machine.specs.TermItems.{arguments}
-use Rattle.replay_run_items.specs.ItemViews.{bindings}
-use Rattle.replay_run_items.specs.Standings.{with_items, standing, Stacks}
+use Rattle.std.proofs.Common.{◌≡◌, ◌<◌, ◌∷◌, ◌++◌, length, map, Bool, IfOk, refl, sym, ap, subst, ◌∙◌, arith}
+use Rattle.std.specs.List.{between}
+use Rattle.std.proofs.lemmas.Slice.{first_rest}
+use Rattle.c_layout.specs.CheckedTrees.{statement_tree}
+use Rattle.ref_machine.specs.SourceSteps.{is_entry}
+use Rattle.ref_machine.specs.StatementItems.{of_statement, list_statements}
+use Rattle.replay_run_items.specs.Standings.{standing}
 use Rattle.replay_run_machine.specs.MachineViews.{state_view}
-use Rattle.replay_run_machine.specs.Moves.{Moves, TurnsTo, HeldAs, turn_with}
+use Rattle.replay_run_machine.specs.Moves.{HeldAs, turn_with}
+use Rattle.replay_run_machine.specs.declared.item_turns.Turned7.{Turned7}
+use Rattle.replay_run_machine.proofs.Entries.{frames_empty}
+use Rattle.replay_run_machine.proofs.ToldTurns.{turns_held}
 use Rattle.replay_run_machine.proofs.item_turns.first_statement.Goals as goal
 
--- src/item_turns.rt:240:1
 pub returns-in-len1-up : goal.returns-in-len1-up
-returns-in-len1-up c = ?
+returns-in-len1-up c = λ u.
+    let before = state_view u c.args.m.now in
+    let all = c.args.statements.now in
+    let first = c.first-item.result in
+    let rest = between 1 (length all) all in
+    let some : 0 < length all = omega (arith, c.in-len1-up.len_at_least) in
+    let split : all ≡ first ∷ rest = first_rest all first some ∙ ap (λ x. x ∷ rest) (sym c.first-item.is) in
+    let s = record before { control = list_statements (map statement_tree rest) ++ before.control } in
+    let m = record c.args.m.now { control = c.push_first.new.control } in
+    let items = (standing u c.push_first.new.control.items).items in
+    let same : c.is_empty-is_entry.result ≡ is_entry before.frames = c.is_empty-is_entry.ensures ∙ frames_empty u c.args.m.now.frames in
+    let family : Bool → Type 0 = λ b. IfOk c.push_first.result (λ _. items ≡ of_statement u b (statement_tree first) ++ s.control) in
+    turns_held u (turn_with u (list_statements (map statement_tree all)) c.args.m.now) c.quiet-in-len1-up.result m s items (of_statement u (is_entry before.frames) (statement_tree first)) c.push_first.result
+    (ap (λ xs. turn_with u (list_statements (map statement_tree xs)) c.args.m.now) split)
+    refl
+    (subst family same (c.push_first.ensures u))
+    (subst (λ (t : Turned7). HeldAs c.push_first.result t.reply) (sym c.quiet-in-len1-up.ensures) c.held.ensures)
+    (ap (λ (t : Turned7). t.counted) c.quiet-in-len1-up.ensures)

@@ -1,19 +1,28 @@
-use Rattle.std.proofs.Common.{rules, ◌≡◌, ◌∷◌, ◌++◌, [], replicate, true, map, Some, None, IfOk, ℕ, ◌+◌, ◌-◌, ◌*◌, ◌<◌, ◌≤◌, length, ◌/◌, ◌%◌, Bool, false, nat_eq, nat_lt, List, slice_index_or, slice_set, bit_and, bit_or, Fits, w8, w32, w64, Bor, MutBor}
-use Rattle.c_layout.specs.CheckedTrees.{term_trees, term_tree, statement_tree, store_tree}
-use Rattle.c_layout.specs.CheckedUnits.{UnitView, unit_view}
-use Rattle.c_layout.specs.Models.{is_model}
-use Rattle.flow_lower_functions.specs.Functions.{numbers_from}
+use Rattle.std.proofs.Common.{◌≡◌, ◌<◌, [], ◌∷◌, length, get_or, Some, sym, ap, arith}
+use Rattle.std.specs.List.{between}
+use Rattle.std.proofs.lemmas.Slice.{first_rest}
+use Rattle.c_layout.specs.CheckedUnits.{unit_view}
 use Rattle.ref_machine.specs.Items as item
-use Rattle.ref_machine.specs.SourceSteps as machine
-use Rattle.ref_machine.specs.StatementItems.{of_statement, list_statements, all_stored}
-use Rattle.ref_machine.specs.ConditionItems.{term_items}
-use Rattle.ref_machine.specs.TermItems.{arguments}
-use Rattle.replay_run_items.specs.ItemViews.{bindings}
-use Rattle.replay_run_items.specs.Standings.{with_items, standing, Stacks}
+use Rattle.ref_machine.specs.ObjectSteps.{leave}
+use Rattle.ref_machine.specs.SourceStates.{first_do}
+use Rattle.ref_machine.specs.SourceSteps.{leave_all}
+use Rattle.replay_run_items.specs.Standings.{Standing}
 use Rattle.replay_run_machine.specs.MachineViews.{state_view}
-use Rattle.replay_run_machine.specs.Moves.{Moves, TurnsTo, HeldAs, turn_with}
+use Rattle.replay_run_machine.proofs.ToldTurns.{turns_by, turns_same, moves_same}
 use Rattle.replay_run_machine.proofs.item_turns.leave_all.Goals as goal
 
--- src/item_turns.rt:173:1
 pub returns-in-Ok : goal.returns-in-Ok
-returns-in-Ok c = ?
+returns-in-Ok c =
+    let u = unit_view c.args.unit.now in
+    let s = state_view u c.args.m.now in
+    let all = c.args.objects.now in
+    let n = get_or all 0 0 in
+    let rest = between 1 (length all) all in
+    let some : 0 < length all = omega (arith, c.in-len1-up.len_at_least) in
+    let first : all ≡ n ∷ rest = first_rest all 0 some in
+    let m = record c.args.m.now { control = c.push_item.new.control } in
+    let state : state_view u m ≡ first_do (item.Leaves rest ∷ []) s = ap (λ (t : Standing). record s { control = t.items }) (c.in-Ok.ensures u) in
+    turns_same u (leave_all u s (n ∷ rest)) (leave_all u s all) c.step.result c.leave_object.new.m (sym (ap (leave_all u s) first))
+    (turns_by u (leave_all u s (n ∷ rest)) c.step.result c.leave_object.new.m c.leave_object.result (Some c.own_place-at.result) c.step.ensures
+    (moves_same u (leave (state_view u m) n) (leave (first_do (item.Leaves rest ∷ []) s) n) c.leave_object.result c.leave_object.new.m (ap (λ z. leave z n) state) (c.leave_object.ensures u))
+    (ap (λ at. Some at) (sym c.own_place-at.ensures)))

@@ -1,10 +1,7 @@
-use Rattle.std.proofs.Common.{◌≡◌, ◌-◌, ◌<◌, ◌≤◌, ◌++◌, length, get_or, take, Some, None, refl, sym, ap, ◌∙◌, arith}
-use Rattle.std.proofs.lemmas.List.{take_all}
-use Rattle.c_layout.specs.CheckedUnits.{UnitView}
+use Rattle.std.proofs.Common.{◌≡◌, ◌-◌, ◌<◌, ◌++◌, take, sym, ap, ◌∙◌, arith}
 use Rattle.flow_lower_functions.specs.Functions.{numbers_from}
-use Rattle.replay_run_items.specs.Standings.{Standing, on_item, standing}
+use Rattle.replay_run_items.specs.Standings.{Standing, standing}
 use Rattle.replay_run_items.proofs.Stacks.{standing_none}
-use Rattle.replay_run_items.specs.declared.items.Item7.{Item7}
 use Rattle.replay_run_items.specs.declared.items.Item7.TheVariants as held
 use Rattle.replay_run_machine.specs.Asked.{first_of}
 use Rattle.replay_run_machine.proofs.Entries.{entry_is, entry_below, first_number}

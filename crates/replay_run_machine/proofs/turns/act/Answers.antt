@@ -1,4 +1,4 @@
-use Rattle.std.proofs.Common.{Some, None, refl, sym, ap}
+use Rattle.std.proofs.Common.{None, refl, sym, ap}
 use Rattle.c_layout.specs.CheckedUnits.{unit_view}
 use Rattle.replay_run_items.specs.declared.items.Item7.TheVariants as held
 use Rattle.replay_run_machine.specs.Moves.{turn_of}

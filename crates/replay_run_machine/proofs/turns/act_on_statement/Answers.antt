@@ -1,13 +1,8 @@
-use Rattle.std.proofs.Common.{Some, None, refl, sym, ap, ◌∙◌}
+use Rattle.std.proofs.Common.{Some, sym, ap}
 use Rattle.c_layout.specs.CheckedUnits.{unit_view}
 use Rattle.replay_run_items.specs.declared.items.Item7.TheVariants as held
 use Rattle.replay_run_machine.specs.Moves.{turn_of}
-use Rattle.replay_run_machine.proofs.ToldTurns.{turns_by, turns_same, line_counted, loop_turned, moves_held, counts_exact}
-use Rattle.c_layout.specs.CheckedTrees.{statement_tree}
-use Rattle.ref_machine.specs.ObjectSteps.{on}
-use Rattle.ref_machine.specs.SourceStates.{first_do}
-use Rattle.ref_machine.specs.SourceSteps.{quiet}
-use Rattle.replay_run_items.specs.ItemViews.{loop_turn}
+use Rattle.replay_run_machine.proofs.ToldTurns.{turns_by, turns_same, line_counted}
 use Rattle.replay_run_items.specs.Standings.{standing}
 use Rattle.replay_run_machine.specs.MachineViews.{state_view}
 use Rattle.replay_run_machine.proofs.turns.act_on_statement.Goals as goal
