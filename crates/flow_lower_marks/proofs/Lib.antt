@@ -1,0 +1,5 @@
+pub mod Growth
+mod GrowingTerms
+mod GrowingConditions
+mod GrowingStatements
+pub mod GrowingWorks
