@@ -1,5 +1,8 @@
-pub mod Growth
-mod GrowingTerms
-mod GrowingConditions
-mod GrowingStatements
-pub mod GrowingWorks
+mod MarkArithmetic
+mod Debts
+mod DebtsOfTerms
+mod DebtsOfConditions
+mod DebtsOfStatements
+mod DebtsOfSwitches
+mod MarkedOnce
+pub mod MarkedTemplates

@@ -1,6 +1,6 @@
-//! Laws on the labels, names and scopes that works give away.
+//! Laws on the labels that templates mark.
 #![tactic(auto)]
 
 mod theorems;
 
-pub use theorems::counters_grow;
+pub use theorems::labels_are_marked_once;

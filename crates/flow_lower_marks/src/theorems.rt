@@ -1,8 +1,8 @@
-//! What works give away is never taken back.
-ghost use Rattle.flow_lower_marks.specs.Growth.{CountersGrow};
+//! Each label of a template is marked at most once.
+ghost use Rattle.flow_lower_marks.specs.Marks.{LabelsAreMarkedOnce};
 
-/// Behind the pieces of works stand the names that were given away before them, at the same numbers, and no fewer
-/// labels and scopes.
-pub fn counters_grow()
-    ensures { CountersGrow }
+/// In the template of a function that has each of its labels at most once, and in each switch each of its cases and
+/// its default label at most once, each label is marked at most once.
+pub fn labels_are_marked_once()
+    ensures { LabelsAreMarkedOnce }
 {}

@@ -22,14 +22,14 @@ use Rattle.flow_lower_tasks.specs.Scopes.{ScopeView}
 use Rattle.flow_lower_tasks.specs.Settings.{SettingView}
 use Rattle.flow_lower_tasks.specs.declared.pending_works.Landing.{Landing}
 use Rattle.flow_lower_tasks.specs.declared.pending_works.Surroundings.{Surroundings}
-use Rattle.flow_lower_marks.specs.Growth.{Grows}
-use Rattle.flow_lower_marks.proofs.Growth.{grows_work, grows_labels, grows_or, works}
+use Rattle.flow_lower_growth.specs.Growth.{Grows}
+use Rattle.flow_lower_growth.proofs.Growth.{grows_work, grows_labels, grows_or, works}
 
-grows_entered : {start : Plan} (at : Place) (xs : List ℕ) (p : Plan) → Grows start p → Grows start (all_entered at xs p)
+pub grows_entered : {start : Plan} (at : Place) (xs : List ℕ) (p : Plan) → Grows start p → Grows start (all_entered at xs p)
 grows_entered at [] p g = g
 grows_entered at (x ∷ xs) p g = grows_entered at xs (entered at x p) (search works depth 30)
 
-grows_left : {start : Plan} (at : Place) (xs : List ℕ) (p : Plan) → Grows start p → Grows start (all_left at xs p)
+pub grows_left : {start : Plan} (at : Place) (xs : List ℕ) (p : Plan) → Grows start p → Grows start (all_left at xs p)
 grows_left at [] p g = g
 grows_left at (x ∷ xs) p g = grows_left at xs (left at x p) (search works depth 30)
 
@@ -41,7 +41,7 @@ grows_way s (x ∷ steps) from to p g =
     let outwards = grows_way s steps (around s from) to (all_left s.at (objects s from) p) (grows_left s.at (objects s from) p g) in
     grows_or (from == to) p _ g (grows_or (nat_lt to from) _ _ outwards inwards)
 
-grows_leap : {start : Plan} (s : SettingView) (from : ℕ) (to : Landing) (p : Plan) → Grows start p → Grows start (leap s from to p)
+pub grows_leap : {start : Plan} (s : SettingView) (from : ℕ) (to : Landing) (p : Plan) → Grows start p → Grows start (leap s from to p)
 grows_leap s from to p g = let on_way = grows_way s s.scopes.scopes from to.scope p g in search works depth 30
 
 grows_stored : {start : Plan} (at : Place) (object : ℕ) (x : StoreTree) (p : Plan) → Grows start p → Grows start (stored at object x p)
@@ -53,15 +53,15 @@ grows_all_stored : {start : Plan} (at : Place) (object : ℕ) (xs : List StoreTr
 grows_all_stored at object [] p g = g
 grows_all_stored at object (x ∷ xs) p g = grows_all_stored at object xs (stored at object x p) (grows_stored at object x p g)
 
-grows_statements : {start : Plan} (items : StatementTrees) (around : Surroundings) (p : Plan) → Grows start p → Grows start (all_statements items around p)
+pub grows_statements : {start : Plan} (items : StatementTrees) (around : Surroundings) (p : Plan) → Grows start p → Grows start (all_statements items around p)
 grows_statements tree.NoMore around p g = g
 grows_statements (tree.And first rest) around p g = grows_statements rest around (with_work (jobs.Statement first around) p) (grows_work (jobs.Statement first around) p g)
 
-grows_check : {start : Plan} (label : ℕ) (test : Option TermTree) (first second : ℕ) (p : Plan) → Grows start p → Grows start (check label test first second p)
+pub grows_check : {start : Plan} (label : ℕ) (test : Option TermTree) (first second : ℕ) (p : Plan) → Grows start p → Grows start (check label test first second p)
 grows_check label None first second p g = search works depth 30
 grows_check label (Some e) first second p g = search works depth 30
 
-grows_step : {start : Plan} (e : Option TermTree) (p : Plan) → Grows start p → Grows start (unused e p)
+pub grows_step : {start : Plan} (e : Option TermTree) (p : Plan) → Grows start p → Grows start (unused e p)
 grows_step None p g = g
 grows_step (Some e) p g = search works depth 30
 
@@ -80,7 +80,7 @@ grows_mention_of : {start : Plan} (o : NamedObject) (kind : Scalar) (p : Plan) �
 grows_mention_of o (scalar.Int kind) p g = search works
 grows_mention_of o scalar.Pointer p g = g
 
-grows_mention : {start : Plan} (o : Option NamedObject) (p : Plan) → Grows start p → Grows start (mention_if o p).after
+pub grows_mention : {start : Plan} (o : Option NamedObject) (p : Plan) → Grows start p → Grows start (mention_if o p).after
 grows_mention None p g = g
 grows_mention (Some o) p g = grows_mention_of o o.kind p g
 
@@ -103,10 +103,10 @@ grows_blocks : {start : Plan} (s : SettingView) (from : ℕ) (arms : List CaseAr
 grows_blocks s from [] p g = g
 grows_blocks s from (a ∷ arms) p g = grows_blocks s from arms (edge_block s from a.to a.landing p) (grows_block s from a.to a.landing p g)
 
-grows_dispatch_behind : {start : Plan} (s : SettingView) (at : Place) (e : TermTree) (cases : List CaseLabel) (from : ℕ) (landing : Landing) (arms : List CaseArm) (other : ℕ) (found : Mentioned) → Grows start found.after → Grows start (dispatch_behind s at e cases from landing arms other found)
+pub grows_dispatch_behind : {start : Plan} (s : SettingView) (at : Place) (e : TermTree) (cases : List CaseLabel) (from : ℕ) (landing : Landing) (arms : List CaseArm) (other : ℕ) (found : Mentioned) → Grows start found.after → Grows start (dispatch_behind s at e cases from landing arms other found)
 grows_dispatch_behind s at e cases from landing arms other found g = search (works, grows_block, grows_blocks) depth 30
 
-grows_dispatch_of : {start : Plan} (s : SettingView) (at : Place) (e : TermTree) (cases : List CaseLabel) (from : ℕ) (b : SwitchBegun) (p : Plan) → Grows start p → Grows start (dispatch s at e cases from b p)
+pub grows_dispatch_of : {start : Plan} (s : SettingView) (at : Place) (e : TermTree) (cases : List CaseLabel) (from : ℕ) (b : SwitchBegun) (p : Plan) → Grows start p → Grows start (dispatch s at e cases from b p)
 grows_dispatch_of s at e cases from b p g =
     let landing = other_landing (choice_at s b.choice) b.dispatch b.after in
     let a = case_arms s from b.dispatch.cases (choice_at s b.choice).first cases p in

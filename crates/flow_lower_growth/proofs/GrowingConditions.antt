@@ -16,9 +16,9 @@ use Rattle.flow_lower_tasks.specs.TermKinds.{meaning, integer_type, term_type, r
 use Rattle.flow_lower_tasks.specs.declared.pending_works.Decision.{Decision}
 use Rattle.flow_lower_tasks.specs.declared.term_kinds.OperatorMeaning.{OperatorMeaning}
 use Rattle.flow_lower_tasks.specs.declared.term_kinds.OperatorMeaning.TheVariants.{Number, Truth}
-use Rattle.flow_lower_marks.specs.Growth.{Grows}
-use Rattle.flow_lower_marks.proofs.Growth.{works}
-use Rattle.flow_lower_marks.proofs.GrowingTerms.{grows_argued}
+use Rattle.flow_lower_growth.specs.Growth.{Grows}
+use Rattle.flow_lower_growth.proofs.Growth.{works}
+use Rattle.flow_lower_growth.proofs.GrowingTerms.{grows_argued}
 
 grows_side : {start : Plan} (o : Option NamedObject) (constant : Option ℤ) (p : Plan) → Grows start p → Grows start (side_of o constant p).after
 grows_side (Some o) constant p g = search works

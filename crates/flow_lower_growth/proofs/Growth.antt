@@ -5,7 +5,7 @@ use Rattle.flow_lower_tasks.specs.Pieces.{NameView}
 use Rattle.flow_lower_tasks.specs.Works.{Job}
 use Rattle.flow_lower_tasks.specs.Plans.{Plan, with_work, with_name, with_labels, with_scope, with_dispatch}
 use Rattle.flow_lower_tasks.specs.declared.template_builder.Dispatch.{Dispatch}
-use Rattle.flow_lower_marks.specs.Growth.{Grows}
+use Rattle.flow_lower_growth.specs.Growth.{Grows}
 
 at_most_itself : (n : ℕ) → n ≤ n
 at_most_itself n = omega arith

@@ -7,11 +7,11 @@ use Rattle.flow_lower_tasks.specs.Plans.{Plan}
 use Rattle.flow_lower_tasks.specs.Settings.{SettingView}
 use Rattle.flow_lower_functions.specs.Turns.{planless}
 use Rattle.flow_lower_works.specs.Derivations.{parts, Makes, nothing, piece, work}
-use Rattle.flow_lower_marks.specs.Growth.{Grows}
-use Rattle.flow_lower_marks.proofs.Growth.{grows_not, grows_on}
-use Rattle.flow_lower_marks.proofs.GrowingTerms.{grows_term, grows_pointer}
-use Rattle.flow_lower_marks.proofs.GrowingConditions.{grows_condition}
-use Rattle.flow_lower_marks.proofs.GrowingStatements.{grows_statement}
+use Rattle.flow_lower_growth.specs.Growth.{Grows}
+use Rattle.flow_lower_growth.proofs.Growth.{grows_not, grows_on}
+use Rattle.flow_lower_growth.proofs.GrowingTerms.{grows_term, grows_pointer}
+use Rattle.flow_lower_growth.proofs.GrowingConditions.{grows_condition}
+use Rattle.flow_lower_growth.proofs.GrowingStatements.{grows_statement}
 
 pub grows_parts : (s : SettingView) (j : Job) (p : Plan) → Grows p (parts s j p)
 grows_parts s (jobs.Value e depth) p = grows_term s e depth _ p (grows_not p)
@@ -22,7 +22,7 @@ grows_parts s (jobs.Statement i around) p = grows_statement s i around p (grows_
 grows_parts s (jobs.Ready q) p = grows_not p
 
 -- what is planned is not counted
-planless_grows : (p q : Plan) → Grows p q → Grows p (planless q)
+pub planless_grows : (p q : Plan) → Grows p q → Grows p (planless q)
 planless_grows p q g = record { more_names = g.more_names; names = g.names; labels = g.labels; scopes = g.scopes; more_dispatches = g.more_dispatches; dispatches = g.dispatches }
 
 pub grows : (s : SettingView) (p : Plan) (js : List Job) (ps : List PieceView) (r : Plan) → Makes s p js ps r → Grows p r

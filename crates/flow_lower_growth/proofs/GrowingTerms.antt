@@ -13,8 +13,8 @@ use Rattle.flow_lower_tasks.specs.Settings.{SettingView}
 use Rattle.flow_lower_expressions.specs.Calls.{argued, is_allocation, reads_line, sited, allocated, line_value, target_size, library_at, plain_call, library_call}
 use Rattle.flow_lower_expressions.specs.LvaluePointers.{address}
 use Rattle.flow_lower_expressions.specs.Values.{of_form, term}
-use Rattle.flow_lower_marks.specs.Growth.{Grows}
-use Rattle.flow_lower_marks.proofs.Growth.{grows_work, works}
+use Rattle.flow_lower_growth.specs.Growth.{Grows}
+use Rattle.flow_lower_growth.proofs.Growth.{grows_work, works}
 
 pub grows_argued : {start : Plan} (args : TermTrees) (depth : ℕ) (p : Plan) → Grows start p → Grows start (argued args depth p)
 grows_argued tree.End depth p g = g
