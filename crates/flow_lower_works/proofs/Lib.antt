@@ -1,1 +1,1 @@
-mod Derivations
+pub mod Derivations

@@ -1,0 +1,32 @@
+-- Works only add to what was given away, whatever they come to.
+use Rattle.std.proofs.Common.{List}
+use Rattle.flow_lower_tasks.specs.Pieces.{PieceView}
+use Rattle.flow_lower_tasks.specs.Works as jobs
+use Rattle.flow_lower_tasks.specs.Works.{Job}
+use Rattle.flow_lower_tasks.specs.Plans.{Plan}
+use Rattle.flow_lower_tasks.specs.Settings.{SettingView}
+use Rattle.flow_lower_functions.specs.Turns.{planless}
+use Rattle.flow_lower_works.specs.Derivations.{parts, Makes, nothing, piece, work}
+use Rattle.flow_lower_growth.specs.Growth.{Grows}
+use Rattle.flow_lower_growth.proofs.Growth.{grows_not, grows_on}
+use Rattle.flow_lower_growth.proofs.GrowingTerms.{grows_term, grows_pointer}
+use Rattle.flow_lower_growth.proofs.GrowingConditions.{grows_condition}
+use Rattle.flow_lower_growth.proofs.GrowingStatements.{grows_statement}
+
+pub grows_parts : (s : SettingView) (j : Job) (p : Plan) → Grows p (parts s j p)
+grows_parts s (jobs.Value e depth) p = grows_term s e depth _ p (grows_not p)
+grows_parts s (jobs.Unused e depth) p = grows_term s e depth _ p (grows_not p)
+grows_parts s (jobs.Address l depth) p = grows_pointer s l depth p (grows_not p)
+grows_parts s (jobs.Condition e decision) p = grows_condition s e decision p (grows_not p)
+grows_parts s (jobs.Statement i around) p = grows_statement s i around p (grows_not p)
+grows_parts s (jobs.Ready q) p = grows_not p
+
+-- what is planned is not counted
+pub planless_grows : (p q : Plan) → Grows p q → Grows p (planless q)
+planless_grows p q g = record { more_names = g.more_names; names = g.names; labels = g.labels; scopes = g.scopes; more_dispatches = g.more_dispatches; dispatches = g.dispatches }
+
+pub grows : (s : SettingView) (p : Plan) (js : List Job) (ps : List PieceView) (r : Plan) → Makes s p js ps r → Grows p r
+grows s p _ _ r (nothing _) = grows_not p
+grows s p _ _ r (piece _ q js qs _ m) = grows s p js qs r m
+grows s p _ _ r (work _ j js ps q qs _ other m k) =
+    grows_on p q r (grows_on p (planless (parts s j p)) q (planless_grows p (parts s j p) (grows_parts s j p)) (grows s (planless (parts s j p)) (parts s j p).jobs ps q m)) (grows s q js qs r k)

@@ -1,0 +1,6 @@
+//! Laws on the labels that templates mark.
+#![tactic(auto)]
+
+mod theorems;
+
+pub use theorems::labels_are_marked_once;
