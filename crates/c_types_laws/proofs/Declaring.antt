@@ -1,5 +1,5 @@
 -- What typing a declaration's specifiers and declarators leads to, by what its steps do.
-use Rattle.std.proofs.Common.{ℕ, ◌+◌, ℤ, List, [], ◌∷◌, Option, Some, None, Ok, Err, length}
+use Rattle.std.proofs.Common.{◌≡◌, ℕ, ◌+◌, ℤ, List, [], ◌∷◌, Option, Some, None, Ok, Err, length, refl}
 use Rattle.std.specs.Prelude.{Bool, true, false, is_some}
 use Rattle.cc_base.specs.declared.diagnostics.Place.{Place}
 use Rattle.c_layout.specs.StructViews.{StructView}
@@ -17,7 +17,6 @@ use Rattle.c_types_scopes.specs.DeclaredTypes.{DeclaredView}
 use Rattle.c_types_scopes.specs.Known.{size_of}
 use Rattle.c_types_scopes.specs.Names.{ScopesView, number_in, found_tag_here}
 use Rattle.c_types_scopes.specs.StructTables as types
-use Rattle.c_types_scopes.specs.StructTables.{TypesView}
 use Rattle.c_types_scopes.specs.States.{State, with_name}
 use Rattle.c_types_scopes.specs.declared.meanings.Tag.{Tag}
 use Rattle.c_types_scopes.specs.declared.meanings.Tag.TheVariants as tag
@@ -25,12 +24,11 @@ use Rattle.c_types_operands.specs.Operands.{term_of}
 use Rattle.c_types_primary.specs.TypeNames as names
 use Rattle.c_types_expressions.specs.Expressions.{typed}
 use Rattle.c_types_expressions.specs.Expressions as expressions
-use Rattle.c_types_declarations.specs.ContextSteps.{with_types, with_struct, with_body}
+use Rattle.c_types_declarations.specs.ContextSteps.{with_struct, with_body, with_member, with_complete}
 use Rattle.c_types_declarations.specs.Declarators as declarators
 use Rattle.c_types_declarations.specs.Declarators.{StepsView, declared_type}
 use Rattle.c_types_declarations.specs.Enumerations as enumerations
 use Rattle.c_types_declarations.specs.StructBodies as bodies
-use Rattle.c_types_declarations.specs.declared.struct_bodies.OpenBody.{OpenBody}
 use Rattle.c_types_declarations.specs.Specifiers.{SpecifiedView, ReadingView, nothing_read, said}
 use Rattle.c_types_declarations.specs.SpecifierTrees as spec
 use Rattle.c_types_laws.proofs.Leading.{Leads, kept_leads, cond_leads, onward, then}
@@ -40,7 +38,10 @@ use Rattle.c_types_laws.proofs.Expressing.{HasSteps, typed_leads, length_leads, 
 pub record HasDeclarations (R : State → State → Type 0) : Type 0 where
   pub steps : HasSteps R
   pub scoped : (s : State) (x : ScopesView) → R s (record s { scopes = x })
-  pub structs : (s : State) (x : TypesView) → R s (with_types s x)
+  pub struct_more : (s : State) → R s (with_struct s)
+  pub body : (s : State) (owner : ℕ) → R s (with_body s owner)
+  pub member : (s : State) (owner name field : ℕ) (e : Option ℕ) → R s (with_member s owner name field e)
+  pub completed : (s t : State) (owner : ℕ) (made : StructView) → types.has_body s.types owner ≡ false → R (with_body s owner) t → R s (with_complete t owner made)
   pub enumerations : (s : State) (x : List (List ℤ)) → R s (record s { enumerations = x })
 
 module _ (R : State → State → Type 0) (has : HasDeclarations R) where
@@ -128,7 +129,7 @@ module _ (R : State → State → Type 0) (has : HasDeclarations R) where
   alone_of_leads : (at : Place) (name : ℕ) (s : State) (t : Option Tag) → Leads R s (bodies.alone_of at name s t)
   alone_of_leads at name s (Some (tag.Struct number)) = has.steps.same s
   alone_of_leads at name s (Some (tag.Enumeration number)) = tt
-  alone_of_leads at name s None = has.steps.trans s (with_struct s) (bodies.new_tag name s).1 (has.structs s (types.with_struct s.types)) (has.scoped (with_struct s) _)
+  alone_of_leads at name s None = has.steps.trans s (with_struct s) (bodies.new_tag name s).1 (has.struct_more s) (has.scoped (with_struct s) _)
 
   alone_leads : (t : NameView) (s : State) → Leads R s (bodies.alone_tag t s)
   alone_leads t s = go s (with_name s t.text) (bodies.alone_tag t s) (met s t.text) (alone_of_leads t.at (number_in s.scopes.names t.text) (with_name s t.text) (found_tag_here s.scopes (number_in s.scopes.names t.text)))
@@ -138,23 +139,40 @@ module _ (R : State → State → Type 0) (has : HasDeclarations R) where
   owned_leads s at (Err f) h = tt
 
   owner_leads : (at : Place) (t : Option NameView) (s : State) → Leads R s (bodies.owner_of at t s)
-  owner_leads at None s = has.structs s (types.with_struct s.types)
+  owner_leads at None s = has.struct_more s
   owner_leads at (Some t) s = owned_leads s t.at (bodies.alone_tag t s) (alone_leads t s)
 
-  begun_by_leads : (b : Bool) (owner : ℕ) (at : Place) (s : State) → R s (bodies.begun_by b owner at s).1
-  begun_by_leads true owner at s = has.structs s (types.with_struct s.types)
-  begun_by_leads false owner at s = has.steps.same s
+  -- a body whose members are laid out
+  laid_body : (owner : ℕ) (at : Place) (u : State) (lay : State → ℕ → Ruled (Partial × State)) (b : Bool) → types.has_body u.types owner ≡ b → ((s1 : State) (n : ℕ) → Leads R s1 (lay s1 n))
+      → Leads R u (after (lay (bodies.begun_by b owner at (with_body u owner)).1 (bodies.begun_by b owner at (with_body u owner)).0.number) (bodies.ended (bodies.begun_by b owner at (with_body u owner)).0))
+  laid_body owner at u lay true is h = of_laid (lay (with_struct (with_body u owner)) (length (with_body u owner).types.structs))
+    where
+      of_laid : (r : Ruled (Partial × State)) → Leads R u (after r (bodies.ended (record { owner = owner; at = at; is_repeated = true; number = length (with_body u owner).types.structs })))
+      of_laid (Ok p) = tt
+      of_laid (Err f) = tt
+  laid_body owner at u lay false is h = of_laid (lay (with_body u owner) owner) (h (with_body u owner) owner)
+    where
+      of_made : (t : State) (made : Option StructView) → R (with_body u owner) t → Leads R u (bodies.completed at owner made t)
+      of_made t None g = tt
+      of_made t (Some made) g = has.completed u t owner made is g
 
-  begun_leads : (s : State) (at : Place) (t : Option NameView) → Leads R s (bodies.begun_body s at t)
-  begun_leads s at t = step s (bodies.owner_of at t s) bodies.begun_of (owner_leads at t s)
-      (λ o u. has.steps.trans u (with_body u o.0) (bodies.begun o.0 o.1 u).1 (has.structs u (types.with_body u.types o.0)) (begun_by_leads (types.has_body u.types o.0) o.0 o.1 (with_body u o.0)))
+      of_laid : (r : Ruled (Partial × State)) → Leads R (with_body u owner) r → Leads R u (after r (bodies.ended (record { owner = owner; at = at; is_repeated = false; number = owner })))
+      of_laid (Ok p) g = of_made p.1 (finished p.0) g
+      of_laid (Err f) g = tt
+
+  body_leads : (s : State) (at : Place) (t : Option NameView) (lay : State → ℕ → Ruled (Partial × State)) → ((s1 : State) (n : ℕ) → Leads R s1 (lay s1 n)) → Leads R s (after (bodies.begun_body s at t) (λ b s1. after (lay s1 b.number) (bodies.ended b)))
+  body_leads s at t lay h = of_owner (bodies.owner_of at t s) (owner_leads at t s)
+    where
+      of_owner : (r : Ruled ((ℕ × Place) × State)) → Leads R s r → Leads R s (after (after r bodies.begun_of) (λ b s1. after (lay s1 b.number) (bodies.ended b)))
+      of_owner (Ok p) g = go s p.1 (after (lay (bodies.begun p.0.0 p.0.1 p.1).1 (bodies.begun p.0.0 p.0.1 p.1).0.number) (bodies.ended (bodies.begun p.0.0 p.0.1 p.1).0)) g (laid_body p.0.0 p.0.1 p.1 lay (types.has_body p.1.types p.0.0) refl h)
+      of_owner (Err f) g = tt
 
   beside_leads : (p : Partial) (s : State) (r : Ruled (Unit {0} × State)) → Leads R s r → Leads R s (bodies.beside p r)
   beside_leads p s (Ok q) h = h
   beside_leads p s (Err f) h = tt
 
   named_member_leads : (at : Place) (owner name field : ℕ) (e : Option ℕ) (s : State) → Leads R s (bodies.named_by at owner name field e s)
-  named_member_leads at owner name field e s = cond_leads R s (types.has_member s.types owner name) _ _ tt (has.structs s (types.with_member s.types owner name field e))
+  named_member_leads at owner name field e s = cond_leads R s (types.has_member s.types owner name) _ _ tt (has.member s owner name field e)
 
   name_member_leads : (owner : ℕ) (n : NameView) (field : ℕ) (e : Option ℕ) (s : State) → Leads R s (bodies.name_member owner n field e s)
   name_member_leads owner n field e s = go s (with_name s n.text) (bodies.name_member owner n field e s) (met s n.text) (named_member_leads n.at owner (number_in s.scopes.names n.text) field e (with_name s n.text))
@@ -174,13 +192,6 @@ module _ (R : State → State → Type 0) (has : HasDeclarations R) where
   members_lead [] owner base count p s = has.steps.same s
   members_lead (d ∷ ds) owner base count p s = step s (bodies.add_member owner base d count p s) _ (member_leads owner base d.layers count p s d.name) (λ q t. members_lead ds owner base (count + 1) q t)
 
-  completed_leads : (at : Place) (owner : ℕ) (made : Option StructView) (s : State) → Leads R s (bodies.completed at owner made s)
-  completed_leads at owner None s = tt
-  completed_leads at owner (Some made) s = has.structs s (types.with_complete s.types owner made)
-
-  ended_leads : (b : OpenBody) (p : Partial) (s : State) → Leads R s (bodies.ended b p s)
-  ended_leads b p s = cond_leads R s b.is_repeated _ (bodies.completed b.at b.owner (finished p) s) tt (completed_leads b.at b.owner (finished p) s)
-
   -- ---- specifiers
 
   struct_alone_leads : (s : State) (alone : Bool) (at : Place) (t : Option NameView) → Leads R s (spec.struct_alone s alone at t)
@@ -199,7 +210,7 @@ module _ (R : State → State → Type 0) (has : HasDeclarations R) where
     read_leads s alone r (tree.StructTag at t) = step s (spec.struct_alone s alone at t) (spec.struct_said r (is_some t)) (struct_alone_leads s alone at t) (λ n u. has.steps.same u)
     read_leads s alone r (tree.StructBody at t members) =
         step s (spec.struct_body s at t members) (spec.struct_said r (is_some t))
-        (step s (bodies.begun_body s at t) _ (begun_leads s at t) (λ b s1. step s1 (spec.laid_out s1 b.number at 0 no_members members) (bodies.ended b) (laid_out_leads s1 b.number at 0 no_members members) (λ p u. ended_leads b p u)))
+        (body_leads s at t (λ s1 n. spec.laid_out s1 n at 0 no_members members) (λ s1 n. laid_out_leads s1 n at 0 no_members members))
         (λ n u. has.steps.same u)
     read_leads s alone r (tree.EnumTag at t) = step s (spec.enumeration_alone s at t) (spec.enumeration_said r) (enumeration_alone_leads s at t) (λ n u. has.steps.same u)
     read_leads s alone r (tree.EnumBody at t es) = step s (enumerations.enumeration s t es) (spec.enumeration_said r) (enumeration_leads s t es) (λ n u. has.steps.same u)

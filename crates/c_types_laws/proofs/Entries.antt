@@ -90,7 +90,10 @@ declarations_grow : HasDeclarations Grows
 declarations_grow = record {
   steps = steps_grow;
   scoped = λ s x. at_most (count s);
-  structs = λ s x. at_most (count s);
+  struct_more = λ s. at_most (count s);
+  body = λ s owner. at_most (count s);
+  member = λ s owner name field e. at_most (count s);
+  completed = λ s t owner made first grown. grown;
   enumerations = λ s x. at_most (count s);
 }
 
@@ -99,8 +102,8 @@ bodies_grow = record {
   declares = declarations_grow;
   local = λ s text at d. (let l = length-append s.body.locals (record { name = text; at = at; ctype = d.ctype } ∷ []) in omega (arith, l));
   local_type = λ s number t. (let l = changed_at_long (typed_local t) number s.body.locals (slice_get s.body.locals number) in omega (arith, l));
-  objects = λ s x. at_most (count s);
-  statics = λ s x. at_most (count s);
+  static = λ n d s. at_most (count s);
+  initial = λ s u equals index number t made i v stores numbered is grown sized constant kept. omega (arith, grown, kept);
 }
 
 -- ---- steps that make so many objects

@@ -59,7 +59,7 @@ module _ (R : State → State → Type 0) (has : HasSteps R) where
     item_leads s (tree.Single e) = step s (typed s e) lists.typed_alone (typed_leads R has s e) (λ x t. has.same t)
     item_leads s (tree.Braces at items) = items_lead s items
 
-    items_lead : (s : State) (items : InitializerTrees) → Leads R s (lists.typed_items s items)
+    pub items_lead : (s : State) (items : InitializerTrees) → Leads R s (lists.typed_items s items)
     items_lead s tree.NoInitializer = has.same s
     items_lead s (tree.MoreInitializers i items) = step s (lists.typed_item s i) _ (item_leads s i) (λ u t. items_lead t items)
 

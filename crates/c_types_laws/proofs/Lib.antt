@@ -3,4 +3,4 @@ pub mod Expressing
 pub mod Declaring
 pub mod Initializing
 pub mod Stating
-mod Entries
+pub mod Entries

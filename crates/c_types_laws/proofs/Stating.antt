@@ -1,26 +1,28 @@
 -- What typing the statements of a body leads to, by what its steps do.
-use Rattle.std.proofs.Common.{ℕ, ℤ, List, [], ◌∷◌, Option, Some, None, Ok, Err, length}
+use Rattle.std.proofs.Common.{◌≡◌, ℕ, ℤ, List, [], ◌∷◌, ◌++◌, Option, Some, None, Ok, Err, length, slice_get, ap, refl, sym}
 use Rattle.std.specs.Prelude.{Bool, true, false, cond, ◌==◌}
+use Rattle.std.proofs.lemmas.Option.{same_Some}
 use Rattle.cc_base.specs.declared.diagnostics.Place.{Place}
 use Rattle.c_layout.specs.Types.{Ty}
 use Rattle.c_layout.specs.CheckedTrees.{TermTree, StoreTree, StoreValue, StoreCopy, StoreText}
-use Rattle.c_layout.specs.CheckedUnits.{StaticView}
+use Rattle.c_layout.specs.CheckedUnits.{StaticStoreView}
 use Rattle.c_layout.specs.SyntaxTrees.{Tree}
 use Rattle.c_layout.specs.DeclarationTrees as syntax
 use Rattle.c_layout.specs.DeclarationTrees.{NameView, DeclaratorLayerView, InitializerTree, InitDeclaratorView, Object, Initialized, Prototype, LocalView, ForFirstView, NoClause, Clause, Declares, spec_trees}
-use Rattle.c_types_scopes.specs.Refusals.{Ruled}
+use Rattle.c_types_scopes.specs.Refusals.{Ruled, type_fault}
 use Rattle.c_types_scopes.specs.Answers.{after, kept}
 use Rattle.c_types_scopes.specs.DeclaredTypes.{DeclaredView, ObjectView}
 use Rattle.c_types_scopes.specs.Names.{number_in}
 use Rattle.c_types_scopes.specs.States.{State, with_name, with_local, with_constant}
 use Rattle.c_types_expressions.specs.Expressions.{typed}
 use Rattle.c_types_initializers.specs.Initialized.{InitializedView, ByTerm, ByLvalue, ByStores}
-use Rattle.c_types_initializers.specs.StaticStores.{with_list, with_expressions, constant_stores, static_stores}
+use Rattle.c_types_initializers.specs.StaticStores.{with_list, with_expressions, constant_stores}
 use Rattle.c_types_declarations.specs.Declarators.{declared_type}
 use Rattle.c_types_declarations.specs.Specifiers.{SpecifiedView}
 use Rattle.c_types_declarations.specs.SpecifierTrees.{specifiers}
 use Rattle.c_types_declarations.specs.Initializers.{initializer_of}
-use Rattle.c_types_objects.specs.LocalObjects.{PartsView, with_object, may_be_local, with_automatic, with_static_object, with_local_type, with_static_type, is_static}
+use Rattle.c_types_objects.specs.FileObjects.{number_or}
+use Rattle.c_types_objects.specs.LocalObjects.{PartsView, with_object, may_be_local, with_automatic, static_declaration, with_static_object, with_local_type, with_static_type, is_static}
 use Rattle.c_types_statement_rules.specs.BodyFlow.{FlowView, flow_with_default}
 use Rattle.c_types_statement_rules.specs.Points.{Point}
 use Rattle.c_types_statement_rules.specs.SimpleStatements as simple
@@ -37,18 +39,27 @@ use Rattle.c_types_laws.proofs.Expressing.{typed_leads}
 use Rattle.c_types_laws.proofs.Declaring.{HasDeclarations, declared_leads, specifiers_lead}
 use Rattle.c_types_laws.proofs.Initializing.{initializer_leads}
 
+-- an object that was declared has a number among those of the run, or none
+abbrev pub IsNumbered : State → ℕ → ℕ → Type 0
+IsNumbered s index number = (x : ObjectView) → slice_get s.objects index ≡ Some x → number_or x.number ≡ number
+
 -- a relation in which the steps of bodies stand too
 pub record HasBodies (R : State → State → Type 0) : Type 0 where
   pub declares : HasDeclarations R
   pub local : (s : State) (text : List ℕ) (at : Place) (d : DeclaredView) → R s (with_local s text at d)
   pub local_type : (s : State) (number : ℕ) (t : Ty) → R s (with_local_type number t s)
-  pub objects : (s : State) (x : List ObjectView) → R s (record s { objects = x })
-  pub statics : (s : State) (x : List StaticView) → R s (record s { statics = x })
+  pub static : (n : NameView) (d : DeclaredView) (s : State) → R s (with_static_object n d s)
+  pub initial : (s u : State) (equals : Place) (index number : ℕ) (t made : Ty) (i : InitializerTree) (v : InitializedView) (stores : List StaticStoreView) → IsNumbered s index number → initializer_of s equals t i ≡ Ok ((v, made), u) → R s u
+      → statics.has_size u.known made ≡ true → constant_stores u.known equals v ≡ Ok stores → R u (with_expressions u v) → R s (statics.with_stores number stores (with_static_type index number made (with_expressions u v)))
 
 -- the point behind a statement that is not refused
 abbrev pub Comes : {V : Type 0} → (State → State → Type 0) → State → Ruled (V × Point) → Type 0
 Comes R s (Ok p) = R s p.1.state
 Comes R s (Err f) = Unit {0}
+
+newest_is : {A : Type 0} (xs : List A) (y x : A) → slice_get (xs ++ y ∷ []) (length xs) ≡ Some x → x ≡ y
+newest_is [] y x h = sym (same_Some y x h)
+newest_is (z ∷ xs) y x h = newest_is xs y x h
 
 module _ (R : State → State → Type 0) (has : HasBodies R) where
   step : {U V : Type 0} (s : State) (r : Ruled (U × State)) (next : U → State → Ruled (V × State)) → Leads R s r → ((u : U) (t : State) → Leads R t (next u t)) → Leads R s (after r next)
@@ -74,18 +85,20 @@ module _ (R : State → State → Type 0) (has : HasBodies R) where
   expressions_kept s (ByLvalue l) = has.declares.steps.same s
   expressions_kept s (ByStores stores) = list_kept stores s
 
-  pub static_type_leads : (index number : ℕ) (t : Ty) (s : State) → R s (with_static_type index number t s)
-  static_type_leads index number t s = has.declares.steps.trans s _ (with_static_type index number t s) (has.objects s _) (has.statics _ _)
+  pub static_leads : (s : State) (at : Place) (index number : ℕ) (equals : Place) (t : Ty) (i : InitializerTree) → IsNumbered s index number → Leads R s (statics.static_initializer s at index number equals t i)
+  static_leads s at index number equals t i numbered = of_made (initializer_of s equals t i) refl (initializer_leads R has.declares.steps s equals t i)
+    where
+      of_stores : (v : InitializedView) (made : Ty) (u : State) → initializer_of s equals t i ≡ Ok ((v, made), u) → R s u → statics.has_size u.known made ≡ true → (r : Ruled (List StaticStoreView)) → constant_stores u.known equals v ≡ r → Leads R s (after (kept (with_expressions u v) r) (statics.with_initial index number made))
+      of_stores v made u is g sized (Ok stores) constant = has.initial s u equals index number t made i v stores numbered is g sized constant (expressions_kept u v)
+      of_stores v made u is g sized (Err f) constant = tt
 
-  store_leads : (equals : Place) (index number : ℕ) (made : InitializedView) (t : Ty) (s : State) → Leads R s (statics.store_static equals index number made t s)
-  store_leads equals index number made t s =
-      step s (static_stores equals made s) (statics.with_initial index number t) (kept_leads R s (with_expressions s made) (constant_stores s.known equals made) (expressions_kept s made))
-      (λ stores u. has.declares.steps.trans u (with_static_type index number t u) (statics.with_stores number stores (with_static_type index number t u)) (static_type_leads index number t u) (has.statics (with_static_type index number t u) _))
+      of_size : (v : InitializedView) (made : Ty) (u : State) → initializer_of s equals t i ≡ Ok ((v, made), u) → R s u → (b : Bool) → statics.has_size u.known made ≡ b → Leads R s (cond b (statics.store_static equals index number v made u) (type_fault at))
+      of_size v made u is g true sized = of_stores v made u is g sized (constant_stores u.known equals v) refl
+      of_size v made u is g false sized = tt
 
-  pub static_leads : (s : State) (at : Place) (index number : ℕ) (equals : Place) (t : Ty) (i : InitializerTree) → Leads R s (statics.static_initializer s at index number equals t i)
-  static_leads s at index number equals t i =
-      step s (initializer_of s equals t i) (statics.judged_static at index number equals) (initializer_leads R has.declares.steps s equals t i)
-      (λ m u. cond_leads R u (statics.has_size u.known m.1) (statics.store_static equals index number m.0 m.1 u) _ (store_leads equals index number m.0 m.1 u) tt)
+      of_made : (r : Ruled ((InitializedView × Ty) × State)) → initializer_of s equals t i ≡ r → Leads R s r → Leads R s (after r (statics.judged_static at index number equals))
+      of_made (Ok p) is g = of_size p.0.0 p.0.1 p.1 is g (statics.has_size p.1.known p.0.1) refl
+      of_made (Err f) is g = tt
 
   -- ---- objects of blocks
 
@@ -94,14 +107,9 @@ module _ (R : State → State → Type 0) (has : HasBodies R) where
       has.declares.steps.trans s (with_name s n.text) (with_automatic n d s) (has.declares.steps.named s n.text)
       (has.declares.steps.trans (with_name s n.text) (with_local (with_name s n.text) n.text n.at d) (with_automatic n d s) (has.local (with_name s n.text) n.text n.at d) (has.declares.scoped (with_local (with_name s n.text) n.text n.at d) _))
 
-  static_object_leads : (n : NameView) (d : DeclaredView) (s : State) → R s (with_static_object n d s)
-  static_object_leads n d s =
-      let a = with_name s n.text in
-      let b : State = record a { statics = (with_static_object n d s).statics } in
-      let c : State = record b { objects = (with_static_object n d s).objects } in
-      has.declares.steps.trans s a (with_static_object n d s) (has.declares.steps.named s n.text)
-      (has.declares.steps.trans a b (with_static_object n d s) (has.statics a _)
-      (has.declares.steps.trans b c (with_static_object n d s) (has.objects b _) (has.declares.scoped c _)))
+  -- the newest object has the number that it is given
+  newest_numbered : (n : NameView) (d : DeclaredView) (s : State) → IsNumbered (with_static_object n d s) (length s.objects) (length s.statics)
+  newest_numbered n d s x is = ap (λ o. number_or o.number) (newest_is s.objects (static_declaration (with_name s n.text) d) x is)
 
   object_type_leads : (s : State) (base : SpecifiedView) (n : NameView) (layers : List DeclaratorLayerView) (initial : Bool) → Leads R s (locals.object_type s base n layers initial)
   object_type_leads s base n layers initial =
@@ -109,7 +117,7 @@ module _ (R : State → State → Type 0) (has : HasBodies R) where
       (λ d t. cond_leads R t (may_be_local t.known d.ctype initial) (kept (with_name t n.text) (locals.if_free (number_in t.scopes.names n.text) n d (with_name t n.text))) _ (kept_leads R t (with_name t n.text) (locals.if_free (number_in t.scopes.names n.text) n d (with_name t n.text)) (has.declares.steps.named t n.text)) tt)
 
   plain_leads : (n : NameView) (d : DeclaredView) (p : PartsView) (b : Ruled Bool) (s : State) → Leads R s (locals.plain_by n d p b s)
-  plain_leads n d p (Ok true) s = static_object_leads n d s
+  plain_leads n d p (Ok true) s = has.static n d s
   plain_leads n d p (Ok false) s = automatic_leads n d s
   plain_leads n d p (Err f) s = tt
 
@@ -119,7 +127,7 @@ module _ (R : State → State → Type 0) (has : HasBodies R) where
   initialized_leads : (n : NameView) (d : DeclaredView) (equals : Place) (i : InitializerTree) (p : PartsView) (b : Ruled Bool) (s : State) → Leads R s (locals.initialized_by n d equals i p b s)
   initialized_leads n d equals i p (Ok true) s =
       step s (locals.initialized_static n d equals i s) (locals.parts_kept p)
-      (go s (with_static_object n d s) (locals.initialized_static n d equals i s) (static_object_leads n d s) (static_leads (with_static_object n d s) n.at (length s.objects) (length s.statics) equals d.ctype i))
+      (go s (with_static_object n d s) (locals.initialized_static n d equals i s) (has.static n d s) (static_leads (with_static_object n d s) n.at (length s.objects) (length s.statics) equals d.ctype i (newest_numbered n d s)))
       (λ u t. has.declares.steps.same t)
   initialized_leads n d equals i p (Ok false) s =
       go s (with_automatic n d s) (locals.initialized_automatic n d equals i p s) (automatic_leads n d s)
