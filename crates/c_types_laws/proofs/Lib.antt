@@ -1,0 +1,6 @@
+pub mod Leading
+pub mod Expressing
+pub mod Declaring
+pub mod Initializing
+pub mod Stating
+pub mod Entries
