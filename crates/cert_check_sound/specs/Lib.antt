@@ -1,0 +1,3 @@
+pub mod FittedRows
+pub mod CertifiedMaps
+pub mod SoundCertificates
