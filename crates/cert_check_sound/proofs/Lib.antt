@@ -4,3 +4,4 @@ pub mod KindPlaces
 pub mod FittedRows
 pub mod CertifiedMaps
 pub mod SoundCertificates
+pub mod WorkedCertificate

@@ -3,7 +3,10 @@
 ghost use Rattle.std.specs.Prelude.{ℤ, List};
 ghost use Rattle.std.specs.Global.{Vec};
 ghost use Rattle.cc_base.specs.declared.diagnostics.Diag.{Diag};
+ghost use Rattle.c_layout.specs.CheckedUnits.{UnitView};
 ghost use Rattle.flow_program.specs.declared.programs.Flow.{Flow};
+ghost use Rattle.lib_models_effects.specs.Worlds.{Violation};
+ghost use Rattle.abstract_steps_laws_own_starts.specs.CutStarts.{type_list};
 ghost use Rattle.abstract_steps_sound_analyses.specs.CheckedAnalyses.{FindsEachPair};
 ghost use Rattle.cert_check_text.specs.LineWords.{Bytes};
 ghost use Rattle.cert_check_programs.specs.Certificates.{IsVerified};
@@ -11,6 +14,7 @@ ghost use Rattle.cert_check_programs.specs.declared.checked_maps.Verified.TheVar
 ghost use Rattle.cert_check_sound.specs.FittedRows.{FittedRowsStandForMore};
 ghost use Rattle.cert_check_sound.specs.CertifiedMaps.{ClosedMapsAreCarried, ClosedMapsBegin};
 ghost use Rattle.cert_check_sound.specs.SoundCertificates.{IsCertifiable};
+ghost use Rattle.cert_check_sound.specs.WorkedCertificates.{IsAcceptedBeyond};
 
 use abstract_steps_rows::Bounded;
 use cc_base::IntDomain;
@@ -35,4 +39,10 @@ pub fn closed_maps_begin<I: Bounded>()
 /// what is supposed of the program and of its operands is decided by a computation.
 pub fn accepted_certificates_hold_runs()
     ensures { (flow : Flow) (list : List ℤ) (text : Bytes) (found : Vec Diag) → IsCertifiable flow list → IsVerified flow text (Found found) → FindsEachPair flow list found.items }
+{}
+
+/// There is a program, which divides by 0, of which all premises hold, and a certificate of it that is accepted, with a
+/// pointer from 5 bytes before an object: no row of an analysis of it has one.
+pub fn premises_can_be_met()
+    ensures { Flow → (flow : Flow) × (text : Bytes) × (found : Vec Diag) × (u : UnitView) × (v : Violation) × IsAcceptedBeyond flow type_list text found u v }
 {}
