@@ -4,6 +4,6 @@
 mod theorems;
 
 pub use theorems::{
-    accepted_certificates_hold_runs, closed_maps_are_carried, closed_maps_begin,
-    fitted_rows_stand_for_more, premises_can_be_met,
+    accepted_certificates_hold_runs, accepted_certificates_hold_units, closed_maps_are_carried,
+    closed_maps_begin, fitted_rows_stand_for_more, premises_can_be_met,
 };

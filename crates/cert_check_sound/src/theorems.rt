@@ -13,7 +13,7 @@ ghost use Rattle.cert_check_programs.specs.Certificates.{IsVerified};
 ghost use Rattle.cert_check_programs.specs.declared.checked_maps.Verified.TheVariants.{Found};
 ghost use Rattle.cert_check_sound.specs.FittedRows.{FittedRowsStandForMore};
 ghost use Rattle.cert_check_sound.specs.CertifiedMaps.{ClosedMapsAreCarried, ClosedMapsBegin};
-ghost use Rattle.cert_check_sound.specs.SoundCertificates.{IsCertifiable};
+ghost use Rattle.cert_check_sound.specs.SoundCertificates.{IsCertifiable, HoldsPairsOfUnits, HoldsPairsOfLowered};
 ghost use Rattle.cert_check_sound.specs.WorkedCertificates.{IsAcceptedBeyond};
 
 use abstract_steps_rows::Bounded;
@@ -39,6 +39,13 @@ pub fn closed_maps_begin<I: Bounded>()
 /// what is supposed of the program and of its operands is decided by a computation.
 pub fn accepted_certificates_hold_runs()
     ensures { (flow : Flow) (list : List ℤ) (text : Bytes) (found : Vec Diag) → IsCertifiable flow list → IsVerified flow text (Found found) → FindsEachPair flow list found.items }
+{}
+
+/// So is each rule that a run of a unit violates, where the program begins with what is in the unit's tables, and so where it
+/// is the unit's lowered program.
+pub fn accepted_certificates_hold_units()
+    ensures units { (flow : Flow) (list : List ℤ) (text : Bytes) (found : Vec Diag) → IsCertifiable flow list → IsVerified flow text (Found found) → HoldsPairsOfUnits flow found.items }
+    ensures lowered { (flow : Flow) (list : List ℤ) (text : Bytes) (found : Vec Diag) → IsCertifiable flow list → IsVerified flow text (Found found) → HoldsPairsOfLowered flow found.items }
 {}
 
 /// There is a program, which divides by 0, of which all premises hold, and a certificate of it that is accepted, with a
