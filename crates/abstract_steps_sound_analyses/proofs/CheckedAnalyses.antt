@@ -1,5 +1,5 @@
 -- What a computation decides of a program and of a map suffices for what an analysis finds.
-use Rattle.std.specs.Prelude.{◌&&◌, ℤ, List}
+use Rattle.std.specs.Prelude.{◌≡◌, ◌&&◌, ℤ, true, List}
 use Rattle.std.proofs.Common.{inl}
 use Rattle.std.proofs.lemmas.Bool.{and_parts}
 use Rattle.cc_base.specs.Standard.{standard_limits}
@@ -13,7 +13,7 @@ use Rattle.interval_domain.specs.Spans.{Stands}
 use Rattle.interval_domain.specs.IntervalLattice.{interval_lattice}
 use Rattle.interval_domain.specs.IntervalNumbers.{interval_numbers}
 use Rattle.store_domain_sound_programs.proofs.WellFormedPremises.{meets_premises}
-use Rattle.abstract_steps_laws_programs.specs.RegularPrograms.{has_scalars, has_initial_bytes, has_apart_members, is_near_list}
+use Rattle.abstract_steps_laws_programs.specs.RegularPrograms.{has_scalars, has_initial_bytes, has_apart_members, is_near_list, is_regular}
 use Rattle.abstract_steps_laws_programs.proofs.RegularPrograms.{regular_of}
 use Rattle.flow_analysis.specs.Analyses.{IsAnalysis}
 use Rattle.abstract_steps_sound_analyses.proofs.Sites.{sites_there}
@@ -25,15 +25,15 @@ use Rattle.abstract_steps_sound_analyses.specs.SoundAnalyses.{Suffices}
 use Rattle.abstract_steps_sound_analyses.specs.CheckedAnalyses.{IsChecked, FindsEachPair}
 use Rattle.abstract_steps_sound_analyses.proofs.SoundAnalyses.{standard_held, typed_runs, each_pair}
 
-module _ (flow : Flow) (list : List ℤ) (found : List Diag) (a : IsAnalysis flow list found) (checked : IsChecked flow list) where
-  suffices : Suffices flow list
+module _ (flow : Flow) (list : List ℤ) (known : is_regular flow list ≡ true) (checked : IsChecked flow list) where
+  pub suffices : Suffices flow list
   suffices =
-      let regular = regular_of flow list a.regular in
+      let regular = regular_of flow list known in
       let p = meets_premises standard_limits flow standard_held regular.well_formed in
       let s = and_parts (has_sites flow) (ends_with_lines flow && (spells_over_characters flow && all_follow_scalars flow)) checked.parts in
       let e = and_parts (ends_with_lines flow) (spells_over_characters flow && all_follow_scalars flow) s.1 in
       let t = and_parts (spells_over_characters flow) (all_follow_scalars flow) e.1 in
-      let w = and_parts (is_well_formed standard_limits flow) (has_scalars flow && (has_initial_bytes flow && (has_apart_members flow && is_near_list list))) a.regular in
+      let w = and_parts (is_well_formed standard_limits flow) (has_scalars flow && (has_initial_bytes flow && (has_apart_members flow && is_near_list list))) known in
       let b = and_parts (has_scalars flow) (has_initial_bytes flow && (has_apart_members flow && is_near_list list)) w.1 in
       let i = and_parts (has_initial_bytes flow) (has_apart_members flow && is_near_list list) b.1 in
       let m = and_parts (has_apart_members flow) (is_near_list list) i.1 in
@@ -48,5 +48,5 @@ module _ (flow : Flow) (list : List ℤ) (found : List Diag) (a : IsAnalysis flo
 
 pub finds_each_pair : (flow : Flow) (list : List ℤ) (found : List Diag) → IsAnalysis flow list found → IsChecked flow list → FindsEachPair flow list found
 finds_each_pair flow list found a checked u start v there =
-    let enough = suffices flow list found a checked in
-    each_pair flow list found a enough u start (typed_runs flow list found a enough u start checked.rows checked.inductive checked.typed) v there
+    let enough = suffices flow list a.regular checked in
+    each_pair flow list found a enough u start (typed_runs flow list a.regular enough u start checked.rows checked.inductive checked.typed) v there

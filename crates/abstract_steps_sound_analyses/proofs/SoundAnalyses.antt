@@ -18,6 +18,7 @@ use Rattle.store_domain_meaning.specs.Coverage.{EachRunIsCovered}
 use Rattle.store_domain_sound_programs.specs.Premises.{AreHeld, HasPremises}
 use Rattle.store_domain_sound_programs.proofs.WellFormedPremises.{meets_premises}
 use Rattle.abstract_steps_rows.specs.IntervalEnds.{interval_ends}
+use Rattle.abstract_steps_laws_programs.specs.RegularPrograms.{is_regular}
 use Rattle.abstract_steps_laws_programs.proofs.WellFormed.{laid_out, all_named}
 use Rattle.abstract_steps_laws_programs.proofs.RegularPrograms.{Regular, regular_of}
 use Rattle.abstract_steps_laws_programs.proofs.RegularSystems.{regular_rising}
@@ -36,17 +37,17 @@ use Rattle.abstract_steps_sound_analyses.specs.SoundAnalyses.{Suffices, IsViolat
 pub standard_held : AreHeld standard_limits
 standard_held = record { bases = omega (arith); pool = omega (arith) }
 
-module _ (flow : Flow) (list : List ℤ) (found : List Diag) (a : IsAnalysis flow list found) (suffices : Suffices flow list) where
+module _ (flow : Flow) (list : List ℤ) (known : is_regular flow list ≡ true) (suffices : Suffices flow list) where
   regular : Regular flow list
-  regular = regular_of flow list a.regular
+  regular = regular_of flow list known
 
   p : HasPremises flow
   p = meets_premises standard_limits flow standard_held regular.well_formed
 
-  steps : StepsGoOnSoundly interval_lattice interval_numbers Stands flow
+  pub steps : StepsGoOnSoundly interval_lattice interval_numbers Stands flow
   steps = steps_go_on interval_order interval_bounding interval_sound interval_ranges flow p standard_limits regular.well_formed suffices.texts suffices.sites suffices.copies suffices.steps
 
-  ends : EndsGoOnSoundly interval_lattice interval_numbers Stands flow standard_limits
+  pub ends : EndsGoOnSoundly interval_lattice interval_numbers Stands flow standard_limits
   ends = ends_go_on interval_order interval_bounding interval_sound interval_ranges flow p standard_limits (tests_sound interval_order interval_bounding interval_sound interval_ranges flow p suffices.tests)
 
   module _ (rows : List (Option (List (Cell Interval)))) (closed : IsInductive row_lattice (machine_of flow list) rows) where
@@ -54,13 +55,13 @@ module _ (flow : Flow) (list : List ℤ) (found : List Diag) (a : IsAnalysis flo
     begins u start =
         let laid = laid_out standard_limits flow regular.well_formed (omega (arith)) in
         let named = all_named standard_limits flow regular.well_formed regular.scalars in
-        map_begins interval_order interval_rounding interval_heights interval_bounding interval_monotone interval_ranges interval_ends flow list regular.near suffices.reaches laid named (regular_rising flow list a.regular) rows closed u start
+        map_begins interval_order interval_rounding interval_heights interval_bounding interval_monotone interval_ranges interval_ends flow list regular.near suffices.reaches laid named (regular_rising flow list known) rows closed u start
 
     carried : Carries interval_lattice interval_numbers Stands flow rows
     carried =
         let laid = laid_out standard_limits flow regular.well_formed (omega (arith)) in
         let named = all_named standard_limits flow regular.well_formed regular.scalars in
-        map_carried interval_order interval_rounding interval_heights interval_bounding interval_monotone interval_ranges interval_ends flow list regular.near suffices.reaches laid named (regular_rising flow list a.regular) rows closed
+        map_carried interval_order interval_rounding interval_heights interval_bounding interval_monotone interval_ranges interval_ends flow list regular.near suffices.reaches laid named (regular_rising flow list known) rows closed
 
   module _ (u : UnitView) (start : EntryStands interval_lattice interval_numbers Stands flow list u) where
     -- an inductive map by whose rows operands lie within their types tells that they do so in each run
@@ -68,8 +69,9 @@ module _ (flow : Flow) (list : List ℤ) (found : List Diag) (a : IsAnalysis flo
     typed_runs rows closed typed = runs_typed_by_rows _ _ _ flow standard_limits regular.well_formed steps ends u rows (begins rows closed u start) (carried rows closed) (map_types interval_bounding flow rows typed)
 
     module _ (typed : HasTypedRuns flow u) where
-      covered : (rows : List (Option (List (Cell Interval)))) → IsInductive row_lattice (machine_of flow list) rows → EachRunIsCovered interval_lattice interval_numbers Stands flow (row_before interval_lattice interval_numbers flow rows) (Admits interval_lattice interval_numbers flow rows) u
+      pub covered : (rows : List (Option (List (Cell Interval)))) → IsInductive row_lattice (machine_of flow list) rows → EachRunIsCovered interval_lattice interval_numbers Stands flow (row_before interval_lattice interval_numbers flow rows) (Admits interval_lattice interval_numbers flow rows) u
       covered rows closed = runs_covered _ _ _ flow standard_limits regular.well_formed steps ends u rows (begins rows closed u start) (carried rows closed) typed
 
-      pub each_pair : (v : Violation) → IsViolatedIn flow u v → Contains found (record { place = v.at; rule = v.rule })
-      each_pair v there = a.kept (record { place = v.at; rule = v.rule }) (λ rows closed. (covered rows closed there.draws there.steps).all v there.there)
+module _ (flow : Flow) (list : List ℤ) (found : List Diag) (a : IsAnalysis flow list found) (suffices : Suffices flow list) (u : UnitView) (start : EntryStands interval_lattice interval_numbers Stands flow list u) (typed : HasTypedRuns flow u) where
+  pub each_pair : (v : Violation) → IsViolatedIn flow u v → Contains found (record { place = v.at; rule = v.rule })
+  each_pair v there = a.kept (record { place = v.at; rule = v.rule }) (λ rows closed. (covered flow list a.regular suffices u start typed rows closed there.draws there.steps).all v there.there)

@@ -3,8 +3,6 @@ use Rattle.std.specs.Prelude.{◌≡◌, ℕ, ℤ, true, Some, slice_get}
 use Rattle.cc_base.specs.Lattices.{LatticeOf}
 use Rattle.cc_base.specs.IntegerDomains.{IntegersOf}
 use Rattle.flow_program.specs.declared.flow_edges.Edge.{Edge}
-use Rattle.flow_program.specs.declared.machine_instructions.Operation.{Operation}
-use Rattle.flow_program.specs.declared.machine_instructions.Operation.TheVariants as op
 use Rattle.flow_program.specs.declared.programs.Flow.{Flow}
 use Rattle.flow_program_objects.specs.Sites.{has_sites, ends_with_lines}
 use Rattle.flow_program_objects.specs.SpelledTexts.{spells_over_characters}

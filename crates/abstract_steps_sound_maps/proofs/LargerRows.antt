@@ -1,17 +1,13 @@
--- A row between another one and the greatest row stands for what that one stands for.
-use Rattle.std.specs.Prelude.{◌≡◌, ℕ, ℤ, pos, Bool, true, false, List}
-use Rattle.std.proofs.Common.{arith, sym, subst₂}
-use Rattle.std.proofs.lemmas.Int.{ints}
+-- A larger row of which no cell is mixed stands for what a smaller one stands for.
+use Rattle.std.specs.Prelude.{◌≡◌, ℕ, ℤ, Bool, true, false, List}
 use Rattle.std.proofs.lemmas.Bool.{and_parts}
 use Rattle.cc_base.specs.Lattices.{LatticeOf, OrderLaws}
 use Rattle.cc_base.specs.LatticeParts.{flag_leq}
 use Rattle.cc_base.specs.Rows.{row_leq}
 use Rattle.cc_base.specs.IntegerDomains.{IntegersOf, BoundLaws}
-use Rattle.c_layout.specs.declared.leaf_lists.Class.{Class}
 use Rattle.flow_program.specs.declared.programs.Flow.{Flow}
-use Rattle.pointer_domain.specs.declared.base_sets.Bases.{Bases}
-use Rattle.string_domain.specs.FirstZeros.{the_end}
-use Rattle.string_domain.specs.declared.first_zeros.FirstZero.{FirstZero}
+use Rattle.pointer_domain.specs.BaseFacts.{within_has}
+use Rattle.pointer_domain.specs.declared.pointer_sets.Pointers.{Pointers}
 use Rattle.value_domain.specs.declared.values.Value as values
 use Rattle.value_domain.specs.declared.alloc_states.AllocState.{AllocState}
 use Rattle.value_domain.specs.declared.row_cells.Cell.{Cell}
@@ -19,155 +15,125 @@ use Rattle.value_domain.specs.declared.row_cells.Cell.TheVariants.{Nothing, Valu
 use Rattle.value_domain.specs.Values.{value_lattice, value_order}
 use Rattle.value_domain.specs.AllocStates.{state_lattice, state_order}
 use Rattle.value_domain.specs.Cells.{cell_lattice, cell_leq}
-use Rattle.store_domain.specs.NearValues.{near_value}
+use Rattle.store_domain.specs.NearValues.{near_pointer, near_value}
 use Rattle.store_domain.specs.RowPositions.{cell_at, value_in, zero_in, state_in, near_state, value_at, zero_at, state_at}
-use Rattle.store_domain_laws.specs.TopCells.{top_number, top_value}
-use Rattle.store_domain_laws.specs.TopRows.{top_row}
-use Rattle.store_domain_laws.proofs.NearCells.{near_monotone, near_value_is}
 use Rattle.store_domain_laws.proofs.Rows.{at_monotone}
-use Rattle.lib_models_memory.specs.Bytes.{Byte}
-use Rattle.lib_models_memory.specs.Instances.{Memory, bytes_at, Life, live, ended, freed}
-use Rattle.store_domain_meaning.specs.ValueMeaning.{Naming, StandsZero, StandsState}
-use Rattle.store_domain_meaning.specs.RowMeaning.{MachineState, StandsCell, StandsFor, array_bytes}
-use Rattle.store_domain_sound.proofs.Larger.{ValueBelow, value_below, scalar_larger, content_larger}
-use Rattle.abstract_steps_sound_maps.proofs.TopKinds.{IsKnown, row_known}
+use Rattle.lib_models_memory.specs.Bytes.{MachinePointer, null, into}
+use Rattle.lib_models_memory.specs.Instances.{Memory, Life, live, ended, freed, life_at}
+use Rattle.store_domain_meaning.specs.ValueMeaning.{Naming, StandsInto, StandsByLife, StandsPointer}
+use Rattle.store_domain_meaning.specs.RowMeaning.{MachineState, StandsFor}
+use Rattle.store_domain_sound.proofs.Larger.{PointerBelow, value_below}
+use Rattle.abstract_steps_sound_maps.specs.CarriedMaps.{IsUnmixed, AreUnmixed}
+use Rattle.abstract_steps_sound_maps.proofs.NearBounds.{near_larger}
+use Rattle.abstract_steps_sound_maps.proofs.ToldRows.{StateTells, ValueTells, row_told}
+use Rattle.abstract_steps_sound_maps.proofs.UnmixedRows.{unmixed_at}
 
 flag_up : (a b : Bool) → flag_leq a b ≡ true → a ≡ true → b ≡ true
 flag_up true b h e = h
 flag_up false b h e = cc
 
-module _ {I : Type 0} {l : LatticeOf I} {n : IntegersOf I} {stands : I → ℤ → Type 0} (o : OrderLaws l) (q : BoundLaws l n stands) (all : Bases) where
-  counts_near : l.leq (n.between (pos 0) the_end) (top_number n) ≡ true
-  counts_near = q.below_between (n.between (pos 0) the_end) (pos 0) the_end _ _ (q.between_bounds (pos 0) the_end (omega (arith, ints))) (omega (arith, ints)) (omega (arith, ints))
-
+module _ {I : Type 0} {l : LatticeOf I} {n : IntegersOf I} {stands : I → ℤ → Type 0} (o : OrderLaws l) (q : BoundLaws l n stands) where
   -- ---- cells
 
-  value_small : (c d : Cell I) → cell_leq l c d ≡ true → IsKnown l n all d → (value_lattice l).leq (value_in l c) (value_in l d) ≡ true
-  value_small Nothing d e k = (value_order o).least_below (value_in l d)
-  value_small (First f) d e k = (value_order o).least_below (value_in l d)
-  value_small (State s) d e k = (value_order o).least_below (value_in l d)
-  value_small c Mixed e k = absurd k
-  value_small (Value v) Nothing e k = absurd (cc)
-  value_small (Value v) (Value w) e k = e
-  value_small (Value v) (First w) e k = absurd (cc)
-  value_small (Value v) (State w) e k = absurd (cc)
-  value_small Mixed Nothing e k = absurd (cc)
-  value_small Mixed (Value w) e k = absurd (cc)
-  value_small Mixed (First w) e k = absurd (cc)
-  value_small Mixed (State w) e k = absurd (cc)
+  value_up : (c d : Cell I) → cell_leq l c d ≡ true → IsUnmixed d → (value_lattice l).leq (value_in l c) (value_in l d) ≡ true
+  value_up Nothing d e k = (value_order o).least_below (value_in l d)
+  value_up (First f) d e k = (value_order o).least_below (value_in l d)
+  value_up (State s) d e k = (value_order o).least_below (value_in l d)
+  value_up c Mixed e k = absurd k
+  value_up (Value v) Nothing e k = absurd (cc)
+  value_up (Value v) (Value w) e k = e
+  value_up (Value v) (First w) e k = absurd (cc)
+  value_up (Value v) (State w) e k = absurd (cc)
+  value_up Mixed Nothing e k = absurd (cc)
+  value_up Mixed (Value w) e k = absurd (cc)
+  value_up Mixed (First w) e k = absurd (cc)
+  value_up Mixed (State w) e k = absurd (cc)
 
-  value_known : (d : Cell I) → IsKnown l n all d → (value_lattice l).leq (value_in l d) (top_value n all) ≡ true
-  value_known Nothing k = (value_order o).least_below (top_value n all)
-  value_known (Value w) k = k
-  value_known (First w) k = (value_order o).least_below (top_value n all)
-  value_known (State w) k = (value_order o).least_below (top_value n all)
-  value_known Mixed k = absurd k
+  zero_up : (c d : Cell I) → cell_leq l c d ≡ true → IsUnmixed d → l.leq (zero_in l c).at (zero_in l d).at ≡ true
+  zero_up Nothing d e k = o.least_below (zero_in l d).at
+  zero_up (Value v) d e k = o.least_below (zero_in l d).at
+  zero_up (State s) d e k = o.least_below (zero_in l d).at
+  zero_up c Mixed e k = absurd k
+  zero_up (First v) Nothing e k = absurd (cc)
+  zero_up (First v) (Value w) e k = absurd (cc)
+  zero_up (First v) (First w) e k = e
+  zero_up (First v) (State w) e k = absurd (cc)
+  zero_up Mixed Nothing e k = absurd (cc)
+  zero_up Mixed (Value w) e k = absurd (cc)
+  zero_up Mixed (First w) e k = absurd (cc)
+  zero_up Mixed (State w) e k = absurd (cc)
 
-  near_more : (v w : values.Value I) → (value_lattice l).leq v w ≡ true → (value_lattice l).leq w (top_value n all) ≡ true → (value_lattice l).leq (near_value l n v) (near_value l n w) ≡ true
-  near_more v w e k = subst₂ (λ x y. (value_lattice l).leq x y ≡ true) (sym (near_value_is o q v all ((value_order o).transitive v w (top_value n all) e k))) (sym (near_value_is o q w all k)) e
+  state_up : (c d : Cell I) → cell_leq l c d ≡ true → IsUnmixed d → (state_lattice l).leq (state_in l c) (state_in l d) ≡ true
+  state_up Nothing d e k = (state_order o).least_below (state_in l d)
+  state_up (Value v) d e k = (state_order o).least_below (state_in l d)
+  state_up (First f) d e k = (state_order o).least_below (state_in l d)
+  state_up c Mixed e k = absurd k
+  state_up (State v) Nothing e k = absurd (cc)
+  state_up (State v) (Value w) e k = absurd (cc)
+  state_up (State v) (First w) e k = absurd (cc)
+  state_up (State v) (State w) e k = e
+  state_up Mixed Nothing e k = absurd (cc)
+  state_up Mixed (Value w) e k = absurd (cc)
+  state_up Mixed (First w) e k = absurd (cc)
+  state_up Mixed (State w) e k = absurd (cc)
 
-  zero_small : (c d : Cell I) → cell_leq l c d ≡ true → IsKnown l n all d → l.leq (zero_in l c).at (zero_in l d).at ≡ true
-  zero_small Nothing d e k = o.least_below (zero_in l d).at
-  zero_small (Value v) d e k = o.least_below (zero_in l d).at
-  zero_small (State s) d e k = o.least_below (zero_in l d).at
-  zero_small c Mixed e k = absurd k
-  zero_small (First v) Nothing e k = absurd (cc)
-  zero_small (First v) (Value w) e k = absurd (cc)
-  zero_small (First v) (First w) e k = e
-  zero_small (First v) (State w) e k = absurd (cc)
-  zero_small Mixed Nothing e k = absurd (cc)
-  zero_small Mixed (Value w) e k = absurd (cc)
-  zero_small Mixed (First w) e k = absurd (cc)
-  zero_small Mixed (State w) e k = absurd (cc)
+  -- ---- what they stand for
 
-  zero_known : (d : Cell I) → IsKnown l n all d → l.leq (zero_in l d).at (top_number n) ≡ true
-  zero_known Nothing k = o.least_below (top_number n)
-  zero_known (Value w) k = o.least_below (top_number n)
-  zero_known (First w) k = o.transitive w.at (n.between (pos 0) the_end) (top_number n) k counts_near
-  zero_known (State w) k = o.least_below (top_number n)
-  zero_known Mixed k = absurd k
+  module _ (naming : Naming) (memory : Memory) where
+    into_larger : (v w : Pointers I) (i offset lo hi : ℕ) → PointerBelow l v w → StandsInto stands naming memory (near_pointer l n v) i offset lo hi → StandsInto stands naming memory (near_pointer l n w) i offset lo hi
+    into_larger v w i offset lo hi b s = record {
+      base = s.base;
+      named = s.named;
+      among = within_has v.bases w.bases s.base b.bases s.among;
+      lower = near_larger q v.lo w.lo _ b.lo s.lower;
+      relative = near_larger q v.rel w.rel _ b.rel s.relative;
+      room = near_larger q v.len w.len _ b.len s.room;
+      whole = λ e. s.whole (b.part e);
+    }
 
-  state_small : (c d : Cell I) → cell_leq l c d ≡ true → IsKnown l n all d → (state_lattice l).leq (state_in l c) (state_in l d) ≡ true
-  state_small Nothing d e k = (state_order o).least_below (state_in l d)
-  state_small (Value v) d e k = (state_order o).least_below (state_in l d)
-  state_small (First f) d e k = (state_order o).least_below (state_in l d)
-  state_small c Mixed e k = absurd k
-  state_small (State v) Nothing e k = absurd (cc)
-  state_small (State v) (Value w) e k = absurd (cc)
-  state_small (State v) (First w) e k = absurd (cc)
-  state_small (State v) (State w) e k = e
-  state_small Mixed Nothing e k = absurd (cc)
-  state_small Mixed (Value w) e k = absurd (cc)
-  state_small Mixed (First w) e k = absurd (cc)
-  state_small Mixed (State w) e k = absurd (cc)
+    life_larger : (v w : Pointers I) (life : Life) (i offset lo hi : ℕ) → PointerBelow l v w → StandsByLife stands naming memory (near_pointer l n v) life i offset lo hi → StandsByLife stands naming memory (near_pointer l n w) life i offset lo hi
+    life_larger v w live i offset lo hi b s = into_larger v w i offset lo hi b s
+    life_larger v w ended i offset lo hi b s = b.ended s
+    life_larger v w freed i offset lo hi b s = into_larger v w i offset lo hi b s
 
-  state_known : (d : Cell I) → IsKnown l n all d → l.leq (state_in l d).size (top_number n) ≡ true
-  state_known Nothing k = o.least_below (top_number n)
-  state_known (Value w) k = o.least_below (top_number n)
-  state_known (First w) k = o.least_below (top_number n)
-  state_known (State w) k = o.transitive w.size (n.between (pos 0) the_end) (top_number n) k counts_near
-  state_known Mixed k = absurd k
+    pointer_larger : (v w : Pointers I) (p : MachinePointer) → PointerBelow l v w → StandsPointer stands naming memory (near_pointer l n v) p → StandsPointer stands naming memory (near_pointer l n w) p
+    pointer_larger v w null b s = b.null s
+    pointer_larger v w (into i offset lo hi) b s = life_larger v w (life_at memory i) i offset lo hi b s
+
+    value_tells : (v w : values.Value I) → (value_lattice l).leq v w ≡ true → ValueTells stands naming memory (near_value l n v) (near_value l n w)
+    value_tells v w e = let b = value_below l v w e in record {
+      num = λ z h. near_larger q v.num w.num z b.num h;
+      pointer = λ p inside h. pointer_larger v.pointer w.pointer p b.pointer h;
+      indeterminate = b.indeterminate;
+      labels = b.labels;
+    }
+
+  state_tells : (s t : AllocState I) → (state_lattice l).leq s t ≡ true → StateTells stands (near_state l n s) (near_state l n t)
+  state_tells s t e =
+      let a = and_parts (l.leq s.size t.size) _ e in
+      let b = and_parts (flag_leq s.live t.live) _ a.1 in
+      record { size = λ z m h. near_larger q s.size t.size z a.0 h; live = flag_up s.live t.live b.0; freed = flag_up s.freed t.freed b.1 }
 
   -- ---- rows
 
-  module _ (flow : Flow) (row larger : List (Cell I)) (more : row_leq (cell_lattice l) row larger ≡ true) (large : row_leq (cell_lattice l) larger (top_row n all flow.bases.items flow.temps) ≡ true) where
-    value_more : (i : ℕ) → ValueBelow l (value_at l n row i) (value_at l n larger i)
+  module _ (flow : Flow) (row larger : List (Cell I)) (more : row_leq (cell_lattice l) row larger ≡ true) (unmixed : AreUnmixed larger) where
+    value_more : (naming : Naming) (memory : Memory) (i : ℕ) → ValueTells stands naming memory (value_at l n row i) (value_at l n larger i)
     unfolding value_at
-    value_more i =
-        let e = at_monotone l row larger i more in
-        let k = row_known l n all flow.bases.items flow.temps larger i large in
-        value_below l _ _ (near_more (value_in l (cell_at row i)) (value_in l (cell_at larger i)) (value_small (cell_at row i) (cell_at larger i) e k) (value_known (cell_at larger i) k))
+    value_more naming memory i = value_tells naming memory (value_in l (cell_at row i)) (value_in l (cell_at larger i)) (value_up (cell_at row i) (cell_at larger i) (at_monotone l row larger i more) (unmixed_at larger i unmixed))
 
-    zero_more : (i : ℕ) → l.leq (zero_at l n row i).at (zero_at l n larger i).at ≡ true
+    zero_more : (i : ℕ) (z : ℤ) → stands (zero_at l n row i).at z → stands (zero_at l n larger i).at z
     unfolding zero_at
-    zero_more i =
-        let e = at_monotone l row larger i more in
-        let k = row_known l n all flow.bases.items flow.temps larger i large in
-        near_monotone o q (zero_in l (cell_at row i)).at (zero_in l (cell_at larger i)).at (zero_small (cell_at row i) (cell_at larger i) e k) (zero_known (cell_at larger i) k)
+    zero_more i z h = near_larger q (zero_in l (cell_at row i)).at (zero_in l (cell_at larger i)).at z (zero_up (cell_at row i) (cell_at larger i) (at_monotone l row larger i more) (unmixed_at larger i unmixed)) h
 
-    pub record StateMore (s t : AllocState I) : Type 0 where
-      pub size : l.leq s.size t.size ≡ true
-      pub live : s.live ≡ true → t.live ≡ true
-      pub freed : s.freed ≡ true → t.freed ≡ true
-
-    state_by : (s t : AllocState I) → (state_lattice l).leq s t ≡ true → l.leq t.size (top_number n) ≡ true → StateMore (near_state l n s) (near_state l n t)
-    state_by s t e k =
-        let a = and_parts (l.leq s.size t.size) _ e in
-        let b = and_parts (flag_leq s.live t.live) _ a.1 in
-        record { size = near_monotone o q s.size t.size a.0 k; live = flag_up s.live t.live b.0; freed = flag_up s.freed t.freed b.1 }
-
-    state_more : (i : ℕ) → StateMore (state_at l n row i) (state_at l n larger i)
+    state_more : (i : ℕ) → StateTells stands (state_at l n row i) (state_at l n larger i)
     unfolding state_at
-    state_more i =
-        let e = at_monotone l row larger i more in
-        let k = row_known l n all flow.bases.items flow.temps larger i large in
-        state_by (state_in l (cell_at row i)) (state_in l (cell_at larger i)) (state_small (cell_at row i) (cell_at larger i) e k) (state_known (cell_at larger i) k)
-
-    -- ---- what they stand for
-
-    module _ (naming : Naming) (memory : Memory) where
-      cell_larger : (b : ℕ) (class : Class) (signed : Bool) (Place : ℕ → ℕ → Type 0) (Owns : ℕ → ℕ → Type 0) (v w : values.Value I) → ValueBelow l v w → StandsCell stands flow naming memory b class signed Place Owns v → StandsCell stands flow naming memory b class signed Place Owns w
-      cell_larger b class signed Place Owns v w below s = record {
-        whole = λ i offset numbers live place plain holds. q.larger v.num w.num _ below.num (s.whole i offset numbers live place plain holds);
-        byte = λ i offset k content live owns matched. content_larger q naming memory v w class content below (s.byte i offset k content live owns matched);
-      }
-
-      zero_larger : (f g : FirstZero I) (bytes : List Byte) → l.leq f.at g.at ≡ true → StandsZero stands naming memory f bytes → StandsZero stands naming memory g bytes
-      zero_larger f g bytes e s = q.larger f.at g.at _ e s
-
-      state_larger : (s t : AllocState I) (life : Life) (size : ℕ) → StateMore s t → StandsState stands naming memory s life size → StandsState stands naming memory t life size
-      state_larger s t live size m h = (q.larger s.size t.size (pos size) m.size h.0, m.live h.1)
-      state_larger s t ended size m h = q.larger s.size t.size (pos size) m.size h
-      state_larger s t freed size m h = (q.larger s.size t.size (pos size) m.size h.0, m.freed h.1)
+    state_more i = state_tells (state_in l (cell_at row i)) (state_in l (cell_at larger i)) (state_up (cell_at row i) (cell_at larger i) (at_monotone l row larger i more) (unmixed_at larger i unmixed))
 
     pub row_larger : (naming : Naming) (s : MachineState) → StandsFor l n stands flow naming row s → StandsFor l n stands flow naming larger s
-    row_larger naming s h = record {
-      sane = h.sane;
-      held = h.held;
-      lives = h.lives;
-      leaves = λ b j base leaf e k. cell_larger naming s.memory b leaf.class leaf.signed _ _ _ _ (value_more _) (h.leaves b j base leaf e k);
-      classes = λ b c base e heap small. cell_larger naming s.memory b _ true _ _ _ _ (value_more _) (h.classes b c base e heap small);
-      zeros = λ b p i base part e k live. zero_larger naming s.memory _ _ (array_bytes part (bytes_at s.memory i)) (zero_more _) (h.zeros b p i base part e k live);
-      states = λ b i base e heap named. state_larger naming s.memory _ _ _ _ (state_more _) (h.states b i base e heap named);
-      temps = λ t scalar e. scalar_larger q naming s.memory _ _ scalar (value_more _) (h.temps t scalar e);
-    }
+    row_larger naming s h = row_told l n stands flow naming s row larger (record {
+      leaves = λ b j base leaf e k. value_more naming s.memory _;
+      classes = λ b c base e heap small. value_more naming s.memory _;
+      zeros = λ b p base part e k z m. zero_more _ z;
+      states = λ b base e heap. state_more _;
+      temps = λ t. value_more naming s.memory _;
+    }) h

@@ -1,5 +1,5 @@
 -- Larger rows stand for more, and inductive maps begin with the entry's row and are carried along edges.
-use Rattle.std.specs.Prelude.{◌≡◌, ℤ, true, List, [], length, Option, Some}
+use Rattle.std.specs.Prelude.{◌≡◌, ℤ, true, List, [], ◌∷◌, length, Option, Some}
 use Rattle.cc_base.specs.Lattices.{LatticeOf}
 use Rattle.cc_base.specs.IntegerDomains.{IntegersOf}
 use Rattle.cc_base.specs.InductiveMap.{IsInductive}
@@ -9,10 +9,9 @@ use Rattle.flow_program.specs.declared.programs.Flow.{Flow}
 use Rattle.flow_program_views.specs.ProgramViews.{flow_view}
 use Rattle.flow_program_machine.specs.FlowStates.{Standing, running}
 use Rattle.flow_program_machine.specs.FlowStarts.{flow_begin}
-use Rattle.pointer_domain.specs.declared.base_sets.Bases.{Bases}
 use Rattle.value_domain.specs.declared.row_cells.Cell.{Cell}
+use Rattle.value_domain.specs.declared.row_cells.Cell.TheVariants.{Nothing, Value, First, State, Mixed}
 use Rattle.value_domain.specs.Cells.{cell_lattice}
-use Rattle.store_domain_laws.specs.TopRows.{top_row}
 use Rattle.store_domain_meaning.specs.ValueMeaning.{Naming}
 use Rattle.store_domain_meaning.specs.RowMeaning.{MachineState, StandsFor}
 use Rattle.abstract_steps_rows.specs.OwnRows.{program_bases}
@@ -24,10 +23,23 @@ use Rattle.abstract_steps_laws_own_rows.specs.OwnLists.{ReachesTypes}
 use Rattle.abstract_steps_sound.specs.SoundSteps.{StandsBehind}
 use Rattle.abstract_steps_covered.specs.Covering.{Begins, Carries}
 
+module _ {I : Type 0} where
+  -- a mixed cell is above all and is read as the least
+  abbrev pub IsUnmixed : Cell I → Type 0
+  IsUnmixed Nothing = Unit {0}
+  IsUnmixed (Value v) = Unit {0}
+  IsUnmixed (First f) = Unit {0}
+  IsUnmixed (State s) = Unit {0}
+  IsUnmixed Mixed = ⊥
+
+  abbrev pub AreUnmixed : List (Cell I) → Type 0
+  AreUnmixed [] = Unit {0}
+  AreUnmixed (c ∷ cs) = IsUnmixed c × AreUnmixed cs
+
 module _ {I : Type 0} (l : LatticeOf I) (n : IntegersOf I) (stands : I → ℤ → Type 0) (flow : Flow) where
-  -- a row between another one and the greatest row
+  -- a larger row of which no cell is mixed
   abbrev pub LargerRowsStandForMore : Type 0
-  LargerRowsStandForMore = (all : Bases) (naming : Naming) (row larger : List (Cell I)) (s : MachineState) → row_leq (cell_lattice l) row larger ≡ true → row_leq (cell_lattice l) larger (top_row n all flow.bases.items flow.temps) ≡ true → StandsFor l n stands flow naming row s → StandsFor l n stands flow naming larger s
+  LargerRowsStandForMore = (naming : Naming) (row larger : List (Cell I)) (s : MachineState) → row_leq (cell_lattice l) row larger ≡ true → AreUnmixed larger → StandsFor l n stands flow naming row s → StandsFor l n stands flow naming larger s
 
   abbrev pub InductiveMapsAreCarried : List ℤ → Type 0
   InductiveMapsAreCarried list = IsNearList l n list → ReachesTypes list → IsLaidOut (program_bases (length flow.bases.items)) flow → IsNamed flow → AreRising l n (program_bases (length flow.bases.items)) flow

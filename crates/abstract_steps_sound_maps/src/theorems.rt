@@ -7,7 +7,7 @@ ghost use Rattle.abstract_steps_sound_maps.specs.CarriedMaps.{LargerRowsStandFor
 use abstract_steps_rows::Bounded;
 use cc_base::IntDomain;
 
-/// Up to the greatest row of the program, in which no cell is mixed.
+/// Where no cell of the larger row is mixed.
 pub fn larger_rows_stand_for_more<I: IntDomain>()
     ensures { (flow : Flow) → LargerRowsStandForMore I.lattice I.numbers I.stands flow }
 {}

@@ -1,0 +1,7 @@
+pub mod FittedNumbers
+pub mod FittedCells
+pub mod KindPlaces
+pub mod FittedRows
+pub mod CertifiedMaps
+pub mod SoundCertificates
+pub mod WorkedCertificate

@@ -1,0 +1,288 @@
+-- The program of
+--
+--     int main(void) { int i; return 1 / 0; }
+--
+-- as far as its tables go: the unit's trees are not looked at. Its certificate has a pointer from 5 bytes before an object.
+use Rattle.std.specs.Prelude.{◌≡◌, ◌++◌, ℕ, zero, suc, pos, negsuc, true, false, Option, Some, None, List, [], ◌∷◌, codes, refl}
+use Rattle.std.specs.Global.{Vec}
+use Rattle.std.specs.Fmt.{digits}
+use Rattle.std.specs.List.{Contains}
+use Rattle.std.specs.List.Sorted.{IsStrictlySortedBy}
+use Rattle.std.proofs.Common.{arith, ap, subst, sym}
+use Rattle.cc_base.specs.DiagnosticOrder.{IsOrderedSet}
+use Rattle.cc_base.specs.InductiveMap.{IsInductive, IsOwn, row_at}
+use Rattle.cc_base.specs.Rows.{reached_leq}
+use Rattle.cc_base.specs.declared.diagnostics.Diag.{Diag}
+use Rattle.cc_base.specs.declared.diagnostics.Place.{Place}
+use Rattle.cc_base.specs.declared.diagnostics.Rule.TheVariants as rule
+use Rattle.cc_base.specs.declared.int_types.IntType.{IntType}
+use Rattle.cc_base.specs.declared.integer_operators.IntOp.TheVariants.{Div}
+use Rattle.c_layout.specs.Models.{lp64}
+use Rattle.c_layout.specs.Types.{Int}
+use Rattle.c_layout.specs.CheckedUnits.{FunctionView, UnitView}
+use Rattle.c_layout.specs.declared.leaf_lists.Class.TheVariants as class
+use Rattle.c_layout.specs.declared.shapes.BaseInfo.{BaseInfo}
+use Rattle.c_layout.specs.declared.shapes.BaseKind.TheVariants.{Automatic}
+use Rattle.flow_program.specs.declared.basic_blocks.BasicBlock.{BasicBlock}
+use Rattle.flow_program.specs.declared.machine_instructions.Amount.TheVariants as amount
+use Rattle.flow_program.specs.declared.machine_instructions.Instruction.{Instruction}
+use Rattle.flow_program.specs.declared.machine_instructions.Operation.{Operation}
+use Rattle.flow_program.specs.declared.machine_instructions.Operation.TheVariants as op
+use Rattle.flow_program.specs.declared.programs.Flow.{Flow}
+use Rattle.flow_program_views.specs.ProgramViews.{flow_view}
+use Rattle.flow_program_machine.specs.FlowStates.{found_in}
+use Rattle.flow_program_machine.specs.FlowSteps.{flow_steps}
+use Rattle.flow_program_machine.specs.FlowStarts.{flow_begin}
+use Rattle.flow_lower.specs.BaseTables.{TableView}
+use Rattle.interval_domain.specs.Nearest.{nearest}
+use Rattle.interval_domain.specs.Spans.{between_or_empty}
+use Rattle.interval_domain.specs.IntervalLattice.{interval_lattice}
+use Rattle.interval_domain.specs.IntervalNumbers.{interval_numbers}
+use Rattle.interval_domain.specs.declared.intervals.Interval.{Interval}
+use Rattle.pointer_domain.specs.PointerLattice.{no_pointer}
+use Rattle.value_domain.specs.Values.{value_lattice}
+use Rattle.value_domain.specs.declared.row_cells.Cell.{Cell}
+use Rattle.value_domain.specs.declared.row_cells.Cell.TheVariants.{Value}
+use Rattle.lib_models_effects.specs.Worlds.{Violation}
+use Rattle.abstract_steps.specs.StartRows.{empty_row, empty_bases, empty_base, empty_state, start_objects, start_parameters, start_row}
+use Rattle.abstract_steps_rows.specs.FittedRows.{row_fit, cell_fit}
+use Rattle.abstract_steps_rows.specs.OwnRows.{bases_below}
+use Rattle.abstract_steps_instructions.specs.Steps.{operate}
+use Rattle.abstract_steps_instructions.specs.StepViolations.{operation_violations}
+use Rattle.abstract_steps_values.specs.IntegerSteps.{constant_step, binary_step}
+use Rattle.abstract_steps_values.specs.ResultTemps.{put_number}
+use Rattle.abstract_steps_system.specs.FlowMachines.{has_start, start_of}
+use Rattle.abstract_steps_laws_programs.specs.RegularPrograms.{is_regular}
+use Rattle.abstract_steps_laws_own_starts.specs.CutStarts.{type_list}
+use Rattle.abstract_steps_laws_own_starts.proofs.BuiltPrograms.{made, one, none}
+use Rattle.rule_checks.specs.AdmittedRules.{pairs_of, instruction_pairs, block_pairs, map_pairs}
+use Rattle.rule_checks_operands.specs.TypedRows.{has_operands, are_typed, is_typed_block, is_typed_map}
+use Rattle.store_domain.specs.FirstZeroWrites.{set_zeros}
+use Rattle.store_domain.specs.RowPositions.{value_at}
+use Rattle.flow_analysis.specs.Analyses.{row_lattice, machine_of, admitted_pairs}
+use Rattle.abstract_steps_sound_analyses.specs.SoundAnalyses.{IsViolatedIn}
+use Rattle.abstract_steps_sound_beginnings.specs.UnitStarts.{StartsAs}
+use Rattle.cert_check_text.specs.LineWords.{Bytes, until, behind, first_byte, same_bytes}
+use Rattle.cert_check_text.specs.DecimalWords.{cap, grown, small, capped, number_of, range_of}
+use Rattle.cert_check_text.specs.CellReaders.{labels_given, pointer_given, value_given, first_given, state_given, cell_given}
+use Rattle.cert_check_text.specs.CellTexts.{bit_text, labels_sum, with_pointer, with_value, with_first, with_state}
+use Rattle.cert_check_text.specs.BaseDigits.{bit_value, nibble, used_below, bases_text, with_bit, with_digit}
+use Rattle.cert_check_text.specs.MapLines.{reached_text, placed_text, line_given}
+use Rattle.cert_check_maps.specs.MapTexts.{head_text}
+use Rattle.cert_check_maps.specs.LeastCells.{is_no_pointer, is_no_value, is_no_state}
+use Rattle.cert_check_reading.specs.TextPlaces.{line_at, next_place}
+use Rattle.cert_check_reading.specs.GreatestRows.{greatest_row}
+use Rattle.cert_check_reading.specs.CellReading.{cell_read}
+use Rattle.cert_check_reading.specs.BlockReading.{block_read}
+use Rattle.cert_check_reading.specs.MapReading.{has_head, head_read, map_rows, map_reading, is_whole}
+use Rattle.cert_check_edges.specs.MapFaults.{starts_below}
+use Rattle.cert_check.specs.Verdicts.{cert_cells, cert_machine}
+use Rattle.cert_check_programs.specs.Certificates.{IsVerified}
+use Rattle.cert_check_programs.specs.declared.checked_maps.Verified.TheVariants.{Found}
+use Rattle.cert_check_sound.specs.SoundCertificates.{IsCertifiable}
+use Rattle.cert_check_sound.specs.WorkedCertificates.{IsAcceptedBeyond}
+
+none_some : {A : Type 0} (x : A) → None ≡ Some x → ⊥
+none_some x e = cc
+
+-- ---- the certificate
+
+abbrev pub text : Bytes
+text = codes "ccheck-cert 1 1 4" ++ (10 ∷ (codes "r 1" ++ (10 ∷ (codes "0 v - 0 0 1 -5:0 0:0 4:4 0 0 0" ++ (10 ∷ [])))))
+
+abbrev nothing : Cell Interval
+nothing = Value (value_lattice interval_lattice).least
+
+-- from 5 bytes before the object
+abbrev before_object : Cell Interval
+before_object = Value (record (value_lattice interval_lattice).least {
+  pointer = record (no_pointer interval_lattice) {
+    bases = bases_below 1;
+    lo = interval_numbers.between (negsuc 4) (pos 0);
+    rel = interval_numbers.between (pos 0) (pos 0);
+    len = interval_numbers.between (pos 4) (pos 4);
+  };
+})
+
+abbrev row : List (Cell Interval)
+row = before_object ∷ (nothing ∷ (nothing ∷ (nothing ∷ [])))
+
+abbrev start : List (Cell Interval)
+start = nothing ∷ (nothing ∷ (nothing ∷ (nothing ∷ [])))
+
+module _ (some : Flow) where
+  abbrev at : ℕ → Place
+  at column = record { file = 0; line = 1; col = column }
+
+  abbrev int : IntType
+  int = record { bytes = 4; signed = true; rank = 3 }
+
+  abbrev object : BaseInfo
+  object = record {
+    kind = Automatic;
+    size = 4;
+    first = 0;
+    shape = record { cells = record { offset = 0; class = class.Int; signed = true; stride = 4; count = 1 } ∷ []; zeros = []; heap = false };
+  }
+
+  abbrev does : ℕ → Operation → Instruction
+  does column o = record { place = at column; operation = o }
+
+  abbrev block : BasicBlock
+  block = record {
+    instructions = made some (does 1 (op.Constant 0 (pos 1) int) ∷ (does 2 (op.Constant 1 (pos 0) int) ∷ (does 3 (op.Binary 2 Div 0 (amount.Temp 1) int) ∷ (does 4 op.Stop ∷ [])))) (omega arith);
+    first_edge = 0;
+    edges = 0;
+    is_head = false;
+  }
+
+  abbrev pub program : Flow
+  program = record {
+    blocks = one some block;
+    edges = none some;
+    bases = one some object;
+    temps = 3;
+    initial = none some;
+    parameters = none some;
+    entry = at 1;
+    structs = record { items = none some };
+    width = 4;
+    model = lp64;
+  }
+
+  -- ---- the unit
+
+  abbrev main : FunctionView
+  main = record { name = []; at = at 1; returns = Int int; parameters = 0; locals = []; scope = []; body = []; labels = 0 }
+
+  abbrev pub unit : UnitView
+  unit = record { functions = main ∷ []; constants = []; objects = []; structs = []; literals = []; entry = 0; model = lp64 }
+
+  abbrev table : TableView
+  table = record { bases = []; width = 0; objects = []; literals = [] }
+
+  starts : StartsAs unit program
+  starts = record {
+    model = refl;
+    table = table;
+    initial = refl;
+    shared = record {
+      objects = λ k b o at is. absurd (none_some o at);
+      literals = λ k b l at is. absurd (none_some l at);
+      own_objects = λ j k b at there. absurd (none_some b at);
+      own_literals = λ j k b at there. absurd (none_some b at);
+    };
+    inputs = record {
+      types = refl;
+      bases = λ k p at. absurd (none_some p at);
+      own = λ j k p q at there same. absurd (none_some p at);
+    };
+    typed = λ k o at. absurd (none_some o at);
+  }
+
+  -- ---- what is supposed of the program
+
+  started : has_start interval_lattice interval_numbers program ≡ true
+  unfolding start_row empty_row empty_bases empty_base empty_state start_objects start_parameters
+  started = refl
+
+  abbrev rows : List (Option (List (Cell Interval)))
+  rows = Some start ∷ []
+
+  -- no block follows
+  none_own : (b : ℕ) → IsOwn (machine_of program type_list) (row_at [] b)
+  none_own zero = tt
+  none_own (suc b) = tt
+
+  rows_own : (b : ℕ) → IsOwn (machine_of program type_list) (row_at rows b)
+  unfolding bases_below between_or_empty
+  rows_own zero = refl
+  rows_own (suc b) = none_own b
+
+  begins : reached_leq row_lattice (Some (machine_of program type_list).start) (Some start) ≡ true
+  unfolding start_of row_fit cell_fit bases_below between_or_empty start_row empty_row empty_bases empty_base empty_state start_objects start_parameters set_zeros nearest
+  begins = refl
+
+  no_head : (b : ℕ) → (machine_of program type_list).head b ≡ true → ⊥
+  no_head zero h = cc
+  no_head (suc zero) h = cc
+  no_head (suc (suc b)) h = cc
+
+  inductive : IsInductive row_lattice (machine_of program type_list) rows
+  inductive = record {
+    size = refl;
+    own = rows_own;
+    entry = begins;
+    edge = λ e lt. absurd (omega (arith, lt));
+    rounded = λ b h. absurd (no_head b h);
+  }
+
+  typed : is_typed_map interval_lattice interval_numbers program rows ≡ true
+  unfolding is_typed_map is_typed_block are_typed has_operands operate constant_step binary_step put_number value_at between_or_empty
+  typed = refl
+
+  regular : is_regular program type_list ≡ true
+  regular = refl
+
+  certifiable : IsCertifiable program type_list
+  certifiable = record {
+    started = started;
+    regular = regular;
+    checked = record { parts = refl; reaches = refl; structs = refl; rows = rows; inductive = inductive; typed = typed };
+  }
+
+  -- ---- the certificate is accepted
+
+  rows_are : map_rows program text ≡ Some row ∷ []
+  unfolding map_rows head_read has_head head_text greatest_row row_fit cell_fit bases_below between_or_empty block_read cell_read line_at next_place until behind first_byte same_bytes
+      cap grown small capped number_of range_of labels_given pointer_given value_given first_given state_given cell_given bit_text labels_sum with_pointer with_value with_first with_state
+      bit_value nibble used_below bases_text with_bit with_digit reached_text placed_text line_given is_no_pointer is_no_value is_no_state digits nearest
+  rows_are = refl
+
+  whole : is_whole text (map_reading program text) ≡ true
+  unfolding map_reading head_read has_head head_text greatest_row row_fit cell_fit bases_below between_or_empty block_read cell_read line_at next_place until behind first_byte same_bytes
+      cap grown small capped number_of range_of labels_given pointer_given value_given first_given state_given cell_given bit_text labels_sum with_pointer with_value with_first with_state
+      bit_value nibble used_below bases_text with_bit with_digit reached_text placed_text line_given is_no_pointer is_no_value is_no_state digits nearest
+  whole = refl
+
+  below : starts_below cert_cells (cert_machine program) (Some row ∷ []) ≡ true
+  unfolding start_of row_fit cell_fit bases_below between_or_empty start_row empty_row empty_bases empty_base empty_state start_objects start_parameters set_zeros nearest
+  below = refl
+
+  abbrev diagnostic : Diag
+  diagnostic = record { place = at 3; rule = rule.Diverr }
+
+  pairs_are : admitted_pairs program (Some row ∷ []) ≡ diagnostic ∷ []
+  unfolding map_pairs block_pairs instruction_pairs pairs_of operation_violations operate constant_step binary_step put_number value_at between_or_empty bases_below
+  pairs_are = refl
+
+  abbrev pub found : Vec Diag
+  found = one some diagnostic
+
+  ordered : IsOrderedSet (diagnostic ∷ []) (diagnostic ∷ [])
+  unfolding IsStrictlySortedBy
+  ordered = record { ascending = (tt, tt); kept = λ d h. h; made = λ d h. h }
+
+  verified : IsVerified program text (Found found)
+  verified = (
+    (whole, (subst (λ rs. starts_below cert_cells (cert_machine program) rs ≡ true) (sym rows_are) below, λ e lt. absurd (omega (arith, lt)))),
+    subst (λ rs. IsOrderedSet (admitted_pairs program rs) found.items) (sym rows_are) (subst (λ ps. IsOrderedSet ps found.items) (sym pairs_are) ordered),
+  )
+
+  beyond : (machine_of program type_list).own row ≡ false
+  unfolding bases_below between_or_empty nearest
+  beyond = refl
+
+  -- ---- a run
+
+  abbrev pub violation : Violation
+  violation = record { at = at 3; rule = rule.Diverr }
+
+  divides : found_in (flow_steps (flow_view program) 4 (flow_begin unit (flow_view program) [])) ≡ violation ∷ []
+  divides = refl
+
+  violated : IsViolatedIn program unit violation
+  violated = record { draws = []; steps = 4; there = subst (λ vs. Contains vs violation) (sym divides) (0, omega arith, refl) }
+
+  pub accepted : IsAcceptedBeyond program type_list text found unit violation
+  accepted = record { certifiable = certifiable; verified = verified; starts = starts; violated = violated; row = row; has = ap (λ rs. row_at rs 0) rows_are; beyond = beyond }

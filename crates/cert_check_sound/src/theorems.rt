@@ -1,0 +1,55 @@
+//! Rows may have offsets, sizes and first zeros below 0 in a certificate, which no row of an analysis has. So soundness
+//! goes by what rows stand for, and not by laws on larger rows.
+ghost use Rattle.std.specs.Prelude.{ℤ, List};
+ghost use Rattle.std.specs.Global.{Vec};
+ghost use Rattle.cc_base.specs.declared.diagnostics.Diag.{Diag};
+ghost use Rattle.c_layout.specs.CheckedUnits.{UnitView};
+ghost use Rattle.flow_program.specs.declared.programs.Flow.{Flow};
+ghost use Rattle.lib_models_effects.specs.Worlds.{Violation};
+ghost use Rattle.abstract_steps_laws_own_starts.specs.CutStarts.{type_list};
+ghost use Rattle.abstract_steps_sound_analyses.specs.CheckedAnalyses.{FindsEachPair};
+ghost use Rattle.cert_check_text.specs.LineWords.{Bytes};
+ghost use Rattle.cert_check_programs.specs.Certificates.{IsVerified};
+ghost use Rattle.cert_check_programs.specs.declared.checked_maps.Verified.TheVariants.{Found};
+ghost use Rattle.cert_check_sound.specs.FittedRows.{FittedRowsStandForMore};
+ghost use Rattle.cert_check_sound.specs.CertifiedMaps.{ClosedMapsAreCarried, ClosedMapsBegin};
+ghost use Rattle.cert_check_sound.specs.SoundCertificates.{IsCertifiable, HoldsPairsOfUnits, HoldsPairsOfLowered};
+ghost use Rattle.cert_check_sound.specs.WorkedCertificates.{IsAcceptedBeyond};
+
+use abstract_steps_rows::Bounded;
+use cc_base::IntDomain;
+
+/// A row that is made one of the program's own, within -2^64 and 2^64, stands for what it stood for.
+pub fn fitted_rows_stand_for_more<I: IntDomain>()
+    ensures { (flow : Flow) (list : List ℤ) → FittedRowsStandForMore I.lattice I.numbers I.stands flow list }
+{}
+
+/// Where the row that comes along an edge stands for a state, so does the row that a closed map has for the block that the
+/// edge enters.
+pub fn closed_maps_are_carried<I: Bounded>()
+    ensures { (flow : Flow) (list : List ℤ) → ClosedMapsAreCarried I.lattice I.numbers I.stands flow list }
+{}
+
+/// So it is with the row that the map has for the entry.
+pub fn closed_maps_begin<I: Bounded>()
+    ensures { (flow : Flow) (list other : List ℤ) → ClosedMapsBegin I.lattice I.numbers I.stands flow list other }
+{}
+
+/// Each rule that a run of a program violates at a place is among what is found by a certificate that is accepted, where
+/// what is supposed of the program and of its operands is decided by a computation.
+pub fn accepted_certificates_hold_runs()
+    ensures { (flow : Flow) (list : List ℤ) (text : Bytes) (found : Vec Diag) → IsCertifiable flow list → IsVerified flow text (Found found) → FindsEachPair flow list found.items }
+{}
+
+/// So is each rule that a run of a unit violates, where the program begins with what is in the unit's tables, and so where it
+/// is the unit's lowered program.
+pub fn accepted_certificates_hold_units()
+    ensures units { (flow : Flow) (list : List ℤ) (text : Bytes) (found : Vec Diag) → IsCertifiable flow list → IsVerified flow text (Found found) → HoldsPairsOfUnits flow found.items }
+    ensures lowered { (flow : Flow) (list : List ℤ) (text : Bytes) (found : Vec Diag) → IsCertifiable flow list → IsVerified flow text (Found found) → HoldsPairsOfLowered flow found.items }
+{}
+
+/// There is a program, which divides by 0, of which all premises hold, and a certificate of it that is accepted, with a
+/// pointer from 5 bytes before an object: no row of an analysis of it has one.
+pub fn premises_can_be_met()
+    ensures { Flow → (flow : Flow) × (text : Bytes) × (found : Vec Diag) × (u : UnitView) × (v : Violation) × IsAcceptedBeyond flow type_list text found u v }
+{}
