@@ -13,8 +13,8 @@ mod text_report;
 
 pub use answers::Answer;
 pub use fixed_texts::{
-    cert_refused, cert_too_long, file_too_long, help, no_baseline, no_draws, no_file, no_model, version,
-    words_refused,
+    cert_refused, cert_too_long, file_too_long, help, no_baseline, no_draws, no_file, no_model,
+    version, words_refused,
 };
 pub use json_report::report_json;
 pub use load_summary::summary;

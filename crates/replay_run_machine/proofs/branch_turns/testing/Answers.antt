@@ -36,8 +36,8 @@ returns-in_err-right c =
     record {
       control = refl;
       moves = rw (p.1, p.2) (moves_stuck u s reply c.in_err-right.field-0.0 c.args.m.now lost.0
-      (named_there s c.args.test.left.object (λ i. object i c.args.test.left.kind) (λ x. machine.with_side s (tests.side_view c.args.test.right) (then x)) left (c.in_ok-left.ensures u) ∙ side_lost s (tests.side_view c.args.test.right) (then left) lost.1)
-      refl);
+          (named_there s c.args.test.left.object (λ i. object i c.args.test.left.kind) (λ x. machine.with_side s (tests.side_view c.args.test.right) (then x)) left (c.in_ok-left.ensures u) ∙ side_lost s (tests.side_view c.args.test.right) (then left) lost.1)
+          refl);
     }
 
 pub returns : goal.returns
@@ -57,5 +57,5 @@ returns c =
     record {
       control = refl;
       moves = moves_same u (passed c.relation_on.result left right) reply c.pass_test.result m (ap (λ r. passed r left right) c.relation_on.ensures ∙ sym there)
-      (moves_in_world u s (pass_test u.model test s.world) c.pass_test.result m refl c.pass_test.ensures);
+          (moves_in_world u s (pass_test u.model test s.world) c.pass_test.result m refl c.pass_test.ensures);
     }
