@@ -1,5 +1,5 @@
 -- Works only add to what was given away, whatever they come to.
-use Rattle.std.proofs.Common.{List}
+use Rattle.std.proofs.Common.{◌≡◌, List, [], refl}
 use Rattle.flow_lower_tasks.specs.Pieces.{PieceView}
 use Rattle.flow_lower_tasks.specs.Works as jobs
 use Rattle.flow_lower_tasks.specs.Works.{Job}
@@ -30,3 +30,9 @@ grows s p _ _ r (nothing _) = grows_not p
 grows s p _ _ r (piece _ q js qs _ m) = grows s p js qs r m
 grows s p _ _ r (work _ j js ps q qs _ other m k) =
     grows_on p q r (grows_on p (planless (parts s j p)) q (planless_grows p (parts s j p) (grows_parts s j p)) (grows s (planless (parts s j p)) (parts s j p).jobs ps q m)) (grows s q js qs r k)
+
+-- nothing is planned behind works, where nothing was before
+pub jobs_none : (s : SettingView) (p : Plan) (js : List Job) (ps : List PieceView) (r : Plan) → Makes s p js ps r → p.jobs ≡ [] → r.jobs ≡ []
+jobs_none s p _ _ r (nothing _) none = none
+jobs_none s p _ _ r (piece _ q js qs _ m) none = jobs_none s p js qs r m none
+jobs_none s p _ _ r (work _ j js ps q qs _ other m k) none = jobs_none s q js qs r k (jobs_none s (planless (parts s j p)) (parts s j p).jobs ps q m refl)

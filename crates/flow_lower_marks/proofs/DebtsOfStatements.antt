@@ -20,12 +20,12 @@ use Rattle.flow_lower_tasks.specs.declared.template_builder.Dispatch.{Dispatch}
 use Rattle.flow_lower_tasks.specs.declared.pending_works.Landing.{Landing}
 use Rattle.flow_lower_tasks.specs.declared.pending_works.Surroundings.{Surroundings}
 use Rattle.flow_lower_growth.specs.Growth.{Grows}
-use Rattle.flow_lower_marks.specs.Marks.{one, labels_in, all_labels_in, cases_in, defaults_in, AreSelected, AllSelected}
+use Rattle.flow_lower_debts.specs.Marks.{one, labels_in, all_labels_in, cases_in, defaults_in, AreSelected, AllSelected}
 use Rattle.flow_lower_growth.proofs.Growth.{grows_not, works}
 use Rattle.flow_lower_growth.proofs.GrowingStatements.{grows_entered, grows_left, grows_statements, grows_check, grows_step}
-use Rattle.flow_lower_marks.proofs.MarkArithmetic.{one_yes, one_no, below_more, cond_sum}
-use Rattle.flow_lower_marks.proofs.Debts.{dispatched, owes, IsFree, IsPlaced, IsSound, Owed, owed_none, owed_mark, owed_statement, owed_unused, owed_or, debts}
-use Rattle.flow_lower_marks.proofs.DebtsOfTerms.{Paid, paid, paid_silent, Balance, balance_none, balance_mark, balance_part, balance_more, labels_least, at_least_next, first_number, next_number}
+use Rattle.flow_lower_debts.proofs.MarkArithmetic.{one_yes, one_no, below_more, cond_sum}
+use Rattle.flow_lower_debts.proofs.Debts.{dispatched, owes, IsFree, IsPlaced, IsSound, Owed, owed_none, owed_mark, owed_statement, owed_unused, owed_or, debts}
+use Rattle.flow_lower_debts.proofs.DebtsOfTerms.{Paid, paid, paid_silent, Balance, balance_none, balance_mark, balance_part, balance_more, labels_least, at_least_next, first_number, next_number}
 
 pub owed_entered : {ds : List Dispatch} {l k : ℕ} (at : Place) (xs : List ℕ) (p : Plan) → Owed ds l k p → Owed ds l k (all_entered at xs p)
 owed_entered at [] p g = g

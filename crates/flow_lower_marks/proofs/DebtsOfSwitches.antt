@@ -24,12 +24,12 @@ use Rattle.flow_lower_tasks.specs.declared.template_builder.Dispatch.{Dispatch}
 use Rattle.flow_lower_tasks.specs.declared.pending_works.Landing.{Landing}
 use Rattle.flow_lower_tasks.specs.declared.pending_works.Surroundings.{Surroundings}
 use Rattle.flow_lower_growth.specs.Growth.{Grows}
-use Rattle.flow_lower_marks.specs.Marks.{one, below, labels_in, cases_in, defaults_in, IsSelected, AreSelected}
+use Rattle.flow_lower_debts.specs.Marks.{one, below, labels_in, cases_in, defaults_in, IsSelected, AreSelected}
 use Rattle.flow_lower_growth.proofs.Growth.{grows_not, works}
 use Rattle.flow_lower_growth.proofs.GrowingStatements.{grows_mention, grows_dispatch_behind, grows_dispatch_of}
-use Rattle.flow_lower_marks.proofs.MarkArithmetic.{one_below, below_more, below_yes, below_no}
-use Rattle.flow_lower_marks.proofs.Debts.{dispatched, IsSound, Owed, owed_none, owed_mark, owed_statement, debts}
-use Rattle.flow_lower_marks.proofs.DebtsOfTerms.{Paid, labels_of}
+use Rattle.flow_lower_debts.proofs.MarkArithmetic.{one_below, below_more, below_yes, below_no}
+use Rattle.flow_lower_debts.proofs.Debts.{dispatched, IsSound, Owed, owed_none, owed_mark, owed_statement, debts}
+use Rattle.flow_lower_debts.proofs.DebtsOfTerms.{Paid, labels_of}
 use Rattle.flow_lower_marks.proofs.DebtsOfStatements.{owed_leap}
 
 -- ---- the edges of the dispatch

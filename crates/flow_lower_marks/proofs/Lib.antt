@@ -1,7 +1,3 @@
-mod MarkArithmetic
-mod Debts
-mod DebtsOfTerms
-mod DebtsOfConditions
 mod DebtsOfStatements
 mod DebtsOfSwitches
 mod MarkedOnce

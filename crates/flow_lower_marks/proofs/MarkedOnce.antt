@@ -20,13 +20,13 @@ use Rattle.flow_lower_tasks.specs.declared.pending_works.Surroundings.{Surroundi
 use Rattle.flow_lower_functions.specs.Turns.{planless}
 use Rattle.flow_lower_works.specs.Derivations.{is_piece, parts, Makes, nothing, piece, work}
 use Rattle.flow_lower_growth.specs.Growth.{Grows}
-use Rattle.flow_lower_marks.specs.Marks.{one, below, marked, all_marked, labels_in, cases_in, defaults_in}
+use Rattle.flow_lower_debts.specs.Marks.{one, below, marked, all_marked, labels_in, cases_in, defaults_in}
 use Rattle.flow_lower_growth.proofs.Growth.{grows_on}
-use Rattle.flow_lower_growth.proofs.GrowingWorks.{grows_parts, planless_grows, grows}
-use Rattle.flow_lower_marks.proofs.MarkArithmetic.{below_more, marked_append}
-use Rattle.flow_lower_marks.proofs.Debts.{dispatched, owes, all_owe, IsFree, IsPlaced, IsSound, SoundJob, AllSound, Owed, owed_none, debts}
-use Rattle.flow_lower_marks.proofs.DebtsOfTerms.{Paid, paid_silent, paid_term, paid_pointer}
-use Rattle.flow_lower_marks.proofs.DebtsOfConditions.{paid_condition}
+use Rattle.flow_lower_growth.proofs.GrowingWorks.{grows_parts, planless_grows, grows, jobs_none}
+use Rattle.flow_lower_debts.proofs.MarkArithmetic.{below_more, marked_append}
+use Rattle.flow_lower_debts.proofs.Debts.{dispatched, owes, all_owe, IsFree, IsPlaced, IsSound, SoundJob, AllSound, Owed, owed_none, debts}
+use Rattle.flow_lower_debts.proofs.DebtsOfTerms.{Paid, paid_silent, paid_term, paid_pointer}
+use Rattle.flow_lower_debts.proofs.DebtsOfConditions.{paid_condition}
 use Rattle.flow_lower_marks.proofs.DebtsOfStatements.{owed_leap, owed_all_stored, owed_way, owed_outcome, owed_end_of, owed_statements, owed_entered, owed_left, paid_if, paid_if_else, paid_while, paid_do, paid_for, paid_block, paid_label, body_of, one_part, no_free_case, no_free_default, case_owed, default_owed}
 use Rattle.flow_lower_marks.proofs.DebtsOfSwitches.{paid_switch}
 
@@ -171,11 +171,6 @@ module _ (l : ℕ) (less : l < 2 ^ 32 - 1) (s : SettingView) where
       let same : owes ds l j ≡ owes p.dispatches l j = ap (λ xs. owes xs l j) g.dispatches ∙ same_owes p.dispatches g.more_dispatches l j sound in
       subst (λ k. Paid ds l k p (parts s j p)) same (paid_by_form ds g.more_dispatches i around p g.dispatches refl none sound wide (owed_none p none) g)
 
-  jobs_none : (p : Plan) (js : List Job) (ps : List PieceView) (r : Plan) → Makes s p js ps r → p.jobs ≡ [] → r.jobs ≡ []
-  jobs_none p _ _ r (nothing _) none = none
-  jobs_none p _ _ r (piece _ q js qs _ m) none = jobs_none p js qs r m none
-  jobs_none p _ _ r (work _ j js ps q qs _ other m k) none = jobs_none q js qs r k (jobs_none (planless (parts s j p)) (parts s j p).jobs ps q m refl)
-
   pub marks_made : (p : Plan) (js : List Job) (ps : List PieceView) (r : Plan) → Makes s p js ps r → p.jobs ≡ [] → AllSound p.dispatches js → all_marked l ps + below l p.labels ≤ all_owe p.dispatches l js + below l r.labels
   marks_made p _ _ r (nothing _) none sound = omega arith
   marks_made p _ _ r (piece _ q js qs _ m) none (first, sound) = let e = marks_made p js qs r m none sound in omega (arith, e)
@@ -185,7 +180,7 @@ module _ (l : ℕ) (less : l < 2 ^ 32 - 1) (s : SettingView) where
       let inner = marks_made (planless d) d.jobs ps q m refl pay.sound in
       let to = grows_on p (planless d) q (planless_grows p d (grows_parts s j p)) (grows s (planless d) d.jobs ps q m) in
       let later = subst (λ xs. AllSound xs js) (sym to.dispatches) (all_later p.dispatches to.more_dispatches js sound) in
-      let outer = marks_made q js qs r k (jobs_none (planless d) d.jobs ps q m refl) later in
+      let outer = marks_made q js qs r k (jobs_none s (planless d) d.jobs ps q m refl) later in
       let same : all_owe q.dispatches l js ≡ all_owe p.dispatches l js = ap (λ xs. all_owe xs l js) to.dispatches ∙ all_same p.dispatches to.more_dispatches l js sound in
       sum _ _ _ _ _ _ _ _ _ _ _ (marked_append l ps qs) pay.most inner outer same
     where

@@ -17,11 +17,11 @@ use Rattle.flow_lower_functions.specs.Functions.{arguments, argument, parameters
 use Rattle.flow_lower_functions.specs.Turns.{planless}
 use Rattle.flow_lower_works.proofs.Derivations.{derived}
 use Rattle.flow_lower_growth.specs.Growth.{Grows}
-use Rattle.flow_lower_marks.specs.Marks.{one, below, all_marked, all_labels_in, IsLabelled}
+use Rattle.flow_lower_debts.specs.Marks.{one, below, all_marked, all_labels_in, IsLabelled}
 use Rattle.flow_lower_growth.proofs.Growth.{grows_not, works}
 use Rattle.flow_lower_growth.proofs.GrowingStatements.{grows_entered, grows_left, grows_statements}
-use Rattle.flow_lower_marks.proofs.MarkArithmetic.{one_below, below_more, at_most_one}
-use Rattle.flow_lower_marks.proofs.Debts.{dispatched, Owed, owed_none, owed_silent, debts}
+use Rattle.flow_lower_debts.proofs.MarkArithmetic.{one_below, below_more, at_most_one}
+use Rattle.flow_lower_debts.proofs.Debts.{dispatched, Owed, owed_none, owed_silent, debts}
 use Rattle.flow_lower_marks.proofs.DebtsOfStatements.{owed_entered, owed_left, owed_statements}
 use Rattle.flow_lower_marks.proofs.MarkedOnce.{free_owes, marks_made}
 

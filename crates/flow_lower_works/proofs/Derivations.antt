@@ -13,15 +13,15 @@ use Rattle.flow_lower_works.specs.Derivations.{is_piece, parts, Makes, nothing, 
 module _ (s : SettingView) where
   -- ---- one after the other
 
-  record Parted (p : Plan) (xs ys : List Job) (ps : List PieceView) (r : Plan) : Type 0 where
-    front : List PieceView
-    back : List PieceView
-    between : Plan
-    first : Makes s p xs front between
-    second : Makes s between ys back r
-    all : ps ≡ front ++ back
+  pub record Parted (p : Plan) (xs ys : List Job) (ps : List PieceView) (r : Plan) : Type 0 where
+    pub front : List PieceView
+    pub back : List PieceView
+    pub between : Plan
+    pub first : Makes s p xs front between
+    pub second : Makes s between ys back r
+    pub all : ps ≡ front ++ back
 
-  parted : (p : Plan) (xs ys : List Job) (ps : List PieceView) (r : Plan) → Makes s p (xs ++ ys) ps r → Parted p xs ys ps r
+  pub parted : (p : Plan) (xs ys : List Job) (ps : List PieceView) (r : Plan) → Makes s p (xs ++ ys) ps r → Parted p xs ys ps r
   parted p [] ys ps r m = record { front = []; back = ps; between = p; first = nothing p; second = m; all = refl }
   parted p (x ∷ xs) ys ps r (piece _ q js qs _ m) =
       let d = parted p xs ys qs r m in
@@ -55,7 +55,7 @@ module _ (s : SettingView) where
   none_to_come : (g : Going) → g.stack ≡ [] → Comes g g
   none_to_come g e = record { pieces = []; made = subst (λ js. Makes s g.planned js [] g.planned) (sym e) (nothing g.planned); all = sym (append-nil g.pieces) }
 
-  planless_same : (p : Plan) → p.jobs ≡ [] → planless p ≡ p
+  pub planless_same : (p : Plan) → p.jobs ≡ [] → planless p ≡ p
   planless_same p e = ap (λ js. record p { jobs = js }) (sym e)
 
   -- a piece is added

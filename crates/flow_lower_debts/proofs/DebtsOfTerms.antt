@@ -17,11 +17,11 @@ use Rattle.flow_lower_expressions.specs.Calls.{argued, is_allocation, reads_line
 use Rattle.flow_lower_expressions.specs.LvaluePointers.{address}
 use Rattle.flow_lower_expressions.specs.Values.{of_form, term}
 use Rattle.flow_lower_growth.specs.Growth.{Grows}
-use Rattle.flow_lower_marks.specs.Marks.{one, below}
+use Rattle.flow_lower_debts.specs.Marks.{one, below}
 use Rattle.flow_lower_growth.proofs.Growth.{grows_not, works}
 use Rattle.flow_lower_growth.proofs.GrowingTerms.{grows_argued}
-use Rattle.flow_lower_marks.proofs.MarkArithmetic.{one_below, below_more}
-use Rattle.flow_lower_marks.proofs.Debts.{AllSound, all_owe, Owed, owed_none, owed_value, debts}
+use Rattle.flow_lower_debts.proofs.MarkArithmetic.{one_below, below_more}
+use Rattle.flow_lower_debts.proofs.Debts.{AllSound, all_owe, Owed, owed_none, owed_value, debts}
 
 -- what is planned owes no more than the labels that were given away
 pub record Paid (ds : List Dispatch) (l : ℕ) (before : ℕ) (p r : Plan) : Type 0 where

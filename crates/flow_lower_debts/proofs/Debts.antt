@@ -11,7 +11,7 @@ use Rattle.flow_lower_tasks.specs.declared.template_pieces.OwnCall.{OwnCall}
 use Rattle.flow_lower_tasks.specs.declared.pending_works.Decision.{Decision}
 use Rattle.flow_lower_tasks.specs.declared.pending_works.Surroundings.{Surroundings}
 use Rattle.flow_lower_expressions.specs.Branches.{arm}
-use Rattle.flow_lower_marks.specs.Marks.{one, marked, labels_in, cases_in, defaults_in, AreSelected}
+use Rattle.flow_lower_debts.specs.Marks.{one, marked, labels_in, cases_in, defaults_in, AreSelected}
 
 -- the labels of the innermost switch
 abbrev pub dispatched : ℕ → Option Dispatch → StatementTree → ℕ

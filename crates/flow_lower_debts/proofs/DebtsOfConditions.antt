@@ -18,10 +18,10 @@ use Rattle.flow_lower_tasks.specs.declared.pending_works.Decision.{Decision}
 use Rattle.flow_lower_tasks.specs.declared.term_kinds.OperatorMeaning.{OperatorMeaning}
 use Rattle.flow_lower_tasks.specs.declared.term_kinds.OperatorMeaning.TheVariants.{Number, Truth}
 use Rattle.flow_lower_growth.specs.Growth.{Grows}
-use Rattle.flow_lower_marks.specs.Marks.{one}
+use Rattle.flow_lower_debts.specs.Marks.{one}
 use Rattle.flow_lower_growth.proofs.Growth.{grows_not, works}
-use Rattle.flow_lower_marks.proofs.Debts.{Owed, owed_none, debts}
-use Rattle.flow_lower_marks.proofs.DebtsOfTerms.{Paid, paid, paid_silent, owed_argued, balance_none, balance_mark, labels_least, at_least_next, first_number, next_number}
+use Rattle.flow_lower_debts.proofs.Debts.{Owed, owed_none, debts}
+use Rattle.flow_lower_debts.proofs.DebtsOfTerms.{Paid, paid, paid_silent, owed_argued, balance_none, balance_mark, labels_least, at_least_next, first_number, next_number}
 
 owed_side : {ds : List Dispatch} {l k : ℕ} (o : Option NamedObject) (constant : Option ℤ) (p : Plan) → Owed ds l k p → Owed ds l k (side_of o constant p).after
 owed_side (Some o) constant p g = search debts

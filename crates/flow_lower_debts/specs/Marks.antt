@@ -1,11 +1,9 @@
 -- How often labels are marked, and how often they stand in statements.
-use Rattle.std.specs.Prelude.{◌≡◌, ◌≤◌, ◌<◌, ℕ, ◌+◌, ◌-◌, ◌^◌, ◌==◌, Bool, cond, nat_lt, List, [], ◌∷◌, length}
+use Rattle.std.specs.Prelude.{◌≡◌, ◌≤◌, ℕ, ◌+◌, ◌==◌, cond, nat_lt, List, [], ◌∷◌, length}
 use Rattle.c_layout.specs.CheckedTrees as tree
 use Rattle.c_layout.specs.CheckedTrees.{StatementTree, StatementTrees, statement_trees}
 use Rattle.c_layout.specs.CheckedUnits.{FunctionView}
-use Rattle.c_layout.specs.StructViews.{StructView}
-use Rattle.flow_lower_tasks.specs.Pieces.{PieceView, Do, DoIfUsed, End, Mark, Call, TemplateView}
-use Rattle.flow_lower_functions.specs.Functions.{IsTemplate}
+use Rattle.flow_lower_tasks.specs.Pieces.{PieceView, Do, DoIfUsed, End, Mark, Call}
 
 abbrev pub one : ℕ → ℕ → ℕ
 one l m = cond (l == m) 1 0
@@ -109,7 +107,3 @@ pub record IsLabelled (f : FunctionView) : Type 0 where
   pub cases : (n : ℕ) → all_cases_in n (statement_trees f.body) ≡ 0
   pub defaults : all_defaults_in (statement_trees f.body) ≡ 0
   pub switches : AllSelected (statement_trees f.body)
-
--- so its template marks each label at most once, but for the last number, at which labels stop
-abbrev pub LabelsAreMarkedOnce : Type 0
-LabelsAreMarkedOnce = (structs : List StructView) (pointer int_bytes : ℕ) (f : FunctionView) (is_entry : Bool) (t : TemplateView) → IsTemplate structs pointer int_bytes f is_entry t → IsLabelled f → (l : ℕ) → l < 2 ^ 32 - 1 → all_marked l t.pieces ≤ 1

@@ -1,0 +1,2 @@
+//! The marks that works are still to make: lemmas for the laws on labels.
+#![tactic(auto)]

@@ -1,0 +1,104 @@
+-- What follows, one item after the other, for any number of turns.
+use Rattle.std.specs.Prelude.{◌≡◌, ℕ, zero, suc, true, false, List, [], ◌∷◌, ◌++◌, Option, Some, None}
+use Rattle.cc_base.specs.declared.diagnostics.Place.{Place}
+use Rattle.c_layout.specs.CheckedTrees.{TermTree, LvalueTree, StatementTree}
+use Rattle.c_layout.specs.CheckedUnits.{FunctionView}
+use Rattle.c_layout.specs.declared.checked_tree.checked_terms.ObjectRef.{ObjectRef}
+use Rattle.flow_program.specs.declared.flow_edges.Test.{Test}
+use Rattle.flow_program.specs.declared.machine_instructions.Scalar as declared
+use Rattle.flow_lower_tasks.specs.Acts as act
+use Rattle.flow_lower_tasks.specs.Acts.{Act}
+use Rattle.flow_lower_tasks.specs.Pieces.{Local, PieceView, End, When, Always}
+use Rattle.flow_lower_tasks.specs.Plans.{name_of_object}
+use Rattle.ref_machine.specs.Items as item
+use Rattle.ref_machine.specs.Items.{Item, Items, listed, NamedTest, Change}
+use Rattle.ref_machine.specs.Operations as op
+use Rattle.ref_machine.specs.Operations.{Operation}
+use Rattle.ref_machine.specs.Scopes.{all_of, open_scopes}
+use Rattle.ref_machine.specs.TermItems.{address_items}
+use Rattle.ref_machine.specs.ConditionItems.{term_items}
+use Rattle.ref_machine.specs.StatementItems.{of_statement}
+use Rattle.ref_machine.specs.SourceStates.{function_at}
+use Rattle.template_runs.specs.TemplateStates.{Templates}
+use Rattle.template_runs_acts.specs.Acts.{IsAct}
+use Rattle.template_runs_follow.specs.Follows as follows
+use Rattle.template_runs_follow.specs.Follows.{own, Names, Leads, SameTest, Follows, at_place, change_act}
+use Rattle.template_runs_follow.proofs.FewerTurns.{less}
+
+pub gives_value : {t : Templates} (n : ℕ) (d : ℕ) (e : TermTree) (items : List Item) (ps : List PieceView) → Follows t n d (term_items t.unit true e ++ items) ps → Follows t n d (item.Value e ∷ items) ps
+gives_value zero d e items ps f = follows.enough _ _ _
+gives_value (suc n) d e items ps f = follows.value n d e items ps (less n _ _ ps f)
+
+pub gives_unused : {t : Templates} (n : ℕ) (d : ℕ) (e : TermTree) (items : List Item) (ps : List PieceView) → Follows t n d (term_items t.unit false e ++ items) ps → Follows t n d (item.Unused e ∷ items) ps
+gives_unused zero d e items ps f = follows.enough _ _ _
+gives_unused (suc n) d e items ps f = follows.unused n d e items ps (less n _ _ ps f)
+
+pub gives_address : {t : Templates} (n : ℕ) (d : ℕ) (l : LvalueTree) (items : List Item) (ps : List PieceView) → Follows t n d (address_items t.unit l ++ items) ps → Follows t n d (item.Address l ∷ items) ps
+gives_address zero d l items ps f = follows.enough _ _ _
+gives_address (suc n) d l items ps f = follows.address n d l items ps (less n _ _ ps f)
+
+pub gives_statement : {t : Templates} (n : ℕ) (d : ℕ) (i : StatementTree) (items : List Item) (ps : List PieceView) → Follows t n d (of_statement t.unit true i ++ items) ps → Follows t n d (item.Statement i ∷ items) ps
+gives_statement zero d i items ps f = follows.enough _ _ _
+gives_statement (suc n) d i items ps f = follows.statement n d i items ps (less n _ _ ps f)
+
+pub gives_turn_end : {t : Templates} (n : ℕ) (d : ℕ) (items : List Item) (ps : List PieceView) → Follows t n d items ps → Follows t n d (item.TurnEnd ∷ items) ps
+gives_turn_end zero d items ps f = follows.enough _ _ _
+gives_turn_end (suc n) d items ps f = follows.turn_end n d items ps (less n _ _ ps f)
+
+pub gives_loop_end : {t : Templates} (n : ℕ) (d : ℕ) (items : List Item) (ps : List PieceView) → Follows t n d items ps → Follows t n d (item.LoopEnd ∷ items) ps
+gives_loop_end zero d items ps f = follows.enough _ _ _
+gives_loop_end (suc n) d items ps f = follows.loop_end n d items ps (less n _ _ ps f)
+
+pub gives_drop : {t : Templates} (n : ℕ) (d : ℕ) (items : List Item) (ps : List PieceView) → Follows t n d items ps → Follows t n (suc d) (item.Drop ∷ items) ps
+gives_drop zero d items ps f = follows.enough _ _ _
+gives_drop (suc n) d items ps f = follows.drop n d items ps (less n _ _ ps f)
+
+pub gives_no_enters : {t : Templates} (n : ℕ) (d : ℕ) (items : List Item) (ps : List PieceView) → Follows t n d items ps → Follows t n d (item.Enters [] ∷ items) ps
+gives_no_enters zero d items ps f = follows.enough _ _ _
+gives_no_enters (suc n) d items ps f = follows.enters_none n d items ps (less n _ _ ps f)
+
+pub gives_no_leaves : {t : Templates} (n : ℕ) (d : ℕ) (items : List Item) (ps : List PieceView) → Follows t n d items ps → Follows t n d (item.Leaves [] ∷ items) ps
+gives_no_leaves zero d items ps f = follows.enough _ _ _
+gives_no_leaves (suc n) d items ps f = follows.leaves_none n d items ps (less n _ _ ps f)
+
+pub gives_step : {t : Templates} (n : ℕ) (d next : ℕ) (at : Place) (operation : Operation) (a : Act) (items : List Item) (ps : List PieceView) → IsAct operation a d next → Follows t n next items ps → Follows t n d (item.Do at operation ∷ items) (at_place at a ∷ ps)
+gives_step zero d next at operation a items ps is f = follows.enough _ _ _
+gives_step (suc n) d next at operation a items ps is f = follows.does n d next at operation a items ps is (less n _ _ _ f)
+
+pub gives_store : {t : Templates} (n : ℕ) (d : ℕ) (at : Place) (kind : declared.Scalar) (items : List Item) (ps : List PieceView) → Follows t n d items ps → Follows t n (suc (suc d)) (item.Do at (op.Store kind) ∷ (item.Drop ∷ items)) (at_place at (act.Store d (suc d) kind None) ∷ ps)
+gives_store zero d at kind items ps f = follows.enough _ _ _
+gives_store (suc n) d at kind items ps f = follows.stores n d at kind items ps (less n _ _ _ f)
+
+pub gives_object : {t : Templates} (n : ℕ) (d base : ℕ) (at : Place) (o : ObjectRef) (offset : ℕ) (items : List Item) (ps : List PieceView) → Names t base (name_of_object o) → Follows t n (suc d) items ps → Follows t n d (item.Object at o offset ∷ items) (at_place at (act.Address d base offset) ∷ ps)
+gives_object zero d base at o offset items ps named f = follows.enough _ _ _
+gives_object (suc n) d base at o offset items ps named f = follows.object n d base at o offset items ps named (less n _ _ _ f)
+
+pub gives_change : {t : Templates} (n : ℕ) (d base local : ℕ) (at : Place) (how : Change) (items : List Item) (ps : List PieceView) → Names t base (Local local) → Follows t n d items ps → Follows t n d (item.OnObject at local how ∷ items) (at_place at (change_act base how) ∷ ps)
+gives_change zero d base local at how items ps named f = follows.enough _ _ _
+gives_change (suc n) d base local at how items ps named f = follows.on_object n d base local at how items ps named (less n _ _ _ f)
+
+pub gives_enter : {t : Templates} (n : ℕ) (d base local : ℕ) (locals : List ℕ) (items : List Item) (ps : List PieceView) → Names t base (Local local) → Follows t n d (item.Enters locals ∷ items) ps → Follows t n d (item.Enters (local ∷ locals) ∷ items) (at_place (own t) (act.Enter base) ∷ ps)
+gives_enter zero d base local locals items ps named f = follows.enough _ _ _
+gives_enter (suc n) d base local locals items ps named f = follows.enters n d base local locals items ps named (less n _ _ _ f)
+
+pub gives_leave : {t : Templates} (n : ℕ) (d base local : ℕ) (locals : List ℕ) (items : List Item) (ps : List PieceView) → Names t base (Local local) → Follows t n d (item.Leaves locals ∷ items) ps → Follows t n d (item.Leaves (local ∷ locals) ∷ items) (at_place (own t) (act.Leave base) ∷ ps)
+gives_leave zero d base local locals items ps named f = follows.enough _ _ _
+gives_leave (suc n) d base local locals items ps named f = follows.leaves n d base local locals items ps named (less n _ _ _ f)
+
+pub gives_return : {t : Templates} (n : ℕ) (d : ℕ) (f : FunctionView) (items : List Item) (ps : List PieceView) → function_at t.unit t.unit.entry ≡ Some f → Follows t n d (item.Leaves (all_of (open_scopes items)) ∷ []) ps → Follows t n d (item.LeaveFunction ∷ items) ps
+gives_return zero d f items ps is go = follows.enough _ _ _
+gives_return (suc n) d f items ps is go = follows.leave_function n d f items ps is (less n _ _ _ go)
+
+pub gives_hop : {t : Templates} (n : ℕ) (d l : ℕ) (items : List Item) (ps there : List PieceView) → Leads t l there → Follows t n d items there → Follows t n d (item.Hop ∷ items) (End (record { at = own t; does = act.Jump }) (record { to = l; taken = Always } ∷ []) ∷ ps)
+gives_hop zero d l items ps there to f = follows.enough _ _ _
+gives_hop (suc n) d l items ps there to f = follows.hop n d l items ps there to (less n _ _ _ f)
+
+pub gives_choice : {t : Templates} (n : ℕ) (d hit miss : ℕ) (at : Place) (kind : declared.Scalar) (test : Option NamedTest) (if_held if_failed : Option Test) (held failed : Items) (items : List Item) (ps on_yes on_no : List PieceView) → SameTest t test if_held if_failed → Leads t hit on_yes → Leads t miss on_no → Follows t n d (listed held ++ items) on_yes → Follows t n d (listed failed ++ items) on_no
+    → Follows t n (suc d) (item.Choose at test held failed ∷ items) (End (record { at = at; does = act.Branch d kind }) (record { to = hit; taken = When true if_held None } ∷ (record { to = miss; taken = When false if_failed None } ∷ [])) ∷ ps)
+gives_choice zero d hit miss at kind test if_held if_failed held failed items ps on_yes on_no same to_yes to_no go stay = follows.enough _ _ _
+gives_choice (suc n) d hit miss at kind test if_held if_failed held failed items ps on_yes on_no same to_yes to_no go stay =
+    follows.choose n d hit miss at kind test if_held if_failed held failed items ps on_yes on_no same to_yes to_no (less n _ _ _ go) (less n _ _ _ stay)
+
+pub gives_end : {t : Templates} (n d : ℕ) (at : Place) (ps : List PieceView) → Follows t n d [] (End (record { at = at; does = act.Stop }) [] ∷ ps)
+gives_end zero d at ps = follows.enough _ _ _
+gives_end (suc n) d at ps = follows.finish n d at ps

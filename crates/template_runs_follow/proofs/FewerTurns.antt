@@ -1,0 +1,38 @@
+-- What follows for so many turns follows for fewer.
+use Rattle.std.specs.Prelude.{ℕ, zero, suc, List}
+use Rattle.flow_lower_tasks.specs.Pieces.{PieceView}
+use Rattle.ref_machine.specs.Items.{Item}
+use Rattle.template_runs.specs.TemplateStates.{Templates}
+use Rattle.template_runs_follow.specs.Follows as follows
+use Rattle.template_runs_follow.specs.Follows.{Follows}
+
+pub less : {t : Templates} (n d : ℕ) (items : List Item) (ps : List PieceView) → Follows t (suc n) d items ps → Follows t n d items ps
+less zero d items ps f = follows.enough d items ps
+less (suc n) _ _ _ (follows.by_mark _ d l items ps f) = follows.by_mark (suc n) d l items ps (less (suc n) d items ps f)
+less (suc n) _ _ _ (follows.value _ d e items ps f) = follows.value n d e items ps (less n d _ ps f)
+less (suc n) _ _ _ (follows.unused _ d e items ps f) = follows.unused n d e items ps (less n d _ ps f)
+less (suc n) _ _ _ (follows.address _ d l items ps f) = follows.address n d l items ps (less n d _ ps f)
+less (suc n) _ _ _ (follows.statement _ d i items ps f) = follows.statement n d i items ps (less n d _ ps f)
+less (suc n) _ _ _ (follows.in_while _ d e body items ps f) = follows.in_while n d e body items ps (less n d _ ps f)
+less (suc n) _ _ _ (follows.in_do _ d body e items ps f) = follows.in_do n d body e items ps (less n d _ ps f)
+less (suc n) _ _ _ (follows.in_for _ d e step body items ps f) = follows.in_for n d e step body items ps (less n d _ ps f)
+less (suc n) _ _ _ (follows.turn_end _ d items ps f) = follows.turn_end n d items ps (less n d _ ps f)
+less (suc n) _ _ _ (follows.loop_end _ d items ps f) = follows.loop_end n d items ps (less n d _ ps f)
+less (suc n) _ _ _ (follows.break_out _ d items ps f) = follows.break_out n d items ps (less n d _ ps f)
+less (suc n) _ _ _ (follows.next_turn _ d items ps f) = follows.next_turn n d items ps (less n d _ ps f)
+less (suc n) _ _ _ (follows.go_to _ d l f items to ps is found go) = follows.go_to n d l f items to ps is found (less n d _ ps go)
+less (suc n) _ _ _ (follows.leave_function _ d f items ps is go) = follows.leave_function n d f items ps is (less n d _ ps go)
+less (suc n) _ _ _ (follows.end_body _ d f items ps is go) = follows.end_body n d f items ps is (less n d _ ps go)
+less (suc n) _ _ _ (follows.does _ d next at operation a items ps is go) = follows.does n d next at operation a items ps is (less n next items ps go)
+less (suc n) _ _ _ (follows.stores _ d at kind items ps go) = follows.stores n d at kind items ps (less n d items ps go)
+less (suc n) _ _ _ (follows.drop _ d items ps go) = follows.drop n d items ps (less n d items ps go)
+less (suc n) _ _ _ (follows.object _ d base at o offset items ps named go) = follows.object n d base at o offset items ps named (less n (suc d) items ps go)
+less (suc n) _ _ _ (follows.on_object _ d base local at how items ps named go) = follows.on_object n d base local at how items ps named (less n d items ps go)
+less (suc n) _ _ _ (follows.enters_none _ d items ps go) = follows.enters_none n d items ps (less n d items ps go)
+less (suc n) _ _ _ (follows.enters _ d base local locals items ps named go) = follows.enters n d base local locals items ps named (less n d _ ps go)
+less (suc n) _ _ _ (follows.leaves_none _ d items ps go) = follows.leaves_none n d items ps (less n d items ps go)
+less (suc n) _ _ _ (follows.leaves _ d base local locals items ps named go) = follows.leaves n d base local locals items ps named (less n d _ ps go)
+less (suc n) _ _ _ (follows.choose _ d hit miss at kind test if_held if_failed held failed items ps on_yes on_no same to_yes to_no go stay) =
+    follows.choose n d hit miss at kind test if_held if_failed held failed items ps on_yes on_no same to_yes to_no (less n d _ on_yes go) (less n d _ on_no stay)
+less (suc n) _ _ _ (follows.hop _ d l items ps there to go) = follows.hop n d l items ps there to (less n d items there go)
+less (suc n) _ _ _ (follows.finish _ d at ps) = follows.finish n d at ps

@@ -1,0 +1,188 @@
+-- A turn of the source is no piece or one of the templates, and the marks before it.
+use Rattle.std.proofs.Common.{◌≡◌, ℕ, zero, suc, ◌+◌, ℤ, Bool, true, false, not, cond, List, [], ◌∷◌, ◌++◌, length, Option, Some, None, refl, arith, ap, sym, subst, ◌∙◌}
+use Rattle.std.proofs.lemmas.List.{append-nil}
+use Rattle.cc_base.specs.declared.diagnostics.Place.{Place}
+use Rattle.cc_base.specs.declared.diagnostics.Rule.{Rule}
+use Rattle.flow_program.specs.declared.flow_edges.Test.{Test}
+use Rattle.flow_program.specs.declared.machine_instructions.Scalar as declared
+use Rattle.flow_lower_tasks.specs.Acts as act
+use Rattle.flow_lower_tasks.specs.Pieces.{PieceView, End, ExitView, When, Always}
+use Rattle.lib_models_memory.specs.Instances.{Memory}
+use Rattle.lib_models_memory.specs.Labels.{no_labels}
+use Rattle.lib_models_memory.specs.Scalars.{Scalar, integer, is_false}
+use Rattle.lib_models_effects.specs.UnitStarts.{start_world}
+use Rattle.lib_models_effects.specs.Worlds.{World, Why, Ended, Reply, goes, stops, behind, Violation}
+use Rattle.ref_machine.specs.Items as item
+use Rattle.ref_machine.specs.Items.{Item, Items, listed, NamedTest}
+use Rattle.ref_machine.specs.Scopes.{jump, behind_loop, behind_turn, all_of, open_scopes}
+use Rattle.ref_machine.specs.LabelSearch.{from_label}
+use Rattle.ref_machine.specs.TermItems.{address_items}
+use Rattle.ref_machine.specs.ConditionItems.{term_items}
+use Rattle.ref_machine.specs.StatementItems.{of_statement, while_turn, do_turn, for_turn}
+use Rattle.ref_machine.specs.SourceStates as states
+use Rattle.ref_machine.specs.SourceStates.{State, function_at, first_do}
+use Rattle.ref_machine.specs.ObjectSteps as steps
+use Rattle.ref_machine.specs.BranchSteps as branch
+use Rattle.ref_machine.specs.SourceSteps as turns
+use Rattle.ref_machine.specs.SourceRuns as source
+use Rattle.ref_machine.specs.SourceRuns.{SourceRun, Run, body_of}
+use Rattle.ref_machine.specs.Operations as op
+use Rattle.template_runs.specs.TemplateStates as template
+use Rattle.template_runs.specs.TemplateStates.{Templates, Standing, TemplateRun}
+use Rattle.template_runs.specs.TemplateExits as exits
+use Rattle.template_runs.specs.TemplateActs.{perform}
+use Rattle.template_runs.specs.TemplateSteps as runs
+use Rattle.template_runs.specs.TemplateSteps.{template_begin, steps_from}
+use Rattle.template_runs_acts.specs.Acts.{Holds}
+use Rattle.template_runs_acts.proofs.OperationsAgree.{agree, stores_agree}
+use Rattle.template_runs_follow.specs.Follows as follows
+use Rattle.template_runs_follow.specs.Follows.{pieces, own, Leads, SameTest, Follows, at_place}
+use Rattle.template_runs_follow.specs.Alike as alike
+use Rattle.template_runs_follow.specs.Alike.{Lined, Related, Alike, Agree}
+use Rattle.template_runs_follow.proofs.FewerTurns.{less}
+use Rattle.template_runs_follow.proofs.StepsAlike.{Next, lined, src, std, stay, ran, halted, operated, stored, pointed_to, changed_alike, entered_alike, left_alike}
+use Rattle.template_runs_follow.proofs.TestsAlike as testing
+use Rattle.template_runs_follow.proofs.TestsAlike.{SameTesting, held_alike, failed_alike}
+
+no_value : (n : ℕ) → 0 ≡ suc n → ⊥
+no_value n e = omega (arith, e)
+
+one_less : (m n : ℕ) → suc m ≡ suc n → m ≡ n
+one_less m n e = omega (arith, e)
+
+module _ (t : Templates) (n : ℕ) (names : ℕ → Option ℕ) (memory : Memory) (draws : List ℤ) (found : List Violation) (count : ℕ) where
+  -- where a turn begins, and where the pieces stand
+  abbrev From : List Item → List Scalar → (ℕ → Option Scalar) → List PieceView → List Rule → List Violation → Type 0
+  From items vs temps ps new also = Next t n (source.turned_on found count (turns.turn_by t.unit (src t n names items vs memory draws) items)) (template.running (std t n names ps temps memory draws new) also)
+
+  one_step : (a : SourceRun) (b : TemplateRun) → Alike t n a (runs.next t b) → Next t n a b
+  one_step a b same = record { steps = 1; both = same }
+
+  -- ---- edges
+
+  -- behind a test the source goes on with items, and the templates behind a label
+  taken : (at : Place) (also : List Violation) (items chosen : List Item) (vs : List Scalar) (temps : ℕ → Option Scalar) (ps there : List PieceView) (l : ℕ) (one : Reply State) (other : Reply Standing) → found ≡ also → Leads t l there → Lined t n (chosen ++ items) vs temps there → SameTesting (src t n names items vs memory draws) (std t n names ps temps memory draws []) one other
+      → Alike t n (source.run_by found count (Some at) (behind one (λ s w. steps.on (first_do chosen s)))) (runs.run_by also (Some at) (behind (behind other (λ s w. template.on (exits.with_put None s))) (λ s w. exits.at_label t s l)))
+  taken at also items chosen vs temps ps there l _ _ same to go (testing.both_go w) =
+      subst (λ o. Alike t n (source.run_by found count (Some at) (steps.on (first_do chosen (record (src t n names items vs memory draws) { world = w })))) (runs.run_by also (Some at) (template.if_some (record (std t n names ps temps memory draws []) { world = w }) o (λ rest. template.on (template.going_on (record (std t n names ps temps memory draws []) { world = w }) rest))))) (sym to)
+      (ran t n names memory draws found also count same at (chosen ++ items) vs temps there names w go)
+  taken at also items chosen vs temps ps there l _ _ same to go (testing.both_stop why w) = halted t n names memory draws found also count same at why w
+
+  chosen : (at : Place) (also : List Violation) (hit miss : ℕ) (test : Option NamedTest) (if_held if_failed : Option Test) (held failed : Items) (items : List Item) (vs : List Scalar) (temps : ℕ → Option Scalar) (ps on_yes on_no : List PieceView) (b : Bool) → found ≡ also → SameTest t test if_held if_failed → Leads t hit on_yes → Leads t miss on_no → Lined t n (listed held ++ items) vs temps on_yes → Lined t n (listed failed ++ items) vs temps on_no
+      → Alike t n (source.run_by found count (Some at) (branch.choose_by t.unit test b held failed (src t n names items vs memory draws)))
+      (runs.run_by also (Some at) (exits.along t (std t n names ps temps memory draws []) (cond b (Some (record { to = hit; taken = When true if_held None })) (cond (not b) (Some (record { to = miss; taken = When false if_failed None })) None))))
+  chosen at also hit miss test if_held if_failed held failed items vs temps ps on_yes on_no true same tests to_yes to_no go stay_on =
+      taken at also items (listed held) vs temps ps on_yes hit _ _ same to_yes go (held_alike t (src t n names items vs memory draws) (std t n names ps temps memory draws []) refl refl test if_held if_failed refl tests)
+  chosen at also hit miss test if_held if_failed held failed items vs temps ps on_yes on_no false same tests to_yes to_no go stay_on =
+      taken at also items (listed failed) vs temps ps on_no miss _ _ same to_no stay_on (failed_alike t (src t n names items vs memory draws) (std t n names ps temps memory draws []) refl refl test if_held if_failed refl tests)
+
+  -- ---- turns
+
+  turn : (d : ℕ) (items : List Item) (vs : List Scalar) (temps : ℕ → Option Scalar) (ps : List PieceView) (new : List Rule) (also : List Violation) → Follows t (suc n) d items ps → Holds vs temps → length vs ≡ d → found ≡ also → From items vs temps ps new also
+  turn _ _ vs temps _ new also (follows.by_mark _ d l items ps f) holds e same =
+      let later = turn d items vs temps ps [] (also ++ []) f holds e (same ∙ sym (append-nil also)) in
+      record { steps = suc later.steps; both = later.both }
+  turn _ _ vs temps _ new also (follows.value _ d x items ps f) holds e same = stay t n names (term_items t.unit true x ++ items) vs temps ps memory draws new found also _ (lined t n d (term_items t.unit true x ++ items) vs temps ps f holds e) same
+  turn _ _ vs temps _ new also (follows.unused _ d x items ps f) holds e same = stay t n names (term_items t.unit false x ++ items) vs temps ps memory draws new found also _ (lined t n d (term_items t.unit false x ++ items) vs temps ps f holds e) same
+  turn _ _ vs temps _ new also (follows.address _ d l items ps f) holds e same = stay t n names (address_items t.unit l ++ items) vs temps ps memory draws new found also _ (lined t n d (address_items t.unit l ++ items) vs temps ps f holds e) same
+  turn _ _ vs temps _ new also (follows.statement _ d i items ps f) holds e same = stay t n names (of_statement t.unit true i ++ items) vs temps ps memory draws new found also _ (lined t n d (of_statement t.unit true i ++ items) vs temps ps f holds e) same
+  turn _ _ vs temps _ new also (follows.in_while _ d x body items ps f) holds e same = stay t n names (while_turn t.unit x body ++ items) vs temps ps memory draws new found also _ (lined t n d (while_turn t.unit x body ++ items) vs temps ps f holds e) same
+  turn _ _ vs temps _ new also (follows.in_do _ d body x items ps f) holds e same = stay t n names (do_turn t.unit body x ++ items) vs temps ps memory draws new found also _ (lined t n d (do_turn t.unit body x ++ items) vs temps ps f holds e) same
+  turn _ _ vs temps _ new also (follows.in_for _ d x step body items ps f) holds e same = stay t n names (for_turn t.unit x step body ++ items) vs temps ps memory draws new found also _ (lined t n d (for_turn t.unit x step body ++ items) vs temps ps f holds e) same
+  turn _ _ vs temps _ new also (follows.turn_end _ d items ps f) holds e same = stay t n names (items) vs temps ps memory draws new found also _ (lined t n d (items) vs temps ps f holds e) same
+  turn _ _ vs temps _ new also (follows.loop_end _ d items ps f) holds e same = stay t n names (items) vs temps ps memory draws new found also _ (lined t n d (items) vs temps ps f holds e) same
+  turn _ _ vs temps _ new also (follows.break_out _ d items ps f) holds e same = stay t n names (jump items (behind_loop items)) vs temps ps memory draws new found also _ (lined t n d (jump items (behind_loop items)) vs temps ps f holds e) same
+  turn _ _ vs temps _ new also (follows.next_turn _ d items ps f) holds e same = stay t n names (jump items (behind_turn items)) vs temps ps memory draws new found also _ (lined t n d (jump items (behind_turn items)) vs temps ps f holds e) same
+  turn _ _ vs temps _ new also (follows.go_to _ d l f items to ps is to_label go) holds e same =
+      let s = src t n names items vs memory draws in
+      subst (λ o. Next t n (source.turned_on found count (turns.quiet (states.if_some s o (λ f. states.if_some s (from_label t.unit f l) (λ to. steps.on (turns.jump_to s to)))))) (template.running (std t n names ps temps memory draws new) also)) (sym is)
+      (subst (λ o. Next t n (source.turned_on found count (turns.quiet (states.if_some s o (λ to. steps.on (turns.jump_to s to))))) (template.running (std t n names ps temps memory draws new) also)) (sym to_label)
+      (stay t n names (jump items to) vs temps ps memory draws new found also _ (lined t n d (jump items to) vs temps ps go holds e) same))
+  turn _ _ vs temps _ new also (follows.leave_function _ d f items ps is go) holds e same =
+      let s = src t n names items vs memory draws in
+      let left = item.Leaves (all_of (open_scopes items)) ∷ [] in
+      subst (λ o. Next t n (source.turned_on found count (turns.quiet (states.if_some s o (λ f. steps.on (record s { control = left }))))) (template.running (std t n names ps temps memory draws new) also)) (sym is)
+      (stay t n names left vs temps ps memory draws new found also _ (lined t n d left vs temps ps go holds e) same)
+  turn _ _ vs temps _ new also (follows.end_body _ d f items ps is go) holds e same =
+      let s = src t n names items vs memory draws in
+      subst (λ o. Next t n (source.turned_on found count (turns.quiet (states.if_some s o (λ f. steps.on (record s { control = [] }))))) (template.running (std t n names ps temps memory draws new) also)) (sym is)
+      (stay t n names [] vs temps ps memory draws new found also _ (lined t n d [] vs temps ps go holds e) same)
+  turn _ _ vs temps _ new also (follows.does _ d next at operation a items ps is go) holds e same =
+      one_step _ _ (operated t n names memory draws found also count same at next items vs temps ps _ _ (agree t operation a d next vs (std t n names ps temps memory draws []) is holds e) go)
+  turn _ _ [] temps _ new also (follows.stores _ d at kind items ps go) holds e same = absurd (no_value (suc d) e)
+  turn _ _ (v ∷ []) temps _ new also (follows.stores _ d at kind items ps go) holds e same = absurd (no_value d (one_less 0 (suc d) e))
+  turn _ _ (v ∷ (p ∷ vs)) temps _ new also (follows.stores _ d at kind items ps go) holds e same =
+      let is = one_less (length vs) d (one_less (suc (length vs)) (suc d) e) in
+      subst (λ k. From (item.Do at (op.Store kind) ∷ (item.Drop ∷ items)) (v ∷ (p ∷ vs)) temps (at_place at (act.Store k (suc k) kind None) ∷ ps) new also) is
+      (one_step _ _ (stored t n names memory draws found also count same at items vs (v ∷ (p ∷ vs)) temps ps _ _ (stores_agree t kind v p vs (std t n names ps temps memory draws []) holds) (subst (λ k. Follows t n k items ps) (sym is) go) holds.1.1))
+  turn _ _ [] temps _ new also (follows.drop _ d items ps go) holds e same = absurd (no_value d e)
+  turn _ _ (v ∷ vs) temps _ new also (follows.drop _ d items ps go) holds e same = stay t n names items vs temps ps memory draws new found also _ (lined t n d items vs temps ps go holds.1 (one_less (length vs) d e)) same
+  turn _ _ vs temps _ new also (follows.object _ d base at o offset items ps named go) holds e same =
+      subst (λ k. From (item.Object at o offset ∷ items) vs temps (at_place at (act.Address k base offset) ∷ ps) new also) e
+      (one_step _ _ (pointed_to t n names memory draws found also count same at items vs temps ps base offset o named (subst (λ k. Follows t n (suc k) items ps) (sym e) go) holds))
+  turn _ _ vs temps _ new also (follows.on_object _ d base local at how items ps named go) holds e same =
+      one_step _ _ (changed_alike t n names memory draws found also count same at items vs temps ps base local how named (lined t n d items vs temps ps go holds e))
+  turn _ _ vs temps _ new also (follows.enters_none _ d items ps f) holds e same = stay t n names items vs temps ps memory draws new found also _ (lined t n d items vs temps ps f holds e) same
+  turn _ _ vs temps _ new also (follows.enters _ d base local locals items ps named go) holds e same =
+      one_step _ _ (entered_alike t n names memory draws found also count same (own t) (item.Enters locals ∷ items) vs temps ps base local named (lined t n d (item.Enters locals ∷ items) vs temps ps go holds e))
+  turn _ _ vs temps _ new also (follows.leaves_none _ d items ps f) holds e same = stay t n names items vs temps ps memory draws new found also _ (lined t n d items vs temps ps f holds e) same
+  turn _ _ vs temps _ new also (follows.leaves _ d base local locals items ps named go) holds e same =
+      one_step _ _ (left_alike t n names memory draws found also count same (own t) (item.Leaves locals ∷ items) vs temps ps base local named (lined t n d (item.Leaves locals ∷ items) vs temps ps go holds e))
+  turn _ _ [] temps _ new also (follows.choose _ d hit miss at kind test if_held if_failed held failed items ps on_yes on_no tests to_yes to_no go stay_on) holds e same = absurd (no_value d e)
+  turn _ _ (v ∷ vs) temps _ new also (follows.choose _ d hit miss at kind test if_held if_failed held failed items ps on_yes on_no tests to_yes to_no go stay_on) holds e same =
+      let is = one_less (length vs) d e in
+      let r = std t n names ps temps memory draws [] in
+      let out = record { to = hit; taken = When true if_held None } ∷ (record { to = miss; taken = When false if_failed None } ∷ []) in
+      let here : temps d ≡ Some v = subst (λ k. temps k ≡ Some v) is holds.0 in
+      one_step _ _
+      (subst (λ o. Alike t n (source.run_by found count (Some at) (branch.choose_by t.unit test (not (is_false v)) held failed (src t n names items vs memory draws))) (runs.run_by also (Some at) (template.if_some r o (exits.on_exit t r out)))) (sym here)
+      (chosen at also hit miss test if_held if_failed held failed items vs temps ps on_yes on_no (not (is_false v)) same tests to_yes to_no
+      (lined t n d (listed held ++ items) vs temps on_yes go holds.1 is) (lined t n d (listed failed ++ items) vs temps on_no stay_on holds.1 is)))
+  turn _ _ vs temps _ new also (follows.hop _ d l items ps there to go) holds e same =
+      let r = std t n names ps temps memory draws [] in
+      one_step _ _
+      (subst (λ o. Alike t n (source.run_by found count (Some (own t)) (steps.on (src t n names items vs memory draws))) (runs.run_by also (Some (own t)) (template.if_some r o (λ rest. template.on (template.going_on r rest))))) (sym to)
+      (ran t n names memory draws found also count same (own t) items vs temps there names (record { memory = memory; draws = draws; violated = [] }) (lined t n d items vs temps there go holds e)))
+  turn _ _ vs temps _ new also (follows.finish _ d at ps) holds e same = one_step _ _ (alike.both_stopped Ended memory draws [] [] _ _ _ (ap (λ xs. xs ++ []) same))
+
+-- ---- runs
+
+pub follow : (t : Templates) (n : ℕ) (a : SourceRun) (b : TemplateRun) → Alike t (suc n) a b → Next t n (source.next t.unit a) b
+follow t n _ _ (alike.both_run _ _ found also count (alike.related names items vs temps ps memory draws old new l) same) = by l
+  where
+    by : {items : List Item} {vs : List Scalar} {temps : ℕ → Option Scalar} {ps : List PieceView} → Lined t (suc n) items vs temps ps → Next t n (source.turned_on found count (turns.turn_by t.unit (src t n names items vs memory draws) items)) (template.running (std t n names ps temps memory draws new) also)
+    by (alike.plain items vs temps ps f holds) = turn t n names memory draws found count (length vs) items vs temps ps new also f holds refl same
+    by (alike.loose v items vs temps ps f holds) = stay t n names items vs temps ps memory draws new found also _ (alike.plain items vs temps ps (less n (length vs) items ps f) holds) same
+follow t n _ _ (alike.both_stopped why memory draws old new found also count same) = record { steps = 0; both = alike.both_stopped why memory draws old new found also count same }
+
+steps_on : (t : Templates) (m k : ℕ) (r : TemplateRun) → steps_from t k (steps_from t m r) ≡ steps_from t (m + k) r
+steps_on t zero k r = ap (λ j. steps_from t j r) (is k)
+  where
+    is : (k : ℕ) → k ≡ 0 + k
+    is k = omega arith
+steps_on t (suc m) k r = steps_on t m k (runs.next t r) ∙ ap (λ j. steps_from t j r) (is m k)
+  where
+    is : (m k : ℕ) → suc (m + k) ≡ suc m + k
+    is m k = omega arith
+
+agreed : (t : Templates) (n : ℕ) (a : SourceRun) (b : TemplateRun) → Alike t n a b → Agree a b
+agreed t n _ _ (alike.both_run _ _ found also count (alike.related names items vs temps ps memory draws old new l) same) = record { memory = refl; draws = refl; found = same; why = refl }
+agreed t n _ _ (alike.both_stopped why memory draws old new found also count same) = record { memory = refl; draws = refl; found = same; why = refl }
+
+module _ (t : Templates) (start : (n : ℕ) → Follows t n 0 (body_of (function_at t.unit t.unit.entry)) (pieces t)) (draws : List ℤ) where
+  begun : (n : ℕ) → Alike t n (source.source_begin t.unit draws) (template_begin t draws)
+  begun n = by (start_world t.unit draws)
+    where
+      by : (reply : Reply (Unit {0})) → Alike t n (source.begun_by t.unit reply) (runs.begun_by t reply)
+      by (goes x w) = alike.both_run _ _ [] [] 0 (alike.related _ _ [] _ _ w.memory w.draws w.violated w.violated (alike.plain _ [] _ _ (start n) tt)) refl
+      by (stops why w) = alike.both_stopped why w.memory w.draws w.violated w.violated [] [] 0 refl
+
+  after : (turns n : ℕ) → Next t n (Run t.unit draws turns) (template_begin t draws)
+  after zero n = record { steps = 0; both = begun n }
+  after (suc k) n =
+      let before = after k (suc n) in
+      let next = follow t n (Run t.unit draws k) (steps_from t before.steps (template_begin t draws)) before.both in
+      record { steps = before.steps + next.steps; both = subst (λ r. Alike t n (Run t.unit draws (suc k)) r) (steps_on t before.steps next.steps (template_begin t draws)) next.both }
+
+  pub runs_agree : (turns : ℕ) → (k : ℕ) × Agree (Run t.unit draws turns) (steps_from t k (template_begin t draws))
+  runs_agree turns = let x = after turns 0 in (x.steps, agreed t 0 _ _ x.both)

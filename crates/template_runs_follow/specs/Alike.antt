@@ -1,0 +1,52 @@
+-- Runs of a unit and of its templates that stand alike.
+use Rattle.std.specs.Prelude.{◌≡◌, ℕ, suc, ℤ, List, [], ◌∷◌, length, Option}
+use Rattle.cc_base.specs.declared.diagnostics.Rule.{Rule}
+use Rattle.lib_models_memory.specs.Instances.{Memory}
+use Rattle.lib_models_memory.specs.Scalars.{Scalar}
+use Rattle.lib_models_effects.specs.Worlds.{Why, Violation}
+use Rattle.flow_lower_tasks.specs.Pieces.{PieceView}
+use Rattle.ref_machine.specs.Items.{Item, Drop}
+use Rattle.ref_machine.specs.SourceStates.{State, function_at}
+use Rattle.ref_machine.specs.SourceRuns as source
+use Rattle.ref_machine.specs.SourceRuns.{SourceRun, Run, body_of}
+use Rattle.template_runs.specs.TemplateStates as template
+use Rattle.template_runs.specs.TemplateStates.{Templates, Standing, TemplateRun}
+use Rattle.template_runs.specs.TemplateSteps.{template_begin, steps_from}
+use Rattle.template_runs_acts.specs.Acts.{Holds}
+use Rattle.template_runs_follow.specs.Follows.{pieces, Follows}
+
+-- the items follow in the pieces, and the values stand in the temporaries; or the newest value does not, and is dropped
+-- next
+pub data Lined (t : Templates) (n : ℕ) : List Item → List Scalar → (ℕ → Option Scalar) → List PieceView → Type 0 where
+  plain : (items : List Item) (vs : List Scalar) (temps : ℕ → Option Scalar) (ps : List PieceView) → Follows t n (length vs) items ps → Holds vs temps → Lined t n items vs temps ps
+  loose : (v : Scalar) (items : List Item) (vs : List Scalar) (temps : ℕ → Option Scalar) (ps : List PieceView) → Follows t n (length vs) items ps → Holds vs temps → Lined t n (Drop ∷ items) (v ∷ vs) temps ps
+
+-- the entry runs, no function waits, objects name the same instances, and the worlds are the same, but for what the last
+-- step has violated
+pub data Related (t : Templates) (n : ℕ) : State → Standing → Type 0 where
+  related : (names : ℕ → Option ℕ) (items : List Item) (vs : List Scalar) (temps : ℕ → Option Scalar) (ps : List PieceView) (memory : Memory) (draws : List ℤ) (old new : List Rule)
+      → Lined t n items vs temps ps
+      → Related t n
+      (record { function = t.unit.entry; names = names; control = items; values = vs; frames = []; world = record { memory = memory; draws = draws; violated = old } })
+      (record { function = t.unit.entry; rest = ps; temps = temps; names = names; frames = []; world = record { memory = memory; draws = draws; violated = new } })
+
+-- both go on alike for so many turns, or have stopped alike
+pub data Alike (t : Templates) (n : ℕ) : SourceRun → TemplateRun → Type 0 where
+  both_run : (s : State) (r : Standing) (found also_found : List Violation) (steps : ℕ) → Related t n s r → found ≡ also_found → Alike t n (source.running s found steps) (template.running r also_found)
+  both_stopped : (why : Why) (memory : Memory) (draws : List ℤ) (old new : List Rule) (found also_found : List Violation) (steps : ℕ) → found ≡ also_found → Alike t n (source.stopped why (record { memory = memory; draws = draws; violated = old }) found steps) (template.stopped why (record { memory = memory; draws = draws; violated = new }) also_found)
+
+-- a turn of the source is so many pieces
+abbrev pub TurnsAreFollowed : Type 0
+TurnsAreFollowed = (t : Templates) (n : ℕ) (a : SourceRun) (b : TemplateRun) → Alike t (suc n) a b → (steps : ℕ) × Alike t n (source.next t.unit a) (steps_from t steps b)
+
+-- both have come to the same memory with the same draws left, have violated the same, and have stopped for the same
+-- cause or not at all
+pub record Agree (s : SourceRun) (r : TemplateRun) : Type 0 where
+  pub memory : (source.world_of s).memory ≡ (template.world_of r).memory
+  pub draws : (source.world_of s).draws ≡ (template.world_of r).draws
+  pub found : source.found_in s ≡ template.found_in r
+  pub why : source.why_of s ≡ template.why_of r
+
+-- where the body of the entry follows in the pieces of its template, each run of the unit is one of the templates
+abbrev pub RunsAreFollowed : Type 0
+RunsAreFollowed = (t : Templates) → ((n : ℕ) → Follows t n 0 (body_of (function_at t.unit t.unit.entry)) (pieces t)) → (draws : List ℤ) (turns : ℕ) → (steps : ℕ) × Agree (Run t.unit draws turns) (steps_from t steps (template_begin t draws))
