@@ -81,11 +81,7 @@ fn act_on_object<'a>(m: &mut Machine<'a>, unit: &'a Checked, item: Item7<'a>) ->
 }
 
 // The items of a statement.
-fn do_statement<'a>(
-    m: &mut Machine<'a>,
-    unit: &Checked,
-    statement: &'a CheckedStatement,
-) -> Turned7
+fn do_statement<'a>(m: &mut Machine<'a>, unit: &Checked, statement: &'a CheckedStatement) -> Turned7
     ensures { TurnsTo (unit_view unit.now) (turn_by (unit_view unit.now) (state_view (unit_view unit.now) m.old) (on_statement way.Whole (statement_tree statement.now) (standing (unit_view unit.now) m.old.control.items)).items) result m.new }
 {
     instead(push_statement(&mut m.control, m.frames.is_empty(), statement))

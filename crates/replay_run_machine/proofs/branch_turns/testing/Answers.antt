@@ -2,7 +2,7 @@ use Rattle.std.proofs.Common.{◌≡◌, Some, refl, sym, ap, ◌∙◌}
 use Rattle.std.proofs.lemmas.Result.{err_from_is_err_and}
 use Rattle.cc_base.specs.declared.integer_operators.Rel.{Rel}
 use Rattle.c_layout.specs.CheckedUnits.{unit_view}
-use Rattle.lib_models_effects.specs.Tests.{TestedSide, object, pass_test}
+use Rattle.lib_models_effects.specs.Tests.{TestedSide, SideTest, object, pass_test}
 use Rattle.lib_models_effects.specs.Worlds.{Reply}
 use Rattle.lib_models_replay_tests.specs.SideViews.{side_view}
 use Rattle.ref_machine.specs.BranchSteps as machine
@@ -36,8 +36,8 @@ returns-in_err-right c =
     record {
       control = refl;
       moves = rw (p.1, p.2) (moves_stuck u s reply c.in_err-right.field-0.0 c.args.m.now lost.0
-      (named_there s c.args.test.left.object (λ i. object i c.args.test.left.kind) (λ x. machine.with_side s (tests.side_view c.args.test.right) (then x)) left (c.in_ok-left.ensures u) ∙ side_lost s (tests.side_view c.args.test.right) (then left) lost.1)
-      refl);
+          (named_there s c.args.test.left.object (λ i. object i c.args.test.left.kind) (λ x. machine.with_side s (tests.side_view c.args.test.right) (then x)) left (c.in_ok-left.ensures u) ∙ side_lost s (tests.side_view c.args.test.right) (then left) lost.1)
+          refl);
     }
 
 pub returns : goal.returns
@@ -53,9 +53,9 @@ returns c =
     let there : reply ≡ passed rel left right =
     named_there s c.args.test.left.object (λ i. object i c.args.test.left.kind) (λ x. machine.with_side s (tests.side_view c.args.test.right) (passed rel x)) left (c.in_ok-left.ensures u)
     ∙ side_there s (tests.side_view c.args.test.right) (passed rel left) right (c.in_ok-right.ensures u) in
-    let test = record { left = left; rel = c.relation_on.result; right = right; common = c.args.test.common } in
+    let test : SideTest = record { left = left; rel = c.relation_on.result; right = right; common = c.args.test.common } in
     record {
       control = refl;
       moves = moves_same u (passed c.relation_on.result left right) reply c.pass_test.result m (ap (λ r. passed r left right) c.relation_on.ensures ∙ sym there)
-      (moves_in_world u s (pass_test u.model test s.world) c.pass_test.result m refl c.pass_test.ensures);
+          (moves_in_world u s (pass_test u.model test s.world) c.pass_test.result m refl c.pass_test.ensures);
     }

@@ -1,4 +1,4 @@
-use Rattle.std.proofs.Common.{◌≡◌, ℕ, [], ◌∷◌, ◌++◌, map, reverse, Vec, Global, Option, Result, refl, sym, ap, subst, ◌∙◌}
+use Rattle.std.proofs.Common.{◌≡◌, ℕ, ◌∷◌, ◌++◌, map, reverse, Vec, Global, Option, Result, refl, sym, ap, subst, ◌∙◌}
 use Rattle.std.proofs.lemmas.List.{append-nil}
 use Rattle.c_layout.specs.CheckedUnits.{unit_view, function_view}
 use Rattle.lib_models_effects.specs.NumberedTables.{empty_table}
@@ -35,10 +35,10 @@ returns c =
     ∙ ap (λ (t : Standing). items ++ t.items) (ap (standing u) c.new-control.ensures.items ∙ standing_none u)
     ∙ append-nil items in
     elim c.match-push.branch [
-      in-Ok-push w ↦ subst moves (sym w.result-is) (invoked u s c.args.at c.args.number c.args.count c.args.used f m c.in_ok-function.ensures refl named control refl
-      (ap (λ fs. reverse (map (frame_view u) fs)) w.in-Ok-push.ensures.items
-      ∙ frames_more u c.args.m.now.frames.items (waits c.replace.result c.replace-2.result)
-      ∙ ap (λ g. g ∷ s.frames) kept)
-      refl)
-    | in-Err w ↦ subst moves (sym w.result-is) tt
+      | in-Ok-push w ↦ subst moves (sym w.result-is) (invoked u s c.args.at c.args.number c.args.count c.args.used f m c.in_ok-function.ensures refl named control refl
+          (ap (λ fs. reverse (map (frame_view u) fs)) w.in-Ok-push.ensures.items
+          ∙ frames_more u c.args.m.now.frames.items (waits c.replace.result c.replace-2.result)
+          ∙ ap (λ g. g ∷ s.frames) kept)
+          refl)
+      | in-Err w ↦ subst moves (sym w.result-is) tt
     ]

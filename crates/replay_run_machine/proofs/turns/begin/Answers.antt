@@ -1,4 +1,6 @@
-use Rattle.std.proofs.Common.{rules, ◌≡◌, [], length, Some, None, sym, ap, ◌∙◌}
+use Rattle.std.proofs.Common.{◌≡◌, [], length, slice_get, Some, None, refl, sym, ap, ◌∙◌}
+use Rattle.std.specs.Option.{option_map}
+use Rattle.std.proofs.lemmas.Option.{slice_get-map, slice_get_read, slice_get_past}
 use Rattle.std.proofs.lemmas.List.{length-map}
 use Rattle.c_layout.specs.CheckedUnits.{unit_view, function_view, local_view}
 use Rattle.lib_models_effects.specs.UnitStarts.{entry_parameters}
@@ -15,7 +17,14 @@ pub returns-in-Ok : goal.returns-in-Ok
 returns-in-Ok c =
     let u = unit_view c.args.unit.now in
     let f = function_view c.in-Some.function.now in
-    let found : function_at u u.entry ≡ Some f = search rules in
+    let functions = c.deref.result.now in
+    let entry = c.args.unit.now.entry in
+    let got = c.in-Some.ensures.lookup in
+    let there : slice_get functions entry ≡ Some c.in-Some.function.now = slice_get_read functions (length functions) entry c.in-Some.function.now refl got.3.0 got.1 in
+    let found : function_at u u.entry ≡ Some f =
+    slice_get-map function_view c.args.unit.now.functions.items entry
+    ∙ ap (λ fs. option_map function_view (slice_get fs entry)) (sym c.deref.ensures.value)
+    ∙ ap (option_map function_view) there in
     let below = (standing u c.at_rest-m.result.control.items).items in
     let none : below ≡ [] = ap (λ is. (standing u is).items) c.at_rest-m.ensures.control ∙ ap (λ (s : Standing). s.items) (standing_none u) in
     let m = record c.at_rest-m.result { names = c.name_parameters.new.names; control = c.push_body.new.control } in
@@ -29,7 +38,12 @@ returns-in-Ok c =
 pub returns : goal.returns
 returns c =
     let u = unit_view c.args.unit.now in
-    let lost : function_at u u.entry ≡ None = search rules in
+    let functions = c.deref.result.now in
+    let entry = c.args.unit.now.entry in
+    let lost : function_at u u.entry ≡ None =
+    slice_get-map function_view c.args.unit.now.functions.items entry
+    ∙ ap (λ fs. option_map function_view (slice_get fs entry)) (sym c.deref.ensures.value)
+    ∙ ap (option_map function_view) (slice_get_past functions entry c.in-None.ensures.lookup.3) in
     let none : (standing u c.at_rest-m.result.control.items).items ≡ [] = ap (λ is. (standing u is).items) c.at_rest-m.ensures.control ∙ ap (λ (s : Standing). s.items) (standing_none u) in
     let m = record c.at_rest-m.result { names = c.name_parameters.new.names } in
     begun u (world_view c.args.world) m c.at_rest-m.ensures.function
