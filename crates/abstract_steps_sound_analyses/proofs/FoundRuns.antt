@@ -1,4 +1,4 @@
--- What a computation decides of a program and of a map suffices for what an analysis finds.
+-- What an analysis has seen of its program and of its map suffices for what it finds.
 use Rattle.std.specs.Prelude.{◌&&◌, ℤ, List}
 use Rattle.std.proofs.Common.{inl}
 use Rattle.std.proofs.lemmas.Bool.{and_parts}
@@ -21,16 +21,15 @@ use Rattle.abstract_steps_sound_analyses.proofs.SpelledTexts.{texts_over}
 use Rattle.abstract_steps_sound_analyses.proofs.ScalarTests.{kinds_proved}
 use Rattle.abstract_steps_sound_analyses.proofs.OpenSteps.{open_sound}
 use Rattle.abstract_steps_sound_ordered_structs.proofs.OrderedStructs.{has_structs}
-use Rattle.abstract_steps_sound_analyses.specs.SoundAnalyses.{Suffices}
-use Rattle.abstract_steps_sound_analyses.specs.CheckedAnalyses.{IsChecked, FindsEachPair}
+use Rattle.abstract_steps_sound_analyses.specs.SoundAnalyses.{Suffices, FindsEachPair}
 use Rattle.abstract_steps_sound_analyses.proofs.SoundAnalyses.{standard_held, typed_runs, each_pair}
 
-module _ (flow : Flow) (list : List ℤ) (found : List Diag) (a : IsAnalysis flow list found) (checked : IsChecked flow list) where
+module _ (flow : Flow) (list : List ℤ) (found : List Diag) (a : IsAnalysis flow list found) where
   suffices : Suffices flow list
   suffices =
       let regular = regular_of flow list a.regular in
       let p = meets_premises standard_limits flow standard_held regular.well_formed in
-      let s = and_parts (has_sites flow) (ends_with_lines flow && (spells_over_characters flow && all_follow_scalars flow)) checked.parts in
+      let s = and_parts (has_sites flow) (ends_with_lines flow && (spells_over_characters flow && all_follow_scalars flow)) a.checked.parts in
       let e = and_parts (ends_with_lines flow) (spells_over_characters flow && all_follow_scalars flow) s.1 in
       let t = and_parts (spells_over_characters flow) (all_follow_scalars flow) e.1 in
       let w = and_parts (is_well_formed standard_limits flow) (has_scalars flow && (has_initial_bytes flow && (has_apart_members flow && is_near_list list))) a.regular in
@@ -38,15 +37,15 @@ module _ (flow : Flow) (list : List ℤ) (found : List Diag) (a : IsAnalysis flo
       let i = and_parts (has_initial_bytes flow) (has_apart_members flow && is_near_list list) b.1 in
       let m = and_parts (has_apart_members flow) (is_near_list list) i.1 in
       record {
-        reaches = checked.reaches;
-        texts = texts_over flow p b.0 t.0;
+        reaches = a.checked.reaches;
+        texts = texts_over standard_limits flow regular.well_formed p b.0 t.0;
         sites = sites_there flow s.0;
-        copies = λ to from index d. has_structs standard_limits flow regular.well_formed m.0 checked.structs;
+        copies = λ to from index d. has_structs standard_limits flow regular.well_formed m.0 a.checked.structs;
         steps = open_sound interval_lattice interval_numbers Stands flow e.0;
         tests = λ number x is. inl (kinds_proved flow t.1 number x is);
       }
 
-pub finds_each_pair : (flow : Flow) (list : List ℤ) (found : List Diag) → IsAnalysis flow list found → IsChecked flow list → FindsEachPair flow list found
-finds_each_pair flow list found a checked u start v there =
-    let enough = suffices flow list found a checked in
-    each_pair flow list found a enough u start (typed_runs flow list found a enough u start checked.rows checked.inductive checked.typed) v there
+pub finds_each_pair : (flow : Flow) (list : List ℤ) (found : List Diag) → IsAnalysis flow list found → FindsEachPair flow list found
+finds_each_pair flow list found a u start v there =
+    let enough = suffices flow list found a in
+    each_pair flow list found a enough u start (typed_runs flow list found a enough u start a.rows a.inductive a.typed) v there
