@@ -1,7 +1,7 @@
 //! Operands of instructions in the rows before them.
 ghost use Rattle.std.specs.Prelude.{◌≡◌};
 ghost use Rattle.std.specs.List.{list_all};
-ghost use Rattle.rule_checks.specs.AdmittedRules.{instructions_of};
+ghost use Rattle.rule_checks.specs.AdmittedRules.{instructions_of, reached_row, row_behind};
 ghost use Rattle.value_domain.specs.ValueTables.{range_fits};
 ghost use Rattle.abstract_steps_checks.specs.Temporaries.{temp_value};
 ghost use Rattle.rule_checks_operands.specs.TypedRows as spec;
@@ -91,19 +91,51 @@ pub fn has_operands<I: IntDomain>(flow: &Flow, row: &[Cell<I>], operation: &Oper
     }
 }
 
+/// Whether those of an instruction do, where the row before it is reached.
+fn is_typed_at<I: IntDomain>(
+    reached: bool,
+    flow: &Flow,
+    row: &[Cell<I>],
+    one: &Instruction,
+) -> bool
+    ensures { result ≡ spec.is_typed_at I.lattice I.numbers flow.now one.now (reached_row reached row.now) }
+{
+    if reached { has_operands(flow, row, &one.operation) } else { true }
+}
+
+/// Makes of the row before an instruction, where it is reached, the row behind it; false where no run
+/// goes on.
+fn pass_reached<I: IntDomain>(
+    reached: bool,
+    flow: &Flow,
+    row: &mut [Cell<I>],
+    one: &Instruction,
+) -> bool
+    ensures { reached_row result row.new ≡ row_behind I.lattice I.numbers flow.now one.now (reached_row reached row.old) }
+{
+    if reached {
+        if operate(flow, row, &one.operation) {
+            true
+        } else {
+            false
+        }
+    } else {
+        false
+    }
+}
+
 /// Whether those of instructions in order do, each in the row before it, as far as the row goes on.
 /// `row` is the row before the first one, and is spent.
 #[tactic(auto, unfolding(crate::specs::TypedRows::are_typed))]
 fn are_typed<I: IntDomain>(flow: &Flow, row: &mut [Cell<I>], instructions: &[Instruction]) -> bool
     ensures { result ≡ spec.are_typed I.lattice I.numbers flow.now instructions.now row.old }
 {
+    let mut reached = true;
     for at in 0..instructions.len() {
-        if !has_operands(flow, row, &instructions[at].operation) {
+        if !is_typed_at(reached, flow, row, &instructions[at]) {
             return false;
         }
-        if !operate(flow, row, &instructions[at].operation) {
-            return true;
-        }
+        reached = pass_reached(reached, flow, row, &instructions[at]);
     }
     true
 }
