@@ -119,11 +119,11 @@ module _ (m : Model) (model : is_model m ≡ true) where
   one_tag (l ∷ ls) zero leaf x t e h one =
       let same : l ≡ leaf = same_Some l leaf e in
       ap (λ z. or_tag z (tag_at m ls x)) (ap (λ z. leaf_tag m z x) same ∙ h)
-  one_tag (l ∷ ls) (suc k) leaf x t e h one = by_first (leaf_tag m l x) refl
+  one_tag (l ∷ ls) (suc k) leaf x t e h one = by_first (leaf_tag m l x) refl (one_tag ls k leaf x t e h (λ j other u g i. let n = one (suc j) other u g i in omega (arith, n)))
     where
-      by_first : (o : Option Tag) → leaf_tag m l x ≡ o → or_tag o (tag_at m ls x) ≡ Some t
-      by_first None f = one_tag ls k leaf x t e h (λ j other u g i. let n = one (suc j) other u g i in omega (arith, n))
-      by_first (Some u) f = let n = one 0 l u refl f in absurd (omega (arith, n))
+      by_first : (o : Option Tag) → leaf_tag m l x ≡ o → tag_at m ls x ≡ Some t → or_tag o (tag_at m ls x) ≡ Some t
+      by_first None f rest = rest
+      by_first (Some u) f rest = let n = one 0 l u refl f in absurd (omega (arith, n))
 
   character_at : (room : ℕ) (leaves : List Leaf) (x : ℕ) → are_leaves m room leaves ≡ true → HasCharacter leaves x → tag_at m leaves x ≡ tag_of Char 0
   character_at room leaves x h c =
