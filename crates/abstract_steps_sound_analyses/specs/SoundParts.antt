@@ -5,8 +5,6 @@ use Rattle.cc_base.specs.IntegerDomains.{IntegersOf}
 use Rattle.cc_base.specs.declared.limit_table.Limits.{Limits}
 use Rattle.flow_program.specs.WellFormed.{is_well_formed}
 use Rattle.flow_program.specs.declared.flow_edges.Edge.{Edge}
-use Rattle.flow_program.specs.declared.machine_instructions.Operation.{Operation}
-use Rattle.flow_program.specs.declared.machine_instructions.Operation.TheVariants as op
 use Rattle.flow_program.specs.declared.programs.Flow.{Flow}
 use Rattle.flow_program_objects.specs.Sites.{has_sites, ends_with_lines}
 use Rattle.flow_program_objects.specs.SpelledTexts.{spells_over_characters}
