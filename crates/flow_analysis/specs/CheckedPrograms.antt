@@ -6,9 +6,13 @@ use Rattle.struct_nesting.specs.OrderedStructs.{are_ordered}
 use Rattle.flow_program.specs.declared.programs.Flow.{Flow}
 use Rattle.flow_program_objects.specs.SoundParts.{has_sound_parts}
 
--- a number of the list is at most the least number of any integer type, -2^63
+-- a number is at most the least number of any integer type, -2^63
+abbrev pub is_below_types : ℤ → Bool
+is_below_types number = int_le number (negsuc (2 ^ 63 - 1))
+
+-- one of the list is
 abbrev pub reaches_types : List ℤ → Bool
-reaches_types list = list_any (λ m. int_le m (negsuc (2 ^ 63 - 1))) list
+reaches_types list = list_any (λ m. is_below_types m) list
 
 -- the parts of the program are such as the theorems on single instructions and edges ask, its structs stand in no circle,
 -- and the list goes as far down as the integer types

@@ -8,13 +8,18 @@ use flow_program_objects::has_sound_parts;
 use std::alloc::Global;
 use struct_nesting::see_order;
 
-/// Whether a number of the list is at most the least one of any integer type.
+/// Whether a number is at most the least one of any integer type.
+fn is_below_types(number: i128) -> bool
+    ensures { result ≡ spec.is_below_types number }
+{
+    number <= -9_223_372_036_854_775_808
+}
+
+/// Whether one of the list is.
 fn reaches_types(numbers: &[i128]) -> bool
     ensures { result ≡ spec.reaches_types numbers.now }
 {
-    numbers
-        .iter()
-        .any(|number| *number <= -9_223_372_036_854_775_808)
+    numbers.iter().any(|number| is_below_types(*number))
 }
 
 /// Sees that the parts of a program are such as the theorems on single instructions and edges ask, that
@@ -24,6 +29,7 @@ fn reaches_types(numbers: &[i128]) -> bool
 /// # Errors
 ///
 /// Out of memory, to which a program or a list comes that is no such one.
+#[tactic(auto, using(crate::proofs::CheckedPrograms::checked_of))]
 pub fn see_checked(alloc: Global, flow: &Flow, list: &Thresholds) -> Result<(), Memory>
     ensures { IfOk result (λ _. spec.IsChecked flow.now list.now) }
 {
