@@ -12,7 +12,7 @@ ghost use Rattle.abstract_steps_system.specs.FlowMachines.{has_start};
 ghost use Rattle.abstract_steps_laws_programs.specs.RegularPrograms.{is_regular};
 ghost use Rattle.abstract_steps_laws_own_rows.specs.OwnLists.{ReachesTypes};
 ghost use Rattle.abstract_steps_laws_own_starts.specs.CutStarts.{type_list};
-ghost use Rattle.abstract_steps_sound_analyses.specs.CheckedAnalyses.{FindsEachPair};
+ghost use Rattle.abstract_steps_sound_analyses.specs.SoundAnalyses.{FindsEachPair};
 ghost use Rattle.cert_check_text.specs.LineWords.{Bytes};
 ghost use Rattle.cert_check_programs.specs.Certificates.{IsVerified};
 ghost use Rattle.cert_check_programs.specs.declared.checked_maps.Verified.TheVariants.{Found};

@@ -1,4 +1,4 @@
--- What a computation decides of a program and of a map suffices for what an analysis finds.
+-- What an analysis has seen of its program and of its map suffices for what it finds.
 use Rattle.std.specs.Prelude.{◌≡◌, ◌&&◌, ℤ, true, List}
 use Rattle.std.proofs.Common.{inl}
 use Rattle.std.proofs.lemmas.Bool.{and_parts}
@@ -16,13 +16,13 @@ use Rattle.store_domain_sound_programs.proofs.WellFormedPremises.{meets_premises
 use Rattle.abstract_steps_laws_programs.specs.RegularPrograms.{has_scalars, has_initial_bytes, has_apart_members, is_near_list, is_regular}
 use Rattle.abstract_steps_laws_programs.proofs.RegularPrograms.{regular_of}
 use Rattle.flow_analysis.specs.Analyses.{IsAnalysis}
+use Rattle.flow_analysis.specs.CheckedPrograms.{IsChecked}
 use Rattle.abstract_steps_sound_analyses.proofs.Sites.{sites_there}
 use Rattle.abstract_steps_sound_analyses.proofs.SpelledTexts.{texts_over}
 use Rattle.abstract_steps_sound_analyses.proofs.ScalarTests.{kinds_proved}
 use Rattle.abstract_steps_sound_analyses.proofs.OpenSteps.{open_sound}
 use Rattle.abstract_steps_sound_ordered_structs.proofs.OrderedStructs.{has_structs}
-use Rattle.abstract_steps_sound_analyses.specs.SoundAnalyses.{Suffices}
-use Rattle.abstract_steps_sound_analyses.specs.CheckedAnalyses.{IsChecked, FindsEachPair}
+use Rattle.abstract_steps_sound_analyses.specs.SoundAnalyses.{Suffices, FindsEachPair}
 use Rattle.abstract_steps_sound_analyses.proofs.SoundAnalyses.{standard_held, typed_runs, each_pair}
 
 module _ (flow : Flow) (list : List ℤ) (known : is_regular flow list ≡ true) (checked : IsChecked flow list) where
@@ -39,14 +39,14 @@ module _ (flow : Flow) (list : List ℤ) (known : is_regular flow list ≡ true)
       let m = and_parts (has_apart_members flow) (is_near_list list) i.1 in
       record {
         reaches = checked.reaches;
-        texts = texts_over flow p b.0 t.0;
+        texts = texts_over standard_limits flow regular.well_formed p b.0 t.0;
         sites = sites_there flow s.0;
         copies = λ to from index d. has_structs standard_limits flow regular.well_formed m.0 checked.structs;
         steps = open_sound interval_lattice interval_numbers Stands flow e.0;
         tests = λ number x is. inl (kinds_proved flow t.1 number x is);
       }
 
-pub finds_each_pair : (flow : Flow) (list : List ℤ) (found : List Diag) → IsAnalysis flow list found → IsChecked flow list → FindsEachPair flow list found
-finds_each_pair flow list found a checked u start v there =
-    let enough = suffices flow list a.regular checked in
-    each_pair flow list found a enough u start (typed_runs flow list a.regular enough u start checked.rows checked.inductive checked.typed) v there
+pub finds_each_pair : (flow : Flow) (list : List ℤ) (found : List Diag) → IsAnalysis flow list found → FindsEachPair flow list found
+finds_each_pair flow list found a u start v there =
+    let enough = suffices flow list a.regular a.checked in
+    each_pair flow list found a enough u start (typed_runs flow list a.regular enough u start a.rows a.inductive a.typed) v there
