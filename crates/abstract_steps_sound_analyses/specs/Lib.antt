@@ -1,3 +1,2 @@
 pub mod SoundAnalyses
-pub mod CheckedAnalyses
 pub mod SoundParts

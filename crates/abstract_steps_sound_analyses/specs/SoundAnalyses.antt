@@ -39,3 +39,8 @@ pub record IsViolatedIn (flow : Flow) (u : UnitView) (v : Violation) : Type 0 wh
 abbrev pub HoldsEachPair : Flow → List ℤ → List Diag → Type 0
 HoldsEachPair flow list found = (u : UnitView) → EntryStands interval_lattice interval_numbers Stands flow list u → HasTypedRuns flow u
     → (v : Violation) → IsViolatedIn flow u v → Contains found (record { place = v.at; rule = v.rule })
+
+-- so it is of each run, without a premise on operands
+abbrev pub FindsEachPair : Flow → List ℤ → List Diag → Type 0
+FindsEachPair flow list found = (u : UnitView) → EntryStands interval_lattice interval_numbers Stands flow list u
+    → (v : Violation) → IsViolatedIn flow u v → Contains found (record { place = v.at; rule = v.rule })

@@ -2,6 +2,8 @@
 use Rattle.std.specs.Prelude.{◌≡◌, ℕ, ℤ, true, Some, slice_get}
 use Rattle.cc_base.specs.Lattices.{LatticeOf}
 use Rattle.cc_base.specs.IntegerDomains.{IntegersOf}
+use Rattle.cc_base.specs.declared.limit_table.Limits.{Limits}
+use Rattle.flow_program.specs.WellFormed.{is_well_formed}
 use Rattle.flow_program.specs.declared.flow_edges.Edge.{Edge}
 use Rattle.flow_program.specs.declared.programs.Flow.{Flow}
 use Rattle.flow_program_objects.specs.Sites.{has_sites, ends_with_lines}
@@ -17,7 +19,7 @@ abbrev pub CallsHaveSites : Flow → Type 0
 CallsHaveSites flow = has_sites flow ≡ true → AllocatesAtSites flow
 
 abbrev pub TextsLieOverCharacters : Flow → Type 0
-TextsLieOverCharacters flow = HasPremises flow → has_scalars flow ≡ true → spells_over_characters flow ≡ true → SpellsOverCharacters flow
+TextsLieOverCharacters flow = (limits : Limits) → is_well_formed limits flow ≡ true → HasPremises flow → has_scalars flow ≡ true → spells_over_characters flow ≡ true → SpellsOverCharacters flow
 
 abbrev pub TestsAreProved : Flow → Type 0
 TestsAreProved flow = all_follow_scalars flow ≡ true → (number : ℕ) (e : Edge) → slice_get flow.edges.items number ≡ Some e → KindIsProved flow e.kind

@@ -4,6 +4,6 @@
 mod theorems;
 
 pub use theorems::{
-    analyses_are_sound, calls_have_sites, checked_analyses_are_sound, no_step_is_open,
+    analyses_are_sound, analyses_find_every_run, calls_have_sites, no_step_is_open,
     tests_are_proved, texts_lie_over_characters,
 };

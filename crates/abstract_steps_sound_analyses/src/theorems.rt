@@ -4,8 +4,7 @@ ghost use Rattle.std.specs.Prelude.{ℤ, List};
 ghost use Rattle.cc_base.specs.declared.diagnostics.Diag.{Diag};
 ghost use Rattle.flow_program.specs.declared.programs.Flow.{Flow};
 ghost use Rattle.flow_analysis.specs.Analyses.{IsAnalysis};
-ghost use Rattle.abstract_steps_sound_analyses.specs.SoundAnalyses.{Suffices, HoldsEachPair};
-ghost use Rattle.abstract_steps_sound_analyses.specs.CheckedAnalyses.{IsChecked, FindsEachPair};
+ghost use Rattle.abstract_steps_sound_analyses.specs.SoundAnalyses.{Suffices, HoldsEachPair, FindsEachPair};
 ghost use Rattle.abstract_steps_sound_analyses.specs.SoundParts.{CallsHaveSites, TextsLieOverCharacters, TestsAreProved, NoStepIsOpen};
 
 use cc_base::IntDomain;
@@ -15,9 +14,9 @@ pub fn analyses_are_sound()
     ensures { (flow : Flow) (list : List ℤ) (found : List Diag) → IsAnalysis flow list found → Suffices flow list → HoldsEachPair flow list found }
 {}
 
-/// So it is where what is supposed of the program and of its operands is decided by a computation.
-pub fn checked_analyses_are_sound()
-    ensures { (flow : Flow) (list : List ℤ) (found : List Diag) → IsAnalysis flow list found → IsChecked flow list → FindsEachPair flow list found }
+/// So it is of each analysis, with no premise but that the row of the entry stands for the start of the unit.
+pub fn analyses_find_every_run()
+    ensures { (flow : Flow) (list : List ℤ) (found : List Diag) → IsAnalysis flow list found → FindsEachPair flow list found }
 {}
 
 /// Each call that allocates has a site.

@@ -21,7 +21,7 @@ use Rattle.store_domain_structs.specs.LeafCounts as counts
 use Rattle.store_domain_structs.specs.LeafNumbers.{leaf_at, alone, element, element_with, behind, behind_short, at_element, member_at, plain_leaf_by, plain_member, plain_leaf, long_leaf, folded_unit, folded_leaf_by, folded_member}
 use Rattle.store_domain_laws_layouts.specs.LaidApart.{has_class_bytes}
 use Rattle.store_domain_laws_layouts.proofs.Extents.{in_element, behind_as}
-use Rattle.abstract_steps_sound_ordered_structs.specs.OrderedStructs.{is_made_of, nests_within}
+use Rattle.struct_nesting.specs.OrderedStructs.{is_made_of, nests_within}
 use Rattle.abstract_steps_sound_ordered_structs.proofs.RepeatedLeaves.{AreLeaves, leaves_as, no_leaves, array_leaves, in_groups}
 use Rattle.abstract_steps_sound_ordered_structs.proofs.MemberLeaves.{no_larger, by_size, sum_of, all_members}
 use Rattle.abstract_steps_sound_ordered_structs.proofs.PlainLeaves.{IsSound, times, no_times, one_leaf, plain_type, plain_struct}

@@ -1,6 +1,5 @@
 -- Tables that are made step by step are ordered: a struct nests at most as deep as there are complete ones.
 use Rattle.std.specs.Prelude.{◌≡◌, ℕ, zero, suc, ◌+◌, ◌*◌, ◌≤◌, ◌<◌, Bool, true, false, not, cond, ◌&&◌, nat_le, nat_lt, Option, Some, None, List, [], ◌∷◌, ◌++◌, length, set, sum_by, refl}
-use Rattle.std.specs.List.{list_all}
 use Rattle.std.proofs.Common.{arith, sym, subst, ap, ◌∙◌, inl, inr}
 use Rattle.std.proofs.lemmas.Bool.{and_parts, and_from, cases_Bool, cases_lt, ltb-true}
 use Rattle.std.proofs.lemmas.List.{length_push, length-set, get_or-set_same, get_or-set_other}
@@ -13,40 +12,11 @@ use Rattle.c_layout.specs.Types.{Ty, Int, Pointer, Array, Struct, Void}
 use Rattle.store_domain_laws_layouts.specs.LaidApart.{has_class_bytes}
 use Rattle.store_domain_laws_layouts.specs.MadeLayouts.{Declared, all_added, layout_of, is_declarable, are_declarable}
 use Rattle.store_domain_laws_layouts.proofs.Extents.{some_same, none_some}
-use Rattle.abstract_steps_sound_ordered_structs.specs.OrderedStructs.{is_made_of, nests_within, are_below, are_ordered}
+use Rattle.struct_nesting.specs.OrderedStructs.{is_made_of, are_made_of, nests_within, are_ordered}
+use Rattle.struct_nesting.proofs.Nesting.{all_more, as_deep, below_from}
 use Rattle.abstract_steps_sound_ordered_structs.specs.MadeTables.{Step, Declare, Complete, is_open, with_struct, stepped, and_then, all_stepped, MakesOrdered}
 
--- ---- what passes two tests passes a third
-
-made_more : (p q r : ℕ → Bool) → ((k : ℕ) → p k ≡ true → q k ≡ true → r k ≡ true) → (t : Ty) → is_made_of p t ≡ true → is_made_of q t ≡ true → is_made_of r t ≡ true
-made_more p q r h (Int k) a b = refl
-made_more p q r h (Pointer t) a b = refl
-made_more p q r h (Array t n) a b = made_more p q r h t a b
-made_more p q r h (Struct i) a b = h i a b
-made_more p q r h Void a b = a
-
-abbrev all_made : (ℕ → Bool) → List FieldView → Bool
-all_made p fs = list_all (λ f. is_made_of p f.ctype) fs
-
-all_more : (p q r : ℕ → Bool) → ((k : ℕ) → p k ≡ true → q k ≡ true → r k ≡ true) → (fs : List FieldView) → all_made p fs ≡ true → all_made q fs ≡ true → all_made r fs ≡ true
-all_more p q r h [] a b = refl
-all_more p q r h (f ∷ fs) a b =
-    let c = and_parts (is_made_of p f.ctype) (all_made p fs) a in
-    let d = and_parts (is_made_of q f.ctype) (all_made q fs) b in
-    and_from (is_made_of r f.ctype) (all_made r fs) (made_more p q r h f.ctype c.0 d.0) (all_more p q r h fs c.1 d.1)
-
 -- ---- depths
-
-deeper : (structs : List StructView) (depth i : ℕ) → nests_within structs depth i ≡ true → nests_within structs (suc depth) i ≡ true
-deeper structs zero i h = absurd (cc)
-deeper structs (suc depth) i h = all_more (nests_within structs depth) (nests_within structs depth) (nests_within structs (suc depth)) (λ k a b. deeper structs depth k a) (struct_at structs i).fields h h
-
-as_deep : (structs : List StructView) (depth more i : ℕ) → nests_within structs depth i ≡ true → depth ≤ more → nests_within structs more i ≡ true
-as_deep structs depth zero i h less = let e : depth ≡ 0 = omega (arith, less) in subst (λ d. nests_within structs d i ≡ true) e h
-as_deep structs depth (suc more) i h less = elim (cases_lt more depth) [
-  | inl k ↦ (let e : depth ≡ suc more = omega (arith, k, less) in subst (λ d. nests_within structs d i ≡ true) e h)
-  | inr k ↦ deeper structs more i (as_deep structs depth more i h k)
-]
 
 abbrev is_complete_at : List StructView → ℕ → Bool
 is_complete_at structs i = (struct_at structs i).complete
@@ -57,21 +27,17 @@ undone s = cond s.complete 0 1
 record IsNested (structs : List StructView) (depth : ℕ) : Type 0 where
   few : depth + sum_by undone structs ≤ length structs
   nested : (j : ℕ) → is_complete_at structs j ≡ true → nests_within structs depth j ≡ true
-  parts : (j : ℕ) → all_made (is_complete_at structs) (struct_at structs j).fields ≡ true
+  parts : (j : ℕ) → are_made_of (is_complete_at structs) (struct_at structs j).fields ≡ true
 
 -- complete structs stay as deep in a table that keeps them
-carried : (structs other : List StructView) → ((j : ℕ) → is_complete_at structs j ≡ true → struct_at other j ≡ struct_at structs j) → ((j : ℕ) → all_made (is_complete_at structs) (struct_at structs j).fields ≡ true)
+carried : (structs other : List StructView) → ((j : ℕ) → is_complete_at structs j ≡ true → struct_at other j ≡ struct_at structs j) → ((j : ℕ) → are_made_of (is_complete_at structs) (struct_at structs j).fields ≡ true)
     → (depth j : ℕ) → is_complete_at structs j ≡ true → nests_within structs depth j ≡ true → nests_within other depth j ≡ true
 carried structs other keeps parts zero j c h = absurd (cc)
 carried structs other keeps parts (suc depth) j c h =
-    subst (λ (s : StructView). all_made (nests_within other depth) s.fields ≡ true) (sym (keeps j c))
+    subst (λ (s : StructView). are_made_of (nests_within other depth) s.fields ≡ true) (sym (keeps j c))
     (all_more (is_complete_at structs) (nests_within structs depth) (nests_within other depth) (λ k a b. carried structs other keeps parts depth k a b) (struct_at structs j).fields (parts j) h)
 
 -- ---- an ordered table
-
-below_from : (passes : ℕ → Bool) (count : ℕ) → ((i : ℕ) → i < count → passes i ≡ true) → are_below passes count ≡ true
-below_from passes zero h = refl
-below_from passes (suc count) h = and_from (passes count) (are_below passes count) (h count (omega arith)) (below_from passes count (λ i less. h i (omega (arith, less))))
 
 open_some : (structs : List StructView) (i : ℕ) → i < length structs → is_complete_at structs i ≡ false → 0 < sum_by undone structs
 open_some [] i less e = absurd (omega (arith, less))
@@ -119,7 +85,7 @@ declared structs depth h = record {
   nested = λ j c.
       let d : is_complete_at structs j ≡ true = sym (ap (λ (s : StructView). s.complete) (declared_at structs j)) ∙ c in
       carried structs (structs ++ (no_struct ∷ [])) (λ k e. declared_at structs k) h.parts depth j d (h.nested j d);
-  parts = λ j. subst (λ (s : StructView). all_made (is_complete_at (structs ++ (no_struct ∷ []))) s.fields ≡ true) (sym (declared_at structs j))
+  parts = λ j. subst (λ (s : StructView). are_made_of (is_complete_at (structs ++ (no_struct ∷ []))) s.fields ≡ true) (sym (declared_at structs j))
       (all_more (is_complete_at structs) (is_complete_at structs) (is_complete_at (structs ++ (no_struct ∷ []))) (λ k a b. ap (λ (s : StructView). s.complete) (declared_at structs k) ∙ a) (struct_at structs j).fields (h.parts j) (h.parts j));
 }
 
@@ -135,13 +101,13 @@ complete_made structs pointer (Struct i) h =
     (and_parts (struct_at structs i).complete (nat_lt 0 (struct_at structs i).align) b.0).0
 complete_made structs pointer Void h = h
 
-with_last : (p : ℕ → Bool) (fs : List FieldView) (f : FieldView) → all_made p fs ≡ true → is_made_of p f.ctype ≡ true → all_made p (fs ++ (f ∷ [])) ≡ true
+with_last : (p : ℕ → Bool) (fs : List FieldView) (f : FieldView) → are_made_of p fs ≡ true → is_made_of p f.ctype ≡ true → are_made_of p (fs ++ (f ∷ [])) ≡ true
 with_last p [] f h k = and_from (is_made_of p f.ctype) true k refl
 with_last p (g ∷ fs) f h k =
-    let a = and_parts (is_made_of p g.ctype) (all_made p fs) h in
-    and_from (is_made_of p g.ctype) (all_made p (fs ++ (f ∷ []))) a.0 (with_last p fs f a.1 k)
+    let a = and_parts (is_made_of p g.ctype) (are_made_of p fs) h in
+    and_from (is_made_of p g.ctype) (are_made_of p (fs ++ (f ∷ []))) a.0 (with_last p fs f a.1 k)
 
-all_members : (m : Model) (structs : List StructView) (p : Partial) (members : List Declared) → are_declarable m structs members ≡ true → all_made (is_complete_at structs) p.fields ≡ true → all_made (is_complete_at structs) (all_added structs m.pointer p members).fields ≡ true
+all_members : (m : Model) (structs : List StructView) (p : Partial) (members : List Declared) → are_declarable m structs members ≡ true → are_made_of (is_complete_at structs) p.fields ≡ true → are_made_of (is_complete_at structs) (all_added structs m.pointer p members).fields ≡ true
 all_members m structs p [] h k = k
 all_members m structs p (d ∷ ds) h k =
     let a = and_parts (is_declarable m structs d) (are_declarable m structs ds) h in
@@ -151,9 +117,9 @@ all_members m structs p (d ∷ ds) h k =
 
 record IsMade (structs : List StructView) (s : StructView) : Type 0 where
   complete : s.complete ≡ true
-  parts : all_made (is_complete_at structs) s.fields ≡ true
+  parts : are_made_of (is_complete_at structs) s.fields ≡ true
 
-finished_made : (structs : List StructView) (p : Partial) (s : StructView) → all_made (is_complete_at structs) p.fields ≡ true → finished p ≡ Some s → IsMade structs s
+finished_made : (structs : List StructView) (p : Partial) (s : StructView) → are_made_of (is_complete_at structs) p.fields ≡ true → finished p ≡ Some s → IsMade structs s
 finished_made structs p s parts = by_size (nat_le (round_up p.end p.align) most_bytes)
   where
     made : StructView
@@ -201,10 +167,10 @@ module _ (structs : List StructView) (depth index : ℕ) (h : IsNested structs d
         let d : undone s ≡ 0 = ap (λ (c : Bool). cond {A = ℕ} c 0 1) made.complete in
         let e = length-set structs index s in
         omega (arith, a, b, c, d, e);
-    nested = λ j c. by_index (λ (z : StructView). z.complete ≡ true → all_made (nests_within next depth) z.fields ≡ true) j
+    nested = λ j c. by_index (λ (z : StructView). z.complete ≡ true → are_made_of (nests_within next depth) z.fields ≡ true) j
         (λ e d. all_more (is_complete_at structs) (is_complete_at structs) (nests_within next depth) (λ k a b. carry k a) s.fields made.parts made.parts)
         (λ e d. all_more (is_complete_at structs) (is_complete_at structs) (nests_within next depth) (λ k a b. carry k a) (struct_at structs j).fields (h.parts j) (h.parts j)) c;
-    parts = λ j. by_index (λ (z : StructView). all_made (is_complete_at next) z.fields ≡ true) j
+    parts = λ j. by_index (λ (z : StructView). are_made_of (is_complete_at next) z.fields ≡ true) j
         (λ e. all_more (is_complete_at structs) (is_complete_at structs) (is_complete_at next) (λ k a b. still k a) s.fields made.parts made.parts)
         (λ e. all_more (is_complete_at structs) (is_complete_at structs) (is_complete_at next) (λ k a b. still k a) (struct_at structs j).fields (h.parts j) (h.parts j));
   }
@@ -247,7 +213,7 @@ all_steps m (x ∷ xs) structs last h e = by_table (stepped m structs x) refl e 
     by_table None f g more = absurd (none_some last g)
     by_table (Some table) f g more = more table (one_step m structs table x h f) g
 
-no_nested : (j : ℕ) → all_made (is_complete_at []) (struct_at [] j).fields ≡ true
+no_nested : (j : ℕ) → are_made_of (is_complete_at []) (struct_at [] j).fields ≡ true
 no_nested j = refl
 
 not_there : (j : ℕ) → is_complete_at [] j ≡ true → nests_within [] 0 j ≡ true

@@ -22,7 +22,7 @@ use Rattle.store_domain_laws_shapes.proofs.LeafBytes.{same_bytes}
 use Rattle.store_domain_sound_programs.proofs.WellFormedPremises.{well_formed_good}
 use Rattle.store_domain_structs.specs.LeafNumbers.{struct_leaf}
 use Rattle.abstract_steps_sound_copied_structs.proofs.ListedStructs.{meets_structs}
-use Rattle.abstract_steps_sound_ordered_structs.specs.OrderedStructs.{nests_within, are_below}
+use Rattle.struct_nesting.specs.OrderedStructs.{nests_within, are_below}
 use Rattle.abstract_steps_sound_ordered_structs.specs.OrderedPrograms.{AreNumbered, HaveStructs}
 use Rattle.abstract_steps_sound_ordered_structs.proofs.PlainLeaves.{struct_sound}
 use Rattle.abstract_steps_sound_ordered_structs.proofs.FoldedLeaves.{IsStructOf, folded_struct}

@@ -20,7 +20,7 @@ use Rattle.store_domain_structs.specs.LeafCounts.{bytes_in, plain_count}
 use Rattle.store_domain_structs.specs.LeafNumbers.{leaf_at, element_with, behind_arrays, member_at, plain_unit, plain_leaf_by, plain_member}
 use Rattle.store_domain_laws_layouts.specs.LaidApart.{has_class_bytes, are_members_in, is_laid_apart, are_laid_apart}
 use Rattle.store_domain_laws_layouts.proofs.Extents.{in_element, behind_as}
-use Rattle.abstract_steps_sound_ordered_structs.specs.OrderedStructs.{is_made_of, nests_within}
+use Rattle.struct_nesting.specs.OrderedStructs.{is_made_of, nests_within}
 use Rattle.abstract_steps_sound_ordered_structs.proofs.RepeatedLeaves.{AreLeaves, leaves_as, no_leaves, array_leaves, in_groups}
 use Rattle.abstract_steps_sound_ordered_structs.proofs.MemberLeaves.{at_each, no_larger, by_size, sum_of, all_members}
 

@@ -8,7 +8,7 @@ use Rattle.flow_program.specs.StructCounts.{are_counted}
 use Rattle.store_domain_laws_layouts.specs.LaidApart.{are_laid_apart}
 use Rattle.abstract_steps_sound_copied_structs.specs.LostLeaves as lost
 use Rattle.abstract_steps_sound_ordered_structs.specs.MadeTables.{Declare, Complete, all_stepped}
-use Rattle.abstract_steps_sound_ordered_structs.specs.OrderedStructs.{are_ordered}
+use Rattle.struct_nesting.specs.OrderedStructs.{are_ordered}
 
 abbrev member : Ty → ℕ → FieldView
 member t offset = record { name = []; ctype = t; offset = offset }

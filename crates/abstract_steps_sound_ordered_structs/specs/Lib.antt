@@ -1,3 +1,2 @@
-pub mod OrderedStructs
 pub mod OrderedPrograms
 pub mod MadeTables

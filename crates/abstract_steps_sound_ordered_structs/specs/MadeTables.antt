@@ -3,7 +3,7 @@ use Rattle.std.specs.Prelude.{◌≡◌, ℕ, Bool, true, not, ◌&&◌, nat_lt,
 use Rattle.c_layout.specs.declared.data_model.Model.{Model}
 use Rattle.c_layout.specs.StructViews.{StructView, no_struct, struct_at}
 use Rattle.store_domain_laws_layouts.specs.MadeLayouts.{Declared, layout_of, are_declarable}
-use Rattle.abstract_steps_sound_ordered_structs.specs.OrderedStructs.{are_ordered}
+use Rattle.struct_nesting.specs.OrderedStructs.{are_ordered}
 
 -- a struct is declared, and nothing is known of it; or one of those gets members, of complete types
 pub data Step : Type 0 where

@@ -9,7 +9,7 @@ use Rattle.flow_program.specs.WellFormed.{is_well_formed}
 use Rattle.flow_program.specs.declared.programs.Flow.{Flow}
 use Rattle.store_domain_laws_layouts.specs.LaidApart.{are_laid_apart}
 use Rattle.abstract_steps_sound_copied_structs.specs.StructTables.{IsNumbered, HasStructs}
-use Rattle.abstract_steps_sound_ordered_structs.specs.OrderedStructs.{are_ordered}
+use Rattle.struct_nesting.specs.OrderedStructs.{are_ordered}
 
 -- the leaves of each struct by number are those of its type, as many as are recorded of it
 abbrev pub AreNumbered : Type 0

@@ -5,8 +5,7 @@ use Rattle.flow_program.specs.declared.programs.Flow.{Flow}
 use Rattle.flow_analysis.specs.Analyses.{IsAnalysis}
 use Rattle.abstract_steps_sound_analyses.specs.SoundAnalyses.{Suffices}
 use Rattle.abstract_steps_sound_analyses.proofs.SoundAnalyses.{each_pair}
-use Rattle.abstract_steps_sound_analyses.specs.CheckedAnalyses.{IsChecked}
-use Rattle.abstract_steps_sound_analyses.proofs.CheckedAnalyses.{finds_each_pair}
+use Rattle.abstract_steps_sound_analyses.proofs.FoundRuns.{finds_each_pair}
 use Rattle.abstract_steps_sound_entries.proofs.EntryRows.{entry_stands}
 use Rattle.abstract_steps_sound_lowered_starts.proofs.LoweredStarts.{lowered_starts}
 use Rattle.abstract_steps_sound_units.specs.SoundUnits.{HoldsPairsOfUnits, HoldsPairsOfLowered, FindsPairsOfUnits, FindsPairsOfLowered}
@@ -18,9 +17,9 @@ module _ (flow : Flow) (list : List ℤ) (found : List Diag) (a : IsAnalysis flo
   pub lowered_hold : HoldsPairsOfLowered flow found
   lowered_hold u limits is initializers integers = units_hold u (lowered_starts u limits flow is initializers integers)
 
-module _ (flow : Flow) (list : List ℤ) (found : List Diag) (a : IsAnalysis flow list found) (checked : IsChecked flow list) where
+module _ (flow : Flow) (list : List ℤ) (found : List Diag) (a : IsAnalysis flow list found) where
   pub units_found : FindsPairsOfUnits flow found
-  units_found u starts v there = finds_each_pair flow list found a checked u (entry_stands flow list a.regular checked.reaches a.started u starts) v there
+  units_found u starts v there = finds_each_pair flow list found a u (entry_stands flow list a.regular a.checked.reaches a.started u starts) v there
 
   pub lowered_found : FindsPairsOfLowered flow found
   lowered_found u limits is initializers integers = units_found u (lowered_starts u limits flow is initializers integers)

@@ -19,7 +19,6 @@ use Rattle.turn_split_runs.specs.SameRuns.{SameRun}
 use Rattle.turn_split_runs.proofs.LinkedPrograms.{linked}
 use Rattle.turn_split_runs.proofs.SameSteps.{runs_same}
 use Rattle.abstract_steps_sound_analyses.specs.SoundAnalyses.{IsViolatedIn}
-use Rattle.abstract_steps_sound_analyses.specs.CheckedAnalyses.{IsChecked}
 use Rattle.abstract_steps_sound_beginnings.specs.UnitStarts.{StartsAs, AreShared, AreInputs, IsBaseOf}
 use Rattle.abstract_steps_sound_units.specs.SoundUnits.{FindsPairsOf}
 use Rattle.abstract_steps_sound_units.proofs.SoundUnits.{units_found}
@@ -64,5 +63,5 @@ module _ (turns : ℕ) (limits : Limits) (flow turned : Flow) (good : is_well_fo
         (runs_same turns (flow_view flow) (linked limits flow good) u i.draws i.steps)) i.there);
   }
 
-  pub turned_found : (list : List ℤ) (found : List Diag) → IsAnalysis turned list found → IsChecked turned list → (u : UnitView) → StartsAs u flow → FindsPairsOf flow found u
-  turned_found list found a checked u starts v there = units_found turned list found a checked u (starts_same u starts) v (violated_same u v there)
+  pub turned_found : (list : List ℤ) (found : List Diag) → IsAnalysis turned list found → (u : UnitView) → StartsAs u flow → FindsPairsOf flow found u
+  turned_found list found a u starts v there = units_found turned list found a u (starts_same u starts) v (violated_same u v there)

@@ -46,6 +46,7 @@ use Rattle.lib_models_effects.specs.Worlds.{Violation}
 use Rattle.abstract_steps.specs.StartRows.{start_value, start_object, start_objects, start_row}
 use Rattle.abstract_steps_system.specs.FlowMachines.{has_start}
 use Rattle.abstract_steps_laws_programs.specs.RegularPrograms.{is_regular}
+use Rattle.flow_analysis.specs.CheckedPrograms.{IsChecked}
 use Rattle.abstract_steps_laws_own_starts.specs.CutStarts.{type_list}
 use Rattle.abstract_steps_sound_analyses.specs.SoundAnalyses.{IsViolatedIn}
 use Rattle.abstract_steps_sound_beginnings.specs.UnitStarts.{IsBaseOf, StartsAs}
@@ -215,6 +216,9 @@ module _ (some : Flow) where
   unfolding start_row start_objects start_object start_value
   started = refl
 
+  checked : IsChecked program type_list
+  checked = record { parts = refl; structs = refl; reaches = refl }
+
   plain : is_plain_program 0 program ≡ true
   plain = refl
 
@@ -254,6 +258,7 @@ module _ (some : Flow) where
   meets = record {
     regular = regular;
     started = started;
+    checked = checked;
     suffices = plain_suffices 0 program plain type_list refl;
     starts = starts;
     typed = plain_typed 0 program plain unit;

@@ -26,7 +26,7 @@ HoldsPairsOfUnits flow found = (u : UnitView) → StartsAs u flow → HoldsPairs
 abbrev pub HoldsPairsOfLowered : Flow → List Diag → Type 0
 HoldsPairsOfLowered flow found = (u : UnitView) (limits : Limits) → IsLowering u limits (flow_view flow) → HasTypedInitializers u → HasIntegerParameters u → HoldsPairsOf flow found u
 
--- ---- where what is supposed of the program and of its operands is decided by a computation
+-- ---- without a premise on operands
 
 abbrev pub FindsPairsOf : Flow → List Diag → UnitView → Type 0
 FindsPairsOf flow found u = (v : Violation) → IsViolatedIn flow u v → Contains found (record { place = v.at; rule = v.rule })

@@ -8,11 +8,10 @@ use Rattle.flow_program.specs.declared.programs.Flow.{Flow}
 use Rattle.flow_program_views.specs.ProgramViews.{flow_view}
 use Rattle.flow_analysis.specs.Analyses.{IsAnalysis}
 use Rattle.turn_split.specs.Turns.{split}
-use Rattle.abstract_steps_sound_analyses.specs.CheckedAnalyses.{IsChecked}
 use Rattle.abstract_steps_sound_beginnings.specs.UnitStarts.{StartsAs}
 use Rattle.abstract_steps_sound_units.specs.SoundUnits.{FindsPairsOf}
 
 -- of each unit with whose tables the program begins, in its runs without turns unrolled
 abbrev pub FindsTurnedPairs : Type 0
 FindsTurnedPairs = (turns : ℕ) (limits : Limits) (flow turned : Flow) (list : List ℤ) (found : List Diag) → is_well_formed limits flow ≡ true → flow_view turned ≡ split turns (flow_view flow)
-    → IsAnalysis turned list found → IsChecked turned list → (u : UnitView) → StartsAs u flow → FindsPairsOf flow found u
+    → IsAnalysis turned list found → (u : UnitView) → StartsAs u flow → FindsPairsOf flow found u

@@ -8,16 +8,18 @@ use Rattle.interval_domain.specs.IntervalLattice.{interval_lattice}
 use Rattle.interval_domain.specs.IntervalNumbers.{interval_numbers}
 use Rattle.lib_models_effects.specs.Worlds.{Violation}
 use Rattle.flow_analysis.specs.Analyses.{IsAnalysis}
+use Rattle.flow_analysis.specs.CheckedPrograms.{IsChecked}
 use Rattle.abstract_steps_system.specs.FlowMachines.{has_start}
 use Rattle.abstract_steps_laws_programs.specs.RegularPrograms.{is_regular}
 use Rattle.abstract_steps_covered.specs.Covering.{HasTypedRuns}
 use Rattle.abstract_steps_sound_analyses.specs.SoundAnalyses.{Suffices, IsViolatedIn}
 use Rattle.abstract_steps_sound_beginnings.specs.UnitStarts.{StartsAs}
 
--- all premises but an analysis, which has a start and a regular program
+-- all premises but an analysis, and what one asks of its program
 pub record MeetsAllPremises (flow : Flow) (list : List ℤ) (u : UnitView) : Type 0 where
   pub regular : is_regular flow list ≡ true
   pub started : has_start interval_lattice interval_numbers flow ≡ true
+  pub checked : IsChecked flow list
   pub suffices : Suffices flow list
   pub starts : StartsAs u flow
   pub typed : HasTypedRuns flow u

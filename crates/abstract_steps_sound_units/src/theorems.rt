@@ -5,7 +5,6 @@ ghost use Rattle.cc_base.specs.declared.diagnostics.Diag.{Diag};
 ghost use Rattle.flow_program.specs.declared.programs.Flow.{Flow};
 ghost use Rattle.flow_analysis.specs.Analyses.{IsAnalysis};
 ghost use Rattle.abstract_steps_sound_analyses.specs.SoundAnalyses.{Suffices};
-ghost use Rattle.abstract_steps_sound_analyses.specs.CheckedAnalyses.{IsChecked};
 ghost use Rattle.abstract_steps_sound_units.specs.SoundUnits.{HoldsPairsOfUnits, HoldsPairsOfLowered, FindsPairsOfUnits, FindsPairsOfLowered};
 ghost use Rattle.c_layout.specs.CheckedUnits.{UnitView};
 ghost use Rattle.lib_models_effects.specs.Worlds.{Violation};
@@ -26,15 +25,14 @@ pub fn lowered_runs_are_sound()
     ensures { (flow : Flow) (list : List ℤ) (found : List Diag) → IsAnalysis flow list found → Suffices flow list → HoldsPairsOfLowered flow found }
 {}
 
-/// So it is, without a premise on runs, where what is supposed of the program and of its operands is decided by a
-/// computation.
-pub fn checked_unit_runs_are_sound()
-    ensures { (flow : Flow) (list : List ℤ) (found : List Diag) → IsAnalysis flow list found → IsChecked flow list → FindsPairsOfUnits flow found }
+/// So it is, without a premise on the program or on runs, since an analysis has seen what is supposed of them.
+pub fn unit_runs_are_found()
+    ensures { (flow : Flow) (list : List ℤ) (found : List Diag) → IsAnalysis flow list found → FindsPairsOfUnits flow found }
 {}
 
 /// And of a unit and its lowered program.
-pub fn checked_lowered_runs_are_sound()
-    ensures { (flow : Flow) (list : List ℤ) (found : List Diag) → IsAnalysis flow list found → IsChecked flow list → FindsPairsOfLowered flow found }
+pub fn lowered_runs_are_found()
+    ensures { (flow : Flow) (list : List ℤ) (found : List Diag) → IsAnalysis flow list found → FindsPairsOfLowered flow found }
 {}
 
 /// In each run of a program that is plain by a look at its instructions operands are such as these suppose.
@@ -49,7 +47,7 @@ pub fn premises_can_be_met()
 {}
 
 /// Each rule that a run of a program violates at a place is among what an analysis of the program with turns unrolled
-/// finds, where what is supposed of the unrolled program is decided by a computation.
+/// finds.
 pub fn turned_analyses_are_sound()
     ensures { FindsTurnedPairs }
 {}

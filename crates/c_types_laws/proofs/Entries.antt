@@ -391,7 +391,7 @@ abbrev value_or : {V : Type 0} → V → Ruled V → V
 value_or other (Ok v) = v
 value_or other (Err f) = other
 
-same_value : {V : Type 0} (a b : V) → (let r : Ruled V = Ok a in r) ≡ Ok b → a ≡ b
+pub same_value : {V : Type 0} (a b : V) → (let r : Ruled V = Ok a in r) ≡ Ok b → a ≡ b
 same_value a b h = ap (value_or a) h
 
 judged_is : (fs : List FunctionView) (calls : List Call) (e : ℕ) (found : Option ℕ) → judged_entry calls found ≡ Ok e → found ≡ Some e

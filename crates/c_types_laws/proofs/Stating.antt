@@ -1,7 +1,6 @@
 -- What typing the statements of a body leads to, by what its steps do.
-use Rattle.std.proofs.Common.{◌≡◌, ℕ, ℤ, List, [], ◌∷◌, ◌++◌, Option, Some, None, Ok, Err, length, slice_get, ap, refl, sym}
+use Rattle.std.proofs.Common.{◌≡◌, ℕ, ℤ, List, [], ◌∷◌, ◌++◌, Option, Some, None, Ok, Err, length, slice_get, refl}
 use Rattle.std.specs.Prelude.{Bool, true, false, cond, ◌==◌}
-use Rattle.std.proofs.lemmas.Option.{same_Some}
 use Rattle.cc_base.specs.declared.diagnostics.Place.{Place}
 use Rattle.c_layout.specs.Types.{Ty}
 use Rattle.c_layout.specs.CheckedTrees.{TermTree, StoreTree, StoreValue, StoreCopy, StoreText}
@@ -39,9 +38,9 @@ use Rattle.c_types_laws.proofs.Expressing.{typed_leads}
 use Rattle.c_types_laws.proofs.Declaring.{HasDeclarations, declared_leads, specifiers_lead}
 use Rattle.c_types_laws.proofs.Initializing.{initializer_leads}
 
--- an object that was declared has a number among those of the run, or none
+-- an object that was declared, with its number among those of the run, or that of none
 abbrev pub IsNumbered : State → ℕ → ℕ → Type 0
-IsNumbered s index number = (x : ObjectView) → slice_get s.objects index ≡ Some x → number_or x.number ≡ number
+IsNumbered s index number = (x : ObjectView) × (slice_get s.objects index ≡ Some x) × (number_or x.number ≡ number)
 
 -- a relation in which the steps of bodies stand too
 pub record HasBodies (R : State → State → Type 0) : Type 0 where
@@ -57,9 +56,9 @@ abbrev pub Comes : {V : Type 0} → (State → State → Type 0) → State → R
 Comes R s (Ok p) = R s p.1.state
 Comes R s (Err f) = Unit {0}
 
-newest_is : {A : Type 0} (xs : List A) (y x : A) → slice_get (xs ++ y ∷ []) (length xs) ≡ Some x → x ≡ y
-newest_is [] y x h = sym (same_Some y x h)
-newest_is (z ∷ xs) y x h = newest_is xs y x h
+newest_is : {A : Type 0} (xs : List A) (y : A) → slice_get (xs ++ y ∷ []) (length xs) ≡ Some y
+newest_is [] y = refl
+newest_is (z ∷ xs) y = newest_is xs y
 
 module _ (R : State → State → Type 0) (has : HasBodies R) where
   step : {U V : Type 0} (s : State) (r : Ruled (U × State)) (next : U → State → Ruled (V × State)) → Leads R s r → ((u : U) (t : State) → Leads R t (next u t)) → Leads R s (after r next)
@@ -109,7 +108,7 @@ module _ (R : State → State → Type 0) (has : HasBodies R) where
 
   -- the newest object has the number that it is given
   newest_numbered : (n : NameView) (d : DeclaredView) (s : State) → IsNumbered (with_static_object n d s) (length s.objects) (length s.statics)
-  newest_numbered n d s x is = ap (λ o. number_or o.number) (newest_is s.objects (static_declaration (with_name s n.text) d) x is)
+  newest_numbered n d s = (static_declaration (with_name s n.text) d, newest_is s.objects (static_declaration (with_name s n.text) d), refl)
 
   object_type_leads : (s : State) (base : SpecifiedView) (n : NameView) (layers : List DeclaratorLayerView) (initial : Bool) → Leads R s (locals.object_type s base n layers initial)
   object_type_leads s base n layers initial =

@@ -5,3 +5,5 @@ pub mod FittedRows
 pub mod CertifiedMaps
 pub mod SoundCertificates
 pub mod WorkedCertificate
+pub mod WiderRows
+pub mod AnalysedMaps

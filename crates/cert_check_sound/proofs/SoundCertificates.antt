@@ -13,9 +13,9 @@ use Rattle.abstract_steps_laws_programs.proofs.RegularPrograms.{regular_of}
 use Rattle.abstract_steps_laws_programs.proofs.WellFormed.{laid_out}
 use Rattle.abstract_steps_laws_own_starts.proofs.RegularStarts.{regular_fits}
 use Rattle.abstract_steps_covered.proofs.Covering.{runs_covered}
-use Rattle.abstract_steps_sound_analyses.specs.CheckedAnalyses.{FindsEachPair}
+use Rattle.abstract_steps_sound_analyses.specs.SoundAnalyses.{FindsEachPair}
 use Rattle.abstract_steps_sound_analyses.proofs.SoundAnalyses.{standard_held, steps, ends, typed_runs}
-use Rattle.abstract_steps_sound_analyses.proofs.CheckedAnalyses.{suffices}
+use Rattle.abstract_steps_sound_analyses.proofs.FoundRuns.{suffices}
 use Rattle.abstract_steps_sound_entries.proofs.EntryRows.{entry_stands}
 use Rattle.abstract_steps_sound_lowered_starts.proofs.LoweredStarts.{lowered_starts}
 use Rattle.cert_check_text.specs.LineWords.{Bytes}
@@ -36,7 +36,7 @@ holds_each_pair flow list text found c verified u start v there =
     let closed = closed_if_accepted flow text verified.0 in
     let begins = certified_begins interval_order interval_rounding interval_heights interval_bounding interval_ends cert_numbers refl flow laid premises.shaped.few (map_rows flow text) closed list (regular_fits flow list c.regular c.checked.reaches c.started) u start in
     let carried = certified_carried interval_order interval_rounding interval_heights interval_bounding interval_ends cert_numbers refl flow laid premises.shaped.few (map_rows flow text) closed in
-    let typed = typed_runs flow list c.regular enough u start c.checked.rows c.checked.inductive c.checked.typed in
+    let typed = typed_runs flow list c.regular enough u start c.rows c.inductive c.typed in
     let covered = runs_covered _ _ _ flow standard_limits regular.well_formed (steps flow list c.regular enough) (ends flow list c.regular enough) u (map_rows flow text) begins carried typed there.draws there.steps in
     verified.1.kept (record { place = v.at; rule = v.rule }) (covered.all v there.there)
 

@@ -228,7 +228,10 @@ module _ (some : Flow) where
   certifiable = record {
     started = started;
     regular = regular;
-    checked = record { parts = refl; reaches = refl; structs = refl; rows = rows; inductive = inductive; typed = typed };
+    checked = record { parts = refl; reaches = refl; structs = refl };
+    rows = rows;
+    inductive = inductive;
+    typed = typed;
   }
 
   -- ---- the certificate is accepted

@@ -14,7 +14,9 @@ use Rattle.abstract_steps_system.specs.FlowMachines.{has_start}
 use Rattle.abstract_steps_laws_programs.specs.RegularPrograms.{is_regular}
 use Rattle.abstract_steps_laws_programs.proofs.RegularSystems.{regular_monotone}
 use Rattle.rule_checks_laws.proofs.LeastMaps.{regular_admits_least}
+use Rattle.rule_checks_operands.specs.TypedRows.{is_typed_map}
 use Rattle.flow_analysis.specs.Analyses.{row_lattice, machine_of, admitted_pairs, IsAnalysis}
+use Rattle.flow_analysis.specs.CheckedPrograms.{IsChecked}
 
 -- a map of a program's system with numbers of a list
 pub record IsSolved (flow : Flow) (list : List ℤ) (rows : List (Option (List (Cell Interval)))) : Type 0 where
@@ -25,19 +27,21 @@ pub solved_as : (flow flow' : Flow) (list list' : List ℤ) (rows : List (Option
 solved_as flow flow' list list' rows e f i l =
     subst (λ z. IsSolved flow' z rows) f (subst (λ z. IsSolved z list rows) e (record { inductive = i; least = l }))
 
-module _ (flow : Flow) (list : List ℤ) (rows : List (Option (List (Cell Interval)))) (start : has_start interval_lattice interval_numbers flow ≡ true) (regular : is_regular flow list ≡ true) (s : IsSolved flow list rows) where
-  analysis_of : (found : List Diag) → IsOrderedSet (admitted_pairs flow rows) found → IsAnalysis flow list found
-  analysis_of found h = record {
+module _ (flow : Flow) (list : List ℤ) (rows : List (Option (List (Cell Interval)))) (start : has_start interval_lattice interval_numbers flow ≡ true) (regular : is_regular flow list ≡ true) (checked : IsChecked flow list) (s : IsSolved flow list rows) where
+  analysis_of : (found : List Diag) → is_typed_map interval_lattice interval_numbers flow rows ≡ true → IsOrderedSet (admitted_pairs flow rows) found → IsAnalysis flow list found
+  analysis_of found typed h = record {
     started = start;
     regular = regular;
+    checked = checked;
     rows = rows;
     inductive = s.inductive;
     least = s.least (regular_monotone flow list regular);
+    typed = typed;
     ascending = h.ascending;
     kept = λ d e. h.kept d (e rows s.inductive);
     made = λ d e other p. regular_admits_least flow list regular rows other s.inductive (s.least (regular_monotone flow list regular)) p d (h.made d e);
   }
 
-  pub analysed : {V E : Type 0} (items : V → List Diag) (result : Result V E) → IfOk result (λ v. IsOrderedSet (admitted_pairs flow rows) (items v)) → IfOk result (λ v. IsAnalysis flow list (items v))
-  analysed items (Ok v) h = analysis_of (items v) h
-  analysed items (Err e) h = tt
+  pub analysed : {V E : Type 0} (items : V → List Diag) (result : Result V E) → IfOk result (λ v. is_typed_map interval_lattice interval_numbers flow rows ≡ true) → IfOk result (λ v. IsOrderedSet (admitted_pairs flow rows) (items v)) → IfOk result (λ v. IsAnalysis flow list (items v))
+  analysed items (Ok v) typed h = analysis_of (items v) typed h
+  analysed items (Err e) typed h = tt

@@ -1,2 +1,3 @@
+pub mod CheckedPrograms
 mod Found
 mod VisitBounds

@@ -15,6 +15,8 @@ use Rattle.interval_domain.specs.IntervalNumbers.{interval_numbers}
 use Rattle.abstract_steps_system.specs.FlowMachines.{flow_machine, has_start}
 use Rattle.abstract_steps_laws_programs.specs.RegularPrograms.{is_regular}
 use Rattle.rule_checks.specs.AdmittedRules.{map_pairs}
+use Rattle.rule_checks_operands.specs.TypedRows.{is_typed_map}
+use Rattle.flow_analysis.specs.CheckedPrograms.{IsChecked}
 
 -- the lattice of a row's cells
 abbrev pub row_lattice : LatticeOf (Cell Interval)
@@ -37,10 +39,14 @@ pub record IsAnalysis (flow : Flow) (list : List ℤ) (found : List Diag) : Type
   -- there is a row of the entry, and rows of the program are cut in order
   pub started : has_start interval_lattice interval_numbers flow ≡ true
   pub regular : is_regular flow list ≡ true
+  -- what soundness asks beside that
+  pub checked : IsChecked flow list
   -- the least inductive map
   pub rows : List (Option (List (Cell Interval)))
   pub inductive : IsInductive row_lattice (machine_of flow list) rows
   pub least : IsLeast row_lattice (machine_of flow list) rows
+  -- by its rows operands lie within the types that instructions name
+  pub typed : is_typed_map interval_lattice interval_numbers flow rows ≡ true
   pub ascending : IsStrictlySortedBy diagnostic_compare found
   pub kept : (d : Diag) → IsAdmitted flow list d → Contains found d
   pub made : (d : Diag) → Contains found d → IsAdmitted flow list d

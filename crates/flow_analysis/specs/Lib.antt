@@ -1,3 +1,4 @@
 pub mod Analyses
+pub mod CheckedPrograms
 pub mod Counts
 pub mod StepBounds

@@ -2,6 +2,7 @@
 //! its system.
 #![tactic(auto)]
 
+mod checked_programs;
 mod laid_apart;
 mod program_analysis;
 mod regular_programs;

@@ -1,15 +1,20 @@
 //! The rules that a program may break.
 ghost use Rattle.std.specs.Prelude.{◌≡◌, ◌+◌, ◌<◌, ◌≤◌, true, length, None, IfOk};
 ghost use Rattle.std.proofs.Common.{replicate};
+ghost use Rattle.cc_base.specs.DiagnosticOrder.{IsOrderedSet};
 ghost use Rattle.row_pool.specs.Pool.{free_count};
+ghost use Rattle.fixpoint_engine.specs.RowMap.{rows_in, IsHeld};
+ghost use Rattle.rule_checks_operands.specs.TypedRows.{is_typed_map};
 ghost use Rattle.interval_domain.specs.IntervalLattice.{interval_lattice};
 ghost use Rattle.interval_domain.specs.IntervalNumbers.{interval_numbers};
 ghost use Rattle.abstract_steps_system.specs.SystemChecks.{is_system};
 ghost use Rattle.abstract_steps_system.specs.FlowMachines.{has_start};
 ghost use Rattle.abstract_steps_laws_programs.specs.RegularPrograms.{is_regular};
-ghost use Rattle.flow_analysis.specs.Analyses.{IsAnalysis};
+ghost use Rattle.flow_analysis.specs.Analyses.{admitted_pairs, IsAnalysis};
+ghost use Rattle.flow_analysis.specs.CheckedPrograms.{IsChecked};
 ghost use Rattle.flow_analysis.specs.StepBounds.{most_edges};
 
+use crate::checked_programs::see_checked;
 use crate::regular_programs::is_regular;
 use abstract_steps_system::{FlowSystem, has_start, is_system, system};
 use cc_base::{Diag, Lattice, Memory, Steps, System, Thresholds};
@@ -18,10 +23,30 @@ use flow_program::Flow;
 use interval_domain::Interval;
 use row_pool::{Row, RowPool};
 use rule_checks::diagnose;
+use rule_checks_operands::is_typed_map;
 use std::alloc::Global;
 use std::marker::Brand;
 use std::sync::ledger::{Blank, Ledger};
 use value_domain::Cell;
+
+/// The pairs that a map admits by whose rows operands lie within their types. No other map of a program
+/// is known to come.
+fn typed_pairs(
+    alloc: Global,
+    flow: &Flow,
+    pool: &RowPool<Cell<Interval>>,
+    map: &[Option<Row>],
+) -> Result<Vec<Diag>, Memory>
+    requires { IsHeld pool.now map.now }
+    ensures typed { IfOk result (λ _. is_typed_map interval_lattice interval_numbers flow.now (rows_in pool.now map.now) ≡ true) }
+    ensures pairs { IfOk result (λ found. IsOrderedSet (admitted_pairs flow.now (rows_in pool.now map.now)) found.items) }
+{
+    if is_typed_map(alloc, flow, pool, map)? {
+        diagnose(alloc, flow, pool, map)
+    } else {
+        Err(Memory)
+    }
+}
 
 /// Fills the map, which holds no row, finds the pairs that it admits, and gives its rows back.
 fn found_by<L: Ledger>(
@@ -35,6 +60,7 @@ fn found_by<L: Ledger>(
     requires valid { is_system flow.now ≡ true }
     requires started { has_start interval_lattice interval_numbers flow.now ≡ true }
     requires regular { is_regular flow.now list.now ≡ true }
+    requires checked { IsChecked flow.now list.now }
     requires width { pool.old.width ≡ flow.now.width }
     requires vacant { map.old ≡ replicate (length flow.now.blocks.items) None }
     requires room { length flow.now.blocks.items + 2 ≤ free_count pool.old }
@@ -44,7 +70,7 @@ fn found_by<L: Ledger>(
 {
     let equations: FlowSystem<Interval> = system(flow, list);
     solve(&equations, pool, map, steps);
-    let found = diagnose(alloc, flow, pool, map);
+    let found = typed_pairs(alloc, flow, pool, map);
     release(pool, map);
     found
 }
@@ -58,7 +84,7 @@ fn starts(alloc: Global, flow: &Flow) -> Result<bool, Memory>
 }
 
 /// The pairs that a program may break whose blocks and edges make a system and whose static
-/// initializers have their places, where it is regular.
+/// initializers have their places, where it is regular and as soundness asks.
 #[tactic(auto, using(crate::specs::Counts::few_blocks))]
 fn found_in<L: Ledger>(
     alloc: Global,
@@ -69,6 +95,7 @@ fn found_in<L: Ledger>(
     requires valid { is_system flow.now ≡ true }
     requires started { has_start interval_lattice interval_numbers flow.now ≡ true }
     requires regular { is_regular flow.now list.now ≡ true }
+    requires checked { IsChecked flow.now list.now }
     ensures followed { steps.new ≤ steps.old + most_edges flow.now (length list.now) }
     ensures found { IfOk result (λ found. IsAnalysis flow.now list.now found.items) }
 {
@@ -96,6 +123,7 @@ pub fn analyse_counted<L: Ledger>(
     ensures found { IfOk result (λ found. IsAnalysis flow.now list.now found.items) }
 {
     if is_system(flow) && (starts(alloc, flow)? && is_regular(alloc, flow, list)?) {
+        see_checked(alloc, flow, list)?;
         found_in(alloc, flow, list, steps)
     } else {
         Err(Memory)
@@ -127,8 +155,9 @@ fn analysed_from<L: Ledger>(
 /// Out of memory, to which come a program that is not well formed within the limits of the product, or
 /// whose blocks and edges make no system; one with a static initializer that has no place, a text of
 /// other characters than bytes, a test that names an object without a leaf, or a struct whose members
-/// do not stand one behind the other; and a list that does not go from a number from -2^64 to 0 up to
-/// 2^64, or has no 0.
+/// do not stand one behind the other; one that has not what soundness asks (`see_checked`), or whose
+/// operands do not lie within their types; and a list that does not go from a number from -2^64 to 0 up
+/// to 2^64, or has no 0.
 pub fn analyse(alloc: Global, flow: &Flow, list: &Thresholds) -> Result<Vec<Diag>, Memory>
     ensures found { IfOk result (λ found. IsAnalysis flow.now list.now found.items) }
 {

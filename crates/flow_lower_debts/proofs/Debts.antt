@@ -1,8 +1,8 @@
 -- The marks that planned works are still to make.
-use Rattle.std.proofs.Common.{◌≡◌, ◌≤◌, ◌<◌, ◌⊎◌, inl, inr, ℕ, ◌+◌, ◌-◌, ◌==◌, Bool, true, false, cond, nat_le, List, [], ◌∷◌, ◌++◌, length, Option, Some, None, slice_get, refl, arith, ap, sym, subst, ◌∙◌}
+use Rattle.std.proofs.Common.{◌≡◌, ◌<◌, ◌⊎◌, ℕ, ◌+◌, ◌-◌, ◌==◌, Bool, true, false, cond, nat_le, List, [], ◌∷◌, ◌++◌, length, Option, Some, None, slice_get, refl, arith, ap, sym, subst, ◌∙◌}
 use Rattle.c_layout.specs.CheckedTrees.{StatementTree, TermTree, LvalueTree}
 use Rattle.flow_lower_tasks.specs.Acts.{Step}
-use Rattle.flow_lower_tasks.specs.Pieces.{NameView, PieceView, ExitView, Do, End, Mark, Call}
+use Rattle.flow_lower_tasks.specs.Pieces.{NameView, ExitView, Do, End, Mark, Call}
 use Rattle.flow_lower_tasks.specs.Works as jobs
 use Rattle.flow_lower_tasks.specs.Works.{Job}
 use Rattle.flow_lower_tasks.specs.Plans.{Plan, with_work, with_name, with_labels, with_scope, with_dispatch}

@@ -1,8 +1,8 @@
 -- Sums of marks.
-use Rattle.std.proofs.Common.{◌≡◌, ◌≤◌, ◌<◌, ◌⊎◌, inl, inr, ℕ, ◌+◌, ◌==◌, Bool, true, false, cond, nat_lt, List, [], ◌∷◌, ◌++◌, refl, arith, ap, sym, ◌∙◌}
+use Rattle.std.proofs.Common.{◌≡◌, ◌≤◌, ◌<◌, ◌⊎◌, inl, inr, ℕ, ◌+◌, ◌==◌, Bool, true, false, cond, nat_lt, List, [], ◌∷◌, ◌++◌, refl, arith}
 use Rattle.std.proofs.lemmas.Bool.{eq-eqb, eqb-true, lt-ltb, le-ltb, ltb-true, ltb-false, cond-true, cond-false}
 use Rattle.flow_lower_tasks.specs.Pieces.{PieceView}
-use Rattle.flow_lower_debts.specs.Marks.{one, below, marked, all_marked}
+use Rattle.flow_lower_debts.specs.Marks.{one, below, all_marked}
 
 pub below_yes : (l m : ℕ) → l < m → below l m ≡ 1
 below_yes l m less = cond-true (nat_lt l m) 1 0 (lt-ltb l m less)

@@ -1,5 +1,5 @@
 -- What making a template gives away is never taken back.
-use Rattle.std.specs.Prelude.{◌≡◌, ◌≤◌, ℕ, List, ◌++◌}
+use Rattle.std.specs.Prelude.{◌≡◌, ◌≤◌, List, ◌++◌}
 use Rattle.flow_lower_tasks.specs.Pieces.{NameView, PieceView}
 use Rattle.flow_lower_tasks.specs.Works.{Job}
 use Rattle.flow_lower_tasks.specs.Plans.{Plan}

@@ -1,12 +1,12 @@
 -- The marks that statements are to make are those of their labels and of labels that they give away.
-use Rattle.std.proofs.Common.{◌≡◌, ◌≤◌, ◌<◌, inl, inr, ℕ, ◌+◌, ◌-◌, ◌^◌, ◌==◌, Bool, true, false, cond, nat_le, nat_lt, List, [], ◌∷◌, ◌++◌, length, get_or, Option, Some, None, slice_get, refl, arith, ap, sym, subst, ◌∙◌}
+use Rattle.std.proofs.Common.{◌≡◌, ◌≤◌, ◌<◌, inl, inr, ℕ, ◌+◌, ◌-◌, ◌^◌, ◌==◌, Bool, true, false, cond, nat_le, nat_lt, List, [], ◌∷◌, length, get_or, Option, Some, None, slice_get, refl, arith, ap, sym, subst, ◌∙◌}
 use Rattle.std.proofs.lemmas.Bool.{leb-true, leb-false, eqb-true, cond-false}
 use Rattle.std.proofs.lemmas.Option.{slice_get-get_or}
 use Rattle.cc_base.specs.declared.diagnostics.Place.{Place}
 use Rattle.c_layout.specs.CheckedTrees as tree
 use Rattle.c_layout.specs.CheckedTrees.{TermTree, StatementTree, StatementTrees, StoreTree, StoreValue, StoreCopy, StoreText}
 use Rattle.flow_lower_statements.specs.ScopeJumps.{entered, left, all_entered, all_left, around, objects, way, leap}
-use Rattle.flow_lower_statements.specs.PlainStatements.{stored, all_stored, all_statements, cleared, in_scope}
+use Rattle.flow_lower_statements.specs.PlainStatements.{stored, all_stored, all_statements, in_scope}
 use Rattle.flow_lower_statements.specs.Loops.{check, unused, in_loop, for_from, part}
 use Rattle.flow_lower_statements.specs.Jumps.{end_behind, given}
 use Rattle.flow_lower_statements.specs.Statements.{statement}
@@ -24,8 +24,8 @@ use Rattle.flow_lower_debts.specs.Marks.{one, labels_in, all_labels_in, cases_in
 use Rattle.flow_lower_growth.proofs.Growth.{grows_not, works}
 use Rattle.flow_lower_growth.proofs.GrowingStatements.{grows_entered, grows_left, grows_statements, grows_check, grows_step}
 use Rattle.flow_lower_debts.proofs.MarkArithmetic.{one_yes, one_no, below_more, cond_sum}
-use Rattle.flow_lower_debts.proofs.Debts.{dispatched, owes, IsFree, IsPlaced, IsSound, Owed, owed_none, owed_mark, owed_statement, owed_unused, owed_or, debts}
-use Rattle.flow_lower_debts.proofs.DebtsOfTerms.{Paid, paid, paid_silent, Balance, balance_none, balance_mark, balance_part, balance_more, labels_least, at_least_next, first_number, next_number}
+use Rattle.flow_lower_debts.proofs.Debts.{dispatched, owes, IsFree, IsPlaced, IsSound, Owed, owed_none, owed_statement, owed_or, debts}
+use Rattle.flow_lower_debts.proofs.DebtsOfTerms.{Paid, paid, balance_none, balance_mark, balance_part, balance_more, labels_least, at_least_next, first_number, next_number}
 
 pub owed_entered : {ds : List Dispatch} {l k : ℕ} (at : Place) (xs : List ℕ) (p : Plan) → Owed ds l k p → Owed ds l k (all_entered at xs p)
 owed_entered at [] p g = g

@@ -3,14 +3,12 @@ use Rattle.std.proofs.Common.{◌≡◌, ◌≤◌, ◌<◌, inl, inr, ℕ, ◌+
 use Rattle.std.proofs.lemmas.Option.{slice_get-get_or}
 use Rattle.std.proofs.lemmas.List.{get_or_append_left}
 use Rattle.c_layout.specs.CheckedTrees as tree
-use Rattle.c_layout.specs.CheckedTrees.{StatementTree, statement_trees}
-use Rattle.c_layout.specs.CheckedUnits.{FunctionView}
-use Rattle.c_layout.specs.StructViews.{StructView}
+use Rattle.c_layout.specs.CheckedTrees.{StatementTree}
 use Rattle.flow_lower_statements.specs.PlainStatements.{cleared}
 use Rattle.flow_lower_statements.specs.Jumps.{given}
 use Rattle.flow_lower_statements.specs.Statements.{statement}
 use Rattle.flow_lower_statements.specs.Switches.{no_dispatch}
-use Rattle.flow_lower_tasks.specs.Pieces.{PieceView, TemplateView}
+use Rattle.flow_lower_tasks.specs.Pieces.{PieceView}
 use Rattle.flow_lower_tasks.specs.Works as jobs
 use Rattle.flow_lower_tasks.specs.Works.{Job, behind}
 use Rattle.flow_lower_tasks.specs.Plans.{Plan}
@@ -20,14 +18,14 @@ use Rattle.flow_lower_tasks.specs.declared.pending_works.Surroundings.{Surroundi
 use Rattle.flow_lower_functions.specs.Turns.{planless}
 use Rattle.flow_lower_works.specs.Derivations.{is_piece, parts, Makes, nothing, piece, work}
 use Rattle.flow_lower_growth.specs.Growth.{Grows}
-use Rattle.flow_lower_debts.specs.Marks.{one, below, marked, all_marked, labels_in, cases_in, defaults_in}
+use Rattle.flow_lower_debts.specs.Marks.{one, below, all_marked, labels_in, cases_in, defaults_in}
 use Rattle.flow_lower_growth.proofs.Growth.{grows_on}
 use Rattle.flow_lower_growth.proofs.GrowingWorks.{grows_parts, planless_grows, grows, jobs_none}
 use Rattle.flow_lower_debts.proofs.MarkArithmetic.{below_more, marked_append}
 use Rattle.flow_lower_debts.proofs.Debts.{dispatched, owes, all_owe, IsFree, IsPlaced, IsSound, SoundJob, AllSound, Owed, owed_none, debts}
-use Rattle.flow_lower_debts.proofs.DebtsOfTerms.{Paid, paid_silent, paid_term, paid_pointer}
+use Rattle.flow_lower_debts.proofs.DebtsOfTerms.{Paid, paid_term, paid_pointer}
 use Rattle.flow_lower_debts.proofs.DebtsOfConditions.{paid_condition}
-use Rattle.flow_lower_marks.proofs.DebtsOfStatements.{owed_leap, owed_all_stored, owed_way, owed_outcome, owed_end_of, owed_statements, owed_entered, owed_left, paid_if, paid_if_else, paid_while, paid_do, paid_for, paid_block, paid_label, body_of, one_part, no_free_case, no_free_default, case_owed, default_owed}
+use Rattle.flow_lower_marks.proofs.DebtsOfStatements.{owed_leap, owed_all_stored, owed_way, owed_outcome, owed_end_of, paid_if, paid_if_else, paid_while, paid_do, paid_for, paid_block, paid_label, body_of, no_free_case, no_free_default, case_owed, default_owed}
 use Rattle.flow_lower_marks.proofs.DebtsOfSwitches.{paid_switch}
 
 -- ---- dispatches that come later change nothing

@@ -1,3 +1,11 @@
-//! Definitions alone: what the parts of a control-flow program name, as sites of allocations, characters
-//! under texts, and scalars in tests.
+//! What the parts of a control-flow program name: sites of allocations, characters under texts, and scalars
+//! in tests.
 #![tactic(auto)]
+
+mod call_sites;
+mod scalar_objects;
+mod scalar_tests;
+mod sound_parts;
+mod spelled_texts;
+
+pub use sound_parts::has_sound_parts;

@@ -136,24 +136,88 @@ fn push_comma<'a>(
 
 // ---- terms
 
-/// The items of a term whose value is used or not.
-pub fn push_term<'a>(
+// An object is assigned to or stepped.
+fn push_assigned<'a>(
     control: &mut Vec<Item7<'a>>,
-    unit: &Checked,
     term: &'a CheckedTerm,
     used: bool,
 ) -> Result<(), AllocError>
-    ensures { Stacks (unit_view unit.now) (λ s. with_items (spec.term_items (unit_view unit.now) used (term_tree term.now)) s) control.old.items result control.new.items }
+    ensures { (u : UnitView) → Stacks u (λ s. with_items (spec.term_items u used (term_tree term.now)) s) control.old.items result control.new.items }
+{
+    let at = term.place;
+    match &term.form {
+        TermForm::Assign(lvalue, a) => push_assignment(control, used, lvalue, a),
+        TermForm::Compound(op, kind, lvalue, a) => {
+            push_compound(control, used, at, *op, integer_type(kind), lvalue, a)
+        }
+        TermForm::CompoundShift(back, size, lvalue, a) => {
+            push_compound_shift(control, used, at, *back, *size, lvalue, a)
+        }
+        TermForm::Step(op, time, kind, lvalue) => {
+            push_step(control, used, at, *op, *time, integer_type(kind), lvalue)
+        }
+        TermForm::StepPointer(op, time, size, lvalue) => {
+            push_pointer_step(control, used, at, *op, *time, *size, lvalue)
+        }
+        _ => Err(AllocError),
+    }
+}
+
+// An operator with a sequence point behind its first operand.
+fn push_sequenced<'a>(
+    control: &mut Vec<Item7<'a>>,
+    term: &'a CheckedTerm,
+    used: bool,
+) -> Result<(), AllocError>
+    ensures { (u : UnitView) → Stacks u (λ s. with_items (spec.term_items u used (term_tree term.now)) s) control.old.items result control.new.items }
+{
+    match &term.form {
+        TermForm::Logical(op, a, b) => push_logical(control, used, *op, a, b),
+        TermForm::Conditional(test, a, b) => push_conditional(control, used, test, a, b),
+        TermForm::Comma(a, b) => push_comma(control, used, a, b),
+        _ => push_assigned(control, term, used),
+    }
+}
+
+// An operator of two operands.
+fn push_binary<'a>(
+    control: &mut Vec<Item7<'a>>,
+    term: &'a CheckedTerm,
+    used: bool,
+) -> Result<(), AllocError>
+    ensures { (u : UnitView) → Stacks u (λ s. with_items (spec.term_items u used (term_tree term.now)) s) control.old.items result control.new.items }
+{
+    let at = term.place;
+    match &term.form {
+        TermForm::Integer(op, a, b) => {
+            push_two(control, used, at, operating(*op, &term.ctype), a, b)
+        }
+        TermForm::Shift(back, size, a, b) => {
+            let operation = Operation7::Shift(order_of(&a.ctype), *size, *back);
+            push_two(control, used, at, operation, a, b)
+        }
+        TermForm::Difference(size, a, b) => {
+            push_two(control, used, at, Operation7::Difference(*size), a, b)
+        }
+        TermForm::Compare(op, a, b) => {
+            let operation = Operation7::ComparePointers(relation(*op));
+            push_two(control, used, at, operation, a, b)
+        }
+        _ => push_sequenced(control, term, used),
+    }
+}
+
+// An operator of one operand.
+fn push_unary<'a>(
+    control: &mut Vec<Item7<'a>>,
+    term: &'a CheckedTerm,
+    used: bool,
+) -> Result<(), AllocError>
+    ensures { (u : UnitView) → Stacks u (λ s. with_items (spec.term_items u used (term_tree term.now)) s) control.old.items result control.new.items }
 {
     let at = term.place;
     let own = integer_type(&term.ctype);
     match &term.form {
-        TermForm::Number(n) => push_none(control, used, at, Operation7::Number(n)),
-        TermForm::Sizeof(n, None, _) => push_none(control, used, at, Operation7::Size(*n)),
-        TermForm::Sizeof(n, Some(_), _) => push_none(control, used, at, Operation7::Size(*n)),
-        TermForm::Load(lvalue) => push_load(control, used, lvalue),
-        TermForm::AddressOf(lvalue) => push_pointer(control, used, lvalue),
-        TermForm::Decay(lvalue) => push_decay(control, unit, used, lvalue),
         TermForm::Convert(_, a) => {
             push_one(
                 control,
@@ -170,36 +234,27 @@ pub fn push_term<'a>(
             push_one(control, used, at, Operation7::Unary(UnOp::Compl, own), a)
         }
         TermForm::Not(a) => push_one(control, used, at, Operation7::Not, a),
-        TermForm::Integer(op, a, b) => {
-            push_two(control, used, at, operating(*op, &term.ctype), a, b)
-        }
-        TermForm::Shift(back, size, a, b) => {
-            let operation = Operation7::Shift(order_of(&a.ctype), *size, *back);
-            push_two(control, used, at, operation, a, b)
-        }
-        TermForm::Difference(size, a, b) => {
-            push_two(control, used, at, Operation7::Difference(*size), a, b)
-        }
-        TermForm::Compare(op, a, b) => {
-            let operation = Operation7::ComparePointers(relation(*op));
-            push_two(control, used, at, operation, a, b)
-        }
-        TermForm::Logical(op, a, b) => push_logical(control, used, *op, a, b),
-        TermForm::Conditional(test, a, b) => push_conditional(control, used, test, a, b),
-        TermForm::Comma(a, b) => push_comma(control, used, a, b),
-        TermForm::Assign(lvalue, a) => push_assignment(control, used, lvalue, a),
-        TermForm::Compound(op, kind, lvalue, a) => {
-            push_compound(control, used, at, *op, integer_type(kind), lvalue, a)
-        }
-        TermForm::CompoundShift(back, size, lvalue, a) => {
-            push_compound_shift(control, used, at, *back, *size, lvalue, a)
-        }
-        TermForm::Step(op, time, kind, lvalue) => {
-            push_step(control, used, at, *op, *time, integer_type(kind), lvalue)
-        }
-        TermForm::StepPointer(op, time, size, lvalue) => {
-            push_pointer_step(control, used, at, *op, *time, *size, lvalue)
-        }
+        _ => push_binary(control, term, used),
+    }
+}
+
+/// The items of a term whose value is used or not.
+pub fn push_term<'a>(
+    control: &mut Vec<Item7<'a>>,
+    unit: &Checked,
+    term: &'a CheckedTerm,
+    used: bool,
+) -> Result<(), AllocError>
+    ensures { Stacks (unit_view unit.now) (λ s. with_items (spec.term_items (unit_view unit.now) used (term_tree term.now)) s) control.old.items result control.new.items }
+{
+    let at = term.place;
+    match &term.form {
+        TermForm::Number(n) => push_none(control, used, at, Operation7::Number(n)),
+        TermForm::Sizeof(n, None, _) => push_none(control, used, at, Operation7::Size(*n)),
+        TermForm::Sizeof(n, Some(_), _) => push_none(control, used, at, Operation7::Size(*n)),
+        TermForm::Load(lvalue) => push_load(control, used, lvalue),
+        TermForm::AddressOf(lvalue) => push_pointer(control, used, lvalue),
+        TermForm::Decay(lvalue) => push_decay(control, unit, used, lvalue),
         TermForm::Struct(lvalue) => push_pointer(control, used, lvalue),
         TermForm::Call(function, arguments, is_used) => {
             push_call(control, used, at, *function, arguments.as_slice(), *is_used)
@@ -214,5 +269,6 @@ pub fn push_term<'a>(
                 allocated,
             )
         }
+        _ => push_unary(control, term, used),
     }
 }

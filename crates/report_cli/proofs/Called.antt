@@ -18,10 +18,10 @@ use Rattle.report_cli_texts.specs.FixedTexts.{help_text, version_text, words_ref
 use Rattle.report_cli.specs.declared.model_choice.ModelChoice.{ModelChoice}
 use Rattle.report_cli.specs.declared.model_choice.ModelChoice.TheVariants.{Chosen}
 use Rattle.report_cli.specs.Choices.{IsChoice}
-use Rattle.report_cli.specs.Stages.{stage_of}
-use Rattle.report_cli.specs.declared.stages.Stage.{Stage}
-use Rattle.report_cli.specs.declared.stages.Stage.TheVariants as stage
-use Rattle.report_cli.specs.Judging.{SettingView, RefusesAt, RefusesUnit}
+use Rattle.report_cli_units.specs.Stages.{stage_of}
+use Rattle.report_cli_units.specs.declared.stages.Stage.{Stage}
+use Rattle.report_cli_units.specs.declared.stages.Stage.TheVariants as stage
+use Rattle.report_cli_units.specs.Judging.{SettingView, RefusesAt, RefusesUnit}
 use Rattle.report_cli.specs.Verdicts.{Tells, helped, versioned, words_refused, absent, refused, reported, summed, Gives, FromFiles, FromBytes, IsExpanded, IsLaterRefusal, IsStaged, IsRefusal, check_setting, load_setting, AnswersUnit, AnswersLoad, HasModel, RefusesModel, IsLater, IsVerdict}
 use Rattle.report_cli.specs.Answering.{IsEarly, AnswersStop, AnswersOwn, AnswersJudged, AnswersMade}
 

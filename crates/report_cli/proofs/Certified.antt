@@ -1,16 +1,11 @@
 -- What the verbs on certificates tell of a unit is called for.
 use Rattle.std.proofs.Common.{◌≡◌, ◌≤◌, ◌⊎◌, ℕ, List, length, Option, Err, refl, inl, inr, subst}
 use Rattle.cc_base.specs.Outside.{Files, Holds}
-use Rattle.cc_base.specs.DiagnosticOrder.{IsOrderedSet}
 use Rattle.cc_base.specs.declared.refusals.Stop.{Stop}
 use Rattle.cc_base.specs.declared.refusals.Stop.TheVariants as stop
 use Rattle.c_layout.specs.declared.data_model.Model.{Model}
 use Rattle.c_layout.specs.declared.unit_tokens.Unit7.{Unit7}
 use Rattle.c_preproc.specs.Causes.{Seen, seen_of, IsCausedFrom}
-use Rattle.flow_program.specs.declared.programs.Flow.{Flow}
-use Rattle.cert_check_programs.specs.declared.checked_maps.Verified.{Verified}
-use Rattle.cert_check_programs.specs.declared.checked_maps.Verified.TheVariants as verified
-use Rattle.cert_check_programs.specs.Certificates.{IsVerified}
 use Rattle.report_cli_words.specs.Requests.{CommandView, Prove, Verify}
 use Rattle.report_cli_words.specs.declared.commands.Format.TheVariants as format
 use Rattle.report_cli_texts.specs.Reports.{Bytes, file_name}
@@ -19,18 +14,14 @@ use Rattle.report_cli.specs.declared.further_files.Further.TheVariants as furthe
 use Rattle.report_cli.specs.declared.model_choice.ModelChoice.{ModelChoice}
 use Rattle.report_cli.specs.declared.model_choice.ModelChoice.TheVariants.{Chosen}
 use Rattle.report_cli.specs.Choices.{IsChoice}
-use Rattle.report_cli.specs.Judging.{SettingView}
-use Rattle.report_cli.specs.Certifying.{answer_view, IsAnswerOn, CertAnswer, shows, refuses, HasFile}
+use Rattle.report_cli_units.specs.Judging.{SettingView}
+use Rattle.report_cli_units.specs.Certifying.{CertAnswer, shows, refuses}
+use Rattle.report_cli.specs.FurtherFiles.{HasFile}
 use Rattle.report_cli.specs.Verdicts.{Tells, absent, refused, reported, proved, proved_past, cert_refused, FromFiles, IsExpanded, IsLater, IsProof, IsCheckedBy, With, RefusesFile, cert_setting, AnswersProve, AnswersVerify, HasModel, IsVerdict}
 use Rattle.report_cli.specs.Answering.{AnswersStop, AnswersOwn}
 use Rattle.report_cli.specs.Gates.{IsFurther}
 use Rattle.report_cli.specs.CertAnswers.{AnswersText, AnswersProof, AnswersCert, AnswersVerified, AnswersWithCert}
 use Rattle.report_cli.proofs.Called.{stopped_refusal, later_refusal, later, model_held}
-
--- what a text comes to for a program, as it is told
-pub answer_on : (flow : Flow) (text : Bytes) (v : Verified) → IsVerified flow text v → IsAnswerOn flow text (answer_view v)
-answer_on flow text (verified.Found found) h = h
-answer_on flow text (verified.Refused why) h = h
 
 -- ---- the certificate of a unit
 

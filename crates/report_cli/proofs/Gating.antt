@@ -20,7 +20,7 @@ use Rattle.report_cli.specs.declared.baseline_files.Baseline.{Baseline}
 use Rattle.report_cli.specs.declared.baseline_files.Baseline.TheVariants as baseline
 use Rattle.report_cli.specs.Baselines.{IsBaseline, HasBaseline}
 use Rattle.report_cli.specs.Choices.{IsChoice}
-use Rattle.report_cli.specs.Judging.{SettingView}
+use Rattle.report_cli_units.specs.Judging.{SettingView}
 use Rattle.report_cli.specs.Verdicts.{Verdict, Tells, absent, too_long, no_baseline, refused, reported, FromFiles, IsExpanded, IsLater, With, RefusesFile, RefusesBase, gate_setting, AnswersGate, HasModel, IsVerdict}
 use Rattle.report_cli.specs.Answering.{AnswersStop, AnswersOwn}
 use Rattle.report_cli.specs.Gates.{IsFurther, IsBaselineOf, IsBaselineIn, AnswersGated, AnswersAgainst}

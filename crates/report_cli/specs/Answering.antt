@@ -11,10 +11,10 @@ use Rattle.report_cli_texts.specs.Reports.{Bytes, file_name}
 use Rattle.report_cli_texts.specs.Refusals.{refusal_line, refusal_status}
 use Rattle.report_cli_texts.specs.FixedTexts.{no_file_text}
 use Rattle.report_cli_texts.specs.Summaries.{summary_of}
-use Rattle.report_cli.specs.Stages.{stage_of}
-use Rattle.report_cli.specs.declared.stages.Stage.{Stage}
-use Rattle.report_cli.specs.declared.stages.Stage.TheVariants as stage
-use Rattle.report_cli.specs.Judging.{SettingView, Judgement, IsJudged, RefusesUnit}
+use Rattle.report_cli_units.specs.Stages.{stage_of}
+use Rattle.report_cli_units.specs.declared.stages.Stage.{Stage}
+use Rattle.report_cli_units.specs.declared.stages.Stage.TheVariants as stage
+use Rattle.report_cli_units.specs.Judging.{SettingView, Judgement, IsJudged, RefusesUnit}
 use Rattle.report_cli.specs.Verdicts.{report_status, report_in}
 
 -- the answer to a refusal

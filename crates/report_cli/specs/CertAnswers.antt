@@ -6,8 +6,8 @@ use Rattle.c_layout.specs.declared.unit_tokens.Unit7.{Unit7}
 use Rattle.cert_check.specs.declared.verdicts.CertFault.{CertFault}
 use Rattle.report_cli_texts.specs.Reports.{Bytes, report_of}
 use Rattle.report_cli_texts.specs.FixedTexts.{cert_too_long_text, cert_refused_text}
-use Rattle.report_cli.specs.Judging.{SettingView}
-use Rattle.report_cli.specs.Certifying.{cert_reason, IsProved, CertAnswer, shows, refuses, IsVerifiedUnit}
+use Rattle.report_cli_units.specs.Judging.{SettingView}
+use Rattle.report_cli_units.specs.Certifying.{cert_reason, IsProved, CertAnswer, shows, refuses, IsVerifiedUnit}
 use Rattle.report_cli.specs.Verdicts.{report_status}
 use Rattle.report_cli.specs.Answering.{AnswersOwn}
 

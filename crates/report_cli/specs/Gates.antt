@@ -11,7 +11,7 @@ use Rattle.sarif_gate.specs.declared.known_results.Known.{Known}
 use Rattle.report_cli_texts.specs.Reports.{Bytes, report_of}
 use Rattle.report_cli_texts.specs.FixedTexts.{no_baseline_text}
 use Rattle.report_cli.specs.Baselines.{IsBaseline}
-use Rattle.report_cli.specs.Judging.{SettingView, Judgement, IsJudged}
+use Rattle.report_cli_units.specs.Judging.{SettingView, Judgement, IsJudged}
 use Rattle.report_cli.specs.Verdicts.{Tells, RefusesFile, RefusesBase, report_status}
 use Rattle.report_cli.specs.Answering.{AnswersOwn}
 use Rattle.report_cli.specs.declared.further_files.Further.{Further}

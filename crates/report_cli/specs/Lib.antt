@@ -1,10 +1,9 @@
-pub mod Stages
-pub mod Judging
 pub mod Baselines
-pub mod Certifying
+pub mod FurtherFiles
 pub mod Verdicts
 pub mod Answering
 pub mod Outcomes
 pub mod Choices
 pub mod Gates
 pub mod CertAnswers
+pub mod RunAnswers

@@ -1,9 +1,10 @@
 -- What words and files call for, and what the program tells then.
-use Rattle.std.specs.Prelude.{◌≡◌, ◌<◌, ◌≤◌, ◌⊎◌, ℕ, true, List, [], ◌∷◌, length, Option, Some, None, Result, Ok, Err, codes, IsUtf8}
+use Rattle.std.specs.Prelude.{◌≡◌, ◌<◌, ◌≤◌, ◌⊎◌, ℕ, ℤ, true, List, [], ◌∷◌, length, Option, Some, None, Result, Ok, Err, codes, IsUtf8}
 use Rattle.toml.specs.Parse.{parse_document}
 use Rattle.cc_base.specs.Outside.{Files, Holds, HoldsTooLong, Lacks, Rose, RoseBeyond}
 use Rattle.cc_base.specs.DiagnosticOrder.{IsOrderedSet}
 use Rattle.cc_base.specs.declared.diagnostics.Diag.{Diag}
+use Rattle.cc_base.specs.declared.diagnostics.Place.{Place}
 use Rattle.cc_base.specs.declared.refusals.Fault.{Fault}
 use Rattle.cc_base.specs.declared.refusals.Stop.{Stop}
 use Rattle.cc_base.specs.declared.refusals.Stop.TheVariants as stop
@@ -24,19 +25,22 @@ use Rattle.report_cli_words.specs.declared.commands.Format.{Format}
 use Rattle.report_cli_words.specs.declared.commands.Format.TheVariants as format
 use Rattle.report_cli_words.specs.Requests.{Asked, CommandView}
 use Rattle.report_cli_words.specs.Requests as asked
-use Rattle.report_cli_texts.specs.Reports.{Bytes, file_name, report_of}
-use Rattle.report_cli.specs.Stages.{stage_of}
+use Rattle.report_cli_texts.specs.Reports.{Bytes, file_name, report_of, replay_of}
+use Rattle.report_cli_units.specs.Stages.{stage_of}
 use Rattle.report_cli.specs.Baselines.{HasBaseline, NoBaseline, IsFreshOf}
-use Rattle.report_cli.specs.Judging.{SettingView, judging, Judgement, IsJudged, RefusesUnit}
-use Rattle.report_cli.specs.Certifying.{cert_reason, IsProved, CertAnswer, shows, refuses, IsVerifiedUnit, HasFile}
+use Rattle.report_cli.specs.FurtherFiles.{HasFile, HoldsNoDraws, IsDraws, HasDraws}
+use Rattle.report_cli_units.specs.Judging.{SettingView, judging, Judgement, IsJudged, RefusesUnit}
+use Rattle.report_cli_units.specs.Certifying.{cert_reason, IsProved, CertAnswer, shows, refuses, IsVerifiedUnit}
+use Rattle.report_cli_units.specs.Replaying.{end_word, RunAnswer, ran, large, IsReplayed}
+use Rattle.replay_run.specs.OutcomeViews.{OutcomeView}
 use Rattle.cert_check.specs.declared.verdicts.CertFault.{CertFault}
-use Rattle.report_cli.specs.declared.stages.Stage.{Stage}
-use Rattle.report_cli.specs.declared.stages.Stage.TheVariants as stage
+use Rattle.report_cli_units.specs.declared.stages.Stage.{Stage}
+use Rattle.report_cli_units.specs.declared.stages.Stage.TheVariants as stage
 use Rattle.report_cli_texts.specs.JsonReports.{json_of}
 use Rattle.sarif_gate.specs.Reports.{sarif_of}
 use Rattle.report_cli_texts.specs.Summaries.{summary_of}
-use Rattle.report_cli_texts.specs.Refusals.{refusal_line, refusal_status}
-use Rattle.report_cli_texts.specs.FixedTexts.{help_text, version_text, words_refused_text, no_file_text, too_long_text, no_model_text, no_baseline_text, cert_too_long_text, cert_refused_text}
+use Rattle.report_cli_texts.specs.Refusals.{limit_line, refusal_line, refusal_status}
+use Rattle.report_cli_texts.specs.FixedTexts.{help_text, version_text, words_refused_text, no_file_text, too_long_text, no_model_text, no_baseline_text, no_draws_text, cert_too_long_text, cert_refused_text}
 
 -- one for each kind of answer that has a text
 pub data Verdict : Type 0 where
@@ -51,6 +55,8 @@ pub data Verdict : Type 0 where
   no_model : (name reason : Bytes) → Verdict
   -- the baseline file is no report
   no_baseline : (name : Bytes) → Verdict
+  -- the file of draws is of another form
+  no_draws : (name : Bytes) → Verdict
   -- the unit is refused
   refused : (file : Bytes) (why : Fault) → Verdict
   -- the unit is accepted
@@ -63,6 +69,10 @@ pub data Verdict : Type 0 where
   proved_past : (unit : Bytes) (count : ℕ) → Verdict
   -- a certificate is refused
   cert_refused : (name : Bytes) (why : CertFault) → Verdict
+  -- the run of the unit
+  replayed : (names : List Bytes) (unit : Bytes) (outcome : OutcomeView) → Verdict
+  -- the objects of the run have too many bytes
+  replayed_past : (file : Bytes) (place : Place) (count limit : ℕ) → Verdict
 
 -- 1 where there is a diagnostic
 abbrev pub report_status : List Diag → ℕ
@@ -77,12 +87,15 @@ status_of (absent name) = 4
 status_of (too_long name) = 8
 status_of (no_model name reason) = 3
 status_of (no_baseline name) = 3
+status_of (no_draws name) = 3
 status_of (refused file why) = refusal_status why.refusal
 status_of (reported form names unit diags) = report_status diags
 status_of (summed unit bases cells diags) = report_status diags
 status_of (proved text) = 0
 status_of (proved_past unit count) = 8
 status_of (cert_refused name why) = 9
+status_of (replayed names unit outcome) = report_status outcome.diags
+status_of (replayed_past file place count limit) = 8
 
 abbrev pub report_in : Format → List Bytes → Bytes → List Diag → Bytes
 report_in format.Text names unit diags = report_of names unit diags
@@ -97,12 +110,15 @@ text_of (absent name) = no_file_text name
 text_of (too_long name) = too_long_text name
 text_of (no_model name reason) = no_model_text name reason
 text_of (no_baseline name) = no_baseline_text name
+text_of (no_draws name) = no_draws_text name
 text_of (refused file why) = refusal_line file why.place why.refusal
 text_of (reported form names unit diags) = report_in form names unit diags
 text_of (summed unit bases cells diags) = summary_of unit bases cells diags
 text_of (proved text) = text
 text_of (proved_past unit count) = cert_too_long_text unit count
 text_of (cert_refused name why) = cert_refused_text name (cert_reason why)
+text_of (replayed names unit outcome) = replay_of names unit outcome.diags (end_word outcome.end) outcome.used
+text_of (replayed_past file place count limit) = limit_line file place (codes "ReplayMemory") count limit
 
 -- a status and a text are those of a verdict that is called for
 pub record Tells (P : Verdict → Type 0) (status : ℕ) (text : Bytes) : Type 0 where
@@ -325,6 +341,39 @@ AnswersChecked seen c cert m _ = ⊥
 abbrev pub AnswersVerify : Seen → CommandView → Bytes → Model → Verdict → Type 0
 AnswersVerify seen c cert m v = IsBehind (FromFiles seen.files c.dirs m c.unit) m seen (λ later. RefusesFile later cert v) ⊎ AnswersChecked seen c cert m v
 
+-- ---- one run
+
+-- how `replay` judges a unit under a model: no loop is unrolled
+abbrev pub replay_setting : CommandView → Model → SettingView
+replay_setting c m = judging m c.entry None
+
+-- why a run has no draws
+abbrev pub RefusesDraws : Seen → Option Bytes → Verdict → Type 0
+RefusesDraws seen None v = ⊥
+RefusesDraws seen (Some file) (no_draws name) = (name ≡ file) × HoldsNoDraws seen.files file
+RefusesDraws seen (Some file) v = RefusesFile seen file v
+
+-- what the run of the accepted unit over its draws comes to, with so many steps at most
+pub record IsRunOf (given : Gives) (files : Option Files) (file : Option Bytes) (s : SettingView) (steps : ℕ) (names : List Bytes) (answer : RunAnswer) : Type 0 where
+  pub expanded : Unit7
+  pub is_expanded : IsExpanded given s.model names expanded
+  pub draws : List ℤ
+  pub are_draws : IsDraws files file draws
+  pub replayed : IsReplayed expanded s draws steps answer
+
+-- what `replay` tells of a unit under a model, where it has its draws
+abbrev pub AnswersRun : Seen → CommandView → Option Bytes → Model → Verdict → Type 0
+AnswersRun seen c draws m (absent name) = (name ≡ c.unit) × Lacks seen.files c.unit (Rose seen.faults seen.faults_now)
+AnswersRun seen c draws m (refused file why) = IsRefusal (With (HasDraws seen.files draws) (FromFiles seen.files c.dirs m c.unit)) seen c.dirs (replay_setting c m) c.unit file why
+AnswersRun seen c draws m (replayed names unit outcome) = (unit ≡ c.unit) × IsRunOf (FromFiles seen.files c.dirs m c.unit) seen.files draws (replay_setting c m) c.steps names (ran outcome)
+AnswersRun seen c draws m (replayed_past file place count limit) =
+    (names : List Bytes) × (file ≡ file_name names c.unit place.file) × IsRunOf (FromFiles seen.files c.dirs m c.unit) seen.files draws (replay_setting c m) c.steps names (large place count limit)
+AnswersRun seen c draws m _ = ⊥
+
+-- what `replay` tells of a unit under a model
+abbrev pub AnswersReplay : Seen → CommandView → Option Bytes → Model → Verdict → Type 0
+AnswersReplay seen c draws m v = IsBehind (FromFiles seen.files c.dirs m c.unit) m seen (λ later. RefusesDraws later draws v) ⊎ AnswersRun seen c draws m v
+
 -- ---- the whole
 
 -- under the model that is found first, the unit is answered by what follows
@@ -344,3 +393,4 @@ IsVerdict seen (asked.Load c) v = RefusesModel seen c.model v ⊎ Under seen c.m
 IsVerdict seen (asked.Gate c base) v = RefusesModel seen c.model v ⊎ Under seen c.model (λ later m. AnswersGate later c base m v)
 IsVerdict seen (asked.Prove c) v = RefusesModel seen c.model v ⊎ Under seen c.model (λ later m. AnswersProve later c m v)
 IsVerdict seen (asked.Verify c cert) v = RefusesModel seen c.model v ⊎ Under seen c.model (λ later m. AnswersVerify later c cert m v)
+IsVerdict seen (asked.Replay c draws) v = RefusesModel seen c.model v ⊎ Under seen c.model (λ later m. AnswersReplay later c draws m v)

@@ -9,20 +9,19 @@ ghost use Rattle.report_cli.specs.Verdicts.{cert_setting, report_status, Tells, 
 ghost use Rattle.report_cli_texts.specs.Reports.{report_of};
 ghost use Rattle.report_cli_texts.specs.FixedTexts.{cert_refused_text};
 ghost use Rattle.report_cli.specs.Answering.{AnswersOwn};
-ghost use Rattle.report_cli.specs.Certifying.{answer_view, cert_reason};
+ghost use Rattle.report_cli_units.specs.Certifying.{answer_view, cert_reason};
 ghost use Rattle.report_cli.specs.CertAnswers.{AnswersText, AnswersProof, AnswersCert, AnswersVerified, AnswersWithCert};
 
 use crate::decision::{Halt, not_expanded, status_for, stopped};
 use crate::further_files::{Further, read_further};
 use crate::model_choice::{ModelChoice, choose_model};
-use crate::unit_answers::Setting;
-use crate::unit_certificates::{prove_unit, verify_unit};
 use c_layout::{Model, Unit7};
 use c_preproc::expand;
 use cc_base::{Diag, Tree};
 use cert_check::CertFault;
 use cert_check_programs::Verified;
 use report_cli_texts::{Answer, cert_refused, cert_too_long, report_text};
+use report_cli_units::{Setting, prove_unit, verify_unit};
 use report_cli_words::{Command, Verification};
 use std::alloc::{AllocError, Global};
 

@@ -4,7 +4,7 @@ ghost use Rattle.cc_base.specs.Outside.{Rose};
 ghost use Rattle.c_layout.specs.Models.{is_model};
 ghost use Rattle.c_preproc.specs.Causes.{seen_of};
 ghost use Rattle.report_cli_words.specs.Requests.{asked, command_view, Check, Load};
-ghost use Rattle.report_cli.specs.Judging.{judging, judgement, setting_view, StopsUnit};
+ghost use Rattle.report_cli_units.specs.Judging.{judging, judgement, setting_view, StopsUnit};
 ghost use Rattle.report_cli.specs.Verdicts.{load_setting, report_status, report_in, Tells, AnswersUnit, AnswersLoad, RefusesModel, Under, IsVerdict};
 ghost use Rattle.report_cli.specs.Answering.{AnswersFault, AnswersStop, AnswersOwn, AnswersReport, AnswersSummary, AnswersJudged, AnswersMade};
 ghost use Rattle.cc_base.specs.declared.refusals.Stop.TheVariants as stops;
@@ -12,8 +12,7 @@ ghost use Rattle.cc_base.specs.declared.refusals.Stop.TheVariants as stops;
 use crate::certificate_decision::{answer_prove, answer_verify};
 use crate::gate_decision::answer_gate;
 use crate::model_choice::{ModelChoice, choose_model};
-use crate::stages::{Stage, stage_of};
-use crate::unit_answers::{Judged, Setting, judge_unit};
+use crate::replay_decision::answer_replay;
 use c_layout::{Model, Unit7};
 use c_preproc::{expand, expand_bytes};
 use cc_base::{Diag, Fault, Memory, Stop, Tree, ordered_diagnostics};
@@ -21,6 +20,7 @@ use report_cli_texts::{
     Answer, file_name, help, load_unit, no_file, refusal_answer, report_json, report_text, summary,
     version, words_refused,
 };
+use report_cli_units::{Judged, Setting, Stage, judge_unit, stage_of};
 use report_cli_words::{Command, Format, Request, read_words};
 use sarif_gate::write_sarif;
 use std::alloc::{AllocError, Global};
@@ -314,5 +314,6 @@ pub(crate) fn decide<T: Tree>(alloc: Global, words: &[String], tree: &mut T) -> 
         Request::Gate(gate) => answer_gate(alloc, &gate, tree),
         Request::Prove(command) => answer_prove(alloc, &command, tree),
         Request::Verify(asked) => answer_verify(alloc, &asked, tree),
+        Request::Replay(asked) => answer_replay(alloc, &asked, tree),
     }
 }

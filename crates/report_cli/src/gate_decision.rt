@@ -12,11 +12,11 @@ ghost use Rattle.report_cli.specs.Gates.{AnswersNew, AnswersGated, AnswersAgains
 use crate::baseline_files::{Baseline, read_baseline};
 use crate::decision::{Halt, not_expanded, status_for, stopped};
 use crate::model_choice::{ModelChoice, choose_model};
-use crate::unit_answers::{Setting, judge_unit};
 use c_layout::{Model, Unit7};
 use c_preproc::expand;
 use cc_base::{Diag, Tree, ordered_diagnostics};
 use report_cli_texts::{Answer, report_text};
+use report_cli_units::{Setting, judge_unit};
 use report_cli_words::{Command, Gate};
 use sarif_gate::{Known, fresh};
 use std::alloc::Global;

@@ -15,8 +15,8 @@ use std::alloc::Global;
 /// |---|---|
 /// | 0, 1 | the unit is accepted; 1 where a diagnostic is printed |
 /// | 2 | the unit is refused |
-/// | 3 | the words, the model file or the baseline are refused |
-/// | 4 | the unit's file, the model file, the baseline or the certificate is not held |
+/// | 3 | the words, the model file, the baseline or the draws are refused |
+/// | 4 | the unit's file, the model file, the baseline, the certificate or the file of draws is not held |
 /// | 5 | a read failed; nothing is put |
 /// | 6 | the write failed; a prefix of the text went out |
 /// | 7 | want of memory; nothing is put |

@@ -16,8 +16,8 @@ use Rattle.report_cli_words.specs.declared.commands.Format.{Format}
 use Rattle.report_cli_words.specs.Requests.{CommandView}
 use Rattle.report_cli_words.specs.Requests as asked
 use Rattle.report_cli_texts.specs.Reports.{Bytes}
-use Rattle.report_cli.specs.Stages.{stage_of}
-use Rattle.report_cli.specs.Judging.{SettingView, RefusesUnit}
+use Rattle.report_cli_units.specs.Stages.{stage_of}
+use Rattle.report_cli_units.specs.Judging.{SettingView, RefusesUnit}
 use Rattle.report_cli.specs.Outcomes.{Took, PutOnce, Outcome, told, read_fault, write_fault, no_memory, status_at, Happened, Answers}
 use Rattle.report_cli.specs.Verdicts as verdict
 use Rattle.report_cli.specs.Verdicts.{Verdict, reported, report_status, report_in, status_of, text_of, Tells, HasModel, RefusesModel, ReadsModel, Gives, FromFiles, IsExpanded, IsReport, IsLaterRefusal, IsStaged, IsRefusal, IsLater, AnswersUnit, Under, IsVerdict, check_setting}
@@ -40,12 +40,15 @@ model_had seen name m named verdict.helped h = h
 model_had seen name m named verdict.versioned h = h
 model_had seen name m named verdict.words_refused h = h
 model_had seen name m named (verdict.no_baseline file) h = h
+model_had seen name m named (verdict.no_draws file) h = h
 model_had seen name m named (verdict.refused file why) h = h
 model_had seen name m named (verdict.reported form names unit diags) h = h
 model_had seen name m named (verdict.summed unit bases cells diags) h = h
 model_had seen name m named (verdict.proved text) h = h
 model_had seen name m named (verdict.proved_past unit count) h = h
 model_had seen name m named (verdict.cert_refused file why) h = h
+model_had seen name m named (verdict.replayed names unit outcome) h = h
+model_had seen name m named (verdict.replayed_past file place count limit) h = h
 
 pub model_same : (files : Option Files) (name : Bytes) (m n : Model) → model_named name ≡ Some m → HasModel files name n → n ≡ m
 model_same files name m n named (inl also) = some_same also named
@@ -123,10 +126,13 @@ unit_told seen held c m is taken verdict.words_refused h = absurd h
 unit_told seen held c m is taken (verdict.too_long name) h = absurd h
 unit_told seen held c m is taken (verdict.no_model name reason) h = absurd h
 unit_told seen held c m is taken (verdict.no_baseline name) h = absurd h
+unit_told seen held c m is taken (verdict.no_draws name) h = absurd h
 unit_told seen held c m is taken (verdict.summed unit bases cells diags) h = absurd h
 unit_told seen held c m is taken (verdict.proved text) h = absurd h
 unit_told seen held c m is taken (verdict.proved_past unit count) h = absurd h
 unit_told seen held c m is taken (verdict.cert_refused name why) h = absurd h
+unit_told seen held c m is taken (verdict.replayed names unit outcome) h = absurd h
+unit_told seen held c m is taken (verdict.replayed_past file place count limit) h = absurd h
 
 -- the same from an earlier time on
 from_earlier : (seen later : Seen) (c : CommandView) (m : Model) (v : Verdict) → later.files ≡ seen.files → IsItsReport later c m v → IsItsReport seen c m v

@@ -14,8 +14,8 @@ use Rattle.report_cli_words.specs.Requests.{CommandView}
 use Rattle.report_cli_words.specs.Requests as asked
 use Rattle.report_cli_texts.specs.LoadUnits.{load_of}
 use Rattle.report_cli_texts.specs.Reports.{Bytes}
-use Rattle.report_cli.specs.Stages.{stage_of}
-use Rattle.report_cli.specs.Judging.{SettingView, RefusesUnit}
+use Rattle.report_cli_units.specs.Stages.{stage_of}
+use Rattle.report_cli_units.specs.Judging.{SettingView, RefusesUnit}
 use Rattle.report_cli.specs.Verdicts as verdict
 use Rattle.report_cli.specs.Verdicts.{Verdict, summed, FromBytes, IsExpanded, IsSummary, IsLaterRefusal, IsStaged, IsRefusal, AnswersLoad, Under, IsVerdict, load_setting}
 use Rattle.report_cli_laws.specs.Told.{IsTaken}
@@ -76,9 +76,12 @@ unit_told seen held c m is taken verdict.words_refused h = absurd h
 unit_told seen held c m is taken (verdict.too_long name) h = absurd h
 unit_told seen held c m is taken (verdict.no_model name reason) h = absurd h
 unit_told seen held c m is taken (verdict.no_baseline name) h = absurd h
+unit_told seen held c m is taken (verdict.no_draws name) h = absurd h
 unit_told seen held c m is taken (verdict.proved text) h = absurd h
 unit_told seen held c m is taken (verdict.proved_past unit count) h = absurd h
 unit_told seen held c m is taken (verdict.cert_refused name why) h = absurd h
+unit_told seen held c m is taken (verdict.replayed names unit outcome) h = absurd h
+unit_told seen held c m is taken (verdict.replayed_past file place count limit) h = absurd h
 
 -- the same from an earlier time on
 from_earlier : (seen later : Seen) (c : CommandView) (m : Model) (v : Verdict) → later.files ≡ seen.files → IsItsSummary later c m v → IsItsSummary seen c m v

@@ -26,3 +26,11 @@ last_line count unit = decimal count ++ (codes " diagnostics in " ++ (unit ++ co
 
 abbrev pub report_of : List Bytes → Bytes → List Diag → Bytes
 report_of names unit diags = lines_of names unit diags ++ last_line (length diags) unit
+
+-- end: WORD, K draws used
+abbrev pub end_line : Bytes → ℕ → Bytes
+end_line word used = codes "end: " ++ (word ++ (codes ", " ++ (decimal used ++ codes " draws used\n")))
+
+-- the report on one run: how it stands at its end is told before the number of diagnostics
+abbrev pub replay_of : List Bytes → Bytes → List Diag → Bytes → ℕ → Bytes
+replay_of names unit diags word used = (lines_of names unit diags ++ end_line word used) ++ last_line (length diags) unit

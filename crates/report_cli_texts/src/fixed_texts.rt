@@ -1,6 +1,6 @@
 //! The texts of the command line itself.
 ghost use Rattle.std.specs.Prelude.{◌≡◌, IfOk};
-ghost use Rattle.report_cli_texts.specs.FixedTexts.{help_text, version_text, words_refused_text, no_file_text, too_long_text, no_model_text, no_baseline_text, cert_too_long_text, cert_refused_text};
+ghost use Rattle.report_cli_texts.specs.FixedTexts.{help_text, version_text, words_refused_text, no_file_text, too_long_text, no_model_text, no_baseline_text, no_draws_text, cert_too_long_text, cert_refused_text};
 
 use crate::answers::Answer;
 use std::alloc::{AllocError, Global};
@@ -17,6 +17,8 @@ Verbs:
   load    make a unit from --seed and --count, analyse it under the name UNIT,
           and print a summary
   prove   analyse UNIT, and print the map that is found as a certificate
+  replay  take one run of UNIT over the numbers of --draws, and print the places
+          where it breaks a rule and how it stands at its end
   verify  check the certificate of --cert for UNIT without the solver, and print
           the places where UNIT may break a rule on runs by its map
 
@@ -29,6 +31,10 @@ Options, each at most once; a verb takes those of others and leaves them unused:
                         are analysed one by one, for check [default: none is]
   --base FILE           a SARIF report, for gate, which needs it
   --cert FILE           a certificate, for verify, which needs it
+  --draws FILE          what a run takes in, for replay: whole numbers, set apart
+                        by blanks and line ends [default: none]
+  --steps N             0 to 1000000: how many steps a run takes at most, for
+                        replay [default: 100000]
   --seed N              0 to 2147483647, for load [default: 1]
   --count N             1 to 300, for load [default: 10]
   -h, --help            this text, as the only word
@@ -128,6 +134,15 @@ pub fn no_baseline(alloc: Global, name: &str) -> Result<Answer, AllocError>
     ensures text { IfOk result (λ a. a.text.items ≡ no_baseline_text name.now) }
 {
     let line = format!(in alloc; "ccheck: {name}: BaseShape\n")?;
+    fixed(alloc, 3, line.as_str())
+}
+
+/// A file of draws that is of another form.
+pub fn no_draws(alloc: Global, name: &str) -> Result<Answer, AllocError>
+    ensures status { IfOk result (λ a. a.status ≡ 3) }
+    ensures text { IfOk result (λ a. a.text.items ≡ no_draws_text name.now) }
+{
+    let line = format!(in alloc; "ccheck: {name}: DrawsShape\n")?;
     fixed(alloc, 3, line.as_str())
 }
 

@@ -43,7 +43,7 @@ fn limit_line(
     file: &str,
     place: Place,
     word: &str,
-    count: u64,
+    count: u128,
     limit: u64,
 ) -> Result<Vec<u8>, AllocError>
     ensures { IfOk result (λ b. b.items ≡ limit_line file.now place word.now count limit) }
@@ -117,10 +117,10 @@ fn detailed_line(
     let word = word_of(refusal);
     match refusal {
         Refusal::TooManyTokens { count, limit } => {
-            limit_line(alloc, file, place, word, *count, *limit)
+            limit_line(alloc, file, place, word, u128::from(*count), *limit)
         }
         Refusal::FileTooLong { count, limit } => {
-            limit_line(alloc, file, place, word, *count, *limit)
+            limit_line(alloc, file, place, word, u128::from(*count), *limit)
         }
         Refusal::TooLarge { what, count, limit } => {
             large_line(alloc, file, place, count_word(*what), *count, *limit)
@@ -144,6 +144,22 @@ fn refusal_line(
         return refused_line(alloc, file, place, word_of(refusal));
     }
     detailed_line(alloc, file, place, refusal)
+}
+
+/// A run whose instances have together more bytes than it may have, with how many they have, at the place of its
+/// entry in a file.
+pub fn replay_memory(
+    alloc: Global,
+    file: &str,
+    place: Place,
+    count: u128,
+    limit: u64,
+) -> Result<Answer, Memory>
+    ensures status { IfOk result (λ a. a.status ≡ 8) }
+    ensures text { IfOk result (λ a. a.text.items ≡ limit_line file.now place (codes "ReplayMemory") count limit) }
+{
+    let text = limit_line(alloc, file, place, "ReplayMemory", count, limit)?;
+    Ok(Answer { status: 8, text })
 }
 
 /// The status and the line of a refusal in a file.

@@ -34,7 +34,7 @@ pub fn count_line(alloc: Global, count: usize, unit: &str) -> Result<String, All
 }
 
 /// The lines of the diagnostics, in order.
-fn diagnostic_lines(
+pub fn diagnostic_lines(
     alloc: Global,
     files: &[String],
     unit: &str,

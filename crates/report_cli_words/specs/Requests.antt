@@ -45,6 +45,8 @@ pub data Asked : Type 0 where
   Gate : (command : CommandView) → (base : Bytes) → Asked
   Prove : (command : CommandView) → Asked
   Verify : (command : CommandView) → (cert : Bytes) → Asked
+  -- over the draws of a file, where one is named
+  Replay : (command : CommandView) → (draws : Option Bytes) → Asked
   Refused : Asked
 
 abbrev pub asked_by : Request → Asked
@@ -55,6 +57,7 @@ asked_by (request.Load c) = Load (command_view c)
 asked_by (request.Gate g) = Gate (command_view g.command) (string_bytes g.base)
 asked_by (request.Prove c) = Prove (command_view c)
 asked_by (request.Verify v) = Verify (command_view v.command) (string_bytes v.cert)
+asked_by (request.Replay r) = Replay (command_view r.command) (option_map string_bytes r.draws)
 asked_by request.Refused = Refused
 
 abbrev pub is_text : Bytes → Bytes → Bool
@@ -100,12 +103,16 @@ abbrev pub verify_in : Option Bytes → CommandView → Asked
 verify_in None c = Refused
 verify_in (Some cert) c = Verify c cert
 
+-- a replay takes no draws where no option names a file of them
+abbrev pub replay_in : Option Bytes → CommandView → Asked
+replay_in draws c = Replay c draws
+
 -- the verbs on certificates
 abbrev pub certificate_verb : Bytes → List Row → CommandView → Asked
 certificate_verb verb rows c = if is_text verb (codes "prove") then Prove c else (if is_text verb (codes "verify") then verify_in (first_of (codes "cert") rows) c else Refused)
 
 abbrev pub verb_of : Bytes → List Row → CommandView → Asked
-verb_of verb rows c = if is_text verb (codes "check") then Check c else (if is_text verb (codes "load") then Load c else (if is_text verb (codes "gate") then gate_in (first_of (codes "base") rows) c else certificate_verb verb rows c))
+verb_of verb rows c = if is_text verb (codes "check") then Check c else (if is_text verb (codes "load") then Load c else (if is_text verb (codes "gate") then gate_in (first_of (codes "base") rows) c else (if is_text verb (codes "replay") then replay_in (first_of (codes "draws") rows) c else certificate_verb verb rows c)))
 
 -- the turns that are asked for, where an option asks for some; none where they are out of range
 abbrev pub turns_named : Option Bytes → Option (Option ℕ)

@@ -48,6 +48,13 @@ pub struct Verification {
     pub cert: String,
 }
 
+/// What a replay is asked for: a unit, and the name of the file with its draws, where it takes some.
+#[derive(Drop)]
+pub struct Replay {
+    pub command: Command,
+    pub draws: Option<String>,
+}
+
 /// What is asked for.
 #[derive(Drop)]
 pub enum Request {
@@ -65,6 +72,8 @@ pub enum Request {
     Prove(Command),
     /// `verify`: a certificate of a unit is checked, and the unit is judged by its map.
     Verify(Verification),
+    /// `replay`: one run of a unit is taken, over the draws of a file.
+    Replay(Replay),
     /// The words are refused.
     Refused,
 }

@@ -6,5 +6,5 @@ mod commands;
 mod numbers;
 mod reading;
 
-pub use commands::{Command, Format, Gate, Request, Verification};
+pub use commands::{Command, Format, Gate, Replay, Request, Verification};
 pub use reading::read_words;

@@ -1,12 +1,13 @@
 //! Reading the words of a command line.
 ghost use Rattle.std.specs.Prelude.{◌≡◌, IfOk, Some, map, string_bytes, codes};
+ghost use Rattle.std.specs.Option.{option_map};
 ghost use Rattle.clap.specs.Matches.{found_of};
 ghost use Rattle.clap.specs.Walk.{rows_of, first_of};
-ghost use Rattle.report_cli_words.specs.Requests.{is_only, format_named, turns_named, text_in, texts_in, command_in, gate_in, verify_in, command_view, values_in, certificate_verb, asked_in, asked_by, is_memory_kind, asked, asked_of_command};
+ghost use Rattle.report_cli_words.specs.Requests.{is_only, format_named, turns_named, text_in, texts_in, command_in, gate_in, verify_in, replay_in, command_view, values_in, certificate_verb, asked_in, asked_by, is_memory_kind, asked, asked_of_command};
 ghost use Rattle.clap.specs.Values.{kind_of};
 
 use crate::clap_command::command;
-use crate::commands::{Command, Format, Gate, Request, Verification};
+use crate::commands::{Command, Format, Gate, Replay, Request, Verification};
 use crate::numbers::number_within;
 use cc_base::Memory;
 use clap::error::ErrorKind;
@@ -188,6 +189,29 @@ fn certificate_request(
     }
 }
 
+/// The text of an option that may be absent.
+fn name_of(alloc: Global, matches: &ArgMatches, name: &str) -> Result<Option<String>, AllocError>
+    ensures { IfOk result (λ o. option_map string_bytes o ≡ first_of name.now (rows_of (found_of matches.now))) }
+{
+    match matches.get_str(name) {
+        Some(text) => Ok(Some(String::from_str(alloc, text)?)),
+        None => Ok(None),
+    }
+}
+
+/// What `replay` asks for.
+fn replay_of(
+    alloc: Global,
+    matches: &ArgMatches,
+    values: OptionValues,
+) -> Result<Request, AllocError>
+    ensures { IfOk result (λ r. asked_by r ≡ replay_in (first_of (codes "draws") (rows_of (found_of matches.now))) (command_in (rows_of (found_of matches.now)) values)) }
+{
+    let command = command_of(alloc, matches, values)?;
+    let draws = name_of(alloc, matches, "draws")?;
+    Ok(Request::Replay(Replay { command, draws }))
+}
+
 fn request_of(alloc: Global, matches: &ArgMatches) -> Result<Request, AllocError>
     ensures { IfOk result (λ r. asked_by r ≡ asked_in (rows_of (found_of matches.now))) }
 {
@@ -201,6 +225,8 @@ fn request_of(alloc: Global, matches: &ArgMatches) -> Result<Request, AllocError
         Ok(Request::Load(command_of(alloc, matches, values)?))
     } else if verb == "gate" {
         gate_of(alloc, matches, values)
+    } else if verb == "replay" {
+        replay_of(alloc, matches, values)
     } else {
         certificate_request(alloc, matches, values, verb)
     }

@@ -1,7 +1,12 @@
-use Rattle.std.proofs.Common.{◌∙◌, ap, sym, map, string_bytes}
+use Rattle.std.proofs.Common.{◌∙◌, ap, sym, subst, map, string_bytes}
 use Rattle.report_cli_words.specs.Requests.{asked, asked_by}
+use Rattle.report_cli_words.proofs.Steps.{HasSteps, steps_in_range}
 use Rattle.report_cli.proofs.Called.{helped_told, versioned_told, words_told}
 use Rattle.report_cli.proofs.decision.decide.Goals as goal
+
+pub answer_replay-requires : goal.answer_replay-requires
+answer_replay-requires g c =
+    subst (λ a. HasSteps a) (sym c.in_ok-read_words.ensures ∙ ap asked_by c.in-Replay.is) (steps_in_range (map string_bytes c.args.words.now))
 
 pub returns-in_ok-help-in-Help-clause-called : goal.returns-in_ok-help-in-Help-clause-called
 returns-in_ok-help-in-Help-clause-called g c =

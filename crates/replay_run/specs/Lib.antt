@@ -1,0 +1,3 @@
+pub mod OutcomeViews
+pub mod Replays
+pub mod Following

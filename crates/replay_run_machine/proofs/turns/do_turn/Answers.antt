@@ -1,0 +1,22 @@
+use Rattle.std.proofs.Common.{refl, sym}
+use Rattle.c_layout.specs.CheckedTrees.{statement_tree}
+use Rattle.c_layout.specs.CheckedUnits.{unit_view}
+use Rattle.ref_machine.specs.SourceSteps.{turn_by}
+use Rattle.replay_run_items.specs.ItemViews.{loop_turn}
+use Rattle.replay_run_items.specs.Standings.{on_statement, standing}
+use Rattle.replay_run_items.specs.declared.items.Way7.TheVariants as way
+use Rattle.replay_run_machine.specs.MachineViews.{state_view}
+use Rattle.replay_run_machine.proofs.ToldTurns.{turns_held, loop_turned}
+use Rattle.replay_run_machine.proofs.turns.do_turn.Goals as goal
+
+pub returns : goal.returns
+returns c =
+    let u = unit_view c.args.unit.now in
+    let s = state_view u c.args.m.now in
+    let x = statement_tree c.args.statement.now in
+    let old = standing u c.args.m.now.control.items in
+    let m = record c.args.m.now { control = c.push_loop.new.control } in
+    turns_held u (turn_by u s (on_statement way.Turn x old).items) c.instead.result m s (standing u c.push_loop.new.control.items).items (loop_turn u x) c.push_loop.result (sym (loop_turned u s old.items x)) refl
+    (c.push_loop.ensures u)
+    c.instead.ensures.reply
+    c.instead.ensures.counted

@@ -1,0 +1,29 @@
+-- Files that a verb reads behind the expansion of its unit.
+use Rattle.std.specs.Prelude.{◌≡◌, ℤ, List, [], Option, Some, None}
+use Rattle.cc_base.specs.Outside.{Files, Holds}
+use Rattle.report_cli_draws.specs.DrawsFiles.{draws_in}
+use Rattle.report_cli_texts.specs.Reports.{Bytes}
+
+-- the files hold one with a name
+abbrev pub HasFile : Option Files → Bytes → Type 0
+HasFile files name = (bytes : Bytes) × Holds files name bytes
+
+-- a file has these draws
+pub record HoldsDraws (files : Option Files) (name : Bytes) (draws : List ℤ) : Type 0 where
+  pub bytes : Bytes
+  pub held : Holds files name bytes
+  pub reads : draws_in bytes ≡ Some draws
+
+-- a file of draws is of another form
+pub record HoldsNoDraws (files : Option Files) (name : Bytes) : Type 0 where
+  pub bytes : Bytes
+  pub held : Holds files name bytes
+  pub reads : draws_in bytes ≡ None
+
+-- the draws that a run is given: those of a file where one is named, else none
+abbrev pub IsDraws : Option Files → Option Bytes → List ℤ → Type 0
+IsDraws files None draws = draws ≡ []
+IsDraws files (Some name) draws = HoldsDraws files name draws
+
+abbrev pub HasDraws : Option Files → Option Bytes → Type 0
+HasDraws files file = (draws : List ℤ) × IsDraws files file draws

@@ -1,0 +1,4 @@
+pub mod Stages
+pub mod Judging
+pub mod Certifying
+pub mod Replaying

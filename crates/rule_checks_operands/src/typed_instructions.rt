@@ -1,0 +1,160 @@
+//! Operands of instructions in the rows before them.
+ghost use Rattle.std.specs.Prelude.{◌≡◌};
+ghost use Rattle.std.specs.List.{list_all};
+ghost use Rattle.rule_checks.specs.AdmittedRules.{instructions_of, reached_row, row_behind};
+ghost use Rattle.value_domain.specs.ValueTables.{range_fits};
+ghost use Rattle.abstract_steps_checks.specs.Temporaries.{temp_value};
+ghost use Rattle.rule_checks_operands.specs.TypedRows as spec;
+
+use abstract_steps_checks::temp_value;
+use abstract_steps_instructions::operate;
+use c_layout::LibFn;
+use cc_base::{IntDomain, IntType};
+use flow_program::{Flow, Instruction, Operation, Scalar};
+use value_domain::{Cell, Value, range_fits};
+
+/// Whether no number of a range is negative.
+fn is_natural(range: Option<(i128, i128)>) -> bool
+    ensures { result ≡ spec.is_natural range }
+{
+    match range {
+        None => true,
+        Some((least, _)) => 0 <= least,
+    }
+}
+
+/// Whether a value is of numbers alone, or of pointers alone.
+fn is_of_kind<I: IntDomain>(kind: Scalar, value: Value<I>) -> bool
+    ensures { result ≡ spec.is_of_kind I.numbers kind value }
+{
+    match kind {
+        Scalar::Int(_) => !(value.pointer.is_any() || value.pointer.ended),
+        Scalar::Pointer => value.num.bounds().is_none(),
+    }
+}
+
+fn is_size<I: IntDomain>(flow: &Flow, row: &[Cell<I>], temp: u32) -> bool
+    ensures { result ≡ spec.is_size_in I.lattice I.numbers flow.now row.now temp }
+{
+    is_natural(temp_value(flow, row, temp).num.bounds())
+}
+
+fn are_sizes<I: IntDomain>(flow: &Flow, row: &[Cell<I>], temps: &[u32]) -> bool
+    ensures { result ≡ list_all (spec.is_size_in I.lattice I.numbers flow.now row.now) temps.now }
+{
+    temps.iter().all(|temp| is_size(flow, row, *temp))
+}
+
+fn has_third_size<I: IntDomain>(flow: &Flow, row: &[Cell<I>], temps: &[u32]) -> bool
+    ensures { result ≡ spec.has_third_size I.lattice I.numbers flow.now row.now temps.now }
+{
+    match temps {
+        [_, _, third] => is_size(flow, row, *third),
+        _ => true,
+    }
+}
+
+/// Whether what a function takes as a size is one.
+fn takes_size<I: IntDomain>(flow: &Flow, row: &[Cell<I>], name: LibFn, temps: &[u32]) -> bool
+    ensures { result ≡ spec.takes_size I.lattice I.numbers flow.now row.now name temps.now }
+{
+    match name {
+        LibFn::Malloc | LibFn::Calloc | LibFn::Realloc => are_sizes(flow, row, temps),
+        LibFn::Memset | LibFn::Memcpy | LibFn::Memmove | LibFn::Strncpy => {
+            has_third_size(flow, row, temps)
+        }
+        _ => true,
+    }
+}
+
+fn fits_temp<I: IntDomain>(flow: &Flow, row: &[Cell<I>], temp: u32, kind: IntType) -> bool
+    ensures { result ≡ range_fits kind (I.numbers.bounds (temp_value I.lattice I.numbers flow.now row.now temp).num) }
+{
+    range_fits(kind, temp_value(flow, row, temp).num.bounds())
+}
+
+/// Whether the operands of an instruction lie within the types that it names, in the row before it.
+#[tactic(auto, unfolding(crate::specs::TypedRows::has_operands))]
+pub fn has_operands<I: IntDomain>(flow: &Flow, row: &[Cell<I>], operation: &Operation) -> bool
+    ensures { result ≡ spec.has_operands I.lattice I.numbers flow.now row.now operation.now }
+{
+    match operation {
+        Operation::Binary(_, _, left, _, kind) => fits_temp(flow, row, *left, *kind),
+        Operation::Unary(_, _, operand, kind) => fits_temp(flow, row, *operand, *kind),
+        Operation::Convert(_, operand, from, _) => {
+            is_of_kind(*from, temp_value(flow, row, *operand))
+        }
+        Operation::Library(_, name, arguments, _, _) => {
+            takes_size(flow, row, *name, arguments.as_slice())
+        }
+        _ => true,
+    }
+}
+
+/// Whether those of an instruction do, where the row before it is reached.
+fn is_typed_at<I: IntDomain>(
+    reached: bool,
+    flow: &Flow,
+    row: &[Cell<I>],
+    one: &Instruction,
+) -> bool
+    ensures { result ≡ spec.is_typed_at I.lattice I.numbers flow.now one.now (reached_row reached row.now) }
+{
+    if reached { has_operands(flow, row, &one.operation) } else { true }
+}
+
+/// Makes of the row before an instruction, where it is reached, the row behind it; false where no run
+/// goes on.
+fn pass_reached<I: IntDomain>(
+    reached: bool,
+    flow: &Flow,
+    row: &mut [Cell<I>],
+    one: &Instruction,
+) -> bool
+    ensures { reached_row result row.new ≡ row_behind I.lattice I.numbers flow.now one.now (reached_row reached row.old) }
+{
+    if reached {
+        if operate(flow, row, &one.operation) {
+            true
+        } else {
+            false
+        }
+    } else {
+        false
+    }
+}
+
+/// Whether those of instructions in order do, each in the row before it, as far as the row goes on.
+/// `row` is the row before the first one, and is spent.
+#[tactic(auto, unfolding(crate::specs::TypedRows::are_typed))]
+fn are_typed<I: IntDomain>(flow: &Flow, row: &mut [Cell<I>], instructions: &[Instruction]) -> bool
+    ensures { result ≡ spec.are_typed I.lattice I.numbers flow.now instructions.now row.old }
+{
+    let mut reached = true;
+    for at in 0..instructions.len() {
+        if !is_typed_at(reached, flow, row, &instructions[at]) {
+            return false;
+        }
+        reached = pass_reached(reached, flow, row, &instructions[at]);
+    }
+    true
+}
+
+/// The instructions of a block; none where there is no such block.
+fn instructions_of(flow: &Flow, block: u32) -> &[Instruction]
+    ensures { result.now ≡ instructions_of flow.now block }
+{
+    match flow.blocks.get(block as usize) {
+        None => &[],
+        Some(found) => found.instructions.as_slice(),
+    }
+}
+
+/// Whether those of the instructions of a block do. `row` is the row at the start of the block, and is
+/// spent.
+#[tactic(auto, unfolding(crate::specs::TypedRows::is_typed_block))]
+pub fn is_typed_block<I: IntDomain>(flow: &Flow, row: &mut [Cell<I>], block: u32) -> bool
+    ensures { result ≡ spec.is_typed_block I.lattice I.numbers flow.now block row.old }
+{
+    are_typed(flow, row, instructions_of(flow, block))
+}

@@ -1,0 +1,2 @@
+pub mod OrderedStructs
+pub mod KnownStructs

@@ -1,0 +1,23 @@
+-- `int main(void){int i;for(i=0;i<1;i++);return 1/i;}` runs to its end.
+use Rattle.std.specs.Prelude.{◌≡◌, refl, [], Some}
+use Rattle.c_layout.specs.Leaves.{leaves_of}
+use Rattle.lib_models_effects.specs.Worlds as why
+use Rattle.ref_machine.specs.SourceRuns.{SourceRun, Run, why_of}
+use Rattle.template_runs.specs.TemplateStates.{TemplateRun}
+use Rattle.template_runs.specs.TemplateSteps.{template_begin, steps_from}
+use Rattle.template_runs_follow.specs.Alike.{Agree}
+use Rattle.template_runs_slice.specs.Loop.{templates}
+
+abbrev of_source : SourceRun
+of_source = Run (templates 1).unit [] 100
+
+abbrev of_templates : TemplateRun
+of_templates = steps_from (templates 1) 45 (template_begin (templates 1) [])
+
+same : Agree of_source of_templates
+unfolding leaves_of
+same = record { memory = refl; draws = refl; found = refl; why = refl }
+
+ends_so : why_of of_source ≡ Some why.Ended
+unfolding leaves_of
+ends_so = refl

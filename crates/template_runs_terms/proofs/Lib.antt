@@ -1,0 +1,2 @@
+mod SplitWorks
+pub mod TermsFollow
