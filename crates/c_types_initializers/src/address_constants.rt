@@ -16,7 +16,7 @@ use cc_base::IntType;
 
 /// A pointer into an object or a literal: its offset, and the part that it may reach.
 #[derive(Clone, Copy)]
-struct Address {
+pub struct Address {
     base: StaticBase,
     offset: u64,
     low: u64,
@@ -25,7 +25,7 @@ struct Address {
 
 /// A constant of pointer type.
 #[derive(Clone, Copy)]
-enum PointerConstant {
+pub enum PointerConstant {
     Null,
     Address(Address),
 }

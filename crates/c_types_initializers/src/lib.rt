@@ -9,6 +9,7 @@ mod object_initializers;
 mod static_initializers;
 mod subobjects;
 
+pub use address_constants::{Address, PointerConstant};
 pub use list_stores::{Filling, sought_text, store_next, store_scalar};
 pub use literals::{bare_literal, character_room, only_literal};
 pub use object_initializers::{Initialized, by_operand, filled, spelled};
