@@ -1,0 +1,6 @@
+pub mod RepeatedTags
+pub mod LeafTags
+pub mod PlacedTags
+pub mod TypeTags
+pub mod PlainTags
+pub mod FoldedTags

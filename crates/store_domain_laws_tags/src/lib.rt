@@ -1,0 +1,6 @@
+//! The tags of bytes by the type of their object.
+#![tactic(auto)]
+
+
+
+
