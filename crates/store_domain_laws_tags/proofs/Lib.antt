@@ -4,3 +4,4 @@ pub mod PlacedTags
 pub mod TypeTags
 pub mod PlainTags
 pub mod FoldedTags
+pub mod PartTags

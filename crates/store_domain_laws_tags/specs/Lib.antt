@@ -1,1 +1,2 @@
 pub mod TypeTags
+pub mod PartTags
