@@ -1,7 +1,7 @@
 -- Declarations and definitions of a unit keep what is kept.
 use Rattle.std.proofs.Common.{◌≡◌, ◌<◌, ◌≤◌, ◌^◌, ℕ, zero, suc, Bool, true, false, List, [], ◌∷◌, ◌++◌, length, Option, Some, None, Ok, Err, slice_get, arith, refl, ap, subst, sym, ◌∙◌, inl, inr}
 use Rattle.std.specs.Prelude.{◌⊎◌, ◌&&◌, ◌==◌, cond, is_some, nat_lt, nat_le, option_and_then}
-use Rattle.std.proofs.lemmas.Bool.{and_parts, eqb-true}
+use Rattle.std.proofs.lemmas.Bool.{and_parts, cases_Bool, eqb-true}
 use Rattle.std.proofs.lemmas.Option.{same_Some, slice_get_within}
 use Rattle.cc_base.specs.declared.diagnostics.Place.{Place}
 use Rattle.c_layout.specs.Layout.{most_bytes}
@@ -58,10 +58,13 @@ stays s rule = kept_leads Keeps s s rule (keeps_same s)
 
 -- ---- composite types
 
+pub suc_not : (n : ℕ) → (suc n == 0) ≡ false
+suc_not n = elim (cases_Bool (suc n == 0)) [ inl e ↦ absurd (let z = eqb-true (suc n) 0 e in omega (arith, z)) | inr e ↦ e ]
+
 sized_length : (count : ℕ) (o : Option ℕ) → is_some (option_and_then (array_size count) o) ≡ true → (count == 0) ≡ false
 sized_length count None h = absurd (cc)
 sized_length zero (Some size) h = absurd (cc)
-sized_length (suc n) (Some size) h = refl
+sized_length (suc n) (Some size) h = suc_not n
 
 -- where a length is known, a further declaration has it too
 common_is : (count n c : ℕ) (a b z : Bool) → (count == n) ≡ a → (count == 0) ≡ z → z ≡ false → cond a (Some count) (cond b (Some count) (cond z (Some n) None)) ≡ Some c → c ≡ count

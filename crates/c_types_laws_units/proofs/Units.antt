@@ -40,7 +40,7 @@ use Rattle.c_types_objects.specs.UnitObjects as ends
 use Rattle.c_types_statement_rules.specs.BodyFlow.{no_flow}
 use Rattle.c_types_statement_rules.specs.Points.{Point, point}
 use Rattle.c_types_statement_rules.specs.StatementNodes.{no_parts}
-use Rattle.c_types_objects.specs.LocalObjects.{PartsView}
+use Rattle.c_types_objects.specs.LocalObjects.{with_static_type, PartsView}
 use Rattle.c_types_statements.specs.LocalDeclarations.{local_declaration, are_none, is_empty}
 use Rattle.c_types_statements.specs.StaticInitializers.{static_initializer}
 use Rattle.c_types_statements.specs.Statements.{items}
@@ -62,7 +62,7 @@ use Rattle.c_types_laws.proofs.Entries.{same_value}
 use Rattle.c_types_laws_units.specs.PlacedUnits.{IsValueOf, IsPlacedStore, ArePlacedStores, IsPlacedObject, known_of, InitializersArePlaced}
 use Rattle.c_types_laws_units.proofs.Kept.{IsGoodBy, most, Keeps, later_same, keeps_same, keeps_twice, steps_keep, declarations_keep, at_most}
 use Rattle.c_types_laws_units.proofs.Bodies.{declared_good, undefined_good, bodies_keep}
-use Rattle.c_types_laws_units.proofs.Files.{step, stays, IsAlike, alike_keeps, retyped_keeps}
+use Rattle.c_types_laws_units.proofs.Files.{suc_not, step, stays, IsAlike, alike_keeps, retyped_keeps}
 
 go : {V : Type 0} (s t : State) (r : Ruled (V × State)) → Keeps s t → Leads Keeps t r → Leads Keeps s r
 go s t r = onward Keeps keeps_twice s t r
@@ -91,7 +91,7 @@ next_leads index at d s (Some o) there = by_type (composite o.declared.ctype d.c
     by_type : (t : Option Ty) → composite o.declared.ctype d.ctype ≡ t → Leads Keeps s (objects.next_with index at d o.number s t)
     by_type None is = tt
     by_type (Some t) is =
-        keeps_twice s (objects.with_enumeration index d.enumeration s) _ (alike_keeps (objects.with_object_enumeration d.enumeration) (record { number = λ x. refl; ctype = λ x. refl }) index s)
+        keeps_twice s (objects.with_enumeration index d.enumeration s) (with_static_type index (number_or o.number) t (objects.with_enumeration index d.enumeration s)) (alike_keeps (objects.with_object_enumeration d.enumeration) (record { number = λ x. refl; ctype = λ x. refl }) index s)
         (retyped_keeps (objects.with_enumeration index d.enumeration s) index (objects.with_object_enumeration d.enumeration o) d.ctype t (changed_here (objects.with_object_enumeration d.enumeration) index s.objects o there) is)
 
 indexed_leads : (index : ℕ) (s : State) (r : Ruled (Unit {0} × State)) → Leads Keeps s r → Leads Keeps s (external.indexed index r)
@@ -283,7 +283,7 @@ defined_keeps defines (Prototype f) s = keeps_same s
 all_defined_keep : (defines : Bool) (ds : List InitDeclaratorView) (s : State) → Keeps s (definitions.with_declarators defines ds s)
 unfolding definitions.with_declarators
 all_defined_keep defines [] s = keeps_same s
-all_defined_keep defines (d ∷ ds) s = keeps_twice s (definitions.with_declarator defines d s) _ (defined_keeps defines d s) (all_defined_keep defines ds (definitions.with_declarator defines d s))
+all_defined_keep defines (d ∷ ds) s = keeps_twice s (definitions.with_declarator defines d s) (definitions.with_declarators defines ds (definitions.with_declarator defines d s)) (defined_keeps defines d s) (all_defined_keep defines ds (definitions.with_declarator defines d s))
 
 definition_keeps : (e : ExternalTree) (s : State) → Keeps s (definitions.with_external e s)
 definition_keeps (Declared at words ds) s = all_defined_keep (definitions.is_definition (definitions.storage_of words)) ds s
@@ -292,7 +292,7 @@ definition_keeps (Defined at words f body) s = keeps_same s
 definitions_keep : (es : List ExternalTree) (s : State) → Keeps s (definitions.with_externals es s)
 unfolding definitions.with_externals
 definitions_keep [] s = keeps_same s
-definitions_keep (e ∷ es) s = keeps_twice s (definitions.with_external e s) _ (definition_keeps e s) (definitions_keep es (definitions.with_external e s))
+definitions_keep (e ∷ es) s = keeps_twice s (definitions.with_external e s) (definitions.with_externals es (definitions.with_external e s)) (definition_keeps e s) (definitions_keep es (definitions.with_external e s))
 
 stream_keeps : (s : State) → Keeps s (with_stream s)
 stream_keeps s = declarations_keep.struct_more s
@@ -322,7 +322,7 @@ mapped_is f (v ∷ vs) (suc n) x is = mapped_is f vs n x is
 counted_is : (count : ℕ) (o : Option ℕ) → is_some (option_and_then (array_size count) o) ≡ true → ends.completed_count count ≡ count
 counted_is count None h = absurd (cc)
 counted_is zero (Some size) h = absurd (cc)
-counted_is (suc n) (Some size) h = refl
+counted_is (suc n) (Some size) h = ap (λ c. cond c 1 (suc n)) (suc_not n)
 
 completed_is : (k : Known) (t : Ty) → is_some (size_of k t) ≡ true → ends.completed t ≡ t
 completed_is k (Int kind) h = refl

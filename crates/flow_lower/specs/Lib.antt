@@ -5,3 +5,4 @@ pub mod Openings
 pub mod Lowerings
 pub mod WellMade
 pub mod AsCounted
+pub mod ObjectKinds
