@@ -7,6 +7,7 @@ ghost use Rattle.c_layout.specs.CheckedUnits.{function_view, unit_view};
 ghost use Rattle.flow_program.specs.WellFormed.{is_well_formed};
 ghost use Rattle.flow_lower_counts.specs.Preparations.{templates_view};
 ghost use Rattle.flow_lower_counts.specs.SizeRefusals.{IsTooLarge};
+ghost use Rattle.flow_lower_objects.specs.PlainObjects.{has_plain_objects};
 ghost use Rattle.flow_program_views.specs.ProgramViews.{flow_view};
 ghost use Rattle.flow_lower.specs.Openings.{program_view};
 ghost use Rattle.flow_lower.specs.Lowerings as spec;
@@ -24,6 +25,7 @@ use flow_lower_counts::{
     PreparedUnit, UnitCounts, all_within, counts_at, pool_values, prepared, shared_bases,
     unit_counts, within,
 };
+use flow_lower_objects::with_plain_objects;
 use flow_program::{Flow, ParameterInput};
 use flow_program_checks::well_formed;
 use flow_program_views::structure_copies;
@@ -137,10 +139,12 @@ pub fn lower(alloc: Global, unit: &Checked, limits: &Limits) -> Result<Flow, Sto
     ensures lowering { IfOk result (λ f. IsLowering (unit_view unit.now) limits.now (flow_view f)) }
     ensures counted { IfOk result (λ f. (is : IsLowering (unit_view unit.now) limits.now (flow_view f)) → HasJust is.counts (flow_view f)) }
     ensures objects { IfOk result (λ f. has_model_objects (unit_view unit.now) ≡ true) }
+    ensures plain { IfOk result (λ f. has_plain_objects (unit_view unit.now) ≡ true) }
     ensures refusal { IfErr result (λ s. Refuses (unit_view unit.now) limits.now s) }
     ensures cause { IfErr result (λ s. (e : Function) → slice_get unit.now.functions.items unit.now.entry ≡ Some e → IsTooLarge limits.now e.place s) }
 {
     with_model_objects(unit)?;
+    with_plain_objects(unit)?;
     let entry = entry_of(unit)?;
     let found = prepared(alloc, unit)?;
     let counts = counted(alloc, unit, &found)?;

@@ -23,5 +23,5 @@ mod well_formed_flows;
 pub use apart_leaves::ends_by;
 pub use base_tables::all_cells;
 pub use theorems::{is_a_system, leaves_share_no_byte};
-pub use value_ranges::{class_bytes, class_of};
+pub use value_ranges::{class_bytes, class_of, is_int_type};
 pub use well_formed_flows::{is_well_formed, well_formed};
