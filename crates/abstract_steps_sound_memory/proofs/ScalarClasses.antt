@@ -19,7 +19,7 @@ by_rank bytes (suc (suc (suc (suc (suc n))))) =
     let r : ℕ = suc (suc (suc (suc (suc n)))) in
     rw (ne_eqb r 1 (λ e. omega (arith, e)), ne_eqb r 2 (λ e. omega (arith, e)), ne_eqb r 3 (λ e. omega (arith, e)), ne_eqb r 4 (λ e. omega (arith, e))) refl
 
-class_same : (k : IntType) → class_of_kind k ≡ layout.class_of k
+pub class_same : (k : IntType) → class_of_kind k ≡ layout.class_of k
 class_same k = by_rank k.bytes k.rank
 
 pub class_pair : (kind : declared.Scalar) → class_of kind ≡ (class_in kind, signed_in kind)

@@ -1,2 +1,5 @@
 pub mod TypedUnits
 pub mod TypedRows
+
+mod TypedParts
+pub mod CheckedInitializers

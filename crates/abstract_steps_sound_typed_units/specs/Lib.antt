@@ -1,1 +1,2 @@
 pub mod TypedUnits
+pub mod CheckedInitializers

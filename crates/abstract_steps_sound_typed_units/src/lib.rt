@@ -3,4 +3,4 @@
 
 mod theorems;
 
-pub use theorems::typed_by_a_look;
+pub use theorems::{checked_initializers_are_typed, typed_by_a_look};
