@@ -20,7 +20,7 @@ use Rattle.c_layout.specs.StructViews.{StructView, no_struct, struct_at}
 use Rattle.c_layout.specs.Types.{Ty, Int, Pointer, Array, Struct, Void}
 use Rattle.c_types_rules.specs.TypeSizes.{array_size, sized}
 use Rattle.c_types_scopes.specs.Known.{Known, size_of}
-use Rattle.c_types_initializers.specs.Subobjects.{SubobjectView}
+use Rattle.c_types_initializers.specs.Subobjects.{SubobjectView, subobject}
 use Rattle.c_types_initializers.specs.Literals.{room_of, character_room}
 use Rattle.c_types_laws_stores.specs.PlacedStores.{IsPart}
 use Rattle.c_types_laws_units.specs.PlacedUnits.{IsValueOf, IsPlacedStore, ArePlacedStores, HasNoBytes, IsPlacedObject, known_of}
@@ -146,18 +146,18 @@ module _ (u : UnitView) (model : is_model u.model ≡ true) (apart : are_laid_ap
           inside = omega (arith, to, at, bytes);
         }
 
-    value_in : (offset : ℕ) (v : StaticValue) → is_plain_value u.model v ≡ true → (s : SubobjectView) → IsTagged u.model model u.structs apart ordered plain t s → s.offset ≡ offset → IsValueOf s.ctype v → IsTypedValue v × HasScalar u t (static_class v).0 offset
-    value_in offset (Number n had) h (record { ctype = Int k; offset = at }) part e is =
+    value_in : (offset : ℕ) (v : StaticValue) → is_plain_value u.model v ≡ true → (w : Ty) (at : ℕ) → IsTagged u.model model u.structs apart ordered plain t (subobject w at) → at ≡ offset → IsValueOf w v → IsTypedValue v × HasScalar u t (static_class v).0 offset
+    value_in offset (Number n had) h (Int k) at part e is =
         let p = and_parts (is_int_type u.model had) (in_type had n) h in
         let same : class_of k ≡ (static_class (Number n had)).0 = sym (class_same had ∙ ap class_of is.0) in
         let bytes : k.bytes ≡ class_bytes u.model (class_of k) = eqb-true k.bytes (flow.class_bytes u.model (class_of k)) part.kind ∙ model_bytes u.model model (class_of k) in
-        (p.1, subst (λ c. HasScalar u t c offset) same (scalar_in (record { ctype = Int k; offset = at }) (class_of k) offset part e bytes (λ x. refl)))
-    value_in offset Null h (record { ctype = Pointer w; offset = at }) part e is = (tt, scalar_in (record { ctype = Pointer w; offset = at }) class.Pointer offset part e (model_bytes u.model model class.Pointer) (λ x. refl))
-    value_in offset (Address object o lo hi) h (record { ctype = Pointer w; offset = at }) part e is = (tt, scalar_in (record { ctype = Pointer w; offset = at }) class.Pointer offset part e (model_bytes u.model model class.Pointer) (λ x. refl))
-    value_in offset v h s part e is = absurd (is)
+        (p.1, subst (λ c. HasScalar u t c offset) same (scalar_in (subobject (Int k) at) (class_of k) offset part e bytes (λ x. refl)))
+    value_in offset Null h (Pointer w) at part e is = (tt, scalar_in (subobject (Pointer w) at) class.Pointer offset part e (model_bytes u.model model class.Pointer) (λ x. refl))
+    value_in offset (Address object o lo hi) h (Pointer w) at part e is = (tt, scalar_in (subobject (Pointer w) at) class.Pointer offset part e (model_bytes u.model model class.Pointer) (λ x. refl))
+    value_in offset v h w at part e is = absurd (is)
 
-    text_in : (offset room : ℕ) → nat_lt 0 room ≡ true → (s : SubobjectView) → IsTagged u.model model u.structs apart ordered plain t s → s.offset ≡ offset → character_room s.ctype ≡ Some room → HasCharacters u t offset room
-    text_in offset room some (record { ctype = Array (Int k) count; offset = at }) part e is =
+    text_in : (offset room : ℕ) → nat_lt 0 room ≡ true → (w : Ty) (at : ℕ) → IsTagged u.model model u.structs apart ordered plain t (subobject w at) → at ≡ offset → character_room w ≡ Some room → HasCharacters u t offset room
+    text_in offset room some (Array (Int k) count) at part e is =
         let p = cond_is (k.bytes == 1) count room is in
         let one : k.bytes ≡ 1 = eqb-true k.bytes 1 p.0 in
         let bytes : k.bytes ≡ class_bytes u.model (class_of k) = eqb-true k.bytes (flow.class_bytes u.model (class_of k)) part.kind ∙ model_bytes u.model model (class_of k) in
@@ -177,25 +177,25 @@ module _ (u : UnitView) (model : is_model u.model ≡ true) (apart : are_laid_ap
               ∙ (of_element u.model model u.structs apart (Int k) count part.kind y 0 (omega (arith, to, from, e, long_as)) (omega (arith, one))
               ∙ (ap (λ c. scalar_tags u.model c 0) char ∙ scalar_tag u.model class.Char 0 (omega arith))))));
         }
-    text_in offset room some (record { ctype = Array (Pointer w) count; offset = at }) part e is = absurd (cc)
-    text_in offset room some (record { ctype = Array (Array w n) count; offset = at }) part e is = absurd (cc)
-    text_in offset room some (record { ctype = Array (Struct i) count; offset = at }) part e is = absurd (cc)
-    text_in offset room some (record { ctype = Array Void count; offset = at }) part e is = absurd (cc)
-    text_in offset room some (record { ctype = Int k; offset = at }) part e is = absurd (cc)
-    text_in offset room some (record { ctype = Pointer w; offset = at }) part e is = absurd (cc)
-    text_in offset room some (record { ctype = Struct i; offset = at }) part e is = absurd (cc)
-    text_in offset room some (record { ctype = Void; offset = at }) part e is = absurd (cc)
+    text_in offset room some (Array (Pointer w) count) at part e is = absurd (cc)
+    text_in offset room some (Array (Array w n) count) at part e is = absurd (cc)
+    text_in offset room some (Array (Struct i) count) at part e is = absurd (cc)
+    text_in offset room some (Array Void count) at part e is = absurd (cc)
+    text_in offset room some (Int k) at part e is = absurd (cc)
+    text_in offset room some (Pointer w) at part e is = absurd (cc)
+    text_in offset room some (Struct i) at part e is = absurd (cc)
+    text_in offset room some Void at part e is = absurd (cc)
 
     stores_in : (ss : List StaticStoreView) → list_all (is_plain_store u.model) ss ≡ true → ArePlacedStores (known_of u) t ss → AreTypedStores u t ss
     stores_in [] h placed = tt
     stores_in (SetValue offset v ∷ ss) h placed =
         let p = and_parts (is_plain_value u.model v) (list_all (is_plain_store u.model) ss) h in
         let own = placed.0 in
-        (value_in offset v p.0 own.0 (in_part own.0 own.1) own.2 own.3, stores_in ss p.1 placed.1)
+        (value_in offset v p.0 own.0.ctype own.0.offset (in_part own.0 own.1) own.2 own.3, stores_in ss p.1 placed.1)
     stores_in (SetText offset room text ∷ ss) h placed =
         let p = and_parts (nat_lt 0 room) (list_all (is_plain_store u.model) ss) h in
         let own = placed.0 in
-        (text_in offset room p.0 own.0 (in_part own.0 own.1) own.2 own.3, stores_in ss p.1 placed.1)
+        (text_in offset room p.0 own.0.ctype own.0.offset (in_part own.0 own.1) own.2 own.3, stores_in ss p.1 placed.1)
 
   object_in : (o : StaticView) → is_plain_object u.model o ≡ true → IsPlacedObject (known_of u) o → AreTypedStores u o.ctype o.stores
   object_in o h placed =

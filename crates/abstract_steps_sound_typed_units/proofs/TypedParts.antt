@@ -119,17 +119,17 @@ module _ (m : Model) (model : is_model m ≡ true) (structs : List StructView) (
             ap (type_tags m structs t) o ∙ (h.tags (f.offset + x) (omega (arith, to, k)) ∙ a.tags x k);
       }
 
-  following_tagged : (t : Ty) (s : SubobjectView) (n : ℕ) (next : SubobjectView) → following_of rules s.ctype s.offset n ≡ Some next → IsTagged t s → IsTagged t next
-  following_tagged t (record { ctype = Int k; offset = at }) n next e h = absurd (cc)
-  following_tagged t (record { ctype = Pointer u; offset = at }) n next e h = absurd (cc)
-  following_tagged t (record { ctype = Void; offset = at }) n next e h = absurd (cc)
-  following_tagged t (record { ctype = Array u count; offset = at }) n next e h = by_place (is_behind count n) (size_of rules u) refl refl e
+  following_tagged : (t w : Ty) (at n : ℕ) (next : SubobjectView) → following_of rules w at n ≡ Some next → IsTagged t (subobject w at) → IsTagged t next
+  following_tagged t (Int k) at n next e h = absurd (cc)
+  following_tagged t (Pointer u) at n next e h = absurd (cc)
+  following_tagged t Void at n next e h = absurd (cc)
+  following_tagged t (Array u count) at n next e h = by_place (is_behind count n) (size_of rules u) refl refl e
     where
       by_place : (c : Bool) (o : Option ℕ) → is_behind count n ≡ c → size_of rules u ≡ o → cond c None (element_of_size u at n o) ≡ Some next → IsTagged t next
       by_place true o b is k = absurd (cc)
       by_place false None b is k = absurd (cc)
       by_place false (Some z) b is k = subst (IsTagged t) (same_Some (subobject u (at + z * n)) next k) (element_tagged t u count at n z h (sized_is structs m.pointer u z is) b)
-  following_tagged t (record { ctype = Struct owner; offset = at }) n next e h = by_struct (slice_get structs owner) refl e
+  following_tagged t (Struct owner) at n next e h = by_struct (slice_get structs owner) refl e
     where
       by_struct : (o : Option StructView) → slice_get structs owner ≡ o → member_in at n o ≡ Some next → IsTagged t next
       by_struct None there k = absurd (cc)
@@ -145,7 +145,7 @@ module _ (m : Model) (model : is_model m ≡ true) (structs : List StructView) (
     where
       by_outer : (o : Option SubobjectView) → part_of rules t outer ≡ o → within rules o n ≡ Some s → ((p : SubobjectView) → part_of rules t outer ≡ Some p → IsTagged t p) → IsTagged t s
       by_outer None is k inner = absurd (cc)
-      by_outer (Some p) is k inner = following_tagged t p n s k (inner p is)
+      by_outer (Some p) is k inner = following_tagged t p.ctype p.offset n s k (inner p is)
 
   pub part_tagged : (t : Ty) → has_class_bytes m t ≡ true → has_length t ≡ true → (s : SubobjectView) → IsPart rules t s → IsTagged t s
   part_tagged t kind long s part = path_tagged t kind long part.path s part.is
