@@ -92,15 +92,14 @@ pub fn has_operands<I: IntDomain>(flow: &Flow, row: &[Cell<I>], operation: &Oper
 }
 
 /// Whether those of an instruction do, where the row before it is reached.
-fn is_typed_at<I: IntDomain>(
-    reached: bool,
-    flow: &Flow,
-    row: &[Cell<I>],
-    one: &Instruction,
-) -> bool
+fn is_typed_at<I: IntDomain>(reached: bool, flow: &Flow, row: &[Cell<I>], one: &Instruction) -> bool
     ensures { result ≡ spec.is_typed_at I.lattice I.numbers flow.now one.now (reached_row reached row.now) }
 {
-    if reached { has_operands(flow, row, &one.operation) } else { true }
+    if reached {
+        has_operands(flow, row, &one.operation)
+    } else {
+        true
+    }
 }
 
 /// Makes of the row before an instruction, where it is reached, the row behind it; false where no run
