@@ -15,11 +15,10 @@ use Rattle.flow_program_machine.specs.FlowStarts.{flow_begin}
 use Rattle.abstract_steps_laws_own_rows.specs.OwnLists.{ReachesTypes}
 use Rattle.abstract_steps_sound.specs.SoundSteps.{AreSound}
 use Rattle.abstract_steps_sound_maps.specs.CarriedMaps.{EntryStands}
-use Rattle.abstract_steps_covered.specs.Covering.{HasTypedRuns}
 use Rattle.abstract_steps_covered.specs.SoundEnds.{IsDoneIn}
 use Rattle.abstract_steps_sound_programs.specs.OpenSteps.{IsOpenStep, SpellsOverCharacters, AllocatesAtSites, CopiesListed, OpenTestsAreSound}
 
--- what is not proved of lowered programs yet
+-- what the theorems on single instructions and edges suppose of a program and of a list
 pub record Suffices (flow : Flow) (list : List ℤ) : Type 0 where
   pub reaches : ReachesTypes list
   pub texts : SpellsOverCharacters flow
@@ -35,12 +34,7 @@ pub record IsViolatedIn (flow : Flow) (u : UnitView) (v : Violation) : Type 0 wh
   pub there : Contains (found_in (flow_steps (flow_view flow) steps (flow_begin u (flow_view flow) draws))) v
 
 -- each pair that a run of a unit by this program violates is found, where the row of the entry stands for the start of
--- the unit and operands are of their types in its runs
-abbrev pub HoldsEachPair : Flow → List ℤ → List Diag → Type 0
-HoldsEachPair flow list found = (u : UnitView) → EntryStands interval_lattice interval_numbers Stands flow list u → HasTypedRuns flow u
-    → (v : Violation) → IsViolatedIn flow u v → Contains found (record { place = v.at; rule = v.rule })
-
--- so it is of each run, without a premise on operands
+-- the unit
 abbrev pub FindsEachPair : Flow → List ℤ → List Diag → Type 0
 FindsEachPair flow list found = (u : UnitView) → EntryStands interval_lattice interval_numbers Stands flow list u
     → (v : Violation) → IsViolatedIn flow u v → Contains found (record { place = v.at; rule = v.rule })

@@ -4,6 +4,6 @@
 mod theorems;
 
 pub use theorems::{
-    analyses_are_sound, analyses_find_every_run, calls_have_sites, no_step_is_open,
-    tests_are_proved, texts_lie_over_characters,
+    analyses_find_every_run, calls_have_sites, no_step_is_open, tests_are_proved,
+    texts_lie_over_characters,
 };

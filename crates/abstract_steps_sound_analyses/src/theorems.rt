@@ -4,17 +4,13 @@ ghost use Rattle.std.specs.Prelude.{ℤ, List};
 ghost use Rattle.cc_base.specs.declared.diagnostics.Diag.{Diag};
 ghost use Rattle.flow_program.specs.declared.programs.Flow.{Flow};
 ghost use Rattle.flow_analysis.specs.Analyses.{IsAnalysis};
-ghost use Rattle.abstract_steps_sound_analyses.specs.SoundAnalyses.{Suffices, HoldsEachPair, FindsEachPair};
+ghost use Rattle.abstract_steps_sound_analyses.specs.SoundAnalyses.{FindsEachPair};
 ghost use Rattle.abstract_steps_sound_analyses.specs.SoundParts.{CallsHaveSites, TextsLieOverCharacters, TestsAreProved, NoStepIsOpen};
 
 use cc_base::IntDomain;
 
-/// Each rule that a run of the program violates at a place is among what an analysis finds, where what is open holds.
-pub fn analyses_are_sound()
-    ensures { (flow : Flow) (list : List ℤ) (found : List Diag) → IsAnalysis flow list found → Suffices flow list → HoldsEachPair flow list found }
-{}
-
-/// So it is of each analysis, with no premise but that the row of the entry stands for the start of the unit.
+/// Each rule that a run of the program violates at a place is among what an analysis finds, where the row of the entry stands
+/// for the start of the unit.
 pub fn analyses_find_every_run()
     ensures { (flow : Flow) (list : List ℤ) (found : List Diag) → IsAnalysis flow list found → FindsEachPair flow list found }
 {}

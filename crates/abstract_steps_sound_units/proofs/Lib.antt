@@ -1,5 +1,6 @@
 pub mod SoundUnits
-pub mod PlainRuns
-pub mod PlainPrograms
-pub mod WorkedProgram
+mod CheckedUnits
+mod WorkedProgram
+mod WorkedOperands
+mod MetPremises
 mod TurnedSound

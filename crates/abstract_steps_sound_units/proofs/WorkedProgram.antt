@@ -50,11 +50,6 @@ use Rattle.flow_analysis.specs.CheckedPrograms.{IsChecked}
 use Rattle.abstract_steps_laws_own_starts.specs.CutStarts.{type_list}
 use Rattle.abstract_steps_sound_analyses.specs.SoundAnalyses.{IsViolatedIn}
 use Rattle.abstract_steps_sound_beginnings.specs.UnitStarts.{IsBaseOf, StartsAs}
-use Rattle.abstract_steps_sound_units.proofs.SoundUnits.{units_hold}
-use Rattle.abstract_steps_sound_units.specs.PlainPrograms.{is_plain_program}
-use Rattle.abstract_steps_sound_units.specs.WorkedPrograms.{MeetsAllPremises, IsFoundIn}
-use Rattle.abstract_steps_sound_units.proofs.PlainRuns.{plain_typed}
-use Rattle.abstract_steps_sound_units.proofs.PlainPrograms.{plain_suffices}
 
 none_some : {A : Type 0} (x : A) → None ≡ Some x → ⊥
 none_some x e = cc
@@ -131,43 +126,56 @@ module _ (some : Flow) where
   abbrev pointer_loaded : ℕ → List Instruction → List Instruction
   pointer_loaded column is = does column (op.Address 2 3 0) ∷ (does column (op.Load 3 2 scalar.Pointer) ∷ is)
 
+  abbrev pub allocation : Instruction
+  allocation = does 2 (op.Library (Some 1) Malloc (one 0) (Some 1) None)
+
+  abbrev pub entry_rest : List Instruction
+  entry_rest =
+      does 3 (op.Enter 3)
+      ∷ (does 4 (op.Address 2 3 0)
+      ∷ (does 5 (op.Address 3 0 0)
+      ∷ (does 6 (op.Store 2 3 scalar.Pointer None)
+      ∷ (does 7 op.Jump ∷ []))))
+
   abbrev entry_block : BasicBlock
   entry_block = record {
-    instructions = made
-        (does 1 (op.Constant 0 (pos 4) size)
-        ∷ (does 2 (op.Library (Some 1) Malloc (one 0) (Some 1) None)
-        ∷ (does 3 (op.Enter 3)
-        ∷ (does 4 (op.Address 2 3 0)
-        ∷ (does 5 (op.Address 3 0 0)
-        ∷ (does 6 (op.Store 2 3 scalar.Pointer None)
-        ∷ (does 7 op.Jump ∷ []))))))) (omega arith);
+    instructions = made (does 1 (op.Constant 0 (pos 4) size) ∷ (allocation ∷ entry_rest)) (omega arith);
     first_edge = 0;
     edges = 1;
     is_head = false;
   }
 
   -- while (*s)
+  abbrev pub head_instructions : List Instruction
+  head_instructions = pointer_loaded 8 (does 9 (op.Load 4 3 (scalar.Int char)) ∷ (does 10 (op.Branch 4 (scalar.Int char)) ∷ []))
+
   abbrev head_block : BasicBlock
   head_block = record {
-    instructions = made (pointer_loaded 8 (does 9 (op.Load 4 3 (scalar.Int char)) ∷ (does 10 (op.Branch 4 (scalar.Int char)) ∷ []))) (omega arith);
+    instructions = made head_instructions (omega arith);
     first_edge = 1;
     edges = 2;
     is_head = true;
   }
 
   -- s = s + 1
+  abbrev pub turn_instructions : List Instruction
+  turn_instructions = pointer_loaded 11 (does 12 (op.Shift 5 3 amount.One 1 false) ∷ (does 13 (op.Store 2 5 scalar.Pointer None) ∷ (does 14 op.Jump ∷ [])))
+
   abbrev turn_block : BasicBlock
   turn_block = record {
-    instructions = made (pointer_loaded 11 (does 12 (op.Shift 5 3 amount.One 1 false) ∷ (does 13 (op.Store 2 5 scalar.Pointer None) ∷ (does 14 op.Jump ∷ [])))) (omega arith);
+    instructions = made turn_instructions (omega arith);
     first_edge = 3;
     edges = 1;
     is_head = false;
   }
 
   -- *(s + 1)
+  abbrev pub last_instructions : List Instruction
+  last_instructions = pointer_loaded 15 (does 16 (op.Shift 5 3 amount.One 1 false) ∷ (does 17 (op.Load 4 5 (scalar.Int char)) ∷ (does 18 op.Stop ∷ [])))
+
   abbrev last_block : BasicBlock
   last_block = record {
-    instructions = made (pointer_loaded 15 (does 16 (op.Shift 5 3 amount.One 1 false) ∷ (does 17 (op.Load 4 5 (scalar.Int char)) ∷ (does 18 op.Stop ∷ [])))) (omega arith);
+    instructions = made last_instructions (omega arith);
     first_edge = 4;
     edges = 0;
     is_head = false;
@@ -209,18 +217,15 @@ module _ (some : Flow) where
 
   -- ---- premises
 
-  regular : is_regular program type_list ≡ true
+  pub regular : is_regular program type_list ≡ true
   regular = refl
 
-  started : has_start interval_lattice interval_numbers program ≡ true
+  pub started : has_start interval_lattice interval_numbers program ≡ true
   unfolding start_row start_objects start_object start_value
   started = refl
 
-  checked : IsChecked program type_list
+  pub checked : IsChecked program type_list
   checked = record { parts = refl; structs = refl; reaches = refl }
-
-  plain : is_plain_program 0 program ≡ true
-  plain = refl
 
   literal_is : IsBaseOf unit program.bases.items Literal (literal_type true 2) 0
   unfolding leaves_of zeros_of
@@ -235,7 +240,7 @@ module _ (some : Flow) where
   one_literal zero (suc k) b at there = absurd (none_some b there)
   one_literal (suc j) k b at there = absurd (none_some b at)
 
-  starts : StartsAs unit program
+  pub starts : StartsAs unit program
   starts = record {
     model = refl;
     table = table;
@@ -254,16 +259,6 @@ module _ (some : Flow) where
     typed = λ k o at. absurd (none_some o at);
   }
 
-  pub meets : MeetsAllPremises program type_list unit
-  meets = record {
-    regular = regular;
-    started = started;
-    checked = checked;
-    suffices = plain_suffices 0 program plain type_list refl;
-    starts = starts;
-    typed = plain_typed 0 program plain unit;
-  }
-
   -- ---- a run
 
   abbrev pub violation : Violation
@@ -273,11 +268,5 @@ module _ (some : Flow) where
   reads : found_in (flow_steps (flow_view program) 33 (flow_begin unit (flow_view program) (pos 1 ∷ []))) ≡ violation ∷ []
   reads = refl
 
-  violated : IsViolatedIn program unit violation
+  pub violated : IsViolatedIn program unit violation
   violated = record { draws = pos 1 ∷ []; steps = 33; there = subst (λ vs. Contains vs violation) (sym reads) (0, omega arith, refl) }
-
-  pub found : IsFoundIn program type_list unit violation
-  found = record {
-    violated = violated;
-    all = λ list a. units_hold program type_list list a meets.suffices unit starts meets.typed violation violated;
-  }

@@ -8,31 +8,19 @@ use Rattle.flow_program.specs.declared.programs.Flow.{Flow}
 use Rattle.flow_program_views.specs.ProgramViews.{flow_view}
 use Rattle.flow_lower.specs.Lowerings.{IsLowering}
 use Rattle.lib_models_effects.specs.Worlds.{Violation}
-use Rattle.abstract_steps_covered.specs.Covering.{HasTypedRuns}
 use Rattle.abstract_steps_sound_analyses.specs.SoundAnalyses.{IsViolatedIn}
 use Rattle.abstract_steps_sound_beginnings.specs.TypedInitializers.{HasTypedInitializers}
 use Rattle.abstract_steps_sound_beginnings.specs.UnitStarts.{StartsAs}
 use Rattle.abstract_steps_sound_lowered_starts.specs.LoweredStarts.{HasIntegerParameters}
 
--- each pair that a run of the unit by this program violates is found, where operands are of their types in its runs
-abbrev pub HoldsPairsOf : Flow → List Diag → UnitView → Type 0
-HoldsPairsOf flow found u = HasTypedRuns flow u → (v : Violation) → IsViolatedIn flow u v → Contains found (record { place = v.at; rule = v.rule })
-
--- of each unit with whose tables the program begins
-abbrev pub HoldsPairsOfUnits : Flow → List Diag → Type 0
-HoldsPairsOfUnits flow found = (u : UnitView) → StartsAs u flow → HoldsPairsOf flow found u
-
--- of the unit whose program it is, where the unit's initializers are typed and its entry takes integers
-abbrev pub HoldsPairsOfLowered : Flow → List Diag → Type 0
-HoldsPairsOfLowered flow found = (u : UnitView) (limits : Limits) → IsLowering u limits (flow_view flow) → HasTypedInitializers u → HasIntegerParameters u → HoldsPairsOf flow found u
-
--- ---- without a premise on operands
-
+-- each pair that a run of the unit by this program violates is found
 abbrev pub FindsPairsOf : Flow → List Diag → UnitView → Type 0
 FindsPairsOf flow found u = (v : Violation) → IsViolatedIn flow u v → Contains found (record { place = v.at; rule = v.rule })
 
+-- of each unit with whose tables the program begins
 abbrev pub FindsPairsOfUnits : Flow → List Diag → Type 0
 FindsPairsOfUnits flow found = (u : UnitView) → StartsAs u flow → FindsPairsOf flow found u
 
+-- of the unit whose program it is, where the unit's initializers are typed and its entry takes integers
 abbrev pub FindsPairsOfLowered : Flow → List Diag → Type 0
 FindsPairsOfLowered flow found = (u : UnitView) (limits : Limits) → IsLowering u limits (flow_view flow) → HasTypedInitializers u → HasIntegerParameters u → FindsPairsOf flow found u

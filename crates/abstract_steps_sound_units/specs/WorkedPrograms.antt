@@ -1,28 +1,29 @@
 -- A program with which all that the soundness of analyses supposes holds.
-use Rattle.std.specs.Prelude.{◌≡◌, ℤ, true, List}
+use Rattle.std.specs.Prelude.{◌≡◌, ℤ, true, List, Option}
 use Rattle.std.specs.List.{Contains}
 use Rattle.cc_base.specs.declared.diagnostics.Diag.{Diag}
 use Rattle.c_layout.specs.CheckedUnits.{UnitView}
 use Rattle.flow_program.specs.declared.programs.Flow.{Flow}
+use Rattle.interval_domain.specs.declared.intervals.Interval.{Interval}
 use Rattle.interval_domain.specs.IntervalLattice.{interval_lattice}
 use Rattle.interval_domain.specs.IntervalNumbers.{interval_numbers}
+use Rattle.value_domain.specs.declared.row_cells.Cell.{Cell}
+use Rattle.rule_checks_operands.specs.TypedRows.{is_typed_map}
 use Rattle.lib_models_effects.specs.Worlds.{Violation}
 use Rattle.flow_analysis.specs.Analyses.{IsAnalysis}
 use Rattle.flow_analysis.specs.CheckedPrograms.{IsChecked}
 use Rattle.abstract_steps_system.specs.FlowMachines.{has_start}
 use Rattle.abstract_steps_laws_programs.specs.RegularPrograms.{is_regular}
-use Rattle.abstract_steps_covered.specs.Covering.{HasTypedRuns}
-use Rattle.abstract_steps_sound_analyses.specs.SoundAnalyses.{Suffices, IsViolatedIn}
+use Rattle.abstract_steps_sound_analyses.specs.SoundAnalyses.{IsViolatedIn}
 use Rattle.abstract_steps_sound_beginnings.specs.UnitStarts.{StartsAs}
 
--- all premises but an analysis, and what one asks of its program
+-- what an analysis asks of its program, in each map of rows, and that the program begins with what is in the unit's tables
 pub record MeetsAllPremises (flow : Flow) (list : List ℤ) (u : UnitView) : Type 0 where
   pub regular : is_regular flow list ≡ true
   pub started : has_start interval_lattice interval_numbers flow ≡ true
   pub checked : IsChecked flow list
-  pub suffices : Suffices flow list
+  pub typed : (rows : List (Option (List (Cell Interval)))) → is_typed_map interval_lattice interval_numbers flow rows ≡ true
   pub starts : StartsAs u flow
-  pub typed : HasTypedRuns flow u
 
 -- the pair is violated in a run of the unit, and among what each analysis of the program finds
 pub record IsFoundIn (flow : Flow) (list : List ℤ) (u : UnitView) (v : Violation) : Type 0 where

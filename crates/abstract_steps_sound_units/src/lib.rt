@@ -5,6 +5,6 @@
 mod theorems;
 
 pub use theorems::{
-    lowered_runs_are_found, lowered_runs_are_sound, plain_programs_are_typed, premises_can_be_met,
-    turned_analyses_are_sound, unit_runs_are_found, unit_runs_are_sound,
+    checked_runs_are_found, lowered_runs_are_found, premises_can_be_met, turned_analyses_are_sound,
+    unit_runs_are_found,
 };

@@ -1,43 +1,33 @@
 //! What an analysis says of the runs of units. What is supposed beside an analysis is named in the specification of
 //! each theorem.
-ghost use Rattle.std.specs.Prelude.{ℤ, List, ◌≡◌, ℕ, true};
+ghost use Rattle.std.specs.Prelude.{ℤ, List};
 ghost use Rattle.cc_base.specs.declared.diagnostics.Diag.{Diag};
 ghost use Rattle.flow_program.specs.declared.programs.Flow.{Flow};
 ghost use Rattle.flow_analysis.specs.Analyses.{IsAnalysis};
-ghost use Rattle.abstract_steps_sound_analyses.specs.SoundAnalyses.{Suffices};
-ghost use Rattle.abstract_steps_sound_units.specs.SoundUnits.{HoldsPairsOfUnits, HoldsPairsOfLowered, FindsPairsOfUnits, FindsPairsOfLowered};
+ghost use Rattle.abstract_steps_sound_units.specs.SoundUnits.{FindsPairsOfUnits, FindsPairsOfLowered};
 ghost use Rattle.c_layout.specs.CheckedUnits.{UnitView};
 ghost use Rattle.lib_models_effects.specs.Worlds.{Violation};
-ghost use Rattle.abstract_steps_covered.specs.Covering.{HasTypedRuns};
 ghost use Rattle.abstract_steps_laws_own_starts.specs.CutStarts.{type_list};
-ghost use Rattle.abstract_steps_sound_units.specs.PlainPrograms.{is_plain_program};
+ghost use Rattle.abstract_steps_sound_units.specs.CheckedUnits.{FindsPairsOfChecked, FindsTurnedPairsOfChecked};
 ghost use Rattle.abstract_steps_sound_units.specs.WorkedPrograms.{MeetsAllPremises, IsFoundIn};
 ghost use Rattle.abstract_steps_sound_units.specs.TurnedSound.{FindsTurnedPairs};
 
 /// Each rule that a run of a unit violates at a place is among what an analysis of the program finds, where the program
 /// begins with what is in the unit's tables.
-pub fn unit_runs_are_sound()
-    ensures { (flow : Flow) (list : List ℤ) (found : List Diag) → IsAnalysis flow list found → Suffices flow list → HoldsPairsOfUnits flow found }
-{}
-
-/// So is each rule that a run of a unit violates by its lowered program.
-pub fn lowered_runs_are_sound()
-    ensures { (flow : Flow) (list : List ℤ) (found : List Diag) → IsAnalysis flow list found → Suffices flow list → HoldsPairsOfLowered flow found }
-{}
-
-/// So it is, without a premise on the program or on runs, since an analysis has seen what is supposed of them.
 pub fn unit_runs_are_found()
     ensures { (flow : Flow) (list : List ℤ) (found : List Diag) → IsAnalysis flow list found → FindsPairsOfUnits flow found }
 {}
 
-/// And of a unit and its lowered program.
+/// So is each rule that a run of a unit violates by its lowered program.
 pub fn lowered_runs_are_found()
     ensures { (flow : Flow) (list : List ℤ) (found : List Diag) → IsAnalysis flow list found → FindsPairsOfLowered flow found }
 {}
 
-/// In each run of a program that is plain by a look at its instructions operands are such as these suppose.
-pub fn plain_programs_are_typed()
-    ensures { (size : ℕ) (flow : Flow) → is_plain_program size flow ≡ true → (u : UnitView) → HasTypedRuns flow u }
+/// And each rule that a run of a checked unit violates by its lowered program, also where the program is analysed with
+/// turns unrolled: the entry of such a unit takes integers.
+pub fn checked_runs_are_found()
+    ensures runs { (flow : Flow) (list : List ℤ) (found : List Diag) → IsAnalysis flow list found → FindsPairsOfChecked flow found }
+    ensures turned { FindsTurnedPairsOfChecked }
 {}
 
 /// There is a program, with a loop over a string and an allocation, of which all premises hold: a run of it reads behind

@@ -7,6 +7,7 @@ use Rattle.cc_base.specs.declared.diagnostics.Diag.{Diag}
 use Rattle.flow_program.specs.declared.programs.Flow.{Flow}
 use Rattle.interval_domain.specs.IntervalLattice.{interval_order, interval_rounding, interval_heights}
 use Rattle.interval_domain.specs.IntervalNumbers.{interval_bounding}
+use Rattle.flow_analysis.specs.Analyses.{IsAnalysis}
 use Rattle.store_domain_sound_programs.proofs.WellFormedPremises.{meets_premises}
 use Rattle.abstract_steps_rows.specs.IntervalEnds.{interval_ends}
 use Rattle.abstract_steps_laws_programs.proofs.RegularPrograms.{regular_of}
@@ -26,6 +27,16 @@ use Rattle.cert_check_programs.specs.Certificates.{IsVerified}
 use Rattle.cert_check_programs.specs.declared.checked_maps.Verified.TheVariants.{Found}
 use Rattle.cert_check_sound.specs.SoundCertificates.{IsCertifiable, HoldsPairsOfUnits, HoldsPairsOfLowered}
 use Rattle.cert_check_sound.proofs.CertifiedMaps.{certified_begins, certified_carried}
+
+pub certifiable_of : (flow : Flow) (list : List ℤ) (found : List Diag) → IsAnalysis flow list found → IsCertifiable flow list
+certifiable_of flow list found a = record {
+  started = a.started;
+  regular = a.regular;
+  checked = a.checked;
+  rows = a.rows;
+  inductive = a.inductive;
+  typed = a.typed;
+}
 
 pub holds_each_pair : (flow : Flow) (list : List ℤ) (text : Bytes) (found : Vec Diag) → IsCertifiable flow list → IsVerified flow text (Found found) → FindsEachPair flow list found.items
 holds_each_pair flow list text found c verified u start v there =

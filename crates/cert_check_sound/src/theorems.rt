@@ -8,6 +8,7 @@ ghost use Rattle.flow_program.specs.declared.programs.Flow.{Flow};
 ghost use Rattle.interval_domain.specs.IntervalLattice.{interval_lattice};
 ghost use Rattle.interval_domain.specs.IntervalNumbers.{interval_numbers};
 ghost use Rattle.lib_models_effects.specs.Worlds.{Violation};
+ghost use Rattle.flow_analysis.specs.Analyses.{IsAnalysis};
 ghost use Rattle.abstract_steps_system.specs.FlowMachines.{has_start};
 ghost use Rattle.abstract_steps_laws_programs.specs.RegularPrograms.{is_regular};
 ghost use Rattle.abstract_steps_laws_own_rows.specs.OwnLists.{ReachesTypes};
@@ -52,6 +53,11 @@ pub fn accepted_certificates_hold_runs()
 pub fn accepted_certificates_hold_units()
     ensures units { (flow : Flow) (list : List ℤ) (text : Bytes) (found : Vec Diag) → IsCertifiable flow list → IsVerified flow text (Found found) → HoldsPairsOfUnits flow found.items }
     ensures lowered { (flow : Flow) (list : List ℤ) (text : Bytes) (found : Vec Diag) → IsCertifiable flow list → IsVerified flow text (Found found) → HoldsPairsOfLowered flow found.items }
+{}
+
+/// What is supposed of a program holds of each one that was analysed.
+pub fn analysed_programs_are_certifiable()
+    ensures { (flow : Flow) (list : List ℤ) (found : List Diag) → IsAnalysis flow list found → IsCertifiable flow list }
 {}
 
 /// There is a program, which divides by 0, of which all premises hold, and a certificate of it that is accepted, with a

@@ -1,6 +1,6 @@
 -- The rows of a program grow as often as its cells, first zeros and allocation states together.
 use Rattle.std.specs.Prelude.{◌≡◌, ℕ, zero, suc, ◌+◌, ◌-◌, ◌*◌, ◌^◌, ◌<◌, min, Bool, true, false, cond, List, [], ◌∷◌, length, refl}
-use Rattle.std.proofs.Common.{arith, sym, subst, ap, ◌∙◌}
+use Rattle.std.proofs.Common.{arith, ap}
 use Rattle.std.proofs.Math.Nat.{add-mul}
 use Rattle.cc_base.specs.InductiveMap.{heads_below}
 use Rattle.cc_base.specs.declared.limit_table.Limits.{Limits}
@@ -13,7 +13,7 @@ use Rattle.abstract_steps_rows.specs.CellKinds.{before, state_before, values_of,
 use Rattle.abstract_steps_system.specs.FlowMachines.{is_head_at}
 use Rattle.abstract_steps_laws_programs.proofs.WellFormed.{laid_out}
 use Rattle.flow_analysis.specs.StepBounds.{growths, row_growths, most_edges}
-use Rattle.flow_analysis_laws.specs.CountedSteps.{all_zeros, all_states, counted_growths, visits}
+use Rattle.flow_analysis_laws.specs.CountedSteps.{all_zeros, all_states, visits}
 
 one_more : (m g : ℕ) → suc m * g ≡ g + m * g
 one_more m g =

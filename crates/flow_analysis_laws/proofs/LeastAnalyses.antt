@@ -1,7 +1,7 @@
 -- What least maps and analyses of regular programs have in common.
-use Rattle.std.specs.Prelude.{◌≡◌, ℕ, zero, suc, ℤ, true, Option, Some, None, List, [], ◌∷◌, length, Contains, refl}
+use Rattle.std.specs.Prelude.{◌≡◌, ℕ, suc, ℤ, true, Option, Some, None, List, [], ◌∷◌, length, Contains, refl}
 use Rattle.std.proofs.Common.{arith, sym, subst, ap, ◌∙◌}
-use Rattle.cc_base.specs.InductiveMap.{IsInductive, IsLeast, row_at}
+use Rattle.cc_base.specs.InductiveMap.{row_at}
 use Rattle.cc_base.specs.RowLaws.{row_leq-antisym}
 use Rattle.cc_base.specs.Rows.{reached_leq}
 use Rattle.cc_base.specs.declared.diagnostics.Diag.{Diag}
@@ -12,7 +12,7 @@ use Rattle.value_domain.specs.declared.row_cells.Cell.{Cell}
 use Rattle.value_domain.specs.Cells.{cell_order}
 use Rattle.abstract_steps_laws_programs.specs.RegularPrograms.{is_regular}
 use Rattle.rule_checks_laws.proofs.LeastMaps.{regular_admits_least}
-use Rattle.flow_analysis.specs.Analyses.{row_lattice, machine_of, admitted_pairs, IsAdmitted, IsAnalysis}
+use Rattle.flow_analysis.specs.Analyses.{row_lattice, admitted_pairs, IsAnalysis}
 use Rattle.flow_analysis_laws.specs.LeastAnalyses.{IsLeastMap, IsLeastAnalysis, AdmitsExactly, AreAlike}
 use Rattle.flow_analysis_laws.proofs.OrderedSets.{one_list}
 

@@ -1,12 +1,12 @@
 -- Lists of diagnostics in order with the same diagnostics are the same lists.
-use Rattle.std.specs.Prelude.{◌≡◌, List, [], ◌∷◌, Contains, refl, ◌⊎◌}
+use Rattle.std.specs.Prelude.{◌≡◌, List, [], ◌∷◌, Contains, refl}
 use Rattle.std.specs.Ordering.{nat_cmp, ordering_then, ordering_reverse}
 use Rattle.std.specs.Cmp.{then_flip}
 use Rattle.std.specs.List.{AllByRecursion}
 use Rattle.std.specs.List.Sorted.{IsStrictlySortedBy}
 use Rattle.std.specs.declared.cmp.Ordering.{Ordering}
 use Rattle.std.specs.declared.cmp.Ordering.TheVariants.{Less, Greater}
-use Rattle.std.proofs.Common.{sym, subst, subst₂, ap, ap₂, ◌∙◌, inl, inr}
+use Rattle.std.proofs.Common.{sym, subst, subst₂, ap, ◌∙◌, inl, inr}
 use Rattle.std.proofs.lemmas.Cmp.{nat_cmp_total}
 use Rattle.cc_base.specs.DiagnosticOrder.{rule_rank, place_compare, diagnostic_compare}
 use Rattle.cc_base.specs.declared.diagnostics.Diag.{Diag}

@@ -1,7 +1,6 @@
 -- Tables that exactness refuses: each is caught by a law of least maps, by values that show it.
-use Rattle.std.specs.Prelude.{◌≡◌, ℤ, pos, negsuc, Bool, true, false, cond, is_none, is_some, Option, Some, None, List, [], ◌∷◌, Contains, refl, ◌⊎◌}
-use Rattle.std.proofs.Common.{arith, inl, inr}
-use Rattle.std.proofs.lemmas.Int.{ints}
+use Rattle.std.specs.Prelude.{◌≡◌, ℤ, pos, negsuc, true, false, cond, is_none, is_some, List, [], ◌∷◌, refl}
+use Rattle.std.proofs.Common.{inl}
 use lib.Signed.{le_z_yes}
 use Rattle.cc_base.specs.declared.diagnostics.Rule.TheVariants.{Nonnullcs}
 use Rattle.interval_domain.specs.declared.spans.Span.{Span}
@@ -11,7 +10,7 @@ use Rattle.interval_domain.specs.Nearest.{Has}
 use Rattle.interval_domain.specs.Spans.{interval_bounds}
 use Rattle.interval_domain.specs.IntervalOrder.{interval_leq}
 use Rattle.abstract_steps_checks.specs.declared.violation_sets.Violations.{Violations}
-use Rattle.abstract_steps_checks.specs.ViolationSets.{no_violations, violates}
+use Rattle.abstract_steps_checks.specs.ViolationSets.{no_violations}
 use Rattle.abstract_steps_laws_values.specs.ViolationsBelow.{ViolationsBelow}
 
 abbrev one : Interval

@@ -1,6 +1,6 @@
 -- Analyses by the least inductive map.
 use Rattle.std.specs.Prelude.{◌≡◌, ℤ, List, Option, Contains}
-use Rattle.cc_base.specs.InductiveMap.{IsInductive, IsLeast, row_at}
+use Rattle.cc_base.specs.InductiveMap.{IsInductive, IsLeast}
 use Rattle.cc_base.specs.declared.diagnostics.Diag.{Diag}
 use Rattle.flow_program.specs.declared.programs.Flow.{Flow}
 use Rattle.value_domain.specs.declared.row_cells.Cell.{Cell}

@@ -41,13 +41,7 @@ fn is_pointer_kind(kind: Scalar) -> bool
     }
 }
 
-fn compares_pointer(
-    model: &Model,
-    bases: &[BaseInfo],
-    base: u32,
-    kind: Scalar,
-    right: Side,
-) -> bool
+fn compares_pointer(model: &Model, bases: &[BaseInfo], base: u32, kind: Scalar, right: Side) -> bool
     ensures { result ≡ spec.compares_pointer model.now bases.now base kind right }
 {
     match right {
@@ -69,12 +63,7 @@ fn compares_pointers(model: &Model, bases: &[BaseInfo], left: Side, right: Side)
     }
 }
 
-fn compares_scalars(
-    model: &Model,
-    bases: &[BaseInfo],
-    test: Test,
-    common: Option<IntType>,
-) -> bool
+fn compares_scalars(model: &Model, bases: &[BaseInfo], test: Test, common: Option<IntType>) -> bool
     ensures { result ≡ spec.compares_scalars model.now bases.now test common }
 {
     match common {

@@ -132,9 +132,7 @@ fn spell_characters(bases: &[BaseInfo], instructions: &[Instruction]) -> bool
 fn blocks_spell_characters(bases: &[BaseInfo], blocks: &[BasicBlock]) -> bool
     ensures { result ≡ list_all (λ b. list_all (λ i. spec.spells_characters bases.now i.operation) b.instructions.items) blocks.now }
 {
-    blocks
-        .iter()
-        .all(|block| spell_characters(bases, block.instructions.as_slice()))
+    blocks.iter().all(|block| spell_characters(bases, block.instructions.as_slice()))
 }
 
 /// Whether each text that a program spells lies over characters.

@@ -3,7 +3,9 @@ use Rattle.std.specs.Prelude.{ℕ, ◌+◌, pos, Bool, true, not, ◌&&◌, ◌|
 use Rattle.std.specs.List.{list_all}
 use Rattle.cc_base.specs.Lattices.{LatticeOf}
 use Rattle.cc_base.specs.IntegerDomains.{IntegersOf}
+use Rattle.cc_base.specs.IntegerTypes.{is_size}
 use Rattle.cc_base.specs.NumberRanges.{Range}
+use Rattle.cc_base.specs.declared.int_types.IntType.{IntType}
 use Rattle.c_layout.specs.declared.library_functions.LibFn.{LibFn}
 use Rattle.c_layout.specs.declared.library_functions.LibFn.TheVariants as f
 use Rattle.flow_program.specs.declared.machine_instructions.Instruction.{Instruction}
@@ -25,6 +27,10 @@ is_natural None = true
 is_natural (Some p) = int_le (pos 0) p.0
 
 module _ {I : Type 0} where
+  -- all numbers are of a type, which has a size
+  abbrev pub is_within : IntegersOf I → IntType → Value I → Bool
+  is_within n kind v = is_size kind.bytes && range_fits kind (n.bounds v.num)
+
   -- numbers alone, or pointers alone
   abbrev pub is_of_kind : IntegersOf I → Scalar → Value I → Bool
   is_of_kind n (scalar.Int kind) v = not (is_any v.pointer || v.pointer.ended)
@@ -51,8 +57,8 @@ module _ {I : Type 0} where
   -- the left operand of an operator lies in the operator's type, what is converted is of the type from which it is
   -- converted, and no size is negative
   unfoldable pub has_operands : LatticeOf I → IntegersOf I → Flow → List (Cell I) → Operation → Bool
-  has_operands l n flow row (op.Binary to o left right kind) = range_fits kind (n.bounds (temp_value l n flow row left).num)
-  has_operands l n flow row (op.Unary to o operand kind) = range_fits kind (n.bounds (temp_value l n flow row operand).num)
+  has_operands l n flow row (op.Binary to o left right kind) = is_within n kind (temp_value l n flow row left)
+  has_operands l n flow row (op.Unary to o operand kind) = is_within n kind (temp_value l n flow row operand)
   has_operands l n flow row (op.Convert to operand from kind) = is_of_kind n from (temp_value l n flow row operand)
   has_operands l n flow row (op.Library to name arguments newest size) = takes_size l n flow row name arguments.items
   has_operands l n flow row _ = true

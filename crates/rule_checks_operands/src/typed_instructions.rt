@@ -1,9 +1,8 @@
 //! Operands of instructions in the rows before them.
 ghost use Rattle.std.specs.Prelude.{◌≡◌};
 ghost use Rattle.std.specs.List.{list_all};
+ghost use Rattle.cc_base.specs.IntegerTypes.{is_size};
 ghost use Rattle.rule_checks.specs.AdmittedRules.{instructions_of, reached_row, row_behind};
-ghost use Rattle.value_domain.specs.ValueTables.{range_fits};
-ghost use Rattle.abstract_steps_checks.specs.Temporaries.{temp_value};
 ghost use Rattle.rule_checks_operands.specs.TypedRows as spec;
 
 use abstract_steps_checks::temp_value;
@@ -23,6 +22,23 @@ fn is_natural(range: Option<(i128, i128)>) -> bool
     }
 }
 
+fn is_size(bytes: u8) -> bool
+    ensures { result ≡ is_size bytes }
+{
+    bytes == 1 || (bytes == 2 || (bytes == 4 || bytes == 8))
+}
+
+/// Whether all numbers of a value are of a type, which has a size.
+fn is_within<I: IntDomain>(kind: IntType, value: Value<I>) -> bool
+    ensures { result ≡ spec.is_within I.numbers kind value }
+{
+    if is_size(kind.bytes) {
+        range_fits(kind, value.num.bounds())
+    } else {
+        false
+    }
+}
+
 /// Whether a value is of numbers alone, or of pointers alone.
 fn is_of_kind<I: IntDomain>(kind: Scalar, value: Value<I>) -> bool
     ensures { result ≡ spec.is_of_kind I.numbers kind value }
@@ -33,7 +49,7 @@ fn is_of_kind<I: IntDomain>(kind: Scalar, value: Value<I>) -> bool
     }
 }
 
-fn is_size<I: IntDomain>(flow: &Flow, row: &[Cell<I>], temp: u32) -> bool
+fn is_size_in<I: IntDomain>(flow: &Flow, row: &[Cell<I>], temp: u32) -> bool
     ensures { result ≡ spec.is_size_in I.lattice I.numbers flow.now row.now temp }
 {
     is_natural(temp_value(flow, row, temp).num.bounds())
@@ -42,14 +58,14 @@ fn is_size<I: IntDomain>(flow: &Flow, row: &[Cell<I>], temp: u32) -> bool
 fn are_sizes<I: IntDomain>(flow: &Flow, row: &[Cell<I>], temps: &[u32]) -> bool
     ensures { result ≡ list_all (spec.is_size_in I.lattice I.numbers flow.now row.now) temps.now }
 {
-    temps.iter().all(|temp| is_size(flow, row, *temp))
+    temps.iter().all(|temp| is_size_in(flow, row, *temp))
 }
 
 fn has_third_size<I: IntDomain>(flow: &Flow, row: &[Cell<I>], temps: &[u32]) -> bool
     ensures { result ≡ spec.has_third_size I.lattice I.numbers flow.now row.now temps.now }
 {
     match temps {
-        [_, _, third] => is_size(flow, row, *third),
+        [_, _, third] => is_size_in(flow, row, *third),
         _ => true,
     }
 }
@@ -67,20 +83,14 @@ fn takes_size<I: IntDomain>(flow: &Flow, row: &[Cell<I>], name: LibFn, temps: &[
     }
 }
 
-fn fits_temp<I: IntDomain>(flow: &Flow, row: &[Cell<I>], temp: u32, kind: IntType) -> bool
-    ensures { result ≡ range_fits kind (I.numbers.bounds (temp_value I.lattice I.numbers flow.now row.now temp).num) }
-{
-    range_fits(kind, temp_value(flow, row, temp).num.bounds())
-}
-
 /// Whether the operands of an instruction lie within the types that it names, in the row before it.
 #[tactic(auto, unfolding(crate::specs::TypedRows::has_operands))]
 pub fn has_operands<I: IntDomain>(flow: &Flow, row: &[Cell<I>], operation: &Operation) -> bool
     ensures { result ≡ spec.has_operands I.lattice I.numbers flow.now row.now operation.now }
 {
     match operation {
-        Operation::Binary(_, _, left, _, kind) => fits_temp(flow, row, *left, *kind),
-        Operation::Unary(_, _, operand, kind) => fits_temp(flow, row, *operand, *kind),
+        Operation::Binary(_, _, left, _, kind) => is_within(*kind, temp_value(flow, row, *left)),
+        Operation::Unary(_, _, operand, kind) => is_within(*kind, temp_value(flow, row, *operand)),
         Operation::Convert(_, operand, from, _) => {
             is_of_kind(*from, temp_value(flow, row, *operand))
         }
@@ -92,15 +102,14 @@ pub fn has_operands<I: IntDomain>(flow: &Flow, row: &[Cell<I>], operation: &Oper
 }
 
 /// Whether those of an instruction do, where the row before it is reached.
-fn is_typed_at<I: IntDomain>(
-    reached: bool,
-    flow: &Flow,
-    row: &[Cell<I>],
-    one: &Instruction,
-) -> bool
+fn is_typed_at<I: IntDomain>(reached: bool, flow: &Flow, row: &[Cell<I>], one: &Instruction) -> bool
     ensures { result ≡ spec.is_typed_at I.lattice I.numbers flow.now one.now (reached_row reached row.now) }
 {
-    if reached { has_operands(flow, row, &one.operation) } else { true }
+    if reached {
+        has_operands(flow, row, &one.operation)
+    } else {
+        true
+    }
 }
 
 /// Makes of the row before an instruction, where it is reached, the row behind it; false where no run

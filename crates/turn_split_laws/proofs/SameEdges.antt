@@ -1,5 +1,5 @@
 -- What an edge makes of a row hangs on its view, on that of the instruction before it and on the parts of its program.
-use Rattle.std.specs.Prelude.{◌≡◌, ℕ, Bool, true, false, cond, Option, Some, None, List, option_map, slice_get, refl}
+use Rattle.std.specs.Prelude.{◌≡◌, ℕ, cond, Option, Some, None, List, option_map, refl}
 use Rattle.std.proofs.Common.{sym, ap, ap₂, ◌∙◌}
 use Rattle.cc_base.specs.Lattices.{LatticeOf}
 use Rattle.cc_base.specs.IntegerDomains.{IntegersOf}

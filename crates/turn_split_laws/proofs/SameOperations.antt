@@ -1,7 +1,7 @@
 -- What an operation makes of a row, and what it may violate, hang on its view and on the parts of its program.
-use Rattle.std.specs.Prelude.{◌≡◌, ℕ, min, Bool, true, false, cond, Option, Some, None, List, [], ◌∷◌, map, option_map, slice_get, length, refl}
+use Rattle.std.specs.Prelude.{◌≡◌, ℕ, min, Bool, true, false, cond, Option, Some, None, List, option_map, slice_get, length, refl}
 use Rattle.std.specs.Global.{Vec}
-use Rattle.std.proofs.Common.{sym, subst, ap, ap₂, ◌∙◌}
+use Rattle.std.proofs.Common.{sym, ap, ap₂, ◌∙◌}
 use Rattle.std.proofs.lemmas.Option.{slice_get-map}
 use Rattle.std.proofs.Math.Nat.{ℕ_set}
 use mathlib.Core.HLevel.{Σ_prop_path}
@@ -9,7 +9,7 @@ use Rattle.cc_base.specs.Lattices.{LatticeOf}
 use Rattle.cc_base.specs.IntegerDomains.{IntegersOf}
 use Rattle.cc_base.specs.declared.integer_operators.Rel.{Rel}
 use Rattle.cc_base.specs.declared.integer_operators.Rel.TheVariants.{Lt, Le, Gt, Ge, Eq, Ne}
-use Rattle.c_layout.specs.StructViews.{StructView, struct_view, structs_view}
+use Rattle.c_layout.specs.StructViews.{StructView, struct_view}
 use Rattle.c_layout.specs.declared.struct_table.StructType.{StructType}
 use Rattle.c_layout.specs.declared.library_functions.LibFn.{LibFn}
 use Rattle.c_layout.specs.declared.library_functions.LibFn.TheVariants as fn_of

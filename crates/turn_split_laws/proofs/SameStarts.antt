@@ -1,6 +1,6 @@
 -- The row of the entry hangs on the parts of a program.
-use Rattle.std.specs.Prelude.{◌≡◌, ℕ, ◌+◌, Bool, true, false, cond, Option, Some, None, List, [], ◌∷◌, map, replicate, refl}
-use Rattle.std.proofs.Common.{sym, subst, ap, ap₂, ◌∙◌}
+use Rattle.std.specs.Prelude.{◌≡◌, ℕ, ◌+◌, cond, Option, Some, None, List, [], ◌∷◌, map, refl}
+use Rattle.std.proofs.Common.{sym, ap, ap₂, ◌∙◌}
 use Rattle.cc_base.specs.Lattices.{LatticeOf}
 use Rattle.cc_base.specs.IntegerDomains.{IntegersOf}
 use Rattle.c_layout.specs.CheckedUnits.{StaticStoreView, static_store_view}
@@ -15,7 +15,7 @@ use Rattle.flow_program.specs.declared.programs.InitialObject.{InitialObject}
 use Rattle.flow_program.specs.declared.programs.InitialValue.{InitialValue}
 use Rattle.flow_program.specs.declared.programs.InitialValue.TheVariants as init
 use Rattle.flow_program.specs.declared.programs.ParameterInput.{ParameterInput}
-use Rattle.flow_program_views.specs.ProgramViews.{BytesView, Stored, Spelled, bytes, InitialView, initial}
+use Rattle.flow_program_views.specs.ProgramViews.{Stored, Spelled, bytes, InitialView, initial}
 use Rattle.value_domain.specs.declared.row_cells.Cell.{Cell}
 use Rattle.value_domain.specs.declared.values.Value.{Value}
 use Rattle.value_domain.specs.ValueTables.{pointer_value}
@@ -24,7 +24,7 @@ use Rattle.store_domain.specs.ObjectLives.{clear}
 use Rattle.store_domain.specs.Spelling.{spell}
 use Rattle.store_domain.specs.Stores.{store}
 use Rattle.store_domain.specs.Walks.{walk}
-use Rattle.abstract_steps.specs.StartRows.{with_size, same_object, base_in, static_class, pointer_into, static_pointer, static_value, store_static, start_store, store_at, start_stores, start_value, start_object, object_behind, object_at, start_objects, start_parameter, parameter_at, start_parameters, empty_row, started, start_row}
+use Rattle.abstract_steps.specs.StartRows.{with_size, same_object, base_in, static_class, pointer_into, static_pointer, static_value, store_static, start_store, store_at, start_stores, start_value, start_object, object_at, start_objects, start_parameter, parameter_at, start_parameters, empty_row, started, start_row}
 use Rattle.turn_split_laws.specs.SameParts.{SameParts}
 use Rattle.turn_split_laws.proofs.SameOperations.{core, core_is}
 

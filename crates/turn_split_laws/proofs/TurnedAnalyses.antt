@@ -1,5 +1,5 @@
 -- What the analysis finds in a program with turns unrolled, it finds in the program.
-use Rattle.std.specs.Prelude.{◌≡◌, ℕ, ℤ, true, List, length, Contains}
+use Rattle.std.specs.Prelude.{◌≡◌, ℕ, ℤ, true, List, Contains}
 use Rattle.std.proofs.Common.{sym, ◌∙◌}
 use Rattle.std.proofs.lemmas.List.{length-map}
 use Rattle.cc_base.specs.declared.diagnostics.Diag.{Diag}

@@ -1,5 +1,5 @@
 -- A map of a program, put at every copy, is one of the program with turns unrolled.
-use Rattle.std.specs.Prelude.{◌≡◌, ℕ, zero, suc, ◌+◌, ◌*◌, ◌<◌, ◌≤◌, ℤ, Bool, true, false, ◌&&◌, ◌||◌, nat_lt, Option, Some, None, List, [], ◌∷◌, ◌++◌, map, option_map, length, slice_get, replicate, refl, ◌⊎◌}
+use Rattle.std.specs.Prelude.{◌≡◌, ℕ, zero, suc, ◌*◌, ◌<◌, ◌≤◌, ℤ, Bool, true, nat_lt, Option, Some, None, List, [], ◌∷◌, map, option_map, length, slice_get, replicate, refl}
 use Rattle.std.specs.List.{list_all}
 use Rattle.std.proofs.Common.{arith, sym, subst, subst₂, ap, ap₂, ◌∙◌, inl, inr}
 use Rattle.std.proofs.lemmas.Bool.{cases_lt, and_parts, ltb-true}
@@ -13,7 +13,7 @@ use Rattle.cc_base.specs.Rows.{reached_leq}
 use Rattle.flow_program.specs.declared.programs.Flow.{Flow}
 use Rattle.flow_program.specs.declared.flow_edges.Edge.{Edge}
 use Rattle.flow_program.specs.declared.machine_instructions.Instruction.{Instruction}
-use Rattle.flow_lower_tasks.specs.Acts.{Act, Step, step}
+use Rattle.flow_lower_tasks.specs.Acts.{Step, step}
 use Rattle.flow_program_views.specs.ProgramViews.{EdgeView, block, edge, flow_view}
 use Rattle.value_domain.specs.declared.row_cells.Cell.{Cell}
 use Rattle.value_domain.specs.declared.row_cells.Cell.TheVariants.{Nothing}
@@ -23,11 +23,11 @@ use Rattle.abstract_steps.specs.Edges as edges
 use Rattle.abstract_steps_rows.specs.OwnRows.{is_own_row}
 use Rattle.abstract_steps_rows.specs.FittedRows.{row_fit, reached_fit}
 use Rattle.abstract_steps_system.specs.BlockPasses.{instructions_of, row_behind, rows_behind, block_end, edge_behind, edge_end}
-use Rattle.abstract_steps_system.specs.FlowMachines.{edge_at, known_start, start_of, through, flow_machine, is_head_at, no_edge}
+use Rattle.abstract_steps_system.specs.FlowMachines.{edge_at, known_start, start_of, through, flow_machine, is_head_at}
 use Rattle.abstract_steps_system.specs.SystemChecks.{is_sound_edge, is_in_order, is_few, is_system}
-use Rattle.turn_split.specs.Turns.{copies, last_copy, number_in, copy_behind, all_copies, split, edge_copy}
+use Rattle.turn_split.specs.Turns.{copies, last_copy, number_in, copy_behind, all_copies, split}
 use Rattle.turn_split_laws.specs.SameParts.{SameParts}
-use Rattle.turn_split_runs.proofs.CopiedLists.{Placed, placed, copies_length, copy_at, number_below}
+use Rattle.turn_split_runs.proofs.CopiedLists.{placed, copies_length, copy_at}
 use Rattle.turn_split_laws.proofs.SameOperations.{operate_same}
 use Rattle.turn_split_laws.proofs.SameEdges.{follow_same}
 use Rattle.turn_split_laws.proofs.SameStarts.{start_same}

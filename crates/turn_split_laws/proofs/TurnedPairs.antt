@@ -1,11 +1,10 @@
 -- What the copies of a map admit of a program with turns unrolled, the map admits of the program.
-use Rattle.std.specs.Prelude.{◌≡◌, ℕ, zero, suc, ◌+◌, ◌*◌, ◌<◌, ℤ, true, Option, Some, None, List, [], ◌∷◌, ◌++◌, map, length, Contains, slice_get, refl, ◌⊎◌}
+use Rattle.std.specs.Prelude.{◌≡◌, ℕ, zero, suc, ◌+◌, ◌<◌, Option, Some, None, List, [], ◌∷◌, ◌++◌, map, length, Contains, refl}
 use Rattle.std.proofs.Common.{arith, sym, subst, ap, ap₂, ◌∙◌, inl, inr}
 use Rattle.cc_base.specs.Lattices.{LatticeOf}
 use Rattle.cc_base.specs.IntegerDomains.{IntegersOf}
 use Rattle.cc_base.specs.InductiveMap.{row_at}
 use Rattle.cc_base.specs.declared.diagnostics.Diag.{Diag}
-use Rattle.cc_base.specs.declared.diagnostics.Place.{Place}
 use Rattle.flow_program.specs.declared.programs.Flow.{Flow}
 use Rattle.flow_program.specs.declared.machine_instructions.Instruction.{Instruction}
 use Rattle.flow_lower_tasks.specs.Acts.{Step, step}

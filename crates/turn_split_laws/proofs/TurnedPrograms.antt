@@ -1,19 +1,18 @@
 -- The blocks and edges of a program with turns unrolled are copies of those of the program.
-use Rattle.std.specs.Prelude.{◌≡◌, ℕ, ◌+◌, ◌-◌, ◌*◌, ◌<◌, ◌==◌, nat_lt, Bool, true, false, cond, Option, Some, None, List, [], ◌∷◌, map, option_map, length, slice_get, refl}
-use Rattle.std.proofs.Common.{arith, sym, subst, ap, ap₂, ◌∙◌}
+use Rattle.std.specs.Prelude.{◌≡◌, ℕ, ◌+◌, ◌-◌, ◌*◌, ◌<◌, ◌==◌, nat_lt, Bool, true, false, cond, Option, Some, None, List, [], map, option_map, length, slice_get, refl}
+use Rattle.std.proofs.Common.{arith, sym, ap, ◌∙◌}
 use Rattle.std.proofs.lemmas.Bool.{cond_both, ltb-true}
 use Rattle.std.proofs.lemmas.List.{length-map}
 use Rattle.std.proofs.lemmas.Option.{slice_get-map, slice_get-get_or, get_or_from_slice_get}
 use Rattle.flow_program.specs.declared.programs.Flow.{Flow}
 use Rattle.flow_program.specs.declared.basic_blocks.BasicBlock.{BasicBlock}
 use Rattle.flow_program.specs.declared.flow_edges.Edge.{Edge}
-use Rattle.flow_program.specs.declared.machine_instructions.Instruction.{Instruction}
 use Rattle.flow_lower_tasks.specs.Acts.{Step, step}
 use Rattle.flow_program_views.specs.ProgramViews.{BlockView, EdgeView, FlowView, block, edge, flow_view}
 use Rattle.abstract_steps.specs.Edges.{last_of}
 use Rattle.abstract_steps_system.specs.BlockPasses.{instructions_in}
 use Rattle.abstract_steps_system.specs.FlowMachines.{head_in, edge_at, no_edge}
-use Rattle.turn_split.specs.Turns.{copies, last_copy, turns_of, number_in, copy_behind, edge_copy, block_copy, all_copies, split}
+use Rattle.turn_split.specs.Turns.{copies, last_copy, number_in, copy_behind, edge_copy, block_copy, split}
 use Rattle.turn_split_laws.specs.SameParts.{SameParts}
 use Rattle.turn_split_runs.proofs.CopiedLists.{copies_length, copy_at}
 
