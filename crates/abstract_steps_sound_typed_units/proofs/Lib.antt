@@ -1,5 +1,2 @@
-pub mod TypedUnits
-pub mod TypedRows
-
 mod TypedParts
 pub mod CheckedInitializers

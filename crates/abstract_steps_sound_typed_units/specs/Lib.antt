@@ -1,2 +1,1 @@
-pub mod TypedUnits
 pub mod CheckedInitializers

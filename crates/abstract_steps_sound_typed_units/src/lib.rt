@@ -1,6 +1,6 @@
-//! Whether the initializers of a unit are typed can be looked at.
+//! The initializers of checked units are typed.
 #![tactic(auto)]
 
 mod theorems;
 
-pub use theorems::{checked_initializers_are_typed, typed_by_a_look};
+pub use theorems::checked_initializers_are_typed;

@@ -10,12 +10,12 @@ use Rattle.flow_program.specs.WellFormed.{is_well_formed}
 use Rattle.flow_program.specs.declared.programs.Flow.{Flow}
 use Rattle.flow_program_views.specs.ProgramViews.{flow_view}
 use Rattle.flow_lower.specs.Lowerings.{IsLowering}
+use Rattle.flow_lower_objects.specs.PlainObjects.{has_plain_objects}
 use Rattle.flow_analysis.specs.Analyses.{IsAnalysis}
 use Rattle.turn_split.specs.Turns.{split}
-use Rattle.abstract_steps_sound_beginnings.specs.TypedInitializers.{HasTypedInitializers}
 use Rattle.abstract_steps_sound_units.specs.SoundUnits.{FindsPairsOf}
 
--- the unit that a tree is under a data model and a name of an entry, whose program it is, and whose initializers are typed
+-- the unit that a tree is under a data model and a name of an entry, whose program it is, and whose objects are plain, as `lower` says
 pub record IsUnitOf (u : UnitView) (flow : Flow) : Type 0 where
   pub model : Model
   pub name : List ℕ
@@ -23,7 +23,7 @@ pub record IsUnitOf (u : UnitView) (flow : Flow) : Type 0 where
   pub limits : Limits
   pub checked : check model name tree ≡ Ok u
   pub lowered : IsLowering u limits (flow_view flow)
-  pub typed : HasTypedInitializers u
+  pub plain : has_plain_objects u ≡ true
 
 abbrev pub FindsPairsOfChecked : Flow → List Diag → Type 0
 FindsPairsOfChecked flow found = (u : UnitView) → IsUnitOf u flow → FindsPairsOf flow found u
