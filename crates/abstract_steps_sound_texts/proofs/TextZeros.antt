@@ -79,8 +79,8 @@ module _ {I : Type 0} {l : LatticeOf I} {n : IntegersOf I} {stands : I → ℤ �
       none_in : (IsIn part.size part.offset offset → ⊥) → (x : ℕ) → IsIn part.size part.offset x → offset ≤ x → x < offset + size → ⊥
       none_in out x at from to = elim (short_or_inside write.zero write.one_byte (is_whole inside) target lies) [
         | inl e ↦ (let short = k.one_byte e in
-          let same : x ≡ offset = omega (arith, from, to, short) in
-          out (subst (IsIn part.size part.offset) same at))
+            let same : x ≡ offset = omega (arith, from, to, short) in
+            out (subst (IsIn part.size part.offset) same at))
         | inr e ↦ out (byte_in e offset (omega arith) (omega (arith, some)))
       ]
 
