@@ -41,14 +41,14 @@ use Rattle.store_domain_laws.proofs.ZeroTargets.{target_monotone}
 use Rattle.abstract_steps_library.specs.declared.source_bytes.Characters.{Characters}
 use Rattle.abstract_steps_library.specs.declared.text_writes.TextWrite.{TextWrite}
 use Rattle.abstract_steps_library.specs.declared.text_writes.ZeroRule.TheVariants.{Any}
-use Rattle.abstract_steps_library.specs.TextWrites.{is_whole, lies_in_array, character_value, value_of_class, leaf_value, write_leaf, write_leaf_of, write_leaves, write_stray, write_class, write_class_cells, zero_after, zero_met_at, write_zero, write_zeros, write_heap_part, write_base, write_base_if, rule_in, write_into, write_in, write_text}
+use Rattle.abstract_steps_library.specs.TextWrites.{is_whole, text_lies_in_array, character_value, value_of_class, leaf_value, write_leaf, write_leaf_of, write_leaves, write_stray, write_class, write_class_cells, zero_after, zero_met_at, write_zero, write_zeros, write_heap_part, write_base, write_base_if, rule_in, write_into, write_in, write_text}
 use Rattle.abstract_steps_laws_values.specs.RisingRows.{RowsRise}
 use Rattle.abstract_steps_laws_writes.proofs.WrittenCells.{join_rises, zero_rises, bytes_even}
 use Rattle.abstract_steps_laws_writes.specs.TextOrder.{CharactersBelow, StartsBelow, TextBelow}
 use Rattle.abstract_steps_laws_writes.proofs.TextEnds.{rule_below_in, length_in, after_monotone, after_top}
 use Rattle.abstract_steps_laws_writes.proofs.AloneWrites.{made_alone}
 use Rattle.abstract_steps_laws_writes.proofs.MetZeros.{Knows, any_step, known_step}
-use Rattle.abstract_steps_laws_writes.proofs.WriteStarts.{target_some, lies_too, met_too, target_near, start_near}
+use Rattle.abstract_steps_laws_writes.proofs.WriteStarts.{target_some, text_lies_too, met_too, target_near, start_near}
 
 module _ {I : Type 0} (l : LatticeOf I) (n : IntegersOf I) (w v : TextWrite I) (on one two : Bool) where
   -- where the larger write is the only one to an array, the smaller one is made and is so too
@@ -143,7 +143,7 @@ module _ {I : Type 0} {l : LatticeOf I} {n : IntegersOf I} {stands : I → ℤ �
 
       -- the write lies in the array
       abbrev lies : TextWrite I → ZeroTarget → Bool
-      lies x t = lies_in_array x.one_byte (is_whole (zero_target part x.window)) t
+      lies x t = text_lies_in_array x.zero x.one_byte (is_whole (zero_target part x.window)) t
 
       abbrev after : List (Cell I) → TextWrite I → ZeroTarget → FirstZero I
       after row x t = zero_after l n (old row) t.local x.zero
@@ -170,7 +170,7 @@ module _ {I : Type 0} {l : LatticeOf I} {n : IntegersOf I} {stands : I → ℤ �
       knows : StartsAlone l n w v on one two → Knows o b top r s (zero_position base at) j.below (p.zero at there) (lies w) (lies v) (after r w) (after s v) small_tops large_tops on one two
           (is_some (zero_target part w.window)) (is_some (zero_target part v.window)) wanted (zero_target part w.start) (zero_target part v.start) (start_near part w.start v.start k.start) (target_near part w.start v.start k.start) (target_monotone part w.start v.start k.start)
       knows c = record {
-        within = λ met t d m. lies_too part w.start v.start w.window v.window k.start k.window c.starts.first w.one_byte v.one_byte c.starts.narrow c.starts.single met t d m;
+        within = λ met t d m. text_lies_too part w.start v.start w.window v.window k.start k.window c.starts.first w.one_byte v.one_byte c.starts.narrow c.starts.single l n met t d w.zero v.zero k.zero m;
         alone = λ z t d whole m. let y = c.alone z in (y.0, met_too part w.start v.start w.window v.window k.start k.window c.starts.first w.one_byte v.one_byte c.starts.narrow c.starts.single t d whole, y.1);
         after = λ x t i near. after_monotone o b (old r) (old s) x.local t.local i rises large_top w.zero v.zero k.zero k.length k.more;
       }

@@ -1,7 +1,9 @@
 -- Where a write begins, and the arrays that its bytes meet.
-use Rattle.std.specs.Prelude.{◌≡◌, ℕ, ◌≤◌, min, max, Bool, true, false, cond, ◌&&◌, nat_le, ◌⊎◌, Option, Some, None, is_some, refl}
-use Rattle.std.proofs.Common.{◌∙◌, arith, ap, inl, inr, subst}
+use Rattle.std.specs.Prelude.{◌≡◌, ℕ, ◌≤◌, min, max, Bool, true, false, cond, ◌&&◌, nat_le, ◌||◌, ◌⊎◌, Option, Some, None, is_some, refl}
+use Rattle.std.proofs.Common.{◌∙◌, arith, ap, inl, inr, subst, sym}
 use Rattle.std.proofs.lemmas.Bool.{and_parts, and_from, or_cases, leb-true, leb-false}
+use Rattle.cc_base.specs.Lattices.{LatticeOf}
+use Rattle.cc_base.specs.IntegerDomains.{IntegersOf}
 use Rattle.c_layout.specs.declared.shapes.ZeroPart.{ZeroPart}
 use Rattle.value_domain_laws.proofs.Flags.{Sets, or_left, or_right}
 use Rattle.store_domain.specs.declared.access_windows.Window.{Window}
@@ -10,7 +12,10 @@ use Rattle.store_domain.specs.AccessWindows.{window_between}
 use Rattle.store_domain.specs.FirstZeroWrites.{last_of, has_no_bytes, target_at, zero_target}
 use Rattle.store_domain_laws.specs.Placements.{WindowWithin}
 use Rattle.store_domain_laws.proofs.ZeroTargets.{TargetBelow, target_monotone}
-use Rattle.abstract_steps_library.specs.TextWrites.{is_whole, lies_in_array}
+use Rattle.abstract_steps_library.specs.TextWrites.{is_whole, lies_in_array, text_lies_in_array}
+use Rattle.abstract_steps_library.specs.declared.text_writes.ZeroRule.{ZeroRule}
+use Rattle.abstract_steps_library.specs.declared.text_writes.ZeroRule.TheVariants.{Text, Append, Any}
+use Rattle.abstract_steps_laws_writes.specs.TextOrder.{RuleBelow}
 use Rattle.abstract_steps_laws_writes.proofs.MetZeros.{IsNearTarget}
 
 abbrev last : ZeroPart → ℕ
@@ -66,6 +71,14 @@ start_near part w u i = target_near part w w (record { lo = omega arith; some = 
 whole_or : (inside : Bool) (t : ZeroTarget) (one : Bool) → lies_in_array one inside t ≡ true → (one ≡ true) ⊎ ((inside ≡ true) × (t.whole ≡ true))
 whole_or inside t one h = elim (or_cases one (inside && t.whole) h) [ inl e ↦ inl e | inr e ↦ (let p = and_parts inside t.whole e in inr (p.0, p.1)) ]
 
+-- what lies in an array and begins there has each byte there
+begun_text : (one inside : Bool) (x : ZeroTarget) → lies_in_array one inside x ≡ true → (one || inside) ≡ true
+begun_text one inside x h = elim (whole_or inside x one h) [ inl e ↦ or_left one inside e | inr e ↦ or_right one inside e.0 ]
+
+whole_below : (x : ZeroTarget) (g : Option ZeroTarget) → TargetBelow (Some x) g → is_whole g ≡ true → x.whole ≡ true
+whole_below x None h e = absurd h
+whole_below x (Some y) h e = h.1 e
+
 -- a smaller and a larger write, of their first offsets and of their bytes; the smaller one is from its first byte on
 module _ (part : ZeroPart) (start larger_start window larger_window : Window) (begin : WindowWithin start larger_start) (bytes : WindowWithin window larger_window) (first : window.lo ≡ start.lo) (one more : Bool) (narrow : Sets more one) (single : one ≡ true → WindowWithin window start) where
   abbrev inside : Window → Bool
@@ -98,3 +111,49 @@ module _ (part : ZeroPart) (start larger_start window larger_window : Window) (b
       by_start : (f : Option ZeroTarget) → zero_target part start ≡ f → TargetBelow f (Some t) → is_some (zero_target part window) ≡ true
       by_start None e h = absurd (h.0 whole)
       by_start (Some x) e h = met_from_start part start window first begin.some bytes.some x e (h.1 whole)
+
+  -- where a larger text lies in the array, a smaller one does, if it meets it
+  module _ {I : Type 0} (l : LatticeOf I) (n : IntegersOf I) (met : is_some (zero_target part window) ≡ true) (t : ZeroTarget) (d : zero_target part larger_start ≡ Some t) where
+    abbrev Lies : ZeroRule I → Type 0
+    Lies rule = (x : ZeroTarget) × (zero_target part start ≡ Some x) × (text_lies_in_array rule one (inside window) x ≡ true)
+
+    -- each of its bytes does
+    of_bytes : (a : I) → inside larger_window ≡ true → Lies (Text a)
+    of_bytes a e = by_bytes (zero_target part window) refl met (target_monotone part window larger_window bytes) e
+      where
+        by_start : inside window ≡ true → (f : Option ZeroTarget) → zero_target part start ≡ f → is_some f ≡ true → Lies (Text a)
+        by_start z None g m = absurd (cc)
+        by_start z (Some x) g m = (x, g, or_right one (inside window) z)
+
+        by_bytes : (f : Option ZeroTarget) → zero_target part window ≡ f → is_some f ≡ true → TargetBelow f (zero_target part larger_window) → inside larger_window ≡ true → Lies (Text a)
+        by_bytes None g m h z = absurd (cc)
+        by_bytes (Some x) g m h z =
+            let whole = whole_below x (zero_target part larger_window) h z in
+            by_start (ap is_whole g ∙ whole) (zero_target part start) refl (met_from_start part window start (sym first) bytes.some begin.some x g whole)
+
+    of_text : (a c : I) → text_lies_in_array (Text c) more (inside larger_window) t ≡ true → Lies (Text a)
+    of_text a c lies = elim (or_cases more (inside larger_window) lies) [
+      | inl e ↦ of_one (zero_target part start) refl (start_met part window start (single (narrow e)) met) (narrow e)
+      | inr e ↦ of_bytes a e
+    ]
+      where
+        of_one : (f : Option ZeroTarget) → zero_target part start ≡ f → is_some f ≡ true → one ≡ true → Lies (Text a)
+        of_one None g m e = absurd (cc)
+        of_one (Some x) g m e = (x, g, or_left one (inside window) e)
+
+    -- what is known to lie in the array and begin there
+    of_begun : (rule : ZeroRule I) → lies_in_array more (inside larger_window) t ≡ true → Lies rule
+    of_begun (Text a) lies = let x = lies_too met t d lies in (x.0, x.1, begun_text one (inside window) x.0 x.2)
+    of_begun (Append a u) lies = lies_too met t d lies
+    of_begun Any lies = lies_too met t d lies
+
+    pub text_lies_too : (x y : ZeroRule I) → RuleBelow l n x y → text_lies_in_array y more (inside larger_window) t ≡ true → Lies x
+    text_lies_too (Text a) (Text c) h lies = of_text a c lies
+    text_lies_too (Text a) (Append c u) h lies = absurd h
+    text_lies_too (Text a) Any h lies = of_begun (Text a) lies
+    text_lies_too (Append a s) (Text c) h lies = absurd h
+    text_lies_too (Append a s) (Append c u) h lies = of_begun (Append a s) lies
+    text_lies_too (Append a s) Any h lies = of_begun (Append a s) lies
+    text_lies_too Any (Text c) h lies = absurd h
+    text_lies_too Any (Append c u) h lies = absurd h
+    text_lies_too Any Any h lies = of_begun Any lies

@@ -9,7 +9,8 @@ use Rattle.pointer_domain.specs.BaseSets.{no_base, bases_empty}
 use Rattle.pointer_domain.specs.PointerLattice.{no_pointer}
 use Rattle.pointer_domain.specs.declared.pointer_sets.Pointers.{Pointers}
 use Rattle.string_domain.specs.declared.first_zeros.FirstZero.{FirstZero}
-use Rattle.string_domain.specs.FirstZeros.{zero_lattice}
+use Rattle.string_domain.specs.FirstZeros.{the_end, zero_lattice}
+use Rattle.string_domain.specs.ZeroTables.{ends_text}
 use Rattle.value_domain.specs.LabelSets.{no_labels}
 use Rattle.value_domain.specs.ValueTables.{pointer_value}
 use Rattle.value_domain.specs.declared.row_cells.Cell.{Cell}
@@ -82,6 +83,13 @@ known_in_two x = refl
 abbrev second : ZeroPart
 second = record { offset = 1; size = Some 1 }
 
+abbrev eight : ZeroPart
+eight = record { offset = 0; size = Some 8 }
+
+-- no byte was zero, and a text of up to 7 characters begins at 6 or 7: none before 6 is
+end_behind : ends_text (the_end, the_end) (pos 6, pos 7) (pos 0, pos 7) ≡ (pos 6, the_end)
+end_behind = refl
+
 -- ---- printf
 
 abbrev no_check : Trail
@@ -105,6 +113,19 @@ module _ {I : Type 0} (l : LatticeOf I) (n : IntegersOf I) (x : I) (old : FirstZ
   -- two bytes may go from the one to the other
   of_two_bytes : zero_met l n second old (text_in_either false) true ≡ any_zero l n
   of_two_bytes = refl
+
+  -- ---- char a[8], and a text of two bytes at least that may begin at a + 6, a + 7 or behind the array
+
+  abbrev text_behind : ZeroRule I → TextWrite I
+  text_behind rule = record (text_in_either false) { start = window_between 6 8; window = window_between 6 7; zero = rule }
+
+  -- where it is written it lies in the array, and begins at 6 or 7
+  of_text_behind : zero_met l n eight old (text_behind (Text x)) true ≡ (zero_lattice l).join old (zero_after l n old (window_between 6 7) (Text x))
+  of_text_behind = refl
+
+  -- of one that is appended nothing is known
+  of_appended_behind : zero_met l n eight old (text_behind (Append x no_base)) true ≡ any_zero l n
+  of_appended_behind = refl
 
   -- ---- strncpy
 

@@ -94,9 +94,16 @@ module _ {I : Type 0} where
   abbrev pub sure_zero : LatticeOf I → Bool → FirstZero I → FirstZero I → FirstZero I
   sure_zero l alone old new = cond alone new ((zero_lattice l).join old new)
 
+  -- each write of a text that may meet an array lies in it: of one that may begin behind the array each byte lies there, or
+  -- none is written; a text that is appended begins there too
+  abbrev pub text_lies_in_array : ZeroRule I → Bool → Bool → ZeroTarget → Bool
+  text_lies_in_array (Text length) one_byte inside start = one_byte || inside
+  text_lies_in_array (Append length unknown) one_byte inside start = lies_in_array one_byte inside start
+  text_lies_in_array Any one_byte inside start = lies_in_array one_byte inside start
+
   abbrev pub zero_met_at : LatticeOf I → IntegersOf I → FirstZero I → TextWrite I → Bool → Bool → Option ZeroTarget → FirstZero I
   zero_met_at l n old write alone inside None = any_zero l n
-  zero_met_at l n old write alone inside (Some start) = cond (lies_in_array write.one_byte inside start)
+  zero_met_at l n old write alone inside (Some start) = cond (text_lies_in_array write.zero write.one_byte inside start)
       (sure_zero l (alone && start.whole) old (zero_after l n old start.local write.zero)) (any_zero l n)
 
   -- the first zero of an array that the write meets: the old one too where the write may begin elsewhere

@@ -1,6 +1,6 @@
 //! Writing a text and its closing zero.
 ghost use Rattle.std.specs.Prelude.{◌≡◌, ◌+◌, ◌<◌, length};
-ghost use Rattle.abstract_steps_library.specs.TextWrites.{character_value, leaf_value, write_leaf, write_leaves, write_stray, write_class, write_class_cells, zero_after, up_to_end, zero_met, write_zero, write_zeros, write_heap_part, write_base, write_base_if, write_text, is_whole, lies_in_array, rule_in, write_into};
+ghost use Rattle.abstract_steps_library.specs.TextWrites.{character_value, leaf_value, write_leaf, write_leaves, write_stray, write_class, write_class_cells, zero_after, up_to_end, zero_met, write_zero, write_zeros, write_heap_part, write_base, write_base_if, write_text, is_whole, lies_in_array, text_lies_in_array, rule_in, write_into};
 ghost use Rattle.cc_base.specs.IntegerDomains.{IsNear};
 
 use crate::source_bytes::Characters;
@@ -172,6 +172,22 @@ pub fn lies_in_array(one_byte: bool, inside: bool, start: ZeroTarget) -> bool
     one_byte || (inside && start.whole)
 }
 
+/// Whether each write of a text that may meet an array lies in it: of one that may begin behind the
+/// array each byte lies there, or none is written; a text that is appended begins there too.
+fn text_lies_in_array<I: IntDomain>(
+    rule: ZeroRule<I>,
+    one_byte: bool,
+    inside: bool,
+    start: ZeroTarget,
+) -> bool
+    ensures { result ≡ text_lies_in_array rule one_byte inside start }
+{
+    match rule {
+        ZeroRule::Text(_) => one_byte || inside,
+        _ => lies_in_array(one_byte, inside, start),
+    }
+}
+
 /// The first zero of an array that the write meets: the old one too where the write may begin elsewhere.
 fn zero_met<I: IntDomain>(
     part: ZeroPart,
@@ -187,7 +203,7 @@ fn zero_met<I: IntDomain>(
         Some(target) => target.whole,
     };
     match zero_target(part, write.start) {
-        Some(start) if lies_in_array(write.one_byte, inside, start) => {
+        Some(start) if text_lies_in_array(write.zero, write.one_byte, inside, start) => {
             let new = zero_after(old, start.local, write.zero);
             if alone && start.whole {
                 new

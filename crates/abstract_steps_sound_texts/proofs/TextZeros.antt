@@ -1,7 +1,7 @@
 -- What a text that is written makes of the first zeros stands for the bytes of the text.
-use Rattle.std.proofs.Common.{◌≡◌, ℕ, ◌+◌, ◌-◌, ◌^◌, ◌<◌, ◌≤◌, Bool, true, false, cond, ◌&&◌, ◌||◌, Option, Some, None, List, length, arith, subst, sym, refl, ◌∙◌, inl, inr, ◌⊎◌}
+use Rattle.std.proofs.Common.{◌≡◌, ℕ, ◌+◌, ◌-◌, ◌^◌, ◌<◌, ◌≤◌, Bool, true, false, cond, ◌&&◌, Option, Some, None, List, length, arith, subst, sym, refl, ◌∙◌, inl, inr, ◌⊎◌}
 use Rattle.std.specs.Prelude.{ℤ, is_some}
-use Rattle.std.proofs.lemmas.Bool.{cases_eq, true≢false}
+use Rattle.std.proofs.lemmas.Bool.{cases_eq, true≢false, or_cases, and_parts}
 use Rattle.cc_base.specs.Lattices.{LatticeOf, OrderLaws}
 use Rattle.cc_base.specs.IntegerDomains.{IntegersOf, BoundLaws, IsNear}
 use Rattle.c_layout.specs.declared.shapes.BaseInfo.{BaseInfo}
@@ -12,9 +12,10 @@ use Rattle.value_domain.specs.declared.row_cells.Cell.{Cell}
 use Rattle.store_domain.specs.declared.first_zero_writes.ZeroTarget.{ZeroTarget}
 use Rattle.store_domain.specs.FirstZeroWrites.{zero_target, any_zero}
 use Rattle.store_domain.specs.RowPositions.{zero_position, zero_at}
-use Rattle.abstract_steps_library.specs.TextWrites.{is_whole, lies_in_array, zero_after, sure_zero, zero_met_at, zero_met, write_zero_at, write_zero}
+use Rattle.abstract_steps_library.specs.TextWrites.{is_whole, lies_in_array, text_lies_in_array, zero_after, sure_zero, zero_met_at, zero_met, write_zero_at, write_zero}
 use Rattle.abstract_steps_library.specs.declared.text_writes.TextWrite.{TextWrite}
-use Rattle.abstract_steps_library.specs.declared.text_writes.ZeroRule.TheVariants.{Any}
+use Rattle.abstract_steps_library.specs.declared.text_writes.ZeroRule.{ZeroRule}
+use Rattle.abstract_steps_library.specs.declared.text_writes.ZeroRule.TheVariants.{Text, Append, Any}
 use Rattle.lib_models_memory.specs.Instances.{Memory, bytes_at}
 use Rattle.store_domain_meaning.specs.SoundMemory.{IsMemoryOf}
 use Rattle.store_domain_meaning.specs.ValueMeaning.{Naming, StandsZero}
@@ -29,6 +30,15 @@ not_both : (a b : Bool) → (a ≡ true → b ≡ true → ⊥) → (a && b) ≡
 not_both true true n = absurd (n refl refl)
 not_both true false n = refl
 not_both false b n = refl
+
+begun_inside : (one inside : Bool) (t : ZeroTarget) → lies_in_array one inside t ≡ true → (one ≡ true) ⊎ (inside ≡ true)
+begun_inside one inside t h = elim (or_cases one (inside && t.whole) h) [ inl e ↦ inl e | inr e ↦ inr (and_parts inside t.whole e).0 ]
+
+-- a text that lies in an array is of one byte, or the window does too
+pub short_or_inside : {I : Type 0} (rule : ZeroRule I) (one inside : Bool) (t : ZeroTarget) → text_lies_in_array rule one inside t ≡ true → (one ≡ true) ⊎ (inside ≡ true)
+short_or_inside (Text length) one inside t h = or_cases one inside h
+short_or_inside (Append length unknown) one inside t h = begun_inside one inside t h
+short_or_inside Any one inside t h = begun_inside one inside t h
 
 module _ {I : Type 0} {l : LatticeOf I} {n : IntegersOf I} {stands : I → ℤ → Type 0} (o : OrderLaws l) (q : BoundLaws l n stands) (flow : Flow) (naming : Naming) {old new : Memory} {i offset size : ℕ} (s : IsRegion old new i offset size) (sane : IsMemoryOf flow.model flow.bases.items naming new) (write : TextWrite I) (k : IsTextWrite l n stands write new i offset size)
     (alone : Bool) (b : ℕ) (single : alone ≡ true → 0 < size → (j : ℕ) → IsLiveOf naming old b j → j ≡ i) where
@@ -49,40 +59,30 @@ module _ {I : Type 0} {l : LatticeOf I} {n : IntegersOf I} {stands : I → ℤ �
     by_sure false new_zero j h (inl g) = q.larger new_zero.at (l.join f.at new_zero.at) _ (o.join_right f.at new_zero.at) g
     by_sure false new_zero j h (inr g) = q.larger f.at (l.join f.at new_zero.at) _ (o.join_left f.at new_zero.at) g
 
-    module _ (target : ZeroTarget) (found : zero_target part write.start ≡ Some target) (inside : Option ZeroTarget) (window : zero_target part write.window ≡ inside) (lies : lies_in_array write.one_byte (is_whole inside) target ≡ true) (j : ℕ) (alive : IsLiveOf naming old b j) (h : StandsZero stands naming old f (array_bytes part (bytes_at old j))) where
+    module _ (target : ZeroTarget) (found : zero_target part write.start ≡ Some target) (inside : Option ZeroTarget) (window : zero_target part write.window ≡ inside) (lies : text_lies_in_array write.zero write.one_byte (is_whole inside) target ≡ true) (j : ℕ) (alive : IsLiveOf naming old b j) (h : StandsZero stands naming old f (array_bytes part (bytes_at old j))) where
+      -- each byte is one of the array's where the window lies in it
+      byte_in : is_whole inside ≡ true → (x : ℕ) → offset ≤ x → x < offset + size → IsIn part.size part.offset x
+      byte_in whole x from to = by_window inside window whole
+        where
+          by_window : (w : Option ZeroTarget) → zero_target part write.window ≡ w → is_whole w ≡ true → IsIn part.size part.offset x
+          by_window None e g = absurd (cc)
+          by_window (Some t) e g = let r = k.window x from to in whole_in part write.window t x (target_is part write.window t e) g r.0 r.1
+
       -- the last byte is one of the array's where the first is
       last_in : IsIn part.size part.offset offset → IsIn part.size part.offset (offset + (size - 1))
-      last_in first = by_one write.one_byte refl
-        where
-          by_whole : (w : Option ZeroTarget) → zero_target part write.window ≡ w → (is_whole w && target.whole) ≡ true → IsIn part.size part.offset (offset + (size - 1))
-          by_whole None e g = cc
-          by_whole (Some t) e g =
-              let r = k.window (offset + (size - 1)) (omega arith) (omega (arith, some)) in
-              whole_in part write.window t (offset + (size - 1)) (target_is part write.window t e) (first_true t.whole target.whole g) r.0 r.1
-            where
-              first_true : (a c : Bool) → (a && c) ≡ true → a ≡ true
-              first_true true c e = refl
-              first_true false c e = cc
-
-          by_one : (one : Bool) → write.one_byte ≡ one → IsIn part.size part.offset (offset + (size - 1))
-          by_one true e = let short = k.one_byte e in subst (IsIn part.size part.offset) (omega (arith, short)) first
-          by_one false e = by_whole inside window (subst (λ z. (z || (is_whole inside && target.whole)) ≡ true) e lies)
+      last_in first = elim (short_or_inside write.zero write.one_byte (is_whole inside) target lies) [
+        | inl e ↦ (let short = k.one_byte e in subst (IsIn part.size part.offset) (omega (arith, short)) first)
+        | inr e ↦ byte_in e (offset + (size - 1)) (omega arith) (omega (arith, some))
+      ]
 
       -- where the first byte is none of the array's, no byte is
       none_in : (IsIn part.size part.offset offset → ⊥) → (x : ℕ) → IsIn part.size part.offset x → offset ≤ x → x < offset + size → ⊥
-      none_in out x at from to = by_whole target.whole refl
-        where
-          by_whole : (w : Bool) → target.whole ≡ w → ⊥
-          by_whole true e = out (whole_in part write.start target offset (target_is part write.start target found) e k.start.0 k.start.1)
-          by_whole false e =
-              let short = k.one_byte (by_flags write.one_byte (is_whole inside) target.whole lies e) in
-              let same : x ≡ offset = omega (arith, from, to, short) in
-              out (subst (IsIn part.size part.offset) same at)
-            where
-              by_flags : (a c d : Bool) → (a || (c && d)) ≡ true → d ≡ false → a ≡ true
-              by_flags true c d e g = refl
-              by_flags false true d e g = absurd (true≢false (sym e ∙ g))
-              by_flags false false d e g = cc
+      none_in out x at from to = elim (short_or_inside write.zero write.one_byte (is_whole inside) target lies) [
+        | inl e ↦ (let short = k.one_byte e in
+            let same : x ≡ offset = omega (arith, from, to, short) in
+            out (subst (IsIn part.size part.offset) same at))
+        | inr e ↦ out (byte_in e offset (omega arith) (omega (arith, some)))
+      ]
 
       whole_starts : target.whole ≡ true → IsIn part.size part.offset offset
       whole_starts e = whole_in part write.start target offset (target_is part write.start target found) e k.start.0 k.start.1
@@ -117,7 +117,7 @@ module _ {I : Type 0} {l : LatticeOf I} {n : IntegersOf I} {stands : I → ℤ �
     any_here : StandsZero stands naming new (any_zero l n) (array_bytes part (bytes_at new j))
     any_here = any_zero_stands o q naming new (array_bytes part (bytes_at new j)) (small_array part j)
 
-    by_rule : IsRuled → (target : ZeroTarget) → zero_target part write.start ≡ Some target → lies_in_array write.one_byte (is_whole (zero_target part write.window)) target ≡ true → StandsZero stands naming new (sure_zero l (alone && target.whole) f (zero_after l n f target.local write.zero)) (array_bytes part (bytes_at new j))
+    by_rule : IsRuled → (target : ZeroTarget) → zero_target part write.start ≡ Some target → text_lies_in_array write.zero write.one_byte (is_whole (zero_target part write.window)) target ≡ true → StandsZero stands naming new (sure_zero l (alone && target.whole) f (zero_after l n f target.local write.zero)) (array_bytes part (bytes_at new j))
     by_rule (says some rule) target found lies = sure_stands some rule part f (zero_near q row (zero_position base z)) target found (zero_target part write.window) refl lies j alive (zeros j alive)
     by_rule (says_nothing e) target found lies = subst (λ r. StandsZero stands naming new (sure_zero l (alone && target.whole) f (zero_after l n f target.local r)) (array_bytes part (bytes_at new j))) (sym e) (by_flag (alone && target.whole))
       where
@@ -127,9 +127,9 @@ module _ {I : Type 0} {l : LatticeOf I} {n : IntegersOf I} {stands : I → ℤ �
 
     by_start : (start : Option ZeroTarget) → zero_target part write.start ≡ start → StandsZero stands naming new (zero_met_at l n f write alone (is_whole (zero_target part write.window)) start) (array_bytes part (bytes_at new j))
     by_start None found = any_here
-    by_start (Some target) found = by_lies (lies_in_array write.one_byte (is_whole (zero_target part write.window)) target) refl
+    by_start (Some target) found = by_lies (text_lies_in_array write.zero write.one_byte (is_whole (zero_target part write.window)) target) refl
       where
-        by_lies : (lies : Bool) → lies_in_array write.one_byte (is_whole (zero_target part write.window)) target ≡ lies → StandsZero stands naming new (cond lies (sure_zero l (alone && target.whole) f (zero_after l n f target.local write.zero)) (any_zero l n)) (array_bytes part (bytes_at new j))
+        by_lies : (lies : Bool) → text_lies_in_array write.zero write.one_byte (is_whole (zero_target part write.window)) target ≡ lies → StandsZero stands naming new (cond lies (sure_zero l (alone && target.whole) f (zero_after l n f target.local write.zero)) (any_zero l n)) (array_bytes part (bytes_at new j))
         by_lies true e = by_rule ruled target found e
         by_lies false e = any_here
 
