@@ -1,0 +1,3 @@
+mod ShiftedValues
+mod Standings
+mod LaidObjects
