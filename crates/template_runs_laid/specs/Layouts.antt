@@ -1,5 +1,5 @@
 -- How templates are laid out in a program: each piece of a copy at its place, and each call as a copy in its own place.
-use Rattle.std.specs.Prelude.{◌≡◌, ℕ, suc, ◌+◌, ℤ, Bool, true, false, List, [], ◌∷◌, Option, Some, None, slice_get}
+use Rattle.std.specs.Prelude.{◌≡◌, ◌⊎◌, ℕ, suc, ◌+◌, ℤ, Bool, true, false, List, [], ◌∷◌, Option, Some, None, slice_get}
 use Rattle.cc_base.specs.declared.diagnostics.Place.{Place}
 use Rattle.c_layout.specs.declared.shapes.BaseInfo.{BaseInfo}
 use Rattle.c_layout.specs.declared.shapes.BaseKind.TheVariants as kind
@@ -101,9 +101,9 @@ pub record IsAutomatic (o : Opened) (b : ℕ) : Type 0 where
   pub there : IsThere o b info
   pub is_automatic : info.kind ≡ kind.Automatic
 
--- the entry's template is laid out from the first block on, with its calls, and when a run begins bases of static
--- objects and literals name their instances, those of the entry's parameters theirs, and no others of automatic objects
--- any
+-- the entry's template is laid out from the first block on, with its calls; when a run begins, bases of objects of
+-- static storage and of literals name their instances, those of the entry's parameters theirs, and no other base of an
+-- automatic object names any
 pub record IsLaidOut (o : Opened) (c : Copy) : Type 0 where
   pub function : c.function ≡ o.unit.entry
   pub depth : c.depth ≡ 0
@@ -116,4 +116,4 @@ pub record IsLaidOut (o : Opened) (c : Copy) : Type 0 where
   pub objects : (n b : ℕ) → o.objects n ≡ Some b → start_names o.unit o.program b ≡ Some n
   pub literals : (n b : ℕ) → o.literals n ≡ Some b → start_names o.unit o.program b ≡ Some (literal_instance o.unit n)
   pub parameters : (n b : ℕ) → c.locals n ≡ Some b → start_names o.unit o.program b ≡ name_parameters o.unit 0 (entry_parameters o.unit) n
-  pub others : (b : ℕ) → IsAutomatic o b → ((n : ℕ) → c.locals n ≡ Some b → ⊥) → start_names o.unit o.program b ≡ None
+  pub others : (b : ℕ) → IsAutomatic o b → (start_names o.unit o.program b ≡ None) ⊎ ((n : ℕ) × (c.locals n ≡ Some b))
