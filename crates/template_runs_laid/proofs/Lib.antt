@@ -1,0 +1,5 @@
+mod ShiftedValues
+mod Standings
+mod LaidObjects
+mod LaidEdges
+mod LaidSteps

@@ -1,0 +1,4 @@
+mod SettledPieces
+mod QuietFunctions
+mod SameActs
+mod SettledSteps

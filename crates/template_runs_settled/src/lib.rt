@@ -1,0 +1,6 @@
+//! Runs over settled templates are those over the templates as they are made.
+#![tactic(auto)]
+
+mod theorems;
+
+pub use theorems::settled_runs_are_the_same;
