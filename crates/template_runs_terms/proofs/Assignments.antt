@@ -27,8 +27,7 @@ use Rattle.template_runs_acts.specs.Acts as acts
 use Rattle.template_runs_acts.specs.Acts.{IsAct, IsActBehind}
 use Rattle.template_runs_follow.specs.Follows.{at_place, Follows}
 use Rattle.template_runs_follow.proofs.Constructions.{gives_store, gives_again}
-use Rattle.flow_lower_works.specs.Derivations.{Makes, nothing}
-use Rattle.template_runs_terms.proofs.Runs.{Runs, then, does, headed}
+use Rattle.template_runs_terms.proofs.Runs.{Runs, then, does, piece_first, none_made}
 use Rattle.template_runs_terms.proofs.About.{Valued, Addressed}
 use Rattle.template_runs_terms.proofs.Operators.{one_place, both_sides}
 
@@ -58,33 +57,21 @@ converted_jobs js at to from old new p e = by (same_kind old new)
     by false = ap (λ js. js ++ jobs.Ready (at_place at (act.Convert to from (scalar.Int old) (scalar.Int new))) ∷ []) e
 
 -- lists, one behind the other
-pub in_order : {A : Type 0} (xs as bs cs ds : List A) → (((xs ++ as) ++ bs) ++ cs) ++ ds ≡ xs ++ (as ++ (bs ++ (cs ++ ds)))
-in_order xs as bs cs ds = append_assoc ((xs ++ as) ++ bs) cs ds ∙ append_assoc (xs ++ as) bs (cs ++ ds) ∙ append_assoc xs as (bs ++ (cs ++ ds))
+pub in_order : {A : Type 0} (xs ws bs cs ds : List A) → (((xs ++ ws) ++ bs) ++ cs) ++ ds ≡ xs ++ (ws ++ (bs ++ (cs ++ ds)))
+in_order xs ws bs cs ds = append_assoc ((xs ++ ws) ++ bs) cs ds ∙ append_assoc (xs ++ ws) bs (cs ++ ds) ∙ append_assoc xs ws (bs ++ (cs ++ ds))
 
 module _ (s : SettingView) (t : Templates) (n : ℕ) where
   -- nothing is done
   pub nothing_done : (d : ℕ) → Runs s t n [] [] d d
-  nothing_done d p none _ _ (nothing _) known items rest stands f = f
+  nothing_done d = record { from = λ p none ps r m known items rest stands f. subst (λ xs. Follows t n d items (xs ++ rest)) (sym (none_made s p ps r m)) f }
 
   -- a store whose value is dropped
   pub stores : (d : ℕ) (at : Place) (kind : declared.Scalar) → Runs s t n (jobs.Ready (at_place at (act.Store d (suc d) kind None)) ∷ []) (item.Do at (op.Store kind) ∷ (item.Drop ∷ [])) (suc (suc d)) d
-  stores d at kind p none ps r m known items rest stands f =
-      let q = at_place at (act.Store d (suc d) kind None) in
-      let x = headed s p q [] ps r m in
-      subst (λ xs. Follows t n (suc (suc d)) (item.Do at (op.Store kind) ∷ (item.Drop ∷ items)) (xs ++ rest)) (sym (x.is ∙ ap (λ xs. q ∷ xs) (empty x.back x.made))) (gives_store n d at kind items rest f)
-    where
-      empty : (ps : List PieceView) → Makes s p [] ps r → ps ≡ []
-      empty _ (nothing _) = refl
+  stores d at kind = piece_first s t n (at_place at (act.Store d (suc d) kind None)) (item.Do at (op.Store kind) ∷ (item.Drop ∷ [])) (suc (suc d)) d (λ items rest f. gives_store n d at kind items rest f)
 
   -- an operation on a copy of the newest value
   pub copies : (d : ℕ) (at : Place) (operation : Operation) (a : Act) → IsActBehind operation a d → Runs s t n (jobs.Ready (at_place at a) ∷ []) (item.Again ∷ (item.Do at operation ∷ [])) (suc d) (suc (suc d))
-  copies d at operation a is p none ps r m known items rest stands f =
-      let q = at_place at a in
-      let x = headed s p q [] ps r m in
-      subst (λ xs. Follows t n (suc d) (item.Again ∷ (item.Do at operation ∷ items)) (xs ++ rest)) (sym (x.is ∙ ap (λ xs. q ∷ xs) (empty x.back x.made))) (gives_again n d at operation a items rest is f)
-    where
-      empty : (ps : List PieceView) → Makes s p [] ps r → ps ≡ []
-      empty _ (nothing _) = refl
+  copies d at operation a is = piece_first s t n (at_place at a) (item.Again ∷ (item.Do at operation ∷ [])) (suc d) (suc (suc d)) (λ items rest f. gives_again n d at operation a items rest is f)
 
   -- a conversion of the newest value, where the types differ
   pub converts : (same : Bool) (d : ℕ) (at : Place) (old new : IntType) → Runs s t n (conversion_jobs same at d d old new) (cond same [] (item.Do at (op.Convert (scalar.Int new)) ∷ [])) (suc d) (suc d)
@@ -94,7 +81,7 @@ module _ (s : SettingView) (t : Templates) (n : ℕ) where
   -- ---- assignments
 
   -- a store whose value is used
-  keeps : (d : ℕ) (at : Place) (kind : declared.Scalar) → Runs s t n (jobs.Ready (at_place at (act.Store d (suc d) kind (Some (d, suc d)))) ∷ []) (item.Do at (op.Store kind) ∷ []) (suc (suc d)) (suc d)
+  pub keeps : (d : ℕ) (at : Place) (kind : declared.Scalar) → Runs s t n (jobs.Ready (at_place at (act.Store d (suc d) kind (Some (d, suc d)))) ∷ []) (item.Do at (op.Store kind) ∷ []) (suc (suc d)) (suc d)
   keeps d at kind = does s t n (suc (suc d)) (suc d) at (op.Store kind) _ (acts.store d kind)
 
   abbrev left : LvalueTree → TermTree → ℕ → ℕ → List Job → List Job

@@ -18,26 +18,27 @@ marked_there : (l : ℕ) (front ps : List PieceView) → 1 ≤ all_marked l (fro
 marked_there l [] ps = let e = one_here l in omega (arith, e)
 marked_there l (p ∷ front) ps = let le = marked_there l front ps in omega (arith, le)
 
+too_many : (k : ℕ) → 1 ≤ k → 1 + k ≤ 1 → ⊥
+too_many k a b = omega (arith, a, b)
+
+fewer : (k : ℕ) → 0 + k ≤ 1 → k ≤ 1
+fewer k a = omega (arith, a)
+
+-- a mark before that of the label is another one
+behind_other : (l m : ℕ) (front ps : List PieceView) → one l m + all_marked l (front ++ Mark l ∷ ps) ≤ 1 → (all_marked l (front ++ Mark l ∷ ps) ≤ 1 → behind_mark l (front ++ Mark l ∷ ps) ≡ Some ps) → behind_mark l (Mark m ∷ (front ++ Mark l ∷ ps)) ≡ Some ps
+behind_other l m front ps once later = by (l == m) once
+  where
+    by : (b : Bool) → cond b 1 0 + all_marked l (front ++ Mark l ∷ ps) ≤ 1 → cond b (Some (front ++ Mark l ∷ ps)) (behind_mark l (front ++ Mark l ∷ ps)) ≡ Some ps
+    by true more = absurd (too_many _ (marked_there l front ps) more)
+    by false more = later (fewer _ more)
+
 found : (l : ℕ) (front ps : List PieceView) → all_marked l (front ++ Mark l ∷ ps) ≤ 1 → behind_mark l (front ++ Mark l ∷ ps) ≡ Some ps
 found l [] ps once = here l ps
 found l (Do s ∷ front) ps once = found l front ps (omega (arith, once))
 found l (DoIfUsed s ∷ front) ps once = found l front ps (omega (arith, once))
 found l (End s exits ∷ front) ps once = found l front ps (omega (arith, once))
 found l (Call c ∷ front) ps once = found l front ps (omega (arith, once))
-found l (Mark m ∷ front) ps once = by (l == m) refl
-  where
-    twice : (b : Bool) → (l == m) ≡ b → cond b 1 0 + all_marked l (front ++ Mark l ∷ ps) ≤ 1
-    twice b e = subst (λ x. cond x 1 0 + all_marked l (front ++ Mark l ∷ ps) ≤ 1) e once
-
-    too_many : (k : ℕ) → 1 ≤ k → 1 + k ≤ 1 → ⊥
-    too_many k a b = omega (arith, a, b)
-
-    less : (k : ℕ) → 0 + k ≤ 1 → k ≤ 1
-    less k a = omega (arith, a)
-
-    by : (b : Bool) → (l == m) ≡ b → cond (l == m) (Some (front ++ Mark l ∷ ps)) (behind_mark l (front ++ Mark l ∷ ps)) ≡ Some ps
-    by true e = absurd (too_many _ (marked_there l front ps) (twice true e))
-    by false e = ap (λ x. cond x (Some (front ++ Mark l ∷ ps)) (behind_mark l (front ++ Mark l ∷ ps))) e ∙ found l front ps (less _ (twice false e))
+found l (Mark m ∷ front) ps once = behind_other l m front ps once (found l front ps)
 
 -- a label leads behind its mark
 pub leads : (t : Templates) (l : ℕ) (ps : List PieceView) → all_marked l (pieces t) ≤ 1 → Stands t (Mark l ∷ ps) → Leads t l ps

@@ -1,2 +1,6 @@
-mod SplitWorks
-pub mod TermsFollow
+pub mod Runs
+pub mod Labels
+pub mod About
+pub mod Operators
+pub mod Assignments
+pub mod Steps

@@ -88,6 +88,10 @@ module _ (s : SettingView) where
       no e = cc
   opened p _ _ r other (work _ j _ ps q _ _ also m (nothing _)) = subst (λ xs. Makes s (planless (parts s j p)) (parts s j p).jobs xs q) (sym (append-nil ps)) m
 
+  -- no works come to no pieces
+  pub none_made : (p : Plan) (ps : List PieceView) (r : Plan) → Makes s p [] ps r → ps ≡ []
+  none_made _ _ _ (nothing _) = refl
+
   -- a piece comes first
   pub record Headed (p : Plan) (q : PieceView) (js : List Job) (ps : List PieceView) (r : Plan) : Type 0 where
     pub back : List PieceView
@@ -106,8 +110,8 @@ module _ (s : SettingView) where
     abbrev pub RunsFrom : Plan → List Job → List Item → ℕ → ℕ → Type 0
     RunsFrom p js is d next = (ps : List PieceView) (r : Plan) → Makes s p js ps r → IsKnown t r → (items : List Item) (rest : List PieceView) → Stands t (ps ++ rest) → Follows t n next items rest → Follows t n d (is ++ items) (ps ++ rest)
 
-    abbrev pub Runs : List Job → List Item → ℕ → ℕ → Type 0
-    Runs js is d next = (p : Plan) → p.jobs ≡ [] → RunsFrom p js is d next
+    pub record Runs (js : List Job) (is : List Item) (d next : ℕ) : Type 0 where
+      pub from : (p : Plan) → p.jobs ≡ [] → RunsFrom p js is d next
 
     pub joined : (d : ℕ) (items : List Item) (ps front back rest : List PieceView) → ps ≡ front ++ back → Follows t n d items (front ++ (back ++ rest)) → Follows t n d items (ps ++ rest)
     joined d items ps front back rest e f = subst (λ xs. Follows t n d items (xs ++ rest)) (sym e) (subst (λ xs. Follows t n d items xs) (sym (append_assoc front back rest)) f)
@@ -121,26 +125,25 @@ module _ (s : SettingView) where
         let x = parted s p js ks ps r m in
         let here = split ps x.front x.back rest x.all stands in
         let grown = grows s x.between ks x.back r x.second in
-        let later = second x.between (jobs_none s p js x.front x.between x.first none) x.back r x.second known items rest (stands_behind t x.front (x.back ++ rest) here) f in
+        let later = second.from x.between (jobs_none s p js x.front x.between x.first none) x.back r x.second known items rest (stands_behind t x.front (x.back ++ rest) here) f in
         let all = first x.front x.between x.first (known_before t x.between r grown known) (hs ++ items) (x.back ++ rest) here later in
         joined d ((is ++ hs) ++ items) ps x.front x.back rest x.all (subst (λ xs. Follows t n d xs (x.front ++ (x.back ++ rest))) (sym (append_assoc is hs items)) all)
 
     pub then : (js ks : List Job) (is hs : List Item) (d middle next : ℕ) → Runs js is d middle → Runs ks hs middle next → Runs (js ++ ks) (is ++ hs) d next
-    then js ks is hs d middle next first second p none = then_from js ks is hs d middle next p none (first p none) second
+    then js ks is hs d middle next first second = record { from = λ p none. then_from js ks is hs d middle next p none (first.from p none) second }
+
+    -- one piece
+    pub piece_first : (q : PieceView) (is : List Item) (d next : ℕ) → ((items : List Item) (rest : List PieceView) → Follows t n next items rest → Follows t n d (is ++ items) (q ∷ rest)) → Runs (jobs.Ready q ∷ []) is d next
+    piece_first q is d next gives = record { from = λ p none ps r m known items rest stands f. let x = headed p q [] ps r m in subst (λ xs. Follows t n d (is ++ items) (xs ++ rest)) (sym (x.is ∙ ap (λ xs. q ∷ xs) (none_made p x.back r x.made))) (gives items rest f) }
 
     -- an instruction
     pub does : (d next : ℕ) (at : Place) (operation : Operation) (a : Act) → IsAct operation a d next → Runs (jobs.Ready (at_place at a) ∷ []) (item.Do at operation ∷ []) d next
-    does d next at operation a is p none ps r m known items rest stands f =
-        let x = headed p (at_place at a) [] ps r m in
-        subst (λ xs. Follows t n d (item.Do at operation ∷ items) (xs ++ rest)) (sym (x.is ∙ ap (λ xs. at_place at a ∷ xs) (empty x.back x.made))) (gives_step n d next at operation a items rest is f)
-      where
-        empty : (ps : List PieceView) → Makes s p [] ps r → ps ≡ []
-        empty _ (nothing _) = refl
+    does d next at operation a is = piece_first (at_place at a) (item.Do at operation ∷ []) d next (λ items rest f. gives_step n d next at operation a items rest is f)
 
     -- what is given is dropped
     pub dropped : (js : List Job) (is : List Item) (d : ℕ) → Runs js is d (suc d) → Runs js (is ++ item.Drop ∷ []) d d
-    dropped js is d runs p none ps r m known items rest stands f =
-        subst (λ xs. Follows t n d xs (ps ++ rest)) (sym (append_assoc is (item.Drop ∷ []) items)) (runs p none ps r m known (item.Drop ∷ items) rest stands (gives_drop n d items rest f))
+    dropped js is d runs = record { from = λ p none ps r m known items rest stands f.
+        subst (λ xs. Follows t n d xs (ps ++ rest)) (sym (append_assoc is (item.Drop ∷ []) items)) (runs.from p none ps r m known (item.Drop ∷ items) rest stands (gives_drop n d items rest f)) }
 
     -- an item gives way to others
     abbrev pub Unfolds : Item → List Item → ℕ → Type 0
@@ -148,8 +151,8 @@ module _ (s : SettingView) where
 
     -- and a work to its parts
     pub unfolds : (j : Job) (i : Item) (is : List Item) (d next : ℕ) → is_piece j ≡ false → Unfolds i is d → ((p : Plan) → p.jobs ≡ [] → RunsFrom (planless (parts s j p)) (parts s j p).jobs is d next) → Runs (j ∷ []) (i ∷ []) d next
-    unfolds j i is d next other gives inner p none ps r m known items rest stands f = gives items (ps ++ rest) (inner p none ps r (opened s p j ps r other m) known items rest stands f)
+    unfolds j i is d next other gives inner = record { from = λ p none ps r m known items rest stands f. gives items (ps ++ rest) (inner p none ps r (opened p j ps r other m) known items rest stands f) }
 
     -- which are the same for each plan
     pub consists : (j : Job) (js : List Job) (i : Item) (is : List Item) (d next : ℕ) → is_piece j ≡ false → Unfolds i is d → ((p : Plan) → p.jobs ≡ [] → (parts s j p).jobs ≡ js) → Runs js is d next → Runs (j ∷ []) (i ∷ []) d next
-    consists j js i is d next other gives same runs = unfolds j i is d next other gives (λ p none. subst (λ ks. RunsFrom (planless (parts s j p)) ks is d next) (sym (same p none)) (runs (planless (parts s j p)) refl))
+    consists j js i is d next other gives same runs = unfolds j i is d next other gives (λ p none. subst (λ ks. RunsFrom (planless (parts s j p)) ks is d next) (sym (same p none)) (runs.from (planless (parts s j p)) refl))

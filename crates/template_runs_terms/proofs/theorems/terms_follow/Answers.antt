@@ -1,5 +1,0 @@
-use Rattle.template_runs_terms.proofs.TermsFollow.{value}
-use Rattle.template_runs_terms.proofs.theorems.terms_follow.Goals as goal
-
-pub returns : goal.returns
-returns c = λ t s n d k e plain room p ps r makes none known items rest f. value t s n d k e plain room p ps r makes none known items rest f
