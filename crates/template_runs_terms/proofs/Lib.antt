@@ -4,3 +4,7 @@ pub mod About
 pub mod Operators
 pub mod Assignments
 pub mod Steps
+pub mod Laying
+pub mod Arguments
+pub mod LineCalls
+pub mod Branches

@@ -132,6 +132,17 @@ module _ (s : SettingView) where
     pub then : (js ks : List Job) (is hs : List Item) (d middle next : ℕ) → Runs js is d middle → Runs ks hs middle next → Runs (js ++ ks) (is ++ hs) d next
     then js ks is hs d middle next first second = record { from = λ p none. then_from js ks is hs d middle next p none (first.from p none) second }
 
+    -- some works, and then a piece behind which nothing follows here
+    pub then_ends : (js : List Job) (is : List Item) (d middle : ℕ) (p : Plan) → p.jobs ≡ [] → RunsFrom p js is d middle → (q : PieceView) (ps : List PieceView) (r : Plan) → Makes s p (js ++ jobs.Ready q ∷ []) ps r → IsKnown t r → (items : List Item) (rest : List PieceView) → Stands t (ps ++ rest)
+        → ((w : List PieceView) → Follows t n middle items (q ∷ w)) → Follows t n d (is ++ items) (ps ++ rest)
+    then_ends js is d middle p none first q ps r m known items rest stands last =
+        let x = parted s p js (jobs.Ready q ∷ []) ps r m in
+        let y = headed x.between q [] x.back r x.second in
+        let here = split ps x.front x.back rest x.all stands in
+        let grown = grows s x.between (jobs.Ready q ∷ []) x.back r x.second in
+        let later = subst (λ xs. Follows t n middle items (xs ++ rest)) (sym y.is) (last (y.back ++ rest)) in
+        joined d (is ++ items) ps x.front x.back rest x.all (first x.front x.between x.first (known_before t x.between r grown known) items (x.back ++ rest) here later)
+
     -- one piece
     pub piece_first : (q : PieceView) (is : List Item) (d next : ℕ) → ((items : List Item) (rest : List PieceView) → Follows t n next items rest → Follows t n d (is ++ items) (q ∷ rest)) → Runs (jobs.Ready q ∷ []) is d next
     piece_first q is d next gives = record { from = λ p none ps r m known items rest stands f. let x = headed p q [] ps r m in subst (λ xs. Follows t n d (is ++ items) (xs ++ rest)) (sym (x.is ∙ ap (λ xs. q ∷ xs) (none_made p x.back r x.made))) (gives items rest f) }
