@@ -8,3 +8,6 @@ pub mod Laying
 pub mod Arguments
 pub mod LineCalls
 pub mod Branches
+pub mod ConditionTests
+pub mod Choices
+pub mod Conditions
