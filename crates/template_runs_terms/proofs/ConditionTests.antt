@@ -54,7 +54,7 @@ pub name_there : (t : Templates) (x : NameView) (p q : Plan) → Grows (with_nam
 unfolding with_name
 name_there t x p q g known = known_name t (with_name x p) p.names x (known_before t (with_name x p) q g known) refl
 
-keeps_jobs : (x : NameView) (p : Plan) → (with_name x p).jobs ≡ p.jobs
+pub keeps_jobs : (x : NameView) (p : Plan) → (with_name x p).jobs ≡ p.jobs
 unfolding with_name
 keeps_jobs x p = refl
 

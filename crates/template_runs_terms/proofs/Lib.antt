@@ -11,3 +11,4 @@ pub mod Branches
 pub mod ConditionTests
 pub mod Choices
 pub mod Conditions
+pub mod PlainForms
