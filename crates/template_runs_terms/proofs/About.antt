@@ -1,5 +1,5 @@
 -- What is proved of a term, an lvalue and arguments.
-use Rattle.std.proofs.Common.{◌≡◌, ◌≤◌, ℕ, suc, ◌+◌, ◌-◌, ◌^◌, true, false, List, [], ◌∷◌, ◌++◌, Option, Some, None, refl, sym, subst}
+use Rattle.std.proofs.Common.{◌≡◌, ◌≤◌, ℕ, suc, ◌+◌, ◌-◌, ◌^◌, true, false, List, [], ◌∷◌, ◌++◌, Some, refl, subst}
 use Rattle.c_layout.specs.CheckedTrees as tree
 use Rattle.c_layout.specs.CheckedTrees.{TermTree, TermTrees, LvalueTree}
 use Rattle.flow_lower_tasks.specs.Pieces.{PieceView}
@@ -20,7 +20,7 @@ use Rattle.template_runs_follow.proofs.Constructions.{gives_value, gives_unused,
 use Rattle.template_runs_terms.specs.Rooms.{room, room_of_place, room_of_all}
 use Rattle.template_runs_terms.specs.SuitedTerms.{Suits, SuitsAsPlace, SuitAll}
 use Rattle.template_runs_terms.specs.TemplateParts.{IsKnown, Stands}
-use Rattle.template_runs_terms.proofs.Runs.{Runs, RunsFrom, unfolds, consists}
+use Rattle.template_runs_terms.proofs.Runs.{Runs, consists}
 
 -- so many temporaries from one on are there
 abbrev pub Fits : ℕ → ℕ → Type 0

@@ -1,15 +1,14 @@
 -- Arguments, and calls of the library.
-use Rattle.std.proofs.Common.{◌≡◌, ◌≤◌, ◌<◌, ℕ, suc, zero, ◌+◌, ◌-◌, ◌^◌, Bool, true, false, cond, List, [], ◌∷◌, ◌++◌, length, Option, Some, None, refl, arith, ap, sym, subst, ◌∙◌, append_assoc}
+use Rattle.std.proofs.Common.{◌≡◌, ◌≤◌, ℕ, suc, zero, ◌+◌, ◌-◌, Bool, true, false, cond, List, [], ◌∷◌, ◌++◌, length, Option, Some, None, refl, arith, ap, sym, subst, ◌∙◌, append_assoc}
 use Rattle.std.proofs.lemmas.List.{append-nil}
 use Rattle.cc_base.specs.declared.diagnostics.Place.{Place}
 use Rattle.c_layout.specs.Types.{Ty}
 use Rattle.c_layout.specs.CheckedTrees as tree
 use Rattle.c_layout.specs.CheckedTrees.{TermTree, TermTrees}
 use Rattle.c_layout.specs.declared.library_functions.LibFn.{LibFn}
-use Rattle.c_layout.specs.declared.library_functions.LibFn.TheVariants.{Fgets}
 use Rattle.flow_lower_tasks.specs.Acts as act
-use Rattle.flow_lower_tasks.specs.Pieces.{PieceView, Allocation, End, Mark, NoLine, Line}
-use Rattle.flow_lower_tasks.specs.Plans.{Plan, with_work, with_name, with_labels}
+use Rattle.flow_lower_tasks.specs.Pieces.{Allocation}
+use Rattle.flow_lower_tasks.specs.Plans.{Plan, with_work, with_name}
 use Rattle.flow_lower_tasks.specs.Settings.{SettingView}
 use Rattle.flow_lower_tasks.specs.Works as jobs
 use Rattle.flow_lower_tasks.specs.Works.{Job, behind}
@@ -21,12 +20,12 @@ use Rattle.ref_machine.specs.Operations as op
 use Rattle.ref_machine.specs.TermItems.{arguments, argument_count, left_if}
 use Rattle.template_runs.specs.TemplateStates.{Templates}
 use Rattle.template_runs_acts.specs.Acts.{temps_from, behind_call}
-use Rattle.template_runs_follow.specs.Follows.{at_place, Follows}
+use Rattle.template_runs_follow.specs.Follows.{at_place}
 use Rattle.template_runs_follow.proofs.Constructions.{gives_call}
 use Rattle.template_runs_terms.specs.Rooms.{room, room_of_all}
 use Rattle.template_runs_terms.specs.TemplateParts.{IsOfUnit}
 use Rattle.template_runs_terms.proofs.Runs.{Runs, then, piece_first, dropped}
-use Rattle.template_runs_terms.proofs.About.{Fits, About, AboutAll, Argued, argument_jobs, moved}
+use Rattle.template_runs_terms.proofs.About.{Fits, About, AboutAll, Argued, argument_jobs}
 use Rattle.template_runs_terms.proofs.Operators.{first_fits, second_fits, next_fits, sizes_same}
 use Rattle.template_runs_terms.proofs.Assignments.{nothing_done, one_more_job}
 

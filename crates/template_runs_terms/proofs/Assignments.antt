@@ -1,17 +1,15 @@
 -- Assignments, compound assignments and steps.
-use Rattle.std.proofs.Common.{◌≡◌, ◌≤◌, ℕ, suc, ◌+◌, ◌-◌, ◌^◌, Bool, true, false, cond, List, [], ◌∷◌, ◌++◌, Option, Some, None, refl, arith, ap, sym, subst, ◌∙◌, append_assoc}
+use Rattle.std.proofs.Common.{◌≡◌, ℕ, suc, Bool, true, false, cond, List, [], ◌∷◌, ◌++◌, Option, Some, None, refl, ap, sym, subst, ◌∙◌, append_assoc}
 use Rattle.cc_base.specs.declared.diagnostics.Place.{Place}
 use Rattle.cc_base.specs.declared.integer_operators.IntOp.{IntOp}
 use Rattle.cc_base.specs.declared.int_types.IntType.{IntType}
 use Rattle.c_layout.specs.Types.{same_kind}
 use Rattle.c_layout.specs.CheckedTrees.{TermTree, LvalueTree}
-use Rattle.c_layout.specs.declared.syntax_tree.expressions.StepOp.{StepOp}
-use Rattle.flow_program.specs.declared.machine_instructions.Amount.TheVariants.{Temp, One}
+use Rattle.flow_program.specs.declared.machine_instructions.Amount.TheVariants.{Temp}
 use Rattle.flow_program.specs.declared.machine_instructions.Scalar as declared
 use Rattle.flow_program.specs.declared.machine_instructions.Scalar.TheVariants as scalar
 use Rattle.flow_lower_tasks.specs.Acts as act
 use Rattle.flow_lower_tasks.specs.Acts.{Act}
-use Rattle.flow_lower_tasks.specs.Pieces.{PieceView}
 use Rattle.flow_lower_tasks.specs.Plans.{Plan, with_work}
 use Rattle.flow_lower_tasks.specs.Settings.{SettingView}
 use Rattle.flow_lower_tasks.specs.Works as jobs
@@ -21,7 +19,6 @@ use Rattle.ref_machine.specs.Items as item
 use Rattle.ref_machine.specs.Items.{Item}
 use Rattle.ref_machine.specs.Operations as op
 use Rattle.ref_machine.specs.Operations.{Operation}
-use Rattle.ref_machine.specs.TermItems as source
 use Rattle.template_runs.specs.TemplateStates.{Templates}
 use Rattle.template_runs_acts.specs.Acts as acts
 use Rattle.template_runs_acts.specs.Acts.{IsAct, IsActBehind}
@@ -29,7 +26,7 @@ use Rattle.template_runs_follow.specs.Follows.{at_place, Follows}
 use Rattle.template_runs_follow.proofs.Constructions.{gives_store, gives_again}
 use Rattle.template_runs_terms.proofs.Runs.{Runs, then, does, piece_first, none_made}
 use Rattle.template_runs_terms.proofs.About.{Valued, Addressed}
-use Rattle.template_runs_terms.proofs.Operators.{one_place, both_sides}
+use Rattle.template_runs_terms.proofs.Operators.{both_sides}
 
 -- ---- plans
 
@@ -59,6 +56,23 @@ converted_jobs js at to from old new p e = by (same_kind old new)
 -- lists, one behind the other
 pub in_order : {A : Type 0} (xs ws bs cs ds : List A) → (((xs ++ ws) ++ bs) ++ cs) ++ ds ≡ xs ++ (ws ++ (bs ++ (cs ++ ds)))
 in_order xs ws bs cs ds = append_assoc ((xs ++ ws) ++ bs) cs ds ∙ append_assoc (xs ++ ws) bs (cs ++ ds) ∙ append_assoc xs ws (bs ++ (cs ++ ds))
+
+-- the works of a compound assignment, where the temporaries are two numbers
+abbrev pub compound_jobs : LvalueTree → TermTree → Place → Place → IntType → IntType → IntOp → Option (ℕ × ℕ) → Bool → Bool → ℕ → ℕ → ℕ → List Job
+compound_jobs l a at here own kind sign kept one_way other_way d x y =
+    jobs.Address l d ∷ (jobs.Value a x ∷ (jobs.Ready (at_place here (act.Load y d (scalar.Int own)))
+    ∷ (conversion_jobs one_way at y y own kind ++ (jobs.Ready (at_place at (act.Binary x sign y (Temp x) kind)) ∷ (conversion_jobs other_way at x x kind own ++ jobs.Ready (at_place here (act.Store d x (scalar.Int own) kept)) ∷ [])))))
+
+abbrev pub compound_items : LvalueTree → TermTree → Place → Place → IntType → IntType → IntOp → Bool → Bool → List Item → List Item
+compound_items l a at here own kind sign one_way other_way is =
+    item.Address l ∷ (item.Value a ∷ (item.Do here (op.LoadUnder (scalar.Int own))
+    ∷ (cond one_way [] (item.Do at (op.Convert (scalar.Int kind)) ∷ []) ++ (item.Do at (op.Binary op.RightFirst sign kind) ∷ (cond other_way [] (item.Do at (op.Convert (scalar.Int own)) ∷ []) ++ (item.Do here (op.Store (scalar.Int own)) ∷ is))))))
+
+abbrev pub compound_shift_jobs : LvalueTree → TermTree → Place → Place → ℕ → Bool → Option (ℕ × ℕ) → ℕ → ℕ → ℕ → List Job
+compound_shift_jobs l a at here size back kept d x y = jobs.Address l d ∷ (jobs.Value a x ∷ (jobs.Ready (at_place here (act.Load y d scalar.Pointer)) ∷ (jobs.Ready (at_place at (act.Shift x y (Temp x) size back)) ∷ (jobs.Ready (at_place here (act.Store d x scalar.Pointer kept)) ∷ []))))
+
+abbrev pub compound_shift_items : LvalueTree → TermTree → Place → Place → ℕ → Bool → List Item → List Item
+compound_shift_items l a at here size back is = item.Address l ∷ (item.Value a ∷ (item.Do here (op.LoadUnder scalar.Pointer) ∷ (item.Do at (op.Shift op.RightFirst size back) ∷ (item.Do here (op.Store scalar.Pointer) ∷ is))))
 
 module _ (s : SettingView) (t : Templates) (n : ℕ) where
   -- nothing is done
@@ -113,17 +127,6 @@ module _ (s : SettingView) (t : Templates) (n : ℕ) where
       (then s t n (jobs.Ready (at_place at (act.Binary (suc d) sign (suc (suc d)) (Temp (suc d)) kind)) ∷ []) _ (item.Do at (op.Binary op.RightFirst sign kind) ∷ []) _ (suc (suc (suc d))) (suc (suc d)) next (does s t n (suc (suc (suc d))) (suc (suc d)) at (op.Binary op.RightFirst sign kind) _ (acts.binary_right (suc d) sign kind))
       (then s t n (conversion_jobs other_way at (suc d) (suc d) kind own) js (cond other_way [] (item.Do at (op.Convert (scalar.Int own)) ∷ [])) is (suc (suc d)) (suc (suc d)) next (converts other_way (suc d) at kind own) rest)))
 
-  -- the works of a compound assignment, where the temporaries are two numbers
-  abbrev pub compound_jobs : LvalueTree → TermTree → Place → Place → IntType → IntType → IntOp → Option (ℕ × ℕ) → Bool → Bool → ℕ → ℕ → ℕ → List Job
-  compound_jobs l a at here own kind sign kept one_way other_way d x y =
-      jobs.Address l d ∷ (jobs.Value a x ∷ (jobs.Ready (at_place here (act.Load y d (scalar.Int own)))
-      ∷ (conversion_jobs one_way at y y own kind ++ (jobs.Ready (at_place at (act.Binary x sign y (Temp x) kind)) ∷ (conversion_jobs other_way at x x kind own ++ jobs.Ready (at_place here (act.Store d x (scalar.Int own) kept)) ∷ [])))))
-
-  abbrev pub compound_items : LvalueTree → TermTree → Place → Place → IntType → IntType → IntOp → Bool → Bool → List Item → List Item
-  compound_items l a at here own kind sign one_way other_way is =
-      item.Address l ∷ (item.Value a ∷ (item.Do here (op.LoadUnder (scalar.Int own))
-      ∷ (cond one_way [] (item.Do at (op.Convert (scalar.Int kind)) ∷ []) ++ (item.Do at (op.Binary op.RightFirst sign kind) ∷ (cond other_way [] (item.Do at (op.Convert (scalar.Int own)) ∷ []) ++ (item.Do here (op.Store (scalar.Int own)) ∷ is))))))
-
   pub compounds : (l : LvalueTree) (a : TermTree) (at here : Place) (own kind : IntType) (sign : IntOp) (one_way other_way : Bool) (d x y : ℕ) → suc d ≡ x → suc (suc d) ≡ y → Addressed s t n l d → Valued s t n a (suc d)
       → Runs s t n (compound_jobs l a at here own kind sign (Some (d, x)) one_way other_way d x y) (compound_items l a at here own kind sign one_way other_way []) d (suc d)
   compounds l a at here own kind sign one_way other_way d x y is_x is_y first second =
@@ -144,12 +147,6 @@ module _ (s : SettingView) (t : Templates) (n : ℕ) where
   moves d next at here size back js is rest =
       then s t n (jobs.Ready (at_place here (act.Load (suc (suc d)) d scalar.Pointer)) ∷ []) _ (item.Do here (op.LoadUnder scalar.Pointer) ∷ []) _ (suc (suc d)) (suc (suc (suc d))) next (does s t n (suc (suc d)) (suc (suc (suc d))) here (op.LoadUnder scalar.Pointer) _ (acts.load_under d scalar.Pointer))
       (then s t n (jobs.Ready (at_place at (act.Shift (suc d) (suc (suc d)) (Temp (suc d)) size back)) ∷ []) js (item.Do at (op.Shift op.RightFirst size back) ∷ []) is (suc (suc (suc d))) (suc (suc d)) next (does s t n (suc (suc (suc d))) (suc (suc d)) at (op.Shift op.RightFirst size back) _ (acts.shift_right (suc d) size back)) rest)
-
-  abbrev pub compound_shift_jobs : LvalueTree → TermTree → Place → Place → ℕ → Bool → Option (ℕ × ℕ) → ℕ → ℕ → ℕ → List Job
-  compound_shift_jobs l a at here size back kept d x y = jobs.Address l d ∷ (jobs.Value a x ∷ (jobs.Ready (at_place here (act.Load y d scalar.Pointer)) ∷ (jobs.Ready (at_place at (act.Shift x y (Temp x) size back)) ∷ (jobs.Ready (at_place here (act.Store d x scalar.Pointer kept)) ∷ []))))
-
-  abbrev pub compound_shift_items : LvalueTree → TermTree → Place → Place → ℕ → Bool → List Item → List Item
-  compound_shift_items l a at here size back is = item.Address l ∷ (item.Value a ∷ (item.Do here (op.LoadUnder scalar.Pointer) ∷ (item.Do at (op.Shift op.RightFirst size back) ∷ (item.Do here (op.Store scalar.Pointer) ∷ is))))
 
   pub compound_shifts : (l : LvalueTree) (a : TermTree) (at here : Place) (size : ℕ) (back : Bool) (d x y : ℕ) → suc d ≡ x → suc (suc d) ≡ y → Addressed s t n l d → Valued s t n a (suc d)
       → Runs s t n (compound_shift_jobs l a at here size back (Some (d, x)) d x y) (compound_shift_items l a at here size back []) d (suc d)

@@ -1,11 +1,10 @@
 -- `&&`, `||` and `?:` as terms.
-use Rattle.std.proofs.Common.{◌≡◌, ◌≤◌, ◌<◌, ℕ, ℤ, pos, suc, ◌+◌, ◌-◌, ◌^◌, Bool, true, false, cond, List, [], ◌∷◌, ◌++◌, Option, Some, None, refl, arith, ap, sym, subst, ◌∙◌}
-use Rattle.cc_base.specs.declared.diagnostics.Place.{Place}
+use Rattle.std.proofs.Common.{◌≡◌, ◌≤◌, ◌<◌, ℕ, pos, suc, ◌+◌, ◌-◌, ◌^◌, true, false, List, [], ◌∷◌, ◌++◌, Some, None, arith, ap}
 use Rattle.c_layout.specs.CheckedTrees.{TermTree}
 use Rattle.c_layout.specs.declared.syntax_tree.expressions.LogicalOp.{LogicalOp}
 use Rattle.c_layout.specs.declared.syntax_tree.expressions.LogicalOp.TheVariants.{And, Or}
 use Rattle.flow_lower_tasks.specs.Acts as act
-use Rattle.flow_lower_tasks.specs.Pieces.{PieceView, End, Mark, When, Always}
+use Rattle.flow_lower_tasks.specs.Pieces.{PieceView, End, Mark}
 use Rattle.flow_lower_tasks.specs.Plans.{Plan, with_work, with_labels}
 use Rattle.flow_lower_tasks.specs.Settings.{SettingView}
 use Rattle.flow_lower_tasks.specs.TermKinds.{scalar_of, term_at, term_type}
@@ -20,10 +19,10 @@ use Rattle.ref_machine.specs.ConditionItems as source
 use Rattle.template_runs.specs.TemplateStates.{Templates}
 use Rattle.template_runs_follow.specs.Follows as follows
 use Rattle.template_runs_follow.specs.Follows.{own, Leads, IsEdge, Follows}
-use Rattle.template_runs_follow.proofs.Constructions.{gives_edges, gives_hop}
-use Rattle.template_runs_terms.specs.TemplateParts.{IsOfUnit, IsKnown, Stands}
-use Rattle.template_runs_terms.proofs.Runs.{Runs, RunsFrom, stands_behind, stands_after}
-use Rattle.template_runs_terms.proofs.About.{Valued, Decided}
+use Rattle.template_runs_follow.proofs.Constructions.{gives_edges}
+use Rattle.template_runs_terms.specs.TemplateParts.{IsOfUnit, Stands}
+use Rattle.template_runs_terms.proofs.Runs.{Runs, stands_behind, stands_after}
+use Rattle.template_runs_terms.proofs.About.{Valued}
 use Rattle.template_runs_terms.proofs.Laying.{from_piece, from_none, from_work, led, known_between}
 
 -- the piece of a branch
@@ -85,26 +84,28 @@ module _ (s : SettingView) (t : Templates) (fits : IsOfUnit t s) (n : ℕ) where
   left_of Or a b d last right items front back there on_right to_last to_right f g first = first _ _ (or_edges a b d last right items back there on_right to_last to_right f g)
 
   pub logical_runs : (sign : LogicalOp) (a b : TermTree) (d l : ℕ) → Valued s t n a d → Valued s t n b d → l + 3 ≤ 2 ^ 32 - 1 → Runs s t n (logical_jobs sign a b d l) (source.logical sign a b) d (suc d)
-  logical_runs sign a b d l first second few = record { from = λ p none ps r m known items rest stands f.
-      let qa = branching a d (lowered.left_targets sign (lowered.both (l + 2)) (l + 1)) (lowered.left_known sign d) in
-      let qb = branching b d (lowered.both (l + 2)) (lowered.right_known d) in
-      from_piece s r rest p (Mark l) _ ps (λ w. Stands t w → Follows t n d (source.logical sign a b ++ items) w) m
-      (λ back1 m1. from_work s r rest p (jobs.Value a d) _ back1 (λ w. Stands t (Mark l ∷ w) → Follows t n d (source.logical sign a b ++ items) (Mark l ∷ w)) none m1
-      (λ fa pa back2 ma none_a m2. from_piece s r rest pa qa _ back2 (λ w. Stands t (Mark l ∷ (fa ++ w)) → Follows t n d (source.logical sign a b ++ items) (Mark l ∷ (fa ++ w))) m2
-      (λ back3 m3. from_piece s r rest pa (Mark (l + 1)) _ back3 (λ w. Stands t (Mark l ∷ (fa ++ qa ∷ w)) → Follows t n d (source.logical sign a b ++ items) (Mark l ∷ (fa ++ qa ∷ w))) m3
-      (λ back4 m4. from_work s r rest pa (jobs.Value b d) _ back4 (λ w. Stands t (Mark l ∷ (fa ++ qa ∷ (Mark (l + 1) ∷ w))) → Follows t n d (source.logical sign a b ++ items) (Mark l ∷ (fa ++ qa ∷ (Mark (l + 1) ∷ w)))) none_a m4
-      (λ fb pb back5 mb none_b m5. from_piece s r rest pb qb _ back5 (λ w. Stands t (Mark l ∷ (fa ++ qa ∷ (Mark (l + 1) ∷ (fb ++ w)))) → Follows t n d (source.logical sign a b ++ items) (Mark l ∷ (fa ++ qa ∷ (Mark (l + 1) ∷ (fb ++ w))))) m5
-      (λ back6 m6. from_piece s r rest pb (Mark (l + 2)) [] back6 (λ w. Stands t (Mark l ∷ (fa ++ qa ∷ (Mark (l + 1) ∷ (fb ++ qb ∷ w)))) → Follows t n d (source.logical sign a b ++ items) (Mark l ∷ (fa ++ qa ∷ (Mark (l + 1) ∷ (fb ++ qb ∷ w))))) m6
-      (λ back7 m7. from_none s r rest pb back7 (λ w. Stands t (Mark l ∷ (fa ++ qa ∷ (Mark (l + 1) ∷ (fb ++ qb ∷ (Mark (l + 2) ∷ w))))) → Follows t n d (source.logical sign a b ++ items) (Mark l ∷ (fa ++ qa ∷ (Mark (l + 1) ∷ (fb ++ qb ∷ (Mark (l + 2) ∷ w)))))) m7
-      (λ stands.
-      let at_a = stands_after t (Mark l) (fa ++ qa ∷ (Mark (l + 1) ∷ (fb ++ qb ∷ (Mark (l + 2) ∷ rest)))) stands in
-      let at_right = stands_after t qa (Mark (l + 1) ∷ (fb ++ qb ∷ (Mark (l + 2) ∷ rest))) (stands_behind t fa (qa ∷ (Mark (l + 1) ∷ (fb ++ qb ∷ (Mark (l + 2) ∷ rest)))) at_a) in
-      let at_b = stands_after t (Mark (l + 1)) (fb ++ qb ∷ (Mark (l + 2) ∷ rest)) at_right in
-      let at_last = stands_after t qb (Mark (l + 2) ∷ rest) (stands_behind t fb (qb ∷ (Mark (l + 2) ∷ rest)) at_b) in
-      let to_last = led s t fits (l + 2) (l + 3) (l + 3) rest (two_more l) (itself (l + 3)) few at_last in
-      let to_right = led s t fits (l + 1) (l + 3) (l + 3) (fb ++ qb ∷ (Mark (l + 2) ∷ rest)) (one_more l) (itself (l + 3)) few at_right in
-      let right : Follows t n d (source.choice_of b (item.Truth true ∷ []) (item.Truth false ∷ []) ++ items) (fb ++ qb ∷ (Mark (l + 2) ∷ rest)) =
-          second.from pa none_a fb pb mb (known_between s t pb _ _ r m5 known) (item.Choose (term_at b) None (items_of (item.Truth true ∷ [])) (items_of (item.Truth false ∷ [])) ∷ items) (qb ∷ (Mark (l + 2) ∷ rest)) at_b (right_edges b d (l + 2) items (Mark (l + 2) ∷ rest) rest to_last f) in
-      follows.by_mark n d l _ _
-      (left_of sign a b d (l + 2) (l + 1) items fa (Mark (l + 1) ∷ (fb ++ qb ∷ (Mark (l + 2) ∷ rest))) rest (fb ++ qb ∷ (Mark (l + 2) ∷ rest)) to_last to_right f right
-      (λ held failed edges. first.from p none fa pa ma (known_between s t pa _ _ r m2 known) (item.Choose (term_at a) None held failed ∷ items) (qa ∷ (Mark (l + 1) ∷ (fb ++ qb ∷ (Mark (l + 2) ∷ rest)))) at_a edges)))))))))) stands }
+  logical_runs sign a b d l first second few = record {
+    from = λ p none ps r m known items rest stands f.
+        let qa = branching a d (lowered.left_targets sign (lowered.both (l + 2)) (l + 1)) (lowered.left_known sign d) in
+        let qb = branching b d (lowered.both (l + 2)) (lowered.right_known d) in
+        from_piece s r rest p (Mark l) _ ps (λ w. Stands t w → Follows t n d (source.logical sign a b ++ items) w) m
+        (λ back1 m1. from_work s r rest p (jobs.Value a d) _ back1 (λ w. Stands t (Mark l ∷ w) → Follows t n d (source.logical sign a b ++ items) (Mark l ∷ w)) none m1
+        (λ fa pa back2 ma none_a m2. from_piece s r rest pa qa _ back2 (λ w. Stands t (Mark l ∷ (fa ++ w)) → Follows t n d (source.logical sign a b ++ items) (Mark l ∷ (fa ++ w))) m2
+        (λ back3 m3. from_piece s r rest pa (Mark (l + 1)) _ back3 (λ w. Stands t (Mark l ∷ (fa ++ qa ∷ w)) → Follows t n d (source.logical sign a b ++ items) (Mark l ∷ (fa ++ qa ∷ w))) m3
+        (λ back4 m4. from_work s r rest pa (jobs.Value b d) _ back4 (λ w. Stands t (Mark l ∷ (fa ++ qa ∷ (Mark (l + 1) ∷ w))) → Follows t n d (source.logical sign a b ++ items) (Mark l ∷ (fa ++ qa ∷ (Mark (l + 1) ∷ w)))) none_a m4
+        (λ fb pb back5 mb none_b m5. from_piece s r rest pb qb _ back5 (λ w. Stands t (Mark l ∷ (fa ++ qa ∷ (Mark (l + 1) ∷ (fb ++ w)))) → Follows t n d (source.logical sign a b ++ items) (Mark l ∷ (fa ++ qa ∷ (Mark (l + 1) ∷ (fb ++ w))))) m5
+        (λ back6 m6. from_piece s r rest pb (Mark (l + 2)) [] back6 (λ w. Stands t (Mark l ∷ (fa ++ qa ∷ (Mark (l + 1) ∷ (fb ++ qb ∷ w)))) → Follows t n d (source.logical sign a b ++ items) (Mark l ∷ (fa ++ qa ∷ (Mark (l + 1) ∷ (fb ++ qb ∷ w))))) m6
+        (λ back7 m7. from_none s r rest pb back7 (λ w. Stands t (Mark l ∷ (fa ++ qa ∷ (Mark (l + 1) ∷ (fb ++ qb ∷ (Mark (l + 2) ∷ w))))) → Follows t n d (source.logical sign a b ++ items) (Mark l ∷ (fa ++ qa ∷ (Mark (l + 1) ∷ (fb ++ qb ∷ (Mark (l + 2) ∷ w)))))) m7
+        (λ stands.
+        let at_a = stands_after t (Mark l) (fa ++ qa ∷ (Mark (l + 1) ∷ (fb ++ qb ∷ (Mark (l + 2) ∷ rest)))) stands in
+        let at_right = stands_after t qa (Mark (l + 1) ∷ (fb ++ qb ∷ (Mark (l + 2) ∷ rest))) (stands_behind t fa (qa ∷ (Mark (l + 1) ∷ (fb ++ qb ∷ (Mark (l + 2) ∷ rest)))) at_a) in
+        let at_b = stands_after t (Mark (l + 1)) (fb ++ qb ∷ (Mark (l + 2) ∷ rest)) at_right in
+        let at_last = stands_after t qb (Mark (l + 2) ∷ rest) (stands_behind t fb (qb ∷ (Mark (l + 2) ∷ rest)) at_b) in
+        let to_last = led s t fits (l + 2) (l + 3) (l + 3) rest (two_more l) (itself (l + 3)) few at_last in
+        let to_right = led s t fits (l + 1) (l + 3) (l + 3) (fb ++ qb ∷ (Mark (l + 2) ∷ rest)) (one_more l) (itself (l + 3)) few at_right in
+        let right : Follows t n d (source.choice_of b (item.Truth true ∷ []) (item.Truth false ∷ []) ++ items) (fb ++ qb ∷ (Mark (l + 2) ∷ rest)) =
+        second.from pa none_a fb pb mb (known_between s t pb _ _ r m5 known) (item.Choose (term_at b) None (items_of (item.Truth true ∷ [])) (items_of (item.Truth false ∷ [])) ∷ items) (qb ∷ (Mark (l + 2) ∷ rest)) at_b (right_edges b d (l + 2) items (Mark (l + 2) ∷ rest) rest to_last f) in
+        follows.by_mark n d l _ _
+        (left_of sign a b d (l + 2) (l + 1) items fa (Mark (l + 1) ∷ (fb ++ qb ∷ (Mark (l + 2) ∷ rest))) rest (fb ++ qb ∷ (Mark (l + 2) ∷ rest)) to_last to_right f right
+        (λ held failed edges. first.from p none fa pa ma (known_between s t pa _ _ r m2 known) (item.Choose (term_at a) None held failed ∷ items) (qa ∷ (Mark (l + 1) ∷ (fb ++ qb ∷ (Mark (l + 2) ∷ rest)))) at_a edges)))))))))) stands;
+  }

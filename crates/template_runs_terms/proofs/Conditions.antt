@@ -1,5 +1,5 @@
 -- Conditions and their ways.
-use Rattle.std.proofs.Common.{◌≡◌, ◌≤◌, ◌<◌, ℕ, ℤ, suc, ◌+◌, ◌-◌, ◌^◌, Bool, true, false, cond, List, [], ◌∷◌, ◌++◌, Option, Some, None, refl, arith, ap, sym, subst, ◌∙◌}
+use Rattle.std.proofs.Common.{◌≡◌, ◌≤◌, ◌<◌, ℕ, ℤ, suc, ◌+◌, ◌-◌, ◌^◌, Bool, true, false, List, [], ◌∷◌, ◌++◌, Option, Some, None, refl, arith, ap, sym, subst, ◌∙◌}
 use Rattle.cc_base.specs.declared.diagnostics.Place.{Place}
 use Rattle.c_layout.specs.CheckedTrees as tree
 use Rattle.c_layout.specs.CheckedTrees.{TermTree, Typed}
@@ -17,32 +17,30 @@ use Rattle.flow_lower_tasks.specs.declared.pending_works.Targets.{Targets}
 use Rattle.flow_lower_expressions.specs.Branches.{left_targets}
 use Rattle.flow_lower_conditions.specs.Conditions as lowered
 use Rattle.flow_lower_conditions.specs.Conditions.{ReadView, read_by, flipped, to_targets, read_targets}
-use Rattle.flow_lower_conditions.specs.Tests.{Tested, opposite_of}
+use Rattle.flow_lower_conditions.specs.Tests.{opposite_of}
 use Rattle.flow_lower_functions.specs.Turns.{planless}
 use Rattle.flow_lower_growth.specs.Growth.{Grows}
-use Rattle.flow_lower_growth.proofs.Growth.{works, grows_not, grows_on, grows_work}
-use Rattle.flow_lower_growth.proofs.GrowingWorks.{grows, planless_grows}
+use Rattle.flow_lower_growth.proofs.Growth.{works, grows_not, grows_work}
+use Rattle.flow_lower_growth.proofs.GrowingWorks.{planless_grows}
 use Rattle.flow_lower_works.specs.Derivations.{parts, Makes}
 use Rattle.ref_machine.specs.Items as item
 use Rattle.ref_machine.specs.Items.{Item, Items, items_of, listed}
 use Rattle.ref_machine.specs.ConditionItems as source
-use Rattle.ref_machine.specs.TermItems.{arguments}
 use Rattle.ref_machine.specs.TermTests as source_tests
 use Rattle.template_runs.specs.TemplateStates.{Templates}
 use Rattle.template_runs_follow.specs.Follows as follows
 use Rattle.template_runs_follow.specs.Follows.{Leads, Follows}
 use Rattle.template_runs_follow.proofs.Constructions.{gives_choice}
 use Rattle.template_runs_terms.specs.Rooms.{room, room_of_all}
-use Rattle.template_runs_terms.specs.SuitedTerms.{Suits}
 use Rattle.template_runs_terms.specs.TemplateParts.{IsOfUnit, IsKnown, Stands}
-use Rattle.template_runs_terms.proofs.Runs.{Runs, opened, then_ends, known_before, stands_behind, stands_after}
+use Rattle.template_runs_terms.proofs.Runs.{opened, then_ends, stands_behind, stands_after}
 use Rattle.template_runs_terms.proofs.About.{Fits, Valued, Decided, DecidesFrom, Reads, argument_jobs}
 use Rattle.template_runs_terms.proofs.Arguments.{argued_jobs}
 use Rattle.template_runs_terms.proofs.Assignments.{one_more_job}
 use Rattle.template_runs_terms.proofs.Branches.{branching}
 use Rattle.template_runs_terms.proofs.ConditionTests.{tested_alike}
 use Rattle.template_runs_terms.proofs.LineCalls.{reading, condition_read}
-use Rattle.template_runs_terms.proofs.Laying.{from_piece, from_none, from_work, from_last, led, known_between, few_labels}
+use Rattle.template_runs_terms.proofs.Laying.{from_piece, from_work, led, known_between, few_labels}
 
 listed_same : (xs : List Item) → listed (items_of xs) ≡ xs
 listed_same [] = refl

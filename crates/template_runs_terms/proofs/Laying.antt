@@ -1,12 +1,12 @@
 -- The pieces of some works, from the first one on.
-use Rattle.std.proofs.Common.{◌≡◌, ◌≤◌, ◌<◌, ℕ, suc, ◌+◌, ◌-◌, ◌^◌, true, false, List, [], ◌∷◌, ◌++◌, refl, arith, ap, sym, subst, ◌∙◌, append_assoc}
+use Rattle.std.proofs.Common.{◌≡◌, ◌≤◌, ◌<◌, ℕ, ◌+◌, ◌-◌, ◌^◌, List, [], ◌∷◌, ◌++◌, arith, sym, subst, append_assoc}
 use Rattle.flow_lower_tasks.specs.Pieces.{PieceView, Mark}
 use Rattle.flow_lower_tasks.specs.Plans.{Plan, with_labels}
 use Rattle.flow_lower_tasks.specs.Settings.{SettingView}
 use Rattle.flow_lower_tasks.specs.Works as jobs
 use Rattle.flow_lower_tasks.specs.Works.{Job}
 use Rattle.flow_lower_functions.specs.Turns.{planless}
-use Rattle.flow_lower_works.specs.Derivations.{is_piece, parts, Makes}
+use Rattle.flow_lower_works.specs.Derivations.{parts, Makes}
 use Rattle.flow_lower_works.proofs.Derivations.{parted}
 use Rattle.flow_lower_growth.specs.Growth.{Grows}
 use Rattle.flow_lower_growth.proofs.Growth.{grows_on}

@@ -12,3 +12,5 @@ pub mod ConditionTests
 pub mod Choices
 pub mod Conditions
 pub mod PlainForms
+pub mod OtherForms
+pub mod Terms

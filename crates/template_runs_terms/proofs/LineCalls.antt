@@ -1,8 +1,8 @@
 -- Calls that read a line, for their value and for a condition.
-use Rattle.std.proofs.Common.{◌≡◌, ◌≤◌, ◌<◌, ℕ, suc, ◌+◌, ◌-◌, ◌^◌, Bool, true, false, cond, List, [], ◌∷◌, ◌++◌, Option, Some, None, refl, arith, ap, sym, subst, ◌∙◌, append_assoc}
+use Rattle.std.proofs.Common.{◌≡◌, ◌≤◌, ◌<◌, ℕ, suc, ◌+◌, ◌-◌, ◌^◌, List, [], ◌∷◌, ◌++◌, Option, Some, None, arith, ap, sym, subst, ◌∙◌, append_assoc}
 use Rattle.cc_base.specs.declared.diagnostics.Place.{Place}
 use Rattle.c_layout.specs.Types.{Ty}
-use Rattle.c_layout.specs.CheckedTrees.{TermTree, TermTrees}
+use Rattle.c_layout.specs.CheckedTrees.{TermTrees}
 use Rattle.c_layout.specs.declared.library_functions.LibFn.TheVariants.{Fgets}
 use Rattle.flow_lower_tasks.specs.Acts as act
 use Rattle.flow_lower_tasks.specs.Pieces.{PieceView, End, Mark, NoLine, Line}
@@ -10,14 +10,14 @@ use Rattle.flow_lower_tasks.specs.Plans.{Plan, with_work, with_labels}
 use Rattle.flow_lower_tasks.specs.Settings.{SettingView}
 use Rattle.flow_lower_tasks.specs.Works as jobs
 use Rattle.flow_lower_tasks.specs.Works.{Job, behind}
-use Rattle.flow_lower_expressions.specs.Calls.{line_value, line_exits, argued}
+use Rattle.flow_lower_expressions.specs.Calls.{line_value}
 use Rattle.flow_lower_works.specs.Derivations.{Makes}
 use Rattle.ref_machine.specs.Items as item
 use Rattle.ref_machine.specs.Items.{Item, Items, listed}
 use Rattle.ref_machine.specs.Operations as op
 use Rattle.ref_machine.specs.TermItems.{arguments, argument_count}
 use Rattle.template_runs.specs.TemplateStates.{Templates}
-use Rattle.template_runs_follow.specs.Follows.{at_place, Leads, Follows}
+use Rattle.template_runs_follow.specs.Follows.{Leads, Follows}
 use Rattle.template_runs_follow.proofs.Constructions.{gives_read, gives_line}
 use Rattle.template_runs_terms.specs.Rooms.{room_of_all}
 use Rattle.template_runs_terms.specs.TemplateParts.{IsOfUnit, IsKnown, Stands}
@@ -59,13 +59,15 @@ module _ (s : SettingView) (t : Templates) (fits : IsOfUnit t s) (n : ℕ) where
   -- the arguments stand, a line is read, and both ways lead to the label behind
   read_and_marked : (at : Place) (target : Option Ty) (d x y l : ℕ) → suc d ≡ x → suc (suc d) ≡ y → l + 1 ≤ 2 ^ 32 - 1
       → Runs s t n (jobs.Ready (reading at (Some d) d x y l l) ∷ (jobs.Ready (Mark l) ∷ [])) (item.Do at (op.Library Fgets 3 target) ∷ []) (suc (suc (suc d))) (suc d)
-  read_and_marked at target d x y l is_x is_y few = record { from = λ p none ps r m known items rest stands f.
-      from_piece s r rest p (reading at (Some d) d x y l l) (jobs.Ready (Mark l) ∷ []) ps (λ w. Stands t w → Follows t n (suc (suc (suc d))) (item.Do at (op.Library Fgets 3 target) ∷ items) w) m
-      (λ back m. from_piece s r rest p (Mark l) [] back (λ w. Stands t (reading at (Some d) d x y l l ∷ w) → Follows t n (suc (suc (suc d))) (item.Do at (op.Library Fgets 3 target) ∷ items) (reading at (Some d) d x y l l ∷ w)) m
-      (λ back m. from_none s r rest p back (λ w. Stands t (reading at (Some d) d x y l l ∷ (Mark l ∷ w)) → Follows t n (suc (suc (suc d))) (item.Do at (op.Library Fgets 3 target) ∷ items) (reading at (Some d) d x y l l ∷ (Mark l ∷ w))) m
-      (λ stands. subst (λ x. Follows t n (suc (suc (suc d))) (item.Do at (op.Library Fgets 3 target) ∷ items) (reading at (Some d) d x y l l ∷ (Mark l ∷ rest))) is_x
-      (subst (λ y. Follows t n (suc (suc (suc d))) (item.Do at (op.Library Fgets 3 target) ∷ items) (reading at (Some d) d (suc d) y l l ∷ (Mark l ∷ rest))) is_y
-      (gives_read n d l at target items (Mark l ∷ rest) rest (led s t fits l (l + 1) (l + 1) rest (one_less l) (itself (l + 1)) few (stands_after t (reading at (Some d) d x y l l) (Mark l ∷ rest) stands)) f))))) stands }
+  read_and_marked at target d x y l is_x is_y few = record {
+    from = λ p none ps r m known items rest stands f.
+        from_piece s r rest p (reading at (Some d) d x y l l) (jobs.Ready (Mark l) ∷ []) ps (λ w. Stands t w → Follows t n (suc (suc (suc d))) (item.Do at (op.Library Fgets 3 target) ∷ items) w) m
+        (λ back m. from_piece s r rest p (Mark l) [] back (λ w. Stands t (reading at (Some d) d x y l l ∷ w) → Follows t n (suc (suc (suc d))) (item.Do at (op.Library Fgets 3 target) ∷ items) (reading at (Some d) d x y l l ∷ w)) m
+        (λ back m. from_none s r rest p back (λ w. Stands t (reading at (Some d) d x y l l ∷ (Mark l ∷ w)) → Follows t n (suc (suc (suc d))) (item.Do at (op.Library Fgets 3 target) ∷ items) (reading at (Some d) d x y l l ∷ (Mark l ∷ w))) m
+        (λ stands. subst (λ x. Follows t n (suc (suc (suc d))) (item.Do at (op.Library Fgets 3 target) ∷ items) (reading at (Some d) d x y l l ∷ (Mark l ∷ rest))) is_x
+        (subst (λ y. Follows t n (suc (suc (suc d))) (item.Do at (op.Library Fgets 3 target) ∷ items) (reading at (Some d) d (suc d) y l l ∷ (Mark l ∷ rest))) is_y
+        (gives_read n d l at target items (Mark l ∷ rest) rest (led s t fits l (l + 1) (l + 1) rest (one_less l) (itself (l + 1)) few (stands_after t (reading at (Some d) d x y l l) (Mark l ∷ rest) stands)) f))))) stands;
+  }
     where
       one_less : (l : ℕ) → l < l + 1
       one_less l = omega arith

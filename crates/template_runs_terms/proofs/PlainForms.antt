@@ -1,5 +1,5 @@
 -- Each form of term without branches, from what is proved of its parts.
-use Rattle.std.proofs.Common.{◌≡◌, ◌≤◌, ℕ, ℤ, pos, suc, ◌+◌, ◌-◌, ◌^◌, Bool, true, false, cond, List, [], ◌∷◌, ◌++◌, length, Option, Some, None, refl, arith, ap, sym, subst, ◌∙◌}
+use Rattle.std.proofs.Common.{◌≡◌, ◌≤◌, ℕ, ℤ, pos, suc, ◌+◌, ◌-◌, Bool, true, false, cond, List, [], ◌∷◌, ◌++◌, length, Option, Some, None, refl, arith, ap, sym, subst, ◌∙◌}
 use Rattle.cc_base.specs.declared.diagnostics.Place.{Place}
 use Rattle.cc_base.specs.declared.integer_operators.UnOp.TheVariants.{Neg, Compl}
 use Rattle.c_layout.specs.Types.{Ty}
@@ -12,7 +12,7 @@ use Rattle.c_layout.specs.declared.checked_tree.checked_terms.ConversionKind.The
 use Rattle.c_layout.specs.declared.checked_tree.checked_terms.ObjectRef.{ObjectRef}
 use Rattle.flow_lower_tasks.specs.Acts as act
 use Rattle.flow_lower_tasks.specs.Pieces.{NameView, PieceView, Literal}
-use Rattle.flow_lower_tasks.specs.Plans.{Plan, with_work, with_name, name_of_object}
+use Rattle.flow_lower_tasks.specs.Plans.{Plan, with_name, name_of_object}
 use Rattle.flow_lower_tasks.specs.Settings.{SettingView}
 use Rattle.flow_lower_tasks.specs.TermKinds.{meaning, relation, scalar_of, integer_type, term_type, lvalue_at, lvalue_type, is_null_constant, struct_number}
 use Rattle.flow_lower_tasks.specs.Works as jobs
@@ -23,7 +23,6 @@ use Rattle.flow_lower_expressions.specs.Values.{integer_act, moved_pointer}
 use Rattle.flow_lower_conditions.specs.Conditions as lowered
 use Rattle.flow_lower_conditions.specs.Conditions.{LineCallView, ReadView, line_call, line_call_beside, read_by, read_test, compared_read}
 use Rattle.flow_lower_functions.specs.Turns.{planless}
-use Rattle.flow_lower_growth.specs.Growth.{Grows}
 use Rattle.flow_lower_growth.proofs.Growth.{grows_not, grows_work}
 use Rattle.flow_lower_growth.proofs.GrowingWorks.{planless_grows}
 use Rattle.flow_lower_works.specs.Derivations.{parts, Makes}
@@ -40,8 +39,8 @@ use Rattle.template_runs_acts.specs.Acts.{IsAct}
 use Rattle.template_runs_follow.specs.Follows.{Names, Follows, at_place}
 use Rattle.template_runs_follow.proofs.Constructions.{gives_address, gives_object, gives_literal}
 use Rattle.template_runs_terms.specs.Rooms.{room, room_of_place, room_of_all}
-use Rattle.template_runs_terms.specs.SuitedTerms.{Suits, SuitsAsPlace}
-use Rattle.template_runs_terms.specs.TemplateParts.{IsOfUnit, IsKnown, Stands}
+use Rattle.template_runs_terms.specs.SuitedTerms.{Suits}
+use Rattle.template_runs_terms.specs.TemplateParts.{IsOfUnit}
 use Rattle.template_runs_terms.proofs.Runs.{Runs, RunsFrom, then, does, dropped, unfolds, piece_first, one_job, two_jobs, three_jobs}
 use Rattle.template_runs_terms.proofs.About.{Fits, Valued, Done, Addressed, Reads, About, AboutPlace, valued, done, addressed}
 use Rattle.template_runs_terms.proofs.Operators.{first_fits, second_fits, next_fits, one_fits, other_fits, integer_is, shift_is, copy_is, one_operand, one_place, two_operands, two_places, sizes_same}

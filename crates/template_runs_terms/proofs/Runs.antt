@@ -5,7 +5,7 @@ use Rattle.std.proofs.lemmas.Option.{slice_get-get_or, slice_get_within, get_or_
 use Rattle.std.proofs.Math.Seq.{get_or-append_seam}
 use Rattle.cc_base.specs.declared.diagnostics.Place.{Place}
 use Rattle.flow_lower_tasks.specs.Acts.{Act}
-use Rattle.flow_lower_tasks.specs.Pieces.{NameView, PieceView, Do}
+use Rattle.flow_lower_tasks.specs.Pieces.{NameView, PieceView}
 use Rattle.flow_lower_tasks.specs.Plans.{Plan, with_work}
 use Rattle.flow_lower_tasks.specs.Settings.{SettingView}
 use Rattle.flow_lower_tasks.specs.Works as jobs
@@ -153,8 +153,10 @@ module _ (s : SettingView) where
 
     -- what is given is dropped
     pub dropped : (js : List Job) (is : List Item) (d : ℕ) → Runs js is d (suc d) → Runs js (is ++ item.Drop ∷ []) d d
-    dropped js is d runs = record { from = λ p none ps r m known items rest stands f.
-        subst (λ xs. Follows t n d xs (ps ++ rest)) (sym (append_assoc is (item.Drop ∷ []) items)) (runs.from p none ps r m known (item.Drop ∷ items) rest stands (gives_drop n d items rest f)) }
+    dropped js is d runs = record {
+      from = λ p none ps r m known items rest stands f.
+          subst (λ xs. Follows t n d xs (ps ++ rest)) (sym (append_assoc is (item.Drop ∷ []) items)) (runs.from p none ps r m known (item.Drop ∷ items) rest stands (gives_drop n d items rest f));
+    }
 
     -- an item gives way to others
     abbrev pub Unfolds : Item → List Item → ℕ → Type 0

@@ -1,5 +1,5 @@
 -- `++` and `--`.
-use Rattle.std.proofs.Common.{◌≡◌, ◌≤◌, ℕ, suc, ◌+◌, ◌-◌, ◌^◌, Bool, true, false, cond, List, [], ◌∷◌, ◌++◌, Option, Some, None, refl, arith, ap, sym, subst, ◌∙◌, append_assoc}
+use Rattle.std.proofs.Common.{◌≡◌, ℕ, suc, Bool, true, false, cond, List, [], ◌∷◌, ◌++◌, Option, Some, None, subst}
 use Rattle.cc_base.specs.declared.diagnostics.Place.{Place}
 use Rattle.cc_base.specs.declared.integer_operators.IntOp.{IntOp}
 use Rattle.cc_base.specs.declared.int_types.IntType.{IntType}
@@ -50,7 +50,7 @@ module _ (s : SettingView) (t : Templates) (n : ℕ) where
   -- a conversion back, and then what comes behind
   with_back : (d next : ℕ) (at : Place) (own kind : IntType) (other_way : Bool) (js : List Job) (is : List Item) → Runs s t n js is (suc d) next
       → Runs s t n (conversion_jobs other_way at d d kind own ++ js) (cond other_way [] (item.Do at (op.Convert (scalar.Int own)) ∷ []) ++ is) (suc d) next
-  with_back d next at own kind other_way js is rest = then s t n (conversion_jobs other_way at d d kind own) js (cond other_way [] (item.Do at (op.Convert (scalar.Int own)) ∷ []) ) is (suc d) (suc d) next (converts s t n other_way d at kind own) rest
+  with_back d next at own kind other_way js is rest = then s t n (conversion_jobs other_way at d d kind own) js (cond other_way [] (item.Do at (op.Convert (scalar.Int own)) ∷ [])) is (suc d) (suc d) next (converts s t n other_way d at kind own) rest
 
   -- ---- the old value is not kept
 

@@ -1,5 +1,5 @@
 -- Terms follow in their pieces, whatever comes behind.
-use Rattle.std.specs.Prelude.{◌≡◌, ◌≤◌, ℕ, suc, ◌+◌, ◌-◌, ◌^◌, Bool, true, false, List, [], ◌∷◌, ◌++◌}
+use Rattle.std.specs.Prelude.{◌≡◌, ◌≤◌, ℕ, suc, ◌+◌, ◌-◌, ◌^◌, true, false, List, [], ◌∷◌, ◌++◌}
 use Rattle.c_layout.specs.CheckedTrees.{TermTree}
 use Rattle.flow_lower_tasks.specs.Pieces.{PieceView}
 use Rattle.flow_lower_tasks.specs.Plans.{Plan}
