@@ -1,2 +1,3 @@
 pub mod HeldValues
 pub mod OperationsAgree
+pub mod CallsAgree

@@ -1,12 +1,11 @@
 -- Operations and their instructions do the same.
-use Rattle.std.proofs.Common.{◌≡◌, ℕ, suc, Bool, true, false, cond, List, [], ◌∷◌, length, Option, Some, None, refl, arith, sym, subst}
+use Rattle.std.proofs.Common.{◌≡◌, ℕ, suc, Bool, true, false, cond, List, [], ◌∷◌, length, Some, None, refl, arith, sym, subst}
 use Rattle.c_layout.specs.Types.{Struct}
 use Rattle.c_layout.specs.declared.data_model.Model.{Model}
 use Rattle.c_layout.specs.declared.leaf_lists.Class.{Class}
 use Rattle.flow_program.specs.declared.machine_instructions.Amount.TheVariants.{Temp, One}
 use Rattle.flow_program.specs.declared.machine_instructions.Scalar as declared
 use Rattle.lib_models_memory.specs.Labels.{no_labels}
-use Rattle.lib_models_memory.specs.Bytes.{MachinePointer}
 use Rattle.lib_models_memory.specs.Scalars.{Scalar, integer, pointer}
 use Rattle.lib_models_effects.specs.Worlds.{World, Why, Reply, goes, stops, Stuck, Left, behind}
 use Rattle.lib_models_effects.specs.Operands.{is_of_kind}
@@ -28,7 +27,7 @@ use Rattle.ref_machine.specs.Operations.{Operation, pushing, LeftFirst, RightFir
 use Rattle.template_runs.specs.TemplateStates.{Templates, Standing}
 use Rattle.template_runs.specs.TemplateActs.{in_flow, from_flow, perform}
 use Rattle.template_runs_acts.specs.Acts as acts
-use Rattle.template_runs_acts.specs.Acts.{Holds, IsAct, SameReply, SameStore}
+use Rattle.template_runs_acts.specs.Acts.{Holds, IsAct, IsActBehind, SameReply, SameStore}
 use Rattle.template_runs_acts.proofs.HeldValues.{holds_put}
 
 -- ---- one value more
@@ -87,6 +86,13 @@ module _ (t : Templates) where
       (acts.both_go (b ∷ vs) _ w (holds_put b vs s.temps rest) refl)
   kept_value s b p vs _ holds (stopped why w) = acts.both_stop why w
 
+  -- the value below is kept
+  old_kept : (s : Standing) (b old p : Scalar) (vs : List Scalar) (reply : Reply Scalar) → Holds (b ∷ (old ∷ (p ∷ vs))) s.temps → SameReply s (suc (length vs)) (behind reply (λ _ w. goes (old ∷ vs) w)) (behind (storing (in_flow s) (Some (length vs, suc (length vs))) reply) (from_flow s))
+  old_kept s b old p vs (goes v w) (newest, (middle, (oldest, rest))) =
+      subst (λ o. SameReply s (suc (length vs)) (goes (old ∷ vs) w) (behind (flow.if_some (record (in_flow s) { world = w }) o (λ v. flow.next (flow.put (record (in_flow s) { world = w }) (length vs) v w))) (from_flow s))) (sym middle)
+      (acts.both_go (old ∷ vs) _ w (holds_put old vs s.temps rest) refl)
+  old_kept s b old p vs (stops why w) holds = acts.both_stop why w
+
   -- ---- operations with their values in place
 
   abbrev Same : Standing → Operation → Act → ℕ → List Scalar → Type 0
@@ -107,6 +113,12 @@ module _ (t : Templates) where
   with_two a operation next d (v ∷ []) s use_it holds e = absurd (no_values d (one_less 0 (suc d) e))
   with_two a operation next d (v ∷ (u ∷ vs)) s use_it holds e = subst (λ n. Same s operation (a n) (next n) (v ∷ (u ∷ vs))) (one_less (length vs) d (one_less (suc (length vs)) (suc d) e)) (use_it v u vs holds)
 
+  with_three : (a : ℕ → Act) (operation : Operation) (next : ℕ → ℕ) (d : ℕ) (vs : List Scalar) (s : Standing) → ((v u x : Scalar) (vs : List Scalar) → Holds (v ∷ (u ∷ (x ∷ vs))) s.temps → Same s operation (a (length vs)) (next (length vs)) (v ∷ (u ∷ (x ∷ vs)))) → Holds vs s.temps → length vs ≡ suc (suc (suc d)) → Same s operation (a d) (next d) vs
+  with_three a operation next d [] s use_it holds e = absurd (no_values (suc (suc d)) e)
+  with_three a operation next d (v ∷ []) s use_it holds e = absurd (no_values (suc d) (one_less 0 (suc (suc d)) e))
+  with_three a operation next d (v ∷ (u ∷ [])) s use_it holds e = absurd (no_values d (one_less 0 (suc d) (one_less 1 (suc (suc d)) e)))
+  with_three a operation next d (v ∷ (u ∷ (x ∷ vs))) s use_it holds e = subst (λ n. Same s operation (a n) (next n) (v ∷ (u ∷ (x ∷ vs)))) (one_less (length vs) d (one_less (suc (length vs)) (suc d) (one_less (suc (suc (length vs))) (suc (suc d)) e))) (use_it v u x vs holds)
+
   pub agree : (operation : Operation) (a : Act) (d next : ℕ) (vs : List Scalar) (s : Standing) → IsAct operation a d next → Holds vs s.temps → length vs ≡ d → Same s operation a next vs
   agree _ _ d _ vs s (acts.constant _ n kind) holds e = subst (λ k. Same s (op.Constant n) (act.Constant k n kind) (suc k) vs) e (gives_one vs s (goes (integer n no_labels) s.world) holds)
   agree _ _ _ _ vs s (acts.load d kind) holds e = with_one (λ k. act.Load k k kind) (op.Load kind) (λ k. suc k) d vs s (λ v vs h. on_one s v vs (load t.unit.model kind) h) holds e
@@ -117,6 +129,9 @@ module _ (t : Templates) where
   agree _ _ _ _ vs s (acts.store d kind) holds e =
       with_two (λ k. act.Store k (suc k) kind (Some (k, suc k))) (op.Store kind) (λ k. suc k) d vs s
       (λ b p vs h. in_temp s _ (length vs) p _ _ h.1.0 (in_temp s _ (suc (length vs)) b _ _ h.0 (kept_value s b p vs (store t.unit.model kind p b s.world) h (stores t.unit.model kind p b s.world)))) holds e
+  agree _ _ _ _ vs s (acts.store_over d kind) holds e =
+      with_three (λ k. act.Store k (suc (suc k)) kind (Some (k, suc k))) (op.StoreOver kind) (λ k. suc k) d vs s
+      (λ b old p vs h. in_temp s _ (length vs) p _ _ h.1.1.0 (in_temp s _ (suc (suc (length vs))) b _ _ h.0 (old_kept s b old p vs (store t.unit.model kind p b s.world) h))) holds e
   agree _ _ _ _ vs s (acts.copy d n) holds e = with_two (λ k. act.Copy k (suc k) n) (op.Copy (Struct n)) (λ k. suc k) d vs s (λ b a vs h. on_two s b a vs (copy_struct t.unit.model (op.leaves t.unit (Struct n)) (op.size_of t.unit (Struct n))) h) holds e
   agree _ _ _ _ vs s (acts.narrow d offset size) holds e = with_one (λ k. act.Narrow k k offset size) (op.Narrow offset size) (λ k. suc k) d vs s (λ v vs h. on_one s v vs (λ p w. narrow p offset size w) h) holds e
   agree _ _ _ _ vs s (acts.shift_left d size back) holds e = with_two (λ k. act.Shift k k (Temp (suc k)) size back) (op.Shift LeftFirst size back) (λ k. suc k) d vs s (λ b a vs h. on_two s b a vs (λ p n w. shift p n size back w) h) holds e
@@ -143,3 +158,10 @@ module _ (t : Templates) where
 
   pub stores_agree : (kind : declared.Scalar) (v p : Scalar) (vs : List Scalar) (s : Standing) → Holds (v ∷ (p ∷ vs)) s.temps → SameStore s vs (op.perform t.unit (op.Store kind) (v ∷ (p ∷ vs)) s.world) (perform t (act.Store (length vs) (suc (length vs)) kind None) s)
   stores_agree kind v p vs s (newest, (older, rest)) = in_temp_stored s vs (length vs) p _ _ older (in_temp_stored s vs (suc (length vs)) v _ _ newest (no_value_kept s v vs (store t.unit.model kind p v s.world) (stores t.unit.model kind p v s.world)))
+
+  -- ---- operations on a copy of the newest value
+
+  pub copies_agree : (operation : Operation) (a : Act) (v : Scalar) (vs : List Scalar) (s : Standing) → IsActBehind operation a (length vs) → Holds (v ∷ vs) s.temps → SameReply s (suc (suc (length vs))) (op.perform t.unit operation (v ∷ (v ∷ vs)) s.world) (perform t a s)
+  copies_agree _ _ v vs s (acts.binary_one _ sign kind) holds = in_temp s _ (length vs) v _ _ holds.0 (gives_one (v ∷ vs) s (binary sign kind v plain_one s.world) holds)
+  copies_agree _ _ v vs s (acts.shift_one _ size back) holds = in_temp s _ (length vs) v _ _ holds.0 (gives_one (v ∷ vs) s (shift v plain_one size back s.world) holds)
+  copies_agree _ _ v vs s (acts.convert _ old new) holds = in_temp s _ (length vs) v _ _ holds.0 (gives_one (v ∷ vs) s (convert new v s.world) holds)

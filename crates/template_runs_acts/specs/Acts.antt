@@ -1,11 +1,12 @@
 -- Which instruction does what an operator does to the values that are pending: a value that is computed while d
 -- values are pending is in temporary d.
-use Rattle.std.specs.Prelude.{◌≡◌, ℕ, suc, ℤ, Bool, List, [], ◌∷◌, length, Option, Some, None}
+use Rattle.std.specs.Prelude.{◌≡◌, ℕ, zero, suc, ◌+◌, ℤ, Bool, cond, List, [], ◌∷◌, ◌++◌, length, Option, Some, None}
 use Rattle.cc_base.specs.declared.integer_operators.IntOp.{IntOp}
 use Rattle.cc_base.specs.declared.integer_operators.UnOp.{UnOp}
 use Rattle.cc_base.specs.declared.integer_operators.Rel.{Rel}
 use Rattle.cc_base.specs.declared.int_types.IntType.{IntType}
-use Rattle.c_layout.specs.Types.{Struct}
+use Rattle.c_layout.specs.Types.{Ty, Struct}
+use Rattle.c_layout.specs.declared.library_functions.LibFn.{LibFn}
 use Rattle.flow_program.specs.declared.machine_instructions.Amount.TheVariants.{Temp, One}
 use Rattle.flow_program.specs.declared.machine_instructions.Scalar as declared
 use Rattle.lib_models_memory.specs.Scalars.{Scalar}
@@ -13,7 +14,9 @@ use Rattle.lib_models_effects.specs.Worlds.{World, Why, Reply, goes, stops}
 use Rattle.flow_lower_tasks.specs.Acts as act
 use Rattle.flow_lower_tasks.specs.Acts.{Act}
 use Rattle.ref_machine.specs.Operations as op
-use Rattle.ref_machine.specs.Operations.{Operation, LeftFirst, RightFirst}
+use Rattle.flow_lower_expressions.specs.Calls.{gives, result_temp}
+use Rattle.flow_program_machine.specs.FlowStates.{values_of}
+use Rattle.ref_machine.specs.Operations.{Operation, LeftFirst, RightFirst, newest, target_size}
 use Rattle.template_runs.specs.TemplateStates.{Templates, Standing}
 use Rattle.template_runs.specs.TemplateActs as template
 
@@ -29,6 +32,7 @@ pub data IsAct : Operation → Act → ℕ → ℕ → Type 0 where
   load_over : (d : ℕ) (kind : declared.Scalar) → IsAct (op.LoadOver kind) (act.Load (suc d) d kind) (suc d) (suc (suc d))
   load_under : (d : ℕ) (kind : declared.Scalar) → IsAct (op.LoadUnder kind) (act.Load (suc (suc d)) d kind) (suc (suc d)) (suc (suc (suc d)))
   store : (d : ℕ) (kind : declared.Scalar) → IsAct (op.Store kind) (act.Store d (suc d) kind (Some (d, suc d))) (suc (suc d)) (suc d)
+  store_over : (d : ℕ) (kind : declared.Scalar) → IsAct (op.StoreOver kind) (act.Store d (suc (suc d)) kind (Some (d, suc d))) (suc (suc (suc d))) (suc d)
   copy : (d n : ℕ) → IsAct (op.Copy (Struct n)) (act.Copy d (suc d) n) (suc (suc d)) (suc d)
   narrow : (d offset size : ℕ) → IsAct (op.Narrow offset size) (act.Narrow d d offset size) (suc d) (suc d)
   shift_left : (d size : ℕ) (back : Bool) → IsAct (op.Shift LeftFirst size back) (act.Shift d d (Temp (suc d)) size back) (suc (suc d)) (suc d)
@@ -60,3 +64,34 @@ pub data SameStore (s : Standing) (vs : List Scalar) : Reply (List Scalar) → R
 
 abbrev pub StoresAreActs : Type 0
 StoresAreActs = (t : Templates) (kind : declared.Scalar) (v p : Scalar) (vs : List Scalar) (s : Standing) → Holds (v ∷ (p ∷ vs)) s.temps → SameStore s vs (op.perform t.unit (op.Store kind) (v ∷ (p ∷ vs)) s.world) (template.perform t (act.Store (length vs) (suc (length vs)) kind None) s)
+
+-- an operation on a copy of the newest value, where so many are pending below it: the instruction leaves that value and puts
+-- the result behind it
+pub data IsActBehind : Operation → Act → ℕ → Type 0 where
+  binary_one : (d : ℕ) (sign : IntOp) (kind : IntType) → IsActBehind (op.BinaryByOne sign kind) (act.Binary (suc d) sign d One kind) d
+  shift_one : (d size : ℕ) (back : Bool) → IsActBehind (op.ShiftByOne size back) (act.Shift (suc d) d One size back) d
+  convert : (d : ℕ) (old new : declared.Scalar) → IsActBehind (op.Convert new) (act.Convert (suc d) d old new) d
+
+-- where the newest value is pending twice and stands in one temporary, they do the same
+abbrev pub CopiesAreActs : Type 0
+CopiesAreActs = (t : Templates) (operation : Operation) (a : Act) (v : Scalar) (vs : List Scalar) (s : Standing) → IsActBehind operation a (length vs) → Holds (v ∷ vs) s.temps → SameReply s (suc (suc (length vs))) (op.perform t.unit operation (v ∷ (v ∷ vs)) s.world) (template.perform t a s)
+
+-- ---- calls of the library
+
+-- so many temporaries from one on
+abbrev pub temps_from : ℕ → ℕ → List ℕ
+temps_from d zero = []
+temps_from d (suc n) = temps_from d n ++ (d + n) ∷ []
+
+-- how many values are pending behind a call of the library
+abbrev pub behind_call : LibFn → ℕ → ℕ
+behind_call function d = cond (gives function) (suc d) d
+
+-- the arguments stand in the temporaries from one on, and there the result is put
+abbrev pub CallsAreActs : Type 0
+CallsAreActs = (t : Templates) (function : LibFn) (d count : ℕ) (target : Option Ty) (site : Option ℕ) (vs : List Scalar) (s : Standing) → Holds vs s.temps → length vs ≡ d + count
+    → SameReply s (behind_call function d) (op.perform t.unit (op.Library function count target) vs s.world) (template.perform t (act.Library (result_temp function d) function (temps_from d count) site (target_size t.unit target)) s)
+
+-- so many of the newest values stand in as many temporaries
+abbrev pub NewestAreThere : Type 0
+NewestAreThere = (vs : List Scalar) (temps : ℕ → Option Scalar) (d n : ℕ) → Holds vs temps → length vs ≡ d + n → values_of temps (temps_from d n) ≡ Some (newest n vs)

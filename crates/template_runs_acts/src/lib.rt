@@ -3,4 +3,6 @@
 
 mod theorems;
 
-pub use theorems::{operations_are_acts, stores_are_acts};
+pub use theorems::{
+    calls_are_acts, copies_are_acts, newest_are_there, operations_are_acts, stores_are_acts,
+};

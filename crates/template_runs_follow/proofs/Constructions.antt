@@ -1,14 +1,18 @@
 -- What follows, one item after the other, for any number of turns.
-use Rattle.std.specs.Prelude.{◌≡◌, ℕ, zero, suc, true, false, List, [], ◌∷◌, ◌++◌, Option, Some, None}
+use Rattle.std.specs.Prelude.{◌≡◌, ℕ, zero, suc, ◌+◌, ℤ, true, false, List, [], ◌∷◌, ◌++◌, Option, Some, None}
 use Rattle.cc_base.specs.declared.diagnostics.Place.{Place}
 use Rattle.c_layout.specs.CheckedTrees.{TermTree, LvalueTree, StatementTree}
 use Rattle.c_layout.specs.CheckedUnits.{FunctionView}
+use Rattle.c_layout.specs.Types.{Ty}
+use Rattle.c_layout.specs.declared.library_functions.LibFn.{LibFn}
+use Rattle.c_layout.specs.declared.library_functions.LibFn.TheVariants.{Fgets}
 use Rattle.c_layout.specs.declared.checked_tree.checked_terms.ObjectRef.{ObjectRef}
 use Rattle.flow_program.specs.declared.flow_edges.Test.{Test}
 use Rattle.flow_program.specs.declared.machine_instructions.Scalar as declared
+use Rattle.flow_lower_expressions.specs.Calls.{result_temp}
 use Rattle.flow_lower_tasks.specs.Acts as act
 use Rattle.flow_lower_tasks.specs.Acts.{Act}
-use Rattle.flow_lower_tasks.specs.Pieces.{Local, PieceView, End, When, Always}
+use Rattle.flow_lower_tasks.specs.Pieces.{Local, Literal, PieceView, End, When, Always, NoLine, Line}
 use Rattle.flow_lower_tasks.specs.Plans.{name_of_object}
 use Rattle.ref_machine.specs.Items as item
 use Rattle.ref_machine.specs.Items.{Item, Items, listed, NamedTest, Change}
@@ -20,9 +24,9 @@ use Rattle.ref_machine.specs.ConditionItems.{term_items}
 use Rattle.ref_machine.specs.StatementItems.{of_statement}
 use Rattle.ref_machine.specs.SourceStates.{function_at}
 use Rattle.template_runs.specs.TemplateStates.{Templates}
-use Rattle.template_runs_acts.specs.Acts.{IsAct}
+use Rattle.template_runs_acts.specs.Acts.{IsAct, IsActBehind, temps_from, behind_call}
 use Rattle.template_runs_follow.specs.Follows as follows
-use Rattle.template_runs_follow.specs.Follows.{own, Names, Leads, SameTest, Follows, at_place, change_act}
+use Rattle.template_runs_follow.specs.Follows.{own, Names, Leads, SameTest, IsEdge, Follows, at_place, change_act}
 use Rattle.template_runs_follow.proofs.FewerTurns.{less}
 
 pub gives_value : {t : Templates} (n : ℕ) (d : ℕ) (e : TermTree) (items : List Item) (ps : List PieceView) → Follows t n d (term_items t.unit true e ++ items) ps → Follows t n d (item.Value e ∷ items) ps
@@ -93,11 +97,38 @@ pub gives_hop : {t : Templates} (n : ℕ) (d l : ℕ) (items : List Item) (ps th
 gives_hop zero d l items ps there to f = follows.enough _ _ _
 gives_hop (suc n) d l items ps there to f = follows.hop n d l items ps there to (less n _ _ _ f)
 
+pub gives_edges : {t : Templates} (n : ℕ) (d hit miss first second : ℕ) (at : Place) (kind : declared.Scalar) (test : Option NamedTest) (if_held if_failed : Option Test) (yes_puts no_puts : Option (ℕ × ℤ)) (held failed : Items) (items go stay : List Item) (ps on_yes on_no : List PieceView) → SameTest t test if_held if_failed → Leads t hit on_yes → Leads t miss on_no → IsEdge d (listed held ++ items) yes_puts first go → IsEdge d (listed failed ++ items) no_puts second stay → Follows t n first go on_yes → Follows t n second stay on_no
+    → Follows t n (suc d) (item.Choose at test held failed ∷ items) (End (record { at = at; does = act.Branch d kind }) (record { to = hit; taken = When true if_held yes_puts } ∷ (record { to = miss; taken = When false if_failed no_puts } ∷ [])) ∷ ps)
+gives_edges zero d hit miss first second at kind test if_held if_failed yes_puts no_puts held failed items go stay ps on_yes on_no same to_yes to_no is_go is_stay f g = follows.enough _ _ _
+gives_edges (suc n) d hit miss first second at kind test if_held if_failed yes_puts no_puts held failed items go stay ps on_yes on_no same to_yes to_no is_go is_stay f g =
+    follows.choose n d hit miss first second at kind test if_held if_failed yes_puts no_puts held failed items go stay ps on_yes on_no same to_yes to_no is_go is_stay (less n _ _ _ f) (less n _ _ _ g)
+
 pub gives_choice : {t : Templates} (n : ℕ) (d hit miss : ℕ) (at : Place) (kind : declared.Scalar) (test : Option NamedTest) (if_held if_failed : Option Test) (held failed : Items) (items : List Item) (ps on_yes on_no : List PieceView) → SameTest t test if_held if_failed → Leads t hit on_yes → Leads t miss on_no → Follows t n d (listed held ++ items) on_yes → Follows t n d (listed failed ++ items) on_no
     → Follows t n (suc d) (item.Choose at test held failed ∷ items) (End (record { at = at; does = act.Branch d kind }) (record { to = hit; taken = When true if_held None } ∷ (record { to = miss; taken = When false if_failed None } ∷ [])) ∷ ps)
-gives_choice zero d hit miss at kind test if_held if_failed held failed items ps on_yes on_no same to_yes to_no go stay = follows.enough _ _ _
-gives_choice (suc n) d hit miss at kind test if_held if_failed held failed items ps on_yes on_no same to_yes to_no go stay =
-    follows.choose n d hit miss at kind test if_held if_failed held failed items ps on_yes on_no same to_yes to_no (less n _ _ _ go) (less n _ _ _ stay)
+gives_choice n d hit miss at kind test if_held if_failed held failed items ps on_yes on_no same to_yes to_no f g =
+    gives_edges n d hit miss d d at kind test if_held if_failed None None held failed items _ _ ps on_yes on_no same to_yes to_no (follows.plain d _) (follows.plain d _) f g
+
+pub gives_line : {t : Templates} (n : ℕ) (d none some : ℕ) (at : Place) (unread read : Items) (items : List Item) (ps on_none on_some : List PieceView) → Leads t none on_none → Leads t some on_some → Follows t n d (listed unread ++ items) on_none → Follows t n d (listed read ++ items) on_some
+    → Follows t n (suc (suc (suc d))) (item.ReadLine at unread read ∷ items) (End (record { at = at; does = act.ReadLine None d (suc d) (suc (suc d)) }) (record { to = none; taken = NoLine } ∷ (record { to = some; taken = Line } ∷ [])) ∷ ps)
+gives_line zero d none some at unread read items ps on_none on_some to_none to_some f g = follows.enough _ _ _
+gives_line (suc n) d none some at unread read items ps on_none on_some to_none to_some f g = follows.read_line n d none some at unread read items ps on_none on_some to_none to_some (less n _ _ _ f) (less n _ _ _ g)
+
+pub gives_read : {t : Templates} (n : ℕ) (d l : ℕ) (at : Place) (target : Option Ty) (items : List Item) (ps there : List PieceView) → Leads t l there → Follows t n (suc d) items there
+    → Follows t n (suc (suc (suc d))) (item.Do at (op.Library Fgets 3 target) ∷ items) (End (record { at = at; does = act.ReadLine (Some d) d (suc d) (suc (suc d)) }) (record { to = l; taken = NoLine } ∷ (record { to = l; taken = Line } ∷ [])) ∷ ps)
+gives_read zero d l at target items ps there to f = follows.enough _ _ _
+gives_read (suc n) d l at target items ps there to f = follows.read_value n d l at target items ps there to (less n _ _ _ f)
+
+pub gives_again : {t : Templates} (n : ℕ) (d : ℕ) (at : Place) (operation : Operation) (a : Act) (items : List Item) (ps : List PieceView) → IsActBehind operation a d → Follows t n (suc (suc d)) items ps → Follows t n (suc d) (item.Again ∷ (item.Do at operation ∷ items)) (at_place at a ∷ ps)
+gives_again zero d at operation a items ps is f = follows.enough _ _ _
+gives_again (suc n) d at operation a items ps is f = follows.again n d at operation a items ps is (less n _ _ _ f)
+
+pub gives_call : {t : Templates} (n : ℕ) (d count : ℕ) (at : Place) (function : LibFn) (target : Option Ty) (site : Option ℕ) (items : List Item) (ps : List PieceView) → Follows t n (behind_call function d) items ps → Follows t n (d + count) (item.Do at (op.Library function count target) ∷ items) (at_place at (act.Library (result_temp function d) function (temps_from d count) site (op.target_size t.unit target)) ∷ ps)
+gives_call zero d count at function target site items ps f = follows.enough _ _ _
+gives_call (suc n) d count at function target site items ps f = follows.calls_library n d count at function target site items ps (less n _ _ _ f)
+
+pub gives_literal : {t : Templates} (n : ℕ) (d base i : ℕ) (at : Place) (items : List Item) (ps : List PieceView) → Names t base (Literal i) → Follows t n (suc d) items ps → Follows t n d (item.Literal at i ∷ items) (at_place at (act.Address d base 0) ∷ ps)
+gives_literal zero d base i at items ps named f = follows.enough _ _ _
+gives_literal (suc n) d base i at items ps named f = follows.literal n d base i at items ps named (less n _ _ _ f)
 
 pub gives_end : {t : Templates} (n d : ℕ) (at : Place) (ps : List PieceView) → Follows t n d [] (End (record { at = at; does = act.Stop }) [] ∷ ps)
 gives_end zero d at ps = follows.enough _ _ _

@@ -32,7 +32,12 @@ less (suc n) _ _ _ (follows.enters_none _ d items ps go) = follows.enters_none n
 less (suc n) _ _ _ (follows.enters _ d base local locals items ps named go) = follows.enters n d base local locals items ps named (less n d _ ps go)
 less (suc n) _ _ _ (follows.leaves_none _ d items ps go) = follows.leaves_none n d items ps (less n d items ps go)
 less (suc n) _ _ _ (follows.leaves _ d base local locals items ps named go) = follows.leaves n d base local locals items ps named (less n d _ ps go)
-less (suc n) _ _ _ (follows.choose _ d hit miss at kind test if_held if_failed held failed items ps on_yes on_no same to_yes to_no go stay) =
-    follows.choose n d hit miss at kind test if_held if_failed held failed items ps on_yes on_no same to_yes to_no (less n d _ on_yes go) (less n d _ on_no stay)
+less (suc n) _ _ _ (follows.choose _ d hit miss first second at kind test if_held if_failed yes_puts no_puts held failed items go stay ps on_yes on_no same to_yes to_no is_go is_stay f g) =
+    follows.choose n d hit miss first second at kind test if_held if_failed yes_puts no_puts held failed items go stay ps on_yes on_no same to_yes to_no is_go is_stay (less n first go on_yes f) (less n second stay on_no g)
+less (suc n) _ _ _ (follows.read_line _ d none some at unread read items ps on_none on_some to_none to_some f g) = follows.read_line n d none some at unread read items ps on_none on_some to_none to_some (less n d _ on_none f) (less n d _ on_some g)
+less (suc n) _ _ _ (follows.read_value _ d l at target items ps there to f) = follows.read_value n d l at target items ps there to (less n (suc d) items there f)
+less (suc n) _ _ _ (follows.again _ d at operation a items ps is go) = follows.again n d at operation a items ps is (less n (suc (suc d)) items ps go)
+less (suc n) _ _ _ (follows.calls_library _ d count at function target site items ps go) = follows.calls_library n d count at function target site items ps (less n _ items ps go)
+less (suc n) _ _ _ (follows.literal _ d base i at items ps named go) = follows.literal n d base i at items ps named (less n (suc d) items ps go)
 less (suc n) _ _ _ (follows.hop _ d l items ps there to go) = follows.hop n d l items ps there to (less n d items there go)
 less (suc n) _ _ _ (follows.finish _ d at ps) = follows.finish n d at ps

@@ -1,10 +1,10 @@
 -- A step of both machines.
-use Rattle.std.proofs.Common.{◌≡◌, ℕ, zero, suc, ◌+◌, ℤ, List, [], ◌∷◌, ◌++◌, length, Option, Some, None, refl, ap, sym, subst, ◌∙◌}
+use Rattle.std.proofs.Common.{◌≡◌, ℕ, suc, ℤ, List, [], ◌∷◌, ◌++◌, length, Option, Some, None, slice_get, ap, sym, subst, ◌∙◌}
 use Rattle.std.proofs.lemmas.List.{append-nil}
 use Rattle.cc_base.specs.declared.diagnostics.Place.{Place}
 use Rattle.cc_base.specs.declared.diagnostics.Rule.{Rule}
 use Rattle.c_layout.specs.Types.{Ty}
-use Rattle.c_layout.specs.CheckedUnits.{FunctionView}
+use Rattle.c_layout.specs.CheckedUnits.{FunctionView, LiteralView}
 use Rattle.c_layout.specs.declared.checked_tree.checked_terms.ObjectRef.{ObjectRef}
 use Rattle.c_layout.specs.declared.checked_tree.checked_terms.ObjectRef.TheVariants as object
 use Rattle.lib_models_memory.specs.Bytes.{into}
@@ -16,7 +16,7 @@ use Rattle.lib_models_effects.specs.ObjectEffects.{next_instance, entered, left}
 use Rattle.lib_models_effects.specs.Worlds.{World, Why, Reply, goes, stops, behind, Violation}
 use Rattle.flow_lower_tasks.specs.Acts as act
 use Rattle.flow_lower_tasks.specs.Acts.{Act}
-use Rattle.flow_lower_tasks.specs.Pieces.{PieceView, Local}
+use Rattle.flow_lower_tasks.specs.Pieces.{PieceView, Local, Literal}
 use Rattle.flow_lower_tasks.specs.Plans.{name_of_object}
 use Rattle.ref_machine.specs.Items.{Item, Drop, Change, Forget, Clear, Spell}
 use Rattle.ref_machine.specs.Operations.{size_of, leaves}
@@ -103,6 +103,21 @@ module _ (t : Templates) (n : ℕ) where
         by : (o : ObjectRef) → Alike t n (source.run_by found count (Some at) (steps.point_to t.unit (src names items vs memory draws) o offset)) (runs.run_by also (Some at) (addressed t (std names ps temps memory draws []) (length vs) offset (name_of_object o)))
         by (object.Static m) = pointing items vs temps ps offset (type_of t.unit (src names items vs memory draws) (object.Static m)) (Some m) f holds
         by (object.Local m) = pointing items vs temps ps offset (type_of t.unit (src names items vs memory draws) (object.Local m)) (names m) f holds
+
+    literal_taken : (items : List Item) (vs : List Scalar) (temps : ℕ → Option Scalar) (ps : List PieceView) (i : ℕ) (there : Option LiteralView) → Follows t n (suc (length vs)) items ps → Holds vs temps
+        → Alike t n
+        (source.run_by found count (Some at) (states.if_some (src names items vs memory draws) there (λ l. steps.on (pushed (steps.literal_pointer t.unit i l) (src names items vs memory draws)))))
+        (runs.run_by also (Some at) (behind (states.if_some (src names [] [] memory draws) there (λ l. steps.on (pushed (steps.literal_pointer t.unit i l) (src names [] [] memory draws)))) (pointed (std names ps temps memory draws []) (length vs))))
+    literal_taken items vs temps ps i None f holds = halted _ _
+    literal_taken items vs temps ps i (Some l) f holds =
+        let p = steps.literal_pointer t.unit i l in
+        ran items (p ∷ vs) (put_at temps (length vs) p) ps names (record { memory = memory; draws = draws; violated = [] }) (alike.plain items (p ∷ vs) (put_at temps (length vs) p) ps f (holds_put p vs temps holds))
+
+    pub pointed_to_literal : (items : List Item) (vs : List Scalar) (temps : ℕ → Option Scalar) (ps : List PieceView) (base i : ℕ) → Names t base (Literal i) → Follows t n (suc (length vs)) items ps → Holds vs temps
+        → Alike t n (source.run_by found count (Some at) (steps.point_to_literal t.unit (src names items vs memory draws) i)) (runs.run_by also (Some at) (perform t (act.Address (length vs) base 0) (std names ps temps memory draws [])))
+    pointed_to_literal items vs temps ps base i named f holds =
+        subst (λ name. Alike t n (source.run_by found count (Some at) (steps.point_to_literal t.unit (src names items vs memory draws) i)) (runs.run_by also (Some at) (template.if_some (std names ps temps memory draws []) name (addressed t (std names ps temps memory draws []) (length vs) 0)))) (sym named)
+        (literal_taken items vs temps ps i (slice_get t.unit.literals i) f holds)
 
     -- what is done to a local object, by its name
     on_named : (base local : ℕ) (ps : List PieceView) (temps : ℕ → Option Scalar) (one : source.SourceRun) (effect : ℕ → Reply State) → Names t base (Local local)

@@ -1,20 +1,14 @@
 -- A test says the same of memory in both machines.
-use Rattle.std.proofs.Common.{◌≡◌, ℕ, ℤ, Bool, true, false, List, [], ◌∷◌, Option, Some, None, slice_get, refl, ap, sym, subst, ◌∙◌}
-use Rattle.cc_base.specs.declared.diagnostics.Rule.{Rule}
+use Rattle.std.proofs.Common.{◌≡◌, ℕ, true, false, Option, Some, None, slice_get, refl, ap, sym, subst, ◌∙◌}
 use Rattle.c_layout.specs.declared.checked_tree.checked_terms.ObjectRef.{ObjectRef}
 use Rattle.c_layout.specs.declared.checked_tree.checked_terms.ObjectRef.TheVariants as object
 use Rattle.flow_program.specs.declared.flow_edges.Side.{Side}
-use Rattle.flow_program.specs.declared.flow_edges.Side.TheVariants as side
 use Rattle.flow_program.specs.declared.flow_edges.Test.{Test}
 use Rattle.flow_program.specs.declared.machine_instructions.Scalar as declared
-use Rattle.flow_lower_tasks.specs.Pieces.{PieceView}
 use Rattle.flow_lower_tasks.specs.Plans.{name_of_object}
-use Rattle.lib_models_memory.specs.Instances.{Memory}
-use Rattle.lib_models_memory.specs.Scalars.{Scalar}
 use Rattle.lib_models_effects.specs.Tests as tests
 use Rattle.lib_models_effects.specs.Tests.{TestedSide, pass_test}
 use Rattle.lib_models_effects.specs.Worlds.{World, Why, Stuck, Reply, goes, stops}
-use Rattle.ref_machine.specs.Items as item
 use Rattle.ref_machine.specs.Items.{NamedSide, NamedTest}
 use Rattle.ref_machine.specs.SourceStates as states
 use Rattle.ref_machine.specs.SourceStates.{State, instance_of}

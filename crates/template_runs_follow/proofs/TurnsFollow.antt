@@ -3,15 +3,18 @@ use Rattle.std.proofs.Common.{◌≡◌, ℕ, zero, suc, ◌+◌, ℤ, Bool, tru
 use Rattle.std.proofs.lemmas.List.{append-nil}
 use Rattle.cc_base.specs.declared.diagnostics.Place.{Place}
 use Rattle.cc_base.specs.declared.diagnostics.Rule.{Rule}
+use Rattle.c_layout.specs.declared.library_functions.LibFn.TheVariants.{Fgets}
 use Rattle.flow_program.specs.declared.flow_edges.Test.{Test}
-use Rattle.flow_program.specs.declared.machine_instructions.Scalar as declared
 use Rattle.flow_lower_tasks.specs.Acts as act
-use Rattle.flow_lower_tasks.specs.Pieces.{PieceView, End, ExitView, When, Always}
+use Rattle.flow_lower_tasks.specs.Pieces.{PieceView, End, When, NoLine, Line}
 use Rattle.lib_models_memory.specs.Instances.{Memory}
 use Rattle.lib_models_memory.specs.Labels.{no_labels}
 use Rattle.lib_models_memory.specs.Scalars.{Scalar, integer, is_false}
+use Rattle.lib_models_effects.specs.IntegerEffects.{truth}
+use Rattle.lib_models_effects.specs.LibraryCalls.{fgets, with_result}
+use Rattle.lib_models_effects.specs.NumberedTables.{put_at}
 use Rattle.lib_models_effects.specs.UnitStarts.{start_world}
-use Rattle.lib_models_effects.specs.Worlds.{World, Why, Ended, Reply, goes, stops, behind, Violation}
+use Rattle.lib_models_effects.specs.Worlds.{World, Ended, Reply, goes, stops, behind, Violation}
 use Rattle.ref_machine.specs.Items as item
 use Rattle.ref_machine.specs.Items.{Item, Items, listed, NamedTest}
 use Rattle.ref_machine.specs.Scopes.{jump, behind_loop, behind_turn, all_of, open_scopes}
@@ -27,20 +30,23 @@ use Rattle.ref_machine.specs.SourceSteps as turns
 use Rattle.ref_machine.specs.SourceRuns as source
 use Rattle.ref_machine.specs.SourceRuns.{SourceRun, Run, body_of}
 use Rattle.ref_machine.specs.Operations as op
+use Rattle.ref_machine.specs.Operations.{pushing_result}
+use Rattle.flow_program_machine.specs.FlowStates.{and_value, values_of}
 use Rattle.template_runs.specs.TemplateStates as template
 use Rattle.template_runs.specs.TemplateStates.{Templates, Standing, TemplateRun}
 use Rattle.template_runs.specs.TemplateExits as exits
-use Rattle.template_runs.specs.TemplateActs.{perform}
 use Rattle.template_runs.specs.TemplateSteps as runs
 use Rattle.template_runs.specs.TemplateSteps.{template_begin, steps_from}
-use Rattle.template_runs_acts.specs.Acts.{Holds}
-use Rattle.template_runs_acts.proofs.OperationsAgree.{agree, stores_agree}
+use Rattle.template_runs_acts.specs.Acts.{Holds, IsActBehind, behind_call}
+use Rattle.template_runs_acts.proofs.HeldValues.{holds_put}
+use Rattle.template_runs_acts.proofs.OperationsAgree.{agree, stores_agree, copies_agree}
+use Rattle.template_runs_acts.proofs.CallsAgree.{calls_agree}
 use Rattle.template_runs_follow.specs.Follows as follows
-use Rattle.template_runs_follow.specs.Follows.{pieces, own, Leads, SameTest, Follows, at_place}
+use Rattle.template_runs_follow.specs.Follows.{pieces, own, Leads, SameTest, IsEdge, Follows, at_place}
 use Rattle.template_runs_follow.specs.Alike as alike
 use Rattle.template_runs_follow.specs.Alike.{Lined, Related, Alike, Agree}
 use Rattle.template_runs_follow.proofs.FewerTurns.{less}
-use Rattle.template_runs_follow.proofs.StepsAlike.{Next, lined, src, std, stay, ran, halted, operated, stored, pointed_to, changed_alike, entered_alike, left_alike}
+use Rattle.template_runs_follow.proofs.StepsAlike.{Next, lined, src, std, stay, ran, halted, operated, stored, pointed_to, pointed_to_literal, changed_alike, entered_alike, left_alike}
 use Rattle.template_runs_follow.proofs.TestsAlike as testing
 use Rattle.template_runs_follow.proofs.TestsAlike.{SameTesting, held_alike, failed_alike}
 
@@ -49,6 +55,9 @@ no_value n e = omega (arith, e)
 
 one_less : (m n : ℕ) → suc m ≡ suc n → m ≡ n
 one_less m n e = omega (arith, e)
+
+three_less : (m n : ℕ) → suc (suc (suc m)) ≡ suc (suc (suc n)) → m ≡ n
+three_less m n e = omega (arith, e)
 
 module _ (t : Templates) (n : ℕ) (names : ℕ → Option ℕ) (memory : Memory) (draws : List ℤ) (found : List Violation) (count : ℕ) where
   -- where a turn begins, and where the pieces stand
@@ -60,21 +69,82 @@ module _ (t : Templates) (n : ℕ) (names : ℕ → Option ℕ) (memory : Memory
 
   -- ---- edges
 
+  abbrev put_by : Option (ℕ × ℤ) → (ℕ → Option Scalar) → ℕ → Option Scalar
+  put_by None temps = temps
+  put_by (Some p) temps = put_at temps p.0 (integer p.1 no_labels)
+
+  -- what follows on an edge
+  edge_lined : (d first : ℕ) (all go : List Item) (puts : Option (ℕ × ℤ)) (vs : List Scalar) (temps : ℕ → Option Scalar) (there : List PieceView) → IsEdge d all puts first go → Follows t n first go there → Holds vs temps → length vs ≡ d → Lined t n all vs (put_by puts temps) there
+  edge_lined _ _ _ _ _ vs temps there (follows.plain d items) f holds e = lined t n d items vs temps there f holds e
+  edge_lined _ _ _ _ _ vs temps there (follows.truth d b items) f holds e =
+      alike.put b items vs (put_at temps d (truth b)) there (subst (λ k. Follows t n (suc k) items there) (sym e) f) (subst (λ k. Holds (truth b ∷ vs) (put_at temps k (truth b))) e (holds_put (truth b) vs temps holds))
+
   -- behind a test the source goes on with items, and the templates behind a label
-  taken : (at : Place) (also : List Violation) (items chosen : List Item) (vs : List Scalar) (temps : ℕ → Option Scalar) (ps there : List PieceView) (l : ℕ) (one : Reply State) (other : Reply Standing) → found ≡ also → Leads t l there → Lined t n (chosen ++ items) vs temps there → SameTesting (src t n names items vs memory draws) (std t n names ps temps memory draws []) one other
-      → Alike t n (source.run_by found count (Some at) (behind one (λ s w. steps.on (first_do chosen s)))) (runs.run_by also (Some at) (behind (behind other (λ s w. template.on (exits.with_put None s))) (λ s w. exits.at_label t s l)))
-  taken at also items chosen vs temps ps there l _ _ same to go (testing.both_go w) =
+  taken : (at : Place) (also : List Violation) (items chosen : List Item) (vs : List Scalar) (temps : ℕ → Option Scalar) (ps there : List PieceView) (l : ℕ) (puts : Option (ℕ × ℤ)) (one : Reply State) (other : Reply Standing) → found ≡ also → Leads t l there → Lined t n (chosen ++ items) vs (put_by puts temps) there → SameTesting (src t n names items vs memory draws) (std t n names ps temps memory draws []) one other
+      → Alike t n (source.run_by found count (Some at) (behind one (λ s w. steps.on (first_do chosen s)))) (runs.run_by also (Some at) (behind (behind other (λ s w. template.on (exits.with_put puts s))) (λ s w. exits.at_label t s l)))
+  taken at also items chosen vs temps ps there l None _ _ same to go (testing.both_go w) =
       subst (λ o. Alike t n (source.run_by found count (Some at) (steps.on (first_do chosen (record (src t n names items vs memory draws) { world = w })))) (runs.run_by also (Some at) (template.if_some (record (std t n names ps temps memory draws []) { world = w }) o (λ rest. template.on (template.going_on (record (std t n names ps temps memory draws []) { world = w }) rest))))) (sym to)
       (ran t n names memory draws found also count same at (chosen ++ items) vs temps there names w go)
-  taken at also items chosen vs temps ps there l _ _ same to go (testing.both_stop why w) = halted t n names memory draws found also count same at why w
+  taken at also items chosen vs temps ps there l (Some p) _ _ same to go (testing.both_go w) =
+      let others = put_at temps p.0 (integer p.1 no_labels) in
+      subst (λ o. Alike t n (source.run_by found count (Some at) (steps.on (first_do chosen (record (src t n names items vs memory draws) { world = w })))) (runs.run_by also (Some at) (template.if_some (record (std t n names ps others memory draws []) { world = w }) o (λ rest. template.on (template.going_on (record (std t n names ps others memory draws []) { world = w }) rest))))) (sym to)
+      (ran t n names memory draws found also count same at (chosen ++ items) vs others there names w go)
+  taken at also items chosen vs temps ps there l puts _ _ same to go (testing.both_stop why w) = halted t n names memory draws found also count same at why w
 
-  chosen : (at : Place) (also : List Violation) (hit miss : ℕ) (test : Option NamedTest) (if_held if_failed : Option Test) (held failed : Items) (items : List Item) (vs : List Scalar) (temps : ℕ → Option Scalar) (ps on_yes on_no : List PieceView) (b : Bool) → found ≡ also → SameTest t test if_held if_failed → Leads t hit on_yes → Leads t miss on_no → Lined t n (listed held ++ items) vs temps on_yes → Lined t n (listed failed ++ items) vs temps on_no
+  chosen : (at : Place) (also : List Violation) (hit miss : ℕ) (test : Option NamedTest) (if_held if_failed : Option Test) (yes_puts no_puts : Option (ℕ × ℤ)) (held failed : Items) (items : List Item) (vs : List Scalar) (temps : ℕ → Option Scalar) (ps on_yes on_no : List PieceView) (b : Bool) → found ≡ also → SameTest t test if_held if_failed → Leads t hit on_yes → Leads t miss on_no
+      → Lined t n (listed held ++ items) vs (put_by yes_puts temps) on_yes
+      → Lined t n (listed failed ++ items) vs (put_by no_puts temps) on_no
       → Alike t n (source.run_by found count (Some at) (branch.choose_by t.unit test b held failed (src t n names items vs memory draws)))
-      (runs.run_by also (Some at) (exits.along t (std t n names ps temps memory draws []) (cond b (Some (record { to = hit; taken = When true if_held None })) (cond (not b) (Some (record { to = miss; taken = When false if_failed None })) None))))
-  chosen at also hit miss test if_held if_failed held failed items vs temps ps on_yes on_no true same tests to_yes to_no go stay_on =
-      taken at also items (listed held) vs temps ps on_yes hit _ _ same to_yes go (held_alike t (src t n names items vs memory draws) (std t n names ps temps memory draws []) refl refl test if_held if_failed refl tests)
-  chosen at also hit miss test if_held if_failed held failed items vs temps ps on_yes on_no false same tests to_yes to_no go stay_on =
-      taken at also items (listed failed) vs temps ps on_no miss _ _ same to_no stay_on (failed_alike t (src t n names items vs memory draws) (std t n names ps temps memory draws []) refl refl test if_held if_failed refl tests)
+      (runs.run_by also (Some at) (exits.along t (std t n names ps temps memory draws []) (cond b (Some (record { to = hit; taken = When true if_held yes_puts })) (cond (not b) (Some (record { to = miss; taken = When false if_failed no_puts })) None))))
+  chosen at also hit miss test if_held if_failed yes_puts no_puts held failed items vs temps ps on_yes on_no true same tests to_yes to_no go stay_on =
+      taken at also items (listed held) vs temps ps on_yes hit yes_puts _ _ same to_yes go (held_alike t (src t n names items vs memory draws) (std t n names ps temps memory draws []) refl refl test if_held if_failed refl tests)
+  chosen at also hit miss test if_held if_failed yes_puts no_puts held failed items vs temps ps on_yes on_no false same tests to_yes to_no go stay_on =
+      taken at also items (listed failed) vs temps ps on_no miss no_puts _ _ same to_no stay_on (failed_alike t (src t n names items vs memory draws) (std t n names ps temps memory draws []) refl refl test if_held if_failed refl tests)
+
+  -- ---- lines that are read
+
+  -- behind a label, in a world
+  led : (at : Place) (also : List Violation) (items : List Item) (vs : List Scalar) (temps : ℕ → Option Scalar) (ps there : List PieceView) (l : ℕ) (w : World) → found ≡ also → Leads t l there → Lined t n items vs temps there
+      → Alike t n (source.run_by found count (Some at) (steps.on (record (src t n names items vs memory draws) { world = w }))) (runs.run_by also (Some at) (exits.at_label t (record (std t n names ps temps memory draws []) { world = w }) l))
+  led at also items vs temps ps there l w same to go =
+      let r : Standing = record (std t n names ps temps memory draws []) { world = w } in
+      subst (λ o. Alike t n (source.run_by found count (Some at) (steps.on (record (src t n names items vs memory draws) { world = w }))) (runs.run_by also (Some at) (template.if_some r o (λ rest. template.on (template.going_on r rest))))) (sym to)
+      (ran t n names memory draws found also count same at items vs temps there names w go)
+
+  line_chosen : (at : Place) (also : List Violation) (none some : ℕ) (unread read : Items) (items : List Item) (vs : List Scalar) (temps : ℕ → Option Scalar) (ps on_none on_some : List PieceView) (w : World) (b : Bool) → found ≡ also → Leads t none on_none → Leads t some on_some
+      → Lined t n (listed unread ++ items) vs temps on_none
+      → Lined t n (listed read ++ items) vs temps on_some
+      → Alike t n (source.run_by found count (Some at) (steps.on (first_do (listed (cond b unread read)) (record (src t n names items vs memory draws) { world = w }))))
+      (runs.run_by also (Some at) (exits.along t (record (std t n names ps temps memory draws []) { world = w }) (cond b (Some (record { to = none; taken = NoLine })) (cond (not b) (Some (record { to = some; taken = Line })) None))))
+  line_chosen at also none some unread read items vs temps ps on_none on_some w true same to_none to_some f g = led at also (listed unread ++ items) vs temps ps on_none none w same to_none f
+  line_chosen at also none some unread read items vs temps ps on_none on_some w false same to_none to_some f g = led at also (listed read ++ items) vs temps ps on_some some w same to_some g
+
+  line_read : (at : Place) (also : List Violation) (none some : ℕ) (unread read : Items) (items : List Item) (vs : List Scalar) (temps : ℕ → Option Scalar) (ps on_none on_some : List PieceView) (reply : Reply Scalar) → found ≡ also → Leads t none on_none → Leads t some on_some
+      → Lined t n (listed unread ++ items) vs temps on_none
+      → Lined t n (listed read ++ items) vs temps on_some
+      → Alike t n (source.run_by found count (Some at) (behind reply (λ v w. steps.on (first_do (listed (cond (is_false v) unread read)) (record (src t n names items vs memory draws) { world = w })))))
+      (runs.run_by also (Some at) (behind reply (λ v w. exits.on_exit t (record (std t n names ps temps memory draws []) { world = w }) (record { to = none; taken = NoLine } ∷ (record { to = some; taken = Line } ∷ [])) v)))
+  line_read at also none some unread read items vs temps ps on_none on_some (goes v w) same to_none to_some f g = line_chosen at also none some unread read items vs temps ps on_none on_some w (is_false v) same to_none to_some f g
+  line_read at also none some unread read items vs temps ps on_none on_some (stops why w) same to_none to_some f g = halted t n names memory draws found also count same at why w
+
+  value_led : (at : Place) (also : List Violation) (l : ℕ) (v : Scalar) (items : List Item) (vs : List Scalar) (temps : ℕ → Option Scalar) (ps there : List PieceView) (w : World) (b : Bool) → found ≡ also → Leads t l there → Lined t n items (v ∷ vs) temps there
+      → Alike t n (source.run_by found count (Some at) (steps.on (record (src t n names items (v ∷ vs) memory draws) { world = w })))
+      (runs.run_by also (Some at) (exits.along t (record (std t n names ps temps memory draws []) { world = w }) (cond b (Some (record { to = l; taken = NoLine })) (cond (not b) (Some (record { to = l; taken = Line })) None))))
+  value_led at also l v items vs temps ps there w true same to go = led at also items (v ∷ vs) temps ps there l w same to go
+  value_led at also l v items vs temps ps there w false same to go = led at also items (v ∷ vs) temps ps there l w same to go
+
+  value_read : (at : Place) (also : List Violation) (l : ℕ) (items : List Item) (vs : List Scalar) (temps : ℕ → Option Scalar) (ps there : List PieceView) (reply : Reply Scalar) → found ≡ also → Leads t l there → Follows t n (suc (length vs)) items there → Holds vs temps
+      → Alike t n (source.run_by found count (Some at) (behind (pushing_result vs (with_result reply)) (λ vs w. steps.on (record (src t n names items [] memory draws) { values = vs; world = w }))))
+      (runs.run_by also (Some at) (behind reply (λ v w. exits.on_exit t (record (std t n names ps (put_at temps (length vs) v) memory draws []) { world = w }) (record { to = l; taken = NoLine } ∷ (record { to = l; taken = Line } ∷ [])) v)))
+  value_read at also l items vs temps ps there (goes v w) same to f holds = value_led at also l v items vs (put_at temps (length vs) v) ps there w (is_false v) same to (alike.plain items (v ∷ vs) (put_at temps (length vs) v) there f (holds_put v vs temps holds))
+  value_read at also l items vs temps ps there (stops why w) same to f holds = halted t n names memory draws found also count same at why w
+
+  -- the three arguments
+  three_there : (stream count_of text : Scalar) (vs : List Scalar) (temps : ℕ → Option Scalar) → Holds (stream ∷ (count_of ∷ (text ∷ vs))) temps → values_of temps (length vs ∷ (suc (length vs) ∷ (suc (suc (length vs)) ∷ []))) ≡ Some (text ∷ (count_of ∷ (stream ∷ [])))
+  three_there stream count_of text vs temps holds =
+      ap (λ o. and_value o (and_value (temps (suc (length vs))) (and_value (temps (suc (suc (length vs)))) (Some [])))) holds.1.1.0
+      ∙ ap (λ o. and_value (Some text) (and_value o (and_value (temps (suc (suc (length vs)))) (Some [])))) holds.1.0
+      ∙ ap (λ o. and_value (Some text) (and_value (Some count_of) (and_value o (Some [])))) holds.0
 
   -- ---- turns
 
@@ -128,16 +198,44 @@ module _ (t : Templates) (n : ℕ) (names : ℕ → Option ℕ) (memory : Memory
   turn _ _ vs temps _ new also (follows.leaves_none _ d items ps f) holds e same = stay t n names items vs temps ps memory draws new found also _ (lined t n d items vs temps ps f holds e) same
   turn _ _ vs temps _ new also (follows.leaves _ d base local locals items ps named go) holds e same =
       one_step _ _ (left_alike t n names memory draws found also count same (own t) (item.Leaves locals ∷ items) vs temps ps base local named (lined t n d (item.Leaves locals ∷ items) vs temps ps go holds e))
-  turn _ _ [] temps _ new also (follows.choose _ d hit miss at kind test if_held if_failed held failed items ps on_yes on_no tests to_yes to_no go stay_on) holds e same = absurd (no_value d e)
-  turn _ _ (v ∷ vs) temps _ new also (follows.choose _ d hit miss at kind test if_held if_failed held failed items ps on_yes on_no tests to_yes to_no go stay_on) holds e same =
+  turn _ _ [] temps _ new also (follows.choose _ d hit miss first second at kind test if_held if_failed yes_puts no_puts held failed items go stay_on ps on_yes on_no tests to_yes to_no is_go is_stay f g) holds e same = absurd (no_value d e)
+  turn _ _ (v ∷ vs) temps _ new also (follows.choose _ d hit miss first second at kind test if_held if_failed yes_puts no_puts held failed items go stay_on ps on_yes on_no tests to_yes to_no is_go is_stay f g) holds e same =
       let is = one_less (length vs) d e in
       let r = std t n names ps temps memory draws [] in
-      let out = record { to = hit; taken = When true if_held None } ∷ (record { to = miss; taken = When false if_failed None } ∷ []) in
+      let out = record { to = hit; taken = When true if_held yes_puts } ∷ (record { to = miss; taken = When false if_failed no_puts } ∷ []) in
       let here : temps d ≡ Some v = subst (λ k. temps k ≡ Some v) is holds.0 in
       one_step _ _
       (subst (λ o. Alike t n (source.run_by found count (Some at) (branch.choose_by t.unit test (not (is_false v)) held failed (src t n names items vs memory draws))) (runs.run_by also (Some at) (template.if_some r o (exits.on_exit t r out)))) (sym here)
-      (chosen at also hit miss test if_held if_failed held failed items vs temps ps on_yes on_no (not (is_false v)) same tests to_yes to_no
-      (lined t n d (listed held ++ items) vs temps on_yes go holds.1 is) (lined t n d (listed failed ++ items) vs temps on_no stay_on holds.1 is)))
+      (chosen at also hit miss test if_held if_failed yes_puts no_puts held failed items vs temps ps on_yes on_no (not (is_false v)) same tests to_yes to_no
+      (edge_lined d first (listed held ++ items) go yes_puts vs temps on_yes is_go f holds.1 is) (edge_lined d second (listed failed ++ items) stay_on no_puts vs temps on_no is_stay g holds.1 is)))
+  turn _ _ [] temps _ new also (follows.read_line _ d none some at unread read items ps on_none on_some to_none to_some f g) holds e same = absurd (no_value (suc (suc d)) e)
+  turn _ _ (a ∷ []) temps _ new also (follows.read_line _ d none some at unread read items ps on_none on_some to_none to_some f g) holds e same = absurd (no_value (suc d) (one_less 0 (suc (suc d)) e))
+  turn _ _ (a ∷ (b ∷ [])) temps _ new also (follows.read_line _ d none some at unread read items ps on_none on_some to_none to_some f g) holds e same = absurd (no_value d (one_less 0 (suc d) (one_less 1 (suc (suc d)) e)))
+  turn _ _ (a ∷ (b ∷ (c ∷ vs))) temps _ new also (follows.read_line _ d none some at unread read items ps on_none on_some to_none to_some f g) holds e same =
+      let is = three_less (length vs) d e in
+      subst (λ k. From (item.ReadLine at unread read ∷ items) (a ∷ (b ∷ (c ∷ vs))) temps (End (record { at = at; does = act.ReadLine None k (suc k) (suc (suc k)) }) (record { to = none; taken = NoLine } ∷ (record { to = some; taken = Line } ∷ [])) ∷ ps) new also) is
+      (one_step _ _
+      (subst (λ o. Alike t n (source.run_by found count (Some at) (branch.read_line t.unit unread read (src t n names items (a ∷ (b ∷ (c ∷ vs))) memory draws) (a ∷ (b ∷ (c ∷ vs))))) (runs.run_by also (Some at) (template.if_some (std t n names ps temps memory draws []) o (exits.line_read t (record { to = none; taken = NoLine } ∷ (record { to = some; taken = Line } ∷ [])) None (std t n names ps temps memory draws []))))) (sym (three_there a b c vs temps holds))
+      (line_read at also none some unread read items vs temps ps on_none on_some (fgets t.unit.model (c ∷ (b ∷ (a ∷ []))) (record { memory = memory; draws = draws; violated = [] })) same to_none to_some (lined t n d (listed unread ++ items) vs temps on_none f holds.1.1.1 is) (lined t n d (listed read ++ items) vs temps on_some g holds.1.1.1 is))))
+  turn _ _ [] temps _ new also (follows.read_value _ d l at target items ps there to f) holds e same = absurd (no_value (suc (suc d)) e)
+  turn _ _ (a ∷ []) temps _ new also (follows.read_value _ d l at target items ps there to f) holds e same = absurd (no_value (suc d) (one_less 0 (suc (suc d)) e))
+  turn _ _ (a ∷ (b ∷ [])) temps _ new also (follows.read_value _ d l at target items ps there to f) holds e same = absurd (no_value d (one_less 0 (suc d) (one_less 1 (suc (suc d)) e)))
+  turn _ _ (a ∷ (b ∷ (c ∷ vs))) temps _ new also (follows.read_value _ d l at target items ps there to f) holds e same =
+      let is = three_less (length vs) d e in
+      let out = record { to = l; taken = NoLine } ∷ (record { to = l; taken = Line } ∷ []) in
+      subst (λ k. From (item.Do at (op.Library Fgets 3 target) ∷ items) (a ∷ (b ∷ (c ∷ vs))) temps (End (record { at = at; does = act.ReadLine (Some k) k (suc k) (suc (suc k)) }) out ∷ ps) new also) is
+      (one_step _ _
+      (subst (λ o. Alike t n (source.run_by found count (Some at) (turns.operate t.unit (op.Library Fgets 3 target) (src t n names items (a ∷ (b ∷ (c ∷ vs))) memory draws))) (runs.run_by also (Some at) (template.if_some (std t n names ps temps memory draws []) o (exits.line_read t out (Some (length vs)) (std t n names ps temps memory draws []))))) (sym (three_there a b c vs temps holds))
+      (value_read at also l items vs temps ps there (fgets t.unit.model (c ∷ (b ∷ (a ∷ []))) (record { memory = memory; draws = draws; violated = [] })) same to (subst (λ k. Follows t n (suc k) items there) (sym is) f) holds.1.1.1)))
+  turn _ _ [] temps _ new also (follows.again _ d at operation a items ps is go) holds e same = absurd (no_value d e)
+  turn _ _ (v ∷ vs) temps _ new also (follows.again _ d at operation a items ps is go) holds e same =
+      let less = sym (one_less (length vs) d e) in
+      stay t n names (item.Do at operation ∷ items) (v ∷ (v ∷ vs)) temps (at_place at a ∷ ps) memory draws new found also _ (alike.twice v at operation a items vs temps ps (subst (λ k. IsActBehind operation a k) less is) (subst (λ k. Follows t n (suc (suc k)) items ps) less go) holds) same
+  turn _ _ vs temps _ new also (follows.calls_library _ d many at function target site items ps go) holds e same =
+      one_step _ _ (operated t n names memory draws found also count same at (behind_call function d) items vs temps ps _ _ (calls_agree t function d many target site vs (std t n names ps temps memory draws []) holds e) go)
+  turn _ _ vs temps _ new also (follows.literal _ d base i at items ps named go) holds e same =
+      subst (λ k. From (item.Literal at i ∷ items) vs temps (at_place at (act.Address k base 0) ∷ ps) new also) e
+      (one_step _ _ (pointed_to_literal t n names memory draws found also count same at items vs temps ps base i named (subst (λ k. Follows t n (suc k) items ps) (sym e) go) holds))
   turn _ _ vs temps _ new also (follows.hop _ d l items ps there to go) holds e same =
       let r = std t n names ps temps memory draws [] in
       one_step _ _
@@ -152,6 +250,9 @@ follow t n _ _ (alike.both_run _ _ found also count (alike.related names items v
   where
     by : {items : List Item} {vs : List Scalar} {temps : ℕ → Option Scalar} {ps : List PieceView} → Lined t (suc n) items vs temps ps → Next t n (source.turned_on found count (turns.turn_by t.unit (src t n names items vs memory draws) items)) (template.running (std t n names ps temps memory draws new) also)
     by (alike.plain items vs temps ps f holds) = turn t n names memory draws found count (length vs) items vs temps ps new also f holds refl same
+    by (alike.put b items vs temps ps f holds) = stay t n names items (truth b ∷ vs) temps ps memory draws new found also _ (alike.plain items (truth b ∷ vs) temps ps (less n _ items ps f) holds) same
+    by (alike.twice v at operation a items vs temps ps is f holds) =
+        record { steps = 1; both = operated t n names memory draws found also count same at (suc (suc (length vs))) items (v ∷ (v ∷ vs)) temps ps _ _ (copies_agree t operation a v vs (std t n names ps temps memory draws []) is holds) (less n _ items ps f) }
     by (alike.loose v items vs temps ps f holds) = stay t n names items vs temps ps memory draws new found also _ (alike.plain items vs temps ps (less n (length vs) items ps f) holds) same
 follow t n _ _ (alike.both_stopped why memory draws old new found also count same) = record { steps = 0; both = alike.both_stopped why memory draws old new found also count same }
 

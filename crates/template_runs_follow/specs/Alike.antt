@@ -1,25 +1,32 @@
 -- Runs of a unit and of its templates that stand alike.
-use Rattle.std.specs.Prelude.{◌≡◌, ℕ, suc, ℤ, List, [], ◌∷◌, length, Option}
+use Rattle.std.specs.Prelude.{◌≡◌, ℕ, suc, ℤ, Bool, List, [], ◌∷◌, length, Option}
+use Rattle.cc_base.specs.declared.diagnostics.Place.{Place}
 use Rattle.cc_base.specs.declared.diagnostics.Rule.{Rule}
 use Rattle.lib_models_memory.specs.Instances.{Memory}
 use Rattle.lib_models_memory.specs.Scalars.{Scalar}
+use Rattle.lib_models_effects.specs.IntegerEffects.{truth}
 use Rattle.lib_models_effects.specs.Worlds.{Why, Violation}
+use Rattle.flow_lower_tasks.specs.Acts.{Act}
 use Rattle.flow_lower_tasks.specs.Pieces.{PieceView}
-use Rattle.ref_machine.specs.Items.{Item, Drop}
+use Rattle.ref_machine.specs.Items.{Item, Do, Drop, Truth}
+use Rattle.ref_machine.specs.Operations.{Operation}
 use Rattle.ref_machine.specs.SourceStates.{State, function_at}
 use Rattle.ref_machine.specs.SourceRuns as source
 use Rattle.ref_machine.specs.SourceRuns.{SourceRun, Run, body_of}
 use Rattle.template_runs.specs.TemplateStates as template
 use Rattle.template_runs.specs.TemplateStates.{Templates, Standing, TemplateRun}
 use Rattle.template_runs.specs.TemplateSteps.{template_begin, steps_from}
-use Rattle.template_runs_acts.specs.Acts.{Holds}
-use Rattle.template_runs_follow.specs.Follows.{pieces, Follows}
+use Rattle.template_runs_acts.specs.Acts.{Holds, IsActBehind}
+use Rattle.template_runs_follow.specs.Follows.{pieces, Follows, at_place}
 
 -- the items follow in the pieces, and the values stand in the temporaries; or the newest value does not, and is dropped
--- next
+-- next; or a truth that is pushed next stands there already; or the newest value is there twice and stands in one
+-- temporary, and an operation takes it next
 pub data Lined (t : Templates) (n : ℕ) : List Item → List Scalar → (ℕ → Option Scalar) → List PieceView → Type 0 where
   plain : (items : List Item) (vs : List Scalar) (temps : ℕ → Option Scalar) (ps : List PieceView) → Follows t n (length vs) items ps → Holds vs temps → Lined t n items vs temps ps
   loose : (v : Scalar) (items : List Item) (vs : List Scalar) (temps : ℕ → Option Scalar) (ps : List PieceView) → Follows t n (length vs) items ps → Holds vs temps → Lined t n (Drop ∷ items) (v ∷ vs) temps ps
+  put : (b : Bool) (items : List Item) (vs : List Scalar) (temps : ℕ → Option Scalar) (ps : List PieceView) → Follows t n (suc (length vs)) items ps → Holds (truth b ∷ vs) temps → Lined t n (Truth b ∷ items) vs temps ps
+  twice : (v : Scalar) (at : Place) (operation : Operation) (a : Act) (items : List Item) (vs : List Scalar) (temps : ℕ → Option Scalar) (ps : List PieceView) → IsActBehind operation a (length vs) → Follows t n (suc (suc (length vs))) items ps → Holds (v ∷ vs) temps → Lined t n (Do at operation ∷ items) (v ∷ (v ∷ vs)) temps (at_place at a ∷ ps)
 
 -- the entry runs, no function waits, objects name the same instances, and the worlds are the same, but for what the last
 -- step has violated

@@ -1,19 +1,23 @@
 -- How what the source still has to do stands in the pieces that are still to be done, for so many turns: an item that
 -- is a step stands there as an instruction, and one that only leads to others stands there as these. So many turns
 -- are enough for so many turns of a run, and make the relation finite where there are loops.
-use Rattle.std.specs.Prelude.{◌≡◌, ℕ, zero, suc, ℤ, true, false, List, [], ◌∷◌, ◌++◌, Option, Some, None, slice_get}
+use Rattle.std.specs.Prelude.{◌≡◌, ℕ, zero, suc, ◌+◌, ℤ, pos, Bool, true, false, cond, List, [], ◌∷◌, ◌++◌, Option, Some, None, slice_get}
 use Rattle.cc_base.specs.declared.diagnostics.Place.{Place}
 use Rattle.c_layout.specs.CheckedTrees.{TermTree, LvalueTree, StatementTree}
 use Rattle.c_layout.specs.CheckedUnits.{FunctionView}
+use Rattle.c_layout.specs.Types.{Ty}
+use Rattle.c_layout.specs.declared.library_functions.LibFn.{LibFn}
+use Rattle.c_layout.specs.declared.library_functions.LibFn.TheVariants.{Fgets}
 use Rattle.c_layout.specs.declared.checked_tree.checked_terms.ObjectRef.{ObjectRef}
 use Rattle.flow_program.specs.declared.flow_edges.Side.{Side}
 use Rattle.flow_program.specs.declared.flow_edges.Side.TheVariants as side
 use Rattle.flow_program.specs.declared.flow_edges.Test.{Test}
 use Rattle.flow_program.specs.declared.machine_instructions.Scalar as declared
 use Rattle.flow_lower_conditions.specs.declared.branch_tests.NamedObject.{NamedObject}
+use Rattle.flow_lower_expressions.specs.Calls.{result_temp}
 use Rattle.flow_lower_tasks.specs.Acts as act
 use Rattle.flow_lower_tasks.specs.Acts.{Act}
-use Rattle.flow_lower_tasks.specs.Pieces.{NameView, Local, PieceView, Do, End, Mark, When, Always}
+use Rattle.flow_lower_tasks.specs.Pieces.{NameView, Local, Literal, PieceView, Do, End, Mark, When, Always, NoLine, Line}
 use Rattle.flow_lower_tasks.specs.Plans.{name_of_object}
 use Rattle.ref_machine.specs.Items as item
 use Rattle.ref_machine.specs.Items.{Item, Items, listed, NamedSide, NamedTest, Change, Forget, Clear, Spell}
@@ -29,7 +33,7 @@ use Rattle.ref_machine.specs.SourceSteps.{place_of}
 use Rattle.lib_models_effects.specs.Tests.{opposite}
 use Rattle.template_runs.specs.TemplateStates.{Templates}
 use Rattle.template_runs.specs.TemplateExits.{behind_mark}
-use Rattle.template_runs_acts.specs.Acts.{IsAct}
+use Rattle.template_runs_acts.specs.Acts.{IsAct, IsActBehind, temps_from, behind_call}
 
 -- ---- what the entry's template has
 
@@ -59,6 +63,17 @@ pub data SameSide (t : Templates) : NamedSide → Side → Type 0 where
 pub data SameTest (t : Templates) : Option NamedTest → Option Test → Option Test → Type 0 where
   none : SameTest t None None None
   some : (test : NamedTest) (left right : Side) → SameSide t test.left left → SameSide t test.right right → SameTest t (Some test) (Some (record { left = left; rel = test.rel; right = right; common = test.common })) (Some (record { left = left; rel = opposite test.rel; right = right; common = test.common }))
+
+-- ---- edges
+
+-- the number that is put for a truth
+abbrev pub number_of : Bool → ℤ
+number_of b = cond b (pos 1) (pos 0)
+
+-- what follows on an edge: the items as they are, or a truth comes first, which the edge has put into the next temporary
+pub data IsEdge : ℕ → List Item → Option (ℕ × ℤ) → ℕ → List Item → Type 0 where
+  plain : (d : ℕ) (items : List Item) → IsEdge d items None d items
+  truth : (d : ℕ) (b : Bool) (items : List Item) → IsEdge d (item.Truth b ∷ items) (Some (d, number_of b)) (suc d) items
 
 -- ---- items and pieces
 
@@ -93,21 +108,37 @@ pub data Follows (t : Templates) : ℕ → ℕ → List Item → List PieceView 
   -- values
   does : (n d next : ℕ) (at : Place) (operation : Operation) (a : Act) (items : List Item) (ps : List PieceView) → IsAct operation a d next → Follows t n next items ps → Follows t (suc n) d (item.Do at operation ∷ items) (at_place at a ∷ ps)
   stores : (n d : ℕ) (at : Place) (kind : declared.Scalar) (items : List Item) (ps : List PieceView) → Follows t n d items ps → Follows t (suc n) (suc (suc d)) (item.Do at (op.Store kind) ∷ (item.Drop ∷ items)) (at_place at (act.Store d (suc d) kind None) ∷ ps)
+  again : (n d : ℕ) (at : Place) (operation : Operation) (a : Act) (items : List Item) (ps : List PieceView) → IsActBehind operation a d → Follows t n (suc (suc d)) items ps → Follows t (suc n) (suc d) (item.Again ∷ (item.Do at operation ∷ items)) (at_place at a ∷ ps)
+  calls_library : (n d count : ℕ) (at : Place) (function : LibFn) (target : Option Ty) (site : Option ℕ) (items : List Item) (ps : List PieceView) → Follows t n (behind_call function d) items ps → Follows t (suc n) (d + count) (item.Do at (op.Library function count target) ∷ items) (at_place at (act.Library (result_temp function d) function (temps_from d count) site (op.target_size t.unit target)) ∷ ps)
   drop : (n d : ℕ) (items : List Item) (ps : List PieceView) → Follows t n d items ps → Follows t (suc n) (suc d) (item.Drop ∷ items) ps
   -- objects
   object : (n d base : ℕ) (at : Place) (o : ObjectRef) (offset : ℕ) (items : List Item) (ps : List PieceView) → Names t base (name_of_object o) → Follows t n (suc d) items ps → Follows t (suc n) d (item.Object at o offset ∷ items) (at_place at (act.Address d base offset) ∷ ps)
+  literal : (n d base i : ℕ) (at : Place) (items : List Item) (ps : List PieceView) → Names t base (Literal i) → Follows t n (suc d) items ps → Follows t (suc n) d (item.Literal at i ∷ items) (at_place at (act.Address d base 0) ∷ ps)
   on_object : (n d base local : ℕ) (at : Place) (how : Change) (items : List Item) (ps : List PieceView) → Names t base (Local local) → Follows t n d items ps → Follows t (suc n) d (item.OnObject at local how ∷ items) (at_place at (change_act base how) ∷ ps)
   enters_none : (n d : ℕ) (items : List Item) (ps : List PieceView) → Follows t n d items ps → Follows t (suc n) d (item.Enters [] ∷ items) ps
   enters : (n d base local : ℕ) (locals : List ℕ) (items : List Item) (ps : List PieceView) → Names t base (Local local) → Follows t n d (item.Enters locals ∷ items) ps → Follows t (suc n) d (item.Enters (local ∷ locals) ∷ items) (at_place (own t) (act.Enter base) ∷ ps)
   leaves_none : (n d : ℕ) (items : List Item) (ps : List PieceView) → Follows t n d items ps → Follows t (suc n) d (item.Leaves [] ∷ items) ps
   leaves : (n d base local : ℕ) (locals : List ℕ) (items : List Item) (ps : List PieceView) → Names t base (Local local) → Follows t n d (item.Leaves locals ∷ items) ps → Follows t (suc n) d (item.Leaves (local ∷ locals) ∷ items) (at_place (own t) (act.Leave base) ∷ ps)
   -- ends of blocks
-  choose : (n d yes no : ℕ) (at : Place) (kind : declared.Scalar) (test : Option NamedTest) (if_held if_failed : Option Test) (held failed : Items) (items : List Item) (ps on_yes on_no : List PieceView)
+  choose : (n d yes no first second : ℕ) (at : Place) (kind : declared.Scalar) (test : Option NamedTest) (if_held if_failed : Option Test) (yes_puts no_puts : Option (ℕ × ℤ)) (held failed : Items) (items go stay : List Item) (ps on_yes on_no : List PieceView)
       → SameTest t test if_held if_failed
       → Leads t yes on_yes
       → Leads t no on_no
-      → Follows t n d (listed held ++ items) on_yes
-      → Follows t n d (listed failed ++ items) on_no
-      → Follows t (suc n) (suc d) (item.Choose at test held failed ∷ items) (End (record { at = at; does = act.Branch d kind }) (record { to = yes; taken = When true if_held None } ∷ (record { to = no; taken = When false if_failed None } ∷ [])) ∷ ps)
+      → IsEdge d (listed held ++ items) yes_puts first go
+      → IsEdge d (listed failed ++ items) no_puts second stay
+      → Follows t n first go on_yes
+      → Follows t n second stay on_no
+      → Follows t (suc n) (suc d) (item.Choose at test held failed ∷ items) (End (record { at = at; does = act.Branch d kind }) (record { to = yes; taken = When true if_held yes_puts } ∷ (record { to = no; taken = When false if_failed no_puts } ∷ [])) ∷ ps)
+  read_line : (n d none some : ℕ) (at : Place) (unread read : Items) (items : List Item) (ps on_none on_some : List PieceView)
+      → Leads t none on_none
+      → Leads t some on_some
+      → Follows t n d (listed unread ++ items) on_none
+      → Follows t n d (listed read ++ items) on_some
+      → Follows t (suc n) (suc (suc (suc d))) (item.ReadLine at unread read ∷ items) (End (record { at = at; does = act.ReadLine None d (suc d) (suc (suc d)) }) (record { to = none; taken = NoLine } ∷ (record { to = some; taken = Line } ∷ [])) ∷ ps)
+  -- both edges lead to one label
+  read_value : (n d l : ℕ) (at : Place) (target : Option Ty) (items : List Item) (ps there : List PieceView)
+      → Leads t l there
+      → Follows t n (suc d) items there
+      → Follows t (suc n) (suc (suc (suc d))) (item.Do at (op.Library Fgets 3 target) ∷ items) (End (record { at = at; does = act.ReadLine (Some d) d (suc d) (suc (suc d)) }) (record { to = l; taken = NoLine } ∷ (record { to = l; taken = Line } ∷ [])) ∷ ps)
   hop : (n d l : ℕ) (items : List Item) (ps there : List PieceView) → Leads t l there → Follows t n d items there → Follows t (suc n) d (item.Hop ∷ items) (End (record { at = own t; does = act.Jump }) (record { to = l; taken = Always } ∷ []) ∷ ps)
   finish : (n d : ℕ) (at : Place) (ps : List PieceView) → Follows t (suc n) d [] (End (record { at = at; does = act.Stop }) [] ∷ ps)

@@ -1,2 +1,16 @@
-mod SplitWorks
-pub mod TermsFollow
+pub mod Runs
+pub mod Labels
+pub mod About
+pub mod Operators
+pub mod Assignments
+pub mod Steps
+pub mod Laying
+pub mod Arguments
+pub mod LineCalls
+pub mod Branches
+pub mod ConditionTests
+pub mod Choices
+pub mod Conditions
+pub mod PlainForms
+pub mod OtherForms
+pub mod Terms

@@ -1,1 +1,4 @@
-pub mod PlainTerms
+pub mod Rooms
+pub mod SuitedTerms
+pub mod TemplateParts
+pub mod TermsFollow

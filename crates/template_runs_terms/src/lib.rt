@@ -3,4 +3,4 @@
 
 mod theorems;
 
-pub use theorems::{terms_follow, unused_terms_follow};
+pub use theorems::{conditions_follow, terms_follow, unused_terms_follow};

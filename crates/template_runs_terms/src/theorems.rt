@@ -1,8 +1,8 @@
-//! Terms without branches and calls stand in their pieces as in the source.
-ghost use Rattle.template_runs_terms.specs.PlainTerms.{TermsFollow, UnusedTermsFollow};
+//! Terms and conditions without calls of functions of the unit stand in their pieces as in the source.
+ghost use Rattle.template_runs_terms.specs.TermsFollow.{ConditionsFollow, TermsFollow, UnusedTermsFollow};
 
-/// Where the works of a term without branches and calls come to pieces, its items follow in these, for any number of
-/// turns and whatever comes behind.
+/// Where the works of a term come to pieces, its items follow in these, for any number of turns and whatever comes
+/// behind: operators, assignments and steps, `&&`, `||` and `?:`, calls of the library.
 pub fn terms_follow()
     ensures { TermsFollow }
 {}
@@ -10,4 +10,10 @@ pub fn terms_follow()
 /// So do those of a term whose value is not used.
 pub fn unused_terms_follow()
     ensures { UnusedTermsFollow }
+{}
+
+/// The items of a condition follow in its pieces where those of each way follow behind the label of that way, and its
+/// tests name the same objects.
+pub fn conditions_follow()
+    ensures { ConditionsFollow }
 {}
