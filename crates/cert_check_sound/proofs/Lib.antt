@@ -5,5 +5,6 @@ pub mod FittedRows
 pub mod CertifiedMaps
 pub mod SoundCertificates
 pub mod WorkedCertificate
+mod WorkedAnalysis
 pub mod WiderRows
 pub mod AnalysedMaps

@@ -8,7 +8,7 @@ use Rattle.std.specs.Global.{Vec}
 use Rattle.std.specs.Fmt.{digits}
 use Rattle.std.specs.List.{Contains}
 use Rattle.std.specs.List.Sorted.{IsStrictlySortedBy}
-use Rattle.std.proofs.Common.{arith, ap, subst, sym}
+use Rattle.std.proofs.Common.{arith, subst, sym}
 use Rattle.cc_base.specs.DiagnosticOrder.{IsOrderedSet}
 use Rattle.cc_base.specs.InductiveMap.{IsInductive, IsOwn, row_at}
 use Rattle.cc_base.specs.Rows.{reached_leq}
@@ -79,8 +79,6 @@ use Rattle.cert_check_edges.specs.MapFaults.{starts_below}
 use Rattle.cert_check.specs.Verdicts.{cert_cells, cert_machine}
 use Rattle.cert_check_programs.specs.Certificates.{IsVerified}
 use Rattle.cert_check_programs.specs.declared.checked_maps.Verified.TheVariants.{Found}
-use Rattle.cert_check_sound.specs.SoundCertificates.{IsCertifiable}
-use Rattle.cert_check_sound.specs.WorkedCertificates.{IsAcceptedBeyond}
 
 none_some : {A : Type 0} (x : A) → None ≡ Some x → ⊥
 none_some x e = cc
@@ -104,10 +102,10 @@ before_object = Value (record (value_lattice interval_lattice).least {
   };
 })
 
-abbrev row : List (Cell Interval)
+abbrev pub row : List (Cell Interval)
 row = before_object ∷ (nothing ∷ (nothing ∷ (nothing ∷ [])))
 
-abbrev start : List (Cell Interval)
+abbrev pub start : List (Cell Interval)
 start = nothing ∷ (nothing ∷ (nothing ∷ (nothing ∷ [])))
 
 module _ (some : Flow) where
@@ -161,7 +159,7 @@ module _ (some : Flow) where
   abbrev table : TableView
   table = record { bases = []; width = 0; objects = []; literals = [] }
 
-  starts : StartsAs unit program
+  pub starts : StartsAs unit program
   starts = record {
     model = refl;
     table = table;
@@ -182,11 +180,11 @@ module _ (some : Flow) where
 
   -- ---- what is supposed of the program
 
-  started : has_start interval_lattice interval_numbers program ≡ true
+  pub started : has_start interval_lattice interval_numbers program ≡ true
   unfolding start_row empty_row empty_bases empty_base empty_state start_objects start_parameters
   started = refl
 
-  abbrev rows : List (Option (List (Cell Interval)))
+  abbrev pub rows : List (Option (List (Cell Interval)))
   rows = Some start ∷ []
 
   -- no block follows
@@ -208,7 +206,7 @@ module _ (some : Flow) where
   no_head (suc zero) h = cc
   no_head (suc (suc b)) h = cc
 
-  inductive : IsInductive row_lattice (machine_of program type_list) rows
+  pub inductive : IsInductive row_lattice (machine_of program type_list) rows
   inductive = record {
     size = refl;
     own = rows_own;
@@ -217,26 +215,16 @@ module _ (some : Flow) where
     rounded = λ b h. absurd (no_head b h);
   }
 
-  typed : is_typed_map interval_lattice interval_numbers program rows ≡ true
+  pub typed : is_typed_map interval_lattice interval_numbers program rows ≡ true
   unfolding is_typed_map is_typed_block are_typed has_operands operate constant_step binary_step put_number value_at between_or_empty
   typed = refl
 
-  regular : is_regular program type_list ≡ true
+  pub regular : is_regular program type_list ≡ true
   regular = refl
-
-  certifiable : IsCertifiable program type_list
-  certifiable = record {
-    started = started;
-    regular = regular;
-    checked = record { parts = refl; reaches = refl; structs = refl };
-    rows = rows;
-    inductive = inductive;
-    typed = typed;
-  }
 
   -- ---- the certificate is accepted
 
-  rows_are : map_rows program text ≡ Some row ∷ []
+  pub rows_are : map_rows program text ≡ Some row ∷ []
   unfolding map_rows head_read has_head head_text greatest_row row_fit cell_fit bases_below between_or_empty block_read cell_read line_at next_place until behind first_byte same_bytes
       cap grown small capped number_of range_of labels_given pointer_given value_given first_given state_given cell_given bit_text labels_sum with_pointer with_value with_first with_state
       bit_value nibble used_below bases_text with_bit with_digit reached_text placed_text line_given is_no_pointer is_no_value is_no_state digits nearest
@@ -252,7 +240,7 @@ module _ (some : Flow) where
   unfolding start_of row_fit cell_fit bases_below between_or_empty start_row empty_row empty_bases empty_base empty_state start_objects start_parameters set_zeros nearest
   below = refl
 
-  abbrev diagnostic : Diag
+  abbrev pub diagnostic : Diag
   diagnostic = record { place = at 3; rule = rule.Diverr }
 
   pairs_are : admitted_pairs program (Some row ∷ []) ≡ diagnostic ∷ []
@@ -266,13 +254,13 @@ module _ (some : Flow) where
   unfolding IsStrictlySortedBy
   ordered = record { ascending = (tt, tt); kept = λ d h. h; made = λ d h. h }
 
-  verified : IsVerified program text (Found found)
+  pub verified : IsVerified program text (Found found)
   verified = (
     (whole, (subst (λ rs. starts_below cert_cells (cert_machine program) rs ≡ true) (sym rows_are) below, λ e lt. absurd (omega (arith, lt)))),
     subst (λ rs. IsOrderedSet (admitted_pairs program rs) found.items) (sym rows_are) (subst (λ ps. IsOrderedSet ps found.items) (sym pairs_are) ordered),
   )
 
-  beyond : (machine_of program type_list).own row ≡ false
+  pub beyond : (machine_of program type_list).own row ≡ false
   unfolding bases_below between_or_empty nearest
   beyond = refl
 
@@ -284,8 +272,5 @@ module _ (some : Flow) where
   divides : found_in (flow_steps (flow_view program) 4 (flow_begin unit (flow_view program) [])) ≡ violation ∷ []
   divides = refl
 
-  violated : IsViolatedIn program unit violation
+  pub violated : IsViolatedIn program unit violation
   violated = record { draws = []; steps = 4; there = subst (λ vs. Contains vs violation) (sym divides) (0, omega arith, refl) }
-
-  pub accepted : IsAcceptedBeyond program type_list text found unit violation
-  accepted = record { certifiable = certifiable; verified = verified; starts = starts; violated = violated; row = row; has = ap (λ rs. row_at rs 0) rows_are; beyond = beyond }

@@ -1,4 +1,4 @@
--- A certificate that is accepted, of a program with which all that is supposed holds.
+-- A certificate that is accepted, of a program that has an analysis.
 use Rattle.std.specs.Prelude.{◌≡◌, ℤ, false, List, Some}
 use Rattle.std.specs.Global.{Vec}
 use Rattle.cc_base.specs.InductiveMap.{row_at}
@@ -7,7 +7,7 @@ use Rattle.c_layout.specs.CheckedUnits.{UnitView}
 use Rattle.flow_program.specs.declared.programs.Flow.{Flow}
 use Rattle.interval_domain.specs.declared.intervals.Interval.{Interval}
 use Rattle.value_domain.specs.declared.row_cells.Cell.{Cell}
-use Rattle.flow_analysis.specs.Analyses.{machine_of}
+use Rattle.flow_analysis.specs.Analyses.{machine_of, IsAnalysis}
 use Rattle.lib_models_effects.specs.Worlds.{Violation}
 use Rattle.cert_check_text.specs.LineWords.{Bytes}
 use Rattle.cert_check_reading.specs.MapReading.{map_rows}
@@ -15,11 +15,11 @@ use Rattle.cert_check_programs.specs.Certificates.{IsVerified}
 use Rattle.cert_check_programs.specs.declared.checked_maps.Verified.TheVariants.{Found}
 use Rattle.abstract_steps_sound_analyses.specs.SoundAnalyses.{IsViolatedIn}
 use Rattle.abstract_steps_sound_beginnings.specs.UnitStarts.{StartsAs}
-use Rattle.cert_check_sound.specs.SoundCertificates.{IsCertifiable}
 
--- the unit has a run with the violation, and the text is accepted with a row that is none of the analysis's system
+-- what is found is what an analysis finds, the unit has a run with the violation, and the text is accepted with a row that
+-- is none of the analysis's system
 pub record IsAcceptedBeyond (flow : Flow) (list : List ℤ) (text : Bytes) (found : Vec Diag) (u : UnitView) (v : Violation) : Type 0 where
-  pub certifiable : IsCertifiable flow list
+  pub analysed : IsAnalysis flow list found.items
   pub verified : IsVerified flow text (Found found)
   pub starts : StartsAs u flow
   pub violated : IsViolatedIn flow u v

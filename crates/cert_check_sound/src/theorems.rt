@@ -60,8 +60,8 @@ pub fn analysed_programs_are_certifiable()
     ensures { (flow : Flow) (list : List ℤ) (found : List Diag) → IsAnalysis flow list found → IsCertifiable flow list }
 {}
 
-/// There is a program, which divides by 0, of which all premises hold, and a certificate of it that is accepted, with a
-/// pointer from 5 bytes before an object: no row of an analysis of it has one.
+/// There is a program, which divides by 0, with an analysis that finds this, and a certificate of it that is accepted, with
+/// a pointer from 5 bytes before an object: no row of an analysis of it has one.
 pub fn premises_can_be_met()
     ensures { Flow → (flow : Flow) × (text : Bytes) × (found : Vec Diag) × (u : UnitView) × (v : Violation) × IsAcceptedBeyond flow type_list text found u v }
 {}

@@ -1,4 +1,5 @@
-use Rattle.cert_check_sound.proofs.WorkedCertificate.{program, text, found, unit, violation, accepted}
+use Rattle.cert_check_sound.proofs.WorkedCertificate.{program, text, found, unit, violation}
+use Rattle.cert_check_sound.proofs.WorkedAnalysis.{accepted}
 use Rattle.cert_check_sound.proofs.theorems.premises_can_be_met.Goals as goal
 
 pub returns : goal.returns
