@@ -5,4 +5,3 @@ pub mod Openings
 pub mod Lowerings
 pub mod WellMade
 pub mod AsCounted
-pub mod ObjectKinds

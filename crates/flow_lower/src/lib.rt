@@ -4,7 +4,6 @@
 mod counted_bases;
 mod initial_objects;
 mod moved_operations;
-mod object_kinds;
 mod opened_program;
 mod program_bases;
 mod resolved_edges;

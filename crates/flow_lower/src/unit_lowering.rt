@@ -13,11 +13,9 @@ ghost use Rattle.flow_lower.specs.Openings.{program_view};
 ghost use Rattle.flow_lower.specs.Lowerings as spec;
 ghost use Rattle.flow_lower.specs.Lowerings.{AreUnitCounts, IsLowering, Refuses};
 ghost use Rattle.flow_lower.specs.AsCounted.{HasJust};
-ghost use Rattle.flow_lower.specs.ObjectKinds.{has_model_objects};
 
 use crate::counted_bases::with_counted_bases;
 use crate::initial_objects::initial_objects;
-use crate::object_kinds::with_model_objects;
 use crate::opened_program::{OpenedProgram, opened};
 use c_layout::{CType, Checked, Function};
 use cc_base::{Count, IntType, Limits, Stop};
@@ -138,12 +136,10 @@ pub fn lower(alloc: Global, unit: &Checked, limits: &Limits) -> Result<Flow, Sto
     ensures well_formed { IfOk result (λ f. is_well_formed limits.now f ≡ true) }
     ensures lowering { IfOk result (λ f. IsLowering (unit_view unit.now) limits.now (flow_view f)) }
     ensures counted { IfOk result (λ f. (is : IsLowering (unit_view unit.now) limits.now (flow_view f)) → HasJust is.counts (flow_view f)) }
-    ensures objects { IfOk result (λ f. has_model_objects (unit_view unit.now) ≡ true) }
     ensures plain { IfOk result (λ f. has_plain_objects (unit_view unit.now) ≡ true) }
     ensures refusal { IfErr result (λ s. Refuses (unit_view unit.now) limits.now s) }
     ensures cause { IfErr result (λ s. (e : Function) → slice_get unit.now.functions.items unit.now.entry ≡ Some e → IsTooLarge limits.now e.place s) }
 {
-    with_model_objects(unit)?;
     with_plain_objects(unit)?;
     let entry = entry_of(unit)?;
     let found = prepared(alloc, unit)?;
