@@ -67,10 +67,13 @@ fn inputs(alloc: Global, entry: &Function) -> Result<Vec<ParameterInput>, AllocE
     Ok(list)
 }
 
-fn entry_of(unit: &Checked) -> Result<&Function, AllocError>
+/// The entry of a unit whose objects are plain.
+fn plain_entry(unit: &Checked) -> Result<&Function, AllocError>
+    ensures plain { IfOk result (λ f. has_plain_objects (unit_view unit.now) ≡ true) }
     ensures found { IfOk result (λ f. slice_get (unit_view unit.now).functions unit.now.entry ≡ Some (function_view f.now)) }
     ensures only { IfOk result (λ f. (e : Function) → slice_get unit.now.functions.items unit.now.entry ≡ Some e → f.now ≡ e) }
 {
+    with_plain_objects(unit)?;
     unit.functions.get(unit.entry as usize).ok_or(AllocError)
 }
 
@@ -140,8 +143,7 @@ pub fn lower(alloc: Global, unit: &Checked, limits: &Limits) -> Result<Flow, Sto
     ensures refusal { IfErr result (λ s. Refuses (unit_view unit.now) limits.now s) }
     ensures cause { IfErr result (λ s. (e : Function) → slice_get unit.now.functions.items unit.now.entry ≡ Some e → IsTooLarge limits.now e.place s) }
 {
-    with_plain_objects(unit)?;
-    let entry = entry_of(unit)?;
+    let entry = plain_entry(unit)?;
     let found = prepared(alloc, unit)?;
     let counts = counted(alloc, unit, &found)?;
     all_within(entry.place, counts, limits)?;
