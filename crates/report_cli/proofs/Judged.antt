@@ -5,7 +5,7 @@ use Rattle.sarif_gate.specs.declared.known_results.Known.{Known}
 use Rattle.report_cli_words.specs.declared.commands.Format.{Format}
 use Rattle.report_cli_texts.specs.Reports.{Bytes}
 use Rattle.report_cli_texts.specs.declared.answers.Answer.{Answer}
-use Rattle.report_cli.specs.Judging.{SettingView, Judgement, IsJudged}
+use Rattle.report_cli_units.specs.Judging.{SettingView, Judgement, IsJudged}
 use Rattle.report_cli.specs.Answering.{AnswersReport, AnswersSummary, AnswersOwn, AnswersJudged, AnswersMade}
 use Rattle.report_cli.specs.Gates.{AnswersNew, AnswersGated}
 

@@ -1,5 +1,5 @@
 use Rattle.std.proofs.Common.{string_bytes, map, IfOk, subst}
-use Rattle.report_cli.specs.Judging.{judging, judgement, IsJudged}
+use Rattle.report_cli_units.specs.Judging.{judging, judgement, IsJudged}
 use Rattle.report_cli.specs.Answering.{AnswersReport}
 use Rattle.report_cli.proofs.Judged.{report_told}
 use Rattle.report_cli.proofs.decision.checked.Goals as goal

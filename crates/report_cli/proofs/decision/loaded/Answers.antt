@@ -1,5 +1,5 @@
 use Rattle.std.proofs.Common.{string_bytes, map}
-use Rattle.report_cli.specs.Judging.{judgement}
+use Rattle.report_cli_units.specs.Judging.{judgement}
 use Rattle.report_cli.specs.Verdicts.{load_setting}
 use Rattle.report_cli.proofs.Judged.{summary_told}
 use Rattle.report_cli.proofs.decision.loaded.Goals as goal

@@ -1,6 +1,6 @@
 use Rattle.std.proofs.Common.{string_bytes, map, IfOk, None, subst}
 use Rattle.report_cli_words.specs.Requests.{command_view}
-use Rattle.report_cli.specs.Judging.{judging, judgement, IsJudged}
+use Rattle.report_cli_units.specs.Judging.{judging, judgement, IsJudged}
 use Rattle.report_cli.specs.Verdicts.{gate_setting}
 use Rattle.report_cli.specs.Gates.{AnswersNew}
 use Rattle.report_cli.proofs.Judged.{new_told}
