@@ -1,0 +1,2 @@
+mod ListPlaces
+mod NamedTables

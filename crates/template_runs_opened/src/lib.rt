@@ -1,0 +1,2 @@
+//! Templates are laid out in the program of their unit.
+#![tactic(auto)]
