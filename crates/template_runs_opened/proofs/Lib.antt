@@ -1,2 +1,6 @@
 mod ListPlaces
 mod NamedTables
+mod MadeParts
+mod NamedPlaces
+mod OpenedPieces
+mod OpenedCopies
