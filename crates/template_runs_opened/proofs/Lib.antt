@@ -4,3 +4,5 @@ mod MadeParts
 mod NamedPlaces
 mod OpenedPieces
 mod OpenedCopies
+mod ShiftedActs
+mod FinishedPrograms

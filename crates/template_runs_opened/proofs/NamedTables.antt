@@ -17,6 +17,7 @@ use Rattle.flow_lower_counts.specs.SharedObjects.{literal_type}
 use Rattle.flow_lower_shapes.specs.HeapBases.{heap_shape}
 use Rattle.flow_lower_tasks.specs.Pieces.{NameView, Local, Outcome, Static, Literal, Allocation}
 use Rattle.flow_lower.specs.BaseTables.{TableView, info, added, object_added, allocated, Named, named, local_or, local, found_in, known, object_noted, literal_noted, literal_made, literal_or, with_literal, object_made, object_or, with_object, with_shared, brought, with_all, with_pointed, number_of, object_named, literal_named, base}
+use Rattle.template_runs_opened.specs.FitTemplates.{IsNameThere}
 use Rattle.template_runs_opened.proofs.ListPlaces.{some_same, within, left_of, at_end, one_longer, no_shorter, known_there, set_here, set_cases, set_kept, set_length}
 
 -- ---- what a base is
@@ -28,6 +29,7 @@ pub record ObjectAt (u : UnitView) (bases : List BaseInfo) (n k : ℕ) : Type 0 
   pub there : slice_get bases k ≡ Some info
   pub is_static : info.kind ≡ kind.Static
   pub size : info.size ≡ size_of_type u.structs u.model.pointer object.ctype
+  pub cells : info.shape.cells ≡ leaves_of u.structs u.model.pointer object.ctype
 
 pub record LiteralAt (u : UnitView) (bases : List BaseInfo) (n k : ℕ) : Type 0 where
   pub literal : LiteralView
@@ -104,7 +106,7 @@ locals_twice b c x y z le p q = record { kept = λ slot k is. q.kept slot k (p.k
 
 module _ (u : UnitView) where
   object_on : (bases more : List BaseInfo) (n k : ℕ) → ObjectAt u bases n k → ObjectAt u (bases ++ more) n k
-  object_on bases more n k x = record { object = x.object; stands = x.stands; info = x.info; there = left_of bases more k x.info x.there; is_static = x.is_static; size = x.size }
+  object_on bases more n k x = record { object = x.object; stands = x.stands; info = x.info; there = left_of bases more k x.info x.there; is_static = x.is_static; size = x.size; cells = x.cells }
 
   literal_on : (bases more : List BaseInfo) (n k : ℕ) → LiteralAt u bases n k → LiteralAt u (bases ++ more) n k
   literal_on bases more n k x = record { literal = x.literal; stands = x.stands; info = x.info; there = left_of bases more k x.info x.there; is_literal = x.is_literal; size = x.size }
@@ -166,7 +168,7 @@ module _ (u : UnitView) where
       }
     where
       are : (m k : ℕ) → ((m ≡ n) × (k ≡ length b.bases)) ⊎ (known b.objects m ≡ Some k) → ObjectAt u (object_added u kind.Static o.ctype b).bases m k
-      are m k (inl p) = record { object = o; stands = ap (λ j. slice_get u.objects j) p.0 ∙ is; info = _; there = ap (λ j. slice_get (object_added u kind.Static o.ctype b).bases j) p.1 ∙ at_end b.bases _ []; is_static = refl; size = refl }
+      are m k (inl p) = record { object = o; stands = ap (λ j. slice_get u.objects j) p.0 ∙ is; info = _; there = ap (λ j. slice_get (object_added u kind.Static o.ctype b).bases j) p.1 ∙ at_end b.bases _ []; is_static = refl; size = refl; cells = refl }
       are m k (inr old) = object_on b.bases _ m k (g.objects m k old)
 
       once : (m j k : ℕ) → ((m ≡ n) × (k ≡ length b.bases)) ⊎ (known b.objects m ≡ Some k) → ((j ≡ n) × (k ≡ length b.bases)) ⊎ (known b.objects j ≡ Some k) → m ≡ j
@@ -278,14 +280,6 @@ module _ (u : UnitView) where
 
   -- ---- names
 
-  -- a name is of what is there
-  abbrev pub IsNameThere : FunctionView → NameView → Type 0
-  IsNameThere f (Local n) = n < length f.locals + 1
-  IsNameThere f Outcome = Unit {0}
-  IsNameThere f (Static n) = n < length u.objects
-  IsNameThere f (Literal n) = n < length u.literals
-  IsNameThere f (Allocation target) = Unit {0}
-
   -- a base stands for a name
   abbrev pub Stands : FunctionView → NameView → List (Option ℕ) → TableView → ℕ → Type 0
   Stands f (Local n) locals b k = known locals n ≡ Some k
@@ -299,7 +293,7 @@ module _ (u : UnitView) where
     pub more : More b n.after
     pub locals_good : GoodLocals u f n.after.bases n.locals
     pub locals_more : MoreLocals b locals n.locals
-    pub stands : IsNameThere f x → Stands f x n.locals n.after n.number
+    pub stands : IsNameThere u f x → Stands f x n.locals n.after n.number
 
   local_new : (f : FunctionView) (slot : ℕ) (locals : List (Option ℕ)) (b : TableView) → GoodLocals u f b.bases locals → known locals slot ≡ None → GoodLocals u f (object_added u kind.Automatic (local_type f slot) b).bases (slice_set locals slot (Some (length b.bases)))
   local_new f slot locals b g free = record {
@@ -325,7 +319,7 @@ module _ (u : UnitView) where
       once m j k (inr x) (inl q) = let y = g.are m k x in absurd (past_end b.bases k y.info q.1 y.there)
       once m j k (inr x) (inr y) = g.once m j k x y
 
-  local_named : (f : FunctionView) (x : NameView) (slot : ℕ) (locals : List (Option ℕ)) (b : TableView) → GoodTable u b → GoodLocals u f b.bases locals → (IsNameThere f x → slot < length locals) → ((n : Named) → known n.locals slot ≡ Some n.number → Stands f x n.locals n.after n.number) → IsNamed f x locals b (local u f slot locals b)
+  local_named : (f : FunctionView) (x : NameView) (slot : ℕ) (locals : List (Option ℕ)) (b : TableView) → GoodTable u b → GoodLocals u f b.bases locals → (IsNameThere u f x → slot < length locals) → ((n : Named) → known n.locals slot ≡ Some n.number → Stands f x n.locals n.after n.number) → IsNamed f x locals b (local u f slot locals b)
   local_named f x slot locals b g own is_there stands = by (slice_get locals slot) refl
     where
       missing : (xs : List (Option ℕ)) (n : ℕ) → n < length xs → slice_get xs n ≡ None → ⊥
