@@ -6,3 +6,5 @@ mod OpenedPieces
 mod OpenedCopies
 mod ShiftedActs
 mod FinishedPrograms
+mod LaidNames
+mod LaidCopies

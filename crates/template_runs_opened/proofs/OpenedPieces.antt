@@ -129,12 +129,19 @@ module _ (u : UnitView) where
       by true = labels_act p.within.at a p g
       by false = refl
 
-  jumped_labels : (at : Place) (label : ℕ) (m : Made) → (jumped_if at label m).labels ≡ m.labels
+  pub jumped_labels : (at : Place) (label : ℕ) (m : Made) → (jumped_if at label m).labels ≡ m.labels
   jumped_labels at label m = by (is_none m.ready)
     where
       by : (b : Bool) → (cond b m (jumped at label m)).labels ≡ m.labels
       by true = refl
       by false = refl
+
+  -- edges come into no block
+  pub blocks_exits : (from : ℕ) (es : List ExitView) (p : Placed) → Good u p → length (with_exits u from es p).program.blocks ≡ length p.program.blocks
+  blocks_exits from [] p g = refl
+  blocks_exits from (e ∷ es) p g =
+      let one = steps_exit from e p g in
+      blocks_exits from es (with_exit u from e p) one.good ∙ ap (λ (m : Made). length m.blocks) (only_way u e.taken p g).program
 
   -- a label that is not marked keeps its block
   pub labels_kept : (l : ℕ) (q : PieceView) (p : Placed) → Good u p → ((j : ℕ) → l ≡ j + p.within.labels → marks j q ≡ false) → get_or (with_piece u q p).program.labels l 0 ≡ get_or p.program.labels l 0
