@@ -48,7 +48,7 @@ MarkedOnce size [] = Unit {0}
 MarkedOnce size (p ∷ ps) = OnceHere size p ps × MarkedOnce size ps
 
 -- a greater number is none of a label
-past_all : (size j : ℕ) (ps : List PieceView) → size ≤ j → MarkedOnce size ps → Unmarked j ps
+pub past_all : (size j : ℕ) (ps : List PieceView) → size ≤ j → MarkedOnce size ps → Unmarked j ps
 past_all size j [] le once = tt
 past_all size j (Do s ∷ ps) le (here, once) = (refl, past_all size j ps le once)
 past_all size j (DoIfUsed s ∷ ps) le (here, once) = (refl, past_all size j ps le once)
@@ -73,7 +73,7 @@ abbrev pub AvoidAll : ℕ → ℕ → List Copy → Type 0
 AvoidAll low high [] = Unit {0}
 AvoidAll low high (a ∷ as_) = ((slot b : ℕ) → a.locals slot ≡ Some b → (b < low) ⊎ (high ≤ b)) × AvoidAll low high as_
 
-avoid_less : (low high more fewer : ℕ) → low ≤ more → fewer ≤ high → (as_ : List Copy) → AvoidAll low high as_ → AvoidAll more fewer as_
+pub avoid_less : (low high more fewer : ℕ) → low ≤ more → fewer ≤ high → (as_ : List Copy) → AvoidAll low high as_ → AvoidAll more fewer as_
 avoid_less low high more fewer p q [] all = tt
 avoid_less low high more fewer p q (a ∷ as_) (here, all) = ((λ slot b is. by b (here slot b is)), avoid_less low high more fewer p q as_ all)
   where
@@ -88,7 +88,7 @@ avoid_less low high more fewer p q (a ∷ as_) (here, all) = ((λ slot b is. by 
     by b (inr le) = inr (down b le)
 
 -- a copy all of whose bases lie there is apart from them
-all_apart : (low high : ℕ) (c : Copy) (as_ : List Copy) → ((slot b : ℕ) → c.locals slot ≡ Some b → (low ≤ b) × (b < high)) → AvoidAll low high as_ → AllApart c as_
+pub all_apart : (low high : ℕ) (c : Copy) (as_ : List Copy) → ((slot b : ℕ) → c.locals slot ≡ Some b → (low ≤ b) × (b < high)) → AvoidAll low high as_ → AllApart c as_
 all_apart low high c [] inside all = tt
 all_apart low high c (a ∷ as_) inside (here, all) = ((λ slot other b is there. by b (inside slot b is) (here other b there)), all_apart low high c as_ inside all)
   where
@@ -111,10 +111,10 @@ module _ (u : UnitView) (ts : List (Option TemplateView)) (of : ℕ → Template
     pub fit : IsFit u f t
 
   module _ (P : ℕ → Type 0) (fits : (m : ℕ) → P m → (f : FunctionView) (t : TemplateView) → slice_get u.functions m ≡ Some f → template_at ts m ≡ Some t → Fits P m f t) where
-    abbrev its : Opened
+    abbrev pub its : Opened
     its = whole u of entry temps last none_ready low
 
-    abbrev at_copy : ℕ → ℕ → CopyView → Copy
+    abbrev pub at_copy : ℕ → ℕ → CopyView → Copy
     at_copy number depth d = copy_at u of entry temps last none_ready low number depth d
 
     -- what stays while a copy is opened
@@ -134,11 +134,11 @@ module _ (u : UnitView) (ts : List (Option TemplateView)) (of : ℕ → Template
       pub room : d.labels + size ≤ length m.labels
       pub avoid : AvoidAll (length m.bases.bases) (length n.bases.bases) around
 
-    far : (a b c : ℕ) → a ≤ b → b ≤ c → a ≤ c
+    pub far : (a b c : ℕ) → a ≤ b → b ≤ c → a ≤ c
     far a b c p q = omega (arith, p, q)
 
     -- behind a piece that is no call
-    comes_on : (size : ℕ) (m k : Made) (d : CopyView) (n : Made) (around : List Copy) (q : PieceView) (ps : List PieceView) → Extends m k → Comes size m d n around (q ∷ ps) → Comes size k d n around ps
+    pub comes_on : (size : ℕ) (m k : Made) (d : CopyView) (n : Made) (around : List Copy) (q : PieceView) (ps : List PieceView) → Extends m k → Comes size m d n around (q ∷ ps) → Comes size k d n around ps
     comes_on size m k d n around q ps x c =
         let room = c.room in
         let longer = x.labels in
@@ -147,18 +147,18 @@ module _ (u : UnitView) (ts : List (Option TemplateView)) (of : ℕ → Template
         same : (k : ℕ) → k ≤ k
         same k = omega arith
 
-    toward : (p : Placed) (d : CopyView) (n : Made) → Leaves u ts p.within p.program d n → Extends n last → Toward u of entry temps last none_ready low p d
+    pub toward : (p : Placed) (d : CopyView) (n : Made) → Leaves u ts p.within p.program d n → Extends n last → Toward u of entry temps last none_ready low p d
     toward p d n l x = record { kept = l.locals.kept; more = more_twice p.program.bases n.bases last.bases l.extends.bases x.bases; within = l.within }
 
     module _ (number depth size : ℕ) (d : CopyView) (n : Made) (around : List Copy) (stays : Stays number depth d n) where
-      abbrev own : Copy
+      abbrev pub own : Copy
       own = at_copy number depth d
 
-      abbrev Lies : List PieceView → ℕ → ℕ → Type 0
+      abbrev pub Lies : List PieceView → ℕ → ℕ → Type 0
       Lies ps block at = Laid its own around ps block at (length n.blocks) (length n.ready)
 
       -- an instruction that does not end its block
-      does : (s : Step) (at : Place) (p : Placed) (ps : List PieceView) → Good u p → PointsToStart d.names s.does → Leaves u ts (with_act u at s.does p).within (with_act u at s.does p).program d n → Lies ps (length (with_act u at s.does p).program.blocks) (length (with_act u at s.does p).program.ready)
+      pub does : (s : Step) (at : Place) (p : Placed) (ps : List PieceView) → Good u p → PointsToStart d.names s.does → Leaves u ts (with_act u at s.does p).within (with_act u at s.does p).program d n → Lies ps (length (with_act u at s.does p).program.blocks) (length (with_act u at s.does p).program.ready)
           → IsPut its own at s.does (length p.program.blocks) (length p.program.ready) × Lies ps (length p.program.blocks) (suc (length p.program.ready))
       does s at p ps g start l next =
           let q = with_act u at s.does p in
@@ -170,7 +170,7 @@ module _ (u : UnitView) (ts : List (Option TemplateView)) (of : ℕ → Template
           subst₂ (λ i j. Lies ps i j) blocks ready next)
 
       -- one that ends it, with the edges of the block
-      ends : (s : Step) (exits : List ExitView) (p : Placed) (ps : List PieceView) → Good u p → PointsToStart d.names s.does → AllSwitchOn u d.function d.names exits → Leaves u ts (closed u s exits p).within (closed u s exits p).program d n
+      pub ends : (s : Step) (exits : List ExitView) (p : Placed) (ps : List PieceView) → Good u p → PointsToStart d.names s.does → AllSwitchOn u d.function d.names exits → Leaves u ts (closed u s exits p).within (closed u s exits p).program d n
           → Lies ps (length (closed u s exits p).program.blocks) (length (closed u s exits p).program.ready) → Lies (End s exits ∷ ps) (length p.program.blocks) (length p.program.ready)
       ends s exits p ps g start on l next =
           let acted = with_act u s.at s.does p in
@@ -201,7 +201,7 @@ module _ (u : UnitView) (ts : List (Option TemplateView)) (of : ℕ → Template
           add_one k = omega arith
 
       -- a label
-      labelled_at : (l : ℕ) (ps : List PieceView) (c : CopyView) (m : Made) → Good u (placed m (with_rest ps c)) → Opens u ts ps (with_mark l (placed m (with_rest ps c))).within (with_mark l (placed m (with_rest ps c))).program d n → l < size → Unmarked l ps → d.labels + size ≤ length m.labels → d.labels ≡ c.labels
+      pub labelled_at : (l : ℕ) (ps : List PieceView) (c : CopyView) (m : Made) → Good u (placed m (with_rest ps c)) → Opens u ts ps (with_mark l (placed m (with_rest ps c))).within (with_mark l (placed m (with_rest ps c))).program d n → l < size → Unmarked l ps → d.labels + size ≤ length m.labels → d.labels ≡ c.labels
           → get_or last.labels (l + d.labels) 0 ≡ length (jumped_if c.at (l + c.labels) m).blocks
       labelled_at l ps c m g opens less other room same =
           let p = with_mark l (placed m (with_rest ps c)) in
@@ -230,7 +230,7 @@ module _ (u : UnitView) (ts : List (Option TemplateView)) (of : ℕ → Template
           alike l k d c e same = omega (arith, e, same)
 
       -- a label begins a block, or a jump ends the one before
-      marks_there : (l : ℕ) (ps : List PieceView) (c : CopyView) (m : Made) → Good u (placed m (with_rest ps c)) → Opens u ts ps (with_mark l (placed m (with_rest ps c))).within (with_mark l (placed m (with_rest ps c))).program d n → l < size → Unmarked l ps → d.labels + size ≤ length m.labels → d.labels ≡ c.labels
+      pub marks_there : (l : ℕ) (ps : List PieceView) (c : CopyView) (m : Made) → Good u (placed m (with_rest ps c)) → Opens u ts ps (with_mark l (placed m (with_rest ps c))).within (with_mark l (placed m (with_rest ps c))).program d n → l < size → Unmarked l ps → d.labels + size ≤ length m.labels → d.labels ≡ c.labels
           → Lies ps (length (with_mark l (placed m (with_rest ps c))).program.blocks) (length (with_mark l (placed m (with_rest ps c))).program.ready) → Lies (Mark l ∷ ps) (length m.blocks) (length m.ready)
       marks_there l ps c m g opens less other room same next = by m.ready refl (labelled_at l ps c m g opens less other room same) next
         where

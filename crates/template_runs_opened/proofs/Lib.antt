@@ -8,3 +8,4 @@ mod ShiftedActs
 mod FinishedPrograms
 mod LaidNames
 mod LaidCopies
+mod LaidOpenings

@@ -45,7 +45,7 @@ module _ (u : UnitView) (ts : List (Option TemplateView)) where
     pub locals : MoreLocals m.bases c.locals d.locals
     pub within : d ≡ with_locals d.locals (with_rest d.rest c)
 
-  none_known : (count slot k : ℕ) → known (replicate count None) slot ≡ Some k → ⊥
+  pub none_known : (count slot k : ℕ) → known (replicate count None) slot ≡ Some k → ⊥
   none_known zero slot k is = none_is_not k is
   none_known (suc n) zero k is = none_is_not k is
   none_known (suc n) (suc slot) k is = none_known n slot k is
