@@ -1,4 +1,4 @@
-mod ShiftedValues
+pub mod ShiftedValues
 mod Standings
 mod LaidObjects
 mod LaidEdges

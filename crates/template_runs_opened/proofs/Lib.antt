@@ -9,3 +9,4 @@ mod FinishedPrograms
 mod LaidNames
 mod LaidCopies
 mod LaidOpenings
+mod StartNames
