@@ -10,3 +10,4 @@ mod LaidNames
 mod LaidCopies
 mod LaidOpenings
 mod StartNames
+mod WholePrograms
