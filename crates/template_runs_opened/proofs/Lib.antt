@@ -11,3 +11,4 @@ mod LaidCopies
 mod LaidOpenings
 mod StartNames
 mod WholePrograms
+mod LaidPrograms

@@ -42,7 +42,7 @@ use Rattle.template_runs_opened.proofs.StartNames.{in_turn, objects_miss, object
 module _ (u : UnitView) (ts : List (Option TemplateView)) where
   -- ---- behind the end of a block nothing is left
 
-  ready_none : (b : Bool) (ps : List PieceView) (c : CopyView) (m : Made) (d : CopyView) (n : Made) → Opens u ts ps c m d n → last_ends b ps ≡ true → (b ≡ true → m.ready ≡ []) → n.ready ≡ []
+  pub ready_none : (b : Bool) (ps : List PieceView) (c : CopyView) (m : Made) (d : CopyView) (n : Made) → Opens u ts ps c m d n → last_ends b ps ≡ true → (b ≡ true → m.ready ≡ []) → n.ready ≡ []
   ready_none b _ c m _ _ (done _ _) ends before = before ends
   ready_none b _ c m d n (call k ps _ _ f t e between _ _ is_function is_template inside behind) ends before = ready_none false ps (with_rest ps c) between d n behind ends (λ no_end. absurd (differ no_end))
     where
@@ -63,10 +63,10 @@ module _ (u : UnitView) (ts : List (Option TemplateView)) where
   -- ---- the bases of the entry's parameters
 
   -- the first so many objects have the first bases, in order
-  record Numbered (count : ℕ) (p : Placed) : Type 0 where
-    bases : length p.program.bases.bases ≡ count
-    first : (n : ℕ) → n < count → known p.within.locals n ≡ Some n
-    others : (n : ℕ) → count ≤ n → known p.within.locals n ≡ None
+  pub record Numbered (count : ℕ) (p : Placed) : Type 0 where
+    pub bases : length p.program.bases.bases ≡ count
+    pub first : (n : ℕ) → n < count → known p.within.locals n ≡ Some n
+    pub others : (n : ℕ) → count ≤ n → known p.within.locals n ≡ None
 
   numbered_next : (count : ℕ) (p : Placed) → count < length p.within.locals → Numbered count p → Numbered (suc count) (with_local u count p)
   numbered_next count p less x = by (slice_get p.within.locals count) refl
@@ -116,7 +116,7 @@ module _ (u : UnitView) (ts : List (Option TemplateView)) where
           le k = omega arith
       by (Some None) is = record { bases = one_longer p.program.bases.bases _ ∙ ap suc x.bases; first = new; others = behind }
 
-  numbered : (count : ℕ) (p : Placed) → Good u p → Numbered 0 p → count ≤ length p.within.locals → Only u p (with_parameters u count p) × Numbered count (with_parameters u count p)
+  pub numbered : (count : ℕ) (p : Placed) → Good u p → Numbered 0 p → count ≤ length p.within.locals → Only u p (with_parameters u count p) × Numbered count (with_parameters u count p)
   numbered zero p g x le = (only_none u p g, x)
   numbered (suc n) p g x le =
       let before = numbered n p g x (omega (arith, le)) in
