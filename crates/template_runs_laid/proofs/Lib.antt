@@ -2,4 +2,4 @@ pub mod ShiftedValues
 mod Standings
 mod LaidObjects
 mod LaidEdges
-mod LaidSteps
+pub mod LaidSteps

@@ -12,3 +12,5 @@ mod LaidOpenings
 mod StartNames
 mod WholePrograms
 mod LaidPrograms
+mod FitSettled
+mod LoweredPrograms
