@@ -1,5 +1,5 @@
 -- Runs of the program that a unit is lowered to.
-use Rattle.std.proofs.Common.{◌≡◌, ◌==◌, ◌≤◌, ℕ, ℤ, Bool, true, List, [], ◌∷◌, length, Option, Some, None, refl, ap, sym, subst, ◌∙◌}
+use Rattle.std.proofs.Common.{◌≡◌, ◌==◌, ◌≤◌, ◌<◌, ℕ, ℤ, Bool, true, List, [], ◌∷◌, length, Option, Some, None, refl, ap, sym, subst, ◌∙◌}
 use Rattle.std.specs.List.{slice_get}
 use Rattle.std.proofs.lemmas.Bool.{eq-eqb}
 use Rattle.cc_base.specs.declared.limit_table.Limits.{Limits}
@@ -119,12 +119,12 @@ module _ (u : UnitView) (limits : Limits) (f : FlowView) (o : IsOpened u limits 
   entry_fits : Fits u ts of entry o.is.counts.temps made_last none_left low (Reaches u) u.entry entry first_known.template
   entry_fits = fits u.entry begun entry first_known.template o.is.is_counted.is_entry first_known.is_there
 
-  pub runs_agree : (draws : List ℤ) → ((n : ℕ) → LeavesAll (steps_from (settled_templates u limits f o) n (template_begin (settled_templates u limits f o) draws)))
-      → (n : ℕ) → (m : ℕ) × AgreeUnlessStuck (steps_from (settled_templates u limits f o) n (template_begin (settled_templates u limits f o) draws)) (flow_steps f m (flow_begin u f draws))
-  runs_agree draws left n =
+  pub runs_agree : (draws : List ℤ) (n : ℕ) → ((j : ℕ) → j < n → LeavesAll (steps_from (settled_templates u limits f o) j (template_begin (settled_templates u limits f o) draws)))
+      → (m : ℕ) × AgreeUnlessStuck (steps_from (settled_templates u limits f o) n (template_begin (settled_templates u limits f o) draws)) (flow_steps f m (flow_begin u f draws))
+  runs_agree draws n left =
       subst (λ g. (m : ℕ) × AgreeUnlessStuck (steps_from (settled_templates u limits f o) n (template_begin (settled_templates u limits f o) draws)) (flow_steps g m (flow_begin u g draws))) (sym o.is.opens)
       (laid_runs.runs_agree
       (laid.program u ts entry o.is.is_counted.is_entry o.few first_known.template first_known.is_there ends o.is.ends (Reaches u) there first_known.calls of o.is.counts.temps low entry_fits.is entry_fits.fit entry_fits.once fits)
       (laid.first u ts entry o.is.is_counted.is_entry o.few first_known.template first_known.is_there ends o.is.ends (Reaches u) there first_known.calls of o.is.counts.temps low entry_fits.is entry_fits.fit entry_fits.once fits)
       (is_laid_out u ts entry o.is.is_counted.is_entry o.few first_known.template first_known.is_there ends o.is.ends (Reaches u) there first_known.calls of o.is.counts.temps low entry_fits.is entry_fits.fit entry_fits.once fits)
-      draws left n)
+      draws n left)

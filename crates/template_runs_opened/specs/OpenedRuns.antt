@@ -1,5 +1,5 @@
 -- Runs of the settled templates of a unit, and of the program that it is lowered to.
-use Rattle.std.specs.Prelude.{◌≡◌, ◌≤◌, ℕ, ℤ, List, [], length, Option, Some, None}
+use Rattle.std.specs.Prelude.{◌≡◌, ◌≤◌, ◌<◌, ℕ, ℤ, List, [], length, Option, Some, None}
 use Rattle.cc_base.specs.declared.limit_table.Limits.{Limits}
 use Rattle.c_layout.specs.CheckedUnits.{FunctionView, UnitView}
 use Rattle.flow_lower_tasks.specs.Pieces.{TemplateView}
@@ -46,5 +46,5 @@ settled_templates u limits f o = templates u (settled_of o.is.templates)
 
 -- each run of the settled templates in which each called function leaves what it enters is one of the program
 abbrev pub OpenedRunsAreTheSame : Type 0
-OpenedRunsAreTheSame = (u : UnitView) (limits : Limits) (f : FlowView) (o : IsOpened u limits f) (draws : List ℤ) → ((n : ℕ) → LeavesAll (steps_from (settled_templates u limits f o) n (template_begin (settled_templates u limits f o) draws)))
-    → (n : ℕ) → (m : ℕ) × AgreeUnlessStuck (steps_from (settled_templates u limits f o) n (template_begin (settled_templates u limits f o) draws)) (flow_steps f m (flow_begin u f draws))
+OpenedRunsAreTheSame = (u : UnitView) (limits : Limits) (f : FlowView) (o : IsOpened u limits f) (draws : List ℤ) (n : ℕ) → ((j : ℕ) → j < n → LeavesAll (steps_from (settled_templates u limits f o) j (template_begin (settled_templates u limits f o) draws)))
+    → (m : ℕ) × AgreeUnlessStuck (steps_from (settled_templates u limits f o) n (template_begin (settled_templates u limits f o) draws)) (flow_steps f m (flow_begin u f draws))
