@@ -165,9 +165,10 @@ module _ (u : UnitView) (ts : List (Option TemplateView)) (of : ℕ → Template
           let o = only_own u (own_base s.does) p g in
           let r = with_own u (own_base s.does) p in
           let blocks : length q.program.blocks ≡ length p.program.blocks = ap (λ (m : Made). length m.blocks) o.program in
-          let ready : length q.program.ready ≡ suc (length p.program.ready) = one_longer r.program.ready _ ∙ ap (λ (m : Made). suc (length m.ready)) o.program in
-          (put u of entry temps last none_ready low number depth d stays.function stays.names stays.deep stays.named at s.does p g start (extends_twice q.program n last l.extends stays.to_last) (toward q d n l stays.to_last),
-          subst₂ (λ i j. Lies ps i j) blocks ready next)
+          let ready : length q.program.ready ≡ suc (length p.program.ready) = one_longer r.program.ready _ ∙ ap (λ (m : Made). suc (length m.ready)) o.program in (
+            put u of entry temps last none_ready low number depth d stays.function stays.names stays.deep stays.named at s.does p g start (extends_twice q.program n last l.extends stays.to_last) (toward q d n l stays.to_last),
+            subst₂ (λ i j. Lies ps i j) blocks ready next,
+          )
 
       -- one that ends it, with the edges of the block
       pub ends : (s : Step) (exits : List ExitView) (p : Placed) (ps : List PieceView) → Good u p → PointsToStart d.names s.does → AllSwitchOn u d.function d.names exits → Leaves u ts (closed u s exits p).within (closed u s exits p).program d n
@@ -260,7 +261,7 @@ module _ (u : UnitView) (ts : List (Option TemplateView)) (of : ℕ → Template
               let count : length k.blocks ≡ length m.blocks + 1 = one_longer m.blocks _ ∙ add_one (length m.blocks) in
               let label_k : get_or last.labels (l + d.labels) 0 ≡ length m.blocks + 1 = label ∙ ap (λ (j : Made). length j.blocks) here ∙ count in
               let leads : edges_at its (length m.blocks) ≡ record { from = length m.blocks; to = length m.blocks + 1; taken = Always } ∷ [] =
-                  edges_in u entry last temps none_ready (length m.blocks) (edge ∷ []) edges_there ∙ ap (λ i. edge_to (length m.blocks) (get_or last.labels (l + i) 0) Always ∷ []) (sym same) ∙ ap (λ i. edge_to (length m.blocks) i Always ∷ []) label_k
+              edges_in u entry last temps none_ready (length m.blocks) (edge ∷ []) edges_there ∙ ap (λ i. edge_to (length m.blocks) (get_or last.labels (l + i) 0) Always ∷ []) (sym same) ∙ ap (λ i. edge_to (length m.blocks) i Always ∷ []) label_k
               in
               let rest_k = subst (λ (j : Made). Lies ps (length j.blocks) (length j.ready)) here rest in
               layouts.jumps own around l (length m.blocks) c.at ps (length m.blocks) (length m.ready) (length n.blocks) (length n.ready) label_k (stands_in u entry last temps none_ready (length m.blocks) (length m.ready) jump there) leads (subst (λ i. Lies ps i 0) count rest_k)
