@@ -215,12 +215,15 @@ module _ (o : Opened) (entry : Copy) (out : IsLaidOut o entry) where
       is : (m k : ℕ) → suc (m + k) ≡ suc m + k
       is m k = omega arith
 
-  all_steps : (n : ℕ) (a : TemplateRun) (b : FlowRun) → ((j : ℕ) → LeavesAll (steps_from first j a)) → Both o a b → (m : ℕ) × Both o (steps_from first n a) (flow_steps second m b)
+  all_steps : (n : ℕ) (a : TemplateRun) (b : FlowRun) → ((j : ℕ) → j < n → LeavesAll (steps_from first j a)) → Both o a b → (m : ℕ) × Both o (steps_from first n a) (flow_steps second m b)
   all_steps zero a b left both = (0, both)
   all_steps (suc n) a b left both =
-      let x = step_both a b (left 0) both in
-      let (m, rest) = all_steps n (next first a) (flow_steps second x.steps b) (λ j. left (suc j)) x.both in
+      let x = step_both a b (left 0 (omega arith)) both in
+      let (m, rest) = all_steps n (next first a) (flow_steps second x.steps b) (λ j less. left (suc j) (later j less)) x.both in
       (m + x.steps, subst (λ r. Both o (steps_from first n (next first a)) r) (steps_on m x.steps b) rest)
+    where
+      later : (j : ℕ) → j < n → suc j < suc n
+      later j less = omega (arith, less)
 
   agreed : (a : TemplateRun) (b : FlowRun) → Both o a b → AgreeUnlessStuck a b
   agreed _ _ (both_run _ _ found also (related c around rest temps names frames block at end last all bases memory draws old new stands is) equal) = inr (record { memory = refl; draws = refl; found = equal; why = refl })
@@ -251,5 +254,5 @@ module _ (o : Opened) (entry : Copy) (out : IsLaidOut o entry) where
           (both_run _ _ _ _ (related entry [] (o.of entry.function).pieces empty_table _ [] 0 0 out.end out.last empty_table _ w.memory w.draws w.violated w.violated out.laid (around w)) refl)
       by (stops why w) = both_stopped why w w.violated [] [] refl
 
-  pub runs_agree : (draws : List ℤ) → ((n : ℕ) → LeavesAll (steps_from first n (template_begin first draws))) → (n : ℕ) → (m : ℕ) × AgreeUnlessStuck (steps_from first n (template_begin first draws)) (flow_steps second m (flow_begin o.unit second draws))
-  runs_agree draws left n = let (m, both) = all_steps n (template_begin first draws) (flow_begin o.unit second draws) left (first_both draws) in (m, agreed _ _ both)
+  pub runs_agree : (draws : List ℤ) (n : ℕ) → ((j : ℕ) → j < n → LeavesAll (steps_from first j (template_begin first draws))) → (m : ℕ) × AgreeUnlessStuck (steps_from first n (template_begin first draws)) (flow_steps second m (flow_begin o.unit second draws))
+  runs_agree draws n left = let (m, both) = all_steps n (template_begin first draws) (flow_begin o.unit second draws) left (first_both draws) in (m, agreed _ _ both)

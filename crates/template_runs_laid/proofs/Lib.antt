@@ -1,5 +1,5 @@
-mod ShiftedValues
+pub mod ShiftedValues
 mod Standings
 mod LaidObjects
 mod LaidEdges
-mod LaidSteps
+pub mod LaidSteps

@@ -1,5 +1,5 @@
 -- Runs of templates, and of a program in which they are laid out.
-use Rattle.std.specs.Prelude.{◌≡◌, ◌⊎◌, ℕ, ℤ, List, [], ◌∷◌, Option, Some, None}
+use Rattle.std.specs.Prelude.{◌≡◌, ◌<◌, ◌⊎◌, ℕ, ℤ, List, [], ◌∷◌, Option, Some, None}
 use Rattle.c_layout.specs.CheckedUnits.{UnitView}
 use Rattle.lib_models_effects.specs.Worlds.{Stuck, Violation}
 use Rattle.flow_program_views.specs.ProgramViews.{FlowView}
@@ -44,5 +44,5 @@ AgreeUnlessStuck a b = (template.why_of a ≡ Some Stuck) ⊎ Agree a b
 
 -- each run of the templates in which each called function leaves what it enters is one of the program
 abbrev pub LaidRunsAreTheSame : Type 0
-LaidRunsAreTheSame = (o : Opened) (c : Copy) → IsLaidOut o c → (draws : List ℤ) → ((n : ℕ) → LeavesAll (steps_from (templates o) n (template_begin (templates o) draws)))
-    → (n : ℕ) → (m : ℕ) × AgreeUnlessStuck (steps_from (templates o) n (template_begin (templates o) draws)) (flow_steps (of_unit o.unit o.program) m (flow_begin o.unit (of_unit o.unit o.program) draws))
+LaidRunsAreTheSame = (o : Opened) (c : Copy) → IsLaidOut o c → (draws : List ℤ) (n : ℕ) → ((j : ℕ) → j < n → LeavesAll (steps_from (templates o) j (template_begin (templates o) draws)))
+    → (m : ℕ) × AgreeUnlessStuck (steps_from (templates o) n (template_begin (templates o) draws)) (flow_steps (of_unit o.unit o.program) m (flow_begin o.unit (of_unit o.unit o.program) draws))

@@ -1,4 +1,4 @@
-mod SettledPieces
+pub mod SettledPieces
 mod QuietFunctions
 mod SameActs
 mod SettledSteps

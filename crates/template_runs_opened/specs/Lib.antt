@@ -1,0 +1,3 @@
+pub mod LowTemporaries
+pub mod FitTemplates
+pub mod OpenedRuns

@@ -1,0 +1,6 @@
+//! Templates are laid out in the program of their unit, so that its runs are theirs.
+#![tactic(auto)]
+
+mod theorems;
+
+pub use theorems::opened_runs_are_the_same;
