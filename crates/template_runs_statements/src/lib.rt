@@ -1,0 +1,2 @@
+//! Statements follow in the pieces to which they come.
+#![tactic(auto)]
