@@ -5,3 +5,5 @@ pub mod ScopesOfTerms
 pub mod Ways
 pub mod InScopes
 pub mod Objects
+pub mod Contexts
+pub mod Jumps
