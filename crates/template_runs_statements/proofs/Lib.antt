@@ -7,3 +7,5 @@ pub mod InScopes
 pub mod Objects
 pub mod Contexts
 pub mod Jumps
+pub mod Declarations
+pub mod Sequences
