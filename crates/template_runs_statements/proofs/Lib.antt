@@ -9,3 +9,4 @@ pub mod Contexts
 pub mod Jumps
 pub mod Declarations
 pub mod Sequences
+pub mod Selections
