@@ -10,3 +10,4 @@ pub mod Jumps
 pub mod Declarations
 pub mod Sequences
 pub mod Selections
+pub mod Loops

@@ -83,10 +83,10 @@ block_planned at objects items around p none =
       scopes = f.scopes ∙ l.scopes ∙ e.scopes;
     }
 
-next_scope : (c : ℕ) → c + 1 ≡ suc c
+pub next_scope : (c : ℕ) → c + 1 ≡ suc c
 next_scope c = omega arith
 
-one_more : (c a : ℕ) → suc c + a ≡ c + suc a
+pub one_more : (c a : ℕ) → suc c + a ≡ c + suc a
 one_more c a = omega arith
 
 -- ---- selections
@@ -118,25 +118,25 @@ else_scopes s e body other around p = refl
 else_grows : (s : SettingView) (e : TermTree) (body other : StatementTree) (around : Surroundings) (p : Plan) → Grows (with_labels 4 p) (two_way_selection s e body other around p)
 else_grows s e body other around p = let start : Grows (with_labels 4 p) (with_labels 4 p) = grows_not (with_labels 4 p) in search works depth 30
 
-below : (l k m : ℕ) → k < m → l + k < l + m
+pub below : (l k m : ℕ) → k < m → l + k < l + m
 below l k m less = omega (arith, less)
 
-itself : (l : ℕ) → l ≤ l
+pub itself : (l : ℕ) → l ≤ l
 itself l = omega arith
 
-one_three : 1 < 3
+pub one_three : 1 < 3
 one_three = omega arith
 
-two_three : 2 < 3
+pub two_three : 2 < 3
 two_three = omega arith
 
-one_four : 1 < 4
+pub one_four : 1 < 4
 one_four = omega arith
 
-two_four : 2 < 4
+pub two_four : 2 < 4
 two_four = omega arith
 
-three_four : 3 < 4
+pub three_four : 3 < 4
 three_four = omega arith
 
 module _ (s : SettingView) (t : Templates) (fits : IsOfUnit t s) where
