@@ -11,3 +11,4 @@ pub mod Declarations
 pub mod Sequences
 pub mod Selections
 pub mod Loops
+pub mod ForLoops
