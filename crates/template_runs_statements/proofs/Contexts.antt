@@ -1,5 +1,5 @@
 -- What is known in a block and in a loop.
-use Rattle.std.proofs.Common.{◌≡◌, ◌≤◌, ◌<◌, ℕ, suc, ◌==◌, ◌||◌, Bool, true, false, cond, List, [], ◌∷◌, ◌++◌, length, refl, arith, ap, sym, subst, ◌∙◌, append_assoc}
+use Rattle.std.proofs.Common.{◌≡◌, ◌≤◌, ◌<◌, ℕ, ◌==◌, ◌||◌, Bool, true, false, List, [], ◌∷◌, ◌++◌, length, refl, arith, ap, sym, subst, ◌∙◌, append_assoc}
 use Rattle.std.proofs.lemmas.Bool.{eq-eqb}
 use Rattle.flow_lower_tasks.specs.Pieces.{PieceView}
 use Rattle.flow_lower_tasks.specs.Settings.{SettingView}
@@ -14,9 +14,10 @@ use Rattle.template_runs.specs.TemplateStates.{Templates}
 use Rattle.template_runs_follow.specs.Follows.{Leads, Follows}
 use Rattle.template_runs_statements.specs.Scopes.{IsScope}
 use Rattle.template_runs_statements.specs.SuitedStatements.{AreNew}
-use Rattle.template_runs_statements.proofs.InScopes.{Lands, Context, Within}
-use Rattle.template_runs_statements.proofs.Ways as ways
-use Rattle.template_runs_statements.proofs.Ways.{Up, AreIn, outwards, with_none, without_on, in_more, all_in, in_more_all, new_for_fewer}
+use Rattle.template_runs_statements.specs.Contexts.{Lands, Context, Within}
+use Rattle.template_runs_statements.specs.Contexts as contexts
+use Rattle.template_runs_statements.specs.Contexts.{Up, AreIn}
+use Rattle.template_runs_statements.proofs.Ways.{outwards, with_none, without_on, in_more, all_in, in_more_all, new_for_fewer}
 
 -- ---- lists of objects
 
@@ -57,9 +58,10 @@ self_in (x ∷ xs) before = (in_more x before (x ∷ xs) (first_here x xs), subs
 
 front_in : (xs before ys : List ℕ) → AreIn xs ((before ++ xs) ++ ys)
 front_in [] before ys = tt
-front_in (x ∷ xs) before ys =
-    (in_front x (before ++ x ∷ xs) ys (in_more x before (x ∷ xs) (first_here x xs)),
-    subst (λ zs. AreIn xs (zs ++ ys)) (append_assoc before (x ∷ []) xs) (front_in xs (before ++ x ∷ []) ys))
+front_in (x ∷ xs) before ys = (
+  in_front x (before ++ x ∷ xs) ys (in_more x before (x ∷ xs) (first_here x xs)),
+  subst (λ zs. AreIn xs (zs ++ ys)) (append_assoc before (x ∷ []) xs) (front_in xs (before ++ x ∷ []) ys),
+)
 
 both_in : (xs ys known : List ℕ) → AreIn xs known → AreIn ys known → AreIn (xs ++ ys) known
 both_in [] ys known a b = b
@@ -80,7 +82,7 @@ module _ (s : SettingView) (t : Templates) where
       let there = all_of (open_scopes to) in
       record {
         objects = objects ++ l.objects;
-        up = ways.out number from landing.scope objects l.objects (through landing.scope from number (outwards s from landing.scope l.objects l.up) is.later) is l.up;
+        up = contexts.out number from landing.scope objects l.objects (through landing.scope from number (outwards s from landing.scope l.objects l.up) is.later) is l.up;
         leaves = without_on there objects (all_of scopes) ∙ ap (λ xs. xs ++ without there (all_of scopes)) (with_none there objects (new_for_fewer objects there known (λ x e. within x (l.within x e)) new)) ∙ ap (λ xs. objects ++ xs) l.leaves;
         stays = in_more_all objects (inwards (open_scopes to)) (all_of scopes) l.stays;
         within = λ x e. in_more x objects (all_of scopes) (l.within x e);
@@ -93,7 +95,7 @@ module _ (s : SettingView) (t : Templates) where
   in_block n around looping known objects number items new is k = record {
     within = λ x e. in_either x objects (all_of (open_scopes items)) known (k.within x) e;
     enough = at_most number (length s.scopes.scopes) is.there;
-    home = ways.out number around.scope 0 objects (all_of (open_scopes items)) (through 0 around.scope number (least around.scope) is.later) is k.home;
+    home = contexts.out number around.scope 0 objects (all_of (open_scopes items)) (through 0 around.scope number (least around.scope) is.later) is k.home;
     on_break = λ e. lands_inside n known objects (open_scopes items) (behind_loop items) around.scope number around.on_break k.within new is (k.on_break e);
     on_continue = λ e. lands_inside n known objects (open_scopes items) (behind_turn items) around.scope number around.on_continue k.within new is (k.on_continue e);
   }
@@ -109,7 +111,7 @@ module _ (s : SettingView) (t : Templates) where
   lands_here : (n : ℕ) (scopes : List (List ℕ)) (to : List Item) (from l : ℕ) (there : List PieceView) → open_scopes to ≡ scopes → Leads t l there → Follows t n 0 to there → Lands s t n scopes to from (record { label = l; scope = from })
   lands_here n scopes to from l there same leads f = record {
     objects = [];
-    up = ways.here from;
+    up = contexts.here from;
     leaves = ap (λ xs. without (all_of xs) (all_of scopes)) same ∙ all_in (all_of scopes) (all_of scopes) (self_in (all_of scopes) []);
     stays = subst (λ xs. AreIn (inwards xs) (all_of scopes)) (sym same) (inwards_in scopes);
     within = λ x e. subst (λ xs. is_in x (all_of xs) ≡ true) same e;

@@ -1,5 +1,5 @@
 -- Declarations and their initializers.
-use Rattle.std.proofs.Common.{◌≡◌, ◌≤◌, ◌<◌, ℕ, zero, suc, ◌+◌, ◌-◌, ◌^◌, Bool, true, false, List, [], ◌∷◌, ◌++◌, map, length, Option, Some, None, refl, arith, ap, sym, subst, ◌∙◌, append_assoc, length-append}
+use Rattle.std.proofs.Common.{◌≡◌, ℕ, suc, true, false, List, [], ◌∷◌, ◌++◌, length, None, refl, arith, ap, sym, subst, ◌∙◌, append_assoc, length-append}
 use Rattle.std.proofs.lemmas.List.{append-nil}
 use Rattle.cc_base.specs.declared.diagnostics.Place.{Place}
 use Rattle.c_layout.specs.Types.{Ty, Struct}
@@ -7,7 +7,7 @@ use Rattle.c_layout.specs.CheckedTrees as tree
 use Rattle.c_layout.specs.CheckedTrees.{TermTree, LvalueTree, StatementTree, StoreTree, StoreValue, StoreCopy, StoreText}
 use Rattle.c_layout.specs.declared.checked_tree.checked_terms.ObjectRef.TheVariants as object
 use Rattle.flow_lower_tasks.specs.Acts as act
-use Rattle.flow_lower_tasks.specs.Pieces.{NameView, Local, PieceView}
+use Rattle.flow_lower_tasks.specs.Pieces.{NameView, Local}
 use Rattle.flow_lower_tasks.specs.Plans.{Plan, with_work, with_name}
 use Rattle.flow_lower_tasks.specs.Settings.{SettingView}
 use Rattle.flow_lower_tasks.specs.TermKinds.{scalar_of, struct_number, term_type, lvalue_type}
@@ -24,17 +24,17 @@ use Rattle.ref_machine.specs.StatementItems.{of_statement, stored, all_stored}
 use Rattle.template_runs.specs.TemplateStates.{Templates}
 use Rattle.template_runs_acts.specs.Acts as acts
 use Rattle.template_runs_acts.specs.Acts.{IsAct}
-use Rattle.template_runs_follow.specs.Follows.{Names, Follows, at_place}
+use Rattle.template_runs_follow.specs.Follows.{Names, at_place}
 use Rattle.template_runs_follow.proofs.Constructions.{gives_statement, gives_object, gives_change, gives_step, gives_drop}
-use Rattle.template_runs_terms.specs.TemplateParts.{IsOfUnit, IsKnown, Stands}
-use Rattle.template_runs_terms.proofs.Runs.{Runs, RunsFrom, then, piece_first}
+use Rattle.template_runs_terms.specs.TemplateParts.{IsOfUnit}
+use Rattle.template_runs_terms.proofs.Runs.{Runs, then, piece_first}
 use Rattle.template_runs_terms.proofs.Assignments.{one_more_job, nothing_done, stores}
 use Rattle.template_runs_terms.proofs.Laying.{known_between}
 use Rattle.template_runs_terms.proofs.Terms.{terms, places}
-use Rattle.template_runs_statements.specs.SuitedStatements.{SuitsBehind, SuitsAsSource, SuitsAsStore, SuitAsStores}
-use Rattle.template_runs_statements.proofs.KeptScopes.{AreTerms, Keeps}
+use Rattle.template_runs_statements.specs.SuitedStatements.{SuitsBehind, SuitsAsStore, SuitAsStores}
+use Rattle.template_runs_statements.proofs.KeptScopes.{AreTerms}
 use Rattle.template_runs_statements.proofs.ScopesOfTerms.{scopes_kept}
-use Rattle.template_runs_statements.proofs.InScopes.{Goes, Within, gives_way}
+use Rattle.template_runs_statements.proofs.InScopes.{Goes, gives_way}
 use Rattle.template_runs_statements.proofs.Objects.{NamedFrom, named_from, locals}
 
 -- ---- works

@@ -12,21 +12,19 @@ use Rattle.flow_lower_tasks.specs.Works as jobs
 use Rattle.flow_lower_tasks.specs.Works.{Job}
 use Rattle.flow_lower_tasks.specs.declared.pending_works.Surroundings.{Surroundings}
 use Rattle.flow_lower_expressions.specs.Branches.{decided}
-use Rattle.flow_lower_statements.specs.ScopeJumps.{all_entered, all_left}
-use Rattle.flow_lower_statements.specs.PlainStatements as lowered
+use Rattle.flow_lower_statements.specs.ScopeJumps.{all_entered}
 use Rattle.flow_lower_statements.specs.PlainStatements.{all_statements, in_scope}
 use Rattle.flow_lower_statements.specs.Loops as loops
 use Rattle.flow_lower_statements.specs.Loops.{in_loop}
 use Rattle.flow_lower_functions.specs.Turns.{planless}
 use Rattle.flow_lower_growth.specs.Growth.{Grows}
-use Rattle.flow_lower_growth.proofs.Growth.{works, grows_not}
+use Rattle.flow_lower_growth.proofs.Growth.{works}
 use Rattle.flow_lower_growth.proofs.GrowingWorks.{jobs_none}
 use Rattle.flow_lower_works.specs.Derivations.{parts, Makes}
 use Rattle.flow_lower_works.proofs.Derivations.{parted}
 use Rattle.ref_machine.specs.Items as item
 use Rattle.ref_machine.specs.Items.{Item}
-use Rattle.ref_machine.specs.ConditionItems as source
-use Rattle.ref_machine.specs.StatementItems.{of_statement, statements, clause, for_step, for_body, for_turn}
+use Rattle.ref_machine.specs.StatementItems.{of_statement, statements, clause, for_body, for_turn}
 use Rattle.template_runs.specs.TemplateStates.{Templates}
 use Rattle.template_runs_follow.specs.Follows as follows
 use Rattle.template_runs_follow.specs.Follows.{Leads, Follows}
@@ -34,24 +32,23 @@ use Rattle.template_runs_follow.proofs.Constructions.{gives_statement, gives_loo
 use Rattle.template_runs_follow.proofs.FewerTurns.{less}
 use Rattle.template_runs_terms.specs.TemplateParts.{IsOfUnit, IsKnown, Stands}
 use Rattle.template_runs_terms.proofs.Runs.{Runs, stands_behind, stands_after, none_made}
-use Rattle.template_runs_terms.proofs.About.{Decided}
-use Rattle.template_runs_terms.proofs.Choices.{jumping, hops, two_way_jobs}
+use Rattle.template_runs_terms.proofs.Choices.{jumping, hops}
 use Rattle.template_runs_terms.proofs.Laying.{from_piece, from_none, from_work, led, known_between, few_labels}
 use Rattle.template_runs_terms.proofs.Terms.{terms}
 use Rattle.template_runs_statements.specs.Scopes.{scopes_in, all_scopes_in}
-use Rattle.template_runs_statements.proofs.KeptScopes.{IsTerm, AreTerms}
+use Rattle.template_runs_statements.proofs.KeptScopes.{AreTerms}
 use Rattle.template_runs_statements.proofs.ScopesOfTerms.{scopes_kept}
-use Rattle.template_runs_statements.proofs.InScopes.{Within, Context, context_less, Goes, goes_on, plainly, gives_way}
+use Rattle.template_runs_statements.specs.Contexts.{Within, Context}
+use Rattle.template_runs_statements.proofs.InScopes.{context_less, Goes, goes_on, plainly, gives_way}
 use Rattle.template_runs_statements.proofs.Objects.{object_jobs, objects_are_terms, entered_planned, left_planned, named_from, locals, marks}
 use Rattle.template_runs_statements.proofs.Contexts.{in_block, in_body}
 use Rattle.template_runs_statements.proofs.Sequences.{statement_jobs, listed, AboutStatement, AboutStatements, enclosed}
 use Rattle.ref_machine.specs.Scopes.{open_scopes, behind_loop, behind_turn}
 use Rattle.template_runs_terms.proofs.Assignments.{nothing_done}
-use Rattle.template_runs_statements.specs.SuitedStatements.{SuitsBehind, SuitsIf, SuitsIn}
+use Rattle.template_runs_statements.specs.SuitedStatements.{SuitsIf, SuitsIn}
 use Rattle.template_runs_statements.specs.Scopes.{HasScopes}
-use Rattle.template_runs_statements.proofs.Selections.{Counts, count_terms, count_on, kept_one, below, itself, next_scope}
-use Rattle.template_runs_statements.proofs.Sequences.{IsQuiet, quiet_within, statements_quiet}
-use Rattle.flow_lower_growth.proofs.GrowingStatements.{grows_statements, grows_entered, grows_left}
+use Rattle.template_runs_statements.proofs.Selections.{Counts, count_terms, count_on, below, itself, next_scope}
+use Rattle.flow_lower_growth.proofs.GrowingStatements.{grows_statements, grows_entered, grows_left, grows_check, grows_step}
 
 -- ---- works of the turns, from the label of the condition on
 
@@ -124,8 +121,15 @@ for_planned s objects first test after body around p none =
       scopes = f.scopes ∙ a.scopes ∙ i.scopes ∙ e.scopes;
     }
 
+scope_grows : (p : Plan) → Grows (with_labels 5 p) (with_labels 5 (with_scope p))
+unfolding with_labels with_scope
+scope_grows p = record { more_names = []; names = sym (append-nil p.names); labels = itself (p.labels + 5); scopes = one_longer p.scopes; more_dispatches = []; dispatches = sym (append-nil p.dispatches) }
+  where
+    one_longer : (k : ℕ) → k ≤ k + 1
+    one_longer k = omega arith
+
 for_grows : (s : SettingView) (objects : List ℕ) (first : StatementTrees) (test after : Option TermTree) (body : StatementTree) (around : Surroundings) (p : Plan) → Grows (with_labels 5 p) (loops.for_loop s objects first test after body around p)
-for_grows s objects first test after body around p = ?
+for_grows s objects first test after body around p = let start : Grows (with_labels 5 p) (with_labels 5 (with_scope p)) = scope_grows p in search (works, grows_entered, grows_statements, grows_check, grows_step, grows_left) depth 40
 
 one_five : 1 < 5
 one_five = omega arith
@@ -201,3 +205,107 @@ module _ (s : SettingView) (t : Templates) (fits : IsOfUnit t s) where
         (test_follows m test after body l suits_test p none ft pt mt known_t (item.LoopEnd ∷ items) body_pieces rest at_test to_body to_last
         (subst (λ xs. Follows t m 0 (item.Statement body ∷ (item.TurnEnd ∷ xs)) body_pieces) (sym (append_assoc (clause after) (item.Hop ∷ (item.ForTurn test after body ∷ [])) (item.LoopEnd ∷ items))) in_it)
         (gives_loop_end m 0 items rest less_f))
+
+  -- the works of some list, and then others
+  from_many : (r : Plan) (rest : List PieceView) (p : Plan) (js ks : List Job) (ps : List PieceView) (G : List PieceView → Type 0) → p.jobs ≡ [] → Makes s p (js ++ ks) ps r
+      → ((front : List PieceView) (between : Plan) (back : List PieceView) → Makes s p js front between → between.jobs ≡ [] → Makes s between ks back r → G (front ++ (back ++ rest))) → G (ps ++ rest)
+  from_many r rest p js ks ps G none m later =
+      let x = parted s p js ks ps r m in
+      subst (λ xs. G (xs ++ rest)) (sym x.all) (subst G (sym (append_assoc x.front x.back rest)) (later x.front x.between x.back x.first (jobs_none s p js x.front x.between x.first none) x.second))
+
+  tests_are_terms : (test : Option TermTree) (l : ℕ) → AreTerms (test_jobs test l)
+  tests_are_terms None l = tt
+  tests_are_terms (Some e) l = (tt, tt)
+
+  clauses_are_terms : (after : Option TermTree) → AreTerms (clause_jobs after)
+  clauses_are_terms None = tt
+  clauses_are_terms (Some e) = (tt, tt)
+
+  kept_many : (p : Plan) (js : List Job) (ps : List PieceView) (r : Plan) → AreTerms js → p.jobs ≡ [] → Makes s p js ps r → r.scopes ≡ p.scopes
+  kept_many p js ps r terms none m = (scopes_kept s p js ps r m (subst AreTerms (sym none) tt) terms).0
+
+  turns_count : (test after : Option TermTree) (body : StatementTree) (about : AboutStatement s t body) (around : Surroundings) (known : List ℕ) (c l n : ℕ) → SuitsIn true known body → HasScopes s body around.scope c → Counts s c (c + scopes_in body) (turn_jobs s.at test after body around l)
+  unfolding turn_jobs
+  turns_count test after body about around known c l n suits_body scopes =
+      count_on s c c (c + scopes_in body) (jobs.Ready (Mark (l + 1)) ∷ []) _ (count_terms s c _ (tt, tt))
+      (count_on s c c (c + scopes_in body) (test_jobs test l) _ (count_terms s c _ (tests_are_terms test l))
+      (count_on s c c (c + scopes_in body) (jobs.Ready (Mark (l + 2)) ∷ []) _ (count_terms s c _ (tt, tt))
+      (count_on s c (c + scopes_in body) (c + scopes_in body) (jobs.Statement body (in_loop around (l + 4) (l + 3)) ∷ []) _ (about n (in_loop around (l + 4) (l + 3)) true known c suits_body scopes).ends
+      (count_on s (c + scopes_in body) (c + scopes_in body) (c + scopes_in body) (jobs.Ready (Mark (l + 3)) ∷ []) _ (count_terms s (c + scopes_in body) _ (tt, tt))
+      (count_on s (c + scopes_in body) (c + scopes_in body) (c + scopes_in body) (clause_jobs after) _ (count_terms s (c + scopes_in body) _ (clauses_are_terms after)) (count_terms s (c + scopes_in body) _ (tt, (tt, tt))))))))
+
+  turns_go : (n : ℕ) (test after : Option TermTree) (body : StatementTree) (about : AboutStatement s t body) (around : Surroundings) (looping : Bool) (known : List ℕ) (c l : ℕ) → SuitsIf true test → SuitsIf false after → SuitsIn true known body → HasScopes s body around.scope c → l + 5 ≤ 2 ^ 32 - 1
+      → Goes s t n c (c + scopes_in body) (Within s t n around looping known) (turn_jobs s.at test after body around l) (item.ForTurn test after body ∷ (item.LoopEnd ∷ []))
+  unfolding turn_jobs
+  turns_go n test after body about around looping known c l suits_test suits_after suits_body scopes few = record {
+    from = λ p none begun_p ps r m known_r items rest stands k f.
+        let q = jumping s.at (l + 1) in
+        let G : List PieceView → Type 0 = λ w. Stands t w → Follows t n 0 (item.ForTurn test after body ∷ (item.LoopEnd ∷ items)) w in
+        from_piece s r rest p (Mark (l + 1)) _ ps G m
+        (λ b1 m1. from_many r rest p (test_jobs test l) _ b1 (λ w. G (Mark (l + 1) ∷ w)) none m1
+        (λ ft pt b2 mt none_t m2. from_piece s r rest pt (Mark (l + 2)) _ b2 (λ w. G (Mark (l + 1) ∷ (ft ++ w))) m2
+        (λ b3 m3. from_work s r rest pt (jobs.Statement body (in_loop around (l + 4) (l + 3))) _ b3 (λ w. G (Mark (l + 1) ∷ (ft ++ Mark (l + 2) ∷ w))) none_t m3
+        (λ fb pb b4 mb none_b m4. from_piece s r rest pb (Mark (l + 3)) _ b4 (λ w. G (Mark (l + 1) ∷ (ft ++ Mark (l + 2) ∷ (fb ++ w)))) m4
+        (λ b5 m5. from_many r rest pb (clause_jobs after) _ b5 (λ w. G (Mark (l + 1) ∷ (ft ++ Mark (l + 2) ∷ (fb ++ Mark (l + 3) ∷ w)))) none_b m5
+        (λ fs pa b6 ma none_a m6. from_piece s r rest pa q _ b6 (λ w. G (Mark (l + 1) ∷ (ft ++ Mark (l + 2) ∷ (fb ++ Mark (l + 3) ∷ (fs ++ w))))) m6
+        (λ b7 m7. from_piece s r rest pa (Mark (l + 4)) [] b7 (λ w. G (Mark (l + 1) ∷ (ft ++ Mark (l + 2) ∷ (fb ++ Mark (l + 3) ∷ (fs ++ q ∷ w))))) m7
+        (λ b8 m8. from_none s r rest pa b8 (λ w. G (Mark (l + 1) ∷ (ft ++ Mark (l + 2) ∷ (fb ++ Mark (l + 3) ∷ (fs ++ q ∷ (Mark (l + 4) ∷ w)))))) m8
+        (λ stands. follows.by_mark n 0 (l + 1) _ _
+        (for_turns test after body about around looping known c l suits_test suits_after suits_body scopes few p none ft pt mt (known_between s t pt _ _ r m2 known_r) none_t (kept_many p (test_jobs test l) ft pt (tests_are_terms test l) none mt ∙ begun_p) fb pb mb (known_between s t pb _ _ r m4 known_r) none_b fs pa ma (known_between s t pa _ _ r m6 known_r) items rest stands n f k)))))))))) stands;
+    ends = turns_count test after body about around known c l n suits_body scopes;
+  }
+
+  -- outside of loops nothing is asked of what is behind a loop
+  unlooped : (n : ℕ) (around : Surroundings) (looping : Bool) (known : List ℕ) (scopes : List (List ℕ)) (a b c d : List Item) → Context s t n around looping known scopes a b → Context s t n around false known scopes c d
+  unlooped n around looping known scopes a b c d k = record { within = k.within; enough = k.enough; home = k.home; on_break = λ e. absurd (no e); on_continue = λ e. absurd (no e) }
+    where
+      no : false ≡ true → ⊥
+      no e = cc
+
+  sums : (c a b : ℕ) → (suc c + a) + b ≡ c + suc (a + b)
+  sums c a b = omega arith
+
+  pub of_for : (objects : List ℕ) (first : StatementTrees) (test after : Option TermTree) (body : StatementTree) → AboutStatements s t first → AboutStatement s t body → AboutStatement s t (tree.For objects first test after body)
+  of_for objects first test after body about_first about n around looping known c suits scopes =
+      let j = jobs.Statement (tree.For objects first test after body) around in
+      let inner = in_scope around c in
+      let more = objects ++ known in
+      let middle = suc c + all_scopes_in first in
+      let last = middle + scopes_in body in
+      let loop : List Item = item.ForTurn test after body ∷ (item.LoopEnd ∷ []) in
+      let starts = about_first n inner false more (suc c) suits.1 scopes.1 in
+      let same : (p : Plan) → p.jobs ≡ [] → p.scopes ≡ c → Planned s.at objects (statement_jobs first inner ++ turn_jobs s.at test after body inner p.labels) p.labels p (parts s j p) = λ p none begun_p. subst (λ k. Planned s.at objects (statement_jobs first (in_scope around k) ++ turn_jobs s.at test after body (in_scope around k) p.labels) p.labels p (parts s j p)) begun_p (for_planned s objects first test after body around p none) in
+      subst (λ k. Goes s t n c k (Within s t n around looping known) (j ∷ []) (item.Statement (tree.For objects first test after body) ∷ [])) (sums c (all_scopes_in first) (scopes_in body))
+      (gives_way s t n c last (Within s t n around looping known) j (item.Statement (tree.For objects first test after body)) (of_statement t.unit true (tree.For objects first test after body)) refl (gives_statement n 0 (tree.For objects first test after body))
+      (λ p none begun_p ps r m known_last items rest stands k f.
+      let all = parts s j p in
+      let x = same p none begun_p in
+      let few = few_labels s t p j 5 all.jobs ps r (for_grows s objects first test after body around p) m known_last in
+      let known_all = known_between s t (planless all) all.jobs ps r m known_last in
+      let named = named_from t (planless all) p.names objects (locals objects) known_all (x.names ∙ append_assoc p.names (locals objects) (locals objects)) in
+      let again = named_from t (planless all) (p.names ++ locals objects) objects [] known_all (x.names ∙ ap (λ ns. (p.names ++ locals objects) ++ ns) (sym (append-nil (locals objects)))) in
+      let turns = turn_jobs s.at test after body inner p.labels in
+      let inside : Goes s t n (suc c) last (Within s t n inner looping more) (statement_jobs first inner ++ turns) (statements first ++ loop) =
+      goes_on s t n (suc c) middle last (Within s t n inner looping more) (Within s t n inner false more) (statement_jobs first inner) turns (statements first) loop
+      (λ items k. unlooped n inner looping more (open_scopes items) (behind_loop items) (behind_turn items) items (behind_turn items) k) starts
+      (turns_go n test after body about inner looping more middle p.labels suits.2 suits.3 suits.4 scopes.2 few) in
+      let whole = enclosed s t fits n (suc c) last objects (length p.names) (length (p.names ++ locals objects)) (Within s t n around looping known) (Within s t n inner looping more) (statement_jobs first inner ++ turns) (statements first ++ loop)
+      (λ items k. in_block s t n around looping known objects c items suits.0 scopes.0 k) named again inside in
+      let js = object_jobs act.Enter s.at objects (length p.names) ++ ((statement_jobs first inner ++ turns) ++ object_jobs act.Leave s.at objects (length (p.names ++ locals objects))) in
+      let marked = goes_on s t n (suc c) (suc c) last (Within s t n around looping known) Anything (jobs.Ready (Mark p.labels) ∷ []) js [] (item.Enters objects ∷ ((statements first ++ loop) ++ item.Leaves objects ∷ [])) (λ items k. tt)
+      (plainly s t n (suc c) Anything (jobs.Ready (Mark p.labels) ∷ []) [] (tt, tt) (marks s t fits n p.labels 0)) whole in
+      subst (λ is. Follows t n 0 (item.Enters objects ∷ (is ++ items)) (ps ++ rest)) (append_assoc (statements first) loop (item.Leaves objects ∷ []))
+      (marked.from (planless all) refl (x.scopes ∙ ap (λ k. k + 1) begun_p ∙ next_scope c) ps r (subst (λ ks. Makes s (planless all) ks ps r) x.jobs m) known_last items rest stands k f))
+      (λ p none begun_p ps r m.
+      let all = parts s j p in
+      let x = same p none begun_p in
+      let turns = turn_jobs s.at test after body inner p.labels in
+      count_on s (suc c) (suc c) last (jobs.Ready (Mark p.labels) ∷ []) _ (count_terms s (suc c) _ (tt, tt))
+      (count_on s (suc c) (suc c) last (object_jobs act.Enter s.at objects (length p.names)) _ (count_terms s (suc c) _ (objects_are_terms act.Enter s.at objects (length p.names)))
+      (count_on s (suc c) last last (statement_jobs first inner ++ turns) _
+      (count_on s (suc c) middle last (statement_jobs first inner) turns starts.ends (turns_count test after body about inner more middle p.labels n suits.4 scopes.2))
+      (count_terms s last _ (objects_are_terms act.Leave s.at objects (length (p.names ++ locals objects))))))
+      (planless all) refl (x.scopes ∙ ap (λ k. k + 1) begun_p ∙ next_scope c) ps r (subst (λ ks. Makes s (planless all) ks ps r) x.jobs m)))
+    where
+      Anything : List Item → Type 0
+      Anything items = Unit {0}

@@ -1,9 +1,8 @@
 -- Works and items that stand in scopes and loops.
-use Rattle.std.proofs.Common.{◌≡◌, ◌≤◌, ◌<◌, ℕ, zero, suc, ◌+◌, Bool, true, false, List, [], ◌∷◌, ◌++◌, length, refl, arith, ap, sym, subst, ◌∙◌, append_assoc}
+use Rattle.std.proofs.Common.{◌≡◌, ℕ, suc, Bool, false, List, [], ◌∷◌, ◌++◌, refl, sym, subst, ◌∙◌, append_assoc}
 use Rattle.flow_lower_tasks.specs.Pieces.{PieceView}
 use Rattle.flow_lower_tasks.specs.Plans.{Plan}
 use Rattle.flow_lower_tasks.specs.Settings.{SettingView}
-use Rattle.flow_lower_tasks.specs.Works as jobs
 use Rattle.flow_lower_tasks.specs.Works.{Job}
 use Rattle.flow_lower_tasks.specs.declared.pending_works.Landing.{Landing}
 use Rattle.flow_lower_tasks.specs.declared.pending_works.Surroundings.{Surroundings}
@@ -11,47 +10,23 @@ use Rattle.flow_lower_functions.specs.Turns.{planless}
 use Rattle.flow_lower_works.specs.Derivations.{is_piece, parts, Makes}
 use Rattle.flow_lower_works.proofs.Derivations.{parted}
 use Rattle.flow_lower_growth.proofs.GrowingWorks.{grows, jobs_none}
-use Rattle.ref_machine.specs.Items as item
 use Rattle.ref_machine.specs.Items.{Item}
-use Rattle.ref_machine.specs.Scopes.{is_in, all_of, open_scopes, without, inwards, behind_loop, behind_turn}
 use Rattle.template_runs.specs.TemplateStates.{Templates}
-use Rattle.template_runs_follow.specs.Follows.{Leads, Follows}
+use Rattle.template_runs_follow.specs.Follows.{Follows}
 use Rattle.template_runs_follow.proofs.FewerTurns.{less}
-use Rattle.template_runs_terms.specs.TemplateParts.{IsOfUnit, IsKnown, Stands}
+use Rattle.template_runs_terms.specs.TemplateParts.{IsKnown, Stands}
 use Rattle.template_runs_terms.proofs.Runs.{Runs, known_before, stands_behind, opened, joined, split}
 use Rattle.template_runs_statements.proofs.KeptScopes.{AreTerms}
 use Rattle.template_runs_statements.proofs.ScopesOfTerms.{scopes_kept}
-use Rattle.template_runs_statements.proofs.Ways.{Up, AreIn}
+use Rattle.template_runs_statements.specs.Contexts.{Lands, Context}
 
 module _ (s : SettingView) (t : Templates) where
-  -- a jump from such scopes to items behind a label leaves such objects and enters none
-  pub record Lands (n : ℕ) (scopes : List (List ℕ)) (to : List Item) (from : ℕ) (landing : Landing) : Type 0 where
-    pub objects : List ℕ
-    pub up : Up s from landing.scope objects
-    pub leaves : without (all_of (open_scopes to)) (all_of scopes) ≡ objects
-    pub stays : AreIn (inwards (open_scopes to)) (all_of scopes)
-    pub within : (x : ℕ) → is_in x (all_of (open_scopes to)) ≡ true → is_in x (all_of scopes) ≡ true
-    pub there : List PieceView
-    pub leads : Leads t landing.label there
-    pub follows : Follows t n 0 to there
-
-  -- where items stand: the scopes that are open, in a loop its ends, and the way to the end of the function
-  pub record Context (n : ℕ) (around : Surroundings) (in_loop : Bool) (known : List ℕ) (scopes : List (List ℕ)) (after_loop after_turn : List Item) : Type 0 where
-    pub within : (x : ℕ) → is_in x (all_of scopes) ≡ true → is_in x known ≡ true
-    pub enough : around.scope ≤ length s.scopes.scopes
-    pub home : Up s around.scope 0 (all_of scopes)
-    pub on_break : in_loop ≡ true → Lands n scopes after_loop around.scope around.on_break
-    pub on_continue : in_loop ≡ true → Lands n scopes after_turn around.scope around.on_continue
-
-  abbrev pub Within : ℕ → Surroundings → Bool → List ℕ → List Item → Type 0
-  Within n around in_loop known items = Context n around in_loop known (open_scopes items) (behind_loop items) (behind_turn items)
-
   -- ---- fewer turns
 
-  lands_less : (n : ℕ) (scopes : List (List ℕ)) (to : List Item) (from : ℕ) (landing : Landing) → Lands (suc n) scopes to from landing → Lands n scopes to from landing
+  lands_less : (n : ℕ) (scopes : List (List ℕ)) (to : List Item) (from : ℕ) (landing : Landing) → Lands s t (suc n) scopes to from landing → Lands s t n scopes to from landing
   lands_less n scopes to from landing l = record { objects = l.objects; up = l.up; leaves = l.leaves; stays = l.stays; within = l.within; there = l.there; leads = l.leads; follows = less n 0 to l.there l.follows }
 
-  pub context_less : (n : ℕ) (around : Surroundings) (in_loop : Bool) (known : List ℕ) (scopes : List (List ℕ)) (after_loop after_turn : List Item) → Context (suc n) around in_loop known scopes after_loop after_turn → Context n around in_loop known scopes after_loop after_turn
+  pub context_less : (n : ℕ) (around : Surroundings) (in_loop : Bool) (known : List ℕ) (scopes : List (List ℕ)) (after_loop after_turn : List Item) → Context s t (suc n) around in_loop known scopes after_loop after_turn → Context s t n around in_loop known scopes after_loop after_turn
   context_less n around in_loop known scopes after_loop after_turn c = record {
     within = c.within;
     enough = c.enough;

@@ -1,5 +1,5 @@
 -- `break`, `continue` and `return`.
-use Rattle.std.proofs.Common.{◌≡◌, ◌≤◌, ◌<◌, ℕ, zero, suc, ◌+◌, ◌==◌, Bool, true, false, cond, nat_lt, List, [], ◌∷◌, ◌++◌, length, Option, Some, None, refl, arith, ap, sym, subst, ◌∙◌, append_assoc}
+use Rattle.std.proofs.Common.{◌≡◌, ◌≤◌, ℕ, zero, suc, ◌==◌, Bool, true, cond, nat_lt, List, [], ◌∷◌, ◌++◌, length, Option, Some, None, refl, ap, sym, subst, ◌∙◌, append_assoc}
 use Rattle.cc_base.specs.declared.diagnostics.Place.{Place}
 use Rattle.c_layout.specs.CheckedUnits.{FunctionView}
 use Rattle.c_layout.specs.CheckedTrees as tree
@@ -30,7 +30,7 @@ use Rattle.template_runs.specs.TemplateStates.{Templates}
 use Rattle.template_runs_follow.specs.Follows as follows
 use Rattle.template_runs_follow.specs.Follows.{own, Follows}
 use Rattle.template_runs_follow.proofs.FewerTurns.{less}
-use Rattle.template_runs_follow.proofs.Constructions.{gives_statement, gives_no_enters, gives_return, gives_end, gives_drop}
+use Rattle.template_runs_follow.proofs.Constructions.{gives_statement, gives_no_enters, gives_return, gives_end}
 use Rattle.template_runs_terms.specs.TemplateParts.{IsOfUnit, IsKnown, Stands}
 use Rattle.template_runs_terms.proofs.Runs.{Runs, then_ends, dropped, stands_behind, joined, split}
 use Rattle.template_runs_terms.proofs.Assignments.{one_more_job, nothing_done}
@@ -40,9 +40,10 @@ use Rattle.template_runs_terms.proofs.Terms.{terms}
 use Rattle.template_runs_statements.specs.SuitedStatements.{SuitsIf}
 use Rattle.template_runs_statements.proofs.KeptScopes.{AreTerms, Keeps, keeps_or, kept}
 use Rattle.template_runs_statements.proofs.ScopesOfTerms.{scopes_kept}
-use Rattle.template_runs_statements.proofs.InScopes.{Lands, Context, Within, Goes, gives_way}
+use Rattle.template_runs_statements.specs.Contexts.{Lands, Within}
+use Rattle.template_runs_statements.proofs.InScopes.{Goes, gives_way}
 use Rattle.template_runs_statements.proofs.Objects.{object_jobs, Planned, left_planned, named_from, locals, leaves}
-use Rattle.template_runs_statements.proofs.Ways.{Up, way_up, all_in}
+use Rattle.template_runs_statements.proofs.Ways.{way_up, all_in}
 
 -- ---- ways begin no scopes
 

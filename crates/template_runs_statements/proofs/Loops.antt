@@ -1,32 +1,25 @@
 -- `while` and `do`.
-use Rattle.std.proofs.Common.{◌≡◌, ◌≤◌, ◌<◌, ℕ, zero, suc, ◌+◌, ◌-◌, ◌^◌, Bool, true, false, List, [], ◌∷◌, ◌++◌, length, Option, Some, None, refl, arith, ap, sym, subst, ◌∙◌, append_assoc}
-use Rattle.std.proofs.lemmas.List.{append-nil}
+use Rattle.std.proofs.Common.{◌≡◌, ◌≤◌, ◌<◌, ℕ, zero, suc, ◌+◌, ◌-◌, ◌^◌, Bool, true, false, List, [], ◌∷◌, ◌++◌, Option, Some, None, refl, arith, ap, subst, ◌∙◌}
 use Rattle.cc_base.specs.declared.diagnostics.Place.{Place}
 use Rattle.c_layout.specs.CheckedTrees as tree
 use Rattle.c_layout.specs.CheckedTrees.{TermTree, StatementTree, StatementTrees}
-use Rattle.flow_lower_tasks.specs.Acts as act
 use Rattle.flow_lower_tasks.specs.Pieces.{PieceView, Mark}
-use Rattle.flow_lower_tasks.specs.Plans.{Plan, with_work, with_scope, with_labels}
+use Rattle.flow_lower_tasks.specs.Plans.{Plan, with_work, with_labels}
 use Rattle.flow_lower_tasks.specs.Settings.{SettingView}
 use Rattle.flow_lower_tasks.specs.Works as jobs
 use Rattle.flow_lower_tasks.specs.Works.{Job}
 use Rattle.flow_lower_tasks.specs.declared.pending_works.Surroundings.{Surroundings}
 use Rattle.flow_lower_expressions.specs.Branches.{decided}
-use Rattle.flow_lower_statements.specs.ScopeJumps.{all_entered, all_left}
-use Rattle.flow_lower_statements.specs.PlainStatements as lowered
-use Rattle.flow_lower_statements.specs.PlainStatements.{all_statements, in_scope}
 use Rattle.flow_lower_statements.specs.Loops as loops
 use Rattle.flow_lower_statements.specs.Loops.{in_loop}
 use Rattle.flow_lower_functions.specs.Turns.{planless}
 use Rattle.flow_lower_growth.specs.Growth.{Grows}
 use Rattle.flow_lower_growth.proofs.Growth.{works, grows_not}
-use Rattle.flow_lower_growth.proofs.GrowingWorks.{jobs_none}
-use Rattle.flow_lower_works.specs.Derivations.{parts, Makes}
-use Rattle.flow_lower_works.proofs.Derivations.{parted}
+use Rattle.flow_lower_works.specs.Derivations.{Makes}
 use Rattle.ref_machine.specs.Items as item
 use Rattle.ref_machine.specs.Items.{Item}
 use Rattle.ref_machine.specs.ConditionItems as source
-use Rattle.ref_machine.specs.StatementItems.{of_statement, statements, while_turn, do_turn, do_test}
+use Rattle.ref_machine.specs.StatementItems.{of_statement}
 use Rattle.template_runs.specs.TemplateStates.{Templates}
 use Rattle.template_runs_follow.specs.Follows as follows
 use Rattle.template_runs_follow.specs.Follows.{Leads, Follows}
@@ -34,17 +27,14 @@ use Rattle.template_runs_follow.proofs.Constructions.{gives_statement, gives_loo
 use Rattle.template_runs_follow.proofs.FewerTurns.{less}
 use Rattle.template_runs_terms.specs.TemplateParts.{IsOfUnit, IsKnown, Stands}
 use Rattle.template_runs_terms.proofs.Runs.{stands_behind, stands_after}
-use Rattle.template_runs_terms.proofs.About.{Decided}
-use Rattle.template_runs_terms.proofs.Choices.{jumping, hops, two_way_jobs}
+use Rattle.template_runs_terms.proofs.Choices.{jumping, hops}
 use Rattle.template_runs_terms.proofs.Laying.{from_piece, from_none, from_work, led, known_between, few_labels}
 use Rattle.template_runs_terms.proofs.Terms.{terms}
-use Rattle.template_runs_statements.specs.Scopes.{scopes_in, all_scopes_in}
-use Rattle.template_runs_statements.proofs.KeptScopes.{IsTerm, AreTerms}
-use Rattle.template_runs_statements.proofs.ScopesOfTerms.{scopes_kept}
-use Rattle.template_runs_statements.proofs.InScopes.{Within, Context, context_less, Goes, gives_way}
-use Rattle.template_runs_statements.proofs.Objects.{object_jobs, objects_are_terms, entered_planned, left_planned, named_from, locals}
-use Rattle.template_runs_statements.proofs.Contexts.{in_block, in_body}
-use Rattle.template_runs_statements.proofs.Sequences.{statement_jobs, listed, AboutStatement, AboutStatements, enclosed}
+use Rattle.template_runs_statements.specs.Scopes.{scopes_in}
+use Rattle.template_runs_statements.specs.Contexts.{Within}
+use Rattle.template_runs_statements.proofs.InScopes.{context_less, Goes, gives_way}
+use Rattle.template_runs_statements.proofs.Contexts.{in_body}
+use Rattle.template_runs_statements.proofs.Sequences.{AboutStatement}
 use Rattle.ref_machine.specs.Scopes.{open_scopes, behind_loop, behind_turn}
 use Rattle.ref_machine.specs.TermItems.{arguments}
 use Rattle.c_layout.specs.CheckedTrees.{TermTrees, FormTree, Typed}

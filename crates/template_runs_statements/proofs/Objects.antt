@@ -1,5 +1,5 @@
 -- Objects that are entered, left and changed.
-use Rattle.std.proofs.Common.{◌≡◌, ◌≤◌, ◌<◌, ℕ, zero, suc, ◌+◌, Bool, true, false, List, [], ◌∷◌, ◌++◌, map, length, Some, slice_get, refl, arith, ap, sym, subst, ◌∙◌, append_assoc, length-append}
+use Rattle.std.proofs.Common.{◌≡◌, ℕ, suc, List, [], ◌∷◌, ◌++◌, map, length, Some, slice_get, refl, arith, ap, sym, subst, ◌∙◌, append_assoc, length-append}
 use Rattle.std.proofs.lemmas.List.{append-nil}
 use Rattle.cc_base.specs.declared.diagnostics.Place.{Place}
 use Rattle.flow_lower_tasks.specs.Acts as act
@@ -10,7 +10,6 @@ use Rattle.flow_lower_tasks.specs.Settings.{SettingView}
 use Rattle.flow_lower_tasks.specs.Works as jobs
 use Rattle.flow_lower_tasks.specs.Works.{Job}
 use Rattle.flow_lower_statements.specs.ScopeJumps.{entered, left, all_entered, all_left}
-use Rattle.flow_lower_works.specs.Derivations.{Makes}
 use Rattle.ref_machine.specs.Items as item
 use Rattle.ref_machine.specs.Items.{Item}
 use Rattle.template_runs.specs.TemplateStates.{Templates}
@@ -18,9 +17,7 @@ use Rattle.template_runs_follow.specs.Follows as follows
 use Rattle.template_runs_follow.specs.Follows.{Names, Follows, at_place, own}
 use Rattle.template_runs_follow.proofs.Constructions.{gives_enter, gives_leave, gives_no_enters, gives_no_leaves}
 use Rattle.template_runs_terms.specs.TemplateParts.{IsOfUnit, IsKnown, Stands}
-use Rattle.template_runs_terms.proofs.Runs.{Runs, headed, none_made, stands_after, last_there}
-use Rattle.template_runs_terms.proofs.Assignments.{one_more_job}
-use Rattle.template_runs_terms.proofs.Laying.{from_piece}
+use Rattle.template_runs_terms.proofs.Runs.{Runs, headed, none_made, stands_after}
 use Rattle.template_runs_statements.proofs.KeptScopes.{AreTerms}
 
 -- ---- works
@@ -75,9 +72,10 @@ pub named_from : (t : Templates) (q : Plan) (before : List NameView) (xs : List 
 named_from t q before [] after known e = tt
 named_from t q before (x ∷ xs) after known e =
     let all = before ++ Local x ∷ [] in
-    let split = e ∙ sym (append_assoc before (Local x ∷ []) (locals xs ++ after)) in
-    (known.names (length before) (Local x) (subst (λ ns. slice_get ns (length before) ≡ Some (Local x)) (sym split) (there before (Local x) (locals xs ++ after))),
-    subst (λ b. NamedFrom t b xs) (next_base before (Local x)) (named_from t q all xs after known split))
+    let split = e ∙ sym (append_assoc before (Local x ∷ []) (locals xs ++ after)) in (
+      known.names (length before) (Local x) (subst (λ ns. slice_get ns (length before) ≡ Some (Local x)) (sym split) (there before (Local x) (locals xs ++ after))),
+      subst (λ b. NamedFrom t b xs) (next_base before (Local x)) (named_from t q all xs after known split),
+    )
   where
     there : (xs : List NameView) (x : NameView) (ys : List NameView) → slice_get ((xs ++ x ∷ []) ++ ys) (length xs) ≡ Some x
     there [] x ys = refl

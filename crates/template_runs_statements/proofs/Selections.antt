@@ -1,5 +1,5 @@
 -- Blocks, `if` and `else`.
-use Rattle.std.proofs.Common.{◌≡◌, ◌≤◌, ◌<◌, ℕ, zero, suc, ◌+◌, ◌-◌, ◌^◌, Bool, true, false, List, [], ◌∷◌, ◌++◌, length, Option, Some, None, refl, arith, ap, sym, subst, ◌∙◌, append_assoc}
+use Rattle.std.proofs.Common.{◌≡◌, ◌≤◌, ◌<◌, ℕ, suc, ◌+◌, ◌-◌, ◌^◌, true, List, [], ◌∷◌, ◌++◌, length, refl, arith, ap, sym, subst, ◌∙◌, append_assoc}
 use Rattle.std.proofs.lemmas.List.{append-nil}
 use Rattle.cc_base.specs.declared.diagnostics.Place.{Place}
 use Rattle.c_layout.specs.CheckedTrees as tree
@@ -13,7 +13,6 @@ use Rattle.flow_lower_tasks.specs.Works.{Job}
 use Rattle.flow_lower_tasks.specs.declared.pending_works.Surroundings.{Surroundings}
 use Rattle.flow_lower_expressions.specs.Branches.{decided}
 use Rattle.flow_lower_statements.specs.ScopeJumps.{all_entered, all_left}
-use Rattle.flow_lower_statements.specs.PlainStatements as lowered
 use Rattle.flow_lower_statements.specs.PlainStatements.{all_statements, in_scope}
 use Rattle.flow_lower_statements.specs.Loops.{selection, two_way_selection}
 use Rattle.flow_lower_functions.specs.Turns.{planless}
@@ -39,7 +38,8 @@ use Rattle.template_runs_terms.proofs.Terms.{terms}
 use Rattle.template_runs_statements.specs.Scopes.{scopes_in, all_scopes_in}
 use Rattle.template_runs_statements.proofs.KeptScopes.{IsTerm, AreTerms}
 use Rattle.template_runs_statements.proofs.ScopesOfTerms.{scopes_kept}
-use Rattle.template_runs_statements.proofs.InScopes.{Within, Goes, gives_way}
+use Rattle.template_runs_statements.specs.Contexts.{Within}
+use Rattle.template_runs_statements.proofs.InScopes.{Goes, gives_way}
 use Rattle.template_runs_statements.proofs.Objects.{object_jobs, objects_are_terms, entered_planned, left_planned, named_from, locals}
 use Rattle.template_runs_statements.proofs.Contexts.{in_block}
 use Rattle.template_runs_statements.proofs.Sequences.{statement_jobs, listed, AboutStatement, AboutStatements, enclosed}

@@ -1,37 +1,28 @@
 -- Statements one after the other, and blocks.
-use Rattle.std.proofs.Common.{◌≡◌, ◌≤◌, ◌<◌, ℕ, zero, suc, ◌+◌, ◌-◌, ◌^◌, Bool, true, false, List, [], ◌∷◌, ◌++◌, length, Option, Some, None, refl, arith, ap, sym, subst, ◌∙◌, append_assoc}
+use Rattle.std.proofs.Common.{◌≡◌, ℕ, suc, ◌+◌, Bool, List, [], ◌∷◌, ◌++◌, refl, arith, sym, subst, ◌∙◌, append_assoc}
 use Rattle.std.proofs.lemmas.List.{append-nil}
-use Rattle.cc_base.specs.declared.diagnostics.Place.{Place}
 use Rattle.c_layout.specs.CheckedTrees as tree
 use Rattle.c_layout.specs.CheckedTrees.{StatementTree, StatementTrees}
 use Rattle.flow_lower_tasks.specs.Acts as act
-use Rattle.flow_lower_tasks.specs.Pieces.{PieceView}
-use Rattle.flow_lower_tasks.specs.Plans.{Plan, with_work, with_scope}
+use Rattle.flow_lower_tasks.specs.Plans.{Plan, with_work}
 use Rattle.flow_lower_tasks.specs.Settings.{SettingView}
 use Rattle.flow_lower_tasks.specs.Works as jobs
 use Rattle.flow_lower_tasks.specs.Works.{Job}
 use Rattle.flow_lower_tasks.specs.declared.pending_works.Surroundings.{Surroundings}
-use Rattle.flow_lower_statements.specs.ScopeJumps.{all_entered, all_left}
-use Rattle.flow_lower_statements.specs.PlainStatements as lowered
-use Rattle.flow_lower_statements.specs.PlainStatements.{all_statements, in_scope}
-use Rattle.flow_lower_functions.specs.Turns.{planless}
-use Rattle.flow_lower_works.specs.Derivations.{parts, Makes}
+use Rattle.flow_lower_statements.specs.PlainStatements.{all_statements}
 use Rattle.ref_machine.specs.Items as item
 use Rattle.ref_machine.specs.Items.{Item}
 use Rattle.ref_machine.specs.Scopes.{open_scopes, behind_loop, behind_turn}
-use Rattle.ref_machine.specs.StatementItems.{of_statement, statements}
+use Rattle.ref_machine.specs.StatementItems.{statements}
 use Rattle.template_runs.specs.TemplateStates.{Templates}
-use Rattle.template_runs_follow.specs.Follows.{own, Follows}
-use Rattle.template_runs_follow.proofs.Constructions.{gives_statement}
-use Rattle.template_runs_terms.specs.TemplateParts.{IsOfUnit, IsKnown, Stands}
-use Rattle.template_runs_terms.proofs.Runs.{Runs}
-use Rattle.template_runs_terms.proofs.Assignments.{one_more_job, nothing_done}
-use Rattle.template_runs_terms.proofs.Laying.{known_between}
-use Rattle.template_runs_statements.specs.Scopes.{scopes_in, all_scopes_in, IsScope, HasScopes, AllHaveScopes}
-use Rattle.template_runs_statements.specs.SuitedStatements.{AreNew, SuitsIn, AllSuitIn}
-use Rattle.template_runs_statements.proofs.InScopes.{Context, Within, Goes, plainly, goes_on, gives_way}
-use Rattle.template_runs_statements.proofs.Objects.{object_jobs, objects_are_terms, Planned, entered_planned, left_planned, NamedFrom, named_from, locals, enters, leaves}
-use Rattle.template_runs_statements.proofs.Contexts.{in_block}
+use Rattle.template_runs_follow.specs.Follows.{own}
+use Rattle.template_runs_terms.specs.TemplateParts.{IsOfUnit}
+use Rattle.template_runs_terms.proofs.Assignments.{nothing_done}
+use Rattle.template_runs_statements.specs.Scopes.{scopes_in, all_scopes_in, HasScopes, AllHaveScopes}
+use Rattle.template_runs_statements.specs.SuitedStatements.{SuitsIn, AllSuitIn}
+use Rattle.template_runs_statements.specs.Contexts.{Context, Within}
+use Rattle.template_runs_statements.proofs.InScopes.{Goes, plainly, goes_on}
+use Rattle.template_runs_statements.proofs.Objects.{object_jobs, objects_are_terms, NamedFrom, enters, leaves}
 
 -- ---- works
 

@@ -1,5 +1,5 @@
 -- The ways out of scopes, and what is left on them.
-use Rattle.std.proofs.Common.{◌≡◌, ◌≤◌, ◌<◌, ℕ, suc, ◌==◌, Bool, true, false, cond, nat_lt, ◌||◌, List, [], ◌∷◌, ◌++◌, length, refl, arith, ap, sym, subst, ◌∙◌}
+use Rattle.std.proofs.Common.{◌≡◌, ◌≤◌, ◌<◌, ℕ, suc, ◌==◌, Bool, true, false, cond, nat_lt, ◌||◌, List, [], ◌∷◌, ◌++◌, length, refl, arith, ap, sym, ◌∙◌}
 use Rattle.std.proofs.lemmas.Bool.{eq-eqb, eqb-true, lt-ltb}
 use Rattle.cc_base.specs.declared.diagnostics.Place.{Place}
 use Rattle.flow_lower_tasks.specs.Plans.{Plan}
@@ -8,13 +8,8 @@ use Rattle.flow_lower_tasks.specs.Settings.{SettingView}
 use Rattle.flow_lower_statements.specs.ScopeJumps as scopes
 use Rattle.flow_lower_statements.specs.ScopeJumps.{way, all_left}
 use Rattle.ref_machine.specs.Scopes.{is_in, without}
-use Rattle.template_runs_statements.specs.Scopes.{IsScope}
+use Rattle.template_runs_statements.specs.Contexts.{Up, here, out, AreIn}
 use Rattle.template_runs_statements.specs.SuitedStatements.{AreNew}
-
--- from a scope outwards to another one such objects are left
-pub data Up (s : SettingView) : ℕ → ℕ → List ℕ → Type 0 where
-  here : (k : ℕ) → Up s k k []
-  out : (number around to : ℕ) (objects xs : List ℕ) → to < number → IsScope s number around objects → Up s around to xs → Up s number to (objects ++ xs)
 
 pub outwards : (s : SettingView) (from to : ℕ) (xs : List ℕ) → Up s from to xs → to ≤ from
 outwards s _ _ _ (here k) = itself k
@@ -81,11 +76,6 @@ in_more x (y ∷ xs) known e = ap (λ b. (x == y) || b) (in_more x xs known e) �
     or_true : (b : Bool) → (b || true) ≡ true
     or_true true = refl
     or_true false = refl
-
--- nothing is left of what is known
-abbrev pub AreIn : List ℕ → List ℕ → Type 0
-AreIn [] known = Unit {0}
-AreIn (x ∷ xs) known = (is_in x known ≡ true) × AreIn xs known
 
 pub all_in : (known xs : List ℕ) → AreIn xs known → without known xs ≡ []
 all_in known [] there = refl
