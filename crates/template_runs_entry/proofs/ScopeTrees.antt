@@ -1,6 +1,6 @@
 -- The scopes of statements stand in the tree of their function's scopes.
-use Rattle.std.proofs.Common.{◌≡◌, ◌≤◌, ◌<◌, ℕ, zero, suc, ◌+◌, Bool, true, false, List, [], ◌∷◌, ◌++◌, length, get_or, Option, refl, arith, ap, sym, subst, ◌∙◌, append_assoc, length-append}
-use Rattle.std.proofs.lemmas.List.{append-nil, get_or_append_left}
+use Rattle.std.proofs.Common.{◌≡◌, ◌<◌, ℕ, suc, ◌+◌, List, [], ◌∷◌, ◌++◌, length, get_or, refl, arith, ap, sym, subst, ◌∙◌, append_assoc, length-append}
+use Rattle.std.proofs.lemmas.List.{append-nil}
 use Rattle.std.proofs.Math.Seq.{get_or-append_seam}
 use Rattle.c_layout.specs.CheckedTrees as tree
 use Rattle.c_layout.specs.CheckedTrees.{StatementTree, StatementTrees, statement_trees}
@@ -141,15 +141,17 @@ module _ (s : SettingView) where
     has (tree.StartList at local stores) k c t less b = tt
     has (tree.Block objects items) k c t less b =
         let n = length t.scopes in
-        let inside = with_new_scope k objects t in
-        (new_scope s k objects t less (begins_before s (all_scopes_in items) inside (scoped (tree.Block objects items) k c t) (all_more items n c inside) b),
-        subst (λ m. AllHaveScopes s items n m) (length_new k objects t) (all_have items n c inside (just_below n (length inside.scopes) (length_new k objects t)) b))
+        let inside = with_new_scope k objects t in (
+          new_scope s k objects t less (begins_before s (all_scopes_in items) inside (scoped (tree.Block objects items) k c t) (all_more items n c inside) b),
+          subst (λ m. AllHaveScopes s items n m) (length_new k objects t) (all_have items n c inside (just_below n (length inside.scopes) (length_new k objects t)) b),
+        )
     has (tree.If e body) k c t less b = has body k c t less b
     has (tree.IfElse e first second) k c t less b =
         let u = scoped first k c t in
-        let x = scoped_more first k c t in
-        (has first k c t less (begins_before s (scopes_in second) u (scoped second k c u) (scoped_more second k c u) b),
-        subst (λ m. HasScopes s second k m) (length_more (scopes_in first) t u x) (has second k c u (still k (length t.scopes) (scopes_in first) (length u.scopes) less (length_more (scopes_in first) t u x)) b))
+        let x = scoped_more first k c t in (
+          has first k c t less (begins_before s (scopes_in second) u (scoped second k c u) (scoped_more second k c u) b),
+          subst (λ m. HasScopes s second k m) (length_more (scopes_in first) t u x) (has second k c u (still k (length t.scopes) (scopes_in first) (length u.scopes) less (length_more (scopes_in first) t u x)) b),
+        )
     has (tree.While e body) k c t less b = has body k c t less b
     has (tree.Do body e) k c t less b = has body k c t less b
     has (tree.For objects first e step body) k c t less b =
@@ -158,10 +160,11 @@ module _ (s : SettingView) where
         let begun = all_scoped first n c inside in
         let x = all_more first n c inside in
         let b1 = begins_before s (scopes_in body) begun (scoped body n c begun) (scoped_more body n c begun) b in
-        let long = length_more (all_scopes_in first) inside begun x ∙ ap (λ m. m + all_scopes_in first) (length_new k objects t) in
-        (new_scope s k objects t less (begins_before s (all_scopes_in first) inside begun x b1),
-        subst (λ m. AllHaveScopes s first n m) (length_new k objects t) (all_have first n c inside (just_below n (length inside.scopes) (length_new k objects t)) b1),
-        subst (λ m. HasScopes s body n m) long (has body n c begun (still n (length inside.scopes) (all_scopes_in first) (length begun.scopes) (just_below n (length inside.scopes) (length_new k objects t)) (length_more (all_scopes_in first) inside begun x)) b))
+        let long = length_more (all_scopes_in first) inside begun x ∙ ap (λ m. m + all_scopes_in first) (length_new k objects t) in (
+          new_scope s k objects t less (begins_before s (all_scopes_in first) inside begun x b1),
+          subst (λ m. AllHaveScopes s first n m) (length_new k objects t) (all_have first n c inside (just_below n (length inside.scopes) (length_new k objects t)) b1),
+          subst (λ m. HasScopes s body n m) long (has body n c begun (still n (length inside.scopes) (all_scopes_in first) (length begun.scopes) (just_below n (length inside.scopes) (length_new k objects t)) (length_more (all_scopes_in first) inside begun x)) b),
+        )
     has (tree.Switch at e labels has_default values body) k c t less b =
         let u = with_choice (length labels) t in
         let same = ap (λ xs. length xs) (choice_more (length labels) t) in
@@ -184,9 +187,10 @@ module _ (s : SettingView) where
     all_have tree.NoMore k c t less b = tt
     all_have (tree.And first rest) k c t less b =
         let u = scoped first k c t in
-        let x = scoped_more first k c t in
-        (has first k c t less (begins_before s (all_scopes_in rest) u (all_scoped rest k c u) (all_more rest k c u) b),
-        subst (λ m. AllHaveScopes s rest k m) (length_more (scopes_in first) t u x) (all_have rest k c u (still k (length t.scopes) (scopes_in first) (length u.scopes) less (length_more (scopes_in first) t u x)) b))
+        let x = scoped_more first k c t in (
+          has first k c t less (begins_before s (all_scopes_in rest) u (all_scoped rest k c u) (all_more rest k c u) b),
+          subst (λ m. AllHaveScopes s rest k m) (length_more (scopes_in first) t u x) (all_have rest k c u (still k (length t.scopes) (scopes_in first) (length u.scopes) less (length_more (scopes_in first) t u x)) b),
+        )
 
   -- ---- the scopes of a function
 
