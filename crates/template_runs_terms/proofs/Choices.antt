@@ -29,9 +29,13 @@ jumping at to = End (record { at = at; does = act.Jump }) (lowered.jump_exits to
 abbrev pub behind_arm : Bool → ℕ → ℕ
 behind_arm used d = cond used (suc d) d
 
+-- a condition, a work, and another one
+abbrev pub two_way_jobs : Place → TermTree → Job → Job → ℕ → ℕ → List Job
+two_way_jobs at c first second d l =
+    jobs.Ready (Mark l) ∷ (jobs.Condition c (lowered.decided (record { yes = l + 1; no = l + 2 }) d) ∷ (jobs.Ready (Mark (l + 1)) ∷ (first ∷ (jobs.Ready (jumping at (l + 3)) ∷ (jobs.Ready (Mark (l + 2)) ∷ (second ∷ (jobs.Ready (Mark (l + 3)) ∷ [])))))))
+
 abbrev pub conditional_jobs : Place → TermTree → TermTree → TermTree → ℕ → Bool → ℕ → List Job
-conditional_jobs at c a b d used l =
-    jobs.Ready (Mark l) ∷ (jobs.Condition c (lowered.decided (record { yes = l + 1; no = l + 2 }) d) ∷ (jobs.Ready (Mark (l + 1)) ∷ (lowered.arm a d used ∷ (jobs.Ready (jumping at (l + 3)) ∷ (jobs.Ready (Mark (l + 2)) ∷ (lowered.arm b d used ∷ (jobs.Ready (Mark (l + 3)) ∷ [])))))))
+conditional_jobs at c a b d used l = two_way_jobs at c (lowered.arm a d used) (lowered.arm b d used) d l
 
 pub conditional_planned : (s : SettingView) (c a b : TermTree) (d : ℕ) (used : Bool) (p : Plan) → p.jobs ≡ [] → (lowered.conditional s c a b d used p).jobs ≡ conditional_jobs s.at c a b d used p.labels
 unfolding with_work with_labels

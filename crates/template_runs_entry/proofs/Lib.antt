@@ -1,0 +1,2 @@
+pub mod ScopeTrees
+pub mod EntryFollows

@@ -1,0 +1,5 @@
+use Rattle.template_runs_entry.proofs.EntryFollows.{followed}
+use Rattle.template_runs_entry.proofs.theorems.entries_are_followed.Goals as goal
+
+pub returns : goal.returns
+returns c = λ t f e draws turns. followed t f e draws turns

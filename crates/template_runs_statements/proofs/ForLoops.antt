@@ -1,0 +1,311 @@
+-- `for`.
+use Rattle.std.proofs.Common.{◌≡◌, ◌≤◌, ◌<◌, ℕ, zero, suc, ◌+◌, ◌-◌, ◌^◌, Bool, true, false, List, [], ◌∷◌, ◌++◌, length, Option, Some, None, refl, arith, ap, sym, subst, ◌∙◌, append_assoc}
+use Rattle.std.proofs.lemmas.List.{append-nil}
+use Rattle.cc_base.specs.declared.diagnostics.Place.{Place}
+use Rattle.c_layout.specs.CheckedTrees as tree
+use Rattle.c_layout.specs.CheckedTrees.{TermTree, StatementTree, StatementTrees}
+use Rattle.flow_lower_tasks.specs.Acts as act
+use Rattle.flow_lower_tasks.specs.Pieces.{PieceView, Mark}
+use Rattle.flow_lower_tasks.specs.Plans.{Plan, with_work, with_scope, with_labels, begun}
+use Rattle.flow_lower_tasks.specs.Settings.{SettingView}
+use Rattle.flow_lower_tasks.specs.Works as jobs
+use Rattle.flow_lower_tasks.specs.Works.{Job}
+use Rattle.flow_lower_tasks.specs.declared.pending_works.Surroundings.{Surroundings}
+use Rattle.flow_lower_expressions.specs.Branches.{decided}
+use Rattle.flow_lower_statements.specs.ScopeJumps.{all_entered}
+use Rattle.flow_lower_statements.specs.PlainStatements.{all_statements, in_scope}
+use Rattle.flow_lower_statements.specs.Loops as loops
+use Rattle.flow_lower_statements.specs.Loops.{in_loop}
+use Rattle.flow_lower_functions.specs.Turns.{planless}
+use Rattle.flow_lower_growth.specs.Growth.{Grows}
+use Rattle.flow_lower_growth.proofs.Growth.{works}
+use Rattle.flow_lower_growth.proofs.GrowingWorks.{jobs_none}
+use Rattle.flow_lower_works.specs.Derivations.{parts, Makes}
+use Rattle.flow_lower_works.proofs.Derivations.{parted}
+use Rattle.ref_machine.specs.Items as item
+use Rattle.ref_machine.specs.Items.{Item}
+use Rattle.ref_machine.specs.StatementItems.{of_statement, statements, clause, for_body, for_turn}
+use Rattle.template_runs.specs.TemplateStates.{Templates}
+use Rattle.template_runs_follow.specs.Follows as follows
+use Rattle.template_runs_follow.specs.Follows.{Leads, Follows}
+use Rattle.template_runs_follow.proofs.Constructions.{gives_statement, gives_loop_end, gives_turn_end}
+use Rattle.template_runs_follow.proofs.FewerTurns.{less}
+use Rattle.template_runs_terms.specs.TemplateParts.{IsOfUnit, IsKnown, Stands}
+use Rattle.template_runs_terms.proofs.Runs.{Runs, stands_behind, stands_after, none_made}
+use Rattle.template_runs_terms.proofs.Choices.{jumping, hops}
+use Rattle.template_runs_terms.proofs.Laying.{from_piece, from_none, from_work, led, known_between, few_labels}
+use Rattle.template_runs_terms.proofs.Terms.{terms}
+use Rattle.template_runs_statements.specs.Scopes.{scopes_in, all_scopes_in}
+use Rattle.template_runs_statements.proofs.KeptScopes.{AreTerms}
+use Rattle.template_runs_statements.proofs.ScopesOfTerms.{scopes_kept}
+use Rattle.template_runs_statements.specs.Contexts.{Within, Context}
+use Rattle.template_runs_statements.proofs.InScopes.{context_less, Goes, goes_on, plainly, gives_way}
+use Rattle.template_runs_statements.proofs.Objects.{object_jobs, objects_are_terms, entered_planned, left_planned, named_from, locals, marks}
+use Rattle.template_runs_statements.proofs.Contexts.{in_block, in_body}
+use Rattle.template_runs_statements.proofs.Sequences.{statement_jobs, listed, AboutStatement, AboutStatements, enclosed}
+use Rattle.ref_machine.specs.Scopes.{open_scopes, behind_loop, behind_turn}
+use Rattle.template_runs_terms.proofs.Assignments.{nothing_done}
+use Rattle.template_runs_statements.specs.SuitedStatements.{SuitsIf, SuitsIn}
+use Rattle.template_runs_statements.specs.Scopes.{HasScopes}
+use Rattle.template_runs_statements.proofs.Selections.{Counts, count_terms, count_on, below, itself, next_scope}
+use Rattle.flow_lower_growth.proofs.GrowingStatements.{grows_statements, grows_entered, grows_left, grows_check, grows_step}
+
+-- ---- works of the turns, from the label of the condition on
+
+abbrev test_jobs : Option TermTree → ℕ → List Job
+test_jobs None l = []
+test_jobs (Some e) l = jobs.Condition e (decided (record { yes = l + 2; no = l + 4 }) 0) ∷ []
+
+abbrev clause_jobs : Option TermTree → List Job
+clause_jobs None = []
+clause_jobs (Some e) = jobs.Unused e 0 ∷ []
+
+abbrev body_jobs : Place → Option TermTree → StatementTree → Surroundings → ℕ → List Job
+body_jobs at after body inside l = jobs.Ready (Mark (l + 2)) ∷ (jobs.Statement body (in_loop inside (l + 4) (l + 3)) ∷ (jobs.Ready (Mark (l + 3)) ∷ (clause_jobs after ++ (jobs.Ready (jumping at (l + 1)) ∷ (jobs.Ready (Mark (l + 4)) ∷ [])))))
+
+turn_jobs : Place → Option TermTree → Option TermTree → StatementTree → Surroundings → ℕ → List Job
+turn_jobs at test after body inside l = jobs.Ready (Mark (l + 1)) ∷ (test_jobs test l ++ body_jobs at after body inside l)
+
+-- works that are planned one behind the other
+planned_all : List Job → Plan → Plan
+planned_all [] p = p
+planned_all (j ∷ js) p = planned_all js (with_work j p)
+
+record Adds (js : List Job) (p q : Plan) : Type 0 where
+  jobs : q.jobs ≡ p.jobs ++ js
+  names : q.names ≡ p.names
+  scopes : q.scopes ≡ p.scopes
+
+adds : (js : List Job) (p : Plan) → Adds js p (planned_all js p)
+unfolding with_work planned_all
+adds [] p = record { jobs = sym (append-nil p.jobs); names = refl; scopes = refl }
+adds (j ∷ js) p = let later = adds js (with_work j p) in record { jobs = later.jobs ∙ append_assoc p.jobs (j ∷ []) js; names = later.names; scopes = later.scopes }
+
+turns_are : (at : Place) (test after : Option TermTree) (body : StatementTree) (inside : Surroundings) (l : ℕ) (p : Plan) → begun (l + 4) (loops.turn at l test after body inside p) ≡ planned_all (turn_jobs at test after body inside l) p
+unfolding turn_jobs planned_all
+turns_are at None None body inside l p = refl
+turns_are at None (Some e) body inside l p = refl
+turns_are at (Some e) None body inside l p = refl
+turns_are at (Some e) (Some x) body inside l p = refl
+
+-- the whole of `for`
+record Planned (at : Place) (objects : List ℕ) (js : List Job) (l : ℕ) (p q : Plan) : Type 0 where
+  jobs : q.jobs ≡ jobs.Ready (Mark l) ∷ (object_jobs act.Enter at objects (length p.names) ++ (js ++ object_jobs act.Leave at objects (length (p.names ++ locals objects))))
+  names : q.names ≡ (p.names ++ locals objects) ++ locals objects
+  scopes : q.scopes ≡ p.scopes + 1
+
+for_planned : (s : SettingView) (objects : List ℕ) (first : StatementTrees) (test after : Option TermTree) (body : StatementTree) (around : Surroundings) (p : Plan) → p.jobs ≡ []
+    → Planned s.at objects (statement_jobs first (in_scope around p.scopes) ++ turn_jobs s.at test after body (in_scope around p.scopes) p.labels) p.labels p (loops.for_loop s objects first test after body around p)
+unfolding with_work with_labels with_scope
+for_planned s objects first test after body around p none =
+    let l = p.labels in
+    let inside = in_scope around p.scopes in
+    let start = begun l (with_labels 5 (with_scope p)) in
+    let entered = all_entered s.at objects start in
+    let done = all_statements first inside entered in
+    let turned = begun (l + 4) (loops.turn s.at l test after body inside done) in
+    let e = entered_planned s.at objects start in
+    let i = listed first inside entered in
+    let a : Adds (turn_jobs s.at test after body inside l) done turned = subst (λ q. Adds (turn_jobs s.at test after body inside l) done q) (sym (turns_are s.at test after body inside l done)) (adds (turn_jobs s.at test after body inside l) done) in
+    let f = left_planned s.at objects turned in
+    let enters = object_jobs act.Enter s.at objects (length p.names) in
+    let names_are = a.names ∙ i.names ∙ e.names in
+    let js = statement_jobs first inside in
+    let turns = turn_jobs s.at test after body inside l in
+    record {
+      jobs = f.jobs ∙ ap (λ xs. xs ++ object_jobs act.Leave s.at objects (length turned.names)) (a.jobs ∙ ap (λ xs. xs ++ turns) (i.jobs ∙ ap (λ xs. xs ++ js) (e.jobs ∙ ap (λ xs. (xs ++ jobs.Ready (Mark l) ∷ []) ++ enters) none)))
+          ∙ ap (λ ns. (((jobs.Ready (Mark l) ∷ enters) ++ js) ++ turns) ++ object_jobs act.Leave s.at objects (length ns)) names_are
+          ∙ ap (λ xs. xs ++ object_jobs act.Leave s.at objects (length (p.names ++ locals objects))) (append_assoc (jobs.Ready (Mark l) ∷ enters) js turns)
+          ∙ append_assoc (jobs.Ready (Mark l) ∷ enters) (js ++ turns) (object_jobs act.Leave s.at objects (length (p.names ++ locals objects)));
+      names = f.names ∙ ap (λ ns. ns ++ locals objects) names_are;
+      scopes = f.scopes ∙ a.scopes ∙ i.scopes ∙ e.scopes;
+    }
+
+scope_grows : (p : Plan) → Grows (with_labels 5 p) (with_labels 5 (with_scope p))
+unfolding with_labels with_scope
+scope_grows p = record { more_names = []; names = sym (append-nil p.names); labels = itself (p.labels + 5); scopes = one_longer p.scopes; more_dispatches = []; dispatches = sym (append-nil p.dispatches) }
+  where
+    one_longer : (k : ℕ) → k ≤ k + 1
+    one_longer k = omega arith
+
+for_grows : (s : SettingView) (objects : List ℕ) (first : StatementTrees) (test after : Option TermTree) (body : StatementTree) (around : Surroundings) (p : Plan) → Grows (with_labels 5 p) (loops.for_loop s objects first test after body around p)
+for_grows s objects first test after body around p = let start : Grows (with_labels 5 p) (with_labels 5 (with_scope p)) = scope_grows p in search (works, grows_entered, grows_statements, grows_check, grows_step, grows_left) depth 40
+
+one_five : 1 < 5
+one_five = omega arith
+
+two_five : 2 < 5
+two_five = omega arith
+
+three_five : 3 < 5
+three_five = omega arith
+
+four_five : 4 < 5
+four_five = omega arith
+
+-- ---- the items behind the body
+
+clause_scopes : (after : Option TermTree) (more : List Item) → open_scopes (clause after ++ more) ≡ open_scopes more
+clause_scopes None more = refl
+clause_scopes (Some e) more = refl
+
+clause_loop : (after : Option TermTree) (more : List Item) → behind_loop (clause after ++ more) ≡ behind_loop more
+clause_loop None more = refl
+clause_loop (Some e) more = refl
+
+module _ (s : SettingView) (t : Templates) (fits : IsOfUnit t s) where
+  clause_runs : (m : ℕ) (after : Option TermTree) → SuitsIf false after → Runs s t m (clause_jobs after) (clause after) 0 0
+  clause_runs m None suits = nothing_done s t m 0
+  clause_runs m (Some e) suits = (terms s t fits m e).done 0 suits.0 suits.1
+
+  -- the condition of a turn, or none
+  test_follows : (m : ℕ) (test after : Option TermTree) (body : StatementTree) (l : ℕ) → SuitsIf true test → (p : Plan) → p.jobs ≡ [] → (ft : List PieceView) (pt : Plan) → Makes s p (test_jobs test l) ft pt → IsKnown t pt → (more : List Item) (w rest : List PieceView) → Stands t (ft ++ Mark (l + 2) ∷ w) → Leads t (l + 2) w → Leads t (l + 4) rest
+      → Follows t m 0 (for_body test after body ++ more) w → Follows t m 0 more rest → Follows t m 0 (for_turn t.unit test after body ++ more) (ft ++ Mark (l + 2) ∷ w)
+  test_follows m None after body l suits p none ft pt mt known more w rest stands to_body to_last f g =
+      subst (λ xs. Follows t m 0 (for_body None after body ++ more) (xs ++ Mark (l + 2) ∷ w)) (sym (none_made s p ft pt mt)) (follows.by_mark m 0 (l + 2) (for_body None after body ++ more) w f)
+  test_follows m (Some e) after body l suits p none ft pt mt known more w rest stands to_body to_last f g =
+      (terms s t fits m e).decided (decided (record { yes = l + 2; no = l + 4 }) 0) suits.0 suits.1 p none ft pt mt known (for_body (Some e) after body) [] more (Mark (l + 2) ∷ w) w rest stands to_body to_last f g
+
+  module _ (test after : Option TermTree) (body : StatementTree) (about : AboutStatement s t body) (around : Surroundings) (looping : Bool) (known : List ℕ) (c l : ℕ) (suits_test : SuitsIf true test) (suits_after : SuitsIf false after) (suits_body : SuitsIn true known body) (scopes : HasScopes s body around.scope c) (few : l + 5 ≤ 2 ^ 32 - 1)
+      (p : Plan) (none : p.jobs ≡ []) (ft : List PieceView) (pt : Plan) (mt : Makes s p (test_jobs test l) ft pt) (known_t : IsKnown t pt) (none_t : pt.jobs ≡ []) (begun : pt.scopes ≡ c)
+      (fb : List PieceView) (pb : Plan) (mb : Makes s pt (jobs.Statement body (in_loop around (l + 4) (l + 3)) ∷ []) fb pb) (known_b : IsKnown t pb) (none_b : pb.jobs ≡ [])
+      (fs : List PieceView) (pa : Plan) (ma : Makes s pb (clause_jobs after) fs pa) (known_a : IsKnown t pa) (items : List Item) (rest : List PieceView) where
+    abbrev behind_body : List PieceView
+    behind_body = fs ++ jumping s.at (l + 1) ∷ (Mark (l + 4) ∷ rest)
+
+    abbrev body_pieces : List PieceView
+    body_pieces = fb ++ Mark (l + 3) ∷ behind_body
+
+    abbrev for_pieces : List PieceView
+    for_pieces = ft ++ Mark (l + 2) ∷ body_pieces
+
+    for_turns : Stands t (Mark (l + 1) ∷ for_pieces) → (m : ℕ) → Follows t m 0 items rest → Within s t m around looping known items → Follows t m 0 (item.ForTurn test after body ∷ (item.LoopEnd ∷ items)) for_pieces
+    for_turns stands zero f k = follows.enough _ _ _
+    for_turns stands (suc m) f k =
+        let less_f = less m 0 items rest f in
+        let less_k = context_less s t m around looping known (open_scopes items) (behind_loop items) (behind_turn items) k in
+        let back = for_turns stands m less_f less_k in
+        let at_test = stands_after t (Mark (l + 1)) for_pieces stands in
+        let at_mark = stands_behind t ft (Mark (l + 2) ∷ body_pieces) at_test in
+        let at_body = stands_after t (Mark (l + 2)) body_pieces at_mark in
+        let at_step = stands_behind t fb (Mark (l + 3) ∷ behind_body) at_body in
+        let at_clause = stands_after t (Mark (l + 3)) behind_body at_step in
+        let at_last = stands_after t (jumping s.at (l + 1)) (Mark (l + 4) ∷ rest) (stands_behind t fs (jumping s.at (l + 1) ∷ (Mark (l + 4) ∷ rest)) at_clause) in
+        let to_begin = led s t fits (l + 1) (l + 5) (l + 5) for_pieces (below l 1 5 one_five) (itself (l + 5)) few stands in
+        let to_body = led s t fits (l + 2) (l + 5) (l + 5) body_pieces (below l 2 5 two_five) (itself (l + 5)) few at_mark in
+        let to_step = led s t fits (l + 3) (l + 5) (l + 5) behind_body (below l 3 5 three_five) (itself (l + 5)) few at_step in
+        let to_last = led s t fits (l + 4) (l + 5) (l + 5) rest (below l 4 5 four_five) (itself (l + 5)) few at_last in
+        let loop : List Item = item.ForTurn test after body ∷ (item.LoopEnd ∷ items) in
+        let turn : List Item = clause after ++ (item.Hop ∷ loop) in
+        let again = hops s t fits m 0 (l + 1) loop (Mark (l + 4) ∷ rest) for_pieces to_begin back in
+        let stepped : Follows t m 0 turn behind_body = (clause_runs m after suits_after).from pb none_b fs pa ma known_a (item.Hop ∷ loop) (jumping s.at (l + 1) ∷ (Mark (l + 4) ∷ rest)) at_clause again in
+        let context = in_body s t m around looping known items (item.TurnEnd ∷ turn) turn (l + 4) (l + 3) rest behind_body (clause_scopes after (item.Hop ∷ loop)) (clause_scopes after (item.Hop ∷ loop)) (clause_loop after (item.Hop ∷ loop)) refl to_last to_step less_f stepped less_k in
+        let in_it = (about m (in_loop around (l + 4) (l + 3)) true known c suits_body scopes).from pt none_t begun fb pb mb known_b (item.TurnEnd ∷ turn) (Mark (l + 3) ∷ behind_body) at_body context (follows.by_mark m 0 (l + 3) (item.TurnEnd ∷ turn) behind_body (gives_turn_end m 0 turn behind_body stepped)) in
+        follows.in_for m 0 test after body (item.LoopEnd ∷ items) for_pieces
+        (test_follows m test after body l suits_test p none ft pt mt known_t (item.LoopEnd ∷ items) body_pieces rest at_test to_body to_last
+        (subst (λ xs. Follows t m 0 (item.Statement body ∷ (item.TurnEnd ∷ xs)) body_pieces) (sym (append_assoc (clause after) (item.Hop ∷ (item.ForTurn test after body ∷ [])) (item.LoopEnd ∷ items))) in_it)
+        (gives_loop_end m 0 items rest less_f))
+
+  -- the works of some list, and then others
+  from_many : (r : Plan) (rest : List PieceView) (p : Plan) (js ks : List Job) (ps : List PieceView) (G : List PieceView → Type 0) → p.jobs ≡ [] → Makes s p (js ++ ks) ps r
+      → ((front : List PieceView) (between : Plan) (back : List PieceView) → Makes s p js front between → between.jobs ≡ [] → Makes s between ks back r → G (front ++ (back ++ rest))) → G (ps ++ rest)
+  from_many r rest p js ks ps G none m later =
+      let x = parted s p js ks ps r m in
+      subst (λ xs. G (xs ++ rest)) (sym x.all) (subst G (sym (append_assoc x.front x.back rest)) (later x.front x.between x.back x.first (jobs_none s p js x.front x.between x.first none) x.second))
+
+  tests_are_terms : (test : Option TermTree) (l : ℕ) → AreTerms (test_jobs test l)
+  tests_are_terms None l = tt
+  tests_are_terms (Some e) l = (tt, tt)
+
+  clauses_are_terms : (after : Option TermTree) → AreTerms (clause_jobs after)
+  clauses_are_terms None = tt
+  clauses_are_terms (Some e) = (tt, tt)
+
+  kept_many : (p : Plan) (js : List Job) (ps : List PieceView) (r : Plan) → AreTerms js → p.jobs ≡ [] → Makes s p js ps r → r.scopes ≡ p.scopes
+  kept_many p js ps r terms none m = (scopes_kept s p js ps r m (subst AreTerms (sym none) tt) terms).0
+
+  turns_count : (test after : Option TermTree) (body : StatementTree) (about : AboutStatement s t body) (around : Surroundings) (known : List ℕ) (c l n : ℕ) → SuitsIn true known body → HasScopes s body around.scope c → Counts s c (c + scopes_in body) (turn_jobs s.at test after body around l)
+  unfolding turn_jobs
+  turns_count test after body about around known c l n suits_body scopes =
+      count_on s c c (c + scopes_in body) (jobs.Ready (Mark (l + 1)) ∷ []) _ (count_terms s c _ (tt, tt))
+      (count_on s c c (c + scopes_in body) (test_jobs test l) _ (count_terms s c _ (tests_are_terms test l))
+      (count_on s c c (c + scopes_in body) (jobs.Ready (Mark (l + 2)) ∷ []) _ (count_terms s c _ (tt, tt))
+      (count_on s c (c + scopes_in body) (c + scopes_in body) (jobs.Statement body (in_loop around (l + 4) (l + 3)) ∷ []) _ (about n (in_loop around (l + 4) (l + 3)) true known c suits_body scopes).ends
+      (count_on s (c + scopes_in body) (c + scopes_in body) (c + scopes_in body) (jobs.Ready (Mark (l + 3)) ∷ []) _ (count_terms s (c + scopes_in body) _ (tt, tt))
+      (count_on s (c + scopes_in body) (c + scopes_in body) (c + scopes_in body) (clause_jobs after) _ (count_terms s (c + scopes_in body) _ (clauses_are_terms after)) (count_terms s (c + scopes_in body) _ (tt, (tt, tt))))))))
+
+  turns_go : (n : ℕ) (test after : Option TermTree) (body : StatementTree) (about : AboutStatement s t body) (around : Surroundings) (looping : Bool) (known : List ℕ) (c l : ℕ) → SuitsIf true test → SuitsIf false after → SuitsIn true known body → HasScopes s body around.scope c → l + 5 ≤ 2 ^ 32 - 1
+      → Goes s t n c (c + scopes_in body) (Within s t n around looping known) (turn_jobs s.at test after body around l) (item.ForTurn test after body ∷ (item.LoopEnd ∷ []))
+  unfolding turn_jobs
+  turns_go n test after body about around looping known c l suits_test suits_after suits_body scopes few = record {
+    from = λ p none begun_p ps r m known_r items rest stands k f.
+        let q = jumping s.at (l + 1) in
+        let G : List PieceView → Type 0 = λ w. Stands t w → Follows t n 0 (item.ForTurn test after body ∷ (item.LoopEnd ∷ items)) w in
+        from_piece s r rest p (Mark (l + 1)) _ ps G m
+        (λ b1 m1. from_many r rest p (test_jobs test l) _ b1 (λ w. G (Mark (l + 1) ∷ w)) none m1
+        (λ ft pt b2 mt none_t m2. from_piece s r rest pt (Mark (l + 2)) _ b2 (λ w. G (Mark (l + 1) ∷ (ft ++ w))) m2
+        (λ b3 m3. from_work s r rest pt (jobs.Statement body (in_loop around (l + 4) (l + 3))) _ b3 (λ w. G (Mark (l + 1) ∷ (ft ++ Mark (l + 2) ∷ w))) none_t m3
+        (λ fb pb b4 mb none_b m4. from_piece s r rest pb (Mark (l + 3)) _ b4 (λ w. G (Mark (l + 1) ∷ (ft ++ Mark (l + 2) ∷ (fb ++ w)))) m4
+        (λ b5 m5. from_many r rest pb (clause_jobs after) _ b5 (λ w. G (Mark (l + 1) ∷ (ft ++ Mark (l + 2) ∷ (fb ++ Mark (l + 3) ∷ w)))) none_b m5
+        (λ fs pa b6 ma none_a m6. from_piece s r rest pa q _ b6 (λ w. G (Mark (l + 1) ∷ (ft ++ Mark (l + 2) ∷ (fb ++ Mark (l + 3) ∷ (fs ++ w))))) m6
+        (λ b7 m7. from_piece s r rest pa (Mark (l + 4)) [] b7 (λ w. G (Mark (l + 1) ∷ (ft ++ Mark (l + 2) ∷ (fb ++ Mark (l + 3) ∷ (fs ++ q ∷ w))))) m7
+        (λ b8 m8. from_none s r rest pa b8 (λ w. G (Mark (l + 1) ∷ (ft ++ Mark (l + 2) ∷ (fb ++ Mark (l + 3) ∷ (fs ++ q ∷ (Mark (l + 4) ∷ w)))))) m8
+        (λ stands. follows.by_mark n 0 (l + 1) _ _
+        (for_turns test after body about around looping known c l suits_test suits_after suits_body scopes few p none ft pt mt (known_between s t pt _ _ r m2 known_r) none_t (kept_many p (test_jobs test l) ft pt (tests_are_terms test l) none mt ∙ begun_p) fb pb mb (known_between s t pb _ _ r m4 known_r) none_b fs pa ma (known_between s t pa _ _ r m6 known_r) items rest stands n f k)))))))))) stands;
+    ends = turns_count test after body about around known c l n suits_body scopes;
+  }
+
+  -- outside of loops nothing is asked of what is behind a loop
+  unlooped : (n : ℕ) (around : Surroundings) (looping : Bool) (known : List ℕ) (scopes : List (List ℕ)) (a b c d : List Item) → Context s t n around looping known scopes a b → Context s t n around false known scopes c d
+  unlooped n around looping known scopes a b c d k = record { within = k.within; enough = k.enough; home = k.home; on_break = λ e. absurd (no e); on_continue = λ e. absurd (no e) }
+    where
+      no : false ≡ true → ⊥
+      no e = cc
+
+  sums : (c a b : ℕ) → (suc c + a) + b ≡ c + suc (a + b)
+  sums c a b = omega arith
+
+  pub of_for : (objects : List ℕ) (first : StatementTrees) (test after : Option TermTree) (body : StatementTree) → AboutStatements s t first → AboutStatement s t body → AboutStatement s t (tree.For objects first test after body)
+  of_for objects first test after body about_first about n around looping known c suits scopes =
+      let j = jobs.Statement (tree.For objects first test after body) around in
+      let inner = in_scope around c in
+      let more = objects ++ known in
+      let middle = suc c + all_scopes_in first in
+      let last = middle + scopes_in body in
+      let loop : List Item = item.ForTurn test after body ∷ (item.LoopEnd ∷ []) in
+      let starts = about_first n inner false more (suc c) suits.1 scopes.1 in
+      let same : (p : Plan) → p.jobs ≡ [] → p.scopes ≡ c → Planned s.at objects (statement_jobs first inner ++ turn_jobs s.at test after body inner p.labels) p.labels p (parts s j p) = λ p none begun_p. subst (λ k. Planned s.at objects (statement_jobs first (in_scope around k) ++ turn_jobs s.at test after body (in_scope around k) p.labels) p.labels p (parts s j p)) begun_p (for_planned s objects first test after body around p none) in
+      subst (λ k. Goes s t n c k (Within s t n around looping known) (j ∷ []) (item.Statement (tree.For objects first test after body) ∷ [])) (sums c (all_scopes_in first) (scopes_in body))
+      (gives_way s t n c last (Within s t n around looping known) j (item.Statement (tree.For objects first test after body)) (of_statement t.unit true (tree.For objects first test after body)) refl (gives_statement n 0 (tree.For objects first test after body))
+      (λ p none begun_p ps r m known_last items rest stands k f.
+      let all = parts s j p in
+      let x = same p none begun_p in
+      let few = few_labels s t p j 5 all.jobs ps r (for_grows s objects first test after body around p) m known_last in
+      let known_all = known_between s t (planless all) all.jobs ps r m known_last in
+      let named = named_from t (planless all) p.names objects (locals objects) known_all (x.names ∙ append_assoc p.names (locals objects) (locals objects)) in
+      let again = named_from t (planless all) (p.names ++ locals objects) objects [] known_all (x.names ∙ ap (λ ns. (p.names ++ locals objects) ++ ns) (sym (append-nil (locals objects)))) in
+      let turns = turn_jobs s.at test after body inner p.labels in
+      let inside : Goes s t n (suc c) last (Within s t n inner looping more) (statement_jobs first inner ++ turns) (statements first ++ loop) =
+      goes_on s t n (suc c) middle last (Within s t n inner looping more) (Within s t n inner false more) (statement_jobs first inner) turns (statements first) loop
+      (λ items k. unlooped n inner looping more (open_scopes items) (behind_loop items) (behind_turn items) items (behind_turn items) k) starts
+      (turns_go n test after body about inner looping more middle p.labels suits.2 suits.3 suits.4 scopes.2 few) in
+      let whole = enclosed s t fits n (suc c) last objects (length p.names) (length (p.names ++ locals objects)) (Within s t n around looping known) (Within s t n inner looping more) (statement_jobs first inner ++ turns) (statements first ++ loop)
+      (λ items k. in_block s t n around looping known objects c items suits.0 scopes.0 k) named again inside in
+      let js = object_jobs act.Enter s.at objects (length p.names) ++ ((statement_jobs first inner ++ turns) ++ object_jobs act.Leave s.at objects (length (p.names ++ locals objects))) in
+      let marked = goes_on s t n (suc c) (suc c) last (Within s t n around looping known) Anything (jobs.Ready (Mark p.labels) ∷ []) js [] (item.Enters objects ∷ ((statements first ++ loop) ++ item.Leaves objects ∷ [])) (λ items k. tt)
+      (plainly s t n (suc c) Anything (jobs.Ready (Mark p.labels) ∷ []) [] (tt, tt) (marks s t fits n p.labels 0)) whole in
+      subst (λ is. Follows t n 0 (item.Enters objects ∷ (is ++ items)) (ps ++ rest)) (append_assoc (statements first) loop (item.Leaves objects ∷ []))
+      (marked.from (planless all) refl (x.scopes ∙ ap (λ k. k + 1) begun_p ∙ next_scope c) ps r (subst (λ ks. Makes s (planless all) ks ps r) x.jobs m) known_last items rest stands k f))
+      (λ p none begun_p ps r m.
+      let all = parts s j p in
+      let x = same p none begun_p in
+      let turns = turn_jobs s.at test after body inner p.labels in
+      count_on s (suc c) (suc c) last (jobs.Ready (Mark p.labels) ∷ []) _ (count_terms s (suc c) _ (tt, tt))
+      (count_on s (suc c) (suc c) last (object_jobs act.Enter s.at objects (length p.names)) _ (count_terms s (suc c) _ (objects_are_terms act.Enter s.at objects (length p.names)))
+      (count_on s (suc c) last last (statement_jobs first inner ++ turns) _
+      (count_on s (suc c) middle last (statement_jobs first inner) turns starts.ends (turns_count test after body about inner more middle p.labels n suits.4 scopes.2))
+      (count_terms s last _ (objects_are_terms act.Leave s.at objects (length (p.names ++ locals objects))))))
+      (planless all) refl (x.scopes ∙ ap (λ k. k + 1) begun_p ∙ next_scope c) ps r (subst (λ ks. Makes s (planless all) ks ps r) x.jobs m)))
+    where
+      Anything : List Item → Type 0
+      Anything items = Unit {0}

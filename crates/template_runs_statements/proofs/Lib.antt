@@ -1,0 +1,15 @@
+pub mod KeptScopes
+pub mod KeptByTerms
+pub mod KeptByConditions
+pub mod ScopesOfTerms
+pub mod Ways
+pub mod InScopes
+pub mod Objects
+pub mod Contexts
+pub mod Jumps
+pub mod Declarations
+pub mod Sequences
+pub mod Selections
+pub mod Loops
+pub mod ForLoops
+pub mod Statements

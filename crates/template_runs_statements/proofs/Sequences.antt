@@ -1,0 +1,103 @@
+-- Statements one after the other, and blocks.
+use Rattle.std.proofs.Common.{◌≡◌, ℕ, suc, ◌+◌, Bool, List, [], ◌∷◌, ◌++◌, refl, arith, sym, subst, ◌∙◌, append_assoc}
+use Rattle.std.proofs.lemmas.List.{append-nil}
+use Rattle.c_layout.specs.CheckedTrees as tree
+use Rattle.c_layout.specs.CheckedTrees.{StatementTree, StatementTrees}
+use Rattle.flow_lower_tasks.specs.Acts as act
+use Rattle.flow_lower_tasks.specs.Plans.{Plan, with_work}
+use Rattle.flow_lower_tasks.specs.Settings.{SettingView}
+use Rattle.flow_lower_tasks.specs.Works as jobs
+use Rattle.flow_lower_tasks.specs.Works.{Job}
+use Rattle.flow_lower_tasks.specs.declared.pending_works.Surroundings.{Surroundings}
+use Rattle.flow_lower_statements.specs.PlainStatements.{all_statements}
+use Rattle.ref_machine.specs.Items as item
+use Rattle.ref_machine.specs.Items.{Item}
+use Rattle.ref_machine.specs.Scopes.{open_scopes, behind_loop, behind_turn}
+use Rattle.ref_machine.specs.StatementItems.{statements}
+use Rattle.template_runs.specs.TemplateStates.{Templates}
+use Rattle.template_runs_follow.specs.Follows.{own}
+use Rattle.template_runs_terms.specs.TemplateParts.{IsOfUnit}
+use Rattle.template_runs_terms.proofs.Assignments.{nothing_done}
+use Rattle.template_runs_statements.specs.Scopes.{scopes_in, all_scopes_in, HasScopes, AllHaveScopes}
+use Rattle.template_runs_statements.specs.SuitedStatements.{SuitsIn, AllSuitIn}
+use Rattle.template_runs_statements.specs.Contexts.{Context, Within}
+use Rattle.template_runs_statements.proofs.InScopes.{Goes, plainly, goes_on}
+use Rattle.template_runs_statements.proofs.Objects.{object_jobs, objects_are_terms, NamedFrom, enters, leaves}
+
+-- ---- works
+
+abbrev pub statement_jobs : StatementTrees → Surroundings → List Job
+statement_jobs tree.NoMore around = []
+statement_jobs (tree.And first rest) around = jobs.Statement first around ∷ statement_jobs rest around
+
+pub record Listed (items : StatementTrees) (around : Surroundings) (p q : Plan) : Type 0 where
+  pub jobs : q.jobs ≡ p.jobs ++ statement_jobs items around
+  pub names : q.names ≡ p.names
+  pub scopes : q.scopes ≡ p.scopes
+
+pub listed : (items : StatementTrees) (around : Surroundings) (p : Plan) → Listed items around p (all_statements items around p)
+unfolding with_work
+listed tree.NoMore around p = record { jobs = sym (append-nil p.jobs); names = refl; scopes = refl }
+listed (tree.And first rest) around p =
+    let later = listed rest around (with_work (jobs.Statement first around) p) in
+    record { jobs = later.jobs ∙ append_assoc p.jobs (jobs.Statement first around ∷ []) (statement_jobs rest around); names = later.names; scopes = later.scopes }
+
+-- ---- items before which nothing changes
+
+pub record IsQuiet (xs : List Item) : Type 0 where
+  pub scopes : (items : List Item) → open_scopes (xs ++ items) ≡ open_scopes items
+  pub after_loop : (items : List Item) → behind_loop (xs ++ items) ≡ behind_loop items
+  pub after_turn : (items : List Item) → behind_turn (xs ++ items) ≡ behind_turn items
+
+pub statements_quiet : (rest : StatementTrees) → IsQuiet (statements rest)
+statements_quiet tree.NoMore = record { scopes = λ items. refl; after_loop = λ items. refl; after_turn = λ items. refl }
+statements_quiet (tree.And first rest) = let x = statements_quiet rest in record { scopes = λ items. x.scopes items; after_loop = λ items. x.after_loop items; after_turn = λ items. x.after_turn items }
+
+pub quiet_within : (s : SettingView) (t : Templates) (n : ℕ) (around : Surroundings) (looping : Bool) (known : List ℕ) (xs items : List Item) → IsQuiet xs → Within s t n around looping known items → Within s t n around looping known (xs ++ items)
+quiet_within s t n around looping known xs items quiet k =
+    subst (λ ys. Context s t n around looping known ys (behind_loop (xs ++ items)) (behind_turn (xs ++ items))) (sym (quiet.scopes items))
+    (subst (λ ys. Context s t n around looping known (open_scopes items) ys (behind_turn (xs ++ items))) (sym (quiet.after_loop items))
+    (subst (λ ys. Context s t n around looping known (open_scopes items) (behind_loop items) ys) (sym (quiet.after_turn items)) k))
+
+-- what is proved of a statement
+abbrev pub AboutStatement : SettingView → Templates → StatementTree → Type 0
+AboutStatement s t i = (n : ℕ) (around : Surroundings) (looping : Bool) (known : List ℕ) (c : ℕ) → SuitsIn looping known i → HasScopes s i around.scope c → Goes s t n c (c + scopes_in i) (Within s t n around looping known) (jobs.Statement i around ∷ []) (item.Statement i ∷ [])
+
+abbrev pub AboutStatements : SettingView → Templates → StatementTrees → Type 0
+AboutStatements s t items = (n : ℕ) (around : Surroundings) (looping : Bool) (known : List ℕ) (c : ℕ) → AllSuitIn looping known items → AllHaveScopes s items around.scope c → Goes s t n c (c + all_scopes_in items) (Within s t n around looping known) (statement_jobs items around) (statements items)
+
+plus_zero : (c : ℕ) → c ≡ c + 0
+plus_zero c = omega arith
+
+in_turn : (c a b : ℕ) → (c + a) + b ≡ c + (a + b)
+in_turn c a b = omega arith
+
+after_suc : (c a : ℕ) → suc c + a ≡ c + suc a
+after_suc c a = omega arith
+
+plus_one : (c : ℕ) → c + 1 ≡ suc c
+plus_one c = omega arith
+
+module _ (s : SettingView) (t : Templates) where
+  pub of_none : AboutStatements s t tree.NoMore
+  of_none n around looping known c suits scopes = subst (λ k. Goes s t n c k (Within s t n around looping known) [] []) (plus_zero c) (plainly s t n c (Within s t n around looping known) [] [] tt (nothing_done s t n 0))
+
+  pub of_more : (first : StatementTree) (rest : StatementTrees) → AboutStatement s t first → AboutStatements s t rest → AboutStatements s t (tree.And first rest)
+  of_more first rest one others n around looping known c suits scopes =
+      subst (λ k. Goes s t n c k (Within s t n around looping known) (jobs.Statement first around ∷ statement_jobs rest around) (item.Statement first ∷ statements rest)) (in_turn c (scopes_in first) (all_scopes_in rest))
+      (goes_on s t n c (c + scopes_in first) ((c + scopes_in first) + all_scopes_in rest) (Within s t n around looping known) (Within s t n around looping known) (jobs.Statement first around ∷ []) (statement_jobs rest around) (item.Statement first ∷ []) (statements rest)
+      (λ items k. quiet_within s t n around looping known (statements rest) items (statements_quiet rest) k) (one n around looping known c suits.0 scopes.0) (others n around looping known (c + scopes_in first) suits.1 scopes.1))
+
+module _ (s : SettingView) (t : Templates) (fits : IsOfUnit t s) where
+  -- objects are entered, then what comes inside, then they are left
+  pub enclosed : (n c last : ℕ) (objects : List ℕ) (first second : ℕ) (K L : List Item → Type 0) (js : List Job) (is : List Item) → ((items : List Item) → K items → L (item.Leaves objects ∷ items)) → NamedFrom t first objects → NamedFrom t second objects → Goes s t n c last L js is
+      → Goes s t n c last K (object_jobs act.Enter s.at objects first ++ (js ++ object_jobs act.Leave s.at objects second)) (item.Enters objects ∷ (is ++ item.Leaves objects ∷ []))
+  enclosed n c last objects first second K L js is onwards named again inside =
+      subst (λ at. Goes s t n c last K (object_jobs act.Enter at objects first ++ (js ++ object_jobs act.Leave at objects second)) (item.Enters objects ∷ (is ++ item.Leaves objects ∷ []))) (sym fits.place)
+      (goes_on s t n c c last K Anything (object_jobs act.Enter (own t) objects first) (js ++ object_jobs act.Leave (own t) objects second) (item.Enters objects ∷ []) (is ++ item.Leaves objects ∷ []) (λ items k. tt)
+      (plainly s t n c Anything (object_jobs act.Enter (own t) objects first) (item.Enters objects ∷ []) (objects_are_terms act.Enter (own t) objects first) (enters s t fits n objects first 0 named))
+      (goes_on s t n c last last K L js (object_jobs act.Leave (own t) objects second) is (item.Leaves objects ∷ []) onwards inside
+      (plainly s t n last K (object_jobs act.Leave (own t) objects second) (item.Leaves objects ∷ []) (objects_are_terms act.Leave (own t) objects second) (leaves s t fits n objects second 0 again))))
+    where
+      Anything : List Item → Type 0
+      Anything items = Unit {0}

@@ -1,0 +1,44 @@
+-- Where the items of statements stand: the scopes that are open, and the ends of the loop around.
+use Rattle.std.specs.Prelude.{◌≡◌, ◌≤◌, ◌<◌, ℕ, Bool, true, List, [], ◌∷◌, ◌++◌, length}
+use Rattle.flow_lower_tasks.specs.Pieces.{PieceView}
+use Rattle.flow_lower_tasks.specs.Settings.{SettingView}
+use Rattle.flow_lower_tasks.specs.declared.pending_works.Landing.{Landing}
+use Rattle.flow_lower_tasks.specs.declared.pending_works.Surroundings.{Surroundings}
+use Rattle.ref_machine.specs.Items.{Item}
+use Rattle.ref_machine.specs.Scopes.{is_in, all_of, open_scopes, without, inwards, behind_loop, behind_turn}
+use Rattle.template_runs.specs.TemplateStates.{Templates}
+use Rattle.template_runs_follow.specs.Follows.{Leads, Follows}
+use Rattle.template_runs_statements.specs.Scopes.{IsScope}
+
+-- from a scope outwards to another one such objects are left
+pub data Up (s : SettingView) : ℕ → ℕ → List ℕ → Type 0 where
+  here : (k : ℕ) → Up s k k []
+  out : (number around to : ℕ) (objects xs : List ℕ) → to < number → IsScope s number around objects → Up s around to xs → Up s number to (objects ++ xs)
+
+-- nothing is left of what is known
+abbrev pub AreIn : List ℕ → List ℕ → Type 0
+AreIn [] known = Unit {0}
+AreIn (x ∷ xs) known = (is_in x known ≡ true) × AreIn xs known
+
+module _ (s : SettingView) (t : Templates) where
+  -- a jump from such scopes to items behind a label leaves such objects and enters none
+  pub record Lands (n : ℕ) (scopes : List (List ℕ)) (to : List Item) (from : ℕ) (landing : Landing) : Type 0 where
+    pub objects : List ℕ
+    pub up : Up s from landing.scope objects
+    pub leaves : without (all_of (open_scopes to)) (all_of scopes) ≡ objects
+    pub stays : AreIn (inwards (open_scopes to)) (all_of scopes)
+    pub within : (x : ℕ) → is_in x (all_of (open_scopes to)) ≡ true → is_in x (all_of scopes) ≡ true
+    pub there : List PieceView
+    pub leads : Leads t landing.label there
+    pub follows : Follows t n 0 to there
+
+  -- where items stand: the scopes that are open, in a loop its ends, and the way to the end of the function
+  pub record Context (n : ℕ) (around : Surroundings) (in_loop : Bool) (known : List ℕ) (scopes : List (List ℕ)) (after_loop after_turn : List Item) : Type 0 where
+    pub within : (x : ℕ) → is_in x (all_of scopes) ≡ true → is_in x known ≡ true
+    pub enough : around.scope ≤ length s.scopes.scopes
+    pub home : Up s around.scope 0 (all_of scopes)
+    pub on_break : in_loop ≡ true → Lands n scopes after_loop around.scope around.on_break
+    pub on_continue : in_loop ≡ true → Lands n scopes after_turn around.scope around.on_continue
+
+  abbrev pub Within : ℕ → Surroundings → Bool → List ℕ → List Item → Type 0
+  Within n around in_loop known items = Context n around in_loop known (open_scopes items) (behind_loop items) (behind_turn items)
