@@ -2,3 +2,4 @@ pub mod SettledPieces
 mod QuietFunctions
 mod SameActs
 mod SettledSteps
+mod QuietRuns
