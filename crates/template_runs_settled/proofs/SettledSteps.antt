@@ -354,6 +354,17 @@ module _ (u : UnitView) (made settles : ℕ → TemplateView) (known : (n : ℕ)
   step_both _ _ (both_stopped why w violated found also equal) = record { steps = 0; few = omega arith; both = both_stopped why w violated found also equal }
   step_both _ _ (stuck w found r) = record { steps = 0; few = omega arith; both = stuck w found r }
 
+  -- both go on
+  pub data Live : TemplateRun → TemplateRun → Type 0 where
+    live : (s base r : Standing) (found also : List Violation) → Within s base → Same base r → Live (running s found) (running r also)
+
+  -- the second run goes on only from where both do
+  pub alive : (a b : TemplateRun) (both : Both a b) → (step_both a b both).steps ≡ 1 → Live a b
+  unfolding step_both
+  alive _ _ (both_run s base r found also w same_ equal) e = live s base r found also w same_
+  alive _ _ (both_stopped why w violated found also equal) e = absurd (omega (arith, e))
+  alive _ _ (stuck w found r) e = absurd (omega (arith, e))
+
   -- ---- runs
 
   pub steps_on : (m k : ℕ) (r : TemplateRun) → steps_from second k (steps_from second m r) ≡ steps_from second (m + k) r
