@@ -2,3 +2,5 @@ pub mod SettledPieces
 mod QuietFunctions
 mod SameActs
 mod SettledSteps
+mod QuietRuns
+mod SettledReturns

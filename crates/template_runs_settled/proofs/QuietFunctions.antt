@@ -24,17 +24,17 @@ pub record Quiet (u : UnitView) (n : ℕ) : Type 0 where
   pub are_counts : Counts u n counts
   pub none : counts.from_empty.instructions ≡ 0
 
--- a label, or a call of such a function
-abbrev pub IsIdle : UnitView → PieceView → Type 0
-IsIdle u (Do s) = ⊥
-IsIdle u (DoIfUsed s) = ⊥
-IsIdle u (End s exits) = ⊥
-IsIdle u (Mark label) = Unit {0}
-IsIdle u (Call c) = Quiet u c.function
+-- a label, or a call of a function of which something holds
+abbrev pub IsIdle : (ℕ → Type 0) → PieceView → Type 0
+IsIdle Q (Do s) = ⊥
+IsIdle Q (DoIfUsed s) = ⊥
+IsIdle Q (End s exits) = ⊥
+IsIdle Q (Mark label) = Unit {0}
+IsIdle Q (Call c) = Q c.function
 
-abbrev pub AreIdle : UnitView → List PieceView → Type 0
-AreIdle u [] = Unit {0}
-AreIdle u (p ∷ ps) = IsIdle u p × AreIdle u ps
+abbrev pub AreIdle : (ℕ → Type 0) → List PieceView → Type 0
+AreIdle Q [] = Unit {0}
+AreIdle Q (p ∷ ps) = IsIdle Q p × AreIdle Q ps
 
 -- ---- sums that come to nothing
 
@@ -90,28 +90,31 @@ module _ (table : List (Option FunctionCounts)) where
 
 -- ---- pieces without an instruction
 
-not_an_instruction : (u : UnitView) (ps : List PieceView) → GoesOn ps → AreIdle u ps → ⊥
-not_an_instruction u [] on idle = on
-not_an_instruction u (Do s ∷ ps) on idle = idle.0
-not_an_instruction u (DoIfUsed s ∷ ps) on idle = idle.0
-not_an_instruction u (End s exits ∷ ps) on idle = idle.0
-not_an_instruction u (Mark label ∷ ps) on idle = on
-not_an_instruction u (Call c ∷ ps) on idle = on
+not_an_instruction : (Q : ℕ → Type 0) (ps : List PieceView) → GoesOn ps → AreIdle Q ps → ⊥
+not_an_instruction Q [] on idle = on
+not_an_instruction Q (Do s ∷ ps) on idle = idle.0
+not_an_instruction Q (DoIfUsed s ∷ ps) on idle = idle.0
+not_an_instruction Q (End s exits ∷ ps) on idle = idle.0
+not_an_instruction Q (Mark label ∷ ps) on idle = on
+not_an_instruction Q (Call c ∷ ps) on idle = on
 
 -- pieces are idle, and leave an empty block
-pub record StaysEmpty (u : UnitView) (table : List (Option FunctionCounts)) (ps : List PieceView) (at : BlockExtent) : Type 0 where
-  pub idle : AreIdle u ps
+pub record StaysEmpty (Q : ℕ → Type 0) (table : List (Option FunctionCounts)) (ps : List PieceView) (at : BlockExtent) : Type 0 where
+  pub idle : AreIdle Q ps
   pub empty : (with_pieces table ps at).is_empty ≡ true
 
--- what is known of the functions that pieces call: their counts, and that those without an instruction leave an empty block
-abbrev pub LeaveEmpty : UnitView → List (Option FunctionCounts) → Type 0
-LeaveEmpty u table = (m : ℕ) (c : FunctionCounts) → slice_get table m ≡ Some (Some c) → c.from_empty.instructions ≡ 0 → c.from_empty.is_empty ≡ true
+-- functions without an instruction leave an empty block, and something holds of them
+abbrev pub LeaveEmpty : List (Option FunctionCounts) → Type 0
+LeaveEmpty table = (m : ℕ) (c : FunctionCounts) → slice_get table m ≡ Some (Some c) → c.from_empty.instructions ≡ 0 → c.from_empty.is_empty ≡ true
 
-module _ (u : UnitView) (table : List (Option FunctionCounts)) (are : AreCounts u table) (leave : LeaveEmpty u table) where
-  stays_empty : (ps : List PieceView) (at : BlockExtent) → at.is_empty ≡ true → (with_pieces table ps at).instructions ≡ 0 → AreFollowed ps → are_counted table ps ≡ true → StaysEmpty u table ps at
+abbrev pub HoldsOfQuiet : (ℕ → Type 0) → List (Option FunctionCounts) → Type 0
+HoldsOfQuiet Q table = (m : ℕ) (c : FunctionCounts) → slice_get table m ≡ Some (Some c) → c.from_empty.instructions ≡ 0 → Q m
+
+module _ (Q : ℕ → Type 0) (table : List (Option FunctionCounts)) (quiet_is : HoldsOfQuiet Q table) (leave : LeaveEmpty table) where
+  stays_empty : (ps : List PieceView) (at : BlockExtent) → at.is_empty ≡ true → (with_pieces table ps at).instructions ≡ 0 → AreFollowed ps → are_counted table ps ≡ true → StaysEmpty Q table ps at
   stays_empty [] at empty none followed all = record { idle = tt; empty = empty }
   stays_empty (Do s ∷ ps) at empty none followed all = absurd (some_is_not _ (more_pieces table ps (with_instruction at) (some_instruction at.instructions)) none)
-  stays_empty (DoIfUsed s ∷ ps) at empty none (on, followed) all = absurd (not_an_instruction u ps on (stays_empty ps at empty none followed (both_true true (are_counted table ps) all).1).idle)
+  stays_empty (DoIfUsed s ∷ ps) at empty none (on, followed) all = absurd (not_an_instruction Q ps on (stays_empty ps at empty none followed (both_true true (are_counted table ps) all).1).idle)
   stays_empty (End s exits ∷ ps) at empty none followed all = absurd (some_is_not _ (more_pieces table ps (with_end at) (some_instruction at.instructions)) none)
   stays_empty (Mark label ∷ ps) at empty none (on, followed) all =
       let same : with_mark at ≡ at = ap (λ b. cond b at (with_end at)) empty in
@@ -128,13 +131,13 @@ module _ (u : UnitView) (table : List (Option FunctionCounts)) (are : AreCounts 
       let none_there : k.from_empty.instructions ≡ 0 = ap (λ (x : BlockExtent). x.instructions) (sym begun) ∙ quiet in
       let empty_next : next.is_empty ≡ true = ap (λ (x : BlockExtent). x.is_empty) begun ∙ leave c.function k is none_there in
       let rest = stays_empty ps next empty_next none followed here.1 in
-      record { idle = (record { counts = k; are_counts = are c.function k is; none = none_there }, rest.idle); empty = rest.empty }
+      record { idle = (quiet_is c.function k is none_there, rest.idle); empty = rest.empty }
 
 -- ---- pieces that are settled
 
-first_of : (u : UnitView) (xs : List PieceView) (p : PieceView) → AreIdle u (xs ++ p ∷ []) → AreIdle u xs × IsIdle u p
-first_of u [] p (one, all) = (tt, one)
-first_of u (x ∷ xs) p (one, all) = let rest = first_of u xs p all in ((one, rest.0), rest.1)
+first_of : (Q : ℕ → Type 0) (xs : List PieceView) (p : PieceView) → AreIdle Q (xs ++ p ∷ []) → AreIdle Q xs × IsIdle Q p
+first_of Q [] p (one, all) = (tt, one)
+first_of Q (x ∷ xs) p (one, all) = let rest = first_of Q xs p all in ((one, rest.0), rest.1)
 
 counted_more : (table : List (Option FunctionCounts)) (xs : List PieceView) (p : PieceView) → are_counted table xs ≡ true → is_counted table (called p) ≡ true → are_counted table (xs ++ p ∷ []) ≡ true
 counted_more table [] p all one = ap (λ b. cond b true false) one
@@ -163,25 +166,25 @@ counted_all table n (p ∷ ps) g each all =
     let here = both_true (is_counted table (called p)) (are_counted table ps) each in
     counted_all table n ps (with_if table n p g) here.1 (counted_if table n p g here.0 all)
 
-module _ (u : UnitView) (table : List (Option FunctionCounts)) (quiet : (m : ℕ) → is_silent table m ≡ true → Quiet u m) where
-  idle_or : (b : Bool) (g h : SettlingView) → (AreIdle u h.pieces → AreIdle u g.pieces) → AreIdle u (cond b g h).pieces → AreIdle u g.pieces
+module _ (Q : ℕ → Type 0) (table : List (Option FunctionCounts)) (quiet : (m : ℕ) → is_silent table m ≡ true → Q m) where
+  idle_or : (b : Bool) (g h : SettlingView) → (AreIdle Q h.pieces → AreIdle Q g.pieces) → AreIdle Q (cond b g h).pieces → AreIdle Q g.pieces
   idle_or true g h back idle = idle
   idle_or false g h back idle = back idle
 
-  idle_if : (n : NamesView) (p : PieceView) (g : SettlingView) → AreIdle u (with_if table n p g).pieces → AreIdle u g.pieces × IsIdle u p
+  idle_if : (n : NamesView) (p : PieceView) (g : SettlingView) → AreIdle Q (with_if table n p g).pieces → AreIdle Q g.pieces × IsIdle Q p
   unfolding with_if
-  idle_if n (Do s) g idle = first_of u g.pieces (Do s) idle
-  idle_if n (DoIfUsed s) g idle = first_of u g.pieces (DoIfUsed s) idle
-  idle_if n (End s exits) g idle = absurd (first_of u g.pieces (renamed_end n s exits) idle).1
-  idle_if n (Mark label) g idle = (idle_or (is_last g.last (renamed n label)) g _ (λ all. (first_of u g.pieces (Mark (renamed n label)) all).0) idle, tt)
+  idle_if n (Do s) g idle = first_of Q g.pieces (Do s) idle
+  idle_if n (DoIfUsed s) g idle = first_of Q g.pieces (DoIfUsed s) idle
+  idle_if n (End s exits) g idle = absurd (first_of Q g.pieces (renamed_end n s exits) idle).1
+  idle_if n (Mark label) g idle = (idle_or (is_last g.last (renamed n label)) g _ (λ all. (first_of Q g.pieces (Mark (renamed n label)) all).0) idle, tt)
   idle_if n (Call c) g idle = by (is_silent table c.function) refl idle
     where
-      by : (b : Bool) → is_silent table c.function ≡ b → AreIdle u (cond b g (record { pieces = g.pieces ++ Call c ∷ []; last = g.last })).pieces → AreIdle u g.pieces × Quiet u c.function
+      by : (b : Bool) → is_silent table c.function ≡ b → AreIdle Q (cond b g (record { pieces = g.pieces ++ Call c ∷ []; last = g.last })).pieces → AreIdle Q g.pieces × Q c.function
       by true e idle = (idle, quiet c.function e)
-      by false e idle = first_of u g.pieces (Call c) idle
+      by false e idle = first_of Q g.pieces (Call c) idle
 
   -- what settling leaves out is idle
-  idle_all : (n : NamesView) (ps : List PieceView) (g : SettlingView) → AreIdle u (with_all table n ps g).pieces → AreIdle u g.pieces × AreIdle u ps
+  pub idle_all : (n : NamesView) (ps : List PieceView) (g : SettlingView) → AreIdle Q (with_all table n ps g).pieces → AreIdle Q g.pieces × AreIdle Q ps
   idle_all n [] g idle = (idle, tt)
   idle_all n (p ∷ ps) g idle =
       let rest = idle_all n ps (with_if table n p g) idle in
@@ -196,7 +199,7 @@ followed u n f t table is = settled_followed table t (template_followed u.struct
 -- a function that has none leaves an empty block
 leaves_empty : (u : UnitView) (n : ℕ) (c : FunctionCounts) → Counts u n c → c.from_empty.instructions ≡ 0 → c.from_empty.is_empty ≡ true
 leaves_empty u n c (counts _ f t table is all each) none =
-    (stays_empty u table each (λ m k at quiet. leaves_empty u m k (each m k at) quiet) (settled table t).pieces (nothing true) refl none (followed u n f t table is) (counted_all table (renaming table t.pieces t.labels) t.pieces nothing_settled all refl)).empty
+    (stays_empty (λ m. Unit {0}) table (λ m k at quiet. tt) (λ m k at quiet. leaves_empty u m k (each m k at) quiet) (settled table t).pieces (nothing true) refl none (followed u n f t table is) (counted_all table (renaming table t.pieces t.labels) t.pieces nothing_settled all refl)).empty
 
 no_silence : (c : FunctionCounts) → c.is_silent ≡ false → c.is_silent ≡ true → ⊥
 no_silence c loud silent = by (sym loud ∙ silent)
@@ -214,21 +217,28 @@ nothing_done u n c (counts _ f t table is all each) silent =
     eqb-true at.instructions 0 (first_true (at.instructions == 0) (f.parameters == 0 && is_void f.returns) silent)
 
 -- a function that adds nothing has none
-pub silent_is_quiet : (u : UnitView) (table : List (Option FunctionCounts)) (n : ℕ) → AreCounts u table → is_silent table n ≡ true → Quiet u n
-silent_is_quiet u table n are silent = by (slice_get table n) refl
+silent_holds : (Q : ℕ → Type 0) (u : UnitView) (table : List (Option FunctionCounts)) (n : ℕ) → AreCounts u table → HoldsOfQuiet Q table → is_silent table n ≡ true → Q n
+silent_holds Q u table n are quiet silent = by (slice_get table n) refl
   where
-    by : (o : Option (Option FunctionCounts)) → slice_get table n ≡ o → Quiet u n
+    by : (o : Option (Option FunctionCounts)) → slice_get table n ≡ o → Q n
     by None is = absurd (no_silence (counted table n) (ap (λ o. (counts_of o).is_silent) is) silent)
     by (Some None) is = absurd (no_silence (counted table n) (ap (λ o. (counts_of o).is_silent) is) silent)
-    by (Some (Some c)) is = record { counts = c; are_counts = are n c is; none = nothing_done u n c (are n c is) (ap (λ o. (counts_of o).is_silent) (sym is) ∙ silent) }
+    by (Some (Some c)) is = quiet n c is (nothing_done u n c (are n c is) (ap (λ o. (counts_of o).is_silent) (sym is) ∙ silent))
 
-idle_template : (u : UnitView) (n : ℕ) (f : FunctionView) (t : TemplateView) (c : FunctionCounts) → IsTemplateOf u n f t → Counts u n c → c.from_empty.instructions ≡ 0 → AreIdle u t.pieces
-idle_template u n f t c own (counts _ g s table is all each) none =
+pub silent_is_quiet : (u : UnitView) (table : List (Option FunctionCounts)) (n : ℕ) → AreCounts u table → is_silent table n ≡ true → Quiet u n
+silent_is_quiet u table n are silent = silent_holds (Quiet u) u table n are (λ m c is none. record { counts = c; are_counts = are m c is; none = none }) silent
+
+-- the pieces of a function without an instruction are idle
+pub idle_template : (Q : ℕ → Type 0) (u : UnitView) (n : ℕ) (f g : FunctionView) (t s : TemplateView) (table : List (Option FunctionCounts)) → IsTemplateOf u n f t → IsTemplateOf u n g s → are_counted table s.pieces ≡ true → AreCounts u table → HoldsOfQuiet Q table → (extent table (settled table s).pieces true).instructions ≡ 0 → AreIdle Q t.pieces
+idle_template Q u n f g t s table own is all each quiet none =
     let same = one_template u n f g t s own is in
     let names = renaming table s.pieces s.labels in
-    let stays = stays_empty u table each (λ m k at quiet. leaves_empty u m k (each m k at) quiet) (settled table s).pieces (nothing true) refl none (followed u n g s table is) (counted_all table names s.pieces nothing_settled all refl) in
-    subst (λ (x : TemplateView). AreIdle u x.pieces) (sym same) (idle_all u table (λ m silent. silent_is_quiet u table m each silent) names s.pieces nothing_settled stays.idle).1
+    let stays = stays_empty Q table quiet (λ m k at quiet. leaves_empty u m k (each m k at) quiet) (settled table s).pieces (nothing true) refl none (followed u n g s table is) (counted_all table names s.pieces nothing_settled all refl) in
+    subst (λ (x : TemplateView). AreIdle Q x.pieces) (sym same) (idle_all Q table (λ m silent. silent_holds Q u table m each quiet silent) names s.pieces nothing_settled stays.idle).1
+
+quiet_template : (u : UnitView) (n : ℕ) (f : FunctionView) (t : TemplateView) (c : FunctionCounts) → IsTemplateOf u n f t → Counts u n c → c.from_empty.instructions ≡ 0 → AreIdle (Quiet u) t.pieces
+quiet_template u n f t c own (counts _ g s table is all each) none = idle_template (Quiet u) u n f g t s table own is all each (λ m k at quiet. record { counts = k; are_counts = each m k at; none = quiet }) none
 
 -- its pieces are labels and calls of such functions
-pub quiet_pieces : (u : UnitView) (n : ℕ) (made settles : TemplateView) → Settles u n made settles → Quiet u n → AreIdle u made.pieces
-quiet_pieces u n made settles known quiet = idle_template u n known.function made quiet.counts known.is_template quiet.are_counts quiet.none
+pub quiet_pieces : (u : UnitView) (n : ℕ) (made settles : TemplateView) → Settles u n made settles → Quiet u n → AreIdle (Quiet u) made.pieces
+quiet_pieces u n made settles known quiet = quiet_template u n known.function made quiet.counts known.is_template quiet.are_counts quiet.none

@@ -36,58 +36,60 @@ use Rattle.template_runs_settled.proofs.QuietFunctions.{Quiet, IsIdle, AreIdle, 
 use Rattle.template_runs_settled.proofs.SameActs.{with_stack, changed_in, over, same_act, same_way}
 
 module _ (u : UnitView) (made settles : ℕ → TemplateView) (known : (n : ℕ) → Reaches u n → Settles u n (made n) (settles n)) where
-  abbrev first : Templates
+  abbrev pub first : Templates
   first = templates u made
 
-  abbrev second : Templates
+  abbrev pub second : Templates
   second = templates u settles
 
   -- ---- where both stand
 
   -- what a function has left to do before and behind settling
-  record Rest (n : ℕ) (ps qs : List PieceView) : Type 0 where
-    entered : Reaches u n
-    is : Settles u n (made n) (settles n)
-    labels : ℕ
-    behind_label : Bool
-    same : qs ≡ from is.table (own is.table (made n) is.once) labels behind_label ps
-    reached : (m : ℕ) → Calls ps m → Reaches u m
+  pub record Rest (n : ℕ) (ps qs : List PieceView) : Type 0 where
+    pub entered : Reaches u n
+    pub is : Settles u n (made n) (settles n)
+    pub labels : ℕ
+    pub behind_label : Bool
+    pub same : qs ≡ from is.table (own is.table (made n) is.once) labels behind_label ps
+    pub reached : (m : ℕ) → Calls ps m → Reaches u m
 
   -- the functions that wait
-  data Waiting : List Frame → List Frame → Type 0 where
+  pub data Waiting : List Frame → List Frame → Type 0 where
     none : Waiting [] []
     one : (n : ℕ) (ps qs : List PieceView) (temps : ℕ → Option Scalar) (names : ℕ → Option ℕ) (depth : ℕ) (at : Place) (used : Bool) (fs gs : List Frame) → Rest n ps qs → Waiting fs gs
         → Waiting (record { function = n; rest = ps; temps = temps; names = names; depth = depth; at = at; used = used } ∷ fs) (record { function = n; rest = qs; temps = temps; names = names; depth = depth; at = at; used = used } ∷ gs)
 
-  abbrev stand : ℕ → List PieceView → (ℕ → Option Scalar) → (ℕ → Option ℕ) → List Frame → World → Standing
+  abbrev pub stand : ℕ → List PieceView → (ℕ → Option Scalar) → (ℕ → Option ℕ) → List Frame → World → Standing
   stand n rest temps names frames w = record { function = n; rest = rest; temps = temps; names = names; frames = frames; world = w }
 
-  abbrev world : Memory → List ℤ → List Rule → World
+  abbrev pub world : Memory → List ℤ → List Rule → World
   world memory draws violated = record { memory = memory; draws = draws; violated = violated }
 
   -- both are in the same function, and the worlds are the same, but for what the last step has violated
-  data Same : Standing → Standing → Type 0 where
+  pub data Same : Standing → Standing → Type 0 where
     same : (n : ℕ) (ps qs : List PieceView) (temps : ℕ → Option Scalar) (names : ℕ → Option ℕ) (fs gs : List Frame) (memory : Memory) (draws : List ℤ) (old new : List Rule) → Rest n ps qs → Waiting fs gs
         → Same (stand n ps temps names fs (world memory draws old)) (stand n qs temps names gs (world memory draws new))
 
   -- calls that add nothing are under way, and behind them the run stands there
-  data Within : Standing → Standing → Type 0 where
+  pub data Within : Standing → Standing → Type 0 where
     outside : (s : Standing) → Within s s
-    inside : (s base : Standing) (f : Frame) (fs : List Frame) → s.frames ≡ f ∷ fs → AreIdle u s.rest → ((m : ℕ) → Calls s.rest m → Reaches u m) → Within (back_to s f fs) base → Within s base
+    inside : (s base : Standing) (f : Frame) (fs : List Frame) → s.frames ≡ f ∷ fs → AreIdle (Quiet u) s.rest → ((m : ℕ) → Calls s.rest m → Reaches u m) → Within (back_to s f fs) base → Within s base
 
   -- both go on alike, or have stopped alike, or the first one is stuck
-  data Both : TemplateRun → TemplateRun → Type 0 where
+  pub data Both : TemplateRun → TemplateRun → Type 0 where
     both_run : (s base r : Standing) (found also : List Violation) → Within s base → Same base r → found ≡ also → Both (running s found) (running r also)
     both_stopped : (why : Why) (w : World) (violated : List Rule) (found also : List Violation) → found ≡ also → Both (stopped why w found) (stopped why (record w { violated = violated }) also)
     stuck : (w : World) (found : List Violation) (r : TemplateRun) → Both (stopped Stuck w found) r
 
-  record Next (a b : TemplateRun) : Type 0 where
-    steps : ℕ
-    both : Both a (steps_from second steps b)
+  -- one step of the second run at most
+  pub record Next (a b : TemplateRun) : Type 0 where
+    pub steps : ℕ
+    pub few : steps ≤ 1
+    pub both : Both a (steps_from second steps b)
 
   -- ---- pieces to come
 
-  later : (p : PieceView) (ps : List PieceView) (m : ℕ) → Calls ps m → Calls (p ∷ ps) m
+  pub later : (p : PieceView) (ps : List PieceView) (m : ℕ) → Calls ps m → Calls (p ∷ ps) m
   later p ps m (at, q, there, calls) = (suc at, q, there, calls)
 
   behind_calls : (l : ℕ) (ps rest : List PieceView) (m : ℕ) → behind_mark l ps ≡ Some rest → Calls rest m → Calls ps m
@@ -105,7 +107,7 @@ module _ (u : UnitView) (made settles : ℕ → TemplateView) (known : (n : ℕ)
       by true otherwise e = subst (λ xs. Calls xs m) (sym (some_same ps rest e)) calls
       by false otherwise e = otherwise e
 
-  whole : (n : ℕ) → Reaches u n → Rest n (made n).pieces (settles n).pieces
+  pub whole : (n : ℕ) → Reaches u n → Rest n (made n).pieces (settles n).pieces
   whole n r =
       let k = known n r in
       record {
@@ -243,7 +245,7 @@ module _ (u : UnitView) (made settles : ℕ → TemplateView) (known : (n : ℕ)
   same_world s _ (outside _) = refl
   same_world s base (inside _ _ f fs e idle reached w) = same_world (back_to s f fs) base w
 
-  abbrev calm : Standing → Standing
+  abbrev pub calm : Standing → Standing
   calm s = with_world s (unviolated s.world)
 
   calm_within : (s base : Standing) → Within s base → Within (calm s) (calm base)
@@ -264,7 +266,7 @@ module _ (u : UnitView) (made settles : ℕ → TemplateView) (known : (n : ℕ)
   still : (found also : List Violation) → found ≡ also → found ++ [] ≡ also
   still found also e = append-nil found ∙ e
 
-  inside_turn : (s base r : Standing) (f : Frame) (fs : List Frame) (found also : List Violation) (rest : List PieceView) → s.frames ≡ f ∷ fs → AreIdle u rest → ((m : ℕ) → Calls rest m → Reaches u m) → Within (back_to s f fs) base → Same base r → found ≡ also
+  inside_turn : (s base r : Standing) (f : Frame) (fs : List Frame) (found also : List Violation) (rest : List PieceView) → s.frames ≡ f ∷ fs → AreIdle (Quiet u) rest → ((m : ℕ) → Calls rest m → Reaches u m) → Within (back_to s f fs) base → Same base r → found ≡ also
       → Both (runs.stepped_on found (runs.step_by first (calm s) rest)) (running r also)
   inside_turn s base r f fs found also [] e idle reached w same_ equal =
       subst (λ frames. Both (runs.stepped_on found (runs.return_to (calm s) frames)) (running r also)) (sym e)
@@ -289,10 +291,10 @@ module _ (u : UnitView) (made settles : ℕ → TemplateView) (known : (n : ℕ)
     After qs gs a steps = Both a (steps_from second steps (running (stand n qs temps names gs (world memory draws new)) also))
 
     one_step : (qs xs : List PieceView) (gs : List Frame) (a : TemplateRun) → qs ≡ xs → After xs gs a 1 → Next a (running (stand n qs temps names gs (world memory draws new)) also)
-    one_step qs xs gs a e both = record { steps = 1; both = subst (λ ys. After ys gs a 1) (sym e) both }
+    one_step qs xs gs a e both = record { steps = 1; few = omega arith; both = subst (λ ys. After ys gs a 1) (sym e) both }
 
     no_step : (qs xs : List PieceView) (gs : List Frame) (a : TemplateRun) → qs ≡ xs → After xs gs a 0 → Next a (running (stand n qs temps names gs (world memory draws new)) also)
-    no_step qs xs gs a e both = record { steps = 0; both = subst (λ ys. After ys gs a 0) (sym e) both }
+    no_step qs xs gs a e both = record { steps = 0; few = omega arith; both = subst (λ ys. After ys gs a 0) (sym e) both }
 
     abbrev of_first : List PieceView → List Frame → TemplateRun
     of_first ps fs = runs.stepped_on found (runs.step_by first (stand n ps temps names fs calmed) ps)
@@ -346,15 +348,26 @@ module _ (u : UnitView) (made settles : ℕ → TemplateView) (known : (n : ℕ)
             (both_run _ _ _ _ _ (begins (stand n ps temps names fs calmed) _ c (silent_is_quiet u r.is.table c.function r.is.are_counts e) there (outside _)) (same n ps _ temps names fs gs memory draws [] new (next_rest (Call c) ps qs r r.labels r.behind_label) waits) (still found also equal))
         by false e = one_step qs _ gs _ (r.same ∙ ap (λ b. cond b (from r.is.table (own r.is.table (made n) r.is.once) r.labels r.behind_label ps) (Call c ∷ from r.is.table (own r.is.table (made n) r.is.once) r.labels false ps)) e) (called c ps _ fs gs there (next_rest (Call c) ps qs r r.labels false) waits)
 
-  step_both : (a b : TemplateRun) → Both a b → Next (next first a) b
+  pub step_both : (a b : TemplateRun) → Both a b → Next (next first a) b
   step_both _ _ (both_run s _ r found also (outside _) (same n ps qs temps names fs gs memory draws old new rest waits) equal) = turn n temps names memory draws old new found also equal ps qs fs gs rest waits
-  step_both _ _ (both_run s base r found also (inside _ _ f fs e idle reached w) same_ equal) = record { steps = 0; both = inside_turn s base r f fs found also s.rest e idle reached w same_ equal }
-  step_both _ _ (both_stopped why w violated found also equal) = record { steps = 0; both = both_stopped why w violated found also equal }
-  step_both _ _ (stuck w found r) = record { steps = 0; both = stuck w found r }
+  step_both _ _ (both_run s base r found also (inside _ _ f fs e idle reached w) same_ equal) = record { steps = 0; few = omega arith; both = inside_turn s base r f fs found also s.rest e idle reached w same_ equal }
+  step_both _ _ (both_stopped why w violated found also equal) = record { steps = 0; few = omega arith; both = both_stopped why w violated found also equal }
+  step_both _ _ (stuck w found r) = record { steps = 0; few = omega arith; both = stuck w found r }
+
+  -- both go on
+  pub data Live : TemplateRun → TemplateRun → Type 0 where
+    live : (s base r : Standing) (found also : List Violation) → Within s base → Same base r → Live (running s found) (running r also)
+
+  -- the second run goes on only from where both do
+  pub alive : (a b : TemplateRun) (both : Both a b) → (step_both a b both).steps ≡ 1 → Live a b
+  unfolding step_both
+  alive _ _ (both_run s base r found also w same_ equal) e = live s base r found also w same_
+  alive _ _ (both_stopped why w violated found also equal) e = absurd (omega (arith, e))
+  alive _ _ (stuck w found r) e = absurd (omega (arith, e))
 
   -- ---- runs
 
-  steps_on : (m k : ℕ) (r : TemplateRun) → steps_from second k (steps_from second m r) ≡ steps_from second (m + k) r
+  pub steps_on : (m k : ℕ) (r : TemplateRun) → steps_from second k (steps_from second m r) ≡ steps_from second (m + k) r
   steps_on zero k r = ap (λ j. steps_from second j r) (is k)
     where
       is : (k : ℕ) → k ≡ 0 + k
@@ -371,14 +384,14 @@ module _ (u : UnitView) (made settles : ℕ → TemplateView) (known : (n : ℕ)
       let (m, rest) = all_steps n (next first a) (steps_from second x.steps b) x.both in
       (x.steps + m, subst (λ r. Both (steps_from first n (next first a)) r) (steps_on x.steps m b) rest)
 
-  agreed : (a b : TemplateRun) → Both a b → AgreeUnlessStuck a b
+  pub agreed : (a b : TemplateRun) → Both a b → AgreeUnlessStuck a b
   agreed _ _ (both_run s _ r found also w (same n ps qs temps names fs gs memory draws old new rest waits) equal) =
       let e = same_world s _ w in
       inr (record { memory = ap (λ (v : World). v.memory) e; draws = ap (λ (v : World). v.draws) e; found = equal; why = refl })
   agreed _ _ (both_stopped why w violated found also equal) = inr (record { memory = refl; draws = refl; found = equal; why = refl })
   agreed _ _ (stuck w found r) = inl refl
 
-  first_both : (draws : List ℤ) → Both (template_begin first draws) (template_begin second draws)
+  pub first_both : (draws : List ℤ) → Both (template_begin first draws) (template_begin second draws)
   first_both draws = by (start_world u draws)
     where
       by : (x : Reply (Unit {0})) → Both (runs.begun_by first x) (runs.begun_by second x)

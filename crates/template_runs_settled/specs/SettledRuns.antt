@@ -1,5 +1,5 @@
 -- Runs over the templates of a unit as they are made, and over its settled ones.
-use Rattle.std.specs.Prelude.{◌≡◌, ◌≤◌, ◌⊎◌, ℕ, ℤ, true, List, Option, Some}
+use Rattle.std.specs.Prelude.{◌≡◌, ◌≤◌, ◌<◌, ◌⊎◌, ℕ, ℤ, true, List, [], ◌∷◌, Option, Some, None}
 use Rattle.c_layout.specs.CheckedUnits.{FunctionView, UnitView}
 use Rattle.lib_models_effects.specs.Worlds.{Stuck}
 use Rattle.flow_lower_tasks.specs.Pieces.{TemplateView}
@@ -7,7 +7,7 @@ use Rattle.flow_lower_counts.specs.declared.function_counts.FunctionCounts.{Func
 use Rattle.flow_lower_counts.specs.Preparations.{IsTemplateOf, Reaches, are_counted, AreCounts}
 use Rattle.flow_lower_counts.specs.SettledTemplates.{settled}
 use Rattle.flow_lower_debts.specs.Marks.{below, all_marked}
-use Rattle.template_runs.specs.TemplateStates.{Templates, TemplateRun, world_of, found_in, why_of}
+use Rattle.template_runs.specs.TemplateStates.{Templates, Frame, TemplateRun, running, world_of, found_in, why_of}
 use Rattle.template_runs.specs.TemplateSteps.{template_begin, steps_from}
 
 -- each label is marked at most once, and only where the template has a label of that number
@@ -43,3 +43,27 @@ AgreeUnlessStuck a b = (why_of a ≡ Some Stuck) ⊎ Agree a b
 -- each run over the templates as they are made is one over the settled ones
 abbrev pub SettledRunsAreTheSame : Type 0
 SettledRunsAreTheSame = (u : UnitView) (made settles : ℕ → TemplateView) → ((n : ℕ) → Reaches u n → Settles u n (made n) (settles n)) → (draws : List ℤ) (n : ℕ) → (m : ℕ) × AgreeUnlessStuck (steps_from (templates u made) n (template_begin (templates u made) draws)) (steps_from (templates u settles) m (template_begin (templates u settles) draws))
+
+-- something holds of the names of a called function that is about to return
+abbrev pub AtReturn : ((ℕ → Option ℕ) → Type 0) → List Frame → (ℕ → Option ℕ) → Type 0
+AtReturn Q [] names = Unit {0}
+AtReturn Q (f ∷ fs) names = Q names
+
+abbrev pub ReturnsWith : ((ℕ → Option ℕ) → Type 0) → TemplateRun → Type 0
+ReturnsWith Q (running s found) = s.rest ≡ [] → AtReturn Q s.frames s.names
+ReturnsWith Q r = Unit {0}
+
+-- a run and one over settled templates, whose functions return with what those of the first one return with
+pub record Follows (Q : (ℕ → Option ℕ) → Type 0) (a : TemplateRun) (t : Templates) (b : TemplateRun) : Type 0 where
+  pub steps : ℕ
+  pub agree : AgreeUnlessStuck a (steps_from t steps b)
+  pub returns : (j : ℕ) → j < steps → ReturnsWith Q (steps_from t j b)
+
+-- no object is named
+abbrev pub NamesNothing : (ℕ → Option ℕ) → Type 0
+NamesNothing names = (slot : ℕ) → names slot ≡ None
+
+-- where called functions leave what they enter in the runs over templates as they are made, they do so over settled ones
+abbrev pub SettledRunsReturnAlike : Type 0
+SettledRunsReturnAlike = (u : UnitView) (made settles : ℕ → TemplateView) → ((n : ℕ) → Reaches u n → Settles u n (made n) (settles n)) → (draws : List ℤ) → ((n : ℕ) → ReturnsWith NamesNothing (steps_from (templates u made) n (template_begin (templates u made) draws)))
+    → (n : ℕ) → Follows NamesNothing (steps_from (templates u made) n (template_begin (templates u made) draws)) (templates u settles) (template_begin (templates u settles) draws)
