@@ -57,9 +57,9 @@ pub fn union_of(a: LabelSet, b: LabelSet) -> LabelSet
     ensures { labels_view result ≡ labels_join (labels_view a) (labels_view b) }
 {
     LabelSet {
-        low: a.low || b.low,
-        high: a.high || b.high,
-        changed: a.changed || b.changed,
+        low: b.low || a.low,
+        high: b.high || a.high,
+        changed: b.changed || a.changed,
     }
 }
 
