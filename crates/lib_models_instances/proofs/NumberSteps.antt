@@ -19,9 +19,9 @@ bytes_bits (suc k) =
     let p : 256 ^ suc k ≡ 256 * 256 ^ k = grind arith in
     p ∙ ap (λ n. 256 * n) (bytes_bits k) ∙ sym (ap (λ n. 2 ^ n) e ∙ pow-add 2 8 (8 * k))
 
-pub below_word : (n k : ℕ) → n < 256 ^ k → k ≤ 8 → n < 2 ^ 64
-below_word n k h le =
-    let most : 256 ^ k ≤ 256 ^ 8 = pow-le-pow_right {n = 256} (omega arith) le in
+pub below_byte : (n k : ℕ) → n < 256 ^ k → k ≤ 7 → n < 2 ^ 56
+below_byte n k h le =
+    let most : 256 ^ k ≤ 256 ^ 7 = pow-le-pow_right {n = 256} (omega arith) le in
     omega (arith, most)
 
 -- ---- as an integer

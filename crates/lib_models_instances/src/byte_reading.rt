@@ -15,7 +15,7 @@ use c_layout::{Class, Model};
 /// The unsigned number that bytes are, and the union of their labels.
 #[derive(Clone, Copy)]
 pub(crate) struct UnsignedNumber {
-    pub(crate) number: u128,
+    pub(crate) number: u64,
     pub(crate) labels: LabelSet,
 }
 
@@ -57,9 +57,9 @@ pub fn union_of(a: LabelSet, b: LabelSet) -> LabelSet
     ensures { labels_view result ≡ labels_join (labels_view a) (labels_view b) }
 {
     LabelSet {
-        low: a.low || b.low,
-        high: a.high || b.high,
-        changed: a.changed || b.changed,
+        low: b.low || a.low,
+        high: b.high || a.high,
+        changed: b.changed || a.changed,
     }
 }
 
@@ -84,7 +84,7 @@ fn digits(bytes: &[Byte7]) -> Option<UnsignedNumber>
     };
     let above = digits(rest)?;
     Some(UnsignedNumber {
-        number: u128::from(n) + 256 * above.number,
+        number: u64::from(n) + 256 * above.number,
         labels: union_of(labels, above.labels),
     })
 }
@@ -122,7 +122,7 @@ fn integer_from(signed: bool, bytes: &[Byte7]) -> Option<Value7>
     ensures { (size rank : ℕ) → option_map scalar_view result ≡ machine.integer_in (record { bytes = size; signed = signed; rank = rank }) (machine.numbers_in (contents (bytes_view bytes.now))) }
 {
     let found = digits(bytes)?;
-    let number = number_value(signed, 8 * bytes.len() as u8, found.number);
+    let number = number_value(signed, 8 * bytes.len() as u8, u128::from(found.number));
     Some(Value7::Int(number, found.labels))
 }
 

@@ -47,6 +47,7 @@ pub fn no_outcome(stop: StartStop) -> Result<End, ReplayStop>
 }
 
 // The place of a step; where there is none, the violations of a turn are told at no place.
+#[inline(always)]
 fn place_of(counted: Option<Place>) -> Place
     ensures { result ≡ at_place counted }
 {
@@ -61,6 +62,7 @@ fn place_of(counted: Option<Place>) -> Place
 }
 
 // The violations of a turn.
+#[inline(always)]
 fn note(found: &mut Vec<Diag>, w: &World7, counted: Option<Place>) -> Result<(), StartStop>
     ensures noted { IfOk result (λ _. map violation_of found.new.items ≡ map violation_of found.old.items ++ violations counted (world_view w.now)) }
     ensures memory { IfErr result (λ why. why ≡ stop.Memory) }
@@ -76,6 +78,7 @@ fn note(found: &mut Vec<Diag>, w: &World7, counted: Option<Place>) -> Result<(),
 }
 
 // Whether the turn that was made is a step, and whether the run goes on.
+#[inline(always)]
 fn told(turned: Turned7) -> Result<bool, StartStop>
     ensures { result ≡ told_of turned.reply turned.counted }
 {
@@ -86,6 +89,7 @@ fn told(turned: Turned7) -> Result<bool, StartStop>
 }
 
 // One turn more; whether it is a step. No more bytes are made than there may be.
+#[inline(always)]
 fn go_on<'a>(
     m: &mut Machine<'a>,
     unit: &'a Checked,

@@ -1,5 +1,5 @@
 -- What the parts of items of a program are to the machine.
-use Rattle.std.specs.Prelude.{ℕ, suc, Bool, ◌-◌, pos, true, false, List, [], ◌∷◌, Option, Some, None}
+use Rattle.std.specs.Prelude.{ℕ, suc, ◌-◌, pos, true, false, List, [], ◌∷◌, Option, Some, None}
 use Rattle.std.specs.Borrow.{Bor}
 use Rattle.cc_base.specs.declared.diagnostics.Place.{Place}
 use Rattle.c_layout.specs.Types.{Ty, view}

@@ -1,5 +1,4 @@
 -- Tests of a program, as those of the machine.
-use Rattle.flow_lower_conditions.specs.declared.branch_tests.NamedObject.{NamedObject}
 use Rattle.ref_machine.specs.Items as machine
 use Rattle.ref_machine.specs.Items.{NamedSide, NamedTest}
 use Rattle.replay_run_items.specs.declared.named_tests.NamedSide7.{NamedSide7}

@@ -13,12 +13,26 @@ use cc_base::Place;
 use flow_lower_tasks::scalar;
 use std::alloc::AllocError;
 
-/// An item.
-pub fn push_item<'a>(control: &mut Vec<Item7<'a>>, item: Item7<'a>) -> Result<(), AllocError>
+// An item behind a list that is full.
+#[cold]
+#[inline(never)]
+fn push_grown<'a>(control: &mut Vec<Item7<'a>>, item: Item7<'a>) -> Result<(), AllocError>
     ensures { (u : UnitView) → Stacks u (λ s. on_item u item.entry s) control.old.items result control.new.items }
 {
     control.push(item)?;
     Ok(())
+}
+
+/// An item.
+#[inline(always)]
+pub fn push_item<'a>(control: &mut Vec<Item7<'a>>, item: Item7<'a>) -> Result<(), AllocError>
+    ensures { (u : UnitView) → Stacks u (λ s. on_item u item.entry s) control.old.items result control.new.items }
+{
+    if control.len() < control.capacity() {
+        control.push_reserved(item);
+        return Ok(());
+    }
+    push_grown(control, item)
 }
 
 /// The items that store a scalar behind the pointer to where it is stored.

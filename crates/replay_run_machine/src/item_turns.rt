@@ -35,6 +35,7 @@ pub struct Turned7 {
 }
 
 /// A turn that is no step.
+#[inline(always)]
 pub fn quiet(reply: Result<(), Halt>) -> Turned7
     ensures { result ≡ record { reply = reply; counted = None } }
 {
@@ -45,6 +46,7 @@ pub fn quiet(reply: Result<(), Halt>) -> Turned7
 }
 
 /// A step at a place.
+#[inline(always)]
 pub fn step(at: Place, reply: Result<(), Halt>) -> Turned7
     ensures { result ≡ record { reply = reply; counted = Some at } }
 {
@@ -55,6 +57,7 @@ pub fn step(at: Place, reply: Result<(), Halt>) -> Turned7
 }
 
 /// What a list has taken in, or want of memory.
+#[inline(always)]
 pub fn held(pushed: Result<(), AllocError>) -> Result<(), Halt>
     ensures { HeldAs pushed result }
 {

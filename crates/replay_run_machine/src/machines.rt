@@ -67,6 +67,7 @@ fn is_silent(item: &Item7) -> bool
 }
 
 /// Takes the next item, where there is one.
+#[inline(always)]
 pub fn next_item<'a>(control: &mut Vec<Item7<'a>>) -> Option<Item7<'a>>
     ensures { (u : UnitView) → (standing u control.old.items).items ≡ items_with u result (standing u control.new.items) }
 {

@@ -38,6 +38,7 @@ fn pointer_into(inst: u32, offset: u64, size: u64) -> Value7
 }
 
 /// A pointer to a byte of an object, into the whole of it.
+#[inline(always)]
 pub fn point_to(m: &mut Machine, unit: &Checked, object: ObjectRef, offset: u64) -> Result<(), Halt>
     ensures { Moves (unit_view unit.now) (machine.point_to (unit_view unit.now) (state_view (unit_view unit.now) m.old) object offset) result m.new }
 {

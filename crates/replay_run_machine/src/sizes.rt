@@ -160,6 +160,7 @@ fn called_bytes(
 }
 
 /// How many bytes the instance has that the next turn makes; 0 where it makes none.
+#[inline(always)]
 pub fn asked_bytes(m: &Machine, unit: &Checked, item: Option<Item7>) -> Result<u128, Halt>
     requires { is_model unit.now.model ≡ true }
     ensures memory { IfErr result (λ h. h ≡ halt.Memory) }

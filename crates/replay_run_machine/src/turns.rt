@@ -40,6 +40,7 @@ fn instead(pushed: Result<(), AllocError>) -> Turned7
 }
 
 // What an item of a term does.
+#[inline(always)]
 fn act<'a>(m: &mut Machine<'a>, unit: &'a Checked, item: Item7<'a>) -> Turned7
     requires { is_model unit.now.model ≡ true }
     ensures { TurnsTo (unit_view unit.now) (turn_of (unit_view unit.now) item.entry m.old) result m.new }
@@ -62,6 +63,7 @@ fn act<'a>(m: &mut Machine<'a>, unit: &'a Checked, item: Item7<'a>) -> Turned7
 }
 
 // What an item of an object does.
+#[inline(always)]
 fn act_on_object<'a>(m: &mut Machine<'a>, unit: &'a Checked, item: Item7<'a>) -> Turned7
     requires { is_model unit.now.model ≡ true }
     ensures { TurnsTo (unit_view unit.now) (turn_of (unit_view unit.now) item.entry m.old) result m.new }
@@ -95,6 +97,7 @@ fn do_turn<'a>(m: &mut Machine<'a>, unit: &Checked, statement: &'a CheckedStatem
 }
 
 // What an item of a statement does.
+#[inline(always)]
 fn act_on_statement<'a>(m: &mut Machine<'a>, unit: &'a Checked, item: Item7<'a>) -> Turned7
     ensures { TurnsTo (unit_view unit.now) (turn_of (unit_view unit.now) item.entry m.old) result m.new }
 {
@@ -115,6 +118,7 @@ fn act_on_statement<'a>(m: &mut Machine<'a>, unit: &'a Checked, item: Item7<'a>)
 }
 
 // What an item does that goes somewhere else.
+#[inline(always)]
 fn act_by_jump<'a>(m: &mut Machine<'a>, unit: &'a Checked, item: Item7<'a>) -> Turned7
     ensures { TurnsTo (unit_view unit.now) (turn_of (unit_view unit.now) item.entry m.old) result m.new }
 {
@@ -156,6 +160,7 @@ fn return_to(m: &mut Machine, unit: &Checked) -> Turned7
 }
 
 /// A turn with the item that comes next, or with none. It begins with no violation of its own.
+#[inline(always)]
 pub fn turn<'a>(m: &mut Machine<'a>, unit: &'a Checked, item: Option<Item7<'a>>) -> Turned7
     requires { is_model unit.now.model ≡ true }
     ensures { TurnsTo (unit_view unit.now) (machine.turn (unit_view unit.now) (state_with (unit_view unit.now) item.entry m.old)) result m.new }

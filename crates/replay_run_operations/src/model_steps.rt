@@ -17,6 +17,7 @@ use lib_models_replay_memory::copy_struct;
 use lib_models_replay_starts::layout_of;
 
 /// The scalar of a type to which a pointer points.
+#[inline(always)]
 pub fn load_from(w: &mut World7, unit: &Checked, kind: Scalar, at: Value7) -> Result<Value7, Halt>
     ensures { ComesTo scalar_view (accesses.load (unit_view unit.now).model kind (scalar_view at) (world_view w.old)) result (world_view w.new) }
 {
@@ -27,6 +28,7 @@ pub fn load_from(w: &mut World7, unit: &Checked, kind: Scalar, at: Value7) -> Re
 }
 
 /// Stores a scalar of a type where a pointer points to.
+#[inline(always)]
 pub fn store_to(
     w: &mut World7,
     unit: &Checked,

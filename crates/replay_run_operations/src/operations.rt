@@ -31,6 +31,7 @@ fn plain_one() -> Value7
 
 // ---- operations of one value
 
+#[inline(always)]
 fn one(
     w: &mut World7,
     unit: &Checked,
@@ -51,6 +52,7 @@ fn one(
     }
 }
 
+#[inline(always)]
 fn operate_one(
     values: &mut Vec<Value7>,
     w: &mut World7,
@@ -66,6 +68,7 @@ fn operate_one(
 
 // ---- operations of two values
 
+#[inline(always)]
 fn two(
     w: &mut World7,
     unit: &Checked,
@@ -87,6 +90,7 @@ fn two(
     }
 }
 
+#[inline(always)]
 fn order_in(operation: Operation7) -> Order7
     ensures { order_view result ≡ order_of (operation_view operation.entry) }
 {
@@ -97,6 +101,7 @@ fn order_in(operation: Operation7) -> Order7
     }
 }
 
+#[inline(always)]
 fn operate_two(
     values: &mut Vec<Value7>,
     w: &mut World7,
@@ -113,6 +118,7 @@ fn operate_two(
 
 // ---- operations that leave a pointer
 
+#[inline(always)]
 fn load_over(
     values: &mut Vec<Value7>,
     w: &mut World7,
@@ -127,6 +133,7 @@ fn load_over(
     push_given(values, given)
 }
 
+#[inline(always)]
 fn load_under(
     values: &mut Vec<Value7>,
     w: &mut World7,
@@ -143,6 +150,7 @@ fn load_under(
     push_given(values, given)
 }
 
+#[inline(always)]
 fn store_over(
     values: &mut Vec<Value7>,
     w: &mut World7,
@@ -161,6 +169,7 @@ fn store_over(
 // ---- all operations
 
 /// Performs an operation on the newest values.
+#[inline(always)]
 pub fn perform(
     values: &mut Vec<Value7>,
     w: &mut World7,
@@ -191,7 +200,10 @@ pub fn perform(
         Operation7::ComparePointers(_) => operate_two(values, w, unit, operation),
         Operation7::Convert(_) => operate_one(values, w, unit, operation),
         Operation7::Library(function, count, target) => {
-            call_library(values, w, unit, function, count, target)
+            match call_library(values, w, unit, function, count, target) {
+                Ok(()) => Ok(()),
+                Err(halt) => Err(halt),
+            }
         }
     }
 }

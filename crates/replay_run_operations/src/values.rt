@@ -15,19 +15,36 @@ ghost use Rattle.replay_run_operations.specs.Pending.{pending, Operates};
 use lib_models_instances::Value7;
 use lib_models_replay::{Cause, Halt};
 use replay_run_items::Order7;
+use std::alloc::AllocError;
+
+// A value behind a list that is full.
+#[cold]
+#[inline(never)]
+fn push_grown(values: &mut Vec<Value7>, value: Value7) -> Result<(), AllocError>
+    ensures { IfOk result (λ _. pending values.new.items ≡ scalar_view value ∷ pending values.old.items) }
+{
+    values.push(value)?;
+    Ok(())
+}
 
 /// A value is the newest one.
+#[inline(always)]
 pub fn push_value(values: &mut Vec<Value7>, value: Value7) -> Result<(), Halt>
     ensures pushed { IfOk result (λ _. pending values.new.items ≡ scalar_view value ∷ pending values.old.items) }
     ensures memory { IfErr result (λ h. h ≡ halt.Memory) }
 {
-    match values.push(value) {
+    if values.len() < values.capacity() {
+        values.push_reserved(value);
+        return Ok(());
+    }
+    match push_grown(values, value) {
         Ok(()) => Ok(()),
         Err(_) => Err(Halt::Memory),
     }
 }
 
 /// Takes the newest value, without which a run is stuck.
+#[inline(always)]
 pub fn pop_value(values: &mut Vec<Value7>) -> Result<Value7, Halt>
     ensures { MatchResult result (λ value. pending values.old.items ≡ scalar_view value ∷ pending values.new.items) (λ h. (h ≡ halt.Stops cause.Stuck) × (pending values.old.items ≡ [])) }
 {
@@ -44,6 +61,7 @@ pub struct Operands {
     pub right: Value7,
 }
 
+#[inline(always)]
 fn in_order(order: Order7, below: Value7, newest: Value7) -> Operands
     ensures { (vs : List Scalar) → scalar_view newest ∷ (scalar_view below ∷ vs) ≡ two_above (order_view order) (scalar_view result.left) (scalar_view result.right) vs }
 {
@@ -60,6 +78,7 @@ fn in_order(order: Order7, below: Value7, newest: Value7) -> Operands
 }
 
 /// Takes the two newest values, without which a run is stuck.
+#[inline(always)]
 pub fn pop_two(values: &mut Vec<Value7>, order: Order7) -> Result<Operands, Halt>
     ensures { MatchResult result (λ both. pending values.old.items ≡ two_above (order_view order) (scalar_view both.left) (scalar_view both.right) (pending values.new.items)) (λ h. (h ≡ halt.Stops cause.Stuck) × (length (pending values.old.items) < 2)) }
 {
@@ -69,6 +88,7 @@ pub fn pop_two(values: &mut Vec<Value7>, order: Order7) -> Result<Operands, Halt
 }
 
 /// What an operation gives is the newest value.
+#[inline(always)]
 pub fn push_given(values: &mut Vec<Value7>, given: Result<Value7, Halt>) -> Result<(), Halt>
     ensures { (reply : Reply Scalar) (w : World) → ComesTo scalar_view reply given w → Operates (pushing (pending values.old.items) reply) result values.new.items w }
 {

@@ -1,7 +1,8 @@
-use Rattle.std.proofs.Common.{◌<◌, length, sym, ◌∙◌, subst, rules, SFits}
+use Rattle.std.proofs.Common.{◌<◌, ◌^◌, ◌*◌, pos, cond, length, sym, ap, ◌∙◌, subst, rules, SFits}
 use Rattle.std.specs.Int.{w128}
 use Rattle.std.proofs.lemmas.Int.{to_z-of_z}
 use Rattle.std.proofs.lemmas.List.{length-map}
+use Rattle.lib_models_memory.specs.Numbers.{signed_of}
 use Rattle.lib_models_effects.specs.ScalarBytes.{contents}
 use Rattle.lib_models_instances.specs.ByteViews.{labels_view, byte_view, bytes_view}
 use Rattle.lib_models_instances.proofs.NumberSteps.{bytes_bits, integer_found}
@@ -9,7 +10,8 @@ use Rattle.lib_models_instances.proofs.byte_reading.integer_from.Goals as goal
 
 pub number_value-number-requires-clause-small : goal.number_value-number-requires-clause-small
 number_value-number-requires-clause-small c =
-    subst (λ n. c.in_ok-found.found.number < n) (bytes_bits (length c.args.bytes.now)) c.in_ok-found.ensures.small
+    subst (λ m. m < 2 ^ (8 * length c.args.bytes.now)) (sym c.from.ensures)
+    (subst (λ n. c.in_ok-found.found.number < n) (bytes_bits (length c.args.bytes.now)) c.in_ok-found.ensures.small)
 
 pub returns : goal.returns
 returns c = λ size rank.
@@ -17,4 +19,6 @@ returns c = λ size rank.
     integer_found size rank c.args.signed (contents (bytes_view c.args.bytes.now)) (length c.args.bytes.now) c.in_ok-found.found.number (labels_view c.in_ok-found.found.labels) _
     (sym (length-map (bytes_view c.args.bytes.now) (λ b. b.content) ∙ length-map c.args.bytes.now byte_view))
     c.in_ok-found.ensures.value
-    (to_z-of_z w128 c.number_value-number.result fits ∙ c.number_value-number.ensures)
+    (to_z-of_z w128 c.number_value-number.result fits
+    ∙ c.number_value-number.ensures
+    ∙ ap (λ m. cond c.args.signed (signed_of (8 * length c.args.bytes.now) m) (pos m)) c.from.ensures)

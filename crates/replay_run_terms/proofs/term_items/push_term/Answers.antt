@@ -1,51 +1,31 @@
-use Rattle.std.proofs.Common.{rules, ◌≡◌, ap, sym, ◌∙◌}
+use Rattle.std.proofs.Common.{rules, ◌≡◌, List, map, ap, sym, ◌∙◌}
+use Rattle.std.specs.Option.{option_map}
 use Rattle.c_layout.specs.Types.{view}
 use Rattle.c_layout.specs.CheckedTrees as tree
-use Rattle.c_layout.specs.CheckedTrees.{TermTree, Typed, term_tree, lvalue_tree}
+use Rattle.c_layout.specs.CheckedTrees.{TermTree, Typed, term_tree, term_trees}
 use Rattle.c_layout.specs.CheckedUnits.{unit_view}
 use Rattle.c_layout.specs.declared.checked_tree.checked_terms.CheckedTerm as of_term
+use Rattle.c_layout.specs.declared.checked_tree.checked_terms.CheckedTerm.{CheckedTerm}
 use Rattle.c_layout.specs.declared.checked_tree.checked_terms.TermForm as of_form
-use Rattle.cc_base.specs.declared.int_types.IntType.{IntType}
-use Rattle.flow_lower_expressions.specs.Assignments.{keeps_old}
-use Rattle.ref_machine.specs.TermItems.{if_used, step}
 use Rattle.ref_machine.specs.ConditionItems.{term_items}
 use Rattle.replay_run_items.specs.Standings.{Standing, with_items, standing}
 use Rattle.replay_run_items.proofs.Sequels.{goes_on}
 use Rattle.replay_run_terms.proofs.term_items.push_term.Goals as goal
 
-pub returns-in-Discard : goal.returns-in-Discard
-returns-in-Discard c =
+pub returns-in-Call : goal.returns-in-Call
+returns-in-Call c =
     let u = unit_view c.args.unit.now in
     let s = standing u c.args.control.now.items in
     let whole : TermTree → Standing = λ e. with_items (term_items u c.args.used e) s in
-    let seen = Typed c.args.term.now.place (view c.args.term.now.ctype) c.args.term.now.parens c.args.term.now.constant (tree.Discard (term_tree c.deref-in-Discard.result.now)) in
-    let is : term_tree c.args.term.now ≡ seen = search (rules, of_term.the_lemmas, of_form.the_lemmas) in
-    goes_on c.push_item.result (standing u c.push_item.new.control.items) (whole seen) (whole (term_tree c.args.term.now)) (ap whole (sym is)) (c.push_item.ensures u)
+    let seen : List CheckedTerm → TermTree = λ es. Typed c.args.term.now.place (view c.args.term.now.ctype) c.args.term.now.parens c.args.term.now.constant (tree.Call c.in-Call.function (term_trees (map term_tree es)) c.in-Call.is_used) in
+    let is : term_tree c.args.term.now ≡ seen c.in-Call.arguments.items = search (rules, of_term.the_lemmas, of_form.the_lemmas) in
+    goes_on c.push_call.result (standing u c.push_call.new.control.items) (whole (seen c.as_slice-in-Call.result.now)) (whole (term_tree c.args.term.now)) (ap (λ es. whole (seen es)) c.as_slice-in-Call.ensures ∙ ap whole (sym is)) (c.push_call.ensures u)
 
-pub returns-in-Conditional : goal.returns-in-Conditional
-returns-in-Conditional c =
+pub returns-in-Library : goal.returns-in-Library
+returns-in-Library c =
     let u = unit_view c.args.unit.now in
     let s = standing u c.args.control.now.items in
     let whole : TermTree → Standing = λ e. with_items (term_items u c.args.used e) s in
-    let seen = Typed c.args.term.now.place (view c.args.term.now.ctype) c.args.term.now.parens c.args.term.now.constant (tree.Conditional (term_tree c.deref-in-Conditional.result.now) (term_tree c.deref-in-Conditional-2.result.now) (term_tree c.deref-in-Conditional-3.result.now)) in
-    let is : term_tree c.args.term.now ≡ seen = search (rules, of_term.the_lemmas, of_form.the_lemmas) in
-    goes_on c.push_conditional.result (standing u c.push_conditional.new.control.items) (whole seen) (whole (term_tree c.args.term.now)) (ap whole (sym is)) (c.push_conditional.ensures u)
-
-pub returns-in-Comma : goal.returns-in-Comma
-returns-in-Comma c =
-    let u = unit_view c.args.unit.now in
-    let s = standing u c.args.control.now.items in
-    let whole : TermTree → Standing = λ e. with_items (term_items u c.args.used e) s in
-    let seen = Typed c.args.term.now.place (view c.args.term.now.ctype) c.args.term.now.parens c.args.term.now.constant (tree.Comma (term_tree c.deref-in-Comma.result.now) (term_tree c.deref-in-Comma-2.result.now)) in
-    let is : term_tree c.args.term.now ≡ seen = search (rules, of_term.the_lemmas, of_form.the_lemmas) in
-    goes_on c.push_comma.result (standing u c.push_comma.new.control.items) (whole seen) (whole (term_tree c.args.term.now)) (ap whole (sym is)) (c.push_comma.ensures u)
-
-pub returns-in-Step : goal.returns-in-Step
-returns-in-Step c =
-    let u = unit_view c.args.unit.now in
-    let s = standing u c.args.control.now.items in
-    let whole : TermTree → Standing = λ e. with_items (term_items u c.args.used e) s in
-    let seen = Typed c.args.term.now.place (view c.args.term.now.ctype) c.args.term.now.parens c.args.term.now.constant (tree.Step c.in-Step.op c.in-Step.time (view c.in-Step.kind) (lvalue_tree c.deref-in-Step.result.now)) in
-    let is : term_tree c.args.term.now ≡ seen = search (rules, of_term.the_lemmas, of_form.the_lemmas) in
-    let stepped : IntType → Standing = λ kind. with_items (if_used c.args.used (step c.args.term.now.place c.in-Step.op kind (lvalue_tree c.deref-in-Step.result.now) (keeps_old c.in-Step.time c.args.used))) s in
-    goes_on c.push_step.result (standing u c.push_step.new.control.items) (stepped c.integer_type-in-Step.result) (whole (term_tree c.args.term.now)) (ap stepped c.integer_type-in-Step.ensures ∙ ap whole (sym is)) (c.push_step.ensures u)
+    let seen : List CheckedTerm → TermTree = λ es. Typed c.args.term.now.place (view c.args.term.now.ctype) c.args.term.now.parens c.args.term.now.constant (tree.Library c.in-Library.function (term_trees (map term_tree es)) (option_map view c.in-Library.allocated)) in
+    let is : term_tree c.args.term.now ≡ seen c.in-Library.arguments.items = search (rules, of_term.the_lemmas, of_form.the_lemmas) in
+    goes_on c.push_library.result (standing u c.push_library.new.control.items) (whole (seen c.as_slice-in-Library.result.now)) (whole (term_tree c.args.term.now)) (ap (λ es. whole (seen es)) c.as_slice-in-Library.ensures ∙ ap whole (sym is)) (c.push_library.ensures u)
