@@ -19,7 +19,7 @@ returns-in-Call c =
     let whole : TermTree → Standing = λ e. with_items (term_items u c.args.used e) s in
     let seen : List CheckedTerm → TermTree = λ es. Typed c.args.term.now.place (view c.args.term.now.ctype) c.args.term.now.parens c.args.term.now.constant (tree.Call c.in-Call.function (term_trees (map term_tree es)) c.in-Call.is_used) in
     let is : term_tree c.args.term.now ≡ seen c.in-Call.arguments.items = search (rules, of_term.the_lemmas, of_form.the_lemmas) in
-    goes_on c.push_call.result (standing u c.push_call.new.control.items) (whole (seen c.as_slice-in-Call.result.now)) (whole (term_tree c.args.term.now)) (ap (λ es. whole (seen es)) c.as_slice-in-Call.ensures ∙ ap whole (sym is)) (c.push_call.ensures u)
+    goes_on c.push_call.result (standing u c.push_call.new.control.items) (whole (seen c.as_slice.result.now)) (whole (term_tree c.args.term.now)) (ap (λ es. whole (seen es)) c.as_slice.ensures.value ∙ ap whole (sym is)) (c.push_call.ensures u)
 
 pub returns-in-Library : goal.returns-in-Library
 returns-in-Library c =
@@ -28,4 +28,4 @@ returns-in-Library c =
     let whole : TermTree → Standing = λ e. with_items (term_items u c.args.used e) s in
     let seen : List CheckedTerm → TermTree = λ es. Typed c.args.term.now.place (view c.args.term.now.ctype) c.args.term.now.parens c.args.term.now.constant (tree.Library c.in-Library.function (term_trees (map term_tree es)) (option_map view c.in-Library.allocated)) in
     let is : term_tree c.args.term.now ≡ seen c.in-Library.arguments.items = search (rules, of_term.the_lemmas, of_form.the_lemmas) in
-    goes_on c.push_library.result (standing u c.push_library.new.control.items) (whole (seen c.as_slice-in-Library.result.now)) (whole (term_tree c.args.term.now)) (ap (λ es. whole (seen es)) c.as_slice-in-Library.ensures ∙ ap whole (sym is)) (c.push_library.ensures u)
+    goes_on c.push_library.result (standing u c.push_library.new.control.items) (whole (seen c.as_slice-in-Library.result.now)) (whole (term_tree c.args.term.now)) (ap (λ es. whole (seen es)) c.as_slice-in-Library.ensures.value ∙ ap whole (sym is)) (c.push_library.ensures u)
