@@ -16,7 +16,7 @@ use Rattle.report_cli.specs.declared.model_choice.ModelChoice.TheVariants.{Chose
 use Rattle.report_cli.specs.Choices.{IsChoice}
 use Rattle.report_cli_units.specs.Judging.{SettingView}
 use Rattle.report_cli_units.specs.Certifying.{CertAnswer, shows, refuses}
-use Rattle.report_cli.specs.FurtherFiles.{HasFile}
+use Rattle.report_cli.specs.FurtherFiles.{HoldsShort, HasFile}
 use Rattle.report_cli.specs.Verdicts.{Tells, absent, refused, reported, proved, proved_past, cert_refused, FromFiles, IsExpanded, IsLater, IsProof, IsCheckedBy, With, RefusesFile, cert_setting, AnswersProve, AnswersVerify, HasModel, IsVerdict}
 use Rattle.report_cli.specs.Answering.{AnswersStop, AnswersOwn}
 use Rattle.report_cli.specs.Gates.{IsFurther}
@@ -73,14 +73,14 @@ pub further_read_in : (seen : Seen) (name cert : Bytes) (f g : Further) → name
 further_read_in seen name cert f g same is h = subst (λ n. IsFurther seen n g) same (subst (λ x. IsFurther seen name x) is h)
 
 -- the answer where the certificate is read, by the bytes as the work has them
-pub with_cert : (files : Option Files) (cert : Bytes) (s : SettingView) (u : Unit7) (bytes given : Bytes) (names : List Bytes) (unit : Bytes) (status : ℕ) (text : Bytes) → Holds files cert bytes → given ≡ bytes → AnswersOwn s u names unit status text ⊎ AnswersVerified s u given cert names unit status text → AnswersWithCert files cert s u names unit status text
+pub with_cert : (files : Option Files) (cert : Bytes) (s : SettingView) (u : Unit7) (bytes given : Bytes) (names : List Bytes) (unit : Bytes) (status : ℕ) (text : Bytes) → HoldsShort files cert bytes → given ≡ bytes → AnswersOwn s u names unit status text ⊎ AnswersVerified s u given cert names unit status text → AnswersWithCert files cert s u names unit status text
 with_cert files cert s u bytes given names unit status text held same h = record {
   bytes = bytes;
   held = held;
   answers = subst (λ b. AnswersOwn s u names unit status text ⊎ AnswersVerified s u b cert names unit status text) same h;
 }
 
-own_certified : (seen : Seen) (c : CommandView) (cert : Bytes) (m : Model) (u : Unit7) (names : List Bytes) (bytes : Bytes) (status : ℕ) (text : Bytes) → IsExpanded (FromFiles seen.files c.dirs m c.unit) m names u → Holds seen.files cert bytes → AnswersOwn (cert_setting c m) u names c.unit status text → Tells (AnswersVerify seen c cert m) status text
+own_certified : (seen : Seen) (c : CommandView) (cert : Bytes) (m : Model) (u : Unit7) (names : List Bytes) (bytes : Bytes) (status : ℕ) (text : Bytes) → IsExpanded (FromFiles seen.files c.dirs m c.unit) m names u → HoldsShort seen.files cert bytes → AnswersOwn (cert_setting c m) u names c.unit status text → Tells (AnswersVerify seen c cert m) status text
 own_certified seen c cert m u names bytes status text expanded held a =
     let with : IsExpanded (With (HasFile seen.files cert) (FromFiles seen.files c.dirs m c.unit)) m names u = record { model = expanded.model; gives = (expanded.gives, (bytes, held)); distinct = expanded.distinct; few = expanded.few } in
     record {
@@ -100,7 +100,7 @@ by_answer seen c cert m names status text (refuses why) h a = record { verdict =
 with_cert_told : (seen : Seen) (c : CommandView) (cert : Bytes) (m : Model) (u : Unit7) (names : List Bytes) (status : ℕ) (text : Bytes) → IsExpanded (FromFiles seen.files c.dirs m c.unit) m names u → AnswersWithCert seen.files cert (cert_setting c m) u names c.unit status text → Tells (AnswersVerify seen c cert m) status text
 with_cert_told seen c cert m u names status text expanded h = elim h.answers [
   | inl a ↦ own_certified seen c cert m u names h.bytes status text expanded h.held a
-  | inr a ↦ by_answer seen c cert m names status text a.answer (checked_by seen c cert m u names h.bytes status text expanded h.held a) a.answers
+  | inr a ↦ by_answer seen c cert m names status text a.answer (checked_by seen c cert m u names h.bytes status text expanded h.held.0 a) a.answers
 ]
 
 file_told : (f0 f1 : Option Files) (a0 a1 a2 b0 b1 b2 : ℕ) (c : CommandView) (cert : Bytes) (m : Model) (u : Unit7) (names : List Bytes) (status : ℕ) (text : Bytes) → f1 ≡ f0 → a0 ≤ a1 → b0 ≤ b1 → IsExpanded (FromFiles f0 c.dirs m c.unit) m names u → Tells (RefusesFile (seen_of f1 a1 a2 b1 b2) cert) status text → Tells (AnswersVerify (seen_of f0 a0 a2 b0 b2) c cert m) status text

@@ -1,6 +1,6 @@
 -- What the parts of the verbs on certificates answer.
 use Rattle.std.specs.Prelude.{◌≡◌, ◌<◌, ◌≤◌, ◌⊎◌, ℕ, List, length, Option}
-use Rattle.cc_base.specs.Outside.{Files, Holds}
+use Rattle.cc_base.specs.Outside.{Files}
 use Rattle.cc_base.specs.declared.diagnostics.Diag.{Diag}
 use Rattle.c_layout.specs.declared.unit_tokens.Unit7.{Unit7}
 use Rattle.cert_check.specs.declared.verdicts.CertFault.{CertFault}
@@ -8,6 +8,7 @@ use Rattle.report_cli_texts.specs.Reports.{Bytes, report_of}
 use Rattle.report_cli_texts.specs.FixedTexts.{cert_too_long_text, cert_refused_text}
 use Rattle.report_cli_units.specs.Judging.{SettingView}
 use Rattle.report_cli_units.specs.Certifying.{cert_reason, IsProved, CertAnswer, shows, refuses, IsVerifiedUnit}
+use Rattle.report_cli.specs.FurtherFiles.{HoldsShort}
 use Rattle.report_cli.specs.Verdicts.{report_status}
 use Rattle.report_cli.specs.Answering.{AnswersOwn}
 
@@ -36,5 +37,5 @@ pub record AnswersVerified (s : SettingView) (expanded : Unit7) (bytes cert : By
 -- the answer to `verify` on a unit that was expanded, where its certificate is held
 pub record AnswersWithCert (files : Option Files) (cert : Bytes) (s : SettingView) (expanded : Unit7) (names : List Bytes) (unit : Bytes) (status : ℕ) (text : Bytes) : Type 0 where
   pub bytes : Bytes
-  pub held : Holds files cert bytes
+  pub held : HoldsShort files cert bytes
   pub answers : AnswersOwn s expanded names unit status text ⊎ AnswersVerified s expanded bytes cert names unit status text

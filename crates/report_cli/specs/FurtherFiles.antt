@@ -1,12 +1,16 @@
 -- Files that a verb reads behind the expansion of its unit.
-use Rattle.std.specs.Prelude.{◌≡◌, ℤ, List, [], Option, Some, None}
+use Rattle.std.specs.Prelude.{◌≡◌, ◌≤◌, ℤ, List, [], length, Option, Some, None}
 use Rattle.cc_base.specs.Outside.{Files, Holds}
 use Rattle.report_cli_draws.specs.DrawsFiles.{draws_in}
 use Rattle.report_cli_texts.specs.Reports.{Bytes}
 
--- the files hold one with a name
+-- the files hold these bytes under a name, no more than are read
+abbrev pub HoldsShort : Option Files → Bytes → Bytes → Type 0
+HoldsShort files name bytes = Holds files name bytes × (length bytes ≤ 1048576)
+
+-- the files hold one with a name that is read
 abbrev pub HasFile : Option Files → Bytes → Type 0
-HasFile files name = (bytes : Bytes) × Holds files name bytes
+HasFile files name = (bytes : Bytes) × HoldsShort files name bytes
 
 -- a file has these draws
 pub record HoldsDraws (files : Option Files) (name : Bytes) (draws : List ℤ) : Type 0 where

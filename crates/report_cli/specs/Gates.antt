@@ -1,6 +1,6 @@
 -- What the parts of a gate come to.
 use Rattle.std.specs.Prelude.{◌≡◌, ◌⊎◌, ℕ, List, Option, Some, None}
-use Rattle.cc_base.specs.Outside.{Files, Holds}
+use Rattle.cc_base.specs.Outside.{Files}
 use Rattle.cc_base.specs.DiagnosticOrder.{IsOrderedSet}
 use Rattle.cc_base.specs.declared.diagnostics.Diag.{Diag}
 use Rattle.c_layout.specs.declared.unit_tokens.Unit7.{Unit7}
@@ -12,6 +12,7 @@ use Rattle.report_cli_texts.specs.Reports.{Bytes, report_of}
 use Rattle.report_cli_texts.specs.FixedTexts.{no_baseline_text}
 use Rattle.report_cli.specs.Baselines.{IsBaseline}
 use Rattle.report_cli_units.specs.Judging.{SettingView, Judgement, IsJudged}
+use Rattle.report_cli.specs.FurtherFiles.{HoldsShort}
 use Rattle.report_cli.specs.Verdicts.{Tells, RefusesFile, RefusesBase, report_status}
 use Rattle.report_cli.specs.Answering.{AnswersOwn}
 use Rattle.report_cli.specs.declared.further_files.Further.{Further}
@@ -21,7 +22,7 @@ use Rattle.report_cli.specs.declared.baseline_files.Baseline.TheVariants as base
 
 -- the bytes of a further file, or the answer where it cannot be had
 abbrev pub IsFurther : Seen → Bytes → Further → Type 0
-IsFurther seen name (further.Held bytes) = Holds seen.files name bytes.items
+IsFurther seen name (further.Held bytes) = HoldsShort seen.files name bytes.items
 IsFurther seen name (further.Refused a) = Tells (RefusesFile seen name) a.status a.text.items
 
 -- what bytes say is known, or the answer where they say nothing

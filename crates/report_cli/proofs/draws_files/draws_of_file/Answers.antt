@@ -10,7 +10,7 @@ pub returns-in-Held-clause-draws : goal.returns-in-Held-clause-draws
 returns-in-Held-clause-draws g c =
     let seen = seen_of (g.T.Tree.files c.args.tree.now) (g.T.Tree.faults c.args.tree.now) (g.T.Tree.faults c.read_further.new.tree) (g.T.Tree.taken c.args.tree.now) (g.T.Tree.taken c.read_further.new.tree) in
     let held = subst (λ f. IsFurther seen c.args.name.now f) c.in-Held.is c.in_ok-bytes.ensures.further in
-    IfOk-weaker c.draws_of.result _ _ (λ b h. held_draws seen c.args.name.now c.as_slice.result.now b (subst (λ x. Holds seen.files c.args.name.now x) (sym c.as_slice.ensures.value) held) h) c.draws_of.ensures.draws
+    IfOk-weaker c.draws_of.result _ _ (λ b h. held_draws seen c.args.name.now c.as_slice.result.now b (subst (λ x. Holds seen.files c.args.name.now x) (sym c.as_slice.ensures.value) held.0) h) c.draws_of.ensures.draws
 
 pub returns-in-Refused-clause-draws : goal.returns-in-Refused-clause-draws
 returns-in-Refused-clause-draws g c =
