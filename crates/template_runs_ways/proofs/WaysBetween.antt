@@ -12,12 +12,16 @@ use Rattle.ref_machine.specs.Scopes.{without}
 use Rattle.template_runs_scopes.specs.Contexts.{AreIn}
 use Rattle.template_runs_scopes.specs.Scopes.{IsScope}
 use Rattle.template_runs_scopes.specs.SuitedStatements.{AreNew}
-use Rattle.template_runs_scopes.proofs.Ways.{all_left_on, with_none, without_on, all_in}
+use Rattle.template_runs_scopes.proofs.Ways.{with_none, without_on, all_in}
 use Rattle.template_runs_ways.specs.Between.{Between, here, out, inside}
 
 all_entered_on : (at : Place) (xs ys : List ℕ) (p : Plan) → all_entered at (xs ++ ys) p ≡ all_entered at ys (all_entered at xs p)
 all_entered_on at [] ys p = refl
 all_entered_on at (x ∷ xs) ys p = all_entered_on at xs ys (scopes.entered at x p)
+
+all_left_on : (at : Place) (xs ys : List ℕ) (p : Plan) → all_left at (xs ++ ys) p ≡ all_left at ys (all_left at xs p)
+all_left_on at [] ys p = refl
+all_left_on at (x ∷ xs) ys p = all_left_on at xs ys (scopes.left at x p)
 
 differs : (a b : ℕ) → (a ≡ b → ⊥) → (a == b) ≡ false
 differs a b apart = by (a == b) refl
