@@ -1,5 +1,5 @@
 -- The unit with a loop has an entry of which the laws speak.
-use Rattle.std.proofs.Common.{◌≤◌, ℕ, ◌-◌, ◌^◌, true, false, [], ◌++◌, refl, arith}
+use Rattle.std.proofs.Common.{ℕ, true, false, [], ◌++◌, refl, arith}
 use Rattle.c_layout.specs.CheckedTrees.{statement_trees}
 use Rattle.flow_lower_debts.specs.Marks.{IsLabelled}
 use Rattle.flow_lower_functions.specs.Functions.{IsTemplate}
@@ -14,7 +14,7 @@ unfolding with_work with_name with_labels with_scope with_dispatch with_new_scop
 made b = record { turns = 60; ended = refl; comes_to = refl }
 
 labelled : (b : ℕ) → IsLabelled (main b)
-labelled b = record { labels = λ l. omega arith; cases = λ n. refl; defaults = refl; switches = (tt, (tt, tt), tt, tt) }
+labelled b = record { labels = λ l. omega arith; cases = λ n. refl; defaults = refl; switches = (tt, (((tt, tt), tt), (tt, tt))) }
 
 suits : (b : ℕ) → AllSuitIn false ((main b).scope ++ []) (statement_trees (main b).body)
 suits b = (tt, ((tt, (((tt, tt), omega arith), tt), ((tt, tt), omega arith), (tt, omega arith), tt), (((tt, tt), omega arith), tt)))

@@ -112,6 +112,7 @@ module _ (s : SettingView) where
 -- ---- what the source leaves and enters
 
 pub jump_is : (xs ys both known there inwards : List ℕ) → known ≡ xs ++ both → AreNew xs there → AreIn both there → inwards ≡ both ++ ys → AreNew ys known → AreIn both known → (without there known ≡ xs) × (without known inwards ≡ ys)
-jump_is xs ys both known there inwards is new stays inward_is new_there here_too =
-    (ap (without there) is ∙ without_on there xs both ∙ ap (λ zs. zs ++ without there both) (with_none there xs new) ∙ ap (λ zs. xs ++ zs) (all_in there both stays) ∙ append-nil xs,
-    ap (without known) inward_is ∙ without_on known both ys ∙ ap (λ zs. zs ++ without known ys) (all_in known both here_too) ∙ with_none known ys new_there)
+jump_is xs ys both known there inwards is new stays inward_is new_there here_too = (
+  ap (without there) is ∙ without_on there xs both ∙ ap (λ zs. zs ++ without there both) (with_none there xs new) ∙ ap (λ zs. xs ++ zs) (all_in there both stays) ∙ append-nil xs,
+  ap (without known) inward_is ∙ without_on known both ys ∙ ap (λ zs. zs ++ without known ys) (all_in known both here_too) ∙ with_none known ys new_there,
+)
