@@ -31,14 +31,14 @@ use Rattle.template_runs_follow.specs.Follows.{Follows, pieces}
 use Rattle.template_runs_follow.proofs.Constructions.{gives_end}
 use Rattle.template_runs_follow.proofs.FewerTurns.{less}
 use Rattle.template_runs_follow.proofs.TurnsFollow.{runs_agree}
-use Rattle.template_runs_terms.specs.TemplateParts.{IsOfUnit, IsKnown, Stands}
-use Rattle.template_runs_terms.proofs.Runs.{headed, joined, split}
-use Rattle.template_runs_terms.proofs.Assignments.{one_more_job}
-use Rattle.template_runs_terms.proofs.Laying.{known_between}
-use Rattle.template_runs_statements.specs.Contexts as contexts
-use Rattle.template_runs_statements.specs.Contexts.{Up, Within}
-use Rattle.template_runs_statements.specs.Scopes.{all_scopes_in}
-use Rattle.template_runs_statements.proofs.Objects.{object_jobs, entered_planned, left_planned, named_from, locals}
+use Rattle.template_runs_works.specs.TemplateParts.{IsOfUnit, IsKnown, Stands}
+use Rattle.template_runs_works.proofs.Runs.{headed, joined, split}
+use Rattle.template_runs_works.proofs.Assignments.{one_more_job}
+use Rattle.template_runs_works.proofs.Laying.{known_between}
+use Rattle.template_runs_scopes.specs.Contexts as contexts
+use Rattle.template_runs_scopes.specs.Contexts.{Up, Within}
+use Rattle.template_runs_scopes.specs.Scopes.{all_scopes_in}
+use Rattle.template_runs_scopes.proofs.Objects.{object_jobs, entered_planned, left_planned, named_from, locals}
 use Rattle.template_runs_statements.proofs.Sequences.{statement_jobs, listed, enclosed}
 use Rattle.template_runs_statements.proofs.Statements.{all_about}
 use Rattle.template_runs_entry.specs.Entries.{IsEntry}

@@ -7,7 +7,7 @@ use Rattle.c_layout.specs.CheckedTrees.{StatementTree, StatementTrees, statement
 use Rattle.c_layout.specs.CheckedUnits.{FunctionView}
 use Rattle.flow_lower_tasks.specs.Scopes.{ScopeView, TreeView, no_scope, with_new_scope, with_choice, with_case, with_default, with_label, scoped, all_scoped, no_scopes, function_scopes}
 use Rattle.flow_lower_tasks.specs.Settings.{SettingView}
-use Rattle.template_runs_statements.specs.Scopes.{scopes_in, all_scopes_in, IsScope, HasScopes, AllHaveScopes}
+use Rattle.template_runs_scopes.specs.Scopes.{scopes_in, all_scopes_in, IsScope, HasScopes, AllHaveScopes}
 
 -- ---- scopes are only added
 

@@ -11,7 +11,7 @@ use Rattle.ref_machine.specs.SourceStates.{function_at}
 use Rattle.template_runs.specs.TemplateStates.{Templates}
 use Rattle.template_runs.specs.TemplateSteps.{template_begin, steps_from}
 use Rattle.template_runs_follow.specs.Alike.{Agree}
-use Rattle.template_runs_statements.specs.SuitedStatements.{AllSuitIn}
+use Rattle.template_runs_scopes.specs.SuitedStatements.{AllSuitIn}
 
 -- a function is the entry, its template is that of lowering, and of both is known what the laws ask
 pub record IsEntry (t : Templates) (f : FunctionView) : Type 0 where

@@ -1,2 +1,3 @@
 mod Loop
 mod Calls
+mod Entry

@@ -26,16 +26,16 @@ use Rattle.template_runs_acts.specs.Acts as acts
 use Rattle.template_runs_acts.specs.Acts.{IsAct}
 use Rattle.template_runs_follow.specs.Follows.{Names, at_place}
 use Rattle.template_runs_follow.proofs.Constructions.{gives_statement, gives_object, gives_change, gives_step, gives_drop}
-use Rattle.template_runs_terms.specs.TemplateParts.{IsOfUnit}
-use Rattle.template_runs_terms.proofs.Runs.{Runs, then, piece_first}
-use Rattle.template_runs_terms.proofs.Assignments.{one_more_job, nothing_done, stores}
-use Rattle.template_runs_terms.proofs.Laying.{known_between}
+use Rattle.template_runs_works.specs.TemplateParts.{IsOfUnit}
+use Rattle.template_runs_works.proofs.Runs.{Runs, then, piece_first}
+use Rattle.template_runs_works.proofs.Assignments.{one_more_job, nothing_done, stores}
+use Rattle.template_runs_works.proofs.Laying.{known_between}
 use Rattle.template_runs_terms.proofs.Terms.{terms, places}
-use Rattle.template_runs_statements.specs.SuitedStatements.{SuitsBehind, SuitsAsStore, SuitAsStores}
-use Rattle.template_runs_statements.proofs.KeptScopes.{AreTerms}
-use Rattle.template_runs_statements.proofs.ScopesOfTerms.{scopes_kept}
-use Rattle.template_runs_statements.proofs.InScopes.{Goes, gives_way}
-use Rattle.template_runs_statements.proofs.Objects.{NamedFrom, named_from, locals}
+use Rattle.template_runs_scopes.specs.SuitedStatements.{SuitsBehind, SuitsAsStore, SuitAsStores}
+use Rattle.template_runs_scopes.proofs.KeptScopes.{AreTerms}
+use Rattle.template_runs_scopes.proofs.ScopesOfTerms.{scopes_kept}
+use Rattle.template_runs_scopes.proofs.InScopes.{Goes, gives_way}
+use Rattle.template_runs_scopes.proofs.Objects.{NamedFrom, named_from, locals}
 
 -- ---- works
 

@@ -30,23 +30,23 @@ use Rattle.template_runs_follow.specs.Follows as follows
 use Rattle.template_runs_follow.specs.Follows.{Leads, Follows}
 use Rattle.template_runs_follow.proofs.Constructions.{gives_statement, gives_loop_end, gives_turn_end}
 use Rattle.template_runs_follow.proofs.FewerTurns.{less}
-use Rattle.template_runs_terms.specs.TemplateParts.{IsOfUnit, IsKnown, Stands}
-use Rattle.template_runs_terms.proofs.Runs.{Runs, stands_behind, stands_after, none_made}
+use Rattle.template_runs_works.specs.TemplateParts.{IsOfUnit, IsKnown, Stands}
+use Rattle.template_runs_works.proofs.Runs.{Runs, stands_behind, stands_after, none_made}
 use Rattle.template_runs_terms.proofs.Choices.{jumping, hops}
-use Rattle.template_runs_terms.proofs.Laying.{from_piece, from_none, from_work, led, known_between, few_labels}
+use Rattle.template_runs_works.proofs.Laying.{from_piece, from_none, from_work, led, known_between, few_labels}
 use Rattle.template_runs_terms.proofs.Terms.{terms}
-use Rattle.template_runs_statements.specs.Scopes.{scopes_in, all_scopes_in}
-use Rattle.template_runs_statements.proofs.KeptScopes.{AreTerms}
-use Rattle.template_runs_statements.proofs.ScopesOfTerms.{scopes_kept}
-use Rattle.template_runs_statements.specs.Contexts.{Within, Context}
-use Rattle.template_runs_statements.proofs.InScopes.{context_less, Goes, goes_on, plainly, gives_way}
-use Rattle.template_runs_statements.proofs.Objects.{object_jobs, objects_are_terms, entered_planned, left_planned, named_from, locals, marks}
-use Rattle.template_runs_statements.proofs.Contexts.{in_block, in_body}
+use Rattle.template_runs_scopes.specs.Scopes.{scopes_in, all_scopes_in}
+use Rattle.template_runs_scopes.proofs.KeptScopes.{AreTerms}
+use Rattle.template_runs_scopes.proofs.ScopesOfTerms.{scopes_kept}
+use Rattle.template_runs_scopes.specs.Contexts.{Within, Context}
+use Rattle.template_runs_scopes.proofs.InScopes.{context_less, Goes, goes_on, plainly, gives_way}
+use Rattle.template_runs_scopes.proofs.Objects.{object_jobs, objects_are_terms, entered_planned, left_planned, named_from, locals, marks}
+use Rattle.template_runs_scopes.proofs.Contexts.{in_block, in_body}
 use Rattle.template_runs_statements.proofs.Sequences.{statement_jobs, listed, AboutStatement, AboutStatements, enclosed}
 use Rattle.ref_machine.specs.Scopes.{open_scopes, behind_loop, behind_turn}
-use Rattle.template_runs_terms.proofs.Assignments.{nothing_done}
-use Rattle.template_runs_statements.specs.SuitedStatements.{SuitsIf, SuitsIn}
-use Rattle.template_runs_statements.specs.Scopes.{HasScopes}
+use Rattle.template_runs_works.proofs.Assignments.{nothing_done}
+use Rattle.template_runs_scopes.specs.SuitedStatements.{SuitsIf, SuitsIn}
+use Rattle.template_runs_scopes.specs.Scopes.{HasScopes}
 use Rattle.template_runs_statements.proofs.Selections.{Counts, count_terms, count_on, below, itself, next_scope}
 use Rattle.flow_lower_growth.proofs.GrowingStatements.{grows_statements, grows_entered, grows_left, grows_check, grows_step}
 

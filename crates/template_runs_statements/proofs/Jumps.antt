@@ -31,19 +31,19 @@ use Rattle.template_runs_follow.specs.Follows as follows
 use Rattle.template_runs_follow.specs.Follows.{own, Follows}
 use Rattle.template_runs_follow.proofs.FewerTurns.{less}
 use Rattle.template_runs_follow.proofs.Constructions.{gives_statement, gives_no_enters, gives_return, gives_end}
-use Rattle.template_runs_terms.specs.TemplateParts.{IsOfUnit, IsKnown, Stands}
-use Rattle.template_runs_terms.proofs.Runs.{Runs, then_ends, dropped, stands_behind, joined, split}
-use Rattle.template_runs_terms.proofs.Assignments.{one_more_job, nothing_done}
+use Rattle.template_runs_works.specs.TemplateParts.{IsOfUnit, IsKnown, Stands}
+use Rattle.template_runs_works.proofs.Runs.{Runs, then_ends, dropped, stands_behind, joined, split}
+use Rattle.template_runs_works.proofs.Assignments.{one_more_job, nothing_done}
 use Rattle.template_runs_terms.proofs.Choices.{jumping, hops}
-use Rattle.template_runs_terms.proofs.Laying.{known_between}
+use Rattle.template_runs_works.proofs.Laying.{known_between}
 use Rattle.template_runs_terms.proofs.Terms.{terms}
-use Rattle.template_runs_statements.specs.SuitedStatements.{SuitsIf}
-use Rattle.template_runs_statements.proofs.KeptScopes.{AreTerms, Keeps, keeps_or, kept}
-use Rattle.template_runs_statements.proofs.ScopesOfTerms.{scopes_kept}
-use Rattle.template_runs_statements.specs.Contexts.{Lands, Within}
-use Rattle.template_runs_statements.proofs.InScopes.{Goes, gives_way}
-use Rattle.template_runs_statements.proofs.Objects.{object_jobs, Planned, left_planned, named_from, locals, leaves}
-use Rattle.template_runs_statements.proofs.Ways.{way_up, all_in}
+use Rattle.template_runs_scopes.specs.SuitedStatements.{SuitsIf}
+use Rattle.template_runs_scopes.proofs.KeptScopes.{AreTerms, Keeps, keeps_or, kept}
+use Rattle.template_runs_scopes.proofs.ScopesOfTerms.{scopes_kept}
+use Rattle.template_runs_scopes.specs.Contexts.{Lands, Within}
+use Rattle.template_runs_scopes.proofs.InScopes.{Goes, gives_way}
+use Rattle.template_runs_scopes.proofs.Objects.{object_jobs, Planned, left_planned, named_from, locals, leaves}
+use Rattle.template_runs_scopes.proofs.Ways.{way_up, all_in}
 
 -- ---- ways begin no scopes
 

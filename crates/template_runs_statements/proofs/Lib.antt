@@ -1,11 +1,3 @@
-pub mod KeptScopes
-pub mod KeptByTerms
-pub mod KeptByConditions
-pub mod ScopesOfTerms
-pub mod Ways
-pub mod InScopes
-pub mod Objects
-pub mod Contexts
 pub mod Jumps
 pub mod Declarations
 pub mod Sequences

@@ -25,23 +25,23 @@ use Rattle.template_runs_follow.specs.Follows as follows
 use Rattle.template_runs_follow.specs.Follows.{Leads, Follows}
 use Rattle.template_runs_follow.proofs.Constructions.{gives_statement, gives_loop_end, gives_turn_end}
 use Rattle.template_runs_follow.proofs.FewerTurns.{less}
-use Rattle.template_runs_terms.specs.TemplateParts.{IsOfUnit, IsKnown, Stands}
-use Rattle.template_runs_terms.proofs.Runs.{stands_behind, stands_after}
+use Rattle.template_runs_works.specs.TemplateParts.{IsOfUnit, IsKnown, Stands}
+use Rattle.template_runs_works.proofs.Runs.{stands_behind, stands_after}
 use Rattle.template_runs_terms.proofs.Choices.{jumping, hops}
-use Rattle.template_runs_terms.proofs.Laying.{from_piece, from_none, from_work, led, known_between, few_labels}
+use Rattle.template_runs_works.proofs.Laying.{from_piece, from_none, from_work, led, known_between, few_labels}
 use Rattle.template_runs_terms.proofs.Terms.{terms}
-use Rattle.template_runs_statements.specs.Scopes.{scopes_in}
-use Rattle.template_runs_statements.specs.Contexts.{Within}
-use Rattle.template_runs_statements.proofs.InScopes.{context_less, Goes, gives_way}
-use Rattle.template_runs_statements.proofs.Contexts.{in_body}
+use Rattle.template_runs_scopes.specs.Scopes.{scopes_in}
+use Rattle.template_runs_scopes.specs.Contexts.{Within}
+use Rattle.template_runs_scopes.proofs.InScopes.{context_less, Goes, gives_way}
+use Rattle.template_runs_scopes.proofs.Contexts.{in_body}
 use Rattle.template_runs_statements.proofs.Sequences.{AboutStatement}
 use Rattle.ref_machine.specs.Scopes.{open_scopes, behind_loop, behind_turn}
 use Rattle.ref_machine.specs.TermItems.{arguments}
 use Rattle.c_layout.specs.CheckedTrees.{TermTrees, FormTree, Typed}
 use Rattle.flow_lower_conditions.specs.Conditions.{ReadView, read_by}
 use Rattle.c_layout.specs.declared.syntax_tree.expressions.LogicalOp.TheVariants.{And, Or}
-use Rattle.template_runs_statements.specs.SuitedStatements.{SuitsBehind, SuitsIn}
-use Rattle.template_runs_statements.specs.Scopes.{HasScopes}
+use Rattle.template_runs_scopes.specs.SuitedStatements.{SuitsBehind, SuitsIn}
+use Rattle.template_runs_scopes.specs.Scopes.{HasScopes}
 use Rattle.template_runs_statements.proofs.Sequences.{IsQuiet}
 use Rattle.template_runs_statements.proofs.Selections.{Counts, count_terms, count_on, kept_one, below, itself, one_three, two_three}
 

@@ -29,19 +29,19 @@ use Rattle.template_runs.specs.TemplateStates.{Templates}
 use Rattle.template_runs_follow.specs.Follows as follows
 use Rattle.template_runs_follow.specs.Follows.{Leads, Follows}
 use Rattle.template_runs_follow.proofs.Constructions.{gives_statement}
-use Rattle.template_runs_terms.specs.TemplateParts.{IsOfUnit, IsKnown, Stands}
-use Rattle.template_runs_terms.proofs.Runs.{stands_behind, stands_after}
-use Rattle.template_runs_terms.proofs.About.{Decided}
+use Rattle.template_runs_works.specs.TemplateParts.{IsOfUnit, IsKnown, Stands}
+use Rattle.template_runs_works.proofs.Runs.{stands_behind, stands_after}
+use Rattle.template_runs_works.proofs.About.{Decided}
 use Rattle.template_runs_terms.proofs.Choices.{jumping, hops, two_way_jobs}
-use Rattle.template_runs_terms.proofs.Laying.{from_piece, from_none, from_work, led, known_between, few_labels}
+use Rattle.template_runs_works.proofs.Laying.{from_piece, from_none, from_work, led, known_between, few_labels}
 use Rattle.template_runs_terms.proofs.Terms.{terms}
-use Rattle.template_runs_statements.specs.Scopes.{scopes_in, all_scopes_in}
-use Rattle.template_runs_statements.proofs.KeptScopes.{IsTerm, AreTerms}
-use Rattle.template_runs_statements.proofs.ScopesOfTerms.{scopes_kept}
-use Rattle.template_runs_statements.specs.Contexts.{Within}
-use Rattle.template_runs_statements.proofs.InScopes.{Goes, gives_way}
-use Rattle.template_runs_statements.proofs.Objects.{object_jobs, objects_are_terms, entered_planned, left_planned, named_from, locals}
-use Rattle.template_runs_statements.proofs.Contexts.{in_block}
+use Rattle.template_runs_scopes.specs.Scopes.{scopes_in, all_scopes_in}
+use Rattle.template_runs_scopes.proofs.KeptScopes.{IsTerm, AreTerms}
+use Rattle.template_runs_scopes.proofs.ScopesOfTerms.{scopes_kept}
+use Rattle.template_runs_scopes.specs.Contexts.{Within}
+use Rattle.template_runs_scopes.proofs.InScopes.{Goes, gives_way}
+use Rattle.template_runs_scopes.proofs.Objects.{object_jobs, objects_are_terms, entered_planned, left_planned, named_from, locals}
+use Rattle.template_runs_scopes.proofs.Contexts.{in_block}
 use Rattle.template_runs_statements.proofs.Sequences.{statement_jobs, listed, AboutStatement, AboutStatements, enclosed}
 
 -- ---- scopes that are begun

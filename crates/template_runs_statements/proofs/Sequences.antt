@@ -16,13 +16,13 @@ use Rattle.ref_machine.specs.Scopes.{open_scopes, behind_loop, behind_turn}
 use Rattle.ref_machine.specs.StatementItems.{statements}
 use Rattle.template_runs.specs.TemplateStates.{Templates}
 use Rattle.template_runs_follow.specs.Follows.{own}
-use Rattle.template_runs_terms.specs.TemplateParts.{IsOfUnit}
-use Rattle.template_runs_terms.proofs.Assignments.{nothing_done}
-use Rattle.template_runs_statements.specs.Scopes.{scopes_in, all_scopes_in, HasScopes, AllHaveScopes}
-use Rattle.template_runs_statements.specs.SuitedStatements.{SuitsIn, AllSuitIn}
-use Rattle.template_runs_statements.specs.Contexts.{Context, Within}
-use Rattle.template_runs_statements.proofs.InScopes.{Goes, plainly, goes_on}
-use Rattle.template_runs_statements.proofs.Objects.{object_jobs, objects_are_terms, NamedFrom, enters, leaves}
+use Rattle.template_runs_works.specs.TemplateParts.{IsOfUnit}
+use Rattle.template_runs_works.proofs.Assignments.{nothing_done}
+use Rattle.template_runs_scopes.specs.Scopes.{scopes_in, all_scopes_in, HasScopes, AllHaveScopes}
+use Rattle.template_runs_scopes.specs.SuitedStatements.{SuitsIn, AllSuitIn}
+use Rattle.template_runs_scopes.specs.Contexts.{Context, Within}
+use Rattle.template_runs_scopes.proofs.InScopes.{Goes, plainly, goes_on}
+use Rattle.template_runs_scopes.proofs.Objects.{object_jobs, objects_are_terms, NamedFrom, enters, leaves}
 
 -- ---- works
 

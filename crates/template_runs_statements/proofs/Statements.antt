@@ -9,9 +9,9 @@ use Rattle.flow_lower_tasks.specs.declared.pending_works.Surroundings.{Surroundi
 use Rattle.ref_machine.specs.Items as item
 use Rattle.ref_machine.specs.SourceStates.{function_at}
 use Rattle.template_runs.specs.TemplateStates.{Templates}
-use Rattle.template_runs_terms.specs.TemplateParts.{IsOfUnit}
-use Rattle.template_runs_statements.specs.Contexts.{Within}
-use Rattle.template_runs_statements.proofs.InScopes.{Goes}
+use Rattle.template_runs_works.specs.TemplateParts.{IsOfUnit}
+use Rattle.template_runs_scopes.specs.Contexts.{Within}
+use Rattle.template_runs_scopes.proofs.InScopes.{Goes}
 use Rattle.template_runs_statements.proofs.Declarations.{of_stores, of_list, of_forget, of_value, of_nothing}
 use Rattle.template_runs_statements.proofs.Jumps.{breaks, continues, returns}
 use Rattle.template_runs_statements.proofs.Sequences.{AboutStatement, AboutStatements, of_none, of_more}

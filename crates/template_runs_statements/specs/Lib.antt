@@ -1,4 +1,1 @@
-pub mod Scopes
-pub mod SuitedStatements
-pub mod Contexts
 pub mod StatementsFollow

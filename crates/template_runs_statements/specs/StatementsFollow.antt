@@ -12,10 +12,10 @@ use Rattle.ref_machine.specs.Items.{Item, Statement}
 use Rattle.ref_machine.specs.SourceStates.{function_at}
 use Rattle.template_runs.specs.TemplateStates.{Templates}
 use Rattle.template_runs_follow.specs.Follows.{Follows}
-use Rattle.template_runs_terms.specs.TemplateParts.{IsOfUnit, IsKnown, Stands}
-use Rattle.template_runs_statements.specs.Contexts.{Within}
-use Rattle.template_runs_statements.specs.Scopes.{HasScopes}
-use Rattle.template_runs_statements.specs.SuitedStatements.{SuitsIn}
+use Rattle.template_runs_works.specs.TemplateParts.{IsOfUnit, IsKnown, Stands}
+use Rattle.template_runs_scopes.specs.Contexts.{Within}
+use Rattle.template_runs_scopes.specs.Scopes.{HasScopes}
+use Rattle.template_runs_scopes.specs.SuitedStatements.{SuitsIn}
 
 -- where the works of a statement come to pieces, its items follow in these, whatever comes behind
 abbrev pub StatementsFollow : Type 0

@@ -20,10 +20,10 @@ use Rattle.template_runs.specs.TemplateStates.{Templates}
 use Rattle.template_runs_follow.specs.Follows as follows
 use Rattle.template_runs_follow.specs.Follows.{own, Leads, IsEdge, Follows}
 use Rattle.template_runs_follow.proofs.Constructions.{gives_edges}
-use Rattle.template_runs_terms.specs.TemplateParts.{IsOfUnit, Stands}
-use Rattle.template_runs_terms.proofs.Runs.{Runs, stands_behind, stands_after}
-use Rattle.template_runs_terms.proofs.About.{Valued}
-use Rattle.template_runs_terms.proofs.Laying.{from_piece, from_none, from_work, led, known_between}
+use Rattle.template_runs_works.specs.TemplateParts.{IsOfUnit, Stands}
+use Rattle.template_runs_works.proofs.Runs.{Runs, stands_behind, stands_after}
+use Rattle.template_runs_works.proofs.About.{Valued}
+use Rattle.template_runs_works.proofs.Laying.{from_piece, from_none, from_work, led, known_between}
 
 -- the piece of a branch
 abbrev pub branching : TermTree → ℕ → Targets → Known → PieceView

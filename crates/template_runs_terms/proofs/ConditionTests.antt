@@ -29,8 +29,8 @@ use Rattle.ref_machine.specs.TermTests as source
 use Rattle.template_runs.specs.TemplateStates.{Templates}
 use Rattle.template_runs_follow.specs.Follows as follows
 use Rattle.template_runs_follow.specs.Follows.{Names, SameSide, SameTest}
-use Rattle.template_runs_terms.specs.TemplateParts.{IsOfUnit, IsKnown}
-use Rattle.template_runs_terms.proofs.Runs.{known_before, known_name}
+use Rattle.template_runs_works.specs.TemplateParts.{IsOfUnit, IsKnown}
+use Rattle.template_runs_works.proofs.Runs.{known_before, known_name}
 
 opposites_same : (rel : Rel) → tests.opposite rel ≡ kinds.opposite rel
 opposites_same Lt = refl

@@ -31,16 +31,16 @@ use Rattle.template_runs.specs.TemplateStates.{Templates}
 use Rattle.template_runs_follow.specs.Follows as follows
 use Rattle.template_runs_follow.specs.Follows.{Leads, Follows}
 use Rattle.template_runs_follow.proofs.Constructions.{gives_choice}
-use Rattle.template_runs_terms.specs.Rooms.{room, room_of_all}
-use Rattle.template_runs_terms.specs.TemplateParts.{IsOfUnit, IsKnown, Stands}
-use Rattle.template_runs_terms.proofs.Runs.{opened, then_ends, stands_behind, stands_after}
-use Rattle.template_runs_terms.proofs.About.{Fits, Valued, Decided, DecidesFrom, Reads, argument_jobs}
-use Rattle.template_runs_terms.proofs.Arguments.{argued_jobs}
-use Rattle.template_runs_terms.proofs.Assignments.{one_more_job}
+use Rattle.template_runs_works.specs.Rooms.{room, room_of_all}
+use Rattle.template_runs_works.specs.TemplateParts.{IsOfUnit, IsKnown, Stands}
+use Rattle.template_runs_works.proofs.Runs.{opened, then_ends, stands_behind, stands_after}
+use Rattle.template_runs_works.proofs.About.{Fits, Valued, Decided, DecidesFrom, Reads, argument_jobs}
+use Rattle.template_runs_works.proofs.Arguments.{argued_jobs}
+use Rattle.template_runs_works.proofs.Assignments.{one_more_job}
 use Rattle.template_runs_terms.proofs.Branches.{branching}
 use Rattle.template_runs_terms.proofs.ConditionTests.{tested_alike}
-use Rattle.template_runs_terms.proofs.LineCalls.{reading, condition_read}
-use Rattle.template_runs_terms.proofs.Laying.{from_piece, from_work, led, known_between, few_labels}
+use Rattle.template_runs_works.proofs.LineCalls.{reading, condition_read}
+use Rattle.template_runs_works.proofs.Laying.{from_piece, from_work, led, known_between, few_labels}
 
 listed_same : (xs : List Item) → listed (items_of xs) ≡ xs
 listed_same [] = refl

@@ -1,12 +1,3 @@
-pub mod Runs
-pub mod Labels
-pub mod About
-pub mod Operators
-pub mod Assignments
-pub mod Steps
-pub mod Laying
-pub mod Arguments
-pub mod LineCalls
 pub mod Branches
 pub mod ConditionTests
 pub mod Choices

@@ -47,20 +47,20 @@ use Rattle.template_runs.specs.TemplateStates.{Templates}
 use Rattle.template_runs_acts.specs.Acts as acts
 use Rattle.template_runs_follow.specs.Follows.{at_place, Follows}
 use Rattle.template_runs_follow.proofs.Constructions.{gives_value, gives_unused, gives_drop}
-use Rattle.template_runs_terms.specs.Rooms.{room, room_of_place, room_of_all, larger, both_rooms}
-use Rattle.template_runs_terms.specs.SuitedTerms.{Suits}
-use Rattle.template_runs_terms.specs.TemplateParts.{IsOfUnit}
-use Rattle.template_runs_terms.proofs.Runs.{Runs, RunsFrom, dropped, unfolds, two_jobs, three_jobs}
-use Rattle.template_runs_terms.proofs.About.{Fits, Valued, Addressed, Decided, Reads, About, AboutPlace, AboutAll, valued, done, argument_jobs}
-use Rattle.template_runs_terms.proofs.Operators.{first_fits, second_fits, next_fits, one_fits, other_fits, one_operand}
-use Rattle.template_runs_terms.proofs.Assignments.{conversion_jobs, one_more_job, converted_jobs, in_order, assigns, assigns_only, compound_jobs, compounds, compounds_only, compound_shifts, compound_shifts_only}
-use Rattle.template_runs_terms.proofs.Steps.{step_jobs, steps, steps_only, steps_behind, pointer_steps, pointer_steps_only, pointer_steps_behind}
-use Rattle.template_runs_terms.proofs.Arguments.{left, calls_of, sites}
-use Rattle.template_runs_terms.proofs.LineCalls.{reading, line_jobs, value_read}
+use Rattle.template_runs_works.specs.Rooms.{room, room_of_place, room_of_all, larger, both_rooms}
+use Rattle.template_runs_works.specs.SuitedTerms.{Suits}
+use Rattle.template_runs_works.specs.TemplateParts.{IsOfUnit}
+use Rattle.template_runs_works.proofs.Runs.{Runs, RunsFrom, dropped, unfolds, two_jobs, three_jobs}
+use Rattle.template_runs_works.proofs.About.{Fits, Valued, Addressed, Decided, Reads, About, AboutPlace, AboutAll, valued, done, argument_jobs}
+use Rattle.template_runs_works.proofs.Operators.{first_fits, second_fits, next_fits, one_fits, other_fits, one_operand}
+use Rattle.template_runs_works.proofs.Assignments.{conversion_jobs, one_more_job, converted_jobs, in_order, assigns, assigns_only, compound_jobs, compounds, compounds_only, compound_shifts, compound_shifts_only}
+use Rattle.template_runs_works.proofs.Steps.{step_jobs, steps, steps_only, steps_behind, pointer_steps, pointer_steps_only, pointer_steps_behind}
+use Rattle.template_runs_works.proofs.Arguments.{left, calls_of, sites}
+use Rattle.template_runs_works.proofs.LineCalls.{reading, line_jobs, value_read}
 use Rattle.template_runs_terms.proofs.Branches.{logical_jobs, logical_planned, logical_runs}
 use Rattle.template_runs_terms.proofs.Choices.{behind_arm, conditional_jobs, conditional_planned, conditional_runs}
 use Rattle.template_runs_terms.proofs.Conditions.{negated, logical_decided, choice_decided, leaf_decided}
-use Rattle.template_runs_terms.proofs.Laying.{few_labels}
+use Rattle.template_runs_works.proofs.Laying.{few_labels}
 use Rattle.template_runs_terms.proofs.PlainForms.{plain, some_none, some_same, read_from}
 
 -- ---- temporaries

@@ -38,16 +38,16 @@ use Rattle.template_runs_acts.specs.Acts as acts
 use Rattle.template_runs_acts.specs.Acts.{IsAct}
 use Rattle.template_runs_follow.specs.Follows.{Names, Follows, at_place}
 use Rattle.template_runs_follow.proofs.Constructions.{gives_address, gives_object, gives_literal}
-use Rattle.template_runs_terms.specs.Rooms.{room, room_of_place, room_of_all}
-use Rattle.template_runs_terms.specs.SuitedTerms.{Suits}
-use Rattle.template_runs_terms.specs.TemplateParts.{IsOfUnit}
-use Rattle.template_runs_terms.proofs.Runs.{Runs, RunsFrom, then, does, dropped, unfolds, piece_first, one_job, two_jobs, three_jobs}
-use Rattle.template_runs_terms.proofs.About.{Fits, Valued, Done, Addressed, Reads, About, AboutPlace, valued, done, addressed}
-use Rattle.template_runs_terms.proofs.Operators.{first_fits, second_fits, next_fits, one_fits, other_fits, integer_is, shift_is, copy_is, one_operand, one_place, two_operands, two_places, sizes_same}
-use Rattle.template_runs_terms.proofs.Assignments.{one_more_job}
+use Rattle.template_runs_works.specs.Rooms.{room, room_of_place, room_of_all}
+use Rattle.template_runs_works.specs.SuitedTerms.{Suits}
+use Rattle.template_runs_works.specs.TemplateParts.{IsOfUnit}
+use Rattle.template_runs_works.proofs.Runs.{Runs, RunsFrom, then, does, dropped, unfolds, piece_first, one_job, two_jobs, three_jobs}
+use Rattle.template_runs_works.proofs.About.{Fits, Valued, Done, Addressed, Reads, About, AboutPlace, valued, done, addressed}
+use Rattle.template_runs_works.proofs.Operators.{first_fits, second_fits, next_fits, one_fits, other_fits, integer_is, shift_is, copy_is, one_operand, one_place, two_operands, two_places, sizes_same}
+use Rattle.template_runs_works.proofs.Assignments.{one_more_job}
 use Rattle.template_runs_terms.proofs.ConditionTests.{name_there, keeps_jobs}
 use Rattle.template_runs_terms.proofs.Conditions.{leaf_decided}
-use Rattle.template_runs_terms.proofs.Laying.{known_between}
+use Rattle.template_runs_works.proofs.Laying.{known_between}
 
 nothing_is : {A : Type 0} (x : A) (o : Option A) → o ≡ Some x → o ≡ None → ⊥
 nothing_is x o a b = cc

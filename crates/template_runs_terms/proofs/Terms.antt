@@ -5,9 +5,9 @@ use Rattle.c_layout.specs.CheckedTrees.{TermTree, TermTrees, Typed, LvalueTree, 
 use Rattle.c_layout.specs.declared.checked_tree.checked_terms.ConversionKind.TheVariants.{Implicit, Cast}
 use Rattle.flow_lower_tasks.specs.Settings.{SettingView}
 use Rattle.template_runs.specs.TemplateStates.{Templates}
-use Rattle.template_runs_terms.specs.TemplateParts.{IsOfUnit}
-use Rattle.template_runs_terms.proofs.About.{About, AboutPlace, AboutAll}
-use Rattle.template_runs_terms.proofs.Arguments.{about_none, about_more}
+use Rattle.template_runs_works.specs.TemplateParts.{IsOfUnit}
+use Rattle.template_runs_works.proofs.About.{About, AboutPlace, AboutAll}
+use Rattle.template_runs_works.proofs.Arguments.{about_none, about_more}
 use Rattle.template_runs_terms.proofs.PlainForms as plain
 use Rattle.template_runs_terms.proofs.OtherForms as other
 

@@ -1,4 +1,1 @@
-pub mod Rooms
-pub mod SuitedTerms
-pub mod TemplateParts
 pub mod TermsFollow

@@ -11,9 +11,9 @@ use Rattle.ref_machine.specs.Items.{Item, Value, Unused}
 use Rattle.ref_machine.specs.ConditionItems.{condition}
 use Rattle.template_runs.specs.TemplateStates.{Templates}
 use Rattle.template_runs_follow.specs.Follows.{Leads, Follows}
-use Rattle.template_runs_terms.specs.Rooms.{room}
-use Rattle.template_runs_terms.specs.SuitedTerms.{Suits}
-use Rattle.template_runs_terms.specs.TemplateParts.{IsOfUnit, IsKnown, Stands}
+use Rattle.template_runs_works.specs.Rooms.{room}
+use Rattle.template_runs_works.specs.SuitedTerms.{Suits}
+use Rattle.template_runs_works.specs.TemplateParts.{IsOfUnit, IsKnown, Stands}
 
 -- where the works of a term come to pieces, its items follow in these
 abbrev pub TermsFollow : Type 0

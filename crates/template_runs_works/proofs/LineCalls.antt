@@ -19,12 +19,12 @@ use Rattle.ref_machine.specs.TermItems.{arguments, argument_count}
 use Rattle.template_runs.specs.TemplateStates.{Templates}
 use Rattle.template_runs_follow.specs.Follows.{Leads, Follows}
 use Rattle.template_runs_follow.proofs.Constructions.{gives_read, gives_line}
-use Rattle.template_runs_terms.specs.Rooms.{room_of_all}
-use Rattle.template_runs_terms.specs.TemplateParts.{IsOfUnit, IsKnown, Stands}
-use Rattle.template_runs_terms.proofs.Runs.{Runs, RunsFrom, then_from, then_ends, second_temp, next_temp, stands_after}
-use Rattle.template_runs_terms.proofs.About.{Fits, Argued, argument_jobs}
-use Rattle.template_runs_terms.proofs.Arguments.{argued_jobs, few_arguments}
-use Rattle.template_runs_terms.proofs.Laying.{from_piece, from_none, led}
+use Rattle.template_runs_works.specs.Rooms.{room_of_all}
+use Rattle.template_runs_works.specs.TemplateParts.{IsOfUnit, IsKnown, Stands}
+use Rattle.template_runs_works.proofs.Runs.{Runs, RunsFrom, then_from, then_ends, second_temp, next_temp, stands_after}
+use Rattle.template_runs_works.proofs.About.{Fits, Argued, argument_jobs}
+use Rattle.template_runs_works.proofs.Arguments.{argued_jobs, few_arguments}
+use Rattle.template_runs_works.proofs.Laying.{from_piece, from_none, led}
 
 -- the piece that reads a line
 abbrev pub reading : Place → Option ℕ → ℕ → ℕ → ℕ → ℕ → ℕ → PieceView

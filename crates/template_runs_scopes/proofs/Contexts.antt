@@ -12,12 +12,12 @@ use Rattle.ref_machine.specs.Items.{Item}
 use Rattle.ref_machine.specs.Scopes.{is_in, all_of, open_scopes, without, inwards, behind_loop, behind_turn}
 use Rattle.template_runs.specs.TemplateStates.{Templates}
 use Rattle.template_runs_follow.specs.Follows.{Leads, Follows}
-use Rattle.template_runs_statements.specs.Scopes.{IsScope}
-use Rattle.template_runs_statements.specs.SuitedStatements.{AreNew}
-use Rattle.template_runs_statements.specs.Contexts.{Lands, Context, Within}
-use Rattle.template_runs_statements.specs.Contexts as contexts
-use Rattle.template_runs_statements.specs.Contexts.{Up, AreIn}
-use Rattle.template_runs_statements.proofs.Ways.{outwards, with_none, without_on, in_more, all_in, in_more_all, new_for_fewer}
+use Rattle.template_runs_scopes.specs.Scopes.{IsScope}
+use Rattle.template_runs_scopes.specs.SuitedStatements.{AreNew}
+use Rattle.template_runs_scopes.specs.Contexts.{Lands, Context, Within}
+use Rattle.template_runs_scopes.specs.Contexts as contexts
+use Rattle.template_runs_scopes.specs.Contexts.{Up, AreIn}
+use Rattle.template_runs_scopes.proofs.Ways.{outwards, with_none, without_on, in_more, all_in, in_more_all, new_for_fewer}
 
 -- ---- lists of objects
 

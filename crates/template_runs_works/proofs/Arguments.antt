@@ -22,12 +22,12 @@ use Rattle.template_runs.specs.TemplateStates.{Templates}
 use Rattle.template_runs_acts.specs.Acts.{temps_from, behind_call}
 use Rattle.template_runs_follow.specs.Follows.{at_place}
 use Rattle.template_runs_follow.proofs.Constructions.{gives_call}
-use Rattle.template_runs_terms.specs.Rooms.{room, room_of_all}
-use Rattle.template_runs_terms.specs.TemplateParts.{IsOfUnit}
-use Rattle.template_runs_terms.proofs.Runs.{Runs, then, piece_first, dropped}
-use Rattle.template_runs_terms.proofs.About.{Fits, About, AboutAll, Argued, argument_jobs}
-use Rattle.template_runs_terms.proofs.Operators.{first_fits, second_fits, next_fits, sizes_same}
-use Rattle.template_runs_terms.proofs.Assignments.{nothing_done, one_more_job}
+use Rattle.template_runs_works.specs.Rooms.{room, room_of_all}
+use Rattle.template_runs_works.specs.TemplateParts.{IsOfUnit}
+use Rattle.template_runs_works.proofs.Runs.{Runs, then, piece_first, dropped}
+use Rattle.template_runs_works.proofs.About.{Fits, About, AboutAll, Argued, argument_jobs}
+use Rattle.template_runs_works.proofs.Operators.{first_fits, second_fits, next_fits, sizes_same}
+use Rattle.template_runs_works.proofs.Assignments.{nothing_done, one_more_job}
 
 -- ---- plans
 

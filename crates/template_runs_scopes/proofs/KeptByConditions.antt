@@ -16,8 +16,8 @@ use Rattle.flow_lower_tasks.specs.TermKinds.{meaning, integer_type, term_type, r
 use Rattle.flow_lower_tasks.specs.declared.pending_works.Decision.{Decision}
 use Rattle.flow_lower_tasks.specs.declared.term_kinds.OperatorMeaning.{OperatorMeaning}
 use Rattle.flow_lower_tasks.specs.declared.term_kinds.OperatorMeaning.TheVariants.{Number, Truth}
-use Rattle.template_runs_statements.proofs.KeptScopes.{Keeps, kept}
-use Rattle.template_runs_statements.proofs.KeptByTerms.{keeps_argued}
+use Rattle.template_runs_scopes.proofs.KeptScopes.{Keeps, kept}
+use Rattle.template_runs_scopes.proofs.KeptByTerms.{keeps_argued}
 
 keeps_side : {start : Plan} (o : Option NamedObject) (constant : Option ℤ) (p : Plan) → Keeps start p → Keeps start (side_of o constant p).after
 keeps_side (Some o) constant p g = search kept

@@ -8,7 +8,7 @@ use Rattle.ref_machine.specs.Items.{Item}
 use Rattle.ref_machine.specs.Scopes.{is_in, all_of, open_scopes, without, inwards, behind_loop, behind_turn}
 use Rattle.template_runs.specs.TemplateStates.{Templates}
 use Rattle.template_runs_follow.specs.Follows.{Leads, Follows}
-use Rattle.template_runs_statements.specs.Scopes.{IsScope}
+use Rattle.template_runs_scopes.specs.Scopes.{IsScope}
 
 -- from a scope outwards to another one such objects are left
 pub data Up (s : SettingView) : ℕ → ℕ → List ℕ → Type 0 where

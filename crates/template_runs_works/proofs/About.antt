@@ -17,10 +17,10 @@ use Rattle.ref_machine.specs.ConditionItems.{term_items, condition}
 use Rattle.template_runs.specs.TemplateStates.{Templates}
 use Rattle.template_runs_follow.specs.Follows.{Leads, Follows}
 use Rattle.template_runs_follow.proofs.Constructions.{gives_value, gives_unused, gives_address}
-use Rattle.template_runs_terms.specs.Rooms.{room, room_of_place, room_of_all}
-use Rattle.template_runs_terms.specs.SuitedTerms.{Suits, SuitsAsPlace, SuitAll}
-use Rattle.template_runs_terms.specs.TemplateParts.{IsKnown, Stands}
-use Rattle.template_runs_terms.proofs.Runs.{Runs, consists}
+use Rattle.template_runs_works.specs.Rooms.{room, room_of_place, room_of_all}
+use Rattle.template_runs_works.specs.SuitedTerms.{Suits, SuitsAsPlace, SuitAll}
+use Rattle.template_runs_works.specs.TemplateParts.{IsKnown, Stands}
+use Rattle.template_runs_works.proofs.Runs.{Runs, consists}
 
 -- so many temporaries from one on are there
 abbrev pub Fits : ℕ → ℕ → Type 0

@@ -14,9 +14,9 @@ use Rattle.flow_lower_growth.proofs.GrowingWorks.{grows, jobs_none, planless_gro
 use Rattle.ref_machine.specs.Items.{Item}
 use Rattle.template_runs.specs.TemplateStates.{Templates}
 use Rattle.template_runs_follow.specs.Follows.{Follows, Leads}
-use Rattle.template_runs_terms.specs.TemplateParts.{IsOfUnit, IsKnown, Stands}
-use Rattle.template_runs_terms.proofs.Runs.{Runs, headed, none_made, known_before}
-use Rattle.template_runs_terms.proofs.Labels.{leads}
+use Rattle.template_runs_works.specs.TemplateParts.{IsOfUnit, IsKnown, Stands}
+use Rattle.template_runs_works.proofs.Runs.{Runs, headed, none_made, known_before}
+use Rattle.template_runs_works.proofs.Labels.{leads}
 
 module _ (s : SettingView) (r : Plan) (rest : List PieceView) where
   -- what is said of pieces and those behind them

@@ -8,8 +8,8 @@ use Rattle.flow_lower_tasks.specs.Settings.{SettingView}
 use Rattle.flow_lower_statements.specs.ScopeJumps as scopes
 use Rattle.flow_lower_statements.specs.ScopeJumps.{way, all_left}
 use Rattle.ref_machine.specs.Scopes.{is_in, without}
-use Rattle.template_runs_statements.specs.Contexts.{Up, here, out, AreIn}
-use Rattle.template_runs_statements.specs.SuitedStatements.{AreNew}
+use Rattle.template_runs_scopes.specs.Contexts.{Up, here, out, AreIn}
+use Rattle.template_runs_scopes.specs.SuitedStatements.{AreNew}
 
 pub outwards : (s : SettingView) (from to : ℕ) (xs : List ℕ) → Up s from to xs → to ≤ from
 outwards s _ _ _ (here k) = itself k

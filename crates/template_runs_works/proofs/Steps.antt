@@ -17,9 +17,9 @@ use Rattle.ref_machine.specs.Operations as op
 use Rattle.template_runs.specs.TemplateStates.{Templates}
 use Rattle.template_runs_acts.specs.Acts as acts
 use Rattle.template_runs_follow.specs.Follows.{at_place}
-use Rattle.template_runs_terms.proofs.Runs.{Runs, then, does}
-use Rattle.template_runs_terms.proofs.About.{Addressed}
-use Rattle.template_runs_terms.proofs.Assignments.{conversion_jobs, copies, converts, stores, keeps}
+use Rattle.template_runs_works.proofs.Runs.{Runs, then, does}
+use Rattle.template_runs_works.proofs.About.{Addressed}
+use Rattle.template_runs_works.proofs.Assignments.{conversion_jobs, copies, converts, stores, keeps}
 
 -- the works of a step: the old value is in one temporary, the new one in the same or in another one
 abbrev pub step_jobs : LvalueTree → Place → Place → IntType → IntType → IntOp → Option (ℕ × ℕ) → Bool → Bool → ℕ → ℕ → ℕ → List Job

@@ -7,9 +7,9 @@ use Rattle.flow_lower_tasks.specs.Plans.{Plan}
 use Rattle.flow_lower_tasks.specs.Settings.{SettingView}
 use Rattle.flow_lower_functions.specs.Turns.{planless}
 use Rattle.flow_lower_works.specs.Derivations.{parts, Makes, nothing, piece, work}
-use Rattle.template_runs_statements.proofs.KeptScopes.{IsTerm, AreTerms, Keeps}
-use Rattle.template_runs_statements.proofs.KeptByTerms.{keeps_term, keeps_pointer}
-use Rattle.template_runs_statements.proofs.KeptByConditions.{keeps_condition}
+use Rattle.template_runs_scopes.proofs.KeptScopes.{IsTerm, AreTerms, Keeps}
+use Rattle.template_runs_scopes.proofs.KeptByTerms.{keeps_term, keeps_pointer}
+use Rattle.template_runs_scopes.proofs.KeptByConditions.{keeps_condition}
 
 kept_parts : (s : SettingView) (j : Job) (p : Plan) → IsTerm j → AreTerms p.jobs → Keeps p (parts s j p)
 kept_parts s (jobs.Value e d) p is all = keeps_term s e d true p (record { scopes = refl; terms = all })

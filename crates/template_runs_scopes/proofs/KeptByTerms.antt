@@ -13,7 +13,7 @@ use Rattle.flow_lower_tasks.specs.Settings.{SettingView}
 use Rattle.flow_lower_expressions.specs.Calls.{argued, is_allocation, reads_line, sited, allocated, line_value, target_size, library_at, plain_call, library_call}
 use Rattle.flow_lower_expressions.specs.LvaluePointers.{address}
 use Rattle.flow_lower_expressions.specs.Values.{of_form, term}
-use Rattle.template_runs_statements.proofs.KeptScopes.{Keeps, keeps_value, kept}
+use Rattle.template_runs_scopes.proofs.KeptScopes.{Keeps, keeps_value, kept}
 
 pub keeps_argued : {start : Plan} (args : TermTrees) (depth : ℕ) (p : Plan) → Keeps start p → Keeps start (argued args depth p)
 keeps_argued tree.End depth p g = g

@@ -22,7 +22,7 @@ use Rattle.template_runs.specs.TemplateStates.{Templates}
 use Rattle.template_runs_acts.specs.Acts.{IsAct}
 use Rattle.template_runs_follow.specs.Follows.{Names, Follows, at_place}
 use Rattle.template_runs_follow.proofs.Constructions.{gives_step, gives_drop}
-use Rattle.template_runs_terms.specs.TemplateParts.{IsKnown, Stands}
+use Rattle.template_runs_works.specs.TemplateParts.{IsKnown, Stands}
 
 -- ---- numbers of temporaries
 

@@ -7,8 +7,8 @@ use Rattle.c_layout.specs.CheckedTrees as tree
 use Rattle.c_layout.specs.CheckedTrees.{TermTree, LvalueTree, StatementTree, StatementTrees, StoreTree, StoreValue, StoreCopy, StoreText}
 use Rattle.flow_lower_tasks.specs.TermKinds.{struct_number, lvalue_type}
 use Rattle.ref_machine.specs.Scopes.{is_in}
-use Rattle.template_runs_terms.specs.Rooms.{room, room_of_place}
-use Rattle.template_runs_terms.specs.SuitedTerms.{Suits, SuitsAsPlace}
+use Rattle.template_runs_works.specs.Rooms.{room, room_of_place}
+use Rattle.template_runs_works.specs.SuitedTerms.{Suits, SuitsAsPlace}
 
 -- a term that is computed behind so many values
 abbrev pub SuitsBehind : Bool → ℕ → TermTree → Type 0

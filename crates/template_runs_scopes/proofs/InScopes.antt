@@ -14,11 +14,11 @@ use Rattle.ref_machine.specs.Items.{Item}
 use Rattle.template_runs.specs.TemplateStates.{Templates}
 use Rattle.template_runs_follow.specs.Follows.{Follows}
 use Rattle.template_runs_follow.proofs.FewerTurns.{less}
-use Rattle.template_runs_terms.specs.TemplateParts.{IsKnown, Stands}
-use Rattle.template_runs_terms.proofs.Runs.{Runs, known_before, stands_behind, opened, joined, split}
-use Rattle.template_runs_statements.proofs.KeptScopes.{AreTerms}
-use Rattle.template_runs_statements.proofs.ScopesOfTerms.{scopes_kept}
-use Rattle.template_runs_statements.specs.Contexts.{Lands, Context}
+use Rattle.template_runs_works.specs.TemplateParts.{IsKnown, Stands}
+use Rattle.template_runs_works.proofs.Runs.{Runs, known_before, stands_behind, opened, joined, split}
+use Rattle.template_runs_scopes.proofs.KeptScopes.{AreTerms}
+use Rattle.template_runs_scopes.proofs.ScopesOfTerms.{scopes_kept}
+use Rattle.template_runs_scopes.specs.Contexts.{Lands, Context}
 
 module _ (s : SettingView) (t : Templates) where
   -- ---- fewer turns

@@ -23,10 +23,10 @@ use Rattle.template_runs.specs.TemplateStates.{Templates}
 use Rattle.template_runs_acts.specs.Acts as acts
 use Rattle.template_runs_acts.specs.Acts.{IsAct}
 use Rattle.template_runs_follow.specs.Follows.{at_place}
-use Rattle.template_runs_terms.specs.Rooms.{larger, both_rooms}
-use Rattle.template_runs_terms.specs.TemplateParts.{IsOfUnit}
-use Rattle.template_runs_terms.proofs.Runs.{Runs, then, does}
-use Rattle.template_runs_terms.proofs.About.{Fits, Valued, Addressed, moved, moved_address}
+use Rattle.template_runs_works.specs.Rooms.{larger, both_rooms}
+use Rattle.template_runs_works.specs.TemplateParts.{IsOfUnit}
+use Rattle.template_runs_works.proofs.Runs.{Runs, then, does}
+use Rattle.template_runs_works.proofs.About.{Fits, Valued, Addressed, moved, moved_address}
 
 -- ---- room
 

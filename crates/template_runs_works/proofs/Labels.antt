@@ -6,7 +6,7 @@ use Rattle.flow_lower_debts.specs.Marks.{one, all_marked}
 use Rattle.template_runs.specs.TemplateStates.{Templates}
 use Rattle.template_runs.specs.TemplateExits.{behind_mark}
 use Rattle.template_runs_follow.specs.Follows.{Leads, pieces}
-use Rattle.template_runs_terms.specs.TemplateParts.{Stands}
+use Rattle.template_runs_works.specs.TemplateParts.{Stands}
 
 here : (l : ℕ) (ps : List PieceView) → behind_mark l (Mark l ∷ ps) ≡ Some ps
 here l ps = ap (λ b. cond b (Some ps) (behind_mark l ps)) (eq-eqb l l refl)

@@ -16,9 +16,9 @@ use Rattle.template_runs.specs.TemplateStates.{Templates}
 use Rattle.template_runs_follow.specs.Follows as follows
 use Rattle.template_runs_follow.specs.Follows.{Names, Follows, at_place, own}
 use Rattle.template_runs_follow.proofs.Constructions.{gives_enter, gives_leave, gives_no_enters, gives_no_leaves}
-use Rattle.template_runs_terms.specs.TemplateParts.{IsOfUnit, IsKnown, Stands}
-use Rattle.template_runs_terms.proofs.Runs.{Runs, headed, none_made, stands_after}
-use Rattle.template_runs_statements.proofs.KeptScopes.{AreTerms}
+use Rattle.template_runs_works.specs.TemplateParts.{IsOfUnit, IsKnown, Stands}
+use Rattle.template_runs_works.proofs.Runs.{Runs, headed, none_made, stands_after}
+use Rattle.template_runs_scopes.proofs.KeptScopes.{AreTerms}
 
 -- ---- works
 

@@ -24,9 +24,9 @@ use Rattle.template_runs_acts.specs.Acts as acts
 use Rattle.template_runs_acts.specs.Acts.{IsAct, IsActBehind}
 use Rattle.template_runs_follow.specs.Follows.{at_place, Follows}
 use Rattle.template_runs_follow.proofs.Constructions.{gives_store, gives_again}
-use Rattle.template_runs_terms.proofs.Runs.{Runs, then, does, piece_first, none_made}
-use Rattle.template_runs_terms.proofs.About.{Valued, Addressed}
-use Rattle.template_runs_terms.proofs.Operators.{both_sides}
+use Rattle.template_runs_works.proofs.Runs.{Runs, then, does, piece_first, none_made}
+use Rattle.template_runs_works.proofs.About.{Valued, Addressed}
+use Rattle.template_runs_works.proofs.Operators.{both_sides}
 
 -- ---- plans
 

@@ -1,0 +1,3 @@
+pub mod Scopes
+pub mod SuitedStatements
+pub mod Contexts

@@ -1,0 +1,2 @@
+//! Statements in scopes and loops, and the ways out of these.
+#![tactic(auto)]

@@ -1,0 +1,6 @@
+//! Ways from any scope of a function to any other one.
+#![tactic(auto)]
+
+mod theorems;
+
+pub use theorems::{jumps_are_ways, ways_are_pieces, ways_enter};

@@ -1,0 +1,2 @@
+//! Works of templates and items of the source, one after the other.
+#![tactic(auto)]
