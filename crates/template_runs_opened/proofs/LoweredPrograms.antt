@@ -29,12 +29,12 @@ use Rattle.template_runs_laid.specs.Copies as copies
 use Rattle.template_runs_laid.specs.Layouts.{IsLaidOut}
 use Rattle.template_runs_laid.specs.LaidRuns.{HasLeft, LeavesAll, AgreeUnlessStuck}
 use Rattle.template_runs_laid.proofs.LaidSteps as laid_runs
-use Rattle.template_runs_opened.specs.LowTemporaries.{HasLowTemps}
-use Rattle.template_runs_opened.specs.FitTemplates.{IsFit}
+use Rattle.template_runs_layouts.specs.LowTemporaries.{HasLowTemps}
+use Rattle.template_runs_layouts.specs.FitTemplates.{IsFit}
 use Rattle.template_runs_opened.specs.OpenedRuns.{IsMade, template_or, settled_of, IsOpened, settled_templates, made_templates, OpenedRunsAreTheSame}
-use Rattle.template_runs_opened.proofs.ListPlaces.{some_same}
+use Rattle.template_runs_openings.proofs.ListPlaces.{some_same}
 use Rattle.template_runs_opened.proofs.FitSettled.{settled_once, settled_fit}
-use Rattle.template_runs_opened.proofs.LaidCopies.{MarkedOnce, Fits}
+use Rattle.template_runs_layouts.proofs.LaidCopies.{MarkedOnce, Fits}
 use Rattle.template_runs_opened.proofs.LaidPrograms as laid
 use Rattle.template_runs_opened.proofs.LaidPrograms.{last, none_ready, is_laid_out}
 

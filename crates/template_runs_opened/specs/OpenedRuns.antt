@@ -13,8 +13,8 @@ use Rattle.template_runs.specs.TemplateStates.{Templates}
 use Rattle.template_runs.specs.TemplateSteps.{template_begin, steps_from}
 use Rattle.template_runs_settled.specs.SettledRuns.{LabelsStandOnce, templates, ReturnsWith, NamesNothing}
 use Rattle.template_runs_laid.specs.LaidRuns.{LeavesAll, AgreeUnlessStuck}
-use Rattle.template_runs_opened.specs.LowTemporaries.{HasLowTemps}
-use Rattle.template_runs_opened.specs.FitTemplates.{IsFit}
+use Rattle.template_runs_layouts.specs.LowTemporaries.{HasLowTemps}
+use Rattle.template_runs_layouts.specs.FitTemplates.{IsFit}
 
 -- the template of a function as it is made: its labels stand once, and it names what is there
 pub record IsMade (u : UnitView) (n : ℕ) (t : TemplateView) : Type 0 where

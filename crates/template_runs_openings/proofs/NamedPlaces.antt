@@ -8,8 +8,8 @@ use Rattle.flow_program.specs.declared.flow_edges.Test.{Test}
 use Rattle.flow_lower_tasks.specs.Pieces.{NameView, Local, Way, Always, When, Case, Other, NoLine, Line, ExitView}
 use Rattle.flow_lower.specs.BaseTables.{TableView, Named, known, base}
 use Rattle.flow_lower.specs.Openings.{Made, CopyView, Placed, placed, with_bases, with_locals, after_naming, name_at, naming, base_number, with_base, with_own, with_side, with_test, with_way, with_local}
-use Rattle.template_runs_opened.specs.FitTemplates.{IsNameThere}
-use Rattle.template_runs_opened.proofs.NamedTables.{GoodTable, GoodLocals, More, more_same, more_twice, bases_longer, MoreLocals, locals_same, locals_twice, Stands, is_named}
+use Rattle.template_runs_openings.specs.NameRanges.{IsNameThere}
+use Rattle.template_runs_openings.proofs.NamedTables.{GoodTable, GoodLocals, More, more_same, more_twice, bases_longer, MoreLocals, locals_same, locals_twice, Stands, is_named}
 
 module _ (u : UnitView) where
   pub record Good (p : Placed) : Type 0 where

@@ -8,8 +8,8 @@ use Rattle.flow_lower_tasks.specs.Pieces.{Always}
 use Rattle.flow_program_views.specs.ProgramViews.{BlockView, EdgeView}
 use Rattle.flow_lower.specs.BaseTables.{TableView}
 use Rattle.flow_lower.specs.Openings.{Made, with_bases, with_ready, with_edge, edge_to, ended_block, ended, instruction, jumped, jumped_if, is_none, labelled, marked, with_labels}
-use Rattle.template_runs_opened.proofs.ListPlaces.{within, left_of, at_end, at_more, one_longer, no_shorter, part_kept, part_at_end, set_length}
-use Rattle.template_runs_opened.proofs.NamedTables.{More, more_same, more_twice}
+use Rattle.template_runs_openings.proofs.ListPlaces.{within, left_of, at_end, at_more, one_longer, no_shorter, part_kept, part_at_end, set_length}
+use Rattle.template_runs_openings.proofs.NamedTables.{More, more_same, more_twice}
 
 -- the instructions of the blocks, and those of the current one
 abbrev pub lines : Made → List (List Step)

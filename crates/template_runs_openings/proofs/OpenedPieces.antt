@@ -10,9 +10,9 @@ use Rattle.flow_lower_tasks.specs.Pieces.{ExitView, PieceView, Do, DoIfUsed, End
 use Rattle.flow_lower.specs.BaseTables.{TableView}
 use Rattle.flow_lower.specs.MovedActs.{own_base}
 use Rattle.flow_lower.specs.Openings.{Made, CopyView, Placed, placed, with_bases, with_locals, with_step, with_ready, instruction, own_number, with_own, with_act, ended, block_ended, with_edge, add_edge, edge_to, way_moved, with_way, with_exit, with_exits, closed, with_act_if_used, is_none, jumped, jumped_if, labelled, marked, with_mark, with_piece}
-use Rattle.template_runs_opened.proofs.NamedTables.{GoodTable, GoodLocals, MoreLocals, locals_same, locals_twice, bases_longer}
-use Rattle.template_runs_opened.proofs.MadeParts.{Extends, extends_same, extends_twice, extends_ready, extends_edge, extends_ended, extends_bases, extends_marked}
-use Rattle.template_runs_opened.proofs.NamedPlaces.{Good, Only, only_own, only_way}
+use Rattle.template_runs_openings.proofs.NamedTables.{GoodTable, GoodLocals, MoreLocals, locals_same, locals_twice, bases_longer}
+use Rattle.template_runs_openings.proofs.MadeParts.{Extends, extends_same, extends_twice, extends_ready, extends_edge, extends_ended, extends_bases, extends_marked}
+use Rattle.template_runs_openings.proofs.NamedPlaces.{Good, Only, only_own, only_way}
 
 -- whether a piece is a label with this number
 abbrev pub marks : ℕ → PieceView → Bool

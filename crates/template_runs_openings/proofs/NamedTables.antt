@@ -17,8 +17,8 @@ use Rattle.flow_lower_counts.specs.SharedObjects.{literal_type}
 use Rattle.flow_lower_shapes.specs.HeapBases.{heap_shape}
 use Rattle.flow_lower_tasks.specs.Pieces.{NameView, Local, Outcome, Static, Literal, Allocation}
 use Rattle.flow_lower.specs.BaseTables.{TableView, info, added, object_added, allocated, Named, named, local_or, local, found_in, known, object_noted, literal_noted, literal_made, literal_or, with_literal, object_made, object_or, with_object, with_shared, brought, with_all, with_pointed, number_of, object_named, literal_named, base}
-use Rattle.template_runs_opened.specs.FitTemplates.{IsNameThere}
-use Rattle.template_runs_opened.proofs.ListPlaces.{some_same, within, left_of, at_end, one_longer, no_shorter, known_there, set_here, set_cases, set_kept, set_length}
+use Rattle.template_runs_openings.specs.NameRanges.{IsNameThere}
+use Rattle.template_runs_openings.proofs.ListPlaces.{some_same, within, left_of, at_end, one_longer, no_shorter, known_there, set_here, set_cases, set_kept, set_length}
 
 -- ---- what a base is
 

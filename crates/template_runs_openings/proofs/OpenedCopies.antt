@@ -9,11 +9,11 @@ use Rattle.flow_lower_tasks.specs.declared.template_pieces.OwnCall.{OwnCall}
 use Rattle.flow_lower.specs.BaseTables.{TableView, known}
 use Rattle.flow_lower.specs.Openings.{Made, CopyView, Placed, Opened, placed, opened, with_locals, with_rest, with_piece, with_labels, copied, template_at, inner, entered, next_piece, next, run}
 use Rattle.flow_lower.proofs.CountedCalls.{CalledIs, AllCalled}
-use Rattle.template_runs_opened.proofs.ListPlaces.{none_is_not}
-use Rattle.template_runs_opened.proofs.NamedTables.{GoodTable, GoodLocals, locals_on, MoreLocals, locals_same, locals_twice, bases_longer}
-use Rattle.template_runs_opened.proofs.MadeParts.{Extends, extends_same, extends_twice, extends_labels}
-use Rattle.template_runs_opened.proofs.NamedPlaces.{Good}
-use Rattle.template_runs_opened.proofs.OpenedPieces.{Steps, steps_piece, marks, Unmarked, labels_kept}
+use Rattle.template_runs_openings.proofs.ListPlaces.{none_is_not}
+use Rattle.template_runs_openings.proofs.NamedTables.{GoodTable, GoodLocals, locals_on, MoreLocals, locals_same, locals_twice, bases_longer}
+use Rattle.template_runs_openings.proofs.MadeParts.{Extends, extends_same, extends_twice, extends_labels}
+use Rattle.template_runs_openings.proofs.NamedPlaces.{Good}
+use Rattle.template_runs_openings.proofs.OpenedPieces.{Steps, steps_piece, marks, Unmarked, labels_kept}
 
 abbrev pub is_call : PieceView → Bool
 is_call (Do s) = false
