@@ -1,5 +1,5 @@
 -- The numbers of what names of templates are of.
-use Rattle.std.specs.Prelude.{◌<◌, ℕ, ◌+◌, length}
+use Rattle.std.specs.Prelude.{◌<◌, ◌+◌, length}
 use Rattle.c_layout.specs.CheckedUnits.{FunctionView, UnitView}
 use Rattle.flow_lower_tasks.specs.Pieces.{NameView, Local, Outcome, Static, Literal, Allocation}
 
