@@ -1,5 +1,5 @@
 -- The end of a block in a copy leads in the program to where it leads in the template.
-use Rattle.std.proofs.Common.{◌≡◌, ℕ, zero, suc, ◌+◌, ℤ, pos, Bool, true, false, cond, List, [], ◌∷◌, ◌++◌, map, Option, Some, None, slice_get, refl, ap, sym, subst, ◌∙◌}
+use Rattle.std.proofs.Common.{◌≡◌, ℕ, ◌+◌, ℤ, pos, Bool, true, false, cond, List, [], ◌∷◌, ◌++◌, Option, Some, None, slice_get, refl, ap, sym, subst}
 use Rattle.std.specs.Option.{option_map}
 use Rattle.cc_base.specs.declared.diagnostics.Place.{Place}
 use Rattle.cc_base.specs.declared.int_types.IntType.{IntType}
@@ -8,14 +8,12 @@ use Rattle.c_layout.specs.CheckedUnits.{FunctionView, UnitView}
 use Rattle.c_layout.specs.declared.checked_tree.checked_terms.ObjectRef.{ObjectRef}
 use Rattle.c_layout.specs.declared.checked_tree.checked_terms.ObjectRef.TheVariants as object
 use Rattle.c_layout.specs.declared.data_model.Model.{Model}
-use Rattle.c_layout.specs.declared.shapes.BaseInfo.{BaseInfo}
 use Rattle.flow_program.specs.declared.flow_edges.Side.{Side}
-use Rattle.flow_program.specs.declared.flow_edges.Side.TheVariants as side
 use Rattle.flow_program.specs.declared.flow_edges.Test.{Test}
 use Rattle.flow_lower_functions.specs.Functions.{local_type}
 use Rattle.flow_lower_tasks.specs.Acts as act
 use Rattle.flow_lower_tasks.specs.Acts.{Act}
-use Rattle.flow_lower_tasks.specs.Pieces.{NameView, Local, Outcome, Static, Literal, Allocation, Way, Always, When, Case, Other, NoLine, Line, ExitView, PieceView}
+use Rattle.flow_lower_tasks.specs.Pieces.{NameView, Local, Outcome, Static, Literal, Allocation, Way, ExitView, PieceView}
 use Rattle.flow_lower_tasks.specs.TermKinds.{integer_type}
 use Rattle.lib_models_memory.specs.Labels.{no_labels}
 use Rattle.lib_models_memory.specs.Scalars.{Scalar, integer, pointer}
@@ -41,7 +39,7 @@ use Rattle.template_runs.specs.TemplateExits.{behind_mark, at_label, exit_taken,
 use Rattle.template_runs.specs.TemplateSteps as template_runs
 use Rattle.template_runs_laid.specs.Shifts as shifts
 use Rattle.template_runs_laid.specs.Shifts.{put_shifted, shifted}
-use Rattle.template_runs_laid.specs.Copies.{Opened, Copy, IsObject, IsLiteral, StandsForIt, name_of, IsBase, IsResult, type_named, type_if, result_type, IsSwitched, IsSwitchedObject}
+use Rattle.template_runs_laid.specs.Copies.{Opened, Copy, IsObject, IsLiteral, StandsForIt, name_of, IsResult, type_named, type_if, result_type, IsSwitched}
 use Rattle.template_runs_laid.specs.Layouts as layouts
 use Rattle.template_runs_laid.specs.Layouts.{IsSide, IsTest, IsCaseObject, IsWay, AreLed, edges_at}
 use Rattle.template_runs_laid.specs.LaidRuns.{templates}

@@ -1,8 +1,7 @@
 -- An instruction of a copy does in the program what it does in the template.
-use Rattle.std.proofs.Common.{◌≡◌, ℕ, suc, ◌+◌, ℤ, List, [], ◌∷◌, ◌++◌, length, Option, Some, None, slice_get, refl, ap, sym, subst, ◌∙◌}
+use Rattle.std.proofs.Common.{◌≡◌, ℕ, suc, ◌+◌, List, ◌++◌, length, Option, Some, None, slice_get, ap, sym, subst, ◌∙◌}
 use Rattle.cc_base.specs.declared.diagnostics.Place.{Place}
-use Rattle.c_layout.specs.Types.{Ty}
-use Rattle.c_layout.specs.CheckedUnits.{FunctionView, LiteralView}
+use Rattle.c_layout.specs.CheckedUnits.{FunctionView}
 use Rattle.c_layout.specs.declared.checked_tree.checked_terms.ObjectRef.TheVariants as object
 use Rattle.c_layout.specs.declared.shapes.BaseInfo.{BaseInfo}
 use Rattle.flow_lower_functions.specs.Functions.{local_type}
@@ -10,12 +9,11 @@ use Rattle.flow_lower_tasks.specs.Acts as act
 use Rattle.flow_lower_tasks.specs.Acts.{Act}
 use Rattle.flow_lower_tasks.specs.Pieces.{NameView, Local, Outcome, Static, Literal, Allocation, PieceView}
 use Rattle.lib_models_memory.specs.Bytes.{into}
-use Rattle.lib_models_memory.specs.Instances.{Memory}
 use Rattle.lib_models_memory.specs.Scalars.{Scalar, pointer}
 use Rattle.lib_models_effects.specs.NumberedTables.{set_at, put_at, clear_at}
-use Rattle.lib_models_effects.specs.ObjectEffects.{next_instance, entered, left, forgotten, cleared, spelled}
+use Rattle.lib_models_effects.specs.ObjectEffects.{next_instance, entered, left}
 use Rattle.lib_models_effects.specs.UnitStarts.{literal_instance}
-use Rattle.lib_models_effects.specs.Worlds.{World, Why, Stuck, Reply, goes, stops, behind, Violation}
+use Rattle.lib_models_effects.specs.Worlds.{World, Why, Reply, goes, stops, behind, Violation}
 use Rattle.flow_program_views.specs.ProgramViews.{FlowView}
 use Rattle.flow_program_machine.specs.FlowStates as flow
 use Rattle.flow_program_machine.specs.FlowStates.{size_in, base_size}
@@ -34,12 +32,12 @@ use Rattle.template_runs.specs.TemplateActs as template_acts
 use Rattle.template_runs.specs.TemplateActs.{pointed, addressed, from_flow, from_scene, perform}
 use Rattle.template_runs.specs.TemplateSteps as template_runs
 use Rattle.template_runs_laid.specs.Shifts.{named_base, shifted}
-use Rattle.template_runs_laid.specs.Copies.{Opened, Copy, IsThere, IsLocal, IsObject, IsLiteral, StandsFor, StandsForIt, name_of, IsBase, IsOwnBase, IsResult}
-use Rattle.template_runs_laid.specs.Layouts.{Laid, IsAtStart, PointsWell, IsPut}
+use Rattle.template_runs_laid.specs.Copies.{Opened, Copy, IsThere, IsObject, IsLiteral, StandsForIt, name_of, IsOwnBase, IsResult}
+use Rattle.template_runs_laid.specs.Layouts.{Laid, IsAtStart, PointsWell}
 use Rattle.template_runs_laid.specs.LaidRuns.{templates, of_unit}
 use Rattle.template_runs_laid.proofs.ShiftedValues as values
 use Rattle.template_runs_laid.proofs.ShiftedValues.{Held, Keeps, held_put, keeps_put, keeps_all, same_value}
-use Rattle.template_runs_laid.proofs.Standings.{Around, Names, Both, both_run, both_stopped, stuck, related, world, std, prog, keep_same, waits_on, named_set, keep_set, tables_set}
+use Rattle.template_runs_laid.proofs.Standings.{Around, Both, both_run, both_stopped, stuck, related, std, prog, keep_same, waits_on, named_set, keep_set, tables_set}
 
 module _ (o : Opened) (are_objects : (n b : ℕ) → o.objects n ≡ Some b → IsObject o n b) (are_literals : (n b : ℕ) → o.literals n ≡ Some b → IsLiteral o n b) where
   abbrev pub program : FlowView

@@ -1,5 +1,5 @@
 -- A step of templates is one of the program in which they are laid out, or none, or a jump to a label.
-use Rattle.std.proofs.Common.{◌≡◌, ◌<◌, ◌≤◌, ◌⊎◌, inl, inr, ℕ, zero, suc, ◌+◌, ◌-◌, ℤ, pos, Bool, true, false, cond, nat_lt, List, [], ◌∷◌, ◌++◌, Option, Some, None, slice_get, refl, arith, ap, sym, subst, ◌∙◌}
+use Rattle.std.proofs.Common.{◌≡◌, ◌<◌, ◌≤◌, ◌⊎◌, inl, inr, ℕ, zero, suc, ◌+◌, ◌-◌, ℤ, pos, Bool, true, false, cond, nat_lt, List, [], ◌∷◌, ◌++◌, Option, Some, None, refl, arith, ap, sym, subst, ◌∙◌}
 use Rattle.std.proofs.lemmas.Bool.{ltb-true, ltb-false}
 use Rattle.std.proofs.lemmas.List.{append-nil}
 use Rattle.cc_base.specs.declared.diagnostics.Place.{Place}
@@ -9,12 +9,12 @@ use Rattle.lib_models_memory.specs.Labels.{no_labels}
 use Rattle.lib_models_memory.specs.Scalars.{Scalar, integer}
 use Rattle.lib_models_effects.specs.NumberedTables.{empty_table}
 use Rattle.lib_models_effects.specs.UnitStarts.{entry_parameters, start_world}
-use Rattle.lib_models_effects.specs.Worlds.{World, Why, Stuck, Reply, goes, stops, Violation}
+use Rattle.lib_models_effects.specs.Worlds.{World, Reply, goes, stops, Violation}
 use Rattle.flow_lower_tasks.specs.Acts as acts
 use Rattle.flow_lower_tasks.specs.Acts.{Act, Step}
-use Rattle.flow_lower_tasks.specs.Pieces.{PieceView, Do, DoIfUsed, End, Mark, Call, Always}
+use Rattle.flow_lower_tasks.specs.Pieces.{PieceView, DoIfUsed, Call, Always}
 use Rattle.flow_lower_tasks.specs.declared.template_pieces.OwnCall.{OwnCall}
-use Rattle.flow_program_views.specs.ProgramViews.{EdgeView, FlowView}
+use Rattle.flow_program_views.specs.ProgramViews.{FlowView}
 use Rattle.flow_program_machine.specs.FlowStates as flow
 use Rattle.flow_program_machine.specs.FlowStates.{FlowRun}
 use Rattle.flow_program_machine.specs.FlowEdges.{edge_taken}
@@ -33,9 +33,9 @@ use Rattle.template_runs_laid.specs.Shifts.{shifted}
 use Rattle.template_runs_laid.specs.Copies.{Opened, Copy, IsCopy, AllApart}
 use Rattle.template_runs_laid.specs.Layouts as laid
 use Rattle.template_runs_laid.specs.Layouts.{Laid, IsPut, Stands, IsAutomatic, IsLaidOut, edges_at}
-use Rattle.template_runs_laid.specs.LaidRuns.{templates, of_unit, HasLeft, LeavesAll, Agree, AgreeUnlessStuck}
+use Rattle.template_runs_laid.specs.LaidRuns.{templates, of_unit, HasLeft, LeavesAll, AgreeUnlessStuck}
 use Rattle.template_runs_laid.proofs.ShiftedValues.{Held}
-use Rattle.template_runs_laid.proofs.Standings.{Whole, Names, Waiting, none, one, IsActive, Tables, Around, Related, related, Both, both_run, both_stopped, stuck, world, std, prog}
+use Rattle.template_runs_laid.proofs.Standings.{Names, Waiting, none, one, IsActive, Tables, Around, Related, related, Both, both_run, both_stopped, stuck, world, std, prog}
 use Rattle.template_runs_laid.proofs.LaidObjects.{acted}
 use Rattle.template_runs_laid.proofs.LaidEdges.{ended}
 

@@ -1,5 +1,5 @@
 -- Instructions on values do the same on temporaries that are counted from another one.
-use Rattle.std.proofs.Common.{◌≡◌, ◌<◌, ◌≤◌, ℕ, suc, ◌+◌, ◌==◌, Bool, true, false, List, [], ◌∷◌, map, Option, Some, None, refl, arith, ap, ap₂, sym, subst, ◌∙◌}
+use Rattle.std.proofs.Common.{◌≡◌, ◌<◌, ℕ, suc, ◌+◌, ◌==◌, Bool, true, false, List, [], ◌∷◌, map, Option, Some, None, refl, arith, ap₂, sym, subst, ◌∙◌}
 use Rattle.std.specs.Option.{option_map}
 use Rattle.std.proofs.lemmas.Bool.{eq-eqb, eqb-true}
 use Rattle.c_layout.specs.CheckedUnits.{UnitView}
@@ -13,12 +13,12 @@ use Rattle.lib_models_effects.specs.LibraryCalls.{library}
 use Rattle.lib_models_effects.specs.NumberedTables.{set_at, put_at, empty_table}
 use Rattle.lib_models_effects.specs.PointerEffects.{narrow, shift, difference, compare}
 use Rattle.lib_models_effects.specs.StructCopies.{copy_struct}
-use Rattle.lib_models_effects.specs.Worlds.{World, Why, Stuck, Reply, goes, stops, behind}
+use Rattle.lib_models_effects.specs.Worlds.{World, Why, Stuck, Reply, goes, stops}
 use Rattle.flow_lower_tasks.specs.Acts as act
 use Rattle.flow_lower_tasks.specs.Acts.{Act}
 use Rattle.flow_program_views.specs.ProgramViews.{FlowView}
-use Rattle.flow_program_machine.specs.FlowStates.{Standing, if_some, with_temp, with_temps, and_value, values_of, put}
-use Rattle.flow_program_machine.specs.FlowActs.{giving, keeping, storing, put_result, calling, with_amount, on_one, on_two, struct_leaves, struct_size, perform}
+use Rattle.flow_program_machine.specs.FlowStates.{Standing, if_some, with_temp, with_temps, and_value, values_of}
+use Rattle.flow_program_machine.specs.FlowActs.{giving, storing, calling, with_amount, on_one, on_two, struct_leaves, struct_size, perform}
 use Rattle.flow_program_machine.specs.FlowSteps.{act_step}
 use Rattle.template_runs.specs.TemplateActs.{no_program}
 use Rattle.template_runs_laid.specs.Shifts as shifts

@@ -1,24 +1,21 @@
 -- Where a run of templates and one of a program in which they are laid out stand alike.
-use Rattle.std.proofs.Common.{◌≡◌, ◌<◌, ◌≤◌, ◌⊎◌, inl, inr, ℕ, zero, suc, ◌+◌, ◌-◌, ◌==◌, ℤ, Bool, true, false, cond, nat_lt, List, [], ◌∷◌, ◌++◌, Option, Some, None, refl, arith, ap, sym, subst, ◌∙◌}
+use Rattle.std.proofs.Common.{◌≡◌, ◌<◌, ◌⊎◌, inl, inr, ℕ, suc, ◌+◌, ◌==◌, ℤ, Bool, true, false, cond, List, [], ◌∷◌, Option, Some, None, refl, arith, ap, sym, subst, ◌∙◌}
 use Rattle.std.proofs.lemmas.Bool.{eqb-true}
-use Rattle.std.proofs.lemmas.List.{append-nil}
-use Rattle.cc_base.specs.declared.diagnostics.Place.{Place}
 use Rattle.cc_base.specs.declared.diagnostics.Rule.{Rule}
 use Rattle.c_layout.specs.declared.shapes.BaseInfo.{BaseInfo}
 use Rattle.c_layout.specs.declared.shapes.BaseKind.{BaseKind}
 use Rattle.c_layout.specs.declared.shapes.BaseKind.TheVariants as kind
 use Rattle.lib_models_memory.specs.Instances.{Memory}
 use Rattle.lib_models_memory.specs.Scalars.{Scalar}
-use Rattle.lib_models_effects.specs.NumberedTables.{set_at, put_at, clear_at}
+use Rattle.lib_models_effects.specs.NumberedTables.{set_at}
 use Rattle.lib_models_effects.specs.UnitStarts.{literal_instance}
 use Rattle.lib_models_effects.specs.Worlds.{World, Why, Stuck, Violation}
-use Rattle.flow_lower_tasks.specs.Pieces.{PieceView, Do, DoIfUsed, End, Mark, Call}
+use Rattle.flow_lower_tasks.specs.Pieces.{PieceView}
 use Rattle.flow_program_machine.specs.FlowStates as flow
 use Rattle.template_runs.specs.TemplateStates as template
 use Rattle.template_runs.specs.TemplateStates.{Frame}
 use Rattle.template_runs.specs.TemplateExits.{behind_mark}
-use Rattle.template_runs.specs.TemplateSteps.{from_temp, up_to}
-use Rattle.template_runs_laid.specs.Copies.{Opened, Copy, IsThere, IsLocal, IsCopy, Apart, AllApart, IsObject, IsLiteral}
+use Rattle.template_runs_laid.specs.Copies.{Opened, Copy, IsThere, IsCopy, AllApart, IsObject, IsLiteral}
 use Rattle.template_runs_laid.specs.Layouts as laid
 use Rattle.template_runs_laid.specs.Layouts.{Laid, IsAutomatic}
 use Rattle.template_runs_laid.proofs.ShiftedValues.{Held, Keeps, set_here, set_elsewhere, Compared, same, other, compared}

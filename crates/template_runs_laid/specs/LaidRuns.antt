@@ -1,7 +1,7 @@
 -- Runs of templates, and of a program in which they are laid out.
 use Rattle.std.specs.Prelude.{◌≡◌, ◌<◌, ◌⊎◌, ℕ, ℤ, List, [], ◌∷◌, Option, Some, None}
 use Rattle.c_layout.specs.CheckedUnits.{UnitView}
-use Rattle.lib_models_effects.specs.Worlds.{Stuck, Violation}
+use Rattle.lib_models_effects.specs.Worlds.{Stuck}
 use Rattle.flow_program_views.specs.ProgramViews.{FlowView}
 use Rattle.flow_program_machine.specs.FlowStates as flow
 use Rattle.flow_program_machine.specs.FlowStates.{FlowRun}

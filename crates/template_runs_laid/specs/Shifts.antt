@@ -1,5 +1,5 @@
 -- Instructions of a copy: its temporaries are counted from its first one, and a base stands for the template's own one.
-use Rattle.std.specs.Prelude.{ℕ, ◌+◌, ℤ, List, map, Option, Some, None}
+use Rattle.std.specs.Prelude.{ℕ, ◌+◌, ℤ, map, Option, Some, None}
 use Rattle.std.specs.Option.{option_map}
 use Rattle.flow_program.specs.declared.machine_instructions.Amount.{Amount}
 use Rattle.flow_program.specs.declared.machine_instructions.Amount.TheVariants as amount

@@ -7,9 +7,9 @@ use Rattle.flow_lower_counts.specs.declared.function_counts.FunctionCounts.{Func
 use Rattle.flow_lower_counts.specs.SettledTemplates.{NamesView, is_silent, with_begun, with_label, with_other, with_piece, with_pieces, no_names, renaming, renamed_exits, settled}
 use Rattle.template_runs_settled.specs.SettledRuns.{LabelsStandOnce}
 use Rattle.template_runs_settled.proofs.SettledPieces.{from, own, settled_from}
-use Rattle.template_runs_opened.specs.FitTemplates.{AllSwitchOn, IsPieceFit, ArePiecesFit, IsFit}
-use Rattle.template_runs_opened.proofs.OpenedPieces.{marks, Unmarked}
-use Rattle.template_runs_opened.proofs.LaidCopies.{OnceHere, MarkedOnce}
+use Rattle.template_runs_layouts.specs.FitTemplates.{AllSwitchOn, IsPieceFit, ArePiecesFit, IsFit}
+use Rattle.template_runs_openings.proofs.OpenedPieces.{marks, Unmarked}
+use Rattle.template_runs_layouts.proofs.LaidCopies.{OnceHere, MarkedOnce}
 
 module _ (table : List (Option FunctionCounts)) (e : NamesView) where
   -- ---- labels

@@ -23,16 +23,17 @@ use Rattle.flow_lower.proofs.OpeningTurns.{no_copy}
 use Rattle.template_runs_laid.specs.Copies.{Copy, IsLocal, IsCopy, IsObject, IsLiteral}
 use Rattle.template_runs_laid.specs.Copies as copies
 use Rattle.template_runs_laid.specs.Layouts.{Laid, IsAutomatic, IsLaidOut}
-use Rattle.template_runs_opened.specs.LowTemporaries.{HasLowTemps}
-use Rattle.template_runs_opened.specs.FitTemplates.{IsNameThere, ArePiecesFit, IsFit}
-use Rattle.template_runs_opened.proofs.ListPlaces.{some_same, none_is_not, within}
-use Rattle.template_runs_opened.proofs.NamedTables.{ObjectAt, LiteralAt, LocalAt, GoodTable, GoodLocals}
-use Rattle.template_runs_opened.proofs.MadeParts.{extends_same}
-use Rattle.template_runs_opened.proofs.NamedPlaces.{Good, Only}
-use Rattle.template_runs_opened.proofs.OpenedCopies.{Opens, Leaves, leaves, Finishes, finish, none_known}
-use Rattle.template_runs_opened.proofs.LaidNames.{whole, copy_at}
-use Rattle.template_runs_opened.proofs.LaidCopies.{MarkedOnce, Fits, Stays, Comes}
-use Rattle.template_runs_opened.proofs.LaidOpenings.{lay}
+use Rattle.template_runs_layouts.specs.LowTemporaries.{HasLowTemps}
+use Rattle.template_runs_openings.specs.NameRanges.{IsNameThere}
+use Rattle.template_runs_layouts.specs.FitTemplates.{ArePiecesFit, IsFit}
+use Rattle.template_runs_openings.proofs.ListPlaces.{some_same, none_is_not, within}
+use Rattle.template_runs_openings.proofs.NamedTables.{ObjectAt, LiteralAt, LocalAt, GoodTable, GoodLocals}
+use Rattle.template_runs_openings.proofs.MadeParts.{extends_same}
+use Rattle.template_runs_openings.proofs.NamedPlaces.{Good, Only}
+use Rattle.template_runs_openings.proofs.OpenedCopies.{Opens, Leaves, leaves, Finishes, finish, none_known}
+use Rattle.template_runs_layouts.proofs.LaidNames.{whole, copy_at}
+use Rattle.template_runs_layouts.proofs.LaidCopies.{MarkedOnce, Fits, Stays, Comes}
+use Rattle.template_runs_layouts.proofs.LaidOpenings.{lay}
 use Rattle.template_runs_opened.proofs.WholePrograms.{ready_none, Numbered, numbered}
 use Rattle.template_runs_opened.proofs.StartNames.{in_turn, objects_miss, objects_hit, literals_miss, literals_hit, count_inputs, inputs_from, parameters_miss, parameters_hit, source_miss, source_hit, take_length}
 

@@ -1,16 +1,5 @@
-mod ListPlaces
-mod NamedTables
-mod MadeParts
-mod NamedPlaces
-mod OpenedPieces
-mod OpenedCopies
-mod ShiftedActs
-mod FinishedPrograms
-mod LaidNames
-mod LaidCopies
-mod LaidOpenings
+mod FitSettled
 mod StartNames
 mod WholePrograms
 mod LaidPrograms
-mod FitSettled
 mod LoweredPrograms

@@ -1,12 +1,12 @@
 -- Runs of the program that a unit is lowered to.
-use Rattle.std.proofs.Common.{◌≡◌, ◌==◌, ◌≤◌, ◌<◌, ℕ, ℤ, Bool, true, List, [], ◌∷◌, length, Option, Some, None, refl, ap, sym, subst, ◌∙◌}
+use Rattle.std.proofs.Common.{◌≡◌, ◌==◌, ◌≤◌, ◌<◌, inl, inr, ℕ, ℤ, Bool, true, List, [], ◌∷◌, length, Option, Some, None, refl, ap, sym, subst, ◌∙◌}
 use Rattle.std.specs.List.{slice_get}
 use Rattle.std.proofs.lemmas.Bool.{eq-eqb}
 use Rattle.cc_base.specs.declared.limit_table.Limits.{Limits}
 use Rattle.c_layout.specs.CheckedUnits.{FunctionView, UnitView}
 use Rattle.flow_lower_tasks.specs.Pieces.{TemplateView}
 use Rattle.flow_lower_functions.specs.Functions.{IsTemplate}
-use Rattle.flow_lower_counts.specs.Preparations.{IsTemplateOf, Reaches, begun, IsSettled, IsPrepared}
+use Rattle.flow_lower_counts.specs.Preparations.{IsTemplateOf, Reaches, begun, are_counted, IsSettled, IsPrepared}
 use Rattle.flow_lower_counts.specs.SettledTemplates.{settled}
 use Rattle.flow_lower_counts.proofs.Preparing.{one_template}
 use Rattle.flow_lower_laws.specs.PieceOrder.{ends_block}
@@ -16,21 +16,25 @@ use Rattle.flow_program_views.specs.ProgramViews.{FlowView}
 use Rattle.flow_program_machine.specs.FlowSteps.{flow_steps}
 use Rattle.flow_program_machine.specs.FlowStarts.{flow_begin}
 use Rattle.flow_lower.specs.Lowerings.{lowered, IsLowering}
-use Rattle.flow_lower.specs.Openings.{template_at, finished, program, unfinished}
+use Rattle.flow_lower.specs.Openings.{joined, template_at, finished, program, unfinished}
 use Rattle.flow_lower.specs.Openings as opening
 use Rattle.flow_lower.proofs.CountedCalls.{AllCalled, IsKnown, known}
+use Rattle.flow_program_machine.specs.FlowStates.{FlowRun}
+use Rattle.template_runs.specs.TemplateStates.{Frame, TemplateRun, running, stopped}
 use Rattle.template_runs.specs.TemplateSteps.{template_begin, steps_from}
-use Rattle.template_runs_settled.specs.SettledRuns.{Settles, templates}
+use Rattle.template_runs_settled.specs.SettledRuns.{Settles, templates, NamesNothing, AtReturn, ReturnsWith}
+use Rattle.template_runs_settled.specs.SettledRuns as settled_runs
+use Rattle.template_runs_settled.proofs.SettledReturns.{runs_return}
 use Rattle.template_runs_laid.specs.Copies as copies
 use Rattle.template_runs_laid.specs.Layouts.{IsLaidOut}
-use Rattle.template_runs_laid.specs.LaidRuns.{LeavesAll, AgreeUnlessStuck}
+use Rattle.template_runs_laid.specs.LaidRuns.{HasLeft, LeavesAll, AgreeUnlessStuck}
 use Rattle.template_runs_laid.proofs.LaidSteps as laid_runs
-use Rattle.template_runs_opened.specs.LowTemporaries.{HasLowTemps}
-use Rattle.template_runs_opened.specs.FitTemplates.{IsFit}
-use Rattle.template_runs_opened.specs.OpenedRuns.{IsMade, template_or, settled_of, IsOpened, settled_templates, OpenedRunsAreTheSame}
-use Rattle.template_runs_opened.proofs.ListPlaces.{some_same}
+use Rattle.template_runs_layouts.specs.LowTemporaries.{HasLowTemps}
+use Rattle.template_runs_layouts.specs.FitTemplates.{IsFit}
+use Rattle.template_runs_opened.specs.OpenedRuns.{IsMade, template_or, settled_of, IsOpened, settled_templates, made_templates, OpenedRunsAreTheSame}
+use Rattle.template_runs_openings.proofs.ListPlaces.{some_same}
 use Rattle.template_runs_opened.proofs.FitSettled.{settled_once, settled_fit}
-use Rattle.template_runs_opened.proofs.LaidCopies.{MarkedOnce, Fits}
+use Rattle.template_runs_layouts.proofs.LaidCopies.{MarkedOnce, Fits}
 use Rattle.template_runs_opened.proofs.LaidPrograms as laid
 use Rattle.template_runs_opened.proofs.LaidPrograms.{last, none_ready, is_laid_out}
 
@@ -128,3 +132,41 @@ module _ (u : UnitView) (limits : Limits) (f : FlowView) (o : IsOpened u limits 
       (laid.first u ts entry o.is.is_counted.is_entry o.few first_known.template first_known.is_there ends o.is.ends (Reaches u) there first_known.calls of o.is.counts.temps low entry_fits.is entry_fits.fit entry_fits.once fits)
       (is_laid_out u ts entry o.is.is_counted.is_entry o.few first_known.template first_known.is_there ends o.is.ends (Reaches u) there first_known.calls of o.is.counts.temps low entry_fits.is entry_fits.fit entry_fits.once fits)
       draws n left)
+
+  -- ---- templates as they are made
+
+  settles_at : (n : ℕ) → Reaches u n → Settles u n (o.made n) (settled_of ts n)
+  settles_at n r =
+      let (s, c, there_s, is) = prepared.all n r in
+      let x = prepared.are_settled n s there_s in
+      let m = o.are_made n r in
+      let same : x.template ≡ o.made n = one_template u n x.function m.function x.template (o.made n) x.is_template m.is_template in
+      record {
+        function = m.function;
+        table = x.table;
+        is_template = m.is_template;
+        all_counted = subst (λ (t : TemplateView). are_counted x.table t.pieces ≡ true) same x.all_counted;
+        are_counts = x.are_counts;
+        is_settled = ap (λ t. template_or (joined t)) there_s ∙ x.settles ∙ ap (λ t. settled x.table t) same;
+        once = m.once;
+      }
+
+  leaves_all : (r : TemplateRun) → ReturnsWith NamesNothing r → LeavesAll r
+  leaves_all (running s found) holds = λ ends. by s.frames (holds ends)
+    where
+      by : (fs : List Frame) → AtReturn NamesNothing fs s.names → HasLeft fs s.names
+      by [] holds = tt
+      by (f ∷ fs) holds = holds
+  leaves_all (stopped why w found) holds = tt
+
+  both_agree : (a b : TemplateRun) (c : FlowRun) → settled_runs.AgreeUnlessStuck a b → AgreeUnlessStuck b c → AgreeUnlessStuck a c
+  both_agree a b c (inl stuck) y = inl stuck
+  both_agree a b c (inr x) (inl stuck) = inl (x.why ∙ stuck)
+  both_agree a b c (inr x) (inr y) = inr (record { memory = x.memory ∙ y.memory; draws = x.draws ∙ y.draws; found = x.found ∙ y.found; why = x.why ∙ y.why })
+
+  pub made_runs_agree : (draws : List ℤ) → ((n : ℕ) → ReturnsWith NamesNothing (steps_from (made_templates u limits f o) n (template_begin (made_templates u limits f o) draws)))
+      → (n : ℕ) → (m : ℕ) × AgreeUnlessStuck (steps_from (made_templates u limits f o) n (template_begin (made_templates u limits f o) draws)) (flow_steps f m (flow_begin u f draws))
+  made_runs_agree draws holds n =
+      let x = runs_return u o.made (settled_of ts) settles_at NamesNothing draws holds n in
+      let (m, y) = runs_agree draws x.steps (λ j less. leaves_all _ (x.returns j less)) in
+      (m, both_agree _ _ _ x.agree y)

@@ -13,7 +13,7 @@ use Rattle.ref_machine.specs.SourceRuns as source
 use Rattle.flow_lower.specs.BaseTables.{TableView, known}
 use Rattle.flow_lower.specs.InitialBytes.{initial_object, initial_literal, objects_from, literals_from}
 use Rattle.flow_lower.specs.Lowerings.{input, inputs}
-use Rattle.template_runs_opened.proofs.ListPlaces.{some_same, one_longer}
+use Rattle.template_runs_openings.proofs.ListPlaces.{some_same, one_longer}
 use Rattle.template_runs_laid.proofs.ShiftedValues as tables
 use Rattle.template_runs_laid.proofs.ShiftedValues.{Compared, compared}
 

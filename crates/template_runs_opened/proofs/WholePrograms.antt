@@ -27,16 +27,17 @@ use Rattle.template_runs_laid.proofs.ShiftedValues as tables
 use Rattle.template_runs_laid.specs.Copies as copies
 use Rattle.template_runs_laid.specs.Copies.{Copy, IsLocal, IsCopy, IsObject, IsLiteral}
 use Rattle.template_runs_laid.specs.Layouts.{Laid, IsAutomatic, IsLaidOut}
-use Rattle.template_runs_opened.specs.LowTemporaries.{HasLowTemps}
-use Rattle.template_runs_opened.specs.FitTemplates.{IsNameThere, IsFit}
-use Rattle.template_runs_opened.proofs.ListPlaces.{some_same, none_is_not, within, one_longer, some_at, known_there, set_here, set_kept, set_length}
-use Rattle.template_runs_opened.proofs.NamedTables.{ObjectAt, LiteralAt, LocalAt, GoodTable, GoodLocals, More, more_same}
-use Rattle.template_runs_opened.proofs.MadeParts.{Extends, extends_same}
-use Rattle.template_runs_opened.proofs.NamedPlaces.{Good, Only, only_none, only_twice, only_local}
-use Rattle.template_runs_opened.proofs.OpenedCopies.{Opens, done, piece, call, Leaves, leaves, Finishes, finish, none_known, after_piece, is_call}
-use Rattle.template_runs_opened.proofs.LaidNames.{whole, copy_at}
-use Rattle.template_runs_opened.proofs.LaidCopies.{MarkedOnce, Fits}
-use Rattle.template_runs_opened.proofs.LaidOpenings.{lay}
+use Rattle.template_runs_layouts.specs.LowTemporaries.{HasLowTemps}
+use Rattle.template_runs_openings.specs.NameRanges.{IsNameThere}
+use Rattle.template_runs_layouts.specs.FitTemplates.{IsFit}
+use Rattle.template_runs_openings.proofs.ListPlaces.{some_same, none_is_not, within, one_longer, some_at, known_there, set_here, set_kept, set_length}
+use Rattle.template_runs_openings.proofs.NamedTables.{ObjectAt, LiteralAt, LocalAt, GoodTable, GoodLocals, More, more_same}
+use Rattle.template_runs_openings.proofs.MadeParts.{Extends, extends_same}
+use Rattle.template_runs_openings.proofs.NamedPlaces.{Good, Only, only_none, only_twice, only_local}
+use Rattle.template_runs_openings.proofs.OpenedCopies.{Opens, done, piece, call, Leaves, leaves, Finishes, finish, none_known, after_piece, is_call}
+use Rattle.template_runs_layouts.proofs.LaidNames.{whole, copy_at}
+use Rattle.template_runs_layouts.proofs.LaidCopies.{MarkedOnce, Fits}
+use Rattle.template_runs_layouts.proofs.LaidOpenings.{lay}
 use Rattle.template_runs_opened.proofs.StartNames.{in_turn, objects_miss, objects_hit, literals_miss, literals_hit, count_inputs, inputs_from, parameters_miss, parameters_hit, source_miss, source_hit, take_length}
 
 module _ (u : UnitView) (ts : List (Option TemplateView)) where

@@ -1,3 +1,1 @@
-pub mod LowTemporaries
-pub mod FitTemplates
 pub mod OpenedRuns

@@ -11,10 +11,10 @@ use Rattle.flow_lower.specs.Lowerings.{IsLowering}
 use Rattle.flow_lower.specs.Openings.{template_at}
 use Rattle.template_runs.specs.TemplateStates.{Templates}
 use Rattle.template_runs.specs.TemplateSteps.{template_begin, steps_from}
-use Rattle.template_runs_settled.specs.SettledRuns.{LabelsStandOnce, templates}
+use Rattle.template_runs_settled.specs.SettledRuns.{LabelsStandOnce, templates, ReturnsWith, NamesNothing}
 use Rattle.template_runs_laid.specs.LaidRuns.{LeavesAll, AgreeUnlessStuck}
-use Rattle.template_runs_opened.specs.LowTemporaries.{HasLowTemps}
-use Rattle.template_runs_opened.specs.FitTemplates.{IsFit}
+use Rattle.template_runs_layouts.specs.LowTemporaries.{HasLowTemps}
+use Rattle.template_runs_layouts.specs.FitTemplates.{IsFit}
 
 -- the template of a function as it is made: its labels stand once, and it names what is there
 pub record IsMade (u : UnitView) (n : ℕ) (t : TemplateView) : Type 0 where
@@ -48,3 +48,12 @@ settled_templates u limits f o = templates u (settled_of o.is.templates)
 abbrev pub OpenedRunsAreTheSame : Type 0
 OpenedRunsAreTheSame = (u : UnitView) (limits : Limits) (f : FlowView) (o : IsOpened u limits f) (draws : List ℤ) (n : ℕ) → ((j : ℕ) → j < n → LeavesAll (steps_from (settled_templates u limits f o) j (template_begin (settled_templates u limits f o) draws)))
     → (m : ℕ) × AgreeUnlessStuck (steps_from (settled_templates u limits f o) n (template_begin (settled_templates u limits f o) draws)) (flow_steps f m (flow_begin u f draws))
+
+-- the templates of a unit as they are made
+abbrev pub made_templates : (u : UnitView) (limits : Limits) (f : FlowView) → IsOpened u limits f → Templates
+made_templates u limits f o = templates u o.made
+
+-- each run of the templates as they are made in which each called function leaves what it enters is one of the program
+abbrev pub LoweredRunsAreTheSame : Type 0
+LoweredRunsAreTheSame = (u : UnitView) (limits : Limits) (f : FlowView) (o : IsOpened u limits f) (draws : List ℤ) → ((n : ℕ) → ReturnsWith NamesNothing (steps_from (made_templates u limits f o) n (template_begin (made_templates u limits f o) draws)))
+    → (n : ℕ) → (m : ℕ) × AgreeUnlessStuck (steps_from (made_templates u limits f o) n (template_begin (made_templates u limits f o) draws)) (flow_steps f m (flow_begin u f draws))

@@ -3,4 +3,5 @@
 
 mod theorems;
 
+pub use theorems::lowered_runs_are_the_same;
 pub use theorems::opened_runs_are_the_same;

@@ -3,4 +3,4 @@ mod QuietFunctions
 mod SameActs
 mod SettledSteps
 mod QuietRuns
-mod SettledReturns
+pub mod SettledReturns

@@ -1,19 +1,18 @@
 -- Functions that add no instruction: their pieces are labels and calls of such functions.
-use Rattle.std.proofs.Common.{◌≡◌, ◌≤◌, ◌<◌, ℕ, zero, suc, ◌+◌, ◌^◌, ◌==◌, ◌&&◌, Bool, true, false, cond, min, List, [], ◌∷◌, ◌++◌, Option, Some, None, refl, arith, ap, sym, subst, ◌∙◌}
+use Rattle.std.proofs.Common.{◌≡◌, ◌≤◌, ℕ, zero, suc, ◌+◌, ◌^◌, ◌==◌, ◌&&◌, Bool, true, false, cond, min, List, [], ◌∷◌, ◌++◌, Option, Some, None, refl, arith, ap, sym, subst, ◌∙◌}
 use Rattle.std.specs.List.{slice_get}
 use Rattle.std.proofs.lemmas.Bool.{eqb-true}
 use Rattle.c_layout.specs.CheckedUnits.{FunctionView, UnitView}
 use Rattle.flow_lower_tasks.specs.Pieces.{PieceView, Do, DoIfUsed, End, Mark, Call, TemplateView}
-use Rattle.flow_lower_tasks.specs.declared.template_pieces.OwnCall.{OwnCall}
 use Rattle.flow_lower_counts.specs.declared.function_counts.BlockExtent.{BlockExtent}
 use Rattle.flow_lower_counts.specs.declared.function_counts.FunctionCounts.{FunctionCounts}
 use Rattle.flow_lower_counts.specs.Extents.{capped, with_instruction, with_end, with_mark, added_by, with_call}
-use Rattle.flow_lower_counts.specs.PieceCounts.{nothing, no_counts, counts_of, counted, with_piece, with_pieces, extent}
+use Rattle.flow_lower_counts.specs.PieceCounts.{nothing, counts_of, counted, with_piece, with_pieces, extent}
 use Rattle.flow_lower_tasks.specs.TermKinds.{is_void}
 use Rattle.flow_lower_counts.specs.SettledTemplates.{NamesView, SettlingView, is_silent, adds_nothing, renamed, renamed_end, is_last, with_renamed, with_if, with_all, nothing_settled, renaming, settled}
-use Rattle.flow_lower_counts.specs.Preparations.{IsTemplateOf, called, Calls, Reaches, further, is_there, is_counted, are_counted, Counts, counts, AreCounts}
+use Rattle.flow_lower_counts.specs.Preparations.{IsTemplateOf, called, is_there, is_counted, are_counted, Counts, counts, AreCounts}
 use Rattle.flow_lower_counts.proofs.Preparing.{one_template, both_true, there_is}
-use Rattle.flow_lower_laws.specs.PieceOrder.{IsInstruction, GoesOn, IsFollowed, AreFollowed}
+use Rattle.flow_lower_laws.specs.PieceOrder.{GoesOn, AreFollowed}
 use Rattle.flow_lower_laws.proofs.SettledOrder.{settled_followed}
 use Rattle.flow_lower_laws.proofs.TemplateOrder.{template_followed}
 use Rattle.template_runs_settled.specs.SettledRuns.{Settles}

@@ -1,19 +1,16 @@
 -- A call of a function without an instruction ends, and changes no name.
-use Rattle.std.proofs.Common.{◌≡◌, ℕ, zero, suc, ◌+◌, List, [], ◌∷◌, ◌++◌, Option, Some, None, refl, arith, ap, sym, subst, ◌∙◌}
-use Rattle.std.specs.List.{slice_get}
-use Rattle.cc_base.specs.declared.diagnostics.Place.{Place}
+use Rattle.std.proofs.Common.{◌≡◌, ℕ, zero, suc, ◌+◌, List, [], ◌∷◌, ◌++◌, Option, refl, arith, ap, sym, subst, ◌∙◌}
 use Rattle.c_layout.specs.CheckedUnits.{UnitView}
 use Rattle.lib_models_memory.specs.Scalars.{Scalar}
 use Rattle.lib_models_effects.specs.NumberedTables.{empty_table}
 use Rattle.lib_models_effects.specs.Worlds.{World, unviolated, Violation}
 use Rattle.flow_lower_tasks.specs.Pieces.{PieceView, Do, DoIfUsed, End, Mark, Call, TemplateView}
-use Rattle.flow_lower_tasks.specs.declared.template_pieces.OwnCall.{OwnCall}
 use Rattle.flow_lower_counts.specs.declared.function_counts.FunctionCounts.{FunctionCounts}
 use Rattle.flow_lower_counts.specs.Preparations.{Reaches, Calls, Counts, counts}
-use Rattle.template_runs.specs.TemplateStates.{Templates, Frame, Standing, TemplateRun, running, with_world}
+use Rattle.template_runs.specs.TemplateStates.{Templates, Frame, Standing, TemplateRun, running}
 use Rattle.template_runs.specs.TemplateSteps as runs
 use Rattle.template_runs.specs.TemplateSteps.{from_temp, up_to, back_to, next, steps_from}
-use Rattle.template_runs_settled.specs.SettledRuns.{Settles, templates}
+use Rattle.template_runs_settled.specs.SettledRuns.{Settles}
 use Rattle.template_runs_settled.proofs.QuietFunctions.{Quiet, AreIdle, idle_template}
 use Rattle.template_runs_settled.proofs.SettledSteps.{first, stand, calm, later, whole}
 

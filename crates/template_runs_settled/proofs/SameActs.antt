@@ -10,7 +10,7 @@ use Rattle.flow_program.specs.declared.flow_edges.Test.{Test}
 use Rattle.lib_models_memory.specs.Scalars.{Scalar}
 use Rattle.lib_models_effects.specs.Tests as tests
 use Rattle.lib_models_effects.specs.Tests.{TestedSide, pass_test, pass_case}
-use Rattle.lib_models_effects.specs.Worlds.{World, Why, Stuck, Reply, goes, stops, behind}
+use Rattle.lib_models_effects.specs.Worlds.{Reply, goes, stops, behind}
 use Rattle.flow_lower_tasks.specs.Acts as act
 use Rattle.flow_lower_tasks.specs.Acts.{Act}
 use Rattle.flow_lower_tasks.specs.Pieces.{NameView, Local, Outcome, Static, Literal, Allocation, Way, Always, When, Case, Other, NoLine, Line, PieceView, TemplateView}
@@ -20,7 +20,7 @@ use Rattle.flow_program_machine.specs.FlowActs as flow_acts
 use Rattle.ref_machine.specs.Items.{Forget, Clear, Spell}
 use Rattle.ref_machine.specs.SourceStates.{State, type_of}
 use Rattle.ref_machine.specs.ObjectSteps as source
-use Rattle.template_runs.specs.TemplateStates.{Frame, Standing, stuck_at, if_some, on, put, with_world, with_name, with_instance, local_of, object_of, instance_named, scene}
+use Rattle.template_runs.specs.TemplateStates.{Frame, Standing, if_some, on, with_name, with_instance, local_of, object_of, instance_named, scene}
 use Rattle.template_runs.specs.TemplateActs.{no_program, in_flow, from_flow, operated, taken, pointed, addressed, from_scene, on_local, perform}
 use Rattle.template_runs.specs.TemplateExits.{with_side, in_world, testing, with_kind, typed_object, matching, with_put, on_way}
 use Rattle.template_runs_settled.specs.SettledRuns.{templates}

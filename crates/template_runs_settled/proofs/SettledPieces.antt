@@ -1,13 +1,12 @@
 -- What settling leaves of pieces, by how many labels stand before them.
-use Rattle.std.proofs.Common.{◌≡◌, ◌≤◌, ◌<◌, ℕ, ◌+◌, ◌-◌, ◌==◌, Bool, true, false, cond, nat_lt, List, [], ◌∷◌, ◌++◌, length, get_or, replicate, Option, Some, None, refl, arith, ap, sym, subst, ◌∙◌, append_assoc}
+use Rattle.std.proofs.Common.{◌≡◌, ◌≤◌, ◌<◌, ℕ, ◌+◌, ◌-◌, ◌==◌, Bool, true, false, cond, nat_lt, List, [], ◌∷◌, ◌++◌, length, get_or, Option, Some, refl, arith, ap, sym, subst, ◌∙◌, append_assoc}
 use Rattle.std.proofs.lemmas.Bool.{eq-eqb, eqb-true, ltb-true, ltb-false}
 use Rattle.std.proofs.lemmas.List.{append-nil, get_or-set_same, get_or-set_other, length-set, length-replicate}
-use Rattle.flow_lower_tasks.specs.Acts.{Step}
-use Rattle.flow_lower_tasks.specs.Pieces.{ExitView, PieceView, Do, DoIfUsed, End, Mark, Call, TemplateView}
+use Rattle.flow_lower_tasks.specs.Pieces.{PieceView, Do, DoIfUsed, End, Mark, Call, TemplateView}
 use Rattle.flow_lower_counts.specs.declared.function_counts.FunctionCounts.{FunctionCounts}
-use Rattle.flow_lower_counts.specs.SettledTemplates.{NamesView, SettlingView, is_silent, with_begun, with_label, with_other, with_piece, with_pieces, no_names, renaming, renamed, renamed_end, is_last, with_mark, with_settled, with_renamed, with_if, with_all, nothing_settled, settled_pieces, settled}
+use Rattle.flow_lower_counts.specs.SettledTemplates.{NamesView, SettlingView, is_silent, with_begun, with_label, with_other, with_piece, with_pieces, no_names, renaming, renamed, renamed_end, is_last, with_mark, with_settled, with_if, with_all, nothing_settled, settled}
 use Rattle.flow_lower_debts.specs.Marks.{one, below, marked, all_marked}
-use Rattle.flow_lower_debts.proofs.MarkArithmetic.{one_yes, one_no, below_no, at_most_one}
+use Rattle.flow_lower_debts.proofs.MarkArithmetic.{one_yes, below_no, at_most_one}
 use Rattle.template_runs.specs.TemplateExits.{behind_mark}
 
 -- pieces behind so many labels: exits lead to other labels, a label right behind another one is that one, and calls that

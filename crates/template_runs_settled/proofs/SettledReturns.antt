@@ -1,5 +1,5 @@
 -- Where a function returns over settled templates, one returns over the templates as they are made, with the same names.
-use Rattle.std.proofs.Common.{◌≡◌, ◌<◌, ◌≤◌, ℕ, zero, suc, ◌+◌, ℤ, Bool, true, false, cond, List, [], ◌∷◌, ◌++◌, Option, Some, None, refl, arith, ap, sym, subst, subst₂, ◌∙◌}
+use Rattle.std.proofs.Common.{◌≡◌, ◌<◌, ◌≤◌, ℕ, zero, suc, ◌+◌, ℤ, Bool, true, false, cond, List, [], ◌∷◌, ◌++◌, Option, refl, arith, ap, sym, subst, subst₂, ◌∙◌}
 use Rattle.c_layout.specs.CheckedUnits.{UnitView}
 use Rattle.lib_models_effects.specs.Worlds.{Violation}
 use Rattle.flow_lower_tasks.specs.Pieces.{PieceView, Do, DoIfUsed, End, Mark, Call, TemplateView}
@@ -8,11 +8,10 @@ use Rattle.flow_lower_counts.specs.SettledTemplates.{NamesView, is_silent, renam
 use Rattle.flow_lower_counts.specs.Preparations.{Reaches, Calls}
 use Rattle.template_runs.specs.TemplateStates.{Templates, Frame, Standing, TemplateRun, running}
 use Rattle.template_runs.specs.TemplateSteps.{back_to, next, steps_from, template_begin}
-use Rattle.template_runs_settled.specs.SettledRuns.{Settles, templates, AtReturn, ReturnsWith, Follows, SettledRunsReturnAlike}
+use Rattle.template_runs_settled.specs.SettledRuns.{Settles, AtReturn, ReturnsWith, Follows}
 use Rattle.template_runs_settled.proofs.SettledPieces.{from, own}
 use Rattle.template_runs_settled.proofs.QuietFunctions.{Quiet, AreIdle, silent_is_quiet}
-use Rattle.template_runs_settled.proofs.SettledSteps as steps
-use Rattle.template_runs_settled.proofs.SettledSteps.{first, second, calm, Rest, Waiting, none, one, Same, same, Within, outside, inside, Both, Next, step_both, Live, live, alive, agreed, first_both}
+use Rattle.template_runs_settled.proofs.SettledSteps.{first, second, calm, Rest, Waiting, none, one, same, Within, outside, inside, Both, step_both, Live, live, alive, agreed, first_both}
 use Rattle.template_runs_settled.proofs.QuietRuns.{Ends, EndsAlways, ends_later, returns, idle_ends, quiet_ends, all_end, steps_on}
 
 -- pieces of which settling leaves nothing are calls that add nothing, and labels

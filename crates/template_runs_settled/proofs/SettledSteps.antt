@@ -1,6 +1,5 @@
 -- A step over templates as they are made is one over settled ones, or none.
-use Rattle.std.proofs.Common.{◌≡◌, ◌⊎◌, inl, inr, ℕ, zero, suc, ◌+◌, ◌-◌, ℤ, pos, Bool, true, false, cond, nat_lt, ◌≤◌, ◌==◌, List, [], ◌∷◌, ◌++◌, Option, Some, None, refl, arith, ap, sym, subst, subst₂, ◌∙◌}
-use Rattle.std.specs.List.{slice_get}
+use Rattle.std.proofs.Common.{◌≡◌, inl, inr, ℕ, zero, suc, ◌+◌, ◌-◌, ℤ, pos, Bool, true, false, cond, nat_lt, ◌≤◌, ◌==◌, List, [], ◌∷◌, ◌++◌, Option, Some, None, refl, arith, ap, sym, subst, subst₂, ◌∙◌}
 use Rattle.std.specs.Option.{option_map}
 use Rattle.std.proofs.Math.Path.{fun_ext}
 use Rattle.std.proofs.lemmas.Bool.{ltb-false}
@@ -20,20 +19,20 @@ use Rattle.flow_lower_tasks.specs.Acts as act
 use Rattle.flow_lower_tasks.specs.Acts.{Act, Step}
 use Rattle.flow_lower_tasks.specs.Pieces.{ExitView, PieceView, Do, DoIfUsed, End, Mark, Call, TemplateView}
 use Rattle.flow_lower_tasks.specs.declared.template_pieces.OwnCall.{OwnCall}
-use Rattle.flow_lower_counts.specs.SettledTemplates.{NamesView, is_silent, renaming, renamed, renamed_exit, renamed_exits, settled}
+use Rattle.flow_lower_counts.specs.SettledTemplates.{NamesView, is_silent, renamed, renamed_exit, renamed_exits}
 use Rattle.flow_lower_counts.specs.Preparations.{Reaches, begun, further, Calls}
 use Rattle.flow_program_machine.specs.FlowEdges.{is_taken}
 use Rattle.flow_program_machine.specs.FlowStates.{values_of}
 use Rattle.ref_machine.specs.SourceRuns.{violations}
-use Rattle.template_runs.specs.TemplateStates.{Templates, Frame, Standing, TemplateRun, running, stopped, with_world, with_temp, if_some, on, going_on, world_of, found_in, why_of}
+use Rattle.template_runs.specs.TemplateStates.{Templates, Frame, Standing, TemplateRun, running, stopped, with_world, if_some, on, going_on}
 use Rattle.template_runs.specs.TemplateActs.{perform}
 use Rattle.template_runs.specs.TemplateExits.{behind_mark, at_label, on_way, exit_taken, along, on_exit, put_if, line_read, end_block}
 use Rattle.template_runs.specs.TemplateSteps as runs
 use Rattle.template_runs.specs.TemplateSteps.{from_temp, up_to, waiting, back_to, run_by, next, steps_from, first_standing, template_begin}
-use Rattle.template_runs_settled.specs.SettledRuns.{Settles, templates, Agree, AgreeUnlessStuck, SettledRunsAreTheSame}
+use Rattle.template_runs_settled.specs.SettledRuns.{Settles, templates, AgreeUnlessStuck}
 use Rattle.template_runs_settled.proofs.SettledPieces.{from, own, settled_from, led}
-use Rattle.template_runs_settled.proofs.QuietFunctions.{Quiet, IsIdle, AreIdle, quiet_pieces, silent_is_quiet}
-use Rattle.template_runs_settled.proofs.SameActs.{with_stack, changed_in, over, same_act, same_way}
+use Rattle.template_runs_settled.proofs.QuietFunctions.{Quiet, AreIdle, quiet_pieces, silent_is_quiet}
+use Rattle.template_runs_settled.proofs.SameActs.{changed_in, over, same_act, same_way}
 
 module _ (u : UnitView) (made settles : ℕ → TemplateView) (known : (n : ℕ) → Reaches u n → Settles u n (made n) (settles n)) where
   abbrev pub first : Templates

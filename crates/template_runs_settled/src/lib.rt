@@ -3,5 +3,4 @@
 
 mod theorems;
 
-pub use theorems::settled_runs_are_the_same;
-pub use theorems::settled_runs_return_alike;
+pub use theorems::{settled_runs_are_the_same, settled_runs_return_alike};

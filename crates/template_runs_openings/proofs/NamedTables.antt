@@ -2,23 +2,20 @@
 use Rattle.std.proofs.Common.{◌≡◌, ◌<◌, ◌≤◌, ◌⊎◌, inl, inr, ℕ, zero, suc, ◌+◌, ◌*◌, ◌-◌, ◌^◌, List, [], ◌∷◌, ◌++◌, length, Option, Some, None, refl, arith, ap, sym, subst, ◌∙◌, append_assoc}
 use Rattle.std.specs.List.{slice_get, slice_set}
 use Rattle.std.proofs.lemmas.List.{append-nil}
-use Rattle.c_layout.specs.Types.{Ty}
 use Rattle.c_layout.specs.Layout.{size_of_type}
 use Rattle.c_layout.specs.Leaves.{leaves_of}
 use Rattle.c_layout.specs.CheckedUnits.{FunctionView, StaticView, LiteralView, UnitView}
 use Rattle.c_layout.specs.declared.checked_tree.checked_units.StaticBase.{StaticBase}
 use Rattle.c_layout.specs.declared.checked_tree.checked_units.StaticBase.TheVariants as shared
 use Rattle.c_layout.specs.declared.shapes.BaseInfo.{BaseInfo}
-use Rattle.c_layout.specs.declared.shapes.BaseKind.{BaseKind}
 use Rattle.c_layout.specs.declared.shapes.BaseKind.TheVariants as kind
-use Rattle.c_layout.specs.declared.shapes.Shape.{Shape}
 use Rattle.flow_lower_functions.specs.Functions.{local_type}
 use Rattle.flow_lower_counts.specs.SharedObjects.{literal_type}
 use Rattle.flow_lower_shapes.specs.HeapBases.{heap_shape}
 use Rattle.flow_lower_tasks.specs.Pieces.{NameView, Local, Outcome, Static, Literal, Allocation}
-use Rattle.flow_lower.specs.BaseTables.{TableView, info, added, object_added, allocated, Named, named, local_or, local, found_in, known, object_noted, literal_noted, literal_made, literal_or, with_literal, object_made, object_or, with_object, with_shared, brought, with_all, with_pointed, number_of, object_named, literal_named, base}
-use Rattle.template_runs_opened.specs.FitTemplates.{IsNameThere}
-use Rattle.template_runs_opened.proofs.ListPlaces.{some_same, within, left_of, at_end, one_longer, no_shorter, known_there, set_here, set_cases, set_kept, set_length}
+use Rattle.flow_lower.specs.BaseTables.{TableView, added, object_added, Named, named, local_or, local, found_in, known, literal_made, literal_or, with_literal, object_made, object_or, with_object, with_shared, brought, with_all, with_pointed, number_of, object_named, literal_named, base}
+use Rattle.template_runs_openings.specs.NameRanges.{IsNameThere}
+use Rattle.template_runs_openings.proofs.ListPlaces.{within, left_of, at_end, no_shorter, set_here, set_cases, set_kept, set_length}
 
 -- ---- what a base is
 

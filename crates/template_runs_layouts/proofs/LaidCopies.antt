@@ -22,16 +22,17 @@ use Rattle.flow_lower.proofs.CountedCalls.{CalledIs, AllCalled}
 use Rattle.template_runs_laid.specs.Copies.{Opened, Copy, IsLocal, IsCopy, Apart, AllApart}
 use Rattle.template_runs_laid.specs.Layouts as layouts
 use Rattle.template_runs_laid.specs.Layouts.{Laid, IsPut, AreLed, edges_at}
-use Rattle.template_runs_opened.specs.LowTemporaries.{HasLowTemps}
-use Rattle.template_runs_opened.specs.FitTemplates.{IsNameThere, PointsToStart, AllSwitchOn, ArePiecesFit, IsFit}
-use Rattle.template_runs_opened.proofs.ListPlaces.{some_same, within, one_longer, no_shorter}
-use Rattle.template_runs_opened.proofs.NamedTables.{LocalAt, GoodLocals, More, more_twice, info_kept, bases_longer}
-use Rattle.template_runs_opened.proofs.MadeParts.{At, EdgesAt, Extends, extends_same, extends_twice, extends_labels, extends_label, extends_edge, extends_ended, edges_kept, at_ready, edges_ended}
-use Rattle.template_runs_opened.proofs.NamedPlaces.{Good, only_own}
-use Rattle.template_runs_opened.proofs.OpenedPieces.{Steps, steps_act, steps_exits, steps_program, steps_piece, blocks_exits, jumped_labels, marks, Unmarked}
-use Rattle.template_runs_opened.proofs.OpenedCopies.{Opens, done, piece, call, Leaves, leaves, label_kept, after_piece, copy_of, good_copy, good_caller, is_call}
-use Rattle.template_runs_opened.proofs.FinishedPrograms.{stands_in, edges_in}
-use Rattle.template_runs_opened.proofs.LaidNames.{whole, copy_at, Toward, toward_back, put, Led, exits_led}
+use Rattle.template_runs_layouts.specs.LowTemporaries.{HasLowTemps}
+use Rattle.template_runs_openings.specs.NameRanges.{IsNameThere}
+use Rattle.template_runs_layouts.specs.FitTemplates.{PointsToStart, AllSwitchOn, ArePiecesFit, IsFit}
+use Rattle.template_runs_openings.proofs.ListPlaces.{some_same, within, one_longer, no_shorter}
+use Rattle.template_runs_openings.proofs.NamedTables.{LocalAt, GoodLocals, More, more_twice, info_kept, bases_longer}
+use Rattle.template_runs_openings.proofs.MadeParts.{At, EdgesAt, Extends, extends_same, extends_twice, extends_labels, extends_label, extends_edge, extends_ended, edges_kept, at_ready, edges_ended}
+use Rattle.template_runs_openings.proofs.NamedPlaces.{Good, only_own}
+use Rattle.template_runs_openings.proofs.OpenedPieces.{Steps, steps_act, steps_exits, steps_program, steps_piece, blocks_exits, jumped_labels, marks, Unmarked}
+use Rattle.template_runs_openings.proofs.OpenedCopies.{Opens, done, piece, call, Leaves, leaves, label_kept, after_piece, copy_of, good_copy, good_caller, is_call}
+use Rattle.template_runs_layouts.proofs.FinishedPrograms.{stands_in, edges_in}
+use Rattle.template_runs_layouts.proofs.LaidNames.{whole, copy_at, Toward, toward_back, put, Led, exits_led}
 
 -- ---- labels
 

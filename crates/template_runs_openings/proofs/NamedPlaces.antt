@@ -1,15 +1,14 @@
 -- What naming bases changes of a program and of the copy that names them: tables of bases, and nothing else.
-use Rattle.std.proofs.Common.{◌≡◌, ◌≤◌, ℕ, zero, suc, ◌+◌, List, [], ◌∷◌, ◌++◌, length, get_or, Option, Some, None, refl, ap, sym, subst, ◌∙◌, append_assoc}
-use Rattle.std.proofs.lemmas.List.{append-nil}
+use Rattle.std.proofs.Common.{◌≡◌, ℕ, Option, Some, None, refl, ap, ◌∙◌}
 use Rattle.c_layout.specs.CheckedUnits.{UnitView}
 use Rattle.flow_program.specs.declared.flow_edges.Side.{Side}
 use Rattle.flow_program.specs.declared.flow_edges.Side.TheVariants as side
 use Rattle.flow_program.specs.declared.flow_edges.Test.{Test}
-use Rattle.flow_lower_tasks.specs.Pieces.{NameView, Local, Way, Always, When, Case, Other, NoLine, Line, ExitView}
-use Rattle.flow_lower.specs.BaseTables.{TableView, Named, known, base}
-use Rattle.flow_lower.specs.Openings.{Made, CopyView, Placed, placed, with_bases, with_locals, after_naming, name_at, naming, base_number, with_base, with_own, with_side, with_test, with_way, with_local}
-use Rattle.template_runs_opened.specs.FitTemplates.{IsNameThere}
-use Rattle.template_runs_opened.proofs.NamedTables.{GoodTable, GoodLocals, More, more_same, more_twice, bases_longer, MoreLocals, locals_same, locals_twice, Stands, is_named}
+use Rattle.flow_lower_tasks.specs.Pieces.{NameView, Local, Way, Always, When, Case, Other, NoLine, Line}
+use Rattle.flow_lower.specs.BaseTables.{base}
+use Rattle.flow_lower.specs.Openings.{Placed, with_bases, with_locals, after_naming, name_at, base_number, with_base, with_own, with_side, with_test, with_way, with_local}
+use Rattle.template_runs_openings.specs.NameRanges.{IsNameThere}
+use Rattle.template_runs_openings.proofs.NamedTables.{GoodTable, GoodLocals, More, more_same, more_twice, bases_longer, MoreLocals, locals_same, locals_twice, Stands, is_named}
 
 module _ (u : UnitView) where
   pub record Good (p : Placed) : Type 0 where

@@ -30,15 +30,16 @@ use Rattle.template_runs_laid.specs.Shifts.{named_base, shifted}
 use Rattle.template_runs_laid.specs.Copies.{Opened, Copy, StandsFor, StandsForIt, name_of, IsBase, IsOwnBase, IsResult, result_type, type_if, IsSwitched, IsSwitchedObject}
 use Rattle.template_runs_laid.specs.Layouts as layouts
 use Rattle.template_runs_laid.specs.Layouts.{IsAtStart, PointsWell, IsPut, IsSide, IsTest, IsCaseObject, IsWay, AreLed}
-use Rattle.template_runs_opened.specs.LowTemporaries.{IsActLow, IsWayLow, HasLowTemps}
-use Rattle.template_runs_opened.specs.FitTemplates.{IsNameThere, PointsToStart, type_named, IsInteger, SwitchesOn, AllSwitchOn}
-use Rattle.template_runs_opened.proofs.ListPlaces.{some_same, none_is_not, left_of, at_end}
-use Rattle.template_runs_opened.proofs.NamedTables.{LocalAt, ObjectAt, More, more_twice, Stands, info_kept}
-use Rattle.template_runs_opened.proofs.MadeParts.{At, Extends, extends_twice, at_ready}
-use Rattle.template_runs_opened.proofs.NamedPlaces.{Good, Only, only_own, only_base, only_side, only_test, only_way, named_stands}
-use Rattle.template_runs_opened.proofs.OpenedPieces.{Steps, steps_only, steps_exit, steps_exits}
-use Rattle.template_runs_opened.proofs.ShiftedActs.{same_base, low_put, moved_is_shifted}
-use Rattle.template_runs_opened.proofs.FinishedPrograms.{in_block, stands_in, edge_in}
+use Rattle.template_runs_layouts.specs.LowTemporaries.{IsActLow, IsWayLow, HasLowTemps}
+use Rattle.template_runs_openings.specs.NameRanges.{IsNameThere}
+use Rattle.template_runs_layouts.specs.FitTemplates.{PointsToStart, type_named, IsInteger, SwitchesOn, AllSwitchOn}
+use Rattle.template_runs_openings.proofs.ListPlaces.{some_same, none_is_not, left_of, at_end}
+use Rattle.template_runs_openings.proofs.NamedTables.{LocalAt, ObjectAt, More, more_twice, Stands, info_kept}
+use Rattle.template_runs_openings.proofs.MadeParts.{At, Extends, extends_twice, at_ready}
+use Rattle.template_runs_openings.proofs.NamedPlaces.{Good, Only, only_own, only_base, only_side, only_test, only_way, named_stands}
+use Rattle.template_runs_openings.proofs.OpenedPieces.{Steps, steps_only, steps_exit, steps_exits}
+use Rattle.template_runs_layouts.proofs.ShiftedActs.{same_base, low_put, moved_is_shifted}
+use Rattle.template_runs_layouts.proofs.FinishedPrograms.{in_block, stands_in, edge_in}
 
 -- the leaf of an integer is signed where the integer is
 integer_signed : (structs : List StructView) (pointer : ℕ) (k : IntType) → first_signed (leaves_of structs pointer (Int k)) ≡ k.signed

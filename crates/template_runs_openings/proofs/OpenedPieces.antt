@@ -1,6 +1,5 @@
 -- What a piece adds to a program.
-use Rattle.std.proofs.Common.{◌≡◌, ◌≤◌, ℕ, zero, suc, ◌+◌, ◌==◌, Bool, true, false, cond, List, [], ◌∷◌, ◌++◌, length, get_or, Option, Some, None, refl, arith, ap, sym, subst, ◌∙◌}
-use Rattle.std.specs.List.{slice_set}
+use Rattle.std.proofs.Common.{◌≡◌, ℕ, ◌+◌, ◌==◌, Bool, true, false, cond, List, [], ◌∷◌, length, get_or, refl, ap, sym, subst, ◌∙◌}
 use Rattle.std.proofs.lemmas.Bool.{eq-eqb}
 use Rattle.std.proofs.lemmas.List.{get_or-set_other}
 use Rattle.cc_base.specs.declared.diagnostics.Place.{Place}
@@ -9,10 +8,10 @@ use Rattle.flow_lower_tasks.specs.Acts.{Act, Step}
 use Rattle.flow_lower_tasks.specs.Pieces.{ExitView, PieceView, Do, DoIfUsed, End, Mark, Call}
 use Rattle.flow_lower.specs.BaseTables.{TableView}
 use Rattle.flow_lower.specs.MovedActs.{own_base}
-use Rattle.flow_lower.specs.Openings.{Made, CopyView, Placed, placed, with_bases, with_locals, with_step, with_ready, instruction, own_number, with_own, with_act, ended, block_ended, with_edge, add_edge, edge_to, way_moved, with_way, with_exit, with_exits, closed, with_act_if_used, is_none, jumped, jumped_if, labelled, marked, with_mark, with_piece}
-use Rattle.template_runs_opened.proofs.NamedTables.{GoodTable, GoodLocals, MoreLocals, locals_same, locals_twice, bases_longer}
-use Rattle.template_runs_opened.proofs.MadeParts.{Extends, extends_same, extends_twice, extends_ready, extends_edge, extends_ended, extends_bases, extends_marked}
-use Rattle.template_runs_opened.proofs.NamedPlaces.{Good, Only, only_own, only_way}
+use Rattle.flow_lower.specs.Openings.{Made, Placed, placed, with_locals, with_own, with_act, ended, with_way, with_exit, with_exits, closed, with_act_if_used, is_none, jumped, jumped_if, marked, with_mark, with_piece}
+use Rattle.template_runs_openings.proofs.NamedTables.{GoodTable, GoodLocals, MoreLocals, locals_same, locals_twice, bases_longer}
+use Rattle.template_runs_openings.proofs.MadeParts.{Extends, extends_same, extends_twice, extends_ready, extends_edge, extends_ended, extends_bases, extends_marked}
+use Rattle.template_runs_openings.proofs.NamedPlaces.{Good, Only, only_own, only_way}
 
 -- whether a piece is a label with this number
 abbrev pub marks : ℕ → PieceView → Bool

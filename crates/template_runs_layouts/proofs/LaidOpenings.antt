@@ -12,15 +12,16 @@ use Rattle.flow_lower.specs.Openings.{Made, CopyView, Placed, placed, with_local
 use Rattle.template_runs_laid.specs.Copies.{Opened, Copy, IsLocal, IsCopy, AllApart}
 use Rattle.template_runs_laid.specs.Layouts as layouts
 use Rattle.template_runs_laid.specs.Layouts.{Laid, IsPut}
-use Rattle.template_runs_opened.specs.LowTemporaries.{HasLowTemps}
-use Rattle.template_runs_opened.specs.FitTemplates.{IsNameThere, PointsToStart, ArePiecesFit, IsFit}
-use Rattle.template_runs_opened.proofs.ListPlaces.{within}
-use Rattle.template_runs_opened.proofs.NamedTables.{LocalAt, info_kept, bases_longer}
-use Rattle.template_runs_opened.proofs.MadeParts.{Extends, extends_twice, extends_labels}
-use Rattle.template_runs_opened.proofs.NamedPlaces.{Good}
-use Rattle.template_runs_opened.proofs.OpenedPieces.{Steps, steps_piece, Unmarked}
-use Rattle.template_runs_opened.proofs.OpenedCopies.{Opens, done, piece, call, Leaves, leaves, label_kept, after_piece, copy_of, good_copy, good_caller, none_known, is_call}
-use Rattle.template_runs_opened.proofs.LaidCopies.{MarkedOnce, past_all, AvoidAll, avoid_less, all_apart, Fits, its, at_copy, Stays, Comes, far, comes_on, Lies, does, ends, marks_there}
+use Rattle.template_runs_layouts.specs.LowTemporaries.{HasLowTemps}
+use Rattle.template_runs_openings.specs.NameRanges.{IsNameThere}
+use Rattle.template_runs_layouts.specs.FitTemplates.{PointsToStart, ArePiecesFit, IsFit}
+use Rattle.template_runs_openings.proofs.ListPlaces.{within}
+use Rattle.template_runs_openings.proofs.NamedTables.{LocalAt, info_kept, bases_longer}
+use Rattle.template_runs_openings.proofs.MadeParts.{Extends, extends_twice, extends_labels}
+use Rattle.template_runs_openings.proofs.NamedPlaces.{Good}
+use Rattle.template_runs_openings.proofs.OpenedPieces.{Steps, steps_piece, Unmarked}
+use Rattle.template_runs_openings.proofs.OpenedCopies.{Opens, done, piece, call, Leaves, leaves, label_kept, after_piece, copy_of, good_copy, good_caller, none_known, is_call}
+use Rattle.template_runs_layouts.proofs.LaidCopies.{MarkedOnce, past_all, AvoidAll, avoid_less, all_apart, Fits, its, at_copy, Stays, Comes, far, comes_on, Lies, does, ends, marks_there}
 
 module _ (u : UnitView) (ts : List (Option TemplateView)) (of : ℕ → TemplateView) (entry : FunctionView) (temps : ℕ) (last : Made) (none_ready : last.ready ≡ []) (low : HasLowTemps (lowered u entry (finished last) temps)) (P : ℕ → Type 0)
     (fits : (m : ℕ) → P m → (f : FunctionView) (t : TemplateView) → slice_get u.functions m ≡ Some f → template_at ts m ≡ Some t → Fits u ts of entry temps last none_ready low P m f t) where

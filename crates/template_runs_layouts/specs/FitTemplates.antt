@@ -9,14 +9,7 @@ use Rattle.flow_lower_tasks.specs.Acts.{Act}
 use Rattle.flow_lower_tasks.specs.Pieces.{NameView, Local, Outcome, Static, Literal, Allocation, Way, Always, When, Case, Other, NoLine, Line, ExitView, PieceView, Do, DoIfUsed, End, Mark, Call, TemplateView}
 use Rattle.ref_machine.specs.SourceStates.{static_type}
 use Rattle.template_runs_laid.specs.Layouts.{IsAtStart}
-
--- a name is of what is there
-abbrev pub IsNameThere : UnitView → FunctionView → NameView → Type 0
-IsNameThere u f (Local n) = n < length f.locals + 1
-IsNameThere u f Outcome = Unit {0}
-IsNameThere u f (Static n) = n < length u.objects
-IsNameThere u f (Literal n) = n < length u.literals
-IsNameThere u f (Allocation target) = Unit {0}
+use Rattle.template_runs_openings.specs.NameRanges.{IsNameThere}
 
 -- a literal is pointed to at its start
 abbrev pub PointsToStart : List NameView → Act → Type 0

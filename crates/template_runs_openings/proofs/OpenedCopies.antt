@@ -1,19 +1,19 @@
 -- How a copy is opened, as a tree: its pieces one after the other, and for each call a copy of its own. The turns of an
 -- opening do the same with a stack.
-use Rattle.std.proofs.Common.{◌≡◌, ◌<◌, ◌≤◌, ◌⊎◌, inl, inr, ℕ, zero, suc, ◌+◌, Bool, true, false, cond, List, [], ◌∷◌, ◌++◌, length, replicate, get_or, Option, Some, None, refl, arith, ap, sym, subst, ◌∙◌}
+use Rattle.std.proofs.Common.{◌≡◌, ◌<◌, ◌≤◌, ℕ, zero, suc, ◌+◌, Bool, true, false, List, [], ◌∷◌, length, replicate, get_or, Option, Some, None, refl, arith, ap, sym, subst, ◌∙◌}
 use Rattle.std.specs.List.{slice_get}
 use Rattle.std.proofs.lemmas.List.{length-replicate, get_or_append_left}
 use Rattle.c_layout.specs.CheckedUnits.{FunctionView, UnitView}
 use Rattle.flow_lower_tasks.specs.Pieces.{PieceView, Do, DoIfUsed, End, Mark, Call, TemplateView}
 use Rattle.flow_lower_tasks.specs.declared.template_pieces.OwnCall.{OwnCall}
-use Rattle.flow_lower.specs.BaseTables.{TableView, known}
-use Rattle.flow_lower.specs.Openings.{Made, CopyView, Placed, Opened, placed, opened, with_locals, with_rest, with_piece, with_labels, copied, template_at, inner, entered, next_piece, next, run}
-use Rattle.flow_lower.proofs.CountedCalls.{CalledIs, AllCalled}
-use Rattle.template_runs_opened.proofs.ListPlaces.{none_is_not}
-use Rattle.template_runs_opened.proofs.NamedTables.{GoodTable, GoodLocals, locals_on, MoreLocals, locals_same, locals_twice, bases_longer}
-use Rattle.template_runs_opened.proofs.MadeParts.{Extends, extends_same, extends_twice, extends_labels}
-use Rattle.template_runs_opened.proofs.NamedPlaces.{Good}
-use Rattle.template_runs_opened.proofs.OpenedPieces.{Steps, steps_piece, marks, Unmarked, labels_kept}
+use Rattle.flow_lower.specs.BaseTables.{known}
+use Rattle.flow_lower.specs.Openings.{Made, CopyView, Placed, Opened, placed, opened, with_locals, with_rest, with_piece, with_labels, copied, template_at, inner, entered, next_piece, run}
+use Rattle.flow_lower.proofs.CountedCalls.{AllCalled}
+use Rattle.template_runs_openings.proofs.ListPlaces.{none_is_not}
+use Rattle.template_runs_openings.proofs.NamedTables.{locals_on, MoreLocals, locals_same, locals_twice, bases_longer}
+use Rattle.template_runs_openings.proofs.MadeParts.{Extends, extends_same, extends_twice, extends_labels}
+use Rattle.template_runs_openings.proofs.NamedPlaces.{Good}
+use Rattle.template_runs_openings.proofs.OpenedPieces.{steps_piece, Unmarked, labels_kept}
 
 abbrev pub is_call : PieceView → Bool
 is_call (Do s) = false
