@@ -154,9 +154,9 @@ module _ (k : Known) (table : TypesView) (objects : List ObjectView) (before aft
           | inl same ↦ elim r.2 [
             | inl this ↦ this.1 ∙ sym same.1
             | inr other ↦ absurd (other.0 (
-              let e : o.0 ≡ here = same_Some o.0 here (sym o.1 ∙ (ap (slice_get objects) same.0 ∙ at)) in
-              let n : here.number ≡ Some m = ap (λ z. z.number) (sym e) ∙ o.2 in
-              sym (ap number_or n) ∙ numbered))
+                let e : o.0 ≡ here = same_Some o.0 here (sym o.1 ∙ (ap (slice_get objects) same.0 ∙ at)) in
+                let n : here.number ≡ Some m = ap (λ z. z.number) (sym e) ∙ o.2 in
+                sym (ap number_or n) ∙ numbered))
           ]
           | inr other ↦ elim r.2 [
             | inl this ↦ absurd (only_here i o.0 here.number refl o.1 (o.2 ∙ ap Some this.0) other.0)
@@ -244,19 +244,20 @@ initial_kept s u equals index number t made i v stores numbered is g sized const
     let same_w = expressions_same v u in
     let long : length (changed (stored_static stores) number (changed (typed_static made) number w.statics)) ≡ length w.statics = changed_long (stored_static stores) number (changed (typed_static made) number w.statics) ∙ changed_long (typed_static made) number w.statics in
     let more_u = g.0 in
-    let more_w = kept.0 in
-    (omega (arith, long, more_u, more_w), λ few good.
-    let few_w : length w.statics ≤ most = omega (arith, few, long) in
-    let x = g.1 (omega (arith, few_w, more_w)) good in
-    let y = kept.1 few_w x.0 in
-    let there : slice_get w.objects index ≡ Some numbered.0 = ap (λ l. slice_get l index) (same_w.0 ∙ same_u.0) ∙ numbered.1 in
-    let placed : ArePlacedStores u.known made stores ⊎ HasNoBytes u.known made = subst (λ r. IsStored u.known made r) constant (initializer_stored u.known equals t made v sized (stores_placed s u equals t made i v good.settled is)) in
-    (
-      retyped_good w.known w.types w.objects w.statics (changed (stored_static stores) number (changed (typed_static made) number w.statics)) index number made
-      (stored_retyped w.known number made stores w.statics (sized_grown u.known w.known made y.1.extends sized) (grown_either u.known w.known made stores y.1.extends placed))
-      numbered.0 there numbered.2 few_w y.0,
-      later_twice s.known u.known w.known s.types u.types w.types x.1 y.1,
-    ))
+    let more_w = kept.0 in (
+      omega (arith, long, more_u, more_w),
+      λ few good.
+          let few_w : length w.statics ≤ most = omega (arith, few, long) in
+          let x = g.1 (omega (arith, few_w, more_w)) good in
+          let y = kept.1 few_w x.0 in
+          let there : slice_get w.objects index ≡ Some numbered.0 = ap (λ l. slice_get l index) (same_w.0 ∙ same_u.0) ∙ numbered.1 in
+          let placed : ArePlacedStores u.known made stores ⊎ HasNoBytes u.known made = subst (λ r. IsStored u.known made r) constant (initializer_stored u.known equals t made v sized (stores_placed s u equals t made i v good.settled is)) in (
+            retyped_good w.known w.types w.objects w.statics (changed (stored_static stores) number (changed (typed_static made) number w.statics)) index number made
+                (stored_retyped w.known number made stores w.statics (sized_grown u.known w.known made y.1.extends sized) (grown_either u.known w.known made stores y.1.extends placed))
+                numbered.0 there numbered.2 few_w y.0,
+            later_twice s.known u.known w.known s.types u.types w.types x.1 y.1,
+          ),
+    )
 
 pub bodies_keep : HasBodies Keeps
 bodies_keep = record {

@@ -119,7 +119,9 @@ alike_is f alike index xs i x is =
     ]
 
 pub alike_keeps : (f : ObjectView → ObjectView) → IsAlike f → (index : ℕ) (s : State) → Keeps s (record s { objects = changed f index s.objects })
-alike_keeps f alike index s = (at_most (length s.statics), λ few good. (
+alike_keeps f alike index s = (
+  at_most (length s.statics),
+  λ few good. (
     record {
       settled = good.settled;
       bodies = good.bodies;
@@ -131,7 +133,8 @@ alike_keeps f alike index s = (at_most (length s.statics), λ few good. (
       };
     },
     later_same s.known s.types,
-  ))
+  ),
+)
 
 -- the object with its number gets the composite type
 composite_retyped : (k : Known) (old new t : Ty) (number : ℕ) (before : List StaticView) → composite old new ≡ Some t → ((n : ℕ) (o : StaticView) → slice_get before n ≡ Some o → IsPlacedObject k o) → ((o : StaticView) → slice_get before number ≡ Some o → o.ctype ≡ old) → AreRetyped k number t before (changed (typed_static t) number before)
@@ -155,13 +158,12 @@ numbered_type s few good index x at None num o there = absurd (let w = within s.
 
 pub retyped_keeps : (s : State) (index : ℕ) (x : ObjectView) (new t : Ty) → slice_get s.objects index ≡ Some x → composite x.declared.ctype new ≡ Some t → Keeps s (with_static_type index (number_or x.number) t s)
 retyped_keeps s index x new t at is = (
-    let long = changed_long (typed_static t) (number_or x.number) s.statics in omega (arith, long),
-    λ few good.
-    let few_s : length s.statics ≤ most = let long = changed_long (typed_static t) (number_or x.number) s.statics in omega (arith, long, few) in
-    (
-      retyped_good s.known s.types s.objects s.statics (changed (typed_static t) (number_or x.number) s.statics) index (number_or x.number) t
-      (composite_retyped s.known x.declared.ctype new t (number_or x.number) s.statics is good.placed (λ o there. numbered_type s few_s good index x at x.number refl o there))
-      x at refl few_s good,
-      later_same s.known s.types,
-    ),
-  )
+  let long = changed_long (typed_static t) (number_or x.number) s.statics in omega (arith, long),
+  λ few good.
+      let few_s : length s.statics ≤ most = let long = changed_long (typed_static t) (number_or x.number) s.statics in omega (arith, long, few) in (
+        retyped_good s.known s.types s.objects s.statics (changed (typed_static t) (number_or x.number) s.statics) index (number_or x.number) t
+            (composite_retyped s.known x.declared.ctype new t (number_or x.number) s.statics is good.placed (λ o there. numbered_type s few_s good index x at x.number refl o there))
+            x at refl few_s good,
+        later_same s.known s.types,
+      ),
+)

@@ -157,45 +157,53 @@ keeps_same s = (at_most (length s.statics), λ few good. (good, later_same s.kno
 
 pub keeps_twice : (s t u : State) → Keeps s t → Keeps t u → Keeps s u
 keeps_twice s t u g h =
-    let a = g.0 in let b = h.0 in
-    (omega (arith, a, b), λ few good.
-    let x = g.1 (omega (arith, b, few)) good in
-    let y = h.1 few x.0 in
-    (y.0, later_twice s.known t.known u.known s.types t.types u.types x.1 y.1))
+    let a = g.0 in let b = h.0 in (
+      omega (arith, a, b),
+      λ few good.
+          let x = g.1 (omega (arith, b, few)) good in
+          let y = h.1 few x.0 in
+          (y.0, later_twice s.known t.known u.known s.types t.types u.types x.1 y.1),
+    )
 
 -- a state with other structs, by which what is known grows
 pub keeps_structs : (s : State) (table : TypesView) → (IsGoodBy s.known s.types s.objects s.statics → ((n : ℕ) (v : StructView) → slice_get table.structs n ≡ Some v → (v ≡ no_struct) ⊎ (types.has_body table n ≡ true)) × IsLaterBy s.known s.types (record s.known { structs = table.structs }) table)
     → Keeps s (record s { known = record s.known { structs = table.structs }; types = table })
-keeps_structs s table h = (at_most (length s.statics), λ few good.
-    let g = h good in
-    (record { settled = refl; bodies = g.0; placed = λ n o is. object_grown s.known (record s.known { structs = table.structs }) o g.1.extends (good.placed n o is); linked = good.linked }, g.1))
+keeps_structs s table h = (
+  at_most (length s.statics),
+  λ few good.
+      let g = h good in
+      (record { settled = refl; bodies = g.0; placed = λ n o is. object_grown s.known (record s.known { structs = table.structs }) o g.1.extends (good.placed n o is); linked = good.linked }, g.1),
+)
 
 structs_more : (s : State) → Keeps s (with_struct s)
 structs_more s = keeps_structs s (types.with_struct s.types) (λ good. (
-    λ n v is. elim (appended_is s.types.structs no_struct n v is) [ inl old ↦ good.bodies n v old | inr new ↦ inl new.1 ],
-    record {
-      extends = record { numbers = refl; structs = λ i v is. inr (front_stays s.types.structs (no_struct ∷ []) i v (ap (λ l. slice_get l i) (sym good.settled) ∙ is)) };
-      met = λ n h. h;
-      open_still = λ n v met is. elim (appended_is s.types.structs no_struct n v is) [ inl old ↦ inr old | inr new ↦ inl new.1 ];
-    }))
+  λ n v is. elim (appended_is s.types.structs no_struct n v is) [ inl old ↦ good.bodies n v old | inr new ↦ inl new.1 ],
+  record {
+    extends = record { numbers = refl; structs = λ i v is. inr (front_stays s.types.structs (no_struct ∷ []) i v (ap (λ l. slice_get l i) (sym good.settled) ∙ is)) };
+    met = λ n h. h;
+    open_still = λ n v met is. elim (appended_is s.types.structs no_struct n v is) [ inl old ↦ inr old | inr new ↦ inl new.1 ];
+  },
+))
 
 body_met : (s : State) (owner : ℕ) → Keeps s (with_body s owner)
 body_met s owner = keeps_structs s (types.with_body s.types owner) (λ good. (
-    λ n v is. elim (good.bodies n v is) [ inl none ↦ inl none | inr met ↦ inr (keys_more n owner s.types.bodies met) ],
-    record {
-      extends = record { numbers = refl; structs = λ i v is. inr (ap (λ l. slice_get l i) (sym good.settled) ∙ is) };
-      met = λ n h. keys_more n owner s.types.bodies h;
-      open_still = λ n v met is. inr is;
-    }))
+  λ n v is. elim (good.bodies n v is) [ inl none ↦ inl none | inr met ↦ inr (keys_more n owner s.types.bodies met) ],
+  record {
+    extends = record { numbers = refl; structs = λ i v is. inr (ap (λ l. slice_get l i) (sym good.settled) ∙ is) };
+    met = λ n h. keys_more n owner s.types.bodies h;
+    open_still = λ n v met is. inr is;
+  },
+))
 
 member_named : (s : State) (owner name field : ℕ) (e : Option ℕ) → Keeps s (record s { known = record s.known { structs = s.types.structs }; types = types.with_member s.types owner name field e })
 member_named s owner name field e = keeps_structs s (types.with_member s.types owner name field e) (λ good. (
-    good.bodies,
-    record {
-      extends = record { numbers = refl; structs = λ i v is. inr (ap (λ l. slice_get l i) (sym good.settled) ∙ is) };
-      met = λ n h. h;
-      open_still = λ n v met is. inr is;
-    }))
+  good.bodies,
+  record {
+    extends = record { numbers = refl; structs = λ i v is. inr (ap (λ l. slice_get l i) (sym good.settled) ∙ is) };
+    met = λ n h. h;
+    open_still = λ n v met is. inr is;
+  },
+))
 
 apart_bodies : (b : Bool) → b ≡ false → b ≡ true → ⊥
 apart_bodies true f t = cc
@@ -203,37 +211,39 @@ apart_bodies false f t = cc
 
 -- a struct whose body is met for the first time is not complete before its end
 struct_completed : (s t : State) (owner : ℕ) (made : StructView) → types.has_body s.types owner ≡ false → Keeps (with_body s owner) t → Keeps s (with_complete t owner made)
-struct_completed s t owner made first g = (g.0, λ few good.
-    let b = (body_met s owner).1 (let a = g.0 in omega (arith, a, few)) good in
-    let x = g.1 few b.0 in
-    let from_start = later_twice s.known (with_body s owner).known t.known s.types (with_body s owner).types t.types b.1 x.1 in
-    let u : State = with_complete t owner made in
-    let unknown : (v : StructView) → slice_get s.types.structs owner ≡ Some v → v ≡ no_struct = λ v is. elim (good.bodies owner v is) [ inl none ↦ none | inr met ↦ absurd (apart_bodies (types.has_body s.types owner) first met) ] in
-    let still : (v : StructView) → slice_get t.types.structs owner ≡ Some v → v ≡ no_struct = λ v is. elim (x.1.open_still owner v (key_there owner s.types.bodies) is) [ inl none ↦ none | inr old ↦ unknown v old ] in
-    let there : (n : ℕ) (v : StructView) → slice_get t.types.structs n ≡ Some v → (v ≡ no_struct) ⊎ (slice_get u.types.structs n ≡ Some v) = λ n v is. elim (cases_eq n owner) [
-      | inl same ↦ inl (still v (ap (slice_get t.types.structs) (sym same) ∙ is))
-      | inr other ↦ inr (set_other t.types.structs owner n made other ∙ is)
-    ] in
-    let grown : Extends t.known u.known = record { numbers = refl; structs = λ i v is. there i v (ap (λ l. slice_get l i) (sym x.0.settled) ∙ is) } in
-    (
-      record {
-        settled = refl;
-        bodies = λ n v is. elim (cases_eq n owner) [
-          | inl same ↦ inr (subst (λ m. types.has_body t.types m ≡ true) (sym same) (x.1.met owner (key_there owner s.types.bodies)))
-          | inr other ↦ x.0.bodies n v (sym (set_other t.types.structs owner n made other) ∙ is)
-        ];
-        placed = λ n o is. object_grown t.known u.known o grown (x.0.placed n o is);
-        linked = x.0.linked;
-      },
-      record {
-        extends = extends_twice s.known t.known u.known from_start.extends grown;
-        met = λ n met. from_start.met n met;
-        open_still = λ n v met is. elim (cases_eq n owner) [
-          | inl same ↦ absurd (apart_bodies (types.has_body s.types owner) first (subst (λ m. types.has_body s.types m ≡ true) same met))
-          | inr other ↦ from_start.open_still n v met (sym (set_other t.types.structs owner n made other) ∙ is)
-        ];
-      },
-    ))
+struct_completed s t owner made first g = (
+  g.0,
+  λ few good.
+      let b = (body_met s owner).1 (let a = g.0 in omega (arith, a, few)) good in
+      let x = g.1 few b.0 in
+      let from_start = later_twice s.known (with_body s owner).known t.known s.types (with_body s owner).types t.types b.1 x.1 in
+      let u : State = with_complete t owner made in
+      let unknown : (v : StructView) → slice_get s.types.structs owner ≡ Some v → v ≡ no_struct = λ v is. elim (good.bodies owner v is) [ inl none ↦ none | inr met ↦ absurd (apart_bodies (types.has_body s.types owner) first met) ] in
+      let still : (v : StructView) → slice_get t.types.structs owner ≡ Some v → v ≡ no_struct = λ v is. elim (x.1.open_still owner v (key_there owner s.types.bodies) is) [ inl none ↦ none | inr old ↦ unknown v old ] in
+      let there : (n : ℕ) (v : StructView) → slice_get t.types.structs n ≡ Some v → (v ≡ no_struct) ⊎ (slice_get u.types.structs n ≡ Some v) = λ n v is. elim (cases_eq n owner) [
+        | inl same ↦ inl (still v (ap (slice_get t.types.structs) (sym same) ∙ is))
+        | inr other ↦ inr (set_other t.types.structs owner n made other ∙ is)
+      ] in
+      let grown : Extends t.known u.known = record { numbers = refl; structs = λ i v is. there i v (ap (λ l. slice_get l i) (sym x.0.settled) ∙ is) } in (
+        record {
+          settled = refl;
+          bodies = λ n v is. elim (cases_eq n owner) [
+            | inl same ↦ inr (subst (λ m. types.has_body t.types m ≡ true) (sym same) (x.1.met owner (key_there owner s.types.bodies)))
+            | inr other ↦ x.0.bodies n v (sym (set_other t.types.structs owner n made other) ∙ is)
+          ];
+          placed = λ n o is. object_grown t.known u.known o grown (x.0.placed n o is);
+          linked = x.0.linked;
+        },
+        record {
+          extends = extends_twice s.known t.known u.known from_start.extends grown;
+          met = λ n met. from_start.met n met;
+          open_still = λ n v met is. elim (cases_eq n owner) [
+            | inl same ↦ absurd (apart_bodies (types.has_body s.types owner) first (subst (λ m. types.has_body s.types m ≡ true) same met))
+            | inr other ↦ from_start.open_still n v met (sym (set_other t.types.structs owner n made other) ∙ is)
+          ];
+        },
+      ),
+)
 
 either : (s : State) (b : Bool) (x y : State) → Keeps s x → Keeps s y → Keeps s (cond b x y)
 either s true x y g h = g

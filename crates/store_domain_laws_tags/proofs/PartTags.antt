@@ -78,12 +78,15 @@ module _ (m : Model) (model : is_model m ≡ true) (structs : List StructView) (
   member_at tag each room start (g ∷ fs) small h zero f e =
       let p = and_parts (is_member_in m structs room start g) (are_members_in m structs room (g.offset + bytes_in structs m.pointer g.ctype) fs) h in
       let a = member_is m structs room start g small p.0 in
-      subst (λ (f : FieldView). (start ≤ f.offset) × IsPartOf room f × ((x : ℕ) → x < size f.ctype → member_tags tag (g ∷ fs) (f.offset + x) ≡ tag f.ctype x)) (same_Some g f e)
-      (a.from, record { kind = a.kind; to = a.to }, λ x k.
-          let d : (g.offset + x) - g.offset ≡ x = omega arith in
-          let s = a.same in
-          ap (λ o. or_tag o (member_tags tag fs (g.offset + x))) (shifted_on g.offset (tag g.ctype) (g.offset + x) (omega arith) ∙ ap (tag g.ctype) d)
-          ∙ (ap (or_tag (tag g.ctype x)) (none_before tag room (g.offset + bytes_in structs m.pointer g.ctype) fs small p.1 (g.offset + x) (omega (arith, k, s))) ∙ or_none (tag g.ctype x)))
+      subst (λ (f : FieldView). (start ≤ f.offset) × IsPartOf room f × ((x : ℕ) → x < size f.ctype → member_tags tag (g ∷ fs) (f.offset + x) ≡ tag f.ctype x)) (same_Some g f e) (
+        a.from,
+        record { kind = a.kind; to = a.to },
+        λ x k.
+            let d : (g.offset + x) - g.offset ≡ x = omega arith in
+            let s = a.same in
+            ap (λ o. or_tag o (member_tags tag fs (g.offset + x))) (shifted_on g.offset (tag g.ctype) (g.offset + x) (omega arith) ∙ ap (tag g.ctype) d)
+            ∙ (ap (or_tag (tag g.ctype x)) (none_before tag room (g.offset + bytes_in structs m.pointer g.ctype) fs small p.1 (g.offset + x) (omega (arith, k, s))) ∙ or_none (tag g.ctype x)),
+      )
     where
       none_before : (tag : Ty → ℕ → Option Tag) (room start : ℕ) (fs : List FieldView) → room ≤ 2 ^ 30 → are_members_in m structs room start fs ≡ true → (x : ℕ) → x < start → member_tags tag fs x ≡ None
       none_before tag room start [] small h x k = refl
@@ -99,10 +102,13 @@ module _ (m : Model) (model : is_model m ≡ true) (structs : List StructView) (
       let s = a.same in
       let from = a.from in
       let r = member_at tag each room (g.offset + bytes_in structs m.pointer g.ctype) fs small p.1 n f e in
-      let lo = r.0 in
-      (omega (arith, lo, from), r.1, λ x k.
-          ap (λ o. or_tag o (member_tags tag fs (f.offset + x))) (shifted_on g.offset (tag g.ctype) (f.offset + x) (omega (arith, lo)) ∙ each g.ctype a.kind ((f.offset + x) - g.offset) (omega (arith, lo, s)))
-          ∙ r.2 x k)
+      let lo = r.0 in (
+        omega (arith, lo, from),
+        r.1,
+        λ x k.
+            ap (λ o. or_tag o (member_tags tag fs (f.offset + x))) (shifted_on g.offset (tag g.ctype) (f.offset + x) (omega (arith, lo)) ∙ each g.ctype a.kind ((f.offset + x) - g.offset) (omega (arith, lo, s)))
+            ∙ r.2 x k,
+      )
 
   pub of_member : are_ordered structs ≡ true → (i : ℕ) (s : StructView) → slice_get structs i ≡ Some s → (n : ℕ) (f : FieldView) → slice_get s.fields n ≡ Some f → IsMemberOf m structs i f
   of_member ordered i s there n f e = by_depth (length structs) refl (slice_get_within structs i s there) (below_at (nests_within structs (length structs)) (length structs) i ordered (slice_get_within structs i s there))
