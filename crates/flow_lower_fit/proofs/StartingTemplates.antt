@@ -13,7 +13,6 @@ use Rattle.flow_lower_functions.specs.Functions.{arguments, argument, parameters
 use Rattle.flow_lower_functions.specs.Turns.{planless}
 use Rattle.flow_lower_works.specs.Derivations.{parts, Makes, nothing, piece, work}
 use Rattle.flow_lower_works.proofs.Derivations.{derived}
-use Rattle.flow_lower_growth.specs.Growth.{Grows}
 use Rattle.flow_lower_growth.proofs.Growth.{grows_on}
 use Rattle.flow_lower_growth.proofs.GrowingWorks.{grows_parts, planless_grows, grows, jobs_none}
 use Rattle.flow_lower_fit.specs.Starts.{IsPieceStart, AreStarts}
