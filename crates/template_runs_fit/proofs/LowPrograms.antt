@@ -1,5 +1,5 @@
 -- What a well-formed program names is there, so that its temporaries have numbers below their count.
-use Rattle.std.proofs.Common.{◌≡◌, ◌≤◌, ◌<◌, ℕ, zero, suc, ◌+◌, ◌-◌, ◌^◌, ◌==◌, ℤ, ◌&&◌, Bool, true, List, [], ◌∷◌, map, length, take, drop, Option, Some, None, nat_le, nat_lt, slice_get, arith, sym, subst}
+use Rattle.std.proofs.Common.{◌≡◌, ◌≤◌, ℕ, zero, suc, ◌+◌, ◌-◌, ◌^◌, ◌==◌, ℤ, ◌&&◌, Bool, true, List, [], ◌∷◌, map, length, take, drop, Option, Some, None, nat_le, nat_lt, slice_get, arith, sym, subst}
 use Rattle.std.specs.List.{list_all}
 use Rattle.std.proofs.lemmas.Bool.{and_parts, leb-true, ltb-true}
 use Rattle.cc_base.specs.declared.limit_table.Limits.{Limits}
