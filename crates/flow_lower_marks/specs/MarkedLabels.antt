@@ -11,6 +11,6 @@ use Rattle.flow_lower_debts.specs.Marks.{below, all_marked, IsLabelled}
 abbrev pub LabelsAreMarkedOnce : Type 0
 LabelsAreMarkedOnce = (structs : List StructView) (pointer int_bytes : ℕ) (f : FunctionView) (is_entry : Bool) (t : TemplateView) → IsTemplate structs pointer int_bytes f is_entry t → IsLabelled f → (l : ℕ) → l < 2 ^ 32 - 1 → all_marked l t.pieces ≤ 1
 
--- so it does, and only where it has a label of that number; numbers past the last one are never labels
+-- so it does, and only where it has a label of that number, for every number but the last one
 abbrev pub LabelsAreMarkedBelow : Type 0
 LabelsAreMarkedBelow = (structs : List StructView) (pointer int_bytes : ℕ) (f : FunctionView) (is_entry : Bool) (t : TemplateView) → IsTemplate structs pointer int_bytes f is_entry t → IsLabelled f → (l : ℕ) → (l ≡ 2 ^ 32 - 1 → ⊥) → all_marked l t.pieces ≤ below l t.labels
