@@ -1,5 +1,5 @@
 -- The marks that statements are to make are those of their labels and of labels that they give away.
-use Rattle.std.proofs.Common.{◌≡◌, ◌≤◌, ◌<◌, inl, inr, ℕ, ◌+◌, ◌-◌, ◌^◌, ◌==◌, Bool, true, false, cond, nat_le, nat_lt, List, [], ◌∷◌, length, get_or, Option, Some, None, slice_get, refl, arith, ap, sym, subst, ◌∙◌}
+use Rattle.std.proofs.Common.{◌≡◌, ◌≤◌, ◌<◌, ◌⊎◌, inl, inr, ℕ, ◌+◌, ◌-◌, ◌^◌, ◌==◌, Bool, true, false, cond, nat_le, nat_lt, List, [], ◌∷◌, length, get_or, Option, Some, None, slice_get, refl, arith, ap, sym, subst, ◌∙◌}
 use Rattle.std.proofs.lemmas.Bool.{leb-true, leb-false, eqb-true, cond-false}
 use Rattle.std.proofs.lemmas.Option.{slice_get-get_or}
 use Rattle.cc_base.specs.declared.diagnostics.Place.{Place}
@@ -281,17 +281,28 @@ paid_label {ds = ds} {l = l} before label body around p none sound g le =
     sum o x y b a c e le more = omega (arith, e, le, more)
 
 -- a case of a switch: no label stops at the last number
-one_behind : (l first n rest : ℕ) → l < 2 ^ 32 - 1 → one l (behind first n) + cond (nat_le first l) rest 0 ≤ cond (nat_le first l) (one (l - first) n + rest) 0
-one_behind l first n rest less = by (nat_le first l) refl
+one_behind : (l first n rest : ℕ) → (l ≡ 2 ^ 32 - 1 → ⊥) → one l (behind first n) + cond (nat_le first l) rest 0 ≤ cond (nat_le first l) (one (l - first) n + rest) 0
+one_behind l first n rest other = by (nat_le first l) refl
   where
     none : (x y : ℕ) → x ≡ 0 → x + 0 ≤ y
     none x y e = omega (arith, e)
 
     too_early : l < first → l ≡ behind first n → ⊥
-    too_early before e = omega (arith, before, e, less)
+    too_early before e = other (omega (arith, before, e))
+
+    at_last : first ≤ l → l ≡ behind first n → (l - first ≡ n) ⊎ (l ≡ 2 ^ 32 - 1)
+    at_last le e = by (nat_le (first + n) (2 ^ 32 - 1)) refl
+      where
+        by : (b : Bool) → nat_le (first + n) (2 ^ 32 - 1) ≡ b → (l - first ≡ n) ⊎ (l ≡ 2 ^ 32 - 1)
+        by true small = let room = leb-true (first + n) (2 ^ 32 - 1) small in inl (omega (arith, le, e, room))
+        by false large = let past = leb-false (first + n) (2 ^ 32 - 1) large in inr (omega (arith, e, past))
 
     shifted : first ≤ l → l ≡ behind first n → l - first ≡ n
-    shifted le e = omega (arith, le, e, less)
+    shifted le e = by (at_last le e)
+      where
+        by : (l - first ≡ n) ⊎ (l ≡ 2 ^ 32 - 1) → l - first ≡ n
+        by (inl is) = is
+        by (inr last) = absurd (other last)
 
     same : (x y k : ℕ) → x ≡ 1 → y ≡ 1 → x + k ≤ y + k
     same x y k e f = omega (arith, e, f)
@@ -320,14 +331,14 @@ no_free_default body free = apart (defaults_in body) free.defaults
     apart m f = omega (arith, f)
 
 -- the switch of a case label is known
-pub case_owed : (ds : List Dispatch) (l n : ℕ) (body : StatementTree) (choice : ℕ) → l < 2 ^ 32 - 1 → choice < length ds → one l (behind (get_or ds choice no_dispatch).cases n) + (labels_in l body + dispatched l (slice_get ds choice) body) ≤ labels_in l body + dispatched l (slice_get ds choice) (tree.Case n body)
-case_owed ds l n body choice less there = at (slice_get-get_or ds choice no_dispatch there)
+pub case_owed : (ds : List Dispatch) (l n : ℕ) (body : StatementTree) (choice : ℕ) → (l ≡ 2 ^ 32 - 1 → ⊥) → choice < length ds → one l (behind (get_or ds choice no_dispatch).cases n) + (labels_in l body + dispatched l (slice_get ds choice) body) ≤ labels_in l body + dispatched l (slice_get ds choice) (tree.Case n body)
+case_owed ds l n body choice other there = at (slice_get-get_or ds choice no_dispatch there)
   where
     sum : (x y c f e : ℕ) → x + c ≤ e → x + (y + (c + f)) ≤ y + (e + f)
     sum x y c f e le = omega (arith, le)
 
     at : slice_get ds choice ≡ Some (get_or ds choice no_dispatch) → one l (behind (get_or ds choice no_dispatch).cases n) + (labels_in l body + dispatched l (slice_get ds choice) body) ≤ labels_in l body + dispatched l (slice_get ds choice) (tree.Case n body)
-    at e = subst (λ found. one l (behind (get_or ds choice no_dispatch).cases n) + (labels_in l body + dispatched l found body) ≤ labels_in l body + dispatched l found (tree.Case n body)) (sym e) (sum _ (labels_in l body) _ _ _ (one_behind l (get_or ds choice no_dispatch).cases n (cases_in (l - (get_or ds choice no_dispatch).cases) body) less))
+    at e = subst (λ found. one l (behind (get_or ds choice no_dispatch).cases n) + (labels_in l body + dispatched l found body) ≤ labels_in l body + dispatched l found (tree.Case n body)) (sym e) (sum _ (labels_in l body) _ _ _ (one_behind l (get_or ds choice no_dispatch).cases n (cases_in (l - (get_or ds choice no_dispatch).cases) body) other))
 
 -- so is that of a default label
 pub default_owed : (ds : List Dispatch) (l : ℕ) (body : StatementTree) (choice : ℕ) → choice < length ds → one l (get_or ds choice no_dispatch).fallback + (labels_in l body + dispatched l (slice_get ds choice) body) ≤ labels_in l body + dispatched l (slice_get ds choice) (tree.Default body)

@@ -83,7 +83,7 @@ all_same old more l (j ∷ js) (first, sound) = sum _ _ _ _ (same_owes old more 
 
 -- ---- statements
 
-module _ (l : ℕ) (less : l < 2 ^ 32 - 1) (s : SettingView) where
+module _ (l : ℕ) (not_last : l ≡ 2 ^ 32 - 1 → ⊥) (s : SettingView) where
   silent : (ds : List Dispatch) (i : StatementTree) (around : Surroundings) (p : Plan) → Grows p (statement s i around p) → Owed ds l 0 (statement s i around p) → Paid ds l (owes ds l (jobs.Statement i around)) p (statement s i around p)
   silent ds i around p g o = let a = o.most in let b = below_more l p.labels (statement s i around p).labels g.labels in record { most = omega (arith, a, b); sound = o.sound }
 
@@ -135,7 +135,7 @@ module _ (l : ℕ) (less : l < 2 ^ 32 - 1) (s : SettingView) where
       by (inr free) = absurd (no_free_case n body free)
       by (inl there) = subst (λ d. one l (behind d.cases n) + (labels_in l body + dispatched l (slice_get ds around.choice) body) ≤ labels_in l body + dispatched l (slice_get ds around.choice) (tree.Case n body))
           (ap (λ xs. get_or xs around.choice no_dispatch) is ∙ get_or_append_left p.dispatches more no_dispatch around.choice there)
-          (case_owed ds l n body around.choice less (subst (λ xs. around.choice < length xs) (sym is) (longer p.dispatches more around.choice there)))
+          (case_owed ds l n body around.choice not_last (subst (λ xs. around.choice < length xs) (sym is) (longer p.dispatches more around.choice there)))
   paid_by_form ds more (tree.Default body) around p is last none old sound start g =
       let whole = tree.Default body in
       paid_label (owes ds l (jobs.Statement whole around)) _ body around p none (record { placed = inside sound.placed; switches = sound.switches }) g (by old.placed)

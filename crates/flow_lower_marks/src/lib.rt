@@ -3,4 +3,4 @@
 
 mod theorems;
 
-pub use theorems::labels_are_marked_once;
+pub use theorems::{labels_are_marked_below, labels_are_marked_once};

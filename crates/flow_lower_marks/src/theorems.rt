@@ -1,8 +1,13 @@
 //! Each label of a template is marked at most once.
-ghost use Rattle.flow_lower_marks.specs.MarkedLabels.{LabelsAreMarkedOnce};
+ghost use Rattle.flow_lower_marks.specs.MarkedLabels.{LabelsAreMarkedOnce, LabelsAreMarkedBelow};
 
 /// In the template of a function that has each of its labels at most once, and in each switch each of its cases and
 /// its default label at most once, each label is marked at most once.
 pub fn labels_are_marked_once()
     ensures { LabelsAreMarkedOnce }
+{}
+
+/// So it is, and only where the template has a label of that number, for every number but the last, at which labels stop.
+pub fn labels_are_marked_below()
+    ensures { LabelsAreMarkedBelow }
 {}

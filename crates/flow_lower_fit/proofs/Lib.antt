@@ -1,0 +1,4 @@
+pub mod StartingWorks
+pub mod StartingConditions
+pub mod StartingStatements
+pub mod StartingTemplates

@@ -1,0 +1,4 @@
+pub mod SendingWorks
+pub mod SendingConditions
+pub mod SendingStatements
+pub mod SendingTemplates

@@ -1,0 +1,6 @@
+//! Runs of checked units and of the programs that they are lowered to.
+#![tactic(auto)]
+
+mod theorems;
+
+pub use theorems::checked_runs_are_the_same;
