@@ -10,7 +10,7 @@ use Rattle.flow_lower_tasks.specs.Pieces.{Case, Other, ExitView}
 use Rattle.flow_lower_statements.specs.Switches.{case_exits, dispatch_exits, values}
 use Rattle.flow_lower_statements.specs.declared.switch_statements.CaseArm.{CaseArm}
 use Rattle.flow_program_machine.specs.FlowEdges.{is_among}
-use Rattle.ref_machine.specs.LabelSearch.{Sought, case, other, case_of}
+use Rattle.ref_machine.specs.LabelSearch.{Sought, case, case_of}
 use Rattle.template_runs.specs.TemplateExits.{exit_taken}
 use Rattle.template_runs_switches.specs.ValueEdges.{AreArms, HasEdge, of_case, of_none}
 
