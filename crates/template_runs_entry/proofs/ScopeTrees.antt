@@ -11,10 +11,10 @@ use Rattle.template_runs_scopes.specs.Scopes.{scopes_in, all_scopes_in, IsScope,
 
 -- ---- scopes are only added
 
-record More (count : ℕ) (t u : TreeView) : Type 0 where
-  more : List ScopeView
-  is : u.scopes ≡ t.scopes ++ more
-  many : length more ≡ count
+pub record More (count : ℕ) (t u : TreeView) : Type 0 where
+  pub more : List ScopeView
+  pub is : u.scopes ≡ t.scopes ++ more
+  pub many : length more ≡ count
 
 none_more : (t u : TreeView) → u.scopes ≡ t.scopes → More 0 t u
 none_more t u e = record { more = []; is = e ∙ sym (append-nil t.scopes); many = refl }
@@ -59,7 +59,7 @@ one_and_both : (a b : ℕ) → (1 + a) + b ≡ suc (a + b)
 one_and_both a b = omega arith
 
 mutual
-  scoped_more : (i : StatementTree) (k c : ℕ) (t : TreeView) → More (scopes_in i) t (scoped i k c t)
+  pub scoped_more : (i : StatementTree) (k c : ℕ) (t : TreeView) → More (scopes_in i) t (scoped i k c t)
   scoped_more (tree.Value e) k c t = none_more t t refl
   scoped_more tree.Nothing k c t = none_more t t refl
   scoped_more (tree.Forget at local) k c t = none_more t t refl
@@ -87,7 +87,7 @@ mutual
   scoped_more tree.Continue k c t = none_more t t refl
   scoped_more (tree.Return at e) k c t = none_more t t refl
 
-  all_more : (items : StatementTrees) (k c : ℕ) (t : TreeView) → More (all_scopes_in items) t (all_scoped items k c t)
+  pub all_more : (items : StatementTrees) (k c : ℕ) (t : TreeView) → More (all_scopes_in items) t (all_scoped items k c t)
   all_more tree.NoMore k c t = none_more t t refl
   all_more (tree.And first rest) k c t = on_more (scopes_in first) (all_scopes_in rest) t (scoped first k c t) (all_scoped rest k c (scoped first k c t)) (scoped_more first k c t) (all_more rest k c (scoped first k c t))
 
@@ -115,13 +115,13 @@ new_scope s k objects t less b =
     within : (a b c : ℕ) → c ≡ a + suc b → a < c
     within a b c e = omega (arith, e)
 
-length_new : (k : ℕ) (objects : List ℕ) (t : TreeView) → length (with_new_scope k objects t).scopes ≡ suc (length t.scopes)
+pub length_new : (k : ℕ) (objects : List ℕ) (t : TreeView) → length (with_new_scope k objects t).scopes ≡ suc (length t.scopes)
 length_new k objects t = let x = one_more k objects t in ap (λ xs. length xs) x.is ∙ length-append t.scopes x.more ∙ ap (λ n. length t.scopes + n) x.many ∙ plus_one (length t.scopes)
   where
     plus_one : (a : ℕ) → a + 1 ≡ suc a
     plus_one a = omega arith
 
-length_more : (count : ℕ) (t u : TreeView) → More count t u → length u.scopes ≡ length t.scopes + count
+pub length_more : (count : ℕ) (t u : TreeView) → More count t u → length u.scopes ≡ length t.scopes + count
 length_more count t u x = ap (λ xs. length xs) x.is ∙ length-append t.scopes x.more ∙ ap (λ n. length t.scopes + n) x.many
 
 still : (a b count c : ℕ) → a < b → c ≡ b + count → a < c

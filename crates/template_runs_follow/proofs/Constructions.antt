@@ -2,7 +2,9 @@
 use Rattle.std.specs.Prelude.{◌≡◌, ℕ, zero, suc, ◌+◌, ℤ, true, false, List, [], ◌∷◌, ◌++◌, Option, Some, None}
 use Rattle.cc_base.specs.declared.diagnostics.Place.{Place}
 use Rattle.c_layout.specs.CheckedTrees.{TermTree, LvalueTree, StatementTree}
+use Rattle.cc_base.specs.declared.int_types.IntType.{IntType}
 use Rattle.c_layout.specs.CheckedUnits.{FunctionView}
+use Rattle.c_layout.specs.declared.checked_tree.checked_statements.CaseLabel.{CaseLabel}
 use Rattle.c_layout.specs.Types.{Ty}
 use Rattle.c_layout.specs.declared.library_functions.LibFn.{LibFn}
 use Rattle.c_layout.specs.declared.library_functions.LibFn.TheVariants.{Fgets}
@@ -12,13 +14,14 @@ use Rattle.flow_program.specs.declared.machine_instructions.Scalar as declared
 use Rattle.flow_lower_expressions.specs.Calls.{result_temp}
 use Rattle.flow_lower_tasks.specs.Acts as act
 use Rattle.flow_lower_tasks.specs.Acts.{Act}
-use Rattle.flow_lower_tasks.specs.Pieces.{Local, Literal, PieceView, End, When, Always, NoLine, Line}
+use Rattle.flow_lower_tasks.specs.Pieces.{Local, Literal, PieceView, ExitView, End, When, Always, NoLine, Line}
 use Rattle.flow_lower_tasks.specs.Plans.{name_of_object}
+use Rattle.flow_lower_conditions.specs.declared.branch_tests.NamedObject.{NamedObject}
 use Rattle.ref_machine.specs.Items as item
 use Rattle.ref_machine.specs.Items.{Item, Items, listed, NamedTest, Change}
 use Rattle.ref_machine.specs.Operations as op
 use Rattle.ref_machine.specs.Operations.{Operation}
-use Rattle.ref_machine.specs.Scopes.{all_of, open_scopes}
+use Rattle.ref_machine.specs.Scopes.{leap_in, all_of, open_scopes}
 use Rattle.ref_machine.specs.TermItems.{address_items}
 use Rattle.ref_machine.specs.ConditionItems.{term_items}
 use Rattle.ref_machine.specs.StatementItems.{of_statement}
@@ -26,7 +29,7 @@ use Rattle.ref_machine.specs.SourceStates.{function_at}
 use Rattle.template_runs.specs.TemplateStates.{Templates}
 use Rattle.template_runs_acts.specs.Acts.{IsAct, IsActBehind, temps_from, behind_call}
 use Rattle.template_runs_follow.specs.Follows as follows
-use Rattle.template_runs_follow.specs.Follows.{own, Names, Leads, SameTest, IsEdge, Follows, at_place, change_act}
+use Rattle.template_runs_follow.specs.Follows.{own, Names, Leads, SameTest, IsEdge, Selected, Follows, at_place, change_act}
 use Rattle.template_runs_follow.proofs.FewerTurns.{less}
 
 pub gives_value : {t : Templates} (n : ℕ) (d : ℕ) (e : TermTree) (items : List Item) (ps : List PieceView) → Follows t n d (term_items t.unit true e ++ items) ps → Follows t n d (item.Value e ∷ items) ps
@@ -112,6 +115,11 @@ pub gives_line : {t : Templates} (n : ℕ) (d none some : ℕ) (at : Place) (unr
     → Follows t n (suc (suc (suc d))) (item.ReadLine at unread read ∷ items) (End (record { at = at; does = act.ReadLine None d (suc d) (suc (suc d)) }) (record { to = none; taken = NoLine } ∷ (record { to = some; taken = Line } ∷ [])) ∷ ps)
 gives_line zero d none some at unread read items ps on_none on_some to_none to_some f g = follows.enough _ _ _
 gives_line (suc n) d none some at unread read items ps on_none on_some to_none to_some f g = follows.read_line n d none some at unread read items ps on_none on_some to_none to_some (less n _ _ _ f) (less n _ _ _ g)
+
+pub gives_select : {t : Templates} (n : ℕ) (d : ℕ) (at : Place) (kind : IntType) (object : Option NamedObject) (labels : List CaseLabel) (body : StatementTree) (items : List Item) (exits : List ExitView) (ps : List PieceView) (arms : (value : ℤ) → Selected t object labels body items exits value) → ((value : ℤ) → Follows t n d (leap_in items (arms value).to) (arms value).there)
+    → Follows t n (suc d) (item.Select at object labels body ∷ items) (End (record { at = at; does = act.Switch d kind }) exits ∷ ps)
+gives_select zero d at kind object labels body items exits ps arms go = follows.enough _ _ _
+gives_select (suc n) d at kind object labels body items exits ps arms go = follows.select n d at kind object labels body items exits ps arms (λ value. less n d _ _ (go value))
 
 pub gives_read : {t : Templates} (n : ℕ) (d l : ℕ) (at : Place) (target : Option Ty) (items : List Item) (ps there : List PieceView) → Leads t l there → Follows t n (suc d) items there
     → Follows t n (suc (suc (suc d))) (item.Do at (op.Library Fgets 3 target) ∷ items) (End (record { at = at; does = act.ReadLine (Some d) d (suc d) (suc (suc d)) }) (record { to = l; taken = NoLine } ∷ (record { to = l; taken = Line } ∷ [])) ∷ ps)

@@ -39,5 +39,6 @@ less (suc n) _ _ _ (follows.read_value _ d l at target items ps there to f) = fo
 less (suc n) _ _ _ (follows.again _ d at operation a items ps is go) = follows.again n d at operation a items ps is (less n (suc (suc d)) items ps go)
 less (suc n) _ _ _ (follows.calls_library _ d count at function target site items ps go) = follows.calls_library n d count at function target site items ps (less n _ items ps go)
 less (suc n) _ _ _ (follows.literal _ d base i at items ps named go) = follows.literal n d base i at items ps named (less n (suc d) items ps go)
+less (suc n) _ _ _ (follows.select _ d at kind object labels body items exits ps arms go) = follows.select n d at kind object labels body items exits ps arms (λ value. less n d _ _ (go value))
 less (suc n) _ _ _ (follows.hop _ d l items ps there to go) = follows.hop n d l items ps there to (less n d items there go)
 less (suc n) _ _ _ (follows.finish _ d at ps) = follows.finish n d at ps

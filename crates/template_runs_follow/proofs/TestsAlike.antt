@@ -1,15 +1,22 @@
 -- A test says the same of memory in both machines.
-use Rattle.std.proofs.Common.{◌≡◌, ℕ, true, false, Option, Some, None, slice_get, refl, ap, sym, subst, ◌∙◌}
+use Rattle.std.proofs.Common.{◌≡◌, ℕ, ℤ, true, false, Option, Some, None, slice_get, refl, ap, sym, subst, ◌∙◌}
+use Rattle.cc_base.specs.declared.int_types.IntType.{IntType}
+use Rattle.c_layout.specs.Types.{Ty}
 use Rattle.c_layout.specs.declared.checked_tree.checked_terms.ObjectRef.{ObjectRef}
 use Rattle.c_layout.specs.declared.checked_tree.checked_terms.ObjectRef.TheVariants as object
 use Rattle.flow_program.specs.declared.flow_edges.Side.{Side}
 use Rattle.flow_program.specs.declared.flow_edges.Test.{Test}
 use Rattle.flow_program.specs.declared.machine_instructions.Scalar as declared
+use Rattle.flow_lower_tasks.specs.Pieces.{Way}
 use Rattle.flow_lower_tasks.specs.Plans.{name_of_object}
+use Rattle.flow_lower_tasks.specs.TermKinds.{integer_type}
+use Rattle.flow_lower_conditions.specs.declared.branch_tests.NamedObject.{NamedObject}
 use Rattle.lib_models_effects.specs.Tests as tests
-use Rattle.lib_models_effects.specs.Tests.{TestedSide, pass_test}
+use Rattle.lib_models_effects.specs.Tests.{TestedSide, pass_test, pass_case}
 use Rattle.lib_models_effects.specs.Worlds.{World, Why, Stuck, Reply, goes, stops}
 use Rattle.ref_machine.specs.Items.{NamedSide, NamedTest}
+use Rattle.ref_machine.specs.LabelSearch as sought
+use Rattle.ref_machine.specs.LabelSearch.{Sought}
 use Rattle.ref_machine.specs.SourceStates as states
 use Rattle.ref_machine.specs.SourceStates.{State, instance_of}
 use Rattle.ref_machine.specs.BranchSteps as branch
@@ -17,7 +24,7 @@ use Rattle.template_runs.specs.TemplateStates as template
 use Rattle.template_runs.specs.TemplateStates.{Templates, Standing}
 use Rattle.template_runs.specs.TemplateExits as exits
 use Rattle.template_runs_follow.specs.Follows as follows
-use Rattle.template_runs_follow.specs.Follows.{Names, SameSide, SameTest}
+use Rattle.template_runs_follow.specs.Follows.{Names, SameSide, SameTest, SameSwitched, SameCase, entry_type}
 
 -- both go on in the same world, or both stop alike
 pub data SameTesting (s : State) (r : Standing) : Reply State → Reply Standing → Type 0 where
@@ -65,3 +72,34 @@ module _ (t : Templates) (s : State) (r : Standing) (same_names : s.names ≡ r.
   failed_alike _ _ _ entry follows.none = untested
   failed_alike _ _ _ entry (follows.some x left right on_left on_right) =
       sides x.left left _ _ entry on_left (λ l. sides x.right right _ _ entry on_right (λ k. passed _ _ (ap (λ w. pass_test t.unit.model (record { left = l; rel = tests.opposite x.rel; right = k; common = x.common }) w) same_world)))
+
+  -- ---- cases
+
+  -- the object that is switched on, behind its instance and its type
+  cased : (kind : IntType) (value : ℤ) (instance : Option ℕ) (other : ℕ → Reply Standing) → ((i : ℕ) → other i ≡ exits.in_world r (pass_case t.unit.model i kind value r.world)) → SameTesting s r (states.if_some s instance (λ i. branch.in_world s (pass_case t.unit.model i kind value s.world))) (template.if_some r instance other)
+  cased kind value None other is = stuck
+  cased kind value (Some i) other is =
+      subst (λ x. SameTesting s r (branch.in_world s (pass_case t.unit.model i kind value s.world)) x) (sym (is i)) (passed _ _ (ap (λ w. pass_case t.unit.model i kind value w) same_world))
+
+  typed : (o : ObjectRef) (ctype : Ty) → r.function ≡ t.unit.entry → entry_type t o ≡ Some ctype → (use_it : IntType → Reply Standing) → exits.typed_object t r (name_of_object o) use_it ≡ use_it (integer_type ctype)
+  typed (object.Static m) ctype entry is use_it = ap (λ found. exits.with_kind t r found use_it) is
+  typed (object.Local m) ctype entry is use_it = ap (λ found. exits.with_kind t r found use_it) (ap (λ g. states.local_of (states.function_at t.unit g) m) entry ∙ is)
+
+  switched : (o : Option NamedObject) (base : Option ℕ) (number : ℕ) (value : ℤ) → r.function ≡ t.unit.entry → SameSwitched t o base → SameTesting s r (branch.on_case t.unit o (sought.case number) value s) (exits.matching t r value base)
+  switched _ _ number value entry follows.unnamed = untested
+  switched _ _ number value entry (follows.no_integer o) = untested
+  switched _ _ number value entry (follows.integers o base ctype named is) =
+      let kind = integer_type ctype in
+      let name_is : slice_get (t.of r.function).names base ≡ Some (name_of_object o) = ap (λ f. slice_get (t.of f).names base) entry ∙ named in
+      let inner : ℕ → Reply Standing = λ i. template.with_name t r base (λ name. exits.typed_object t r name (λ k. exits.in_world r (pass_case t.unit.model i k value r.world))) in
+      subst (λ name. SameTesting s r (states.with_object s o (λ i. branch.in_world s (pass_case t.unit.model i kind value s.world))) (template.if_some r name (λ name. template.if_some r (template.instance_named t r name) inner))) (sym name_is)
+      (subst (λ instance. SameTesting s r (states.with_object s o (λ i. branch.in_world s (pass_case t.unit.model i kind value s.world))) (template.if_some r instance inner)) (sym (instance_alike o))
+      (cased kind value (instance_of s.names o) inner (λ i.
+      ap (λ name. template.if_some r name (λ name. exits.typed_object t r name (λ k. exits.in_world r (pass_case t.unit.model i k value r.world)))) name_is
+      ∙ typed o ctype entry is (λ k. exits.in_world r (pass_case t.unit.model i k value r.world)))))
+
+  -- a case label and its edge
+  pub cases_alike : (o : Option NamedObject) (value : ℤ) (l : Sought) (w : Way) → r.function ≡ t.unit.entry → SameCase t o value l w → SameTesting s r (branch.on_case t.unit o l value s) (exits.on_way t r w)
+  cases_alike o value _ _ entry (follows.matched number base same) = switched o base number value entry same
+  cases_alike None value _ _ entry (follows.unmatched values) = untested
+  cases_alike (Some o) value _ _ entry (follows.unmatched values) = untested

@@ -3,22 +3,27 @@ use Rattle.std.proofs.Common.{◌≡◌, ℕ, zero, suc, ◌+◌, ℤ, Bool, tru
 use Rattle.std.proofs.lemmas.List.{append-nil}
 use Rattle.cc_base.specs.declared.diagnostics.Place.{Place}
 use Rattle.cc_base.specs.declared.diagnostics.Rule.{Rule}
+use Rattle.c_layout.specs.CheckedTrees.{StatementTree}
+use Rattle.c_layout.specs.declared.checked_tree.checked_statements.CaseLabel.{CaseLabel}
 use Rattle.c_layout.specs.declared.library_functions.LibFn.TheVariants.{Fgets}
 use Rattle.flow_program.specs.declared.flow_edges.Test.{Test}
 use Rattle.flow_lower_tasks.specs.Acts as act
-use Rattle.flow_lower_tasks.specs.Pieces.{PieceView, End, When, NoLine, Line}
+use Rattle.flow_lower_tasks.specs.Pieces.{PieceView, ExitView, End, When, NoLine, Line}
+use Rattle.flow_lower_conditions.specs.declared.branch_tests.NamedObject.{NamedObject}
 use Rattle.lib_models_memory.specs.Instances.{Memory}
 use Rattle.lib_models_memory.specs.Labels.{no_labels}
-use Rattle.lib_models_memory.specs.Scalars.{Scalar, integer, is_false}
+use Rattle.lib_models_memory.specs.Scalars.{Scalar, integer, pointer, is_false}
 use Rattle.lib_models_effects.specs.IntegerEffects.{truth}
+use Rattle.lib_models_effects.specs.Operands.{with_number}
 use Rattle.lib_models_effects.specs.LibraryCalls.{fgets, with_result}
 use Rattle.lib_models_effects.specs.NumberedTables.{put_at}
 use Rattle.lib_models_effects.specs.UnitStarts.{start_world}
 use Rattle.lib_models_effects.specs.Worlds.{World, Ended, Reply, goes, stops, behind, Violation}
 use Rattle.ref_machine.specs.Items as item
 use Rattle.ref_machine.specs.Items.{Item, Items, listed, NamedTest}
-use Rattle.ref_machine.specs.Scopes.{jump, behind_loop, behind_turn, all_of, open_scopes}
-use Rattle.ref_machine.specs.LabelSearch.{from_label}
+use Rattle.ref_machine.specs.Scopes.{jump, leap_in, behind_loop, behind_turn, all_of, open_scopes}
+use Rattle.ref_machine.specs.LabelSearch as labels
+use Rattle.ref_machine.specs.LabelSearch.{Sought, case_of, from_label}
 use Rattle.ref_machine.specs.TermItems.{address_items}
 use Rattle.ref_machine.specs.ConditionItems.{term_items}
 use Rattle.ref_machine.specs.StatementItems.{of_statement, while_turn, do_turn, for_turn}
@@ -42,13 +47,13 @@ use Rattle.template_runs_acts.proofs.HeldValues.{holds_put}
 use Rattle.template_runs_acts.proofs.OperationsAgree.{agree, stores_agree, copies_agree}
 use Rattle.template_runs_acts.proofs.CallsAgree.{calls_agree}
 use Rattle.template_runs_follow.specs.Follows as follows
-use Rattle.template_runs_follow.specs.Follows.{pieces, own, Leads, SameTest, IsEdge, Follows, at_place}
+use Rattle.template_runs_follow.specs.Follows.{pieces, own, Leads, SameTest, IsEdge, Selected, Follows, at_place}
 use Rattle.template_runs_follow.specs.Alike as alike
 use Rattle.template_runs_follow.specs.Alike.{Lined, Related, Alike, Agree}
 use Rattle.template_runs_follow.proofs.FewerTurns.{less}
 use Rattle.template_runs_follow.proofs.StepsAlike.{Next, lined, src, std, stay, ran, halted, operated, stored, pointed_to, pointed_to_literal, changed_alike, entered_alike, left_alike}
 use Rattle.template_runs_follow.proofs.TestsAlike as testing
-use Rattle.template_runs_follow.proofs.TestsAlike.{SameTesting, held_alike, failed_alike}
+use Rattle.template_runs_follow.proofs.TestsAlike.{SameTesting, held_alike, failed_alike, cases_alike}
 
 no_value : (n : ℕ) → 0 ≡ suc n → ⊥
 no_value n e = omega (arith, e)
@@ -100,6 +105,30 @@ module _ (t : Templates) (n : ℕ) (names : ℕ → Option ℕ) (memory : Memory
       taken at also items (listed held) vs temps ps on_yes hit yes_puts _ _ same to_yes go (held_alike t (src t n names items vs memory draws) (std t n names ps temps memory draws []) refl refl test if_held if_failed refl tests)
   chosen at also hit miss test if_held if_failed yes_puts no_puts held failed items vs temps ps on_yes on_no false same tests to_yes to_no go stay_on =
       taken at also items (listed failed) vs temps ps on_no miss no_puts _ _ same to_no stay_on (failed_alike t (src t n names items vs memory draws) (std t n names ps temps memory draws []) refl refl test if_held if_failed refl tests)
+
+  -- ---- switches
+
+  -- behind a case label and its edge
+  landed : (at : Place) (also : List Violation) (body : StatementTree) (sought : Sought) (items to : List Item) (vs : List Scalar) (temps : ℕ → Option Scalar) (ps there : List PieceView) (l : ℕ) (one : Reply State) (other : Reply Standing) → found ≡ also → branch.landing sought (labels.found t.unit sought body items) items ≡ Some to → Leads t l there → Lined t n (leap_in items to) vs temps there → SameTesting (src t n names items vs memory draws) (std t n names ps temps memory draws []) one other
+      → Alike t n (source.run_by found count (Some at) (behind one (λ s w. branch.land t.unit body sought s))) (runs.run_by also (Some at) (behind other (λ s w. exits.at_label t s l)))
+  landed at also body sought items to vs temps ps there l _ _ same lands leads go (testing.both_go w) =
+      let s : State = record (src t n names items vs memory draws) { world = w } in
+      let r : Standing = record (std t n names ps temps memory draws []) { world = w } in
+      subst (λ o. Alike t n (source.run_by found count (Some at) (states.if_some s o (λ to. steps.on (record s { control = leap_in s.control to })))) (runs.run_by also (Some at) (exits.at_label t r l))) (sym lands)
+      (subst (λ o. Alike t n (source.run_by found count (Some at) (steps.on (record s { control = leap_in items to }))) (runs.run_by also (Some at) (template.if_some r o (λ rest. template.on (template.going_on r rest))))) (sym leads)
+      (ran t n names memory draws found also count same at (leap_in items to) vs temps there names w go))
+  landed at also body sought items to vs temps ps there l _ _ same lands leads go (testing.both_stop why w) = halted t n names memory draws found also count same at why w
+
+  -- a value that is switched on
+  selected : (at : Place) (also : List Violation) (object : Option NamedObject) (cases : List CaseLabel) (body : StatementTree) (items : List Item) (out : List ExitView) (v : Scalar) (vs : List Scalar) (temps : ℕ → Option Scalar) (ps : List PieceView) (arms : (value : ℤ) → Selected t object cases body items out value) → found ≡ also → ((value : ℤ) → Lined t n (leap_in items (arms value).to) vs temps (arms value).there)
+      → Alike t n (source.run_by found count (Some at) (branch.select t.unit object cases body (src t n names items (v ∷ vs) memory draws) (v ∷ vs))) (runs.run_by also (Some at) (with_number v (std t n names ps temps memory draws []).world (λ k marks w. exits.on_exit t (std t n names ps temps memory draws []) out v)))
+  selected at also object cases body items out (integer value marks) vs temps ps arms same go =
+      let x = arms value in
+      let r = std t n names ps temps memory draws [] in
+      let l = case_of cases 0 value in
+      subst (λ e. Alike t n (source.run_by found count (Some at) (branch.select_label t.unit object body l value (src t n names items vs memory draws))) (runs.run_by also (Some at) (exits.along t r e))) (sym (x.takes marks))
+      (landed at also body l items x.to vs temps ps x.there x.label _ _ same x.lands x.leads (go value) (cases_alike t (src t n names items vs memory draws) r refl refl object value l x.way refl x.same))
+  selected at also object cases body items out (pointer p) vs temps ps arms same go = halted t n names memory draws found also count same at _ _
 
   -- ---- lines that are read
 
@@ -236,6 +265,14 @@ module _ (t : Templates) (n : ℕ) (names : ℕ → Option ℕ) (memory : Memory
   turn _ _ vs temps _ new also (follows.literal _ d base i at items ps named go) holds e same =
       subst (λ k. From (item.Literal at i ∷ items) vs temps (at_place at (act.Address k base 0) ∷ ps) new also) e
       (one_step _ _ (pointed_to_literal t n names memory draws found also count same at items vs temps ps base i named (subst (λ k. Follows t n (suc k) items ps) (sym e) go) holds))
+  turn _ _ [] temps _ new also (follows.select _ d at kind object cases body items out ps arms go) holds e same = absurd (no_value d e)
+  turn _ _ (v ∷ vs) temps _ new also (follows.select _ d at kind object cases body items out ps arms go) holds e same =
+      let is = one_less (length vs) d e in
+      let r = std t n names ps temps memory draws [] in
+      let here : temps d ≡ Some v = subst (λ k. temps k ≡ Some v) is holds.0 in
+      one_step _ _
+      (subst (λ o. Alike t n (source.run_by found count (Some at) (branch.select t.unit object cases body (src t n names items (v ∷ vs) memory draws) (v ∷ vs))) (runs.run_by also (Some at) (template.if_some r o (λ v. with_number v r.world (λ k marks w. exits.on_exit t r out v))))) (sym here)
+      (selected at also object cases body items out v vs temps ps arms same (λ value. lined t n d (leap_in items (arms value).to) vs temps (arms value).there (go value) holds.1 is)))
   turn _ _ vs temps _ new also (follows.hop _ d l items ps there to go) holds e same =
       let r = std t n names ps temps memory draws [] in
       one_step _ _

@@ -5,34 +5,42 @@ use Rattle.std.specs.Prelude.{◌≡◌, ℕ, zero, suc, ◌+◌, ℤ, pos, Bool
 use Rattle.cc_base.specs.declared.diagnostics.Place.{Place}
 use Rattle.c_layout.specs.CheckedTrees.{TermTree, LvalueTree, StatementTree}
 use Rattle.c_layout.specs.CheckedUnits.{FunctionView}
+use Rattle.c_layout.specs.declared.checked_tree.checked_statements.CaseLabel.{CaseLabel}
 use Rattle.c_layout.specs.Types.{Ty}
 use Rattle.c_layout.specs.declared.library_functions.LibFn.{LibFn}
 use Rattle.c_layout.specs.declared.library_functions.LibFn.TheVariants.{Fgets}
 use Rattle.c_layout.specs.declared.checked_tree.checked_terms.ObjectRef.{ObjectRef}
+use Rattle.c_layout.specs.declared.checked_tree.checked_terms.ObjectRef.TheVariants as ref
+use Rattle.cc_base.specs.declared.int_types.IntType.{IntType}
 use Rattle.flow_program.specs.declared.flow_edges.Side.{Side}
 use Rattle.flow_program.specs.declared.flow_edges.Side.TheVariants as side
 use Rattle.flow_program.specs.declared.flow_edges.Test.{Test}
 use Rattle.flow_program.specs.declared.machine_instructions.Scalar as declared
+use Rattle.flow_program.specs.declared.machine_instructions.Scalar.TheVariants as scalar
 use Rattle.flow_lower_conditions.specs.declared.branch_tests.NamedObject.{NamedObject}
 use Rattle.flow_lower_expressions.specs.Calls.{result_temp}
 use Rattle.flow_lower_tasks.specs.Acts as act
 use Rattle.flow_lower_tasks.specs.Acts.{Act}
-use Rattle.flow_lower_tasks.specs.Pieces.{NameView, Local, Literal, PieceView, Do, End, Mark, When, Always, NoLine, Line}
+use Rattle.flow_lower_tasks.specs.Pieces.{NameView, Local, Literal, PieceView, Do, End, Mark, ExitView, Way, When, Always, Case, Other, NoLine, Line}
 use Rattle.flow_lower_tasks.specs.Plans.{name_of_object}
+use Rattle.flow_lower_tasks.specs.TermKinds.{integer_type}
+use Rattle.lib_models_memory.specs.Labels.{Labels}
+use Rattle.lib_models_memory.specs.Scalars.{integer}
 use Rattle.ref_machine.specs.Items as item
 use Rattle.ref_machine.specs.Items.{Item, Items, listed, NamedSide, NamedTest, Change, Forget, Clear, Spell}
 use Rattle.ref_machine.specs.Operations as op
 use Rattle.ref_machine.specs.Operations.{Operation}
-use Rattle.ref_machine.specs.Scopes.{jump, behind_loop, behind_turn, all_of, open_scopes}
-use Rattle.ref_machine.specs.LabelSearch.{from_label}
+use Rattle.ref_machine.specs.Scopes.{jump, leap_in, behind_loop, behind_turn, all_of, open_scopes}
+use Rattle.ref_machine.specs.LabelSearch.{Sought, case, other, found, case_of, from_label}
+use Rattle.ref_machine.specs.BranchSteps.{landing}
 use Rattle.ref_machine.specs.TermItems.{address_items}
 use Rattle.ref_machine.specs.ConditionItems.{term_items}
 use Rattle.ref_machine.specs.StatementItems.{of_statement, while_turn, do_turn, for_turn}
-use Rattle.ref_machine.specs.SourceStates.{function_at}
+use Rattle.ref_machine.specs.SourceStates.{function_at, static_type, local_of}
 use Rattle.ref_machine.specs.SourceSteps.{place_of}
 use Rattle.lib_models_effects.specs.Tests.{opposite}
 use Rattle.template_runs.specs.TemplateStates.{Templates}
-use Rattle.template_runs.specs.TemplateExits.{behind_mark}
+use Rattle.template_runs.specs.TemplateExits.{behind_mark, exit_taken}
 use Rattle.template_runs_acts.specs.Acts.{IsAct, IsActBehind, temps_from, behind_call}
 
 -- ---- what the entry's template has
@@ -74,6 +82,35 @@ number_of b = cond b (pos 1) (pos 0)
 pub data IsEdge : ℕ → List Item → Option (ℕ × ℤ) → ℕ → List Item → Type 0 where
   plain : (d : ℕ) (items : List Item) → IsEdge d items None d items
   truth : (d : ℕ) (b : Bool) (items : List Item) → IsEdge d (item.Truth b ∷ items) (Some (d, number_of b)) (suc d) items
+
+-- ---- switches
+
+-- the type of an object in the entry
+abbrev pub entry_type : Templates → ObjectRef → Option Ty
+entry_type t (ref.Static m) = static_type (slice_get t.unit.objects m)
+entry_type t (ref.Local m) = local_of (function_at t.unit t.unit.entry) m
+
+-- the object that is switched on has a base, where it is an integer
+pub data SameSwitched (t : Templates) : Option NamedObject → Option ℕ → Type 0 where
+  unnamed : SameSwitched t None None
+  no_integer : (o : ObjectRef) → SameSwitched t (Some (record { object = o; kind = scalar.Pointer })) None
+  integers : (o : ObjectRef) (base : ℕ) (ctype : Ty) → Names t base (name_of_object o) → entry_type t o ≡ Some ctype → SameSwitched t (Some (record { object = o; kind = scalar.Int (integer_type ctype) })) (Some base)
+
+-- a value has its case label and its edge in both, or in neither
+pub data SameCase (t : Templates) (object : Option NamedObject) (value : ℤ) : Sought → Way → Type 0 where
+  matched : (number : ℕ) (base : Option ℕ) → SameSwitched t object base → SameCase t object value (case number) (Case (record { value = value; object = base }))
+  unmatched : (values : List ℤ) → SameCase t object value other (Other values)
+
+-- where a value leads: the source from a label on, the pieces along an edge and behind its label
+pub record Selected (t : Templates) (object : Option NamedObject) (labels : List CaseLabel) (body : StatementTree) (items : List Item) (exits : List ExitView) (value : ℤ) : Type 0 where
+  pub way : Way
+  pub label : ℕ
+  pub to : List Item
+  pub there : List PieceView
+  pub same : SameCase t object value (case_of labels 0 value) way
+  pub lands : landing (case_of labels 0 value) (found t.unit (case_of labels 0 value) body items) items ≡ Some to
+  pub takes : (marks : Labels) → exit_taken (integer value marks) exits ≡ Some (record { to = label; taken = way })
+  pub leads : Leads t label there
 
 -- ---- items and pieces
 
@@ -140,5 +177,9 @@ pub data Follows (t : Templates) : ℕ → ℕ → List Item → List PieceView 
       → Leads t l there
       → Follows t n (suc d) items there
       → Follows t (suc n) (suc (suc (suc d))) (item.Do at (op.Library Fgets 3 target) ∷ items) (End (record { at = at; does = act.ReadLine (Some d) d (suc d) (suc (suc d)) }) (record { to = l; taken = NoLine } ∷ (record { to = l; taken = Line } ∷ [])) ∷ ps)
+  -- each value has its label
+  select : (n d : ℕ) (at : Place) (kind : IntType) (object : Option NamedObject) (labels : List CaseLabel) (body : StatementTree) (items : List Item) (exits : List ExitView) (ps : List PieceView) (arms : (value : ℤ) → Selected t object labels body items exits value)
+      → ((value : ℤ) → Follows t n d (leap_in items (arms value).to) (arms value).there)
+      → Follows t (suc n) (suc d) (item.Select at object labels body ∷ items) (End (record { at = at; does = act.Switch d kind }) exits ∷ ps)
   hop : (n d l : ℕ) (items : List Item) (ps there : List PieceView) → Leads t l there → Follows t n d items there → Follows t (suc n) d (item.Hop ∷ items) (End (record { at = own t; does = act.Jump }) (record { to = l; taken = Always } ∷ []) ∷ ps)
   finish : (n d : ℕ) (at : Place) (ps : List PieceView) → Follows t (suc n) d [] (End (record { at = at; does = act.Stop }) [] ∷ ps)

@@ -52,7 +52,7 @@ in_either x (y ∷ xs) ys zs more e = by (x == y) e (in_either x xs ys zs more)
     by true e later = refl
     by false e later = later e
 
-self_in : (xs before : List ℕ) → AreIn xs (before ++ xs)
+pub self_in : (xs before : List ℕ) → AreIn xs (before ++ xs)
 self_in [] before = tt
 self_in (x ∷ xs) before = (in_more x before (x ∷ xs) (first_here x xs), subst (AreIn xs) (append_assoc before (x ∷ []) xs) (self_in xs (before ++ x ∷ [])))
 
@@ -67,7 +67,7 @@ both_in : (xs ys known : List ℕ) → AreIn xs known → AreIn ys known → Are
 both_in [] ys known a b = b
 both_in (x ∷ xs) ys known a b = (a.0, both_in xs ys known a.1 b)
 
-inwards_in : (scopes : List (List ℕ)) → AreIn (inwards scopes) (all_of scopes)
+pub inwards_in : (scopes : List (List ℕ)) → AreIn (inwards scopes) (all_of scopes)
 inwards_in [] = tt
 inwards_in (scope ∷ scopes) = both_in (inwards scopes) scope (scope ++ all_of scopes) (in_more_all scope (inwards scopes) (all_of scopes) (inwards_in scopes)) (front_in scope [] (all_of scopes))
 

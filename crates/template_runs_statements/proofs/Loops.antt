@@ -96,7 +96,7 @@ leaf_quiet : (t : Templates) (is_test : Bool) (e : TermTree) (o : Option ReadVie
 leaf_quiet t is_test e None held failed = record { scopes = λ items. refl; after_loop = λ items. refl; after_turn = λ items. refl }
 leaf_quiet t is_test e (Some x) held failed = line_quiet x x.wants_line held failed
 
-condition_quiet : (t : Templates) (is_test : Bool) (e : TermTree) (held failed : List Item) → IsQuiet (source.condition t.unit is_test e held failed)
+pub condition_quiet : (t : Templates) (is_test : Bool) (e : TermTree) (held failed : List Item) → IsQuiet (source.condition t.unit is_test e held failed)
 condition_quiet t is_test (Typed at ctype parens fixed (tree.Logical And a b)) held failed = condition_quiet t is_test a (source.condition t.unit is_test b held failed) failed
 condition_quiet t is_test (Typed at ctype parens fixed (tree.Logical Or a b)) held failed = condition_quiet t is_test a held (source.condition t.unit is_test b held failed)
 condition_quiet t is_test (Typed at ctype parens fixed (tree.Not a)) held failed = condition_quiet t is_test a failed held

@@ -1,1 +1,2 @@
-mod WaysBetween
+pub mod WaysBetween
+pub mod WaysOfChains

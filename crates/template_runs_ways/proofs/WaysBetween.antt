@@ -1,5 +1,5 @@
 -- The pieces on the way from a scope to another one.
-use Rattle.std.proofs.Common.{◌≡◌, ◌≤◌, ◌<◌, ℕ, suc, ◌==◌, Bool, true, false, not, cond, nat_lt, List, [], ◌∷◌, ◌++◌, length, refl, arith, ap, sym, subst, ◌∙◌}
+use Rattle.std.proofs.Common.{◌≡◌, ◌≤◌, ◌<◌, ℕ, suc, ◌==◌, Bool, true, false, not, cond, nat_lt, List, [], ◌∷◌, ◌++◌, length, refl, arith, ap, sym, ◌∙◌}
 use Rattle.std.proofs.lemmas.Bool.{eq-eqb, eqb-true, lt-ltb, ltb-true}
 use Rattle.std.proofs.lemmas.List.{append-nil}
 use Rattle.cc_base.specs.declared.diagnostics.Place.{Place}
@@ -10,7 +10,6 @@ use Rattle.flow_lower_statements.specs.ScopeJumps as scopes
 use Rattle.flow_lower_statements.specs.ScopeJumps.{way, enters, all_left, all_entered, is_empty}
 use Rattle.ref_machine.specs.Scopes.{without}
 use Rattle.template_runs_scopes.specs.Contexts.{AreIn}
-use Rattle.template_runs_scopes.specs.Scopes.{IsScope}
 use Rattle.template_runs_scopes.specs.SuitedStatements.{AreNew}
 use Rattle.template_runs_scopes.proofs.Ways.{with_none, without_on, all_in}
 use Rattle.template_runs_ways.specs.Between.{Between, here, out, inside}

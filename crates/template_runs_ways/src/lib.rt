@@ -3,4 +3,4 @@
 
 mod theorems;
 
-pub use theorems::{jumps_are_ways, ways_are_pieces, ways_enter};
+pub use theorems::{chains_have_ways, jumps_are_ways, ways_are_pieces, ways_enter};

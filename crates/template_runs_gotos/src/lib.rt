@@ -1,0 +1,6 @@
+//! `goto` in the entry.
+#![tactic(auto)]
+
+mod theorems;
+
+pub use theorems::gotos_follow;

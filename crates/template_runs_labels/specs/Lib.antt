@@ -1,0 +1,2 @@
+pub mod LabelScopes
+pub mod NotedScopes

@@ -1,0 +1,6 @@
+//! Laws on where the labels of the entry stand.
+#![tactic(auto)]
+
+mod theorems;
+
+pub use theorems::{function_labels_stand_in_scopes, labels_are_noted, labels_stand_in_scopes};

@@ -1,0 +1,2 @@
+pub mod ValueEdges
+pub mod SwitchTargets
