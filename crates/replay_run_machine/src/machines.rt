@@ -81,6 +81,7 @@ pub fn next_item<'a>(control: &mut Vec<Item7<'a>>) -> Option<Item7<'a>>
 
 // ---- what is there, without which a run is stuck
 
+/// The function of the unit with a number. Where there is none, the run is stuck.
 pub fn function_at<'a>(unit: &'a Checked, number: u32) -> Result<&'a Function, Halt>
     ensures { MatchResult result (λ found. function_at (unit_view unit.now) number ≡ Some (function_view found.now)) (λ h. (h ≡ halt.Stops cause.Stuck) × (function_at (unit_view unit.now) number ≡ None)) }
 {
@@ -122,6 +123,8 @@ pub fn name_of(names: &[Option<u32>], local: u32) -> Option<u32>
     }
 }
 
+/// The instance that the name of a local object stands for now (6.2.4 of ISO/IEC 9899:2011). Where it
+/// stands for none, the run is stuck.
 pub fn named(names: &[Option<u32>], local: u32) -> Result<u32, Halt>
     ensures { MatchResult result (λ inst. names_view names.now local ≡ Some inst) (λ h. (h ≡ halt.Stops cause.Stuck) × (names_view names.now local ≡ None)) }
 {
