@@ -33,13 +33,13 @@ behind_default n = cond n.has_default None (Some (record n { has_default = true 
 abbrev pub in_switch : Numbers → Numbers
 in_switch n = record n { cases = 0; has_default = false }
 
-abbrev same : Bool → Bool → Bool
-same true b = b
-same false b = not b
+abbrev pub same_truth : Bool → Bool → Bool
+same_truth true b = b
+same_truth false b = not b
 
 -- behind a switch which has so many case labels and a default label or not; the labels of the one around it go on
 abbrev pub behind_switch : Numbers → ℕ → Bool → Numbers → Option Numbers
-behind_switch around count has_default n = cond (n.cases == count && same n.has_default has_default) (Some (with_labels around n.labels)) None
+behind_switch around count has_default n = cond (n.cases == count && same_truth n.has_default has_default) (Some (with_labels around n.labels)) None
 
 abbrev mutual
   -- what was met behind a statement, from what was met before it; nothing where a label has another number

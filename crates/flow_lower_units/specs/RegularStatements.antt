@@ -101,7 +101,7 @@ abbrev mutual
   is_regular_statement u f breaks loops (tree.IfElse e first second) = is_regular_term u f true 0 e && (is_regular_statement u f breaks loops first && is_regular_statement u f breaks loops second)
   is_regular_statement u f breaks loops (tree.While e body) = is_regular_term u f true 0 e && is_regular_statement u f true true body
   is_regular_statement u f breaks loops (tree.Do body e) = is_regular_term u f true 0 e && is_regular_statement u f true true body
-  is_regular_statement u f breaks loops (tree.For objects first e step body) = are_regular_clauses u f first e step && is_regular_statement u f true true body
+  is_regular_statement u f breaks loops (tree.For objects first e step body) = (are_plain first && (are_regular_statements u f false false first && (is_regular_clause u f true e && is_regular_clause u f false step))) && is_regular_statement u f true true body
   is_regular_statement u f breaks loops (tree.Switch at e labels has_default values body) = is_regular_switch u f e && is_regular_statement u f true loops body
   is_regular_statement u f breaks loops (tree.Case n body) = is_regular_statement u f breaks loops body
   is_regular_statement u f breaks loops (tree.Default body) = is_regular_statement u f breaks loops body
@@ -111,10 +111,10 @@ abbrev mutual
   is_regular_statement u f breaks loops tree.Continue = loops
   is_regular_statement u f breaks loops (tree.Return at e) = is_regular_clause u f true e
 
-  -- the clauses of a `for`
-  pub are_regular_clauses : UnitView → FunctionView → StatementTrees → Option TermTree → Option TermTree → Bool
-  are_regular_clauses u f first e step = are_plain first && (are_regular_statements u f false false first && (is_regular_clause u f true e && is_regular_clause u f false step))
-
   pub are_regular_statements : UnitView → FunctionView → Bool → Bool → StatementTrees → Bool
   are_regular_statements u f breaks loops tree.NoMore = true
   are_regular_statements u f breaks loops (tree.And first rest) = is_regular_statement u f breaks loops first && are_regular_statements u f breaks loops rest
+
+-- the clauses of a `for`
+abbrev pub are_regular_clauses : UnitView → FunctionView → StatementTrees → Option TermTree → Option TermTree → Bool
+are_regular_clauses u f first e step = are_plain first && (are_regular_statements u f false false first && (is_regular_clause u f true e && is_regular_clause u f false step))

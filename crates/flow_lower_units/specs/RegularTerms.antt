@@ -15,6 +15,10 @@ use Rattle.flow_lower_expressions.specs.Calls.{gives, reads_line}
 abbrev pub has_room : ℕ → Bool
 has_room temps = nat_le temps (2 ^ 32 - 1)
 
+-- two operands, of which the second one has a temporary behind that of the first one
+abbrev pub are_behind : ℕ → Bool → Bool → Bool
+are_behind depth first second = first && (has_room (depth + 1) && second)
+
 abbrev pub is_struct : Ty → Bool
 is_struct (Int k) = false
 is_struct (Pointer t) = false
@@ -62,16 +66,16 @@ abbrev mutual
   is_regular_term u f used d (Typed at t parens constant (tree.Minus a)) = is_regular_term u f true d a
   is_regular_term u f used d (Typed at t parens constant (tree.Complement a)) = is_regular_term u f true d a
   is_regular_term u f used d (Typed at t parens constant (tree.Not a)) = is_regular_term u f true d a
-  is_regular_term u f used d (Typed at t parens constant (tree.Integer sign a b)) = are_operands u f d a b
-  is_regular_term u f used d (Typed at t parens constant (tree.Shift back size a b)) = are_operands u f d a b
-  is_regular_term u f used d (Typed at t parens constant (tree.Difference size a b)) = are_operands u f d a b
-  is_regular_term u f used d (Typed at t parens constant (tree.Compare sign a b)) = are_operands u f d a b
+  is_regular_term u f used d (Typed at t parens constant (tree.Integer sign a b)) = are_behind d (is_regular_term u f true d a) (is_regular_term u f true (d + 1) b)
+  is_regular_term u f used d (Typed at t parens constant (tree.Shift back size a b)) = are_behind d (is_regular_term u f true d a) (is_regular_term u f true (d + 1) b)
+  is_regular_term u f used d (Typed at t parens constant (tree.Difference size a b)) = are_behind d (is_regular_term u f true d a) (is_regular_term u f true (d + 1) b)
+  is_regular_term u f used d (Typed at t parens constant (tree.Compare sign a b)) = are_behind d (is_regular_term u f true d a) (is_regular_term u f true (d + 1) b)
   is_regular_term u f used d (Typed at t parens constant (tree.Logical sign a b)) = is_regular_term u f true d a && is_regular_term u f true d b
   is_regular_term u f used d (Typed at t parens constant (tree.Conditional c a b)) = is_regular_term u f true d c && (is_regular_term u f used d a && is_regular_term u f used d b)
   is_regular_term u f used d (Typed at t parens constant (tree.Comma a b)) = is_regular_term u f false d a && is_regular_term u f used d b
-  is_regular_term u f used d (Typed at t parens constant (tree.Assign l a)) = are_sides u f d l a
-  is_regular_term u f used d (Typed at t parens constant (tree.Compound sign kind l a)) = has_room (d + 2) && are_sides u f d l a
-  is_regular_term u f used d (Typed at t parens constant (tree.CompoundShift back size l a)) = has_room (d + 2) && are_sides u f d l a
+  is_regular_term u f used d (Typed at t parens constant (tree.Assign l a)) = are_behind d (is_regular_place u f d l) (is_regular_term u f true (d + 1) a)
+  is_regular_term u f used d (Typed at t parens constant (tree.Compound sign kind l a)) = has_room (d + 2) && are_behind d (is_regular_place u f d l) (is_regular_term u f true (d + 1) a)
+  is_regular_term u f used d (Typed at t parens constant (tree.CompoundShift back size l a)) = has_room (d + 2) && are_behind d (is_regular_place u f d l) (is_regular_term u f true (d + 1) a)
   is_regular_term u f used d (Typed at t parens constant (tree.Step sign time kind l)) = has_room (d + 2) && is_regular_place u f d l
   is_regular_term u f used d (Typed at t parens constant (tree.StepPointer sign time size l)) = has_room (d + 2) && is_regular_place u f d l
   is_regular_term u f used d (Typed at t parens constant (tree.Struct l)) = is_regular_place u f d l
@@ -83,17 +87,10 @@ abbrev mutual
   is_regular_place u f d (Designates at t parens (tree.Literal n)) = has_literal u n
   is_regular_place u f d (Designates at t parens (tree.Target e)) = is_regular_term u f true d e
   is_regular_place u f d (Designates at t parens (tree.Member outer offset)) = is_regular_place u f d outer
-  is_regular_place u f d (Designates at t parens (tree.Copied target source)) = is_struct (lvalue_type target) && (is_regular_place u f d target && (has_room (d + 1) && is_regular_place u f (d + 1) source))
+  is_regular_place u f d (Designates at t parens (tree.Copied target source)) = is_struct (lvalue_type target) && are_behind d (is_regular_place u f d target) (is_regular_place u f (d + 1) source)
   is_regular_place u f d (Designates at t parens (tree.Then left right)) = is_regular_term u f false d left && is_regular_place u f d right
-
-  -- two operands, and the two sides of an assignment, one temporary behind the other
-  pub are_operands : UnitView → FunctionView → ℕ → TermTree → TermTree → Bool
-  are_operands u f d a b = is_regular_term u f true d a && (has_room (d + 1) && is_regular_term u f true (d + 1) b)
-
-  pub are_sides : UnitView → FunctionView → ℕ → LvalueTree → TermTree → Bool
-  are_sides u f d l a = is_regular_place u f d l && (has_room (d + 1) && is_regular_term u f true (d + 1) a)
 
   -- arguments, each one temporary behind the one before it
   pub are_regular_terms : UnitView → FunctionView → ℕ → TermTrees → Bool
   are_regular_terms u f d tree.End = true
-  are_regular_terms u f d (tree.More e rest) = is_regular_term u f true d e && (has_room (d + 1) && are_regular_terms u f (d + 1) rest)
+  are_regular_terms u f d (tree.More e rest) = are_behind d (is_regular_term u f true d e) (are_regular_terms u f (d + 1) rest)

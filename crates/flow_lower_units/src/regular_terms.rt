@@ -1,5 +1,5 @@
 //! Whether terms are such as typing makes them.
-ghost use Rattle.std.specs.Prelude.{◌≡◌, ◌+◌, map, slice_get};
+ghost use Rattle.std.specs.Prelude.{◌≡◌, ◌+◌, map, slice_get, true};
 ghost use Rattle.c_layout.specs.Types.{view};
 ghost use Rattle.c_layout.specs.CheckedTrees.{term_tree, lvalue_tree, term_trees};
 ghost use Rattle.c_layout.specs.CheckedUnits.{function_view, unit_view};
@@ -113,7 +113,7 @@ fn are_operands(
     left: &CheckedTerm,
     right: &CheckedTerm,
 ) -> bool
-    ensures { result ≡ spec.are_operands (unit_view unit.now) (function_view function.now) depth (term_tree left.now) (term_tree right.now) }
+    ensures { result ≡ spec.are_behind depth (spec.is_regular_term (unit_view unit.now) (function_view function.now) true depth (term_tree left.now)) (spec.is_regular_term (unit_view unit.now) (function_view function.now) true (depth + 1) (term_tree right.now)) }
 {
     is_regular_term(unit, function, true, depth, left)
         && (has_room(depth, 1) && is_regular_term(unit, function, true, depth + 1, right))
@@ -128,7 +128,7 @@ fn are_sides(
     target: &Lvalue,
     value: &CheckedTerm,
 ) -> bool
-    ensures { result ≡ spec.are_sides (unit_view unit.now) (function_view function.now) depth (lvalue_tree target.now) (term_tree value.now) }
+    ensures { result ≡ spec.are_behind depth (spec.is_regular_place (unit_view unit.now) (function_view function.now) depth (lvalue_tree target.now)) (spec.is_regular_term (unit_view unit.now) (function_view function.now) true (depth + 1) (term_tree value.now)) }
 {
     is_regular_place(unit, function, depth, target)
         && (has_room(depth, 1) && is_regular_term(unit, function, true, depth + 1, value))
