@@ -133,9 +133,10 @@ fn counted(alloc: Global, unit: &Checked, found: &PreparedUnit) -> Result<UnitCo
 
 /// The control-flow program of a checked unit: the entry with every call of a function of the unit put
 /// in at its place. It is refused where a count passes its limit; the counts are made first, from the
-/// functions that are called up to the entry, so that nothing is made of a unit that is too large. What
-/// is made is looked at before it is given away: a program that is not well formed, or that has other
-/// bases or cells than were counted, would come to want of memory.
+/// functions that are called up to the entry, so that nothing is made of a unit that is too large. The
+/// unit is looked at before all else, and what is made before it is given away: a unit such as typing
+/// does not make, a program that is not well formed, or one that has other bases or cells than were
+/// counted, would come to want of memory.
 pub fn lower(alloc: Global, unit: &Checked, limits: &Limits) -> Result<Flow, Stop>
     ensures model { IfOk result (λ f. f.model ≡ unit.now.model) }
     ensures entry { IfOk result (λ f. (e : Function) → slice_get unit.now.functions.items unit.now.entry ≡ Some e → f.entry ≡ e.place) }

@@ -22,6 +22,11 @@ abbrev pub is_regular_clause : UnitView → FunctionView → Bool → Option Ter
 is_regular_clause u f used None = true
 is_regular_clause u f used (Some e) = is_regular_term u f used 0 e
 
+-- a value that is returned, behind the address of the result
+abbrev pub is_regular_result : UnitView → FunctionView → Option TermTree → Bool
+is_regular_result u f None = true
+is_regular_result u f (Some e) = is_regular_term u f true 1 e
+
 -- an lvalue whose struct is copied behind the address of its target
 abbrev pub is_regular_source : UnitView → FunctionView → LvalueTree → Bool
 is_regular_source u f l = is_struct (lvalue_type l) && is_regular_place u f 1 l
@@ -109,7 +114,7 @@ abbrev mutual
   is_regular_statement u f breaks loops (tree.Goto n) = nat_lt n f.labels
   is_regular_statement u f breaks loops tree.Break = breaks
   is_regular_statement u f breaks loops tree.Continue = loops
-  is_regular_statement u f breaks loops (tree.Return at e) = is_regular_clause u f true e
+  is_regular_statement u f breaks loops (tree.Return at e) = is_regular_result u f e
 
   pub are_regular_statements : UnitView → FunctionView → Bool → Bool → StatementTrees → Bool
   are_regular_statements u f breaks loops tree.NoMore = true

@@ -14,8 +14,7 @@ use cc_base::IntType;
 use flow_lower_conditions::{NamedObject, named};
 use flow_program::Scalar;
 
-/// Whether a clause of a `for` or a value that is returned is such as typing makes it, where there is
-/// one.
+/// Whether a clause of a `for` is such as typing makes it, where there is one.
 fn is_regular_clause(
     unit: &Checked,
     function: &Function,
@@ -26,6 +25,16 @@ fn is_regular_clause(
 {
     match clause {
         Some(term) => is_regular_term(unit, function, used, 0, term),
+        None => true,
+    }
+}
+
+/// Whether a value that is returned is such as typing makes it, behind the address of the result.
+fn is_regular_result(unit: &Checked, function: &Function, value: &Option<CheckedTerm>) -> bool
+    ensures { result ≡ spec.is_regular_result (unit_view unit.now) (function_view function.now) (option_map term_tree value.now) }
+{
+    match value {
+        Some(term) => is_regular_term(unit, function, true, 1, term),
         None => true,
     }
 }
@@ -240,6 +249,6 @@ fn is_regular_statement(
         CheckedStatement::Goto(label) => *label < function.labels,
         CheckedStatement::Break => breaks,
         CheckedStatement::Continue => loops,
-        CheckedStatement::Return(_, value) => is_regular_clause(unit, function, true, value),
+        CheckedStatement::Return(_, value) => is_regular_result(unit, function, value),
     }
 }

@@ -58,7 +58,7 @@ both_true true true e = (refl, refl)
 both_true true false e = absurd (let d : ⊥ = cc in d)
 both_true false b e = absurd (let d : ⊥ = cc in d)
 
-same_bool : (a b : Bool) → same_truth a b ≡ true → a ≡ b
+pub same_bool : (a b : Bool) → same_truth a b ≡ true → a ≡ b
 same_bool true true e = refl
 same_bool true false e = absurd (let d : ⊥ = cc in d)
 same_bool false true e = absurd (let d : ⊥ = cc in d)
@@ -306,7 +306,7 @@ one_at_most : (b : Bool) (a : ℕ) → a ≡ once_if b → a ≤ 1
 one_at_most true a e = omega (arith, e)
 one_at_most false a e = omega (arith, e)
 
-selected : (count : ℕ) (has_default : Bool) (body : StatementTree) → IsSelectedOnce count has_default body → IsSelected count body
+pub selected : (count : ℕ) (has_default : Bool) (body : StatementTree) → IsSelectedOnce count has_default body → IsSelected count body
 selected count has_default body x = record { cases = λ n. at_most (cases_in n body) _ (x.cases n); fallback = one_at_most has_default (defaults_in body) x.fallback }
 
 mutual

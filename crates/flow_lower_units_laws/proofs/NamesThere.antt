@@ -20,7 +20,7 @@ use Rattle.flow_lower_fit_names.specs.NamedTrees.{NamesTerm, NamesTerms, NamesLv
 use Rattle.flow_lower_units.specs.LabelNumbers.{is_numbered}
 use Rattle.flow_lower_units.specs.ScopeObjects.{all_marked, scopes_marked, all_scopes_marked, parameters_marked, so_many_marked, has_own_objects}
 use Rattle.flow_lower_units.specs.RegularTerms.{has_room, are_behind, is_struct, has_local, has_object, has_literal, is_callable, is_library_call, argument_count, is_regular_term, is_regular_place, are_regular_terms}
-use Rattle.flow_lower_units.specs.RegularStatements.{is_regular_clause, is_regular_source, is_regular_store, are_plain, is_regular_named, is_regular_switch, is_regular_statement, are_regular_statements}
+use Rattle.flow_lower_units.specs.RegularStatements.{is_regular_clause, is_regular_result, is_regular_source, is_regular_store, are_plain, is_regular_named, is_regular_switch, is_regular_statement, are_regular_statements}
 use Rattle.flow_lower_units.specs.RegularUnits.{is_regular_function}
 use Rattle.ref_machine.specs.Scopes.{is_in}
 use Rattle.template_runs_openings.specs.NameRanges.{IsNameThere}
@@ -120,6 +120,10 @@ module _ (u : UnitView) (f : FunctionView) where
   names_maybe used None is = tt
   names_maybe used (Some e) is = names_term used 0 e is
 
+  names_result : (o : Option TermTree) → is_regular_result u f o ≡ true → NamesMaybe Q o
+  names_result None is = tt
+  names_result (Some e) is = names_term true 1 e is
+
   names_source : (l : LvalueTree) → is_regular_source u f l ≡ true → NamesLvalue Q l
   names_source l is = names_place 1 l (both_true (is_struct (lvalue_type l)) _ is).1
 
@@ -198,7 +202,7 @@ module _ (u : UnitView) (f : FunctionView) where
     names_statement breaks loops (tree.Goto n) seen after long m is = record { long = still seen after long m; names = tt }
     names_statement breaks loops tree.Break seen after long m is = record { long = still seen after long m; names = tt }
     names_statement breaks loops tree.Continue seen after long m is = record { long = still seen after long m; names = tt }
-    names_statement breaks loops (tree.Return at e) seen after long m is = record { long = still seen after long m; names = names_maybe true e is }
+    names_statement breaks loops (tree.Return at e) seen after long m is = record { long = still seen after long m; names = names_result e is }
 
     names_statements : (breaks loops : Bool) (is : StatementTrees) (seen after : List Bool) → length seen ≡ length f.locals → all_scopes_marked is seen ≡ Some after → are_regular_statements u f breaks loops is ≡ true → AllNamed is after
     names_statements breaks loops tree.NoMore seen after long m is = record { long = still seen after long m; names = tt }
