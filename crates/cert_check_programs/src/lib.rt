@@ -3,6 +3,7 @@
 #![tactic(auto)]
 
 mod checked_maps;
+mod looks;
 mod solved_maps;
 
 pub use checked_maps::{Verified, verify_program};
