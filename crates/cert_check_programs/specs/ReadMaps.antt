@@ -10,8 +10,8 @@ use Rattle.cert_check_text.specs.LineWords.{Bytes}
 use Rattle.cert_check_reading.specs.MapReading.{map_rows}
 use Rattle.cert_check.specs.declared.verdicts.Verdict.TheVariants.{Yes, No}
 use Rattle.cert_check.specs.Verdicts.{IsVerdictOn}
-use Rattle.cert_check_programs.specs.declared.checked_maps.Read.{Read}
-use Rattle.cert_check_programs.specs.declared.checked_maps.Read.TheVariants as read
+use Rattle.cert_check_programs.specs.declared.checked_maps.Reading.{Reading}
+use Rattle.cert_check_programs.specs.declared.checked_maps.Reading.TheVariants as reading
 use Rattle.cert_check_programs.specs.declared.checked_maps.Told.{Told}
 
 -- the text is that of a closed map with these pairs, by which operands lie within their types where no smaller map is asked
@@ -20,6 +20,6 @@ pub record IsToldOf (flow : Flow) (text : Bytes) (told : Told) : Type 0 where
   pub pairs : IsOrderedSet (admitted_pairs flow (map_rows flow text)) told.found.items
   pub typed : told.smaller ≡ None → is_typed_map interval_lattice interval_numbers flow (map_rows flow text) ≡ true
 
-abbrev pub IsRead : Flow → Bytes → Read → Type 0
-IsRead flow text (read.Closed told) = IsToldOf flow text told
-IsRead flow text (read.Refused fault) = IsVerdictOn flow text (No fault)
+abbrev pub IsRead : Flow → Bytes → Reading → Type 0
+IsRead flow text (reading.Closed told) = IsToldOf flow text told
+IsRead flow text (reading.Refused fault) = IsVerdictOn flow text (No fault)

@@ -13,17 +13,15 @@ ghost use Rattle.cert_check_programs.specs.Certificates.{IsLookedAt, IsTyping, I
 ghost use Rattle.cert_check_programs.specs.ReadMaps.{IsRead, IsToldOf};
 
 use crate::looks::see_program;
+use crate::smaller_maps::smaller_text;
 use abstract_steps_system::is_system;
 use cc_base::{Diag, Lattice, Memory};
 use cert_check::{CertFault, Verdict, verify};
-use cert_check_maps::write_cert;
-use cert_check_types::narrow;
 use fixpoint_engine::{drop_map, new_map, release};
 use flow_program::Flow;
 use interval_domain::Interval;
 use row_pool::{Row, RowPool};
 use rule_checks::diagnose;
-use rule_checks_operands::is_typed_map;
 use std::alloc::Global;
 use value_domain::Cell;
 
@@ -46,29 +44,9 @@ pub struct Told {
 
 /// What is read of the text of a map.
 #[derive(Drop)]
-pub enum Read {
+pub enum Reading {
     Closed(Told),
     Refused(CertFault),
-}
-
-/// The text of a smaller map, where operands do not lie within their types by the rows of a map; those
-/// rows are then cut.
-fn smaller_text(
-    alloc: Global,
-    flow: &Flow,
-    pool: &mut RowPool<Cell<Interval>>,
-    map: &[Option<Row>],
-) -> Result<Option<Vec<u8>>, Memory>
-    requires { IsHeld pool.old map.now }
-    ensures typed { IfOk result (λ smaller. smaller ≡ None → is_typed_map interval_lattice interval_numbers flow.now (rows_in pool.old map.now) ≡ true) }
-    ensures held { IsHeld pool.new map.now }
-{
-    if is_typed_map(alloc, flow, pool, map)? {
-        return Ok(None);
-    }
-    narrow(alloc, flow, pool, map)?;
-    let text = write_cert(alloc, flow, pool, map)?;
-    Ok(Some(text))
 }
 
 /// What the map tells; its rows are given back.
@@ -93,13 +71,14 @@ fn told_by(
 }
 
 /// What is read of the text, by way of a map that holds no row before and behind.
+#[tactic(auto, using(crate::proofs::ReadMaps::told_of))]
 fn read_by(
     alloc: Global,
     flow: &Flow,
     cert: &[u8],
     pool: &mut RowPool<Cell<Interval>>,
     map: &mut [Option<Row>],
-) -> Result<Read, Memory>
+) -> Result<Reading, Memory>
     requires valid { is_system flow.now ≡ true }
     requires width { pool.old.width ≡ flow.now.width }
     requires vacant { map.old ≡ replicate (length flow.now.blocks.items) None }
@@ -108,17 +87,17 @@ fn read_by(
     ensures read { IfOk result (IsRead flow.now cert.now) }
 {
     match verify(alloc, flow, cert, pool, map)? {
-        Verdict::No(fault) => Ok(Read::Refused(fault)),
+        Verdict::No(fault) => Ok(Reading::Refused(fault)),
         Verdict::Yes => {
             let told = told_by(alloc, flow, pool, map)?;
-            Ok(Read::Closed(told))
+            Ok(Reading::Closed(told))
         }
     }
 }
 
 /// What is read of the text for a program whose blocks and edges make a system.
 #[tactic(auto, using(flow_analysis::specs::Counts::few_blocks))]
-fn read(alloc: Global, flow: &Flow, cert: &[u8]) -> Result<Read, Memory>
+fn read_text(alloc: Global, flow: &Flow, cert: &[u8]) -> Result<Reading, Memory>
     requires { is_system flow.now ≡ true }
     ensures { IfOk result (IsRead flow.now cert.now) }
 {
@@ -131,20 +110,22 @@ fn read(alloc: Global, flow: &Flow, cert: &[u8]) -> Result<Read, Memory>
 }
 
 /// Sees that a text is that of a closed map by whose rows operands lie within their types.
+#[tactic(auto, using(crate::proofs::ReadMaps::typing_of))]
 fn see_typing(alloc: Global, flow: &Flow, text: &[u8]) -> Result<(), Memory>
     requires { is_system flow.now ≡ true }
     ensures { IfOk result (λ _. IsTyping flow.now text.now) }
 {
-    match read(alloc, flow, text)? {
-        Read::Closed(Told {
-            found: _,
-            smaller: None,
-        }) => Ok(()),
-        _ => Err(Memory),
+    match read_text(alloc, flow, text)? {
+        Reading::Refused(_) => Err(Memory),
+        Reading::Closed(told) => match &told.smaller {
+            None => Ok(()),
+            Some(_) => Err(Memory),
+        },
     }
 }
 
 /// What a closed map comes to for a program that was looked at.
+#[tactic(auto, using(crate::proofs::ReadMaps::by_own, crate::proofs::ReadMaps::by_smaller))]
 fn shown(alloc: Global, flow: &Flow, cert: &[u8], told: Told) -> Result<Verified, Memory>
     requires valid { is_system flow.now ≡ true }
     requires seen { IsLookedAt flow.now }
@@ -180,8 +161,8 @@ pub fn verify_program(alloc: Global, flow: &Flow, cert: &[u8]) -> Result<Verifie
         return Err(Memory);
     }
     see_program(alloc, flow)?;
-    match read(alloc, flow, cert)? {
-        Read::Refused(fault) => Ok(Verified::Refused(fault)),
-        Read::Closed(told) => shown(alloc, flow, cert, told),
+    match read_text(alloc, flow, cert)? {
+        Reading::Refused(fault) => Ok(Verified::Refused(fault)),
+        Reading::Closed(told) => shown(alloc, flow, cert, told),
     }
 }

@@ -1,17 +1,11 @@
 //! Rows cut to types.
-ghost use Rattle.std.specs.Prelude.{◌≡◌, ℕ, Some};
-ghost use Rattle.row_pool.specs.Pool.{IsTaken};
-ghost use Rattle.fixpoint_engine.specs.RowMap.{slot_index, IsHeld};
-
 use crate::kind_sets::{Kinds, has_pointers, leaves, numbers};
-use crate::typed_temps::{kinds_at, place, temp_kinds};
+use crate::typed_temps::{kinds_at, place};
 use c_layout::{BaseInfo, Class, Model};
-use cc_base::{IntDomain, Lattice, Memory, of_range, range_met};
+use cc_base::{IntDomain, Lattice, of_range, range_met};
 use flow_program::Flow;
 use interval_domain::Interval;
 use pointer_domain::Pointers;
-use row_pool::{Row, RowPool};
-use std::alloc::Global;
 use value_domain::{Cell, Value};
 
 /// The numbers of a range that some of the types have.
@@ -80,60 +74,12 @@ fn cut_temps(temps: usize, row: &mut [Cell<Interval>], all: &[Kinds], block: usi
     }
 }
 
-fn cut_row(flow: &Flow, all: &[Kinds], block: usize, row: &mut [Cell<Interval>]) {
+/// Cuts the row of a block to the types of what it holds: of objects to those of their leaves, and of
+/// temporaries to those at the start of the block.
+pub fn cut_row(flow: &Flow, all: &[Kinds], block: usize, row: &mut [Cell<Interval>]) {
     let bases = flow.bases.as_slice();
     for at in 0..bases.len() {
         cut_base(&flow.model, row, &bases[at]);
     }
     cut_temps(flow.temps as usize, row, all, block);
-}
-
-fn cut_entry(
-    flow: &Flow,
-    all: &[Kinds],
-    block: usize,
-    pool: &mut RowPool<Cell<Interval>>,
-    slot: &Option<Row>,
-)
-    requires { (s : ℕ) → slot_index slot.now ≡ Some s → IsTaken pool.old s }
-    ensures { pool.new.taken ≡ pool.old.taken }
-{
-    match slot {
-        None => {}
-        Some(row) => cut_row(flow, all, block, pool.row_mut(row)),
-    }
-}
-
-fn cut_entries(
-    flow: &Flow,
-    all: &[Kinds],
-    pool: &mut RowPool<Cell<Interval>>,
-    map: &[Option<Row>],
-)
-    requires { IsHeld pool.old map.now }
-    ensures { pool.new.taken ≡ pool.old.taken }
-{
-    for block in 0..map.len() {
-        cut_entry(flow, all, block, pool, &map[block]);
-    }
-}
-
-/// Cuts the rows of a map to the types of what they hold: of objects to those of their leaves, and of
-/// temporaries to those of what instructions gave them on some way to the block. The map keeps its rows.
-///
-/// # Errors
-///
-/// Out of memory.
-pub fn narrow(
-    alloc: Global,
-    flow: &Flow,
-    pool: &mut RowPool<Cell<Interval>>,
-    map: &[Option<Row>],
-) -> Result<(), Memory>
-    requires { IsHeld pool.old map.now }
-    ensures { IsHeld pool.new map.now }
-{
-    let all = temp_kinds(alloc, flow)?;
-    cut_entries(flow, all.as_slice(), pool, map);
-    Ok(())
 }

@@ -1,9 +1,11 @@
-//! Rows of a map cut to the types of what they hold: a smaller map, by whose rows the operands of a
-//! program may lie within their types. What is found is a proposal, of which nothing is known.
+//! Rows cut to the types of what they hold, by which the operands of a program may lie within their
+//! types. What is made is a proposal, of which nothing is known.
 #![tactic(auto)]
 
 mod cut_rows;
 mod kind_sets;
 mod typed_temps;
 
-pub use cut_rows::narrow;
+pub use cut_rows::cut_row;
+pub use kind_sets::Kinds;
+pub use typed_temps::temp_kinds;
