@@ -246,7 +246,7 @@ module _ (s : Bases) where
     | inr b ↦ sym (above_on (bases_has s n) from n b ∙ none n h b)
   ]
 
-  empty_is : bases_empty s ≡ true → s ≡ no_base
+  pub empty_is : bases_empty s ≡ true → s ≡ no_base
   empty_is h =
       let a = and_parts (s.word0 == 0) _ h in
       let b = and_parts (s.word1 == 0) _ a.1 in
