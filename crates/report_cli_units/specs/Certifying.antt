@@ -1,7 +1,6 @@
 -- Certificates of units: what stands behind the text of one, and behind the answer to one.
 use Rattle.std.specs.Prelude.{◌≡◌, ◌++◌, ℕ, ℤ, true, List, codes}
 use Rattle.std.specs.Fmt.{decimal}
-use Rattle.cc_base.specs.DiagnosticOrder.{IsOrderedSet}
 use Rattle.cc_base.specs.Standard.{standard_limits}
 use Rattle.cc_base.specs.declared.diagnostics.Diag.{Diag}
 use Rattle.c_layout.specs.declared.unit_tokens.Unit7.{Unit7}
@@ -19,11 +18,9 @@ use Rattle.cert_check.specs.declared.verdicts.CertFault.{CertFault}
 use Rattle.cert_check.specs.declared.verdicts.CertFault.TheVariants.{Form, Start, Edge}
 use Rattle.cert_check.specs.declared.verdicts.Verdict.TheVariants as verdict
 use Rattle.cert_check.specs.Verdicts.{IsVerdictOn}
-use Rattle.cert_check_reading.specs.MapReading.{map_rows}
 use Rattle.cert_check_programs.specs.declared.checked_maps.Verified.{Verified}
 use Rattle.cert_check_programs.specs.declared.checked_maps.Verified.TheVariants as verified
-use Rattle.cert_check_programs.specs.Certificates.{IsCertificate}
-use Rattle.flow_analysis.specs.Analyses.{admitted_pairs}
+use Rattle.cert_check_programs.specs.Certificates.{IsCertificate, IsShown}
 use Rattle.report_cli_texts.specs.Reports.{Bytes}
 use Rattle.report_cli_units.specs.Judging.{SettingView, IsParsed, IsTyped, IsLowered}
 
@@ -63,7 +60,7 @@ pub data CertAnswer : Type 0 where
 
 -- the answer of a program to a text
 abbrev pub IsAnswerOn : Flow → Bytes → CertAnswer → Type 0
-IsAnswerOn flow text (shows diags) = IsVerdictOn flow text verdict.Yes × IsOrderedSet (admitted_pairs flow (map_rows flow text)) diags
+IsAnswerOn flow text (shows diags) = IsShown flow text diags
 IsAnswerOn flow text (refuses why) = IsVerdictOn flow text (verdict.No why)
 
 abbrev pub answer_view : Verified → CertAnswer
