@@ -1,5 +1,5 @@
 -- Each label is marked at most once.
-use Rattle.std.specs.Prelude.{◌≡◌, ◌≤◌, ◌<◌, ℕ, ◌-◌, ◌^◌, Bool, List}
+use Rattle.std.specs.Prelude.{◌≤◌, ℕ, ◌-◌, ◌^◌, Bool, List}
 use Rattle.c_layout.specs.CheckedUnits.{FunctionView}
 use Rattle.c_layout.specs.StructViews.{StructView}
 use Rattle.flow_lower_tasks.specs.Pieces.{TemplateView}
