@@ -230,7 +230,7 @@ same_all_refl : (t : Bytes) → same_all t t ≡ true
 same_all_refl [] = refl
 same_all_refl (c ∷ cs) = let e : (c == c) ≡ true = grind arith in ap (λ b. b && same_all cs cs) e ∙ same_all_refl cs
 
-same_refl : (t : Bytes) → same_bytes t t ≡ true
+pub same_refl : (t : Bytes) → same_bytes t t ≡ true
 unfolding same_bytes
 same_refl t = let e : (length t == length t) ≡ true = grind arith in ap (λ b. b && same_all t t) e ∙ same_all_refl t
 

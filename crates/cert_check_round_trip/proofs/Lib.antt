@@ -3,3 +3,7 @@ pub mod Numbers
 pub mod FewBases
 pub mod BaseWords
 pub mod CellWords
+pub mod LineEnds
+pub mod RowWords
+pub mod OwnCells
+pub mod MapWords

@@ -1,2 +1,4 @@
 pub mod NearRanges
 pub mod NearCells
+pub mod ReadableRows
+pub mod ReadMaps

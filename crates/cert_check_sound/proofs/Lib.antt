@@ -8,3 +8,4 @@ pub mod WorkedCertificate
 mod WorkedAnalysis
 pub mod WiderRows
 pub mod AnalysedMaps
+pub mod AcceptedTexts

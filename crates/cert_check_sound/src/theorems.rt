@@ -19,7 +19,7 @@ ghost use Rattle.cert_check_programs.specs.declared.checked_maps.Verified.TheVar
 ghost use Rattle.cert_check_sound.specs.FittedRows.{FittedRowsStandForMore};
 ghost use Rattle.cert_check_sound.specs.CertifiedMaps.{ClosedMapsAreCarried, ClosedMapsBegin};
 ghost use Rattle.cert_check_sound.specs.SoundCertificates.{HoldsPairsOfUnits, HoldsPairsOfLowered, HoldsPairsOfChecked};
-ghost use Rattle.cert_check_sound.specs.AnalysedMaps.{InductiveMapsAreClosed};
+ghost use Rattle.cert_check_sound.specs.AnalysedMaps.{CertificatesAreAccepted, InductiveMapsAreClosed};
 ghost use Rattle.cert_check_sound.specs.WorkedCertificates.{IsAcceptedBeyond};
 
 use abstract_steps_rows::Bounded;
@@ -65,4 +65,9 @@ pub fn premises_can_be_met()
 /// certificates.
 pub fn inductive_maps_are_closed()
     ensures { (flow : Flow) (list : List ℤ) → is_regular flow list ≡ true → ReachesTypes list → has_start interval_lattice interval_numbers flow ≡ true → InductiveMapsAreClosed flow list }
+{}
+
+/// The text of such a map, as it is written of the one that the solver finds, is accepted.
+pub fn proved_certificates_are_accepted()
+    ensures { (flow : Flow) (list : List ℤ) → is_regular flow list ≡ true → ReachesTypes list → CertificatesAreAccepted flow list }
 {}

@@ -16,11 +16,10 @@ loop-at-preserved c =
     let (value, small, within) = c.loop-at.invariant in
     let byte : Fits w8 c.in-Number.n = search rules in
     let back : c.loop-at.at ≡ (c.loop-at.at - 1) + 1 = omega (arith, c.loop-at-test.true) in
-    let more : 256 ^ (length c.args.bytes.now - (c.loop-at.at - 1)) ≡ 256 ^ ((length c.args.bytes.now - c.loop-at.at) + 1) = ap (λ k. 256 ^ k) (omega (arith, c.loop-at-test.true, within)) in
-    (
+    let more : 256 ^ (length c.args.bytes.now - (c.loop-at.at - 1)) ≡ 256 ^ ((length c.args.bytes.now - c.loop-at.at) + 1) = ap (λ k. 256 ^ k) (omega (arith, c.loop-at-test.true, within)) in (
       ap (λ n. Some (n + 256 * c.loop-at.number, labels_view c.union_of-labels.result)) c.from.ensures
-      ∙ ap (λ l. Some (c.in-Number.n + 256 * c.loop-at.number, l)) c.union_of-labels.ensures
-      ∙ digits_more c.args.bytes.now (c.loop-at.at - 1) _ c.in-Number.n c.loop-at.number (labels_view c.in-Number.own) (labels_view c.loop-at.labels) (omega (arith, c.loop-at-test.true, within)) (ap content_view c.in-Number.is) (subst (λ k. Some (c.loop-at.number, labels_view c.loop-at.labels) ≡ digits_of (numbers_in (contents_from c.args.bytes.now k))) back value),
+          ∙ ap (λ l. Some (c.in-Number.n + 256 * c.loop-at.number, l)) c.union_of-labels.ensures
+          ∙ digits_more c.args.bytes.now (c.loop-at.at - 1) _ c.in-Number.n c.loop-at.number (labels_view c.in-Number.own) (labels_view c.loop-at.labels) (omega (arith, c.loop-at-test.true, within)) (ap content_view c.in-Number.is) (subst (λ k. Some (c.loop-at.number, labels_view c.loop-at.labels) ≡ digits_of (numbers_in (contents_from c.args.bytes.now k))) back value),
       subst (λ k. c.from.result + 256 * c.loop-at.number < k) (sym more) (number_below c.from.result (length c.args.bytes.now - c.loop-at.at) c.loop-at.number (omega (arith, c.from.ensures, byte)) small),
       omega (arith, within),
     )
