@@ -54,8 +54,9 @@ module _ (u : UnitView) (l : Sought) (f : FunctionView) where
   -- ---- statements
 
   mutual
-    pub found_fits : (i : StatementTree) (rest : List Item) (breaks continues : Bool) → JumpsStand breaks continues i → Encloses f breaks continues rest → Fit f rest → IfSome (Reached f (ended f rest)) (found u l i rest)
     unfolding found found_in
+
+    pub found_fits : (i : StatementTree) (rest : List Item) (breaks continues : Bool) → JumpsStand breaks continues i → Encloses f breaks continues rest → Fit f rest → IfSome (Reached f (ended f rest)) (found u l i rest)
     found_fits (tree.Value e) rest breaks continues jumps enclosed fit = tt
     found_fits tree.Nothing rest breaks continues jumps enclosed fit = tt
     found_fits (tree.Forget at local) rest breaks continues jumps enclosed fit = tt
@@ -83,7 +84,6 @@ module _ (u : UnitView) (l : Sought) (f : FunctionView) where
     found_fits (tree.Return at e) rest breaks continues jumps enclosed fit = tt
 
     all_found_fit : (items : StatementTrees) (rest : List Item) (breaks continues : Bool) → AllJumpsStand breaks continues items → Encloses f breaks continues rest → Fit f rest → IfSome (Reached f (ended f rest)) (found_in u l items rest)
-    unfolding found found_in
     all_found_fit tree.NoMore rest breaks continues jumps enclosed fit = tt
     all_found_fit (tree.And s ss) rest breaks continues jumps enclosed fit = either_found (Reached f (ended f rest)) (found u l s (statements ss ++ rest)) (found_in u l ss rest) (fewer_before f (statements ss) rest (found u l s (statements ss ++ rest)) (found_fits s (statements ss ++ rest) breaks continues jumps.0 (statements_enclose f breaks continues ss rest enclosed) (statements_fit f breaks continues ss rest jumps.1 enclosed fit))) (all_found_fit ss rest breaks continues jumps.1 enclosed fit)
 
