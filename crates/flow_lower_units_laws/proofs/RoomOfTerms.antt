@@ -55,11 +55,11 @@ module _ (u : UnitView) (f : FunctionView) where
         greater d (room c) (larger (room a) (room b)) (2 ^ 32 - 1) (room_term true d c le x.0) (greater d (room a) (room b) (2 ^ 32 - 1) (room_term used d a le y.0) (room_term used d b le y.1))
     room_term used d (Typed at t parens constant (tree.Comma a b)) le is = let x = both_true _ _ is in greater d (room a) (room b) (2 ^ 32 - 1) (room_term false d a le x.0) (room_term used d b le x.1)
     room_term used d (Typed at t parens constant (tree.Assign l a)) le is = let x = behind d (is_regular_place u f d l) (is_regular_term u f true (d + 1) a) is in both d (room_of_place l) (room a) (room_place d l le x.first) (room_term true (d + 1) a (fits (d + 1) x.room) x.second)
-    room_term used d (Typed at t parens constant (tree.Compound sign kind l a)) le is = 
+    room_term used d (Typed at t parens constant (tree.Compound sign kind l a)) le is =
         let x = both_true (has_room (d + 2)) _ is in
         let y = behind d (is_regular_place u f d l) (is_regular_term u f true (d + 1) a) x.1 in
         greater d 2 (both_rooms (room_of_place l) (room a)) (2 ^ 32 - 1) (fits (d + 2) x.0) (both d (room_of_place l) (room a) (room_place d l le y.first) (room_term true (d + 1) a (fits (d + 1) y.room) y.second))
-    room_term used d (Typed at t parens constant (tree.CompoundShift back size l a)) le is = 
+    room_term used d (Typed at t parens constant (tree.CompoundShift back size l a)) le is =
         let x = both_true (has_room (d + 2)) _ is in
         let y = behind d (is_regular_place u f d l) (is_regular_term u f true (d + 1) a) x.1 in
         greater d 2 (both_rooms (room_of_place l) (room a)) (2 ^ 32 - 1) (fits (d + 2) x.0) (both d (room_of_place l) (room a) (room_place d l le y.first) (room_term true (d + 1) a (fits (d + 1) y.room) y.second))
