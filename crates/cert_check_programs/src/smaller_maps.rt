@@ -35,12 +35,7 @@ fn cut_entry(
 
 /// Cuts the rows that the blocks have.
 #[tactic(auto, using(crate::proofs::HeldMaps::held_same))]
-fn cut_entries(
-    flow: &Flow,
-    all: &[Kinds],
-    pool: &mut RowPool<Cell<Interval>>,
-    map: &[Option<Row>],
-)
+fn cut_entries(flow: &Flow, all: &[Kinds], pool: &mut RowPool<Cell<Interval>>, map: &[Option<Row>])
     requires { IsHeld pool.old map.now }
     ensures { IsHeld pool.new map.now }
 {

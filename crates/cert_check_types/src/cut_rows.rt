@@ -43,11 +43,31 @@ fn cut_at(row: &mut [Cell<Interval>], at: usize, kinds: Kinds) {
 /// Cuts the class cells of a heap base, of which the first one stands at a position.
 fn cut_classes(model: &Model, row: &mut [Cell<Interval>], first: usize) {
     cut_at(row, first, leaves(model, Class::Char, true));
-    cut_at(row, first.saturating_add(1), leaves(model, Class::Short, true));
-    cut_at(row, first.saturating_add(2), leaves(model, Class::Int, true));
-    cut_at(row, first.saturating_add(3), leaves(model, Class::Long, true));
-    cut_at(row, first.saturating_add(4), leaves(model, Class::LongLong, true));
-    cut_at(row, first.saturating_add(5), leaves(model, Class::Pointer, true));
+    cut_at(
+        row,
+        first.saturating_add(1),
+        leaves(model, Class::Short, true),
+    );
+    cut_at(
+        row,
+        first.saturating_add(2),
+        leaves(model, Class::Int, true),
+    );
+    cut_at(
+        row,
+        first.saturating_add(3),
+        leaves(model, Class::Long, true),
+    );
+    cut_at(
+        row,
+        first.saturating_add(4),
+        leaves(model, Class::LongLong, true),
+    );
+    cut_at(
+        row,
+        first.saturating_add(5),
+        leaves(model, Class::Pointer, true),
+    );
 }
 
 /// Cuts the values of a base.

@@ -104,11 +104,7 @@ fn range_of(bits: Kinds) -> (i128, i128) {
 }
 
 /// The least range with another one and, where it is among the types, with the integers of a size.
-fn with_integers(
-    range: Option<(i128, i128)>,
-    kinds: Kinds,
-    bits: Kinds,
-) -> Option<(i128, i128)> {
+fn with_integers(range: Option<(i128, i128)>, kinds: Kinds, bits: Kinds) -> Option<(i128, i128)> {
     if kinds & bits == 0 {
         return range;
     }

@@ -1,7 +1,5 @@
 //! The types that temporaries may have at the starts of blocks.
-use crate::kind_sets::{
-    Kinds, NONE, POINTER, differences, int, integers, results, scalars,
-};
+use crate::kind_sets::{Kinds, NONE, POINTER, differences, int, integers, results, scalars};
 use c_layout::Model;
 use cc_base::Memory;
 use flow_program::{BasicBlock, Edge, EdgeKind, Flow, Instruction, Operation};
