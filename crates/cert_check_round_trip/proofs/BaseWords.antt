@@ -211,7 +211,7 @@ module _ (s : Bases) where
   used_step at false e low none more = (none, omega arith)
   used_step at true e low none more =
       let zero_digit : told (bases_has s (at * 4)) (bases_has s (at * 4 + 1)) (bases_has s (at * 4 + 2)) (bases_has s (at * 4 + 3)) ≡ 0 = sym (nibble_is at) ∙ eqb-true (nibble s at) 0 e in
-      let off = none_four _ _ _ _ ((digit_at at).none zero_digit) in
+      let off : (bases_has s (at * 4) ≡ false) × ((bases_has s (at * 4 + 1) ≡ false) × ((bases_has s (at * 4 + 2) ≡ false) × (bases_has s (at * 4 + 3) ≡ false))) = none_four _ _ _ _ ((digit_at at).none zero_digit) in
       let here : NoneFrom (at * 4) = λ n h from. elim (cases_lt n (suc at * 4)) [
         | inr b ↦ none n h b
         | inl b ↦ elim (cases_lt n (at * 4 + 1)) [

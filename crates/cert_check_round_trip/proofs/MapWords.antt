@@ -62,7 +62,7 @@ module _ (flow : Flow) (small : IsSmall flow) where
     head = head_text (length flow.blocks.items) flow.width
 
     free : IsFreeOf 10 head
-    free = head_free (length flow.blocks.items) flow.width small.blocks small.width
+    free = head_free (length flow.blocks.items) flow.width small.blocks (let w = small.width in omega (arith, w))
 
     there : drop 0 text ≡ (head ++ (10 ∷ [])) ++ blocks_text rows
     unfolding text_of_map

@@ -6,11 +6,11 @@ use Rattle.std.proofs.lemmas.Int.{ints, clamps}
 use Rattle.cc_base.specs.LatticeParts.{flag_leq}
 use Rattle.interval_domain.specs.Best.{le_true, true_le}
 use Rattle.interval_domain.specs.Nearest.{nearest}
-use Rattle.interval_domain.specs.Spans.{between_or_empty}
+use Rattle.interval_domain.specs.Spans.{between_or_empty, interval_bounds}
 use Rattle.interval_domain.specs.IntervalOrder.{interval_leq}
 use Rattle.interval_domain.specs.IntervalRound.{interval_within}
 use Rattle.interval_domain.specs.IntervalLattice.{interval_lattice}
-use Rattle.interval_domain.specs.IntervalNumbers.{interval_numbers, interval_bounds}
+use Rattle.interval_domain.specs.IntervalNumbers.{interval_numbers}
 use Rattle.interval_domain.specs.declared.intervals.Interval.{Interval}
 use Rattle.interval_domain.specs.declared.intervals.Interval.TheVariants.{Bottom, Of}
 use Rattle.pointer_domain.specs.BaseSets.{no_base, bases_within, bases_empty}
@@ -34,7 +34,7 @@ use Rattle.abstract_steps_rows.specs.declared.cell_kinds.CellKind.TheVariants as
 use Rattle.abstract_steps_rows.specs.declared.own_cells.Reach.{Reach}
 use Rattle.abstract_steps_rows.specs.CellKinds.{first_kind, kinds_behind}
 use Rattle.abstract_steps_rows.specs.FittedRows.{number_fit, count_fit, bases_fit, if_somewhere, pointer_fit, greatest_number, greatest_pointer, greatest_value, greatest_first, greatest_state, cell_fit, cells_fit, cells_of}
-use Rattle.abstract_steps_rows.specs.OwnRows.{bases_below, reach_of, is_consistent, is_nowhere, is_own_pointer, is_known_value, is_known_first, is_known_state, is_own_cell, are_own_cells}
+use Rattle.abstract_steps_rows.specs.OwnRows.{bases_below, reach_of, is_consistent, is_nowhere, is_somewhere, is_own_pointer, is_known_value, is_known_first, is_known_state, is_own_cell, are_own_cells}
 use Rattle.cert_check_maps.specs.LeastCells as least
 use Rattle.cert_check_maps.specs.LeastCells.{is_least}
 use Rattle.cert_check_reading.specs.GreatestRows.{cert_numbers, emptied}
@@ -148,7 +148,7 @@ module _ (count : ℕ) where
 
   nowhere : (p : Pointers Interval) → is_consistent interval_numbers p ≡ true → bases_empty p.bases ≡ true → IsNowhere p
   nowhere p even empty =
-      let h : is_nowhere interval_numbers p ≡ true = subst (λ t. cond t (is_nowhere interval_numbers p) _ ≡ true) empty even in
+      let h : is_nowhere interval_numbers p ≡ true = subst (λ t. cond t (is_nowhere interval_numbers p) (is_somewhere interval_numbers p) ≡ true) empty even in
       let a = and_parts (is_none (interval_bounds p.lo)) _ h in
       let b = and_parts (is_none (interval_bounds p.rel)) _ a.1 in
       let c = and_parts (is_none (interval_bounds p.len)) (not p.part) b.1 in

@@ -2,7 +2,7 @@
 use Rattle.std.proofs.Common.{◌≡◌, ◌∙◌, ◌+◌, ◌-◌, ◌^◌, ◌<◌, ◌≤◌, ℕ, zero, suc, Bool, true, false, cond, not, ◌&&◌, ◌==◌, nat_lt, nat_le, List, [], ◌∷◌, ◌++◌, length, drop, map, set, slice_set, slice_index_or, count_by, Option, Some, None, refl, sym, ap, subst, arith, append_assoc, length-append, lt-ltb, le-leb}
 use Rattle.std.proofs.lemmas.Bool.{and_from}
 use Rattle.std.proofs.lemmas.List.{append-nil}
-use Rattle.std.proofs.lemmas.List.Sums.{count_by-le-length}
+use Rattle.std.proofs.lemmas.List.Sums.{count_by-le-length, sum_by-cons}
 use Rattle.std.proofs.Math.Seq.{set-append_seam}
 use Rattle.interval_domain.specs.declared.intervals.Interval.{Interval}
 use Rattle.value_domain.specs.declared.row_cells.Cell.{Cell}
@@ -37,12 +37,24 @@ one_more front y k e = length-append front (y ∷ []) ∙ ap (λ n. n + 1) e
 
 -- ---- counts
 
-told_as : Bool → ℕ
+abbrev told_as : Bool → ℕ
 told_as t = cond (not t) 1 0
 
 count_here : (y : Cell Interval) (ys : List (Cell Interval)) (t : Bool) → is_least y ≡ t → count_by is_told (y ∷ ys) ≡ cond t (count_by is_told ys) (suc (count_by is_told ys))
-count_here y ys true e = let f : cond (not (is_least y)) 1 0 ≡ 0 = ap (λ b. cond (not b) 1 0) e in omega (arith, f)
-count_here y ys false e = let f : cond (not (is_least y)) 1 0 ≡ 1 = ap (λ b. cond (not b) 1 0) e in omega (arith, f)
+count_here y ys true e =
+    let g : count_by is_told (y ∷ ys) ≡ told_as (is_least y) + count_by is_told ys = sum_by-cons (λ c. told_as (is_least c)) y ys in
+    let f : told_as (is_least y) ≡ 0 = ap told_as e in
+    omega (arith, f, g)
+count_here y ys false e =
+    let g : count_by is_told (y ∷ ys) ≡ told_as (is_least y) + count_by is_told ys = sum_by-cons (λ c. told_as (is_least c)) y ys in
+    let f : told_as (is_least y) ≡ 1 = ap told_as e in
+    omega (arith, f, g)
+
+same_length : (gs ys : List (Cell Interval)) → AreReadableCells gs ys → length gs ≡ length ys
+same_length [] [] h = refl
+same_length [] (y ∷ ys) h = absurd h
+same_length (g ∷ gs) [] h = absurd h
+same_length (g ∷ gs) (y ∷ ys) h = let e = same_length gs ys h.1 in omega (arith, e)
 
 module _ (greatest : List (Cell Interval)) (text : Bytes) where
   -- the lines up to a place have been read into a row
@@ -68,45 +80,47 @@ module _ (greatest : List (Cell Interval)) (text : Bytes) where
 
   -- ---- a row
 
-  cells_back : (k : ℕ) (front gfront ys gs : List (Cell Interval)) (c : RowReading) (left : Bytes) → greatest ≡ gfront ++ gs → length gfront ≡ k → length front ≡ k → AreReadableCells gs ys → k + length gs ≤ 2 ^ 32
-      → c.reading.good ≡ true → c.reading.from ≤ k → c.row ≡ front ++ least_row gs → IsBehind text c.reading.at (cells_text k ys ++ left) → IsReadTo (cells_read greatest text (count_by is_told ys) c) (front ++ ys) left
-  cells_back k front gfront [] [] c left whole at_k long all few good from row behind = record { good = good; row_is = row; behind = behind }
-  cells_back k front gfront [] (g ∷ gs) c left whole at_k long all few good from row behind = absurd all
-  cells_back k front gfront (y ∷ ys) [] c left whole at_k long all few good from row behind = absurd all
-  cells_back k front gfront (y ∷ ys) (g ∷ gs) c left whole at_k long all few good from row behind = by_least (is_least y) refl
+  -- what is behind a cell, where the row is read on from there
+  cell_back : (k : ℕ) (front gfront : List (Cell Interval)) (y : Cell Interval) (ys : List (Cell Interval)) (g : Cell Interval) (gs : List (Cell Interval)) (c : RowReading) (left : Bytes) → greatest ≡ gfront ++ (g ∷ gs) → length gfront ≡ k → length front ≡ k → IsReadableCell g y
+      → count_by is_told ys ≤ length gs → k < 2 ^ 32 → c.reading.good ≡ true → c.reading.from ≤ k → c.row ≡ front ++ (emptied g ∷ least_row gs) → IsBehind text c.reading.at (cells_text k (y ∷ ys) ++ left)
+      → ((d : RowReading) → d.reading.good ≡ true → d.reading.from ≤ k + 1 → d.row ≡ (front ++ (y ∷ [])) ++ least_row gs → IsBehind text d.reading.at (cells_text (k + 1) ys ++ left) → IsReadTo (cells_read greatest text (count_by is_told ys) d) ((front ++ (y ∷ [])) ++ ys) left)
+      → IsReadTo (cells_read greatest text (count_by is_told (y ∷ ys)) c) (front ++ (y ∷ ys)) left
+  cell_back k front gfront y ys g gs c left whole at_k long readable owed_few small good from row behind more = by_least (is_least y) refl
     where
-      whole_more : greatest ≡ (gfront ++ (g ∷ [])) ++ gs
-      whole_more = whole ∙ sym (append_assoc gfront (g ∷ []) gs)
-
       lines : (t : Bool) → is_least y ≡ t → cells_text k (y ∷ ys) ≡ cond t [] (ended_text (Placed k y)) ++ cells_text (k + 1) ys
       lines t e = ap (λ b. cond b [] (ended_text (Placed k y)) ++ cells_text (k + 1) ys) e
 
       by_least : (t : Bool) → is_least y ≡ t → IsReadTo (cells_read greatest text (count_by is_told (y ∷ ys)) c) (front ++ (y ∷ ys)) left
       by_least true e =
-          let same : emptied g ≡ y = all.0.least e in
-          let row_more : c.row ≡ (front ++ (y ∷ [])) ++ least_row gs = row ∙ ap (λ z. front ++ (z ∷ least_row gs)) same ∙ sym (append_assoc front (y ∷ []) (least_row gs)) in
+          let row_more : c.row ≡ (front ++ (y ∷ [])) ++ least_row gs = row ∙ ap (λ z. front ++ (z ∷ least_row gs)) (readable.least e) ∙ sym (append_assoc front (y ∷ []) (least_row gs)) in
           let text_is : cells_text k (y ∷ ys) ++ left ≡ cells_text (k + 1) ys ++ left = ap (λ z. z ++ left) (lines true e) in
-          let r = cells_back (k + 1) (front ++ (y ∷ [])) (gfront ++ (g ∷ [])) ys gs c left whole_more (one_more gfront g k at_k) (one_more front y k long) all.1 (omega (arith, few)) good (omega (arith, from)) row_more (subst (IsBehind text c.reading.at) text_is behind) in
+          let r = more c good (omega (arith, from)) row_more (subst (IsBehind text c.reading.at) text_is behind) in
           subst (λ n. IsReadTo (cells_read greatest text n c) (front ++ (y ∷ ys)) left) (sym (count_here y ys true e)) (subst (λ z. IsReadTo (cells_read greatest text (count_by is_told ys) c) z left) (append_assoc front (y ∷ []) ys) r)
       by_least false e =
           let owed = count_by is_told ys in
-          let most = count_by-le-length is_told ys in
-          let same = same_length gs ys all.1 in
-          let text_is : cells_text k (y ∷ ys) ++ left ≡ ended_text (Placed k y) ++ (cells_text (k + 1) ys ++ left) = ap (λ z. z ++ left) (lines false e) ∙ append_assoc (ended_text (Placed k y)) (cells_text (k + 1) ys) left in
-          let there : drop c.reading.at text ≡ ended_text (Placed k y) ++ (cells_text (k + 1) ys ++ left) = behind.left_is ∙ text_is in
+          let after = cells_text (k + 1) ys ++ left in
+          let text_is : cells_text k (y ∷ ys) ++ left ≡ ended_text (Placed k y) ++ after = ap (λ z. z ++ left) (lines false e) ∙ append_assoc (ended_text (Placed k y)) (cells_text (k + 1) ys) left in
+          let there : drop c.reading.at text ≡ ended_text (Placed k y) ++ after = behind.left_is ∙ text_is in
           let d = placed text c.reading c.row k y in
-          let read : cell_read greatest text owed c ≡ d = told_line k owed front gfront g y gs c (cells_text (k + 1) ys ++ left) whole at_k long (omega (arith, most, same)) (omega (arith, few)) good from row (all.0.line e) all.0 e there in
+          let read : cell_read greatest text owed c ≡ d = told_line k owed front gfront g y gs c after whole at_k long owed_few small good from row (readable.line e) readable e there in
           let row_more : d.row ≡ (front ++ (y ∷ [])) ++ least_row gs = ap (λ z. slice_set z k y) row ∙ set_end front (emptied g) y (least_row gs) k long ∙ sym (append_assoc front (y ∷ []) (least_row gs)) in
-          let next = line_behind text c.reading.at (Placed k y) (cells_text (k + 1) ys ++ left) (omega (arith, few), all.0.near e) there in
-          let r = cells_back (k + 1) (front ++ (y ∷ [])) (gfront ++ (g ∷ [])) ys gs d left whole_more (one_more gfront g k at_k) (one_more front y k long) all.1 (omega (arith, few)) good (omega arith) row_more next in
+          let next = line_behind text c.reading.at (Placed k y) after (small, readable.near e) there in
+          let r = more d good (omega arith) row_more next in
           subst (λ n. IsReadTo (cells_read greatest text n c) (front ++ (y ∷ ys)) left) (sym (count_here y ys false e))
           (subst (λ z. IsReadTo (cells_read greatest text owed z) (front ++ (y ∷ ys)) left) (sym read) (subst (λ z. IsReadTo (cells_read greatest text owed d) z left) (append_assoc front (y ∷ []) ys) r))
-        where
-          same_length : (gs ys : List (Cell Interval)) → AreReadableCells gs ys → length gs ≡ length ys
-          same_length [] [] h = refl
-          same_length [] (y ∷ ys) h = absurd h
-          same_length (g ∷ gs) [] h = absurd h
-          same_length (g ∷ gs) (y ∷ ys) h = let e = same_length gs ys h.1 in omega (arith, e)
+
+  cells_back : (k : ℕ) (front gfront ys gs : List (Cell Interval)) (c : RowReading) (left : Bytes) → greatest ≡ gfront ++ gs → length gfront ≡ k → length front ≡ k → AreReadableCells gs ys → k + length gs ≤ 2 ^ 32
+      → c.reading.good ≡ true → c.reading.from ≤ k → c.row ≡ front ++ least_row gs → IsBehind text c.reading.at (cells_text k ys ++ left) → IsReadTo (cells_read greatest text (count_by is_told ys) c) (front ++ ys) left
+  cells_back k front gfront [] [] c left whole at_k long all few good from row behind = record { good = good; row_is = row; behind = behind }
+  cells_back k front gfront [] (g ∷ gs) c left whole at_k long all few good from row behind = absurd all
+  cells_back k front gfront (y ∷ ys) [] c left whole at_k long all few good from row behind = absurd all
+  cells_back k front gfront (y ∷ ys) (g ∷ gs) c left whole at_k long all few good from row behind =
+      let most = count_by-le-length is_told ys in
+      let same = same_length gs ys all.1 in
+      let whole_more : greatest ≡ (gfront ++ (g ∷ [])) ++ gs = whole ∙ sym (append_assoc gfront (g ∷ []) gs) in
+      let room : k + 1 + length gs ≤ 2 ^ 32 = omega (arith, few) in
+      cell_back k front gfront y ys g gs c left whole at_k long all.0 (omega (arith, most, same)) (omega (arith, few)) good from row behind
+      (λ d good_more from_more row_more behind_more. cells_back (k + 1) (front ++ (y ∷ [])) (gfront ++ (g ∷ [])) ys gs d left whole_more (one_more gfront g k at_k) (one_more front y k long) all.1 room good_more from_more row_more behind_more)
 
   -- ---- blocks
 
@@ -125,7 +139,7 @@ module _ (greatest : List (Cell Interval)) (text : Bytes) where
   block_back (Some row) r left few h good behind =
       let count = count_by is_told row in
       let most = count_by-le-length is_told row in
-      let same = row_length greatest row h in
+      let same = same_length greatest row h in
       let there : drop r.at text ≡ ended_text (Reached count) ++ (cells_text 0 row ++ left) = behind.left_is ∙ append_assoc (ended_text (Reached count)) (cells_text 0 row) left in
       let small : count < 2 ^ 32 = omega (arith, most, same, few) in
       let read : line_at text r.at ≡ Some (Reached count) = line_there text r.at (Reached count) (cells_text 0 row ++ left) small there in
@@ -136,12 +150,6 @@ module _ (greatest : List (Cell Interval)) (text : Bytes) where
       ∙ ap (λ b. cond b (row_read greatest text count r) (block_reading (failed r) None)) fits in
       let cells = cells_back 0 [] [] row greatest (row_reading (behind_line text r) (least_row greatest)) left refl refl refl h (omega (arith, few)) good (omega arith) refl (line_behind text r.at (Reached count) (cells_text 0 row ++ left) small there) in
       subst (λ b. IsBlockRead b (Some row) left) (sym is) (record { good = cells.good; row_is = ap (λ z. Some z) cells.row_is; behind = cells.behind })
-    where
-      row_length : (gs ys : List (Cell Interval)) → AreReadableCells gs ys → length gs ≡ length ys
-      row_length [] [] h = refl
-      row_length [] (y ∷ ys) h = absurd h
-      row_length (g ∷ gs) [] h = absurd h
-      row_length (g ∷ gs) (y ∷ ys) h = let e = row_length gs ys h.1 in omega (arith, e)
 
   -- all blocks
   pub record AreBlocksRead (r : Reading) (n : ℕ) (rows : List (Option (List (Cell Interval)))) (left : Bytes) : Type 0 where
