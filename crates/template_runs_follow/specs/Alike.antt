@@ -1,5 +1,5 @@
 -- Runs of a unit and of its templates that stand alike.
-use Rattle.std.specs.Prelude.{◌≡◌, ℕ, suc, ℤ, Bool, List, [], ◌∷◌, length, Option}
+use Rattle.std.specs.Prelude.{◌≡◌, ℕ, suc, ℤ, Bool, List, [], ◌∷◌, ◌++◌, length, Option}
 use Rattle.cc_base.specs.declared.diagnostics.Place.{Place}
 use Rattle.cc_base.specs.declared.diagnostics.Rule.{Rule}
 use Rattle.lib_models_memory.specs.Instances.{Memory}
@@ -10,6 +10,7 @@ use Rattle.flow_lower_tasks.specs.Acts.{Act}
 use Rattle.flow_lower_tasks.specs.Pieces.{PieceView}
 use Rattle.ref_machine.specs.Items.{Item, Do, Drop, Truth}
 use Rattle.ref_machine.specs.Operations.{Operation}
+use Rattle.ref_machine.specs.SourceStates as states
 use Rattle.ref_machine.specs.SourceStates.{State, function_at}
 use Rattle.ref_machine.specs.SourceRuns as source
 use Rattle.ref_machine.specs.SourceRuns.{SourceRun, Run, body_of}
@@ -17,34 +18,47 @@ use Rattle.template_runs.specs.TemplateStates as template
 use Rattle.template_runs.specs.TemplateStates.{Templates, Standing, TemplateRun}
 use Rattle.template_runs.specs.TemplateSteps.{template_begin, steps_from}
 use Rattle.template_runs_acts.specs.Acts.{Holds, IsActBehind}
-use Rattle.template_runs_follow.specs.Follows.{pieces, Follows, at_place}
+use Rattle.template_runs_follow.specs.Activations.{Activation, activation, entry_of}
+use Rattle.template_runs_follow.specs.Follows.{pieces, Follows, AllFollow, behind_own, at_place}
 
 -- the items follow in the pieces, and the values stand in the temporaries; or the newest value does not, and is dropped
 -- next; or a truth that is pushed next stands there already; or the newest value is there twice and stands in one
 -- temporary, and an operation takes it next
-pub data Lined (t : Templates) (n : ℕ) : List Item → List Scalar → (ℕ → Option Scalar) → List PieceView → Type 0 where
+pub data Lined (t : Activation) (n : ℕ) : List Item → List Scalar → (ℕ → Option Scalar) → List PieceView → Type 0 where
   plain : (items : List Item) (vs : List Scalar) (temps : ℕ → Option Scalar) (ps : List PieceView) → Follows t n (length vs) items ps → Holds vs temps → Lined t n items vs temps ps
   loose : (v : Scalar) (items : List Item) (vs : List Scalar) (temps : ℕ → Option Scalar) (ps : List PieceView) → Follows t n (length vs) items ps → Holds vs temps → Lined t n (Drop ∷ items) (v ∷ vs) temps ps
   put : (b : Bool) (items : List Item) (vs : List Scalar) (temps : ℕ → Option Scalar) (ps : List PieceView) → Follows t n (suc (length vs)) items ps → Holds (truth b ∷ vs) temps → Lined t n (Truth b ∷ items) vs temps ps
   twice : (v : Scalar) (at : Place) (operation : Operation) (a : Act) (items : List Item) (vs : List Scalar) (temps : ℕ → Option Scalar) (ps : List PieceView) → IsActBehind operation a (length vs) → Follows t n (suc (suc (length vs))) items ps → Holds (v ∷ vs) temps → Lined t n (Do at operation ∷ items) (v ∷ (v ∷ vs)) temps (at_place at a ∷ ps)
 
--- the entry runs, no function waits, objects name the same instances, and the worlds are the same, but for what the last
--- step has violated
+-- the functions that wait, the newest first, with all values that are pending in them: in each its items follow behind
+-- the call, and its own values stand in the temporaries before the call's first one
+pub data Waits (t : Templates) (n : ℕ) : List states.Frame → List Scalar → List template.Frame → Type 0 where
+  none : Waits t n [] [] []
+  more : (g : ℕ) (names : ℕ → Option ℕ) (items : List Item) (vs : List Scalar) (temps : ℕ → Option Scalar) (ps : List PieceView) (at : Place) (used : Bool) (callers : List states.Frame) (below : List Scalar) (waiting : List template.Frame)
+      → Follows (activation t g callers) n (behind_own used (length vs)) items ps
+      → Holds vs temps
+      → Waits t n callers below waiting
+      → Waits t n (record { function = g; names = names; control = items; at = at; used = used } ∷ callers) (vs ++ below)
+      (record { function = g; rest = ps; temps = temps; names = names; depth = length vs; at = at; used = used } ∷ waiting)
+
+-- the same function runs, the same ones wait, objects name the same instances, and the worlds are the same, but for what
+-- the last step has violated
 pub data Related (t : Templates) (n : ℕ) : State → Standing → Type 0 where
-  related : (names : ℕ → Option ℕ) (items : List Item) (vs : List Scalar) (temps : ℕ → Option Scalar) (ps : List PieceView) (memory : Memory) (draws : List ℤ) (old new : List Rule)
-      → Lined t n items vs temps ps
+  related : (g : ℕ) (names : ℕ → Option ℕ) (items : List Item) (vs : List Scalar) (temps : ℕ → Option Scalar) (ps : List PieceView) (memory : Memory) (draws : List ℤ) (old new : List Rule) (callers : List states.Frame) (below : List Scalar) (waiting : List template.Frame)
+      → Lined (activation t g callers) n items vs temps ps
+      → Waits t n callers below waiting
       → Related t n
-      (record { function = t.unit.entry; names = names; control = items; values = vs; frames = []; world = record { memory = memory; draws = draws; violated = old } })
-      (record { function = t.unit.entry; rest = ps; temps = temps; names = names; frames = []; world = record { memory = memory; draws = draws; violated = new } })
+      (record { function = g; names = names; control = items; values = vs ++ below; frames = callers; world = record { memory = memory; draws = draws; violated = old } })
+      (record { function = g; rest = ps; temps = temps; names = names; frames = waiting; world = record { memory = memory; draws = draws; violated = new } })
 
 -- both go on alike for so many turns, or have stopped alike
 pub data Alike (t : Templates) (n : ℕ) : SourceRun → TemplateRun → Type 0 where
   both_run : (s : State) (r : Standing) (found also_found : List Violation) (steps : ℕ) → Related t n s r → found ≡ also_found → Alike t n (source.running s found steps) (template.running r also_found)
   both_stopped : (why : Why) (memory : Memory) (draws : List ℤ) (old new : List Rule) (found also_found : List Violation) (steps : ℕ) → found ≡ also_found → Alike t n (source.stopped why (record { memory = memory; draws = draws; violated = old }) found steps) (template.stopped why (record { memory = memory; draws = draws; violated = new }) also_found)
 
--- a turn of the source is so many pieces
+-- a turn of the source is so many pieces, where all functions that are called follow
 abbrev pub TurnsAreFollowed : Type 0
-TurnsAreFollowed = (t : Templates) (n : ℕ) (a : SourceRun) (b : TemplateRun) → Alike t (suc n) a b → (steps : ℕ) × Alike t n (source.next t.unit a) (steps_from t steps b)
+TurnsAreFollowed = (t : Templates) → AllFollow t → (n : ℕ) (a : SourceRun) (b : TemplateRun) → Alike t (suc n) a b → (steps : ℕ) × Alike t n (source.next t.unit a) (steps_from t steps b)
 
 -- both have come to the same memory with the same draws left, have violated the same, and have stopped for the same
 -- cause or not at all
@@ -54,6 +68,7 @@ pub record Agree (s : SourceRun) (r : TemplateRun) : Type 0 where
   pub found : source.found_in s ≡ template.found_in r
   pub why : source.why_of s ≡ template.why_of r
 
--- where the body of the entry follows in the pieces of its template, each run of the unit is one of the templates
+-- where the body of the entry follows in the pieces of its template, and each function that is called in those of its own,
+-- each run of the unit is one of the templates
 abbrev pub RunsAreFollowed : Type 0
-RunsAreFollowed = (t : Templates) → ((n : ℕ) → Follows t n 0 (body_of (function_at t.unit t.unit.entry)) (pieces t)) → (draws : List ℤ) (turns : ℕ) → (steps : ℕ) × Agree (Run t.unit draws turns) (steps_from t steps (template_begin t draws))
+RunsAreFollowed = (t : Templates) → AllFollow t → ((n : ℕ) → Follows (entry_of t) n 0 (body_of (function_at t.unit t.unit.entry)) (pieces (entry_of t))) → (draws : List ℤ) (turns : ℕ) → (steps : ℕ) × Agree (Run t.unit draws turns) (steps_from t steps (template_begin t draws))

@@ -1,2 +1,3 @@
+pub mod Activations
 pub mod Follows
 pub mod Alike

@@ -1,14 +1,14 @@
 //! Where the items of the source stand in the pieces of templates, a run of the unit is one of the templates.
 ghost use Rattle.template_runs_follow.specs.Alike.{TurnsAreFollowed, RunsAreFollowed};
 
-/// Where both runs stand alike for one turn more, a turn of the source is so many pieces of the templates: none, or one
-/// and the labels before it.
+/// Where both runs stand alike for one turn more, a turn of the source is so many pieces of the templates: none, or one,
+/// and before it the labels and what is done only where a call's value is used.
 pub fn turns_are_followed()
     ensures { TurnsAreFollowed }
 {}
 
-/// Where the body of the entry follows in the pieces of its template for any number of turns, each run of the unit is
-/// one of the templates: they come to the same memory with the same draws left, have violated the same rules at the same
+/// Where for any number of turns the body of the entry follows in the pieces of its template, and each function that is
+/// called in those of its own, each run of the unit is one of the templates: they come to the same memory with the same draws left, have violated the same rules at the same
 /// places in the same order, and go on or have stopped for the same reason.
 pub fn runs_are_followed()
     ensures { RunsAreFollowed }

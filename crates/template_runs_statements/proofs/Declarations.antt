@@ -21,9 +21,9 @@ use Rattle.ref_machine.specs.Items as item
 use Rattle.ref_machine.specs.Items.{Item}
 use Rattle.ref_machine.specs.Operations as op
 use Rattle.ref_machine.specs.StatementItems.{of_statement, stored, all_stored}
-use Rattle.template_runs.specs.TemplateStates.{Templates}
 use Rattle.template_runs_acts.specs.Acts as acts
 use Rattle.template_runs_acts.specs.Acts.{IsAct}
+use Rattle.template_runs_follow.specs.Activations.{Activation, of_entry}
 use Rattle.template_runs_follow.specs.Follows.{Names, at_place}
 use Rattle.template_runs_follow.proofs.Constructions.{gives_statement, gives_object, gives_change, gives_step, gives_drop}
 use Rattle.template_runs_works.specs.TemplateParts.{IsOfUnit}
@@ -128,7 +128,7 @@ work_scopes : (j : Job) (p : Plan) → (with_work j p).scopes ≡ p.scopes
 unfolding with_work
 work_scopes j p = refl
 
-module _ (s : SettingView) (t : Templates) (fits : IsOfUnit t s) (n : ℕ) where
+module _ (s : SettingView) (t : Activation) (fits : IsOfUnit t s) (n : ℕ) where
   copy_act : (ctype : Ty) → ctype ≡ Struct (struct_number ctype) → IsAct (op.Copy ctype) (act.Copy 0 1 (struct_number ctype)) 2 1
   copy_act ctype is = subst (λ k. IsAct (op.Copy k) (act.Copy 0 1 (struct_number ctype)) 2 1) (sym is) (acts.copy 0 (struct_number ctype))
 
@@ -154,8 +154,8 @@ module _ (s : SettingView) (t : Templates) (fits : IsOfUnit t s) (n : ℕ) where
   module _ (around : Surroundings) (K : List Item → Type 0) (c : ℕ) where
     -- the works of a statement that begins no scope and names objects
     named_form : (i : StatementTree) (js : ℕ → List Job) (xs : List ℕ) → ((p : Plan) → p.jobs ≡ [] → (parts s (jobs.Statement i around) p).jobs ≡ js (length p.names)) → ((p : Plan) → (parts s (jobs.Statement i around) p).names ≡ p.names ++ locals xs) → ((p : Plan) → (parts s (jobs.Statement i around) p).scopes ≡ p.scopes)
-        → ((base : ℕ) → AreTerms (js base)) → ((base : ℕ) → NamedFrom t base xs → Runs s t n (js base) (of_statement t.unit true i) 0 0) → Goes s t n c c K (jobs.Statement i around ∷ []) (item.Statement i ∷ [])
-    named_form i js xs planned named counted are_terms runs = gives_way s t n c c K (jobs.Statement i around) (item.Statement i) (of_statement t.unit true i) refl (gives_statement n 0 i)
+        → ((base : ℕ) → AreTerms (js base)) → ((base : ℕ) → NamedFrom t base xs → Runs s t n (js base) (of_statement t.unit (of_entry t) i) 0 0) → Goes s t n c c K (jobs.Statement i around ∷ []) (item.Statement i ∷ [])
+    named_form i js xs planned named counted are_terms runs = gives_way s t n c c K (jobs.Statement i around) (item.Statement i) (of_statement t.unit (of_entry t) i) refl (gives_statement n 0 i)
         (λ p none begun ps r m known items rest stands k f.
         let all = parts s (jobs.Statement i around) p in
         let here = named_from t (planless all) p.names xs [] (known_between s t (planless all) all.jobs ps r m known) (named p ∙ ap (λ ns. p.names ++ ns) (sym (append-nil (locals xs)))) in
@@ -164,7 +164,7 @@ module _ (s : SettingView) (t : Templates) (fits : IsOfUnit t s) (n : ℕ) where
         let all = parts s (jobs.Statement i around) p in
         (scopes_kept s (planless all) all.jobs ps r m tt (subst AreTerms (sym (planned p none)) (are_terms (length p.names)))).0 ∙ counted p ∙ begun)
 
-    pub of_stores : (i : StatementTree) (at : Place) (x : ℕ) (xs : List StoreTree) → ((p : Plan) → parts s (jobs.Statement i around) p ≡ lowered.all_stored at x xs p) → of_statement t.unit true i ≡ all_stored at x xs → SuitAsStores xs → Goes s t n c c K (jobs.Statement i around ∷ []) (item.Statement i ∷ [])
+    pub of_stores : (i : StatementTree) (at : Place) (x : ℕ) (xs : List StoreTree) → ((p : Plan) → parts s (jobs.Statement i around) p ≡ lowered.all_stored at x xs p) → of_statement t.unit (of_entry t) i ≡ all_stored at x xs → SuitAsStores xs → Goes s t n c c K (jobs.Statement i around ∷ []) (item.Statement i ∷ [])
     of_stores i at x xs same items suits = named_form i (all_store_jobs at xs) (once_each x xs)
         (λ p none. ap (λ (q : Plan). q.jobs) (same p) ∙ (stored_planned at x xs p).jobs ∙ ap (λ js. js ++ all_store_jobs at xs (length p.names)) none)
         (λ p. ap (λ (q : Plan). q.names) (same p) ∙ (stored_planned at x xs p).names)

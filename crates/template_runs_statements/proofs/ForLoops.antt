@@ -25,7 +25,7 @@ use Rattle.flow_lower_works.proofs.Derivations.{parted}
 use Rattle.ref_machine.specs.Items as item
 use Rattle.ref_machine.specs.Items.{Item}
 use Rattle.ref_machine.specs.StatementItems.{of_statement, statements, clause, for_body, for_turn}
-use Rattle.template_runs.specs.TemplateStates.{Templates}
+use Rattle.template_runs_follow.specs.Activations.{Activation, of_entry}
 use Rattle.template_runs_follow.specs.Follows as follows
 use Rattle.template_runs_follow.specs.Follows.{Leads, Follows}
 use Rattle.template_runs_follow.proofs.Constructions.{gives_statement, gives_loop_end, gives_turn_end}
@@ -153,7 +153,7 @@ clause_loop : (after : Option TermTree) (more : List Item) → behind_loop (clau
 clause_loop None more = refl
 clause_loop (Some e) more = refl
 
-module _ (s : SettingView) (t : Templates) (fits : IsOfUnit t s) where
+module _ (s : SettingView) (t : Activation) (fits : IsOfUnit t s) where
   clause_runs : (m : ℕ) (after : Option TermTree) → SuitsIf false after → Runs s t m (clause_jobs after) (clause after) 0 0
   clause_runs m None suits = nothing_done s t m 0
   clause_runs m (Some e) suits = (terms s t fits m e).done 0 suits.0 suits.1
@@ -276,7 +276,7 @@ module _ (s : SettingView) (t : Templates) (fits : IsOfUnit t s) where
       let starts = about_first n inner false more (suc c) suits.1 scopes.1 in
       let same : (p : Plan) → p.jobs ≡ [] → p.scopes ≡ c → Planned s.at objects (statement_jobs first inner ++ turn_jobs s.at test after body inner p.labels) p.labels p (parts s j p) = λ p none begun_p. subst (λ k. Planned s.at objects (statement_jobs first (in_scope around k) ++ turn_jobs s.at test after body (in_scope around k) p.labels) p.labels p (parts s j p)) begun_p (for_planned s objects first test after body around p none) in
       subst (λ k. Goes s t n c k (Within s t n around looping known) (j ∷ []) (item.Statement (tree.For objects first test after body) ∷ [])) (sums c (all_scopes_in first) (scopes_in body))
-      (gives_way s t n c last (Within s t n around looping known) j (item.Statement (tree.For objects first test after body)) (of_statement t.unit true (tree.For objects first test after body)) refl (gives_statement n 0 (tree.For objects first test after body))
+      (gives_way s t n c last (Within s t n around looping known) j (item.Statement (tree.For objects first test after body)) (of_statement t.unit (of_entry t) (tree.For objects first test after body)) refl (gives_statement n 0 (tree.For objects first test after body))
       (λ p none begun_p ps r m known_last items rest stands k f.
       let all = parts s j p in
       let x = same p none begun_p in

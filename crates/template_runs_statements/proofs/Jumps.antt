@@ -26,7 +26,7 @@ use Rattle.ref_machine.specs.Items as item
 use Rattle.ref_machine.specs.Items.{Item}
 use Rattle.ref_machine.specs.Scopes.{jump, all_of, open_scopes, without, inwards, behind_loop, behind_turn}
 use Rattle.ref_machine.specs.SourceStates.{function_at}
-use Rattle.template_runs.specs.TemplateStates.{Templates}
+use Rattle.template_runs_follow.specs.Activations.{Activation, of_entry}
 use Rattle.template_runs_follow.specs.Follows as follows
 use Rattle.template_runs_follow.specs.Follows.{own, Follows}
 use Rattle.template_runs_follow.proofs.FewerTurns.{less}
@@ -76,7 +76,7 @@ work_names : (j : Job) (p : Plan) → (with_work j p).names ≡ p.names
 unfolding with_work
 work_names j p = refl
 
-module _ (s : SettingView) (t : Templates) (fits : IsOfUnit t s) (n : ℕ) where
+module _ (s : SettingView) (t : Activation) (fits : IsOfUnit t s) (n : ℕ) where
   -- a work whose plan begins no scope
   no_scopes : (j : Job) (c : ℕ) → ((p : Plan) → p.jobs ≡ [] → Keeps p (parts s j p)) → (p : Plan) → p.jobs ≡ [] → p.scopes ≡ c → (ps : List PieceView) (r : Plan) → Makes s (planless (parts s j p)) (parts s j p).jobs ps r → r.scopes ≡ c
   no_scopes j c keeps p none begun ps r m = (scopes_kept s (planless (parts s j p)) (parts s j p).jobs ps r m tt (keeps p none).terms).0 ∙ (keeps p none).scopes ∙ begun
@@ -139,7 +139,7 @@ module _ (s : SettingView) (t : Templates) (fits : IsOfUnit t s) (n : ℕ) where
 
     -- ---- `return` from the entry
 
-    module _ (f : FunctionView) (is_f : function_at t.unit t.unit.entry ≡ Some f) (is_entry : s.is_entry ≡ true) where
+    module _ (f : FunctionView) (is_f : function_at t.unit t.function ≡ Some f) (is_entry : s.is_entry ≡ of_entry t) where
       abbrev value_jobs : Option TermTree → List Job
       value_jobs None = []
       value_jobs (Some e) = jobs.Value e 0 ∷ []
@@ -164,12 +164,12 @@ module _ (s : SettingView) (t : Templates) (fits : IsOfUnit t s) (n : ℕ) where
       given_is at None p = refl
       given_is at (Some e) p = ap (λ b. cond b (with_work (jobs.Value e 0) p) (lowered.outcome at e p)) is_entry
 
-      returned_items : (at : Place) (e : Option TermTree) → of_statement t.unit true (tree.Return at e) ≡ value_items e ++ item.LeaveFunction ∷ []
+      returned_items : (at : Place) (e : Option TermTree) → of_statement t.unit (of_entry t) (tree.Return at e) ≡ value_items e ++ item.LeaveFunction ∷ []
       returned_items at None = refl
       returned_items at (Some e) = refl
 
       pub returns : (at : Place) (e : Option TermTree) → SuitsIf true e → Goes s t n c c (Within s t n around looping known) (jobs.Statement (tree.Return at e) around ∷ []) (item.Statement (tree.Return at e) ∷ [])
-      returns at e suits = gives_way s t n c c (Within s t n around looping known) (jobs.Statement (tree.Return at e) around) (item.Statement (tree.Return at e)) (of_statement t.unit true (tree.Return at e)) refl (gives_statement n 0 (tree.Return at e))
+      returns at e suits = gives_way s t n c c (Within s t n around looping known) (jobs.Statement (tree.Return at e) around) (item.Statement (tree.Return at e)) (of_statement t.unit (of_entry t) (tree.Return at e)) refl (gives_statement n 0 (tree.Return at e))
           (λ p none begun ps r m known items rest stands k go.
           let xs = all_of (open_scopes items) in
           let g = value_plan e p in

@@ -20,7 +20,7 @@ use Rattle.ref_machine.specs.Items as item
 use Rattle.ref_machine.specs.Items.{Item}
 use Rattle.ref_machine.specs.ConditionItems as source
 use Rattle.ref_machine.specs.StatementItems.{of_statement}
-use Rattle.template_runs.specs.TemplateStates.{Templates}
+use Rattle.template_runs_follow.specs.Activations.{Activation, of_entry}
 use Rattle.template_runs_follow.specs.Follows as follows
 use Rattle.template_runs_follow.specs.Follows.{Leads, Follows}
 use Rattle.template_runs_follow.proofs.Constructions.{gives_statement, gives_loop_end, gives_turn_end}
@@ -92,18 +92,18 @@ line_quiet : (x : ReadView) (wants : Bool) (held failed : item.Items) → IsQuie
 line_quiet x true held failed = arguments_quiet x.call.arguments (item.ReadLine x.call.at failed held ∷ []) (record { scopes = λ items. refl; after_loop = λ items. refl; after_turn = λ items. refl })
 line_quiet x false held failed = arguments_quiet x.call.arguments (item.ReadLine x.call.at held failed ∷ []) (record { scopes = λ items. refl; after_loop = λ items. refl; after_turn = λ items. refl })
 
-leaf_quiet : (t : Templates) (is_test : Bool) (e : TermTree) (o : Option ReadView) (held failed : item.Items) → IsQuiet (source.leaf_by t.unit is_test e o held failed)
+leaf_quiet : (t : Activation) (is_test : Bool) (e : TermTree) (o : Option ReadView) (held failed : item.Items) → IsQuiet (source.leaf_by t.unit is_test e o held failed)
 leaf_quiet t is_test e None held failed = record { scopes = λ items. refl; after_loop = λ items. refl; after_turn = λ items. refl }
 leaf_quiet t is_test e (Some x) held failed = line_quiet x x.wants_line held failed
 
-pub condition_quiet : (t : Templates) (is_test : Bool) (e : TermTree) (held failed : List Item) → IsQuiet (source.condition t.unit is_test e held failed)
+pub condition_quiet : (t : Activation) (is_test : Bool) (e : TermTree) (held failed : List Item) → IsQuiet (source.condition t.unit is_test e held failed)
 condition_quiet t is_test (Typed at ctype parens fixed (tree.Logical And a b)) held failed = condition_quiet t is_test a (source.condition t.unit is_test b held failed) failed
 condition_quiet t is_test (Typed at ctype parens fixed (tree.Logical Or a b)) held failed = condition_quiet t is_test a held (source.condition t.unit is_test b held failed)
 condition_quiet t is_test (Typed at ctype parens fixed (tree.Not a)) held failed = condition_quiet t is_test a failed held
 condition_quiet t is_test (Typed at ctype parens fixed (tree.Conditional c a b)) held failed = condition_quiet t true c (source.condition t.unit false a held failed) (source.condition t.unit false b held failed)
 condition_quiet t is_test e held failed = leaf_quiet t is_test e (read_by e) (item.items_of held) (item.items_of failed)
 
-module _ (s : SettingView) (t : Templates) (fits : IsOfUnit t s) where
+module _ (s : SettingView) (t : Activation) (fits : IsOfUnit t s) where
   -- ---- the turns of `while`
 
   module _ (e : TermTree) (body : StatementTree) (about : AboutStatement s t body) (around : Surroundings) (looping : Bool) (known : List ℕ) (c l : ℕ) (suits_test : SuitsBehind true 0 e) (suits_body : SuitsIn true known body) (scopes : HasScopes s body around.scope c) (few : l + 3 ≤ 2 ^ 32 - 1)
@@ -157,7 +157,7 @@ module _ (s : SettingView) (t : Templates) (fits : IsOfUnit t s) where
   pub of_while : (e : TermTree) (body : StatementTree) → AboutStatement s t body → AboutStatement s t (tree.While e body)
   of_while e body about n around looping known c suits scopes =
       let j = jobs.Statement (tree.While e body) around in
-      gives_way s t n c (c + scopes_in body) (Within s t n around looping known) j (item.Statement (tree.While e body)) (of_statement t.unit true (tree.While e body)) refl (gives_statement n 0 (tree.While e body))
+      gives_way s t n c (c + scopes_in body) (Within s t n around looping known) j (item.Statement (tree.While e body)) (of_statement t.unit (of_entry t) (tree.While e body)) refl (gives_statement n 0 (tree.While e body))
       (λ p none begun ps r m known_last items rest stands k f.
       let all = loops.while_loop s e body around p in
       let few = few_labels s t p j 3 all.jobs ps r (while_grows s e body around p) m known_last in
@@ -218,7 +218,7 @@ module _ (s : SettingView) (t : Templates) (fits : IsOfUnit t s) where
   pub of_do : (body : StatementTree) (e : TermTree) → AboutStatement s t body → AboutStatement s t (tree.Do body e)
   of_do body e about n around looping known c suits scopes =
       let j = jobs.Statement (tree.Do body e) around in
-      gives_way s t n c (c + scopes_in body) (Within s t n around looping known) j (item.Statement (tree.Do body e)) (of_statement t.unit true (tree.Do body e)) refl (gives_statement n 0 (tree.Do body e))
+      gives_way s t n c (c + scopes_in body) (Within s t n around looping known) j (item.Statement (tree.Do body e)) (of_statement t.unit (of_entry t) (tree.Do body e)) refl (gives_statement n 0 (tree.Do body e))
       (λ p none begun ps r m known_last items rest stands k f.
       let all = loops.do_loop body e around p in
       let few = few_labels s t p j 3 all.jobs ps r (do_grows e body around p) m known_last in

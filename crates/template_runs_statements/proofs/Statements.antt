@@ -8,7 +8,7 @@ use Rattle.flow_lower_tasks.specs.Works as jobs
 use Rattle.flow_lower_tasks.specs.declared.pending_works.Surroundings.{Surroundings}
 use Rattle.ref_machine.specs.Items as item
 use Rattle.ref_machine.specs.SourceStates.{function_at}
-use Rattle.template_runs.specs.TemplateStates.{Templates}
+use Rattle.template_runs_follow.specs.Activations.{Activation, of_entry}
 use Rattle.template_runs_works.specs.TemplateParts.{IsOfUnit}
 use Rattle.template_runs_scopes.specs.Contexts.{Within}
 use Rattle.template_runs_scopes.proofs.InScopes.{Goes}
@@ -22,7 +22,7 @@ use Rattle.template_runs_statements.proofs.ForLoops.{of_for}
 plus_zero : (c : ℕ) → c ≡ c + 0
 plus_zero c = omega arith
 
-module _ (s : SettingView) (t : Templates) (fits : IsOfUnit t s) (f : FunctionView) (is_f : function_at t.unit t.unit.entry ≡ Some f) (is_entry : s.is_entry ≡ true) where
+module _ (s : SettingView) (t : Activation) (fits : IsOfUnit t s) (f : FunctionView) (is_f : function_at t.unit t.function ≡ Some f) (is_entry : s.is_entry ≡ of_entry t) where
   -- a statement that begins no scope
   no_scope : (i : StatementTree) (n : ℕ) (around : Surroundings) (looping : Bool) (known : List ℕ) (c : ℕ) → Goes s t n c c (Within s t n around looping known) (jobs.Statement i around ∷ []) (item.Statement i ∷ []) → Goes s t n c (c + 0) (Within s t n around looping known) (jobs.Statement i around ∷ []) (item.Statement i ∷ [])
   no_scope i n around looping known c g = subst (λ k. Goes s t n c k (Within s t n around looping known) (jobs.Statement i around ∷ []) (item.Statement i ∷ [])) (plus_zero c) g

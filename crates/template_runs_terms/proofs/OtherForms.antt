@@ -43,8 +43,8 @@ use Rattle.ref_machine.specs.TermItems.{arguments, argument_count}
 use Rattle.ref_machine.specs.TermItems as operands
 use Rattle.ref_machine.specs.ConditionItems as source
 use Rattle.ref_machine.specs.ConditionItems.{term_items}
-use Rattle.template_runs.specs.TemplateStates.{Templates}
 use Rattle.template_runs_acts.specs.Acts as acts
+use Rattle.template_runs_follow.specs.Activations.{Activation}
 use Rattle.template_runs_follow.specs.Follows.{at_place, Follows}
 use Rattle.template_runs_follow.proofs.Constructions.{gives_value, gives_unused, gives_drop}
 use Rattle.template_runs_works.specs.Rooms.{room, room_of_place, room_of_all, larger, both_rooms}
@@ -127,7 +127,7 @@ line_function other e = absurd (no e)
     no : false ≡ true → ⊥
     no e = cc
 
-module _ (s : SettingView) (t : Templates) (fits : IsOfUnit t s) (n : ℕ) (at : Place) (ctype : Ty) (parens : ℕ) (constant : Option ℤ) where
+module _ (s : SettingView) (t : Activation) (fits : IsOfUnit t s) (n : ℕ) (at : Place) (ctype : Ty) (parens : ℕ) (constant : Option ℤ) where
   -- ---- branches
 
   pub of_not : (a : TermTree) → About s t n a → About s t n (Typed at ctype parens constant (tree.Not a))

@@ -33,9 +33,9 @@ use Rattle.ref_machine.specs.Operations.{Operation, size_of}
 use Rattle.ref_machine.specs.TermItems.{address_items, operating, order_of}
 use Rattle.ref_machine.specs.ConditionItems as source
 use Rattle.ref_machine.specs.ConditionItems.{term_items}
-use Rattle.template_runs.specs.TemplateStates.{Templates}
 use Rattle.template_runs_acts.specs.Acts as acts
 use Rattle.template_runs_acts.specs.Acts.{IsAct}
+use Rattle.template_runs_follow.specs.Activations.{Activation}
 use Rattle.template_runs_follow.specs.Follows.{Names, Follows, at_place}
 use Rattle.template_runs_follow.proofs.Constructions.{gives_address, gives_object, gives_literal}
 use Rattle.template_runs_works.specs.Rooms.{room, room_of_place, room_of_all}
@@ -62,7 +62,7 @@ pub read_from : (o : Option LineCallView) (wants : Bool) (x : ReadView) → read
 read_from None wants x e = absurd (some_none x None refl e)
 read_from (Some c) wants x e = ap Some (ap (λ (x : ReadView). x.call) (some_same (record { call = c; wants_line = wants }) x e))
 
-module _ (s : SettingView) (t : Templates) (fits : IsOfUnit t s) (n : ℕ) where
+module _ (s : SettingView) (t : Activation) (fits : IsOfUnit t s) (n : ℕ) where
   -- a term that is no call of a line and no comparison with one
   pub plain : (e : TermTree) → line_call e ≡ None → read_by e ≡ None → ((decision : Decision) (p : Plan) → lowered.condition s e decision p ≡ lowered.leaf_condition s e decision p) → ((decision : Decision) (held failed : List Item) → source.condition t.unit decision.is_test e held failed ≡ source.leaf t.unit decision.is_test e held failed)
       → ((d : ℕ) → Suits true e → Fits d (room e) → Valued s t n e d) → ((d : ℕ) → Suits false e → Fits d (room e) → Done s t n e d) → About s t n e

@@ -14,7 +14,7 @@ use Rattle.ref_machine.specs.Items as item
 use Rattle.ref_machine.specs.Items.{Item}
 use Rattle.ref_machine.specs.TermItems.{address_items, arguments, argument_count}
 use Rattle.ref_machine.specs.ConditionItems.{term_items, condition}
-use Rattle.template_runs.specs.TemplateStates.{Templates}
+use Rattle.template_runs_follow.specs.Activations.{Activation}
 use Rattle.template_runs_follow.specs.Follows.{Leads, Follows}
 use Rattle.template_runs_follow.proofs.Constructions.{gives_value, gives_unused, gives_address}
 use Rattle.template_runs_works.specs.Rooms.{room, room_of_place, room_of_all}
@@ -31,7 +31,7 @@ abbrev pub argument_jobs : TermTrees → ℕ → List Job
 argument_jobs tree.End d = []
 argument_jobs (tree.More e rest) d = jobs.Value e d ∷ argument_jobs rest (behind d 1)
 
-module _ (s : SettingView) (t : Templates) (n : ℕ) where
+module _ (s : SettingView) (t : Activation) (n : ℕ) where
   abbrev pub Valued : TermTree → ℕ → Type 0
   Valued e d = Runs s t n (jobs.Value e d ∷ []) (item.Value e ∷ []) d (suc d)
 

@@ -4,11 +4,11 @@ use Rattle.flow_lower_tasks.specs.Pieces.{NameView, PieceView}
 use Rattle.flow_lower_tasks.specs.Plans.{Plan}
 use Rattle.flow_lower_tasks.specs.Settings.{SettingView}
 use Rattle.flow_lower_debts.specs.Marks.{all_marked}
-use Rattle.template_runs.specs.TemplateStates.{Templates}
+use Rattle.template_runs_follow.specs.Activations.{Activation}
 use Rattle.template_runs_follow.specs.Follows.{Names, own, pieces}
 
 -- what a template is made from is of the unit, and each label is marked at most once
-pub record IsOfUnit (t : Templates) (s : SettingView) : Type 0 where
+pub record IsOfUnit (t : Activation) (s : SettingView) : Type 0 where
   pub structs : s.structs ≡ t.unit.structs
   pub pointer : s.pointer ≡ t.unit.model.pointer
   pub int : s.int_bytes ≡ t.unit.model.int
@@ -16,11 +16,11 @@ pub record IsOfUnit (t : Templates) (s : SettingView) : Type 0 where
   pub once : (l : ℕ) → l < 2 ^ 32 - 1 → all_marked l (pieces t) ≤ 1
 
 -- the names that were given away are those of the template, and labels are numbers of 32 bits
-pub record IsKnown (t : Templates) (p : Plan) : Type 0 where
+pub record IsKnown (t : Activation) (p : Plan) : Type 0 where
   pub names : (base : ℕ) (name : NameView) → slice_get p.names base ≡ Some name → Names t base name
   pub labels : p.labels ≤ 2 ^ 32 - 1
 
 -- these are the last pieces of the template
-pub record Stands (t : Templates) (ps : List PieceView) : Type 0 where
+pub record Stands (t : Activation) (ps : List PieceView) : Type 0 where
   pub front : List PieceView
   pub all : pieces t ≡ front ++ ps
