@@ -1,5 +1,5 @@
 -- What follows, one item after the other, for any number of turns.
-use Rattle.std.specs.Prelude.{◌≡◌, ℕ, zero, suc, ◌+◌, ℤ, true, false, List, [], ◌∷◌, ◌++◌, Option, Some, None}
+use Rattle.std.specs.Prelude.{◌≡◌, ℕ, zero, suc, ◌+◌, ℤ, Bool, true, false, List, [], ◌∷◌, ◌++◌, Option, Some, None}
 use Rattle.cc_base.specs.declared.diagnostics.Place.{Place}
 use Rattle.c_layout.specs.CheckedTrees.{TermTree, LvalueTree, StatementTree}
 use Rattle.cc_base.specs.declared.int_types.IntType.{IntType}
@@ -32,7 +32,7 @@ use Rattle.ref_machine.specs.SourceStates.{Frame, function_at, result_object}
 use Rattle.template_runs_follow.specs.Activations.{Activation, of_entry}
 use Rattle.template_runs_acts.specs.Acts.{IsAct, IsActBehind, temps_from, behind_call}
 use Rattle.template_runs_follow.specs.Follows as follows
-use Rattle.template_runs_follow.specs.Follows.{own, Names, Leads, SameTest, IsEdge, Selected, Follows, IsCalled, behind_own, at_place, change_act}
+use Rattle.template_runs_follow.specs.Follows.{own, Names, Leads, SameTest, IsEdge, Selected, Follows, IsCalled, CallsThere, behind_own, pieces, at_place, change_act}
 use Rattle.template_runs_follow.proofs.FewerTurns.{less}
 
 pub gives_value : {t : Activation} (n : ℕ) (d : ℕ) (e : TermTree) (items : List Item) (ps : List PieceView) → Follows t n d (term_items t.unit true e ++ items) ps → Follows t n d (item.Value e ∷ items) ps
@@ -151,9 +151,9 @@ gives_end_body (suc n) d f items ps is go = follows.end_body n d f items ps is (
 
 -- ---- calls
 
-pub gives_own_call : {t : Activation} (n d g : ℕ) (at : Place) (used : Bool) (f : FunctionView) (items : List Item) (ps : List PieceView) → IsCalled t.unit g used f → Follows t n (behind_own used d) items ps → Follows t n (d + f.parameters) (item.Invoke at g f.parameters used ∷ items) (Call (record { place = at; function = g; depth = d; used = used }) ∷ ps)
-gives_own_call zero d g at used f items ps is go = follows.enough _ _ _
-gives_own_call (suc n) d g at used f items ps is go = follows.calls n d g at used f items ps is (less n _ _ _ go)
+pub gives_own_call : {t : Activation} (n d g : ℕ) (at : Place) (used : Bool) (f : FunctionView) (items : List Item) (ps : List PieceView) → IsCalled t.unit g used f → CallsThere (pieces t) g → Follows t n (behind_own used d) items ps → Follows t n (d + f.parameters) (item.Invoke at g f.parameters used ∷ items) (Call (record { place = at; function = g; depth = d; used = used }) ∷ ps)
+gives_own_call zero d g at used f items ps is stands go = follows.enough _ _ _
+gives_own_call (suc n) d g at used f items ps is stands go = follows.calls n d g at used f items ps is stands (less n _ _ _ go)
 
 pub gives_bind : {t : Activation} (n d number depth : ℕ) (at : Place) (f : FunctionView) (items : List Item) (ps : List PieceView) → function_at t.unit t.function ≡ Some f → number + suc depth ≡ d → Follows t n d items ps → Follows t n (suc d) (item.Bind at number depth ∷ items) (at_place at (act.Store d number (scalar_of (local_type f number)) None) ∷ ps)
 gives_bind zero d number depth at f items ps is where_it_is go = follows.enough _ _ _

@@ -48,7 +48,7 @@ less (suc n) _ _ _ (follows.literal _ d base i at items ps named go) = follows.l
 less (suc n) _ _ _ (follows.select _ d at kind object labels body items exits ps arms go) = follows.select n d at kind object labels body items exits ps arms (λ value. less n d _ _ (go value))
 less (suc n) _ _ _ (follows.hop _ d l items ps there to go) = follows.hop n d l items ps there to (less n d items there go)
 less (suc n) _ _ _ (follows.finish _ d at ps entry) = follows.finish n d at ps entry
-less (suc n) _ _ _ (follows.calls _ d g at used f items ps is go) = follows.calls n d g at used f items ps is (less n _ items ps go)
+less (suc n) _ _ _ (follows.calls _ d g at used f items ps is stands go) = follows.calls n d g at used f items ps is stands (less n _ items ps go)
 less (suc n) _ _ _ (follows.binds _ d number depth at f items ps is where_it_is go) = follows.binds n d number depth at f items ps is where_it_is (less n d items ps go)
 less (suc n) _ _ _ (follows.enters_outcome _ d base f locals items ps is named go) = follows.enters_outcome n d base f locals items ps is named (less n d _ ps go)
 less (suc n) _ _ _ (follows.outcome _ d base at f items ps is_f named go) = follows.outcome n d base at f items ps is_f named (less n (suc d) items ps go)
@@ -61,4 +61,4 @@ less (suc n) _ _ _ (follows.goes_back _ caller callers is) = follows.goes_back n
 -- so it is in the functions that wait
 pub wait_less : {t : Templates} (n : ℕ) {callers : List Frame} {below : List Scalar} {waiting : List template.Frame} → Waits t (suc n) callers below waiting → Waits t n callers below waiting
 wait_less n alike.none = alike.none
-wait_less n (alike.more g names items vs temps ps at used callers below waiting f holds rest) = alike.more g names items vs temps ps at used callers below waiting (less n _ items ps f) holds (wait_less n rest)
+wait_less n (alike.more g names items vs temps ps at used callers below waiting reached f holds rest) = alike.more g names items vs temps ps at used callers below waiting reached (less n _ items ps f) holds (wait_less n rest)

@@ -38,7 +38,7 @@ use Rattle.template_runs_acts.specs.Acts as acts
 use Rattle.template_runs_acts.specs.Acts.{Holds, SameReply, SameStore}
 use Rattle.template_runs_acts.proofs.HeldValues.{holds_put}
 use Rattle.template_runs_follow.specs.Activations.{Activation, templates_of}
-use Rattle.template_runs_follow.specs.Follows.{Names, Follows, change_act}
+use Rattle.template_runs_follow.specs.Follows.{Names, Follows, Reached, change_act}
 use Rattle.template_runs_follow.specs.Alike as alike
 use Rattle.template_runs_follow.specs.Alike.{Lined, Waits, Related, Alike}
 use Rattle.template_runs_follow.proofs.ValuesBelow.{raised}
@@ -52,6 +52,7 @@ pub record Next (t : Templates) (n : ℕ) (a : source.SourceRun) (b : template.T
 pub record Below (t : Activation) (n : ℕ) : Type 0 where
   pub values : List Scalar
   pub waiting : List template.Frame
+  pub reached : Reached (templates_of t) t.function
   pub waits : Waits (templates_of t) n t.callers values waiting
 
 -- a value that is pending, by its depth below the newest one and by its temporary
@@ -103,14 +104,14 @@ module _ (t : Activation) (n : ℕ) (c : Below t n) where
   std names ps temps memory draws new = record { function = t.function; rest = ps; temps = temps; names = names; frames = c.waiting; world = record { memory = memory; draws = draws; violated = new } }
 
   -- a turn that is no step
-  pub stay : (names : ℕ → Option ℕ) (items : List Item) (vs : List Scalar) (temps : ℕ → Option Scalar) (ps : List PieceView) (memory : Memory) (draws : List ℤ) (new : List Rule) (found also : List Violation) (count : ℕ) → Lined t n items vs temps ps → found ≡ also → Next t n (source.running (src names items vs memory draws) (found ++ []) count) (template.running (std names ps temps memory draws new) also)
-  stay names items vs temps ps memory draws new found also count l e = record { steps = 0; both = alike.both_run _ _ (found ++ []) also count (alike.related t.function names items vs temps ps memory draws [] new t.callers c.values c.waiting l c.waits) (append-nil found ∙ e) }
+  pub stay : (names : ℕ → Option ℕ) (items : List Item) (vs : List Scalar) (temps : ℕ → Option Scalar) (ps : List PieceView) (memory : Memory) (draws : List ℤ) (new : List Rule) (found also : List Violation) (count : ℕ) → Lined t n items vs temps ps → found ≡ also → Next u n (source.running (src names items vs memory draws) (found ++ []) count) (template.running (std names ps temps memory draws new) also)
+  stay names items vs temps ps memory draws new found also count l e = record { steps = 0; both = alike.both_run _ _ (found ++ []) also count (alike.related t.function names items vs temps ps memory draws [] new t.callers c.values c.waiting c.reached l c.waits) (append-nil found ∙ e) }
 
   -- ---- one instruction
 
   module _ (names : ℕ → Option ℕ) (memory : Memory) (draws : List ℤ) (found also : List Violation) (count : ℕ) (same : found ≡ also) (at : Place) where
     pub ran : (items : List Item) (vs : List Scalar) (temps : ℕ → Option Scalar) (ps : List PieceView) (others : ℕ → Option ℕ) (w : World) → Lined t n items vs temps ps → Alike u n (source.run_by found count (Some at) (goes (record (src others items vs memory draws) { world = w }) w)) (runs.run_by also (Some at) (goes (record (std others ps temps memory draws []) { world = w }) w))
-    ran items vs temps ps others w l = alike.both_run _ _ _ _ _ (alike.related t.function others items vs temps ps w.memory w.draws w.violated w.violated t.callers c.values c.waiting l c.waits) (ap (λ vs. vs ++ source.violations (Some at) w) same)
+    ran items vs temps ps others w l = alike.both_run _ _ _ _ _ (alike.related t.function others items vs temps ps w.memory w.draws w.violated w.violated t.callers c.values c.waiting c.reached l c.waits) (ap (λ vs. vs ++ source.violations (Some at) w) same)
 
     pub halted : (why : Why) (w : World) → Alike u n (source.run_by found count (Some at) (stops why w)) (runs.run_by also (Some at) (stops why w))
     halted why w = alike.both_stopped why w.memory w.draws w.violated w.violated _ _ _ (ap (λ vs. vs ++ source.violations (Some at) w) same)

@@ -31,7 +31,7 @@ use Rattle.ref_machine.specs.TermItems.{address_items}
 use Rattle.ref_machine.specs.ConditionItems.{term_items}
 use Rattle.ref_machine.specs.StatementItems.{of_statement, while_turn, do_turn, for_turn}
 use Rattle.ref_machine.specs.SourceStates as states
-use Rattle.ref_machine.specs.SourceStates.{State, function_at, first_do}
+use Rattle.ref_machine.specs.SourceStates.{Frame, State, function_at, first_do}
 use Rattle.ref_machine.specs.ObjectSteps as steps
 use Rattle.ref_machine.specs.CallSteps.{behind_body}
 use Rattle.ref_machine.specs.BranchSteps as branch
@@ -54,9 +54,9 @@ use Rattle.template_runs_acts.proofs.OperationsAgree.{agree, stores_agree, copie
 use Rattle.template_runs_acts.proofs.CallsAgree.{calls_agree}
 use Rattle.template_runs_follow.specs.Activations.{Activation, templates_of, activation, entry_of, of_entry}
 use Rattle.template_runs_follow.specs.Follows as follows
-use Rattle.template_runs_follow.specs.Follows.{pieces, own, Leads, SameTest, IsEdge, Selected, Follows, AllFollow, at_place}
+use Rattle.template_runs_follow.specs.Follows.{pieces, own, Leads, SameTest, IsEdge, Selected, Follows, Reached, AllFollow, at_place}
 use Rattle.template_runs_follow.specs.Alike as alike
-use Rattle.template_runs_follow.specs.Alike.{Lined, Related, Alike, Agree}
+use Rattle.template_runs_follow.specs.Alike.{Lined, Waits, Related, Alike, Agree}
 use Rattle.template_runs_follow.proofs.FewerTurns.{less, wait_less}
 use Rattle.template_runs_follow.proofs.ValuesBelow.{performed_above, copied_above, library_above}
 use Rattle.template_runs_follow.proofs.CallsAlike.{no_callers, parted_at, called, done_if_used, returned}
@@ -133,7 +133,7 @@ module _ (t : Activation) (n : ℕ) (under : Below t n) (all : AllFollow (templa
 
   -- a value that is switched on
   selected : (at : Place) (also : List Violation) (object : Option NamedObject) (cases : List CaseLabel) (body : StatementTree) (items : List Item) (out : List ExitView) (v : Scalar) (vs : List Scalar) (temps : ℕ → Option Scalar) (ps : List PieceView) (arms : (value : ℤ) → Selected t object cases body items out value) → found ≡ also → ((value : ℤ) → Lined t n (leap_in items (arms value).to) vs temps (arms value).there)
-      → Alike u n (source.run_by found count (Some at) (branch.select t.unit object cases body (src t n under names items (v ∷ vs) memory draws) (v ∷ vs))) (runs.run_by also (Some at) (with_number v (std t n under names ps temps memory draws []).world (λ k marks w. exits.on_exit u (std t n under names ps temps memory draws []) out v)))
+      → Alike u n (source.run_by found count (Some at) (branch.select t.unit object cases body (src t n under names items (v ∷ vs) memory draws) (v ∷ (vs ++ under.values)))) (runs.run_by also (Some at) (with_number v (std t n under names ps temps memory draws []).world (λ k marks w. exits.on_exit u (std t n under names ps temps memory draws []) out v)))
   selected at also object cases body items out (integer value marks) vs temps ps arms same go =
       let x = arms value in
       let r = std t n under names ps temps memory draws [] in
@@ -260,7 +260,7 @@ module _ (t : Activation) (n : ℕ) (under : Below t n) (all : AllFollow (templa
       let is = three_less (length vs) d e in
       subst (λ k. From (item.ReadLine at unread read ∷ items) (a ∷ (b ∷ (c ∷ vs))) temps (End (record { at = at; does = act.ReadLine None k (suc k) (suc (suc k)) }) (record { to = none; taken = NoLine } ∷ (record { to = some; taken = Line } ∷ [])) ∷ ps) new also) is
       (one_step _ _
-      (subst (λ o. Alike u n (source.run_by found count (Some at) (branch.read_line t.unit unread read (src t n under names items (a ∷ (b ∷ (c ∷ vs))) memory draws) (a ∷ (b ∷ (c ∷ vs))))) (runs.run_by also (Some at) (template.if_some (std t n under names ps temps memory draws []) o (exits.line_read u (record { to = none; taken = NoLine } ∷ (record { to = some; taken = Line } ∷ [])) None (std t n under names ps temps memory draws []))))) (sym (three_there a b c vs temps holds))
+      (subst (λ o. Alike u n (source.run_by found count (Some at) (branch.read_line t.unit unread read (src t n under names items (a ∷ (b ∷ (c ∷ vs))) memory draws) (a ∷ (b ∷ (c ∷ (vs ++ under.values)))))) (runs.run_by also (Some at) (template.if_some (std t n under names ps temps memory draws []) o (exits.line_read u (record { to = none; taken = NoLine } ∷ (record { to = some; taken = Line } ∷ [])) None (std t n under names ps temps memory draws []))))) (sym (three_there a b c vs temps holds))
       (line_read at also none some unread read items vs temps ps on_none on_some (fgets t.unit.model (c ∷ (b ∷ (a ∷ []))) (record { memory = memory; draws = draws; violated = [] })) same to_none to_some (lined t n under d (listed unread ++ items) vs temps on_none f holds.1.1.1 is) (lined t n under d (listed read ++ items) vs temps on_some g holds.1.1.1 is))))
   turn _ _ [] temps _ new also (follows.read_value _ d l at target items ps there to f) holds e same = absurd (no_value (suc (suc d)) e)
   turn _ _ (a ∷ []) temps _ new also (follows.read_value _ d l at target items ps there to f) holds e same = absurd (no_value (suc d) (one_less 0 (suc (suc d)) e))
@@ -290,7 +290,7 @@ module _ (t : Activation) (n : ℕ) (under : Below t n) (all : AllFollow (templa
       let r = std t n under names ps temps memory draws [] in
       let here : temps d ≡ Some v = subst (λ k. temps k ≡ Some v) is holds.0 in
       one_step _ _
-      (subst (λ o. Alike u n (source.run_by found count (Some at) (branch.select t.unit object cases body (src t n under names items (v ∷ vs) memory draws) (v ∷ vs))) (runs.run_by also (Some at) (template.if_some r o (λ v. with_number v r.world (λ k marks w. exits.on_exit u r out v))))) (sym here)
+      (subst (λ o. Alike u n (source.run_by found count (Some at) (branch.select t.unit object cases body (src t n under names items (v ∷ vs) memory draws) (v ∷ (vs ++ under.values)))) (runs.run_by also (Some at) (template.if_some r o (λ v. with_number v r.world (λ k marks w. exits.on_exit u r out v))))) (sym here)
       (selected at also object cases body items out v vs temps ps arms same (λ value. lined t n under d (leap_in items (arms value).to) vs temps (arms value).there (go value) holds.1 is)))
   turn _ _ vs temps _ new also (follows.hop _ d l items ps there to go) holds e same =
       let r = std t n under names ps temps memory draws [] in
@@ -301,7 +301,7 @@ module _ (t : Activation) (n : ℕ) (under : Below t n) (all : AllFollow (templa
       let s = src t n under names [] vs memory draws in
       subst (λ callers. Next u n (source.turned_on found count (turns.return_to t.unit s callers)) (template.running (std t n under names (End (record { at = at; does = act.Stop }) [] ∷ ps) temps memory draws new) also)) (sym (no_callers t.callers entry))
       (one_step _ _ (alike.both_stopped Ended memory draws [] [] _ _ _ (ap (λ xs. xs ++ []) same)))
-  turn _ _ vs temps _ new also (follows.calls _ d g at used f items ps is go) holds e same = called all names memory draws found also count new same g at used f items temps ps vs d f.parameters (parted_at vs d f.parameters e) refl is go holds
+  turn _ _ vs temps _ new also (follows.calls _ d g at used f items ps is stands go) holds e same = called t n under all names memory draws found also count new same g at used f items temps ps vs d f.parameters (parted_at vs d f.parameters e) refl is stands go holds
   turn _ _ [] temps _ new also (follows.binds _ d number depth at f items ps is where_it_is go) holds e same = absurd (no_value d e)
   turn _ _ (p ∷ vs) temps _ new also (follows.binds _ d number depth at f items ps is where_it_is go) holds e same =
       let less = one_less (length vs) d e in
@@ -334,22 +334,23 @@ module _ (t : Activation) (n : ℕ) (under : Below t n) (all : AllFollow (templa
 
 -- ---- runs
 
+module _ (t : Templates) (all : AllFollow t) (n g : ℕ) (names : ℕ → Option ℕ) (memory : Memory) (draws : List ℤ) (found also : List Violation) (count : ℕ) (new : List Rule) (callers : List Frame) (below : List Scalar) (waiting : List template.Frame) (reached : Reached t g) (waits : Waits t n callers below waiting) (same : found ≡ also) where
+  abbrev here : Activation
+  here = activation t g callers
+
+  abbrev kept : Below here n
+  kept = record { values = below; waiting = waiting; reached = reached; waits = waits }
+
+  lined_turn : {items : List Item} {vs : List Scalar} {temps : ℕ → Option Scalar} {ps : List PieceView} → Lined here (suc n) items vs temps ps → Next t n (source.turned_on found count (turns.turn_by t.unit (src here n kept names items vs memory draws) items)) (template.running (std here n kept names ps temps memory draws new) also)
+  lined_turn (alike.plain items vs temps ps f holds) = turn here n kept all names memory draws found count (length vs) items vs temps ps new also f holds refl same
+  lined_turn (alike.put b items vs temps ps f holds) = stay here n kept names items (truth b ∷ vs) temps ps memory draws new found also _ (alike.plain items (truth b ∷ vs) temps ps (less n _ items ps f) holds) same
+  lined_turn (alike.twice v at operation does items vs temps ps is f holds) =
+      record { steps = 1; both = subst (λ reply. Alike t n (source.run_by found count (Some at) (behind reply (λ xs w. steps.on (record (src here n kept names items [] memory draws) { values = xs; world = w })))) (runs.run_by also (Some at) (template_acts.perform t does (std here n kept names ps temps memory draws [])))) (sym (copied_above below t.unit operation does v vs (record { memory = memory; draws = draws; violated = [] }) is))
+          (operated here n kept names memory draws found also count same at (suc (suc (length vs))) items (v ∷ (v ∷ vs)) temps ps _ _ (copies_agree t operation does v vs (std here n kept names ps temps memory draws []) is holds) (less n _ items ps f)) }
+  lined_turn (alike.loose v items vs temps ps f holds) = stay here n kept names items vs temps ps memory draws new found also _ (alike.plain items vs temps ps (less n (length vs) items ps f) holds) same
+
 pub follow : (t : Templates) → AllFollow t → (n : ℕ) (a : SourceRun) (b : TemplateRun) → Alike t (suc n) a b → Next t n (source.next t.unit a) b
-follow t all n _ _ (alike.both_run _ _ found also count (alike.related g names items vs temps ps memory draws old new callers below waiting l waits) same) = by l
-  where
-    abbrev a : Activation
-    a = activation t g callers
-
-    abbrev under : Below a n
-    under = record { values = below; waiting = waiting; waits = wait_less n waits }
-
-    by : {items : List Item} {vs : List Scalar} {temps : ℕ → Option Scalar} {ps : List PieceView} → Lined a (suc n) items vs temps ps → Next t n (source.turned_on found count (turns.turn_by t.unit (src a n under names items vs memory draws) items)) (template.running (std a n under names ps temps memory draws new) also)
-    by (alike.plain items vs temps ps f holds) = turn a n under all names memory draws found count (length vs) items vs temps ps new also f holds refl same
-    by (alike.put b items vs temps ps f holds) = stay a n under names items (truth b ∷ vs) temps ps memory draws new found also _ (alike.plain items (truth b ∷ vs) temps ps (less n _ items ps f) holds) same
-    by (alike.twice v at operation does items vs temps ps is f holds) =
-        record { steps = 1; both = subst (λ reply. Alike t n (source.run_by found count (Some at) (behind reply (λ xs w. steps.on (record (src a n under names items [] memory draws) { values = xs; world = w })))) (runs.run_by also (Some at) (template_acts.perform t does (std a n under names ps temps memory draws [])))) (sym (copied_above below t.unit operation does v vs (record { memory = memory; draws = draws; violated = [] }) is))
-            (operated a n under names memory draws found also count same at (suc (suc (length vs))) items (v ∷ (v ∷ vs)) temps ps _ _ (copies_agree t operation does v vs (std a n under names ps temps memory draws []) is holds) (less n _ items ps f)) }
-    by (alike.loose v items vs temps ps f holds) = stay a n under names items vs temps ps memory draws new found also _ (alike.plain items vs temps ps (less n (length vs) items ps f) holds) same
+follow t all n _ _ (alike.both_run _ _ found also count (alike.related g names items vs temps ps memory draws old new callers below waiting reached l waits) same) = lined_turn t all n g names memory draws found also count new callers below waiting reached (wait_less n waits) same l
 follow t all n _ _ (alike.both_stopped why memory draws old new found also count same) = record { steps = 0; both = alike.both_stopped why memory draws old new found also count same }
 
 steps_on : (t : Templates) (m k : ℕ) (r : TemplateRun) → steps_from t k (steps_from t m r) ≡ steps_from t (m + k) r
@@ -363,7 +364,7 @@ steps_on t (suc m) k r = steps_on t m k (runs.next t r) ∙ ap (λ j. steps_from
     is m k = omega arith
 
 agreed : (t : Templates) (n : ℕ) (a : SourceRun) (b : TemplateRun) → Alike t n a b → Agree a b
-agreed t n _ _ (alike.both_run _ _ found also count (alike.related g names items vs temps ps memory draws old new callers below waiting l waits) same) = record { memory = refl; draws = refl; found = same; why = refl }
+agreed t n _ _ (alike.both_run _ _ found also count (alike.related g names items vs temps ps memory draws old new callers below waiting reached l waits) same) = record { memory = refl; draws = refl; found = same; why = refl }
 agreed t n _ _ (alike.both_stopped why memory draws old new found also count same) = record { memory = refl; draws = refl; found = same; why = refl }
 
 module _ (t : Templates) (all : AllFollow t) (start : (n : ℕ) → Follows (entry_of t) n 0 (body_of (function_at t.unit t.unit.entry)) (pieces (entry_of t))) (draws : List ℤ) where
@@ -371,7 +372,7 @@ module _ (t : Templates) (all : AllFollow t) (start : (n : ℕ) → Follows (ent
   begun n = by (start_world t.unit draws)
     where
       by : (reply : Reply (Unit {0})) → Alike t n (source.begun_by t.unit reply) (runs.begun_by t reply)
-      by (goes x w) = alike.both_run _ _ [] [] 0 (alike.related t.unit.entry _ _ [] _ _ w.memory w.draws w.violated w.violated [] [] [] (alike.plain _ [] _ _ (start n) tt) alike.none) refl
+      by (goes x w) = alike.both_run _ _ [] [] 0 (alike.related t.unit.entry _ _ [] _ _ w.memory w.draws w.violated w.violated [] [] [] follows.entry (alike.plain _ [] _ _ (start n) tt) alike.none) refl
       by (stops why w) = alike.both_stopped why w.memory w.draws w.violated w.violated [] [] 0 refl
 
   after : (turns n : ℕ) → Next t n (Run t.unit draws turns) (template_begin t draws)

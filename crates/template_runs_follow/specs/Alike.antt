@@ -19,7 +19,7 @@ use Rattle.template_runs.specs.TemplateStates.{Templates, Standing, TemplateRun}
 use Rattle.template_runs.specs.TemplateSteps.{template_begin, steps_from}
 use Rattle.template_runs_acts.specs.Acts.{Holds, IsActBehind}
 use Rattle.template_runs_follow.specs.Activations.{Activation, activation, entry_of}
-use Rattle.template_runs_follow.specs.Follows.{pieces, Follows, AllFollow, behind_own, at_place}
+use Rattle.template_runs_follow.specs.Follows.{pieces, Follows, Reached, AllFollow, behind_own, at_place}
 
 -- the items follow in the pieces, and the values stand in the temporaries; or the newest value does not, and is dropped
 -- next; or a truth that is pushed next stands there already; or the newest value is there twice and stands in one
@@ -35,6 +35,7 @@ pub data Lined (t : Activation) (n : ℕ) : List Item → List Scalar → (ℕ �
 pub data Waits (t : Templates) (n : ℕ) : List states.Frame → List Scalar → List template.Frame → Type 0 where
   none : Waits t n [] [] []
   more : (g : ℕ) (names : ℕ → Option ℕ) (items : List Item) (vs : List Scalar) (temps : ℕ → Option Scalar) (ps : List PieceView) (at : Place) (used : Bool) (callers : List states.Frame) (below : List Scalar) (waiting : List template.Frame)
+      → Reached t g
       → Follows (activation t g callers) n (behind_own used (length vs)) items ps
       → Holds vs temps
       → Waits t n callers below waiting
@@ -45,6 +46,7 @@ pub data Waits (t : Templates) (n : ℕ) : List states.Frame → List Scalar →
 -- the last step has violated
 pub data Related (t : Templates) (n : ℕ) : State → Standing → Type 0 where
   related : (g : ℕ) (names : ℕ → Option ℕ) (items : List Item) (vs : List Scalar) (temps : ℕ → Option Scalar) (ps : List PieceView) (memory : Memory) (draws : List ℤ) (old new : List Rule) (callers : List states.Frame) (below : List Scalar) (waiting : List template.Frame)
+      → Reached t g
       → Lined (activation t g callers) n items vs temps ps
       → Waits t n callers below waiting
       → Related t n

@@ -22,6 +22,7 @@ use Rattle.flow_lower_expressions.specs.Calls.{result_temp}
 use Rattle.flow_lower_tasks.specs.Acts as act
 use Rattle.flow_lower_tasks.specs.Acts.{Act, Step}
 use Rattle.flow_lower_tasks.specs.Pieces.{NameView, Local, Outcome, Literal, PieceView, Do, DoIfUsed, End, Mark, Call, ExitView, Way, When, Always, Case, Other, NoLine, Line}
+use Rattle.flow_lower_tasks.specs.declared.template_pieces.OwnCall.{OwnCall}
 use Rattle.flow_lower_tasks.specs.Plans.{name_of_object}
 use Rattle.flow_lower_tasks.specs.TermKinds.{integer_type, is_void, scalar_of}
 use Rattle.flow_lower_functions.specs.Functions.{local_type}
@@ -123,6 +124,18 @@ pub record IsCalled (u : UnitView) (g : ℕ) (used : Bool) (f : FunctionView) : 
   pub not_entry : g ≡ u.entry → ⊥
   pub gives : used ≡ true → is_void f.returns ≡ false
 
+-- a call of a function stands among pieces
+pub record CallsThere (ps : List PieceView) (g : ℕ) : Type 0 where
+  pub at : ℕ
+  pub call : OwnCall
+  pub there : slice_get ps at ≡ Some (Call call)
+  pub is : call.function ≡ g
+
+-- the entry is reached, and what the template of a function calls that is reached
+pub data Reached (t : Templates) : ℕ → Type 0 where
+  entry : Reached t t.unit.entry
+  called : (h g : ℕ) → Reached t h → CallsThere (t.of h).pieces g → Reached t g
+
 -- how many values are pending behind a call
 abbrev pub behind_own : Bool → ℕ → ℕ
 behind_own used d = cond used (suc d) d
@@ -199,7 +212,7 @@ pub data Follows (t : Activation) : ℕ → ℕ → List Item → List PieceView
   hop : (n d l : ℕ) (items : List Item) (ps there : List PieceView) → Leads t l there → Follows t n d items there → Follows t (suc n) d (item.Hop ∷ items) (End (record { at = own t; does = act.Jump }) (record { to = l; taken = Always } ∷ []) ∷ ps)
   finish : (n d : ℕ) (at : Place) (ps : List PieceView) → of_entry t ≡ true → Follows t (suc n) d [] (End (record { at = at; does = act.Stop }) [] ∷ ps)
   -- calls: the arguments are the newest values
-  calls : (n d g : ℕ) (at : Place) (used : Bool) (f : FunctionView) (items : List Item) (ps : List PieceView) → IsCalled t.unit g used f → Follows t n (behind_own used d) items ps → Follows t (suc n) (d + f.parameters) (item.Invoke at g f.parameters used ∷ items) (Call (record { place = at; function = g; depth = d; used = used }) ∷ ps)
+  calls : (n d g : ℕ) (at : Place) (used : Bool) (f : FunctionView) (items : List Item) (ps : List PieceView) → IsCalled t.unit g used f → CallsThere (pieces t) g → Follows t n (behind_own used d) items ps → Follows t (suc n) (d + f.parameters) (item.Invoke at g f.parameters used ∷ items) (Call (record { place = at; function = g; depth = d; used = used }) ∷ ps)
   binds : (n d number depth : ℕ) (at : Place) (f : FunctionView) (items : List Item) (ps : List PieceView) → function_at t.unit t.function ≡ Some f → number + suc depth ≡ d → Follows t n d items ps → Follows t (suc n) (suc d) (item.Bind at number depth ∷ items) (at_place at (act.Store d number (scalar_of (local_type f number)) None) ∷ ps)
   -- the object of the result
   enters_outcome : (n d base : ℕ) (f : FunctionView) (locals : List ℕ) (items : List Item) (ps : List PieceView) → function_at t.unit t.function ≡ Some f → Names t base Outcome → Follows t n d (item.Enters locals ∷ items) ps → Follows t (suc n) d (item.Enters (result_object f ∷ locals) ∷ items) (at_place (own t) (act.Enter base) ∷ ps)
@@ -212,6 +225,6 @@ pub data Follows (t : Activation) : ℕ → ℕ → List Item → List PieceView
   -- the function that waits goes on
   goes_back : (n : ℕ) (caller : Frame) (callers : List Frame) → t.callers ≡ caller ∷ callers → Follows t (suc n) (behind_own caller.used 0) [] []
 
--- each function that is called follows in its template, whoever calls it: its arguments are pending, and it begins with its prologue
+-- each function that is reached follows in its template, whoever calls it: its arguments are pending, and it begins with its prologue
 abbrev pub AllFollow : Templates → Type 0
-AllFollow t = (g : ℕ) (f : FunctionView) (caller : Frame) (callers : List Frame) → IsCalled t.unit g caller.used f → (n : ℕ) → Follows (activation t g (caller ∷ callers)) n f.parameters (prologue f f.parameters ++ body f) (t.of g).pieces
+AllFollow t = (g : ℕ) (f : FunctionView) (caller : Frame) (callers : List Frame) → Reached t g → IsCalled t.unit g caller.used f → (n : ℕ) → Follows (activation t g (caller ∷ callers)) n f.parameters (prologue f f.parameters ++ body f) (t.of g).pieces

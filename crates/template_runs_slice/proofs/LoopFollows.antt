@@ -79,8 +79,8 @@ module _ (b : ℕ) where
 
 -- the unit has no function but the entry
 no_calls : (b : ℕ) → AllFollow (templates b)
-no_calls b zero f caller callers is n = absurd (is.not_entry refl)
-no_calls b (suc g) f caller callers is n = absurd (nothing is.is)
+no_calls b zero f caller callers reached is n = absurd (is.not_entry refl)
+no_calls b (suc g) f caller callers reached is n = absurd (nothing is.is)
   where
     nothing : None ≡ Some f → ⊥
     nothing e = cc

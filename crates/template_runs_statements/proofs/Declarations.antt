@@ -136,7 +136,7 @@ module _ (s : SettingView) (t : Activation) (fits : IsOfUnit t s) (n : ℕ) wher
   points : (at : Place) (x offset base : ℕ) → Names t base (Local x) → Runs s t n (jobs.Ready (at_place at (act.Address 0 base offset)) ∷ []) (item.Object at (object.Local x) offset ∷ []) 0 1
   points at x offset base named = piece_first s t n (at_place at (act.Address 0 base offset)) (item.Object at (object.Local x) offset ∷ []) 0 1 (λ items rest f. gives_object n 0 base at (object.Local x) offset items rest named f)
 
-  one_runs : (at : Place) (x : ℕ) (y : StoreTree) (base : ℕ) → SuitsAsStore y → Names t base (Local x) → Runs s t n (store_jobs at y base) (stored at x y) 0 0
+  one_runs : (at : Place) (x : ℕ) (y : StoreTree) (base : ℕ) → SuitsAsStore t.unit y → Names t base (Local x) → Runs s t n (store_jobs at y base) (stored at x y) 0 0
   one_runs at x (StoreValue offset e) base suits named =
       then s t n (jobs.Ready (at_place at (act.Address 0 base offset)) ∷ []) _ (item.Object at (object.Local x) offset ∷ []) _ 0 1 0 (points at x offset base named)
       (then s t n (jobs.Value e 1 ∷ []) _ (item.Value e ∷ []) _ 1 2 0 ((terms s t fits n e).value 1 suits.0 suits.1) (stores s t n 0 at (scalar_of (term_type e))))
@@ -147,7 +147,7 @@ module _ (s : SettingView) (t : Activation) (fits : IsOfUnit t s) (n : ℕ) wher
       (λ items rest f. gives_step n 2 1 at (op.Copy (lvalue_type l)) (act.Copy 0 1 (struct_number (lvalue_type l))) (item.Drop ∷ items) rest (copy_act (lvalue_type l) suits.2) (gives_drop n 0 items rest f))))
   one_runs at x (StoreText offset room text) base suits named = piece_first s t n (at_place at (act.Spell base offset room text)) (item.OnObject at x (item.Spell offset room text) ∷ []) 0 0 (λ items rest f. gives_change n 0 base x at (item.Spell offset room text) items rest named f)
 
-  all_run : (at : Place) (x : ℕ) (xs : List StoreTree) (base : ℕ) → SuitAsStores xs → NamedFrom t base (once_each x xs) → Runs s t n (all_store_jobs at xs base) (all_stored at x xs) 0 0
+  all_run : (at : Place) (x : ℕ) (xs : List StoreTree) (base : ℕ) → SuitAsStores t.unit xs → NamedFrom t base (once_each x xs) → Runs s t n (all_store_jobs at xs base) (all_stored at x xs) 0 0
   all_run at x [] base suits named = nothing_done s t n 0
   all_run at x (y ∷ ys) base suits named = then s t n (store_jobs at y base) (all_store_jobs at ys (suc base)) (stored at x y) (all_stored at x ys) 0 0 0 (one_runs at x y base suits.0 named.0) (all_run at x ys (suc base) suits.1 named.1)
 
@@ -164,7 +164,7 @@ module _ (s : SettingView) (t : Activation) (fits : IsOfUnit t s) (n : ℕ) wher
         let all = parts s (jobs.Statement i around) p in
         (scopes_kept s (planless all) all.jobs ps r m tt (subst AreTerms (sym (planned p none)) (are_terms (length p.names)))).0 ∙ counted p ∙ begun)
 
-    pub of_stores : (i : StatementTree) (at : Place) (x : ℕ) (xs : List StoreTree) → ((p : Plan) → parts s (jobs.Statement i around) p ≡ lowered.all_stored at x xs p) → of_statement t.unit (of_entry t) i ≡ all_stored at x xs → SuitAsStores xs → Goes s t n c c K (jobs.Statement i around ∷ []) (item.Statement i ∷ [])
+    pub of_stores : (i : StatementTree) (at : Place) (x : ℕ) (xs : List StoreTree) → ((p : Plan) → parts s (jobs.Statement i around) p ≡ lowered.all_stored at x xs p) → of_statement t.unit (of_entry t) i ≡ all_stored at x xs → SuitAsStores t.unit xs → Goes s t n c c K (jobs.Statement i around ∷ []) (item.Statement i ∷ [])
     of_stores i at x xs same items suits = named_form i (all_store_jobs at xs) (once_each x xs)
         (λ p none. ap (λ (q : Plan). q.jobs) (same p) ∙ (stored_planned at x xs p).jobs ∙ ap (λ js. js ++ all_store_jobs at xs (length p.names)) none)
         (λ p. ap (λ (q : Plan). q.names) (same p) ∙ (stored_planned at x xs p).names)
@@ -172,7 +172,7 @@ module _ (s : SettingView) (t : Activation) (fits : IsOfUnit t s) (n : ℕ) wher
         (stores_are_terms at xs)
         (λ base named. subst (λ is. Runs s t n (all_store_jobs at xs base) is 0 0) (sym items) (all_run at x xs base suits named))
 
-    pub of_list : (at : Place) (x : ℕ) (xs : List StoreTree) → SuitAsStores xs → Goes s t n c c K (jobs.Statement (tree.StartList at x xs) around ∷ []) (item.Statement (tree.StartList at x xs) ∷ [])
+    pub of_list : (at : Place) (x : ℕ) (xs : List StoreTree) → SuitAsStores t.unit xs → Goes s t n c c K (jobs.Statement (tree.StartList at x xs) around ∷ []) (item.Statement (tree.StartList at x xs) ∷ [])
     of_list at x xs suits = named_form (tree.StartList at x xs) (λ base. jobs.Ready (at_place at (act.Clear base)) ∷ all_store_jobs at xs (suc base)) (x ∷ once_each x xs)
         (λ p none. let q = lowered.cleared at x p in (stored_planned at x xs q).jobs ∙ ap (λ b. q.jobs ++ all_store_jobs at xs b) (cleared_base at x p) ∙ ap (λ js. js ++ all_store_jobs at xs (suc (length p.names))) (cleared_jobs at x p none))
         (λ p. let q = lowered.cleared at x p in (stored_planned at x xs q).names ∙ cleared_names at x p (locals (once_each x xs)))
@@ -188,7 +188,7 @@ module _ (s : SettingView) (t : Activation) (fits : IsOfUnit t s) (n : ℕ) wher
 
     -- ---- expressions
 
-    pub of_value : (e : TermTree) → SuitsBehind false 0 e → Goes s t n c c K (jobs.Statement (tree.Value e) around ∷ []) (item.Statement (tree.Value e) ∷ [])
+    pub of_value : (e : TermTree) → SuitsBehind t.unit false 0 e → Goes s t n c c K (jobs.Statement (tree.Value e) around ∷ []) (item.Statement (tree.Value e) ∷ [])
     of_value e suits = named_form (tree.Value e) (λ base. jobs.Unused e 0 ∷ []) [] (λ p none. one_more_job [] (jobs.Unused e 0) p none) (λ p. work_names (jobs.Unused e 0) p ∙ sym (append-nil p.names)) (λ p. work_scopes (jobs.Unused e 0) p) (λ base. (tt, tt)) (λ base named. (terms s t fits n e).done 0 suits.0 suits.1)
 
     pub of_nothing : Goes s t n c c K (jobs.Statement tree.Nothing around ∷ []) (item.Statement tree.Nothing ∷ [])

@@ -106,7 +106,7 @@ condition_quiet t is_test e held failed = leaf_quiet t is_test e (read_by e) (it
 module _ (s : SettingView) (t : Activation) (fits : IsOfUnit t s) where
   -- ---- the turns of `while`
 
-  module _ (e : TermTree) (body : StatementTree) (about : AboutStatement s t body) (around : Surroundings) (looping : Bool) (known : List ℕ) (c l : ℕ) (suits_test : SuitsBehind true 0 e) (suits_body : SuitsIn true known body) (scopes : HasScopes s body around.scope c) (few : l + 3 ≤ 2 ^ 32 - 1)
+  module _ (e : TermTree) (body : StatementTree) (about : AboutStatement s t body) (around : Surroundings) (looping : Bool) (known : List ℕ) (c l : ℕ) (suits_test : SuitsBehind t.unit true 0 e) (suits_body : SuitsIn t.unit true known body) (scopes : HasScopes s body around.scope c) (few : l + 3 ≤ 2 ^ 32 - 1)
       (p : Plan) (none : p.jobs ≡ []) (fc : List PieceView) (pc : Plan) (mc : Makes s p (jobs.Condition e (decided (record { yes = l + 1; no = l + 2 }) 0) ∷ []) fc pc) (known_c : IsKnown t pc) (none_c : pc.jobs ≡ []) (begun : pc.scopes ≡ c)
       (fb : List PieceView) (pb : Plan) (mb : Makes s pc (jobs.Statement body (in_loop around (l + 2) l) ∷ []) fb pb) (known_b : IsKnown t pb) (items : List Item) (rest : List PieceView) where
     abbrev while_pieces : List PieceView
@@ -133,7 +133,7 @@ module _ (s : SettingView) (t : Activation) (fits : IsOfUnit t s) where
         follows.in_while m 0 e body (item.LoopEnd ∷ items) while_pieces
         ((terms s t fits m e).decided (decided (record { yes = l + 1; no = l + 2 }) 0) suits_test.0 suits_test.1 p none fc pc mc known_c (item.Statement body ∷ (item.Hop ∷ (item.TurnEnd ∷ (item.WhileTurn e body ∷ [])))) [] (item.LoopEnd ∷ items) (Mark (l + 1) ∷ (fb ++ jumping s.at l ∷ (Mark (l + 2) ∷ rest))) (fb ++ jumping s.at l ∷ (Mark (l + 2) ∷ rest)) rest at_c to_yes to_last on_yes (gives_loop_end m 0 items rest less_f))
 
-  while_from : (n : ℕ) (e : TermTree) (body : StatementTree) (about : AboutStatement s t body) (around : Surroundings) (looping : Bool) (known : List ℕ) (c l : ℕ) → SuitsBehind true 0 e → SuitsIn true known body → HasScopes s body around.scope c → l + 3 ≤ 2 ^ 32 - 1
+  while_from : (n : ℕ) (e : TermTree) (body : StatementTree) (about : AboutStatement s t body) (around : Surroundings) (looping : Bool) (known : List ℕ) (c l : ℕ) → SuitsBehind t.unit true 0 e → SuitsIn t.unit true known body → HasScopes s body around.scope c → l + 3 ≤ 2 ^ 32 - 1
       → (p : Plan) → p.jobs ≡ [] → p.scopes ≡ c → (ps : List PieceView) (r : Plan) → Makes s p (while_jobs s.at e body around l) ps r → IsKnown t r → (items : List Item) (rest : List PieceView) → Stands t (ps ++ rest) → Within s t n around looping known items → Follows t n 0 items rest → Follows t n 0 (item.WhileTurn e body ∷ (item.LoopEnd ∷ items)) (ps ++ rest)
   unfolding while_jobs
   while_from n e body about around looping known c l suits_test suits_body scopes few p none begun ps r m known_r items rest stands k f =
@@ -168,7 +168,7 @@ module _ (s : SettingView) (t : Activation) (fits : IsOfUnit t s) where
 
   -- ---- the turns of `do`
 
-  module _ (e : TermTree) (body : StatementTree) (about : AboutStatement s t body) (around : Surroundings) (looping : Bool) (known : List ℕ) (c l : ℕ) (suits_body : SuitsIn true known body) (suits_test : SuitsBehind true 0 e) (scopes : HasScopes s body around.scope c) (few : l + 3 ≤ 2 ^ 32 - 1)
+  module _ (e : TermTree) (body : StatementTree) (about : AboutStatement s t body) (around : Surroundings) (looping : Bool) (known : List ℕ) (c l : ℕ) (suits_body : SuitsIn t.unit true known body) (suits_test : SuitsBehind t.unit true 0 e) (scopes : HasScopes s body around.scope c) (few : l + 3 ≤ 2 ^ 32 - 1)
       (p : Plan) (none : p.jobs ≡ []) (begun : p.scopes ≡ c) (fb : List PieceView) (pb : Plan) (mb : Makes s p (jobs.Statement body (in_loop around (l + 2) (l + 1)) ∷ []) fb pb) (known_b : IsKnown t pb) (none_b : pb.jobs ≡ [])
       (fc : List PieceView) (pc : Plan) (mc : Makes s pb (jobs.Condition e (decided (record { yes = l; no = l + 2 }) 0) ∷ []) fc pc) (known_c : IsKnown t pc) (items : List Item) (rest : List PieceView) where
     abbrev do_pieces : List PieceView
@@ -196,7 +196,7 @@ module _ (s : SettingView) (t : Activation) (fits : IsOfUnit t s) where
         follows.in_do m 0 body e (item.LoopEnd ∷ items) do_pieces
         ((about m (in_loop around (l + 2) (l + 1)) true known c suits_body scopes).from p none begun fb pb mb known_b inside (Mark (l + 1) ∷ (fc ++ Mark (l + 2) ∷ rest)) at_body context (follows.by_mark m 0 (l + 1) inside (fc ++ Mark (l + 2) ∷ rest) (gives_turn_end m 0 turn (fc ++ Mark (l + 2) ∷ rest) tested)))
 
-  do_from : (n : ℕ) (e : TermTree) (body : StatementTree) (about : AboutStatement s t body) (around : Surroundings) (looping : Bool) (known : List ℕ) (c l : ℕ) → SuitsIn true known body → SuitsBehind true 0 e → HasScopes s body around.scope c → l + 3 ≤ 2 ^ 32 - 1
+  do_from : (n : ℕ) (e : TermTree) (body : StatementTree) (about : AboutStatement s t body) (around : Surroundings) (looping : Bool) (known : List ℕ) (c l : ℕ) → SuitsIn t.unit true known body → SuitsBehind t.unit true 0 e → HasScopes s body around.scope c → l + 3 ≤ 2 ^ 32 - 1
       → (p : Plan) → p.jobs ≡ [] → p.scopes ≡ c → (ps : List PieceView) (r : Plan) → Makes s p (do_jobs e body around l) ps r → IsKnown t r → (items : List Item) (rest : List PieceView) → Stands t (ps ++ rest) → Within s t n around looping known items → Follows t n 0 items rest → Follows t n 0 (item.DoTurn body e ∷ (item.LoopEnd ∷ items)) (ps ++ rest)
   unfolding do_jobs
   do_from n e body about around looping known c l suits_body suits_test scopes few p none begun ps r m known_r items rest stands k f =

@@ -61,10 +61,10 @@ quiet_within s t n around looping known xs items quiet k =
 
 -- what is proved of a statement
 abbrev pub AboutStatement : SettingView → Activation → StatementTree → Type 0
-AboutStatement s t i = (n : ℕ) (around : Surroundings) (looping : Bool) (known : List ℕ) (c : ℕ) → SuitsIn looping known i → HasScopes s i around.scope c → Goes s t n c (c + scopes_in i) (Within s t n around looping known) (jobs.Statement i around ∷ []) (item.Statement i ∷ [])
+AboutStatement s t i = (n : ℕ) (around : Surroundings) (looping : Bool) (known : List ℕ) (c : ℕ) → SuitsIn t.unit looping known i → HasScopes s i around.scope c → Goes s t n c (c + scopes_in i) (Within s t n around looping known) (jobs.Statement i around ∷ []) (item.Statement i ∷ [])
 
 abbrev pub AboutStatements : SettingView → Activation → StatementTrees → Type 0
-AboutStatements s t items = (n : ℕ) (around : Surroundings) (looping : Bool) (known : List ℕ) (c : ℕ) → AllSuitIn looping known items → AllHaveScopes s items around.scope c → Goes s t n c (c + all_scopes_in items) (Within s t n around looping known) (statement_jobs items around) (statements items)
+AboutStatements s t items = (n : ℕ) (around : Surroundings) (looping : Bool) (known : List ℕ) (c : ℕ) → AllSuitIn t.unit looping known items → AllHaveScopes s items around.scope c → Goes s t n c (c + all_scopes_in items) (Within s t n around looping known) (statement_jobs items around) (statements items)
 
 plus_zero : (c : ℕ) → c ≡ c + 0
 plus_zero c = omega arith

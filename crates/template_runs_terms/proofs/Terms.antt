@@ -40,7 +40,7 @@ module _ (s : SettingView) (t : Activation) (fits : IsOfUnit t s) (n : ℕ) wher
     terms (Typed at ctype parens constant (tree.Step sign time kind l)) = other.of_step s t fits n at ctype parens constant sign time kind l (places l)
     terms (Typed at ctype parens constant (tree.StepPointer sign time size l)) = other.of_pointer_step s t fits n at ctype parens constant sign time size l (places l)
     terms (Typed at ctype parens constant (tree.Struct l)) = plain.of_struct s t fits n at ctype parens constant l (places l)
-    terms (Typed at ctype parens constant (tree.Call function args is_used)) = other.of_call s t fits n at ctype parens constant function args is_used
+    terms (Typed at ctype parens constant (tree.Call function args is_used)) = other.of_call s t fits n at ctype parens constant function args is_used (lists args)
     terms (Typed at ctype parens constant (tree.Library function args target)) = other.of_library s t fits n at ctype parens constant function args target (lists args)
 
     pub places : (l : LvalueTree) → AboutPlace s t n l

@@ -59,16 +59,16 @@ module _ (s : SettingView) (t : Activation) (n : ℕ) where
     pub runs : (d : ℕ) → Fits d (room_of_all args) → Argued args d
 
   pub record About (e : TermTree) : Type 0 where
-    pub value : (d : ℕ) → Suits true e → Fits d (room e) → Valued e d
-    pub done : (d : ℕ) → Suits false e → Fits d (room e) → Done e d
-    pub decided : (decision : Decision) → Suits true e → Fits decision.depth (room e) → Decided e decision
-    pub reads : (c : LineCallView) → line_call e ≡ Some c → Suits true e → Reads c.arguments (room e)
+    pub value : (d : ℕ) → Suits t.unit true e → Fits d (room e) → Valued e d
+    pub done : (d : ℕ) → Suits t.unit false e → Fits d (room e) → Done e d
+    pub decided : (decision : Decision) → Suits t.unit true e → Fits decision.depth (room e) → Decided e decision
+    pub reads : (c : LineCallView) → line_call e ≡ Some c → Suits t.unit true e → Reads c.arguments (room e)
 
   abbrev pub AboutPlace : LvalueTree → Type 0
-  AboutPlace l = (d : ℕ) → SuitsAsPlace l → Fits d (room_of_place l) → Addressed l d
+  AboutPlace l = (d : ℕ) → SuitsAsPlace t.unit l → Fits d (room_of_place l) → Addressed l d
 
   abbrev pub AboutAll : TermTrees → Type 0
-  AboutAll args = (d : ℕ) → SuitAll args → Fits d (room_of_all args) → Argued args d
+  AboutAll args = (d : ℕ) → SuitAll t.unit args → Fits d (room_of_all args) → Argued args d
 
   -- ---- from the parts of a work to the work
 

@@ -147,6 +147,15 @@ module _ (s : SettingView) where
     pub piece_first : (q : PieceView) (is : List Item) (d next : ℕ) → ((items : List Item) (rest : List PieceView) → Follows t n next items rest → Follows t n d (is ++ items) (q ∷ rest)) → Runs (jobs.Ready q ∷ []) is d next
     piece_first q is d next gives = record { from = λ p none ps r m known items rest stands f. let x = headed p q [] ps r m in subst (λ xs. Follows t n d (is ++ items) (xs ++ rest)) (sym (x.is ∙ ap (λ xs. q ∷ xs) (none_made p x.back r x.made))) (gives items rest f) }
 
+    -- one piece, of which is known where it stands
+    pub piece_stands : (q : PieceView) (is : List Item) (d next : ℕ) → ((items : List Item) (rest : List PieceView) → Stands t (q ∷ rest) → Follows t n next items rest → Follows t n d (is ++ items) (q ∷ rest)) → Runs (jobs.Ready q ∷ []) is d next
+    piece_stands q is d next gives = record {
+      from = λ p none ps r m known items rest stands f.
+          let x = headed p q [] ps r m in
+          let alone = x.is ∙ ap (λ xs. q ∷ xs) (none_made p x.back r x.made) in
+          subst (λ xs. Follows t n d (is ++ items) (xs ++ rest)) (sym alone) (gives items rest (subst (λ xs. Stands t (xs ++ rest)) alone stands) f);
+    }
+
     -- an instruction
     pub does : (d next : ℕ) (at : Place) (operation : Operation) (a : Act) → IsAct operation a d next → Runs (jobs.Ready (at_place at a) ∷ []) (item.Do at operation ∷ []) d next
     does d next at operation a is = piece_first (at_place at a) (item.Do at operation ∷ []) d next (λ items rest f. gives_step n d next at operation a items rest is f)
