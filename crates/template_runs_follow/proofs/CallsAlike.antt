@@ -31,8 +31,8 @@ use Rattle.template_runs_follow.specs.Activations.{Activation, templates_of, act
 use Rattle.template_runs_follow.specs.Follows as follows
 use Rattle.template_runs_follow.specs.Follows.{pieces, Follows, AllFollow, IsCalled, CallsThere, Reached, behind_own}
 use Rattle.template_runs_follow.specs.Alike as alike
-use Rattle.template_runs_follow.specs.Alike.{Waits, Alike}
-use Rattle.template_runs_follow.proofs.StepsAlike.{Next, Below, lined, src, std}
+use Rattle.template_runs_follow.specs.Alike.{Waits, Alike, Next}
+use Rattle.template_runs_follow.proofs.StepsAlike.{Below, src, std, one_piece, some_left}
 
 -- ---- functions that wait
 
@@ -100,13 +100,15 @@ holds_newer (a ∷ args) vs temps (here, rest) = (subst (λ k. temps k ≡ Some 
     turned : (m n : ℕ) → m + n ≡ n + m
     turned m n = omega arith
 
-module _ (t : Activation) (n : ℕ) (under : Below t n) (all : AllFollow (templates_of t)) (names : ℕ → Option ℕ) (memory : Memory) (draws : List ℤ) (found also : List Violation) (count : ℕ) (new : List Rule) (same : found ≡ also) where
+module _ (t : Activation) (n : ℕ) (under : Below t n) (all : AllFollow (templates_of t)) (names : ℕ → Option ℕ) (memory : Memory) (draws : List ℤ) (found also : List Violation) (count : ℕ) (old new : List Rule) (same : found ≡ also) where
   pub called : (g : ℕ) (at : Place) (used : Bool) (f : FunctionView) (items : List Item) (temps : ℕ → Option Scalar) (ps : List PieceView) (ws : List Scalar) (d many : ℕ) → Parted ws d many → many ≡ f.parameters → IsCalled t.unit g used f → CallsThere (pieces t) g → Follows t n (behind_own used d) items ps → Holds ws temps
-      → Next (templates_of t) n (source.turned_on found count (turns.turn_by t.unit (src t n under names (item.Invoke at g many used ∷ items) ws memory draws) (item.Invoke at g many used ∷ items)))
+      → Alike (templates_of t) n (source.running (record (src t n under names (item.Invoke at g many used ∷ items) ws memory draws) { world = record { memory = memory; draws = draws; violated = old } }) found count) (template.running (std t n under names (Call (record { place = at; function = g; depth = d; used = used }) ∷ ps) temps memory draws new) also)
+      → Next (templates_of t) n (source.running (record (src t n under names (item.Invoke at g many used ∷ items) ws memory draws) { world = record { memory = memory; draws = draws; violated = old } }) found count) (source.turned_on found count (turns.turn_by t.unit (src t n under names (item.Invoke at g many used ∷ items) ws memory draws) (item.Invoke at g many used ∷ items)))
       (template.running (std t n under names (Call (record { place = at; function = g; depth = d; used = used }) ∷ ps) temps memory draws new) also)
-  called g at used f items temps ps _ _ _ (parted args vs) is_many is stands go holds =
+  called g at used f items temps ps _ _ _ (parted args vs) is_many is stands go holds start =
       let u = templates_of t in
       let many = length args in
+      let before = source.running (record (src t n under names (item.Invoke at g many used ∷ items) (args ++ vs) memory draws) { world = record { memory = memory; draws = draws; violated = old } }) found count in
       let caller : Frame = record { function = t.function; names = names; control = items; at = at; used = used } in
       let below = vs ++ under.values in
       let waiting : List template.Frame = record { function = t.function; rest = ps; temps = temps; names = names; depth = length vs; at = at; used = used } ∷ under.waiting in
@@ -115,11 +117,11 @@ module _ (t : Activation) (n : ℕ) (under : Below t n) (all : AllFollow (templa
       let inside : Follows (activation u g (caller ∷ t.callers)) n many (prologue f many ++ body f) (t.of g).pieces = subst (λ k. Follows (activation u g (caller ∷ t.callers)) n k (prologue f k ++ body f) (t.of g).pieces) (sym is_many) begins in
       let r = template.running (std t n under names (Call (record { place = at; function = g; depth = length vs; used = used }) ∷ ps) temps memory draws new) also in
       let state : FunctionView → List Scalar → states.State = λ f values. record { function = g; names = empty_table; control = prologue f many ++ body f; values = values; frames = caller ∷ t.callers; world = record { memory = memory; draws = draws; violated = [] } } in
-      subst (λ o. Next u n (source.turned_on found count (turns.quiet (states.if_some (src t n under names items (args ++ vs) memory draws) o (λ f. steps.on (state f ((args ++ vs) ++ under.values)))))) r) (sym is.is)
-      (subst (λ values. Next u n (source.turned_on found count (turns.quiet (steps.on (state f values)))) r) (sym (append_assoc args vs under.values))
-      (record { steps = 1; both = alike.both_run _ _ _ _ _ (alike.related g empty_table (prologue f many ++ body f) args (from_temp (length vs) temps) (t.of g).pieces memory draws [] [] (caller ∷ t.callers) below waiting reached
+      subst (λ o. Next u n before (source.turned_on found count (turns.quiet (states.if_some (src t n under names items (args ++ vs) memory draws) o (λ f. steps.on (state f ((args ++ vs) ++ under.values)))))) r) (sym is.is)
+      (subst (λ values. Next u n before (source.turned_on found count (turns.quiet (steps.on (state f values)))) r) (sym (append_assoc args vs under.values))
+      (one_piece u n before _ r (some_left before _ _) start (alike.both_run _ _ _ _ _ (alike.related g empty_table (prologue f many ++ body f) args (from_temp (length vs) temps) (t.of g).pieces memory draws [] [] (caller ∷ t.callers) below waiting reached
           (alike.plain _ args (from_temp (length vs) temps) (t.of g).pieces inside (holds_newer args vs temps holds))
-          (alike.more t.function names items vs temps ps at used t.callers under.values under.waiting under.reached go (holds_older args vs temps holds) under.waits)) (ap (λ xs. xs ++ []) same) }))
+          (alike.more t.function names items vs temps ps at used t.callers under.values under.waiting under.reached go (holds_older args vs temps holds) under.waits)) (ap (λ xs. xs ++ []) same))))
 
 -- ---- returns
 
@@ -136,30 +138,36 @@ holds_back : (vs : List Scalar) (depth : ℕ) (old new : ℕ → Option Scalar) 
 holds_back [] depth old new le holds = tt
 holds_back (v ∷ vs) depth old new le (here, rest) = (up_to_below depth old new (length vs) (omega (arith, le)) ∙ here, holds_back vs depth old new (omega (arith, le)) rest)
 
-module _ (t : Templates) (n g : ℕ) (names : ℕ → Option ℕ) (memory : Memory) (draws : List ℤ) (found also : List Violation) (count : ℕ) (new : List Rule) (same : found ≡ also) where
+module _ (t : Templates) (n g : ℕ) (names : ℕ → Option ℕ) (memory : Memory) (draws : List ℤ) (found also : List Violation) (count : ℕ) (old new : List Rule) (same : found ≡ also) where
   -- the function that runs has nothing left to do
-  abbrev Back : List Frame → List Scalar → List template.Frame → List Scalar → (ℕ → Option Scalar) → Type 0
-  Back callers below waiting rs temps = Next t n
-      (source.turned_on found count (turns.return_to t.unit (record { function = g; names = names; control = []; values = rs ++ below; frames = callers; world = record { memory = memory; draws = draws; violated = [] } }) callers))
-      (template.running (record { function = g; rest = []; temps = temps; names = names; frames = waiting; world = record { memory = memory; draws = draws; violated = new } }) also)
+  abbrev ended : List Frame → List Scalar → List Scalar → source.SourceRun
+  ended callers below rs = source.running (record { function = g; names = names; control = []; values = rs ++ below; frames = callers; world = record { memory = memory; draws = draws; violated = old } }) found count
 
-  back_with : (used : Bool) (h : ℕ) (others : ℕ → Option ℕ) (items : List Item) (vs : List Scalar) (old : ℕ → Option Scalar) (ps : List PieceView) (at : Place) (callers : List Frame) (below : List Scalar) (waiting : List template.Frame) (rs : List Scalar) (temps : ℕ → Option Scalar)
-      → Reached t h → Follows (activation t h callers) n (behind_own used (length vs)) items ps → Holds vs old → Waits t n callers below waiting → Holds rs temps → length rs ≡ behind_own used 0
-      → Back (record { function = h; names = others; control = items; at = at; used = used } ∷ callers) (vs ++ below) (record { function = h; rest = ps; temps = old; names = others; depth = length vs; at = at; used = used } ∷ waiting) rs temps
-  back_with false h others items vs old ps at callers below waiting [] temps reached f holds rest held e =
-      record { steps = 1; both = alike.both_run _ _ _ _ _ (alike.related h others items vs (up_to (length vs) old temps) ps memory draws [] [] callers below waiting reached (alike.plain items vs _ ps f (holds_back vs (length vs) old temps (omega arith) holds)) rest) (ap (λ xs. xs ++ []) same) }
-  back_with true h others items vs old ps at callers below waiting (v ∷ []) temps reached f holds rest held e =
-      record { steps = 1; both = alike.both_run _ _ _ _ _ (alike.related h others items (v ∷ vs) (up_to (length vs) old temps) ps memory draws [] [] callers below waiting reached
-          (alike.plain items (v ∷ vs) _ ps f (up_to_first (length vs) old temps ∙ held.0, holds_back vs (length vs) old temps (omega arith) holds)) rest) (ap (λ xs. xs ++ []) same) }
-  back_with false h others items vs old ps at callers below waiting (v ∷ rs) temps reached f holds rest held e = absurd (none (length rs) e)
+  abbrev nothing_left : List template.Frame → (ℕ → Option Scalar) → template.TemplateRun
+  nothing_left waiting temps = template.running (record { function = g; rest = []; temps = temps; names = names; frames = waiting; world = record { memory = memory; draws = draws; violated = new } }) also
+
+  abbrev Back : List Frame → List Scalar → List template.Frame → List Scalar → (ℕ → Option Scalar) → Type 0
+  Back callers below waiting rs temps = Alike t n (ended callers below rs) (nothing_left waiting temps) → Next t n (ended callers below rs)
+      (source.turned_on found count (turns.return_to t.unit (record { function = g; names = names; control = []; values = rs ++ below; frames = callers; world = record { memory = memory; draws = draws; violated = [] } }) callers))
+      (nothing_left waiting temps)
+
+  back_with : (used : Bool) (h : ℕ) (others : ℕ → Option ℕ) (items : List Item) (vs : List Scalar) (table : ℕ → Option Scalar) (ps : List PieceView) (at : Place) (callers : List Frame) (below : List Scalar) (waiting : List template.Frame) (rs : List Scalar) (temps : ℕ → Option Scalar)
+      → Reached t h → Follows (activation t h callers) n (behind_own used (length vs)) items ps → Holds vs table → Waits t n callers below waiting → Holds rs temps → length rs ≡ behind_own used 0
+      → Back (record { function = h; names = others; control = items; at = at; used = used } ∷ callers) (vs ++ below) (record { function = h; rest = ps; temps = table; names = others; depth = length vs; at = at; used = used } ∷ waiting) rs temps
+  back_with false h others items vs table ps at callers below waiting [] temps reached f holds rest held e =
+      λ start. one_piece t n _ _ _ (λ e. refl) start (alike.both_run _ _ _ _ _ (alike.related h others items vs (up_to (length vs) table temps) ps memory draws [] [] callers below waiting reached (alike.plain items vs _ ps f (holds_back vs (length vs) table temps (omega arith) holds)) rest) (ap (λ xs. xs ++ []) same))
+  back_with true h others items vs table ps at callers below waiting (v ∷ []) temps reached f holds rest held e =
+      λ start. one_piece t n _ _ _ (λ e. refl) start (alike.both_run _ _ _ _ _ (alike.related h others items (v ∷ vs) (up_to (length vs) table temps) ps memory draws [] [] callers below waiting reached
+          (alike.plain items (v ∷ vs) _ ps f (up_to_first (length vs) table temps ∙ held.0, holds_back vs (length vs) table temps (omega arith) holds)) rest) (ap (λ xs. xs ++ []) same))
+  back_with false h others items vs table ps at callers below waiting (v ∷ rs) temps reached f holds rest held e = absurd (none (length rs) e)
     where
       none : (m : ℕ) → suc m ≡ 0 → ⊥
       none m e = omega (arith, e)
-  back_with true h others items vs old ps at callers below waiting [] temps reached f holds rest held e = absurd (none 0 e)
+  back_with true h others items vs table ps at callers below waiting [] temps reached f holds rest held e = absurd (none 0 e)
     where
       none : (m : ℕ) → 0 ≡ suc m → ⊥
       none m e = omega (arith, e)
-  back_with true h others items vs old ps at callers below waiting (v ∷ (x ∷ rs)) temps reached f holds rest held e = absurd (many (length rs) e)
+  back_with true h others items vs table ps at callers below waiting (v ∷ (x ∷ rs)) temps reached f holds rest held e = absurd (many (length rs) e)
     where
       many : (m : ℕ) → suc (suc m) ≡ 1 → ⊥
       many m e = omega (arith, e)
@@ -167,5 +175,5 @@ module _ (t : Templates) (n g : ℕ) (names : ℕ → Option ℕ) (memory : Memo
   pub returned : (callers : List Frame) (below : List Scalar) (waiting : List template.Frame) → Waits t n callers below waiting → (caller : Frame) (others : List Frame) → callers ≡ caller ∷ others → (rs : List Scalar) (temps : ℕ → Option Scalar) → Holds rs temps → length rs ≡ behind_own caller.used 0
       → Back callers below waiting rs temps
   returned _ _ _ alike.none caller others is rs temps held e = absurd (not_empty caller others is)
-  returned _ _ _ (alike.more h names items vs old ps at used callers below waiting reached f holds rest) caller others is rs temps held e =
-      back_with used h names items vs old ps at callers below waiting rs temps reached f holds rest held (e ∙ ap (λ b. behind_own b 0) (sym (ap first_used is)))
+  returned _ _ _ (alike.more h names items vs table ps at used callers below waiting reached f holds rest) caller others is rs temps held e =
+      back_with used h names items vs table ps at callers below waiting rs temps reached f holds rest held (e ∙ ap (λ b. behind_own b 0) (sym (ap first_used is)))

@@ -1,5 +1,5 @@
 -- A step of both machines.
-use Rattle.std.proofs.Common.{◌≡◌, ℕ, zero, suc, ◌+◌, ℤ, List, [], ◌∷◌, ◌++◌, length, Option, Some, None, slice_get, refl, arith, ap, sym, subst, ◌∙◌}
+use Rattle.std.proofs.Common.{◌≡◌, ◌<◌, ℕ, zero, suc, ◌+◌, ℤ, true, false, List, [], ◌∷◌, ◌++◌, length, Option, Some, None, slice_get, refl, arith, ap, sym, subst, ◌∙◌}
 use Rattle.std.proofs.lemmas.List.{append-nil}
 use Rattle.cc_base.specs.declared.diagnostics.Place.{Place}
 use Rattle.cc_base.specs.declared.diagnostics.Rule.{Rule}
@@ -40,13 +40,8 @@ use Rattle.template_runs_acts.proofs.HeldValues.{holds_put}
 use Rattle.template_runs_follow.specs.Activations.{Activation, templates_of}
 use Rattle.template_runs_follow.specs.Follows.{Names, Follows, Reached, change_act}
 use Rattle.template_runs_follow.specs.Alike as alike
-use Rattle.template_runs_follow.specs.Alike.{Lined, Waits, Related, Alike}
+use Rattle.template_runs_follow.specs.Alike.{Lined, Waits, Related, Alike, Next, moves_next, rest_of}
 use Rattle.template_runs_follow.proofs.ValuesBelow.{raised}
-
--- after so many steps of the templates both stand alike
-pub record Next (t : Templates) (n : ℕ) (a : source.SourceRun) (b : template.TemplateRun) : Type 0 where
-  pub steps : ℕ
-  pub both : Alike t n a (steps_from t steps b)
 
 -- what stands below the function that runs, in both machines
 pub record Below (t : Activation) (n : ℕ) : Type 0 where
@@ -81,6 +76,37 @@ pending_there (v ∷ vs) temps below number (suc k) (here, rest) e =
 abbrev entered_by : Activation → State → ℕ → Option FunctionView → Reply State
 entered_by t s local f = states.if_some s f (λ f. steps.on (steps.enter_fresh t.unit s local f))
 
+-- one piece more before some
+pub first_then : (t : Templates) (n : ℕ) (before : source.SourceRun) (b : template.TemplateRun) (steps : ℕ) → Alike t n before b → ((j : ℕ) → j < steps → Alike t n before (steps_from t j (runs.next t b))) → (j : ℕ) → j < suc steps → Alike t n before (steps_from t j b)
+first_then t n before b steps start later zero less = start
+first_then t n before b steps start later (suc j) less = later j (omega (arith, less))
+
+-- a turn that is one piece
+pub one_piece : (t : Templates) (n : ℕ) (before after : source.SourceRun) (b : template.TemplateRun) → (rest_of b ≡ [] → moves_next before ≡ true) → Alike t n before b → Alike t n after (runs.next t b) → Next t n before after b
+one_piece t n before after b some start same = record {
+  steps = 1;
+  both = same;
+  between = first_then t n before b 0 start (λ j less. absurd (never j less));
+  moved = λ none. absurd (no_step none);
+  rests = λ no_move none. absurd (both_ways (some none) no_move);
+}
+  where
+    never : (j : ℕ) → j < 0 → ⊥
+    never j less = omega (arith, less)
+
+    no_step : 1 ≡ zero → ⊥
+    no_step e = omega (arith, e)
+
+    both_ways : moves_next before ≡ true → moves_next before ≡ false → ⊥
+    both_ways yes no = cc
+
+-- pieces are left
+pub some_left : (before : source.SourceRun) (p : PieceView) (ps : List PieceView) → p ∷ ps ≡ [] → moves_next before ≡ true
+some_left before p ps e = absurd (no e)
+  where
+    no : p ∷ ps ≡ [] → ⊥
+    no e = cc
+
 module _ (t : Activation) (n : ℕ) (c : Below t n) where
   abbrev u : Templates
   u = templates_of t
@@ -104,8 +130,22 @@ module _ (t : Activation) (n : ℕ) (c : Below t n) where
   std names ps temps memory draws new = record { function = t.function; rest = ps; temps = temps; names = names; frames = c.waiting; world = record { memory = memory; draws = draws; violated = new } }
 
   -- a turn that is no step
-  pub stay : (names : ℕ → Option ℕ) (items : List Item) (vs : List Scalar) (temps : ℕ → Option Scalar) (ps : List PieceView) (memory : Memory) (draws : List ℤ) (new : List Rule) (found also : List Violation) (count : ℕ) → Lined t n items vs temps ps → found ≡ also → Next u n (source.running (src names items vs memory draws) (found ++ []) count) (template.running (std names ps temps memory draws new) also)
-  stay names items vs temps ps memory draws new found also count l e = record { steps = 0; both = alike.both_run _ _ (found ++ []) also count (alike.related t.function names items vs temps ps memory draws [] new t.callers c.values c.waiting c.reached l c.waits) (append-nil found ∙ e) }
+  pub stay : (before : source.SourceRun) → moves_next before ≡ false → (names : ℕ → Option ℕ) (items : List Item) (vs : List Scalar) (temps : ℕ → Option Scalar) (ps : List PieceView) (memory : Memory) (draws : List ℤ) (new : List Rule) (found also : List Violation) (count : ℕ) → Lined t n items vs temps ps → found ≡ also → Next u n before (source.running (src names items vs memory draws) (found ++ []) count) (template.running (std names ps temps memory draws new) also)
+  stay before still names items vs temps ps memory draws new found also count l e = record {
+    steps = 0;
+    both = alike.both_run _ _ (found ++ []) also count (alike.related t.function names items vs temps ps memory draws [] new t.callers c.values c.waiting c.reached l c.waits) (append-nil found ∙ e);
+    between = λ j less. absurd (never j less);
+    moved = λ none. still;
+    rests = λ no_move none. refl;
+  }
+    where
+      never : (j : ℕ) → j < 0 → ⊥
+      never j less = omega (arith, less)
+
+  -- where the turn begins
+  pub starts : (names : ℕ → Option ℕ) (items : List Item) (vs : List Scalar) (temps : ℕ → Option Scalar) (ps : List PieceView) (memory : Memory) (draws : List ℤ) (old new : List Rule) (found also : List Violation) (count : ℕ) → Lined t n items vs temps ps → found ≡ also
+      → Alike u n (source.running (record (src names items vs memory draws) { world = record { memory = memory; draws = draws; violated = old } }) found count) (template.running (std names ps temps memory draws new) also)
+  starts names items vs temps ps memory draws old new found also count l e = alike.both_run _ _ found also count (alike.related t.function names items vs temps ps memory draws old new t.callers c.values c.waiting c.reached l c.waits) e
 
   -- ---- one instruction
 

@@ -1,5 +1,5 @@
 -- Runs of a unit and of its templates that stand alike.
-use Rattle.std.specs.Prelude.{◌≡◌, ℕ, suc, ℤ, Bool, List, [], ◌∷◌, ◌++◌, length, Option}
+use Rattle.std.specs.Prelude.{◌≡◌, ◌<◌, ℕ, suc, ℤ, Bool, true, false, List, [], ◌∷◌, ◌++◌, length, Option}
 use Rattle.cc_base.specs.declared.diagnostics.Place.{Place}
 use Rattle.cc_base.specs.declared.diagnostics.Rule.{Rule}
 use Rattle.lib_models_memory.specs.Instances.{Memory}
@@ -8,6 +8,7 @@ use Rattle.lib_models_effects.specs.IntegerEffects.{truth}
 use Rattle.lib_models_effects.specs.Worlds.{Why, Violation}
 use Rattle.flow_lower_tasks.specs.Acts.{Act}
 use Rattle.flow_lower_tasks.specs.Pieces.{PieceView}
+use Rattle.ref_machine.specs.Items as item
 use Rattle.ref_machine.specs.Items.{Item, Do, Drop, Truth}
 use Rattle.ref_machine.specs.Operations.{Operation}
 use Rattle.ref_machine.specs.SourceStates as states
@@ -58,9 +59,50 @@ pub data Alike (t : Templates) (n : ℕ) : SourceRun → TemplateRun → Type 0 
   both_run : (s : State) (r : Standing) (found also_found : List Violation) (steps : ℕ) → Related t n s r → found ≡ also_found → Alike t n (source.running s found steps) (template.running r also_found)
   both_stopped : (why : Why) (memory : Memory) (draws : List ℤ) (old new : List Rule) (found also_found : List Violation) (steps : ℕ) → found ≡ also_found → Alike t n (source.stopped why (record { memory = memory; draws = draws; violated = old }) found steps) (template.stopped why (record { memory = memory; draws = draws; violated = new }) also_found)
 
+-- an item is a step, or calls
+abbrev pub moves_first : Item → Bool
+moves_first (item.Do at operation) = true
+moves_first (item.Object at o offset) = true
+moves_first (item.Literal at i) = true
+moves_first (item.Outcome at) = true
+moves_first (item.OnObject at local how) = true
+moves_first (item.Choose at test held failed) = true
+moves_first (item.ReadLine at none some) = true
+moves_first (item.Select at o labels body) = true
+moves_first (item.Enters (x ∷ xs)) = true
+moves_first (item.Leaves (x ∷ xs)) = true
+moves_first item.Hop = true
+moves_first (item.Invoke at g count used) = true
+moves_first (item.Bind at n depth) = true
+moves_first (item.LeaveOutcome at) = true
+moves_first other = false
+
+-- a step or a call comes next, or nothing is left to do
+abbrev pub moves : List Item → Bool
+moves [] = true
+moves (i ∷ items) = moves_first i
+
+abbrev pub moves_next : SourceRun → Bool
+moves_next (source.running s found steps) = moves s.control
+moves_next (source.stopped why w found steps) = false
+
+-- the pieces that are still to be done
+abbrev pub rest_of : TemplateRun → List PieceView
+rest_of (template.running r found) = r.rest
+rest_of (template.stopped why w found) = []
+
+-- behind a turn of the source and so many pieces both stand alike; until then the templates stand where the source stood
+-- before; a turn that is a step, a call or a return is a piece, and one that is none of these takes no piece where none is left
+pub record Next (t : Templates) (n : ℕ) (before after : SourceRun) (b : TemplateRun) : Type 0 where
+  pub steps : ℕ
+  pub both : Alike t n after (steps_from t steps b)
+  pub between : (j : ℕ) → j < steps → Alike t n before (steps_from t j b)
+  pub moved : steps ≡ 0 → moves_next before ≡ false
+  pub rests : moves_next before ≡ false → rest_of b ≡ [] → steps ≡ 0
+
 -- a turn of the source is so many pieces, where all functions that are called follow
 abbrev pub TurnsAreFollowed : Type 0
-TurnsAreFollowed = (t : Templates) → AllFollow t → (n : ℕ) (a : SourceRun) (b : TemplateRun) → Alike t (suc n) a b → (steps : ℕ) × Alike t n (source.next t.unit a) (steps_from t steps b)
+TurnsAreFollowed = (t : Templates) → AllFollow t → (n : ℕ) (a : SourceRun) (b : TemplateRun) → Alike t (suc n) a b → Next t n a (source.next t.unit a) b
 
 -- both have come to the same memory with the same draws left, have violated the same, and have stopped for the same
 -- cause or not at all

@@ -2,7 +2,8 @@
 ghost use Rattle.template_runs_follow.specs.Alike.{TurnsAreFollowed, RunsAreFollowed};
 
 /// Where both runs stand alike for one turn more, a turn of the source is so many pieces of the templates: none, or one,
-/// and before it the labels and what is done only where a call's value is used.
+/// and before it the labels and what is done only where a call's value is used. A step, a call and a return are a piece, and
+/// behind each piece the templates stand where the source stands before the turn or behind it.
 pub fn turns_are_followed()
     ensures { TurnsAreFollowed }
 {}

@@ -332,7 +332,7 @@ module _ (s : SettingView) (t : Activation) (fits : IsOfUnit t s) (n : ℕ) (at 
 
   -- ---- calls of functions of the unit
 
-  own_piece : (function d : ℕ) (is_used : Bool) → PieceView
+  abbrev own_piece : ℕ → ℕ → Bool → PieceView
   own_piece function d is_used = Call (record { place = at; function = function; depth = d; used = is_used })
 
   call_planned : (function : ℕ) (args : TermTrees) (is_used : Bool) (d : ℕ) (p : Plan) → p.jobs ≡ [] → (calls.own_call at function args is_used d p).jobs ≡ argument_jobs args d ++ jobs.Ready (own_piece function d is_used) ∷ []

@@ -1,0 +1,6 @@
+//! What called functions name where they return, in the templates as in the source.
+#![tactic(auto)]
+
+mod theorems;
+
+pub use theorems::returns_are_followed;
