@@ -114,14 +114,14 @@ module _ (t : Activation) (s : SettingView) (fits : IsOfUnit t s) (f : FunctionV
       let b = is_void f.returns in
       let dropped : Runs s t n (jobs.Ready (Mark m) ∷ []) (replicate count item.Drop) count 0 = piece_first s t n (Mark m) (replicate count item.Drop) count 0 (λ items w go. follows.by_mark n count m (replicate count item.Drop ++ items) w (drops count items w go)) in
       let stored : Runs s t n (argument_jobs f.at f ns argument ++ jobs.Ready (Mark m) ∷ []) (bind_all f count ns ++ replicate count item.Drop) count 0 =
-          then s t n (argument_jobs f.at f ns argument) (jobs.Ready (Mark m) ∷ []) (bind_all f count ns) (replicate count item.Drop) count count 0 (arguments_bind count 0 argument (itself count) again) dropped in
+      then s t n (argument_jobs f.at f ns argument) (jobs.Ready (Mark m) ∷ []) (bind_all f count ns) (replicate count item.Drop) count count 0 (arguments_bind count 0 argument (itself count) again) dropped in
       let entered : Runs s t n (object_jobs act.Enter (own t) ns parameters ++ (result_jobs (own t) b result ++ (argument_jobs f.at f ns argument ++ jobs.Ready (Mark m) ∷ []))) (item.Enters (ns ++ results f b) ∷ (bind_all f count ns ++ replicate count item.Drop)) count 0 =
-          enters_then ns (results f b) parameters count 0 (result_jobs (own t) b result ++ (argument_jobs f.at f ns argument ++ jobs.Ready (Mark m) ∷ [])) (bind_all f count ns ++ replicate count item.Drop) named
-          (result_enters b result count 0 (argument_jobs f.at f ns argument ++ jobs.Ready (Mark m) ∷ []) (bind_all f count ns ++ replicate count item.Drop) has_result stored) in
+      enters_then ns (results f b) parameters count 0 (result_jobs (own t) b result ++ (argument_jobs f.at f ns argument ++ jobs.Ready (Mark m) ∷ [])) (bind_all f count ns ++ replicate count item.Drop) named
+      (result_enters b result count 0 (argument_jobs f.at f ns argument ++ jobs.Ready (Mark m) ∷ []) (bind_all f count ns ++ replicate count item.Drop) has_result stored) in
       let all : Runs s t n (object_jobs act.Enter s.at ns parameters ++ (result_jobs s.at b result ++ (argument_jobs s.at f ns argument ++ jobs.Ready (Mark m) ∷ []))) (item.Enters (with_result f ns) ∷ (bind_all f count ns ++ replicate count item.Drop)) count 0 =
-          subst (λ xs. Runs s t n (object_jobs act.Enter s.at ns parameters ++ (result_jobs s.at b result ++ (argument_jobs s.at f ns argument ++ jobs.Ready (Mark m) ∷ []))) (item.Enters xs ∷ (bind_all f count ns ++ replicate count item.Drop)) count 0) (sym (entered_all f ns))
-          (subst (λ at. Runs s t n (object_jobs act.Enter s.at ns parameters ++ (result_jobs s.at b result ++ (argument_jobs at f ns argument ++ jobs.Ready (Mark m) ∷ []))) (item.Enters (ns ++ results f b) ∷ (bind_all f count ns ++ replicate count item.Drop)) count 0) (sym placed)
-          (subst (λ at. Runs s t n (object_jobs act.Enter at ns parameters ++ (result_jobs at b result ++ (argument_jobs f.at f ns argument ++ jobs.Ready (Mark m) ∷ []))) (item.Enters (ns ++ results f b) ∷ (bind_all f count ns ++ replicate count item.Drop)) count 0) (sym fits.place) entered)) in
+      subst (λ xs. Runs s t n (object_jobs act.Enter s.at ns parameters ++ (result_jobs s.at b result ++ (argument_jobs s.at f ns argument ++ jobs.Ready (Mark m) ∷ []))) (item.Enters xs ∷ (bind_all f count ns ++ replicate count item.Drop)) count 0) (sym (entered_all f ns))
+      (subst (λ at. Runs s t n (object_jobs act.Enter s.at ns parameters ++ (result_jobs s.at b result ++ (argument_jobs at f ns argument ++ jobs.Ready (Mark m) ∷ []))) (item.Enters (ns ++ results f b) ∷ (bind_all f count ns ++ replicate count item.Drop)) count 0) (sym placed)
+      (subst (λ at. Runs s t n (object_jobs act.Enter at ns parameters ++ (result_jobs at b result ++ (argument_jobs f.at f ns argument ++ jobs.Ready (Mark m) ∷ []))) (item.Enters (ns ++ results f b) ∷ (bind_all f count ns ++ replicate count item.Drop)) count 0) (sym fits.place) entered)) in
       then s t n (jobs.Ready (Mark l) ∷ []) _ [] _ count count 0 (marks s t fits n l count) all
     where
       itself : (k : ℕ) → 0 + k ≡ k

@@ -303,9 +303,12 @@ module _ (t : Templates) (g : ℕ) (f : FunctionView) (e : IsMade t g false f) (
   -- ---- the body, and before it the prologue
 
   start_is_terms : AreTerms start
-  start_is_terms = (tt, terms_both entered (result ++ (stored ++ second)) (objects_are_terms act.Enter s.at ns (length q1.names))
-      (terms_both result (stored ++ second) (results_are_terms s.at (is_void f.returns) (length q2.names))
-      (terms_both stored second (arguments_are_terms s.at f ns (length q3.names)) (tt, tt))))
+  start_is_terms = (
+    tt,
+    terms_both entered (result ++ (stored ++ second)) (objects_are_terms act.Enter s.at ns (length q1.names))
+        (terms_both result (stored ++ second) (results_are_terms s.at (is_void f.returns) (length q2.names))
+        (terms_both stored second (arguments_are_terms s.at f ns (length q3.names)) (tt, tt))),
+  )
 
   in_two : x.between.scopes ≡ 2
   in_two = (scopes_kept s (planless plan) start x.front x.between x.first tt start_is_terms).0 ∙ z0.scopes ∙ starts_in f.labels

@@ -119,9 +119,9 @@ module _ (t : Activation) (n : ℕ) (under : Below t n) (all : AllFollow (templa
       let state : FunctionView → List Scalar → states.State = λ f values. record { function = g; names = empty_table; control = prologue f many ++ body f; values = values; frames = caller ∷ t.callers; world = record { memory = memory; draws = draws; violated = [] } } in
       subst (λ o. Next u n before (source.turned_on found count (turns.quiet (states.if_some (src t n under names items (args ++ vs) memory draws) o (λ f. steps.on (state f ((args ++ vs) ++ under.values)))))) r) (sym is.is)
       (subst (λ values. Next u n before (source.turned_on found count (turns.quiet (steps.on (state f values)))) r) (sym (append_assoc args vs under.values))
-      (one_piece u n before _ r (some_left before _ _) start (alike.both_run _ _ _ _ _ (alike.related g empty_table (prologue f many ++ body f) args (from_temp (length vs) temps) (t.of g).pieces memory draws [] [] (caller ∷ t.callers) below waiting reached
-          (alike.plain _ args (from_temp (length vs) temps) (t.of g).pieces inside (holds_newer args vs temps holds))
-          (alike.more t.function names items vs temps ps at used t.callers under.values under.waiting under.reached go (holds_older args vs temps holds) under.waits)) (ap (λ xs. xs ++ []) same))))
+      (one_piece u n before _ r (some_left _ _) start (alike.both_run _ _ _ _ _ (alike.related g empty_table (prologue f many ++ body f) args (from_temp (length vs) temps) (t.of g).pieces memory draws [] [] (caller ∷ t.callers) below waiting reached
+      (alike.plain _ args (from_temp (length vs) temps) (t.of g).pieces inside (holds_newer args vs temps holds))
+      (alike.more t.function names items vs temps ps at used t.callers under.values under.waiting under.reached go (holds_older args vs temps holds) under.waits)) (ap (λ xs. xs ++ []) same))))
 
 -- ---- returns
 
@@ -158,7 +158,7 @@ module _ (t : Templates) (n g : ℕ) (names : ℕ → Option ℕ) (memory : Memo
       λ start. one_piece t n _ _ _ (λ e. refl) start (alike.both_run _ _ _ _ _ (alike.related h others items vs (up_to (length vs) table temps) ps memory draws [] [] callers below waiting reached (alike.plain items vs _ ps f (holds_back vs (length vs) table temps (omega arith) holds)) rest) (ap (λ xs. xs ++ []) same))
   back_with true h others items vs table ps at callers below waiting (v ∷ []) temps reached f holds rest held e =
       λ start. one_piece t n _ _ _ (λ e. refl) start (alike.both_run _ _ _ _ _ (alike.related h others items (v ∷ vs) (up_to (length vs) table temps) ps memory draws [] [] callers below waiting reached
-          (alike.plain items (v ∷ vs) _ ps f (up_to_first (length vs) table temps ∙ held.0, holds_back vs (length vs) table temps (omega arith) holds)) rest) (ap (λ xs. xs ++ []) same))
+      (alike.plain items (v ∷ vs) _ ps f (up_to_first (length vs) table temps ∙ held.0, holds_back vs (length vs) table temps (omega arith) holds)) rest) (ap (λ xs. xs ++ []) same))
   back_with false h others items vs table ps at callers below waiting (v ∷ rs) temps reached f holds rest held e = absurd (none (length rs) e)
     where
       none : (m : ℕ) → suc m ≡ 0 → ⊥

@@ -98,11 +98,11 @@ one_piece t n before after b some start same = record {
     no_step e = omega (arith, e)
 
     both_ways : moves_next before ≡ true → moves_next before ≡ false → ⊥
-    both_ways yes no = cc
+    both_ways one other = cc
 
 -- pieces are left
-pub some_left : (before : source.SourceRun) (p : PieceView) (ps : List PieceView) → p ∷ ps ≡ [] → moves_next before ≡ true
-some_left before p ps e = absurd (no e)
+pub some_left : {A : Type 0} (p : PieceView) (ps : List PieceView) → p ∷ ps ≡ [] → A
+some_left p ps e = absurd (no e)
   where
     no : p ∷ ps ≡ [] → ⊥
     no e = cc

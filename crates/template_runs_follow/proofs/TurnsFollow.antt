@@ -206,12 +206,12 @@ module _ (t : Activation) (n : ℕ) (under : Below t n) (all : AllFollow (templa
       no_step k e = omega (arith, e)
 
       both_ways : moves_next (before items vs) ≡ true → moves_next (before items vs) ≡ false → ⊥
-      both_ways yes no = cc
+      both_ways one other = cc
 
   turn : (d : ℕ) (items : List Item) (vs : List Scalar) (temps : ℕ → Option Scalar) (ps : List PieceView) (new : List Rule) (also : List Violation) → Follows t (suc n) d items ps → Holds vs temps → length vs ≡ d → found ≡ also → Start items vs temps ps new also → From items vs temps ps new also
   turn _ _ vs temps _ new also (follows.by_mark _ d l items ps f) holds e same start =
       let later = turn d items vs temps ps [] (also ++ []) f holds e (same ∙ sym (append-nil also)) (starts t n under names items vs temps ps memory draws old [] found (also ++ []) count (lined t n under d items vs temps ps (less n d items ps f) holds e) (same ∙ sym (append-nil also))) in
-      passed items vs (template.running (std t n under names (Mark l ∷ ps) temps memory draws new) also) _ (some_left _ _ _) start later
+      passed items vs (template.running (std t n under names (Mark l ∷ ps) temps memory draws new) also) _ (some_left _ _) start later
   turn _ _ vs temps _ new also (follows.value _ d x items ps f) holds e same start = stay t n under _ refl names (term_items t.unit true x ++ items) vs temps ps memory draws new found also _ (lined t n under d (term_items t.unit true x ++ items) vs temps ps f holds e) same
   turn _ _ vs temps _ new also (follows.unused _ d x items ps f) holds e same start = stay t n under _ refl names (term_items t.unit false x ++ items) vs temps ps memory draws new found also _ (lined t n under d (term_items t.unit false x ++ items) vs temps ps f holds e) same
   turn _ _ vs temps _ new also (follows.address _ d l items ps f) holds e same start = stay t n under _ refl names (address_items t.unit l ++ items) vs temps ps memory draws new found also _ (lined t n under d (address_items t.unit l ++ items) vs temps ps f holds e) same
@@ -238,7 +238,7 @@ module _ (t : Activation) (n : ℕ) (under : Below t n) (all : AllFollow (templa
       subst (λ o. Next u n (before (item.EndBody ∷ items) vs) (source.turned_on found count (turns.quiet (states.if_some s o (λ f. steps.on (record s { control = behind_body f [] t.callers }))))) (template.running (std t n under names ps temps memory draws new) also)) (sym is)
       (stay t n under _ refl names (behind_body f [] t.callers) vs temps ps memory draws new found also _ (lined t n under d (behind_body f [] t.callers) vs temps ps go holds e) same)
   turn _ _ vs temps _ new also (follows.does _ d next at operation a items ps is go) holds e same start =
-      one_piece u n _ _ _ (some_left _ _ _) start
+      one_piece u n _ _ _ (some_left _ _) start
       (subst (λ reply. Alike u n (source.run_by found count (Some at) (behind reply (λ xs w. steps.on (record (src t n under names items [] memory draws) { values = xs; world = w })))) (runs.run_by also (Some at) (template_acts.perform u a (std t n under names ps temps memory draws [])))) (sym (performed_above under.values t.unit operation a d next vs (record { memory = memory; draws = draws; violated = [] }) is e))
       (operated t n under names memory draws found also count same at next items vs temps ps _ _ (agree u operation a d next vs (std t n under names ps temps memory draws []) is holds e) go))
   turn _ _ [] temps _ new also (follows.stores _ d at kind items ps go) holds e same start = absurd (no_value (suc d) e)
@@ -246,29 +246,29 @@ module _ (t : Activation) (n : ℕ) (under : Below t n) (all : AllFollow (templa
   turn _ _ (v ∷ (p ∷ vs)) temps _ new also (follows.stores _ d at kind items ps go) holds e same start =
       let is = one_less (length vs) d (one_less (suc (length vs)) (suc d) e) in
       subst (λ k. Start (item.Do at (op.Store kind) ∷ (item.Drop ∷ items)) (v ∷ (p ∷ vs)) temps (at_place at (act.Store k (suc k) kind None) ∷ ps) new also → From (item.Do at (op.Store kind) ∷ (item.Drop ∷ items)) (v ∷ (p ∷ vs)) temps (at_place at (act.Store k (suc k) kind None) ∷ ps) new also) is
-      (λ start. one_piece u n _ _ _ (some_left _ _ _) start
+      (λ start. one_piece u n _ _ _ (some_left _ _) start
       (subst (λ reply. Alike u n (source.run_by found count (Some at) (behind reply (λ xs w. steps.on (record (src t n under names (item.Drop ∷ items) [] memory draws) { values = xs; world = w })))) (runs.run_by also (Some at) (template_acts.perform u (act.Store (length vs) (suc (length vs)) kind None) (std t n under names ps temps memory draws [])))) (sym (performed_above under.values t.unit (op.Store kind) _ _ _ (v ∷ (p ∷ vs)) (record { memory = memory; draws = draws; violated = [] }) (acts.store (length vs) kind) refl))
       (stored t n under names memory draws found also count same at items vs (v ∷ (p ∷ vs)) temps ps _ _ (stores_agree u kind v p vs (std t n under names ps temps memory draws []) holds) (subst (λ k. Follows t n k items ps) (sym is) go) holds.1.1))) start
   turn _ _ [] temps _ new also (follows.drop _ d items ps go) holds e same start = absurd (no_value d e)
   turn _ _ (v ∷ vs) temps _ new also (follows.drop _ d items ps go) holds e same start = stay t n under _ refl names items vs temps ps memory draws new found also _ (lined t n under d items vs temps ps go holds.1 (one_less (length vs) d e)) same
   turn _ _ vs temps _ new also (follows.object _ d base at o offset items ps named go) holds e same start =
       subst (λ k. Start (item.Object at o offset ∷ items) vs temps (at_place at (act.Address k base offset) ∷ ps) new also → From (item.Object at o offset ∷ items) vs temps (at_place at (act.Address k base offset) ∷ ps) new also) e
-      (λ start. one_piece u n _ _ _ (some_left _ _ _) start (pointed_to t n under names memory draws found also count same at items vs temps ps base offset o named (subst (λ k. Follows t n (suc k) items ps) (sym e) go) holds)) start
+      (λ start. one_piece u n _ _ _ (some_left _ _) start (pointed_to t n under names memory draws found also count same at items vs temps ps base offset o named (subst (λ k. Follows t n (suc k) items ps) (sym e) go) holds)) start
   turn _ _ vs temps _ new also (follows.on_object _ d base local at how items ps named go) holds e same start =
-      one_piece u n _ _ _ (some_left _ _ _) start (changed_alike t n under names memory draws found also count same at items vs temps ps base local how named (lined t n under d items vs temps ps go holds e))
+      one_piece u n _ _ _ (some_left _ _) start (changed_alike t n under names memory draws found also count same at items vs temps ps base local how named (lined t n under d items vs temps ps go holds e))
   turn _ _ vs temps _ new also (follows.enters_none _ d items ps f) holds e same start = stay t n under _ refl names items vs temps ps memory draws new found also _ (lined t n under d items vs temps ps f holds e) same
   turn _ _ vs temps _ new also (follows.enters _ d base local locals items ps named go) holds e same start =
-      one_piece u n _ _ _ (some_left _ _ _) start (entered_alike t n under names memory draws found also count same (own t) (item.Enters locals ∷ items) vs temps ps base local named (lined t n under d (item.Enters locals ∷ items) vs temps ps go holds e))
+      one_piece u n _ _ _ (some_left _ _) start (entered_alike t n under names memory draws found also count same (own t) (item.Enters locals ∷ items) vs temps ps base local named (lined t n under d (item.Enters locals ∷ items) vs temps ps go holds e))
   turn _ _ vs temps _ new also (follows.leaves_none _ d items ps f) holds e same start = stay t n under _ refl names items vs temps ps memory draws new found also _ (lined t n under d items vs temps ps f holds e) same
   turn _ _ vs temps _ new also (follows.leaves _ d base local locals items ps named go) holds e same start =
-      one_piece u n _ _ _ (some_left _ _ _) start (left_alike t n under names memory draws found also count same (own t) (item.Leaves locals ∷ items) vs temps ps base local named (lined t n under d (item.Leaves locals ∷ items) vs temps ps go holds e))
+      one_piece u n _ _ _ (some_left _ _) start (left_alike t n under names memory draws found also count same (own t) (item.Leaves locals ∷ items) vs temps ps base local named (lined t n under d (item.Leaves locals ∷ items) vs temps ps go holds e))
   turn _ _ [] temps _ new also (follows.choose _ d hit miss first second at kind test if_held if_failed yes_puts no_puts held failed items go stay_on ps on_yes on_no tests to_yes to_no is_go is_stay f g) holds e same start = absurd (no_value d e)
   turn _ _ (v ∷ vs) temps _ new also (follows.choose _ d hit miss first second at kind test if_held if_failed yes_puts no_puts held failed items go stay_on ps on_yes on_no tests to_yes to_no is_go is_stay f g) holds e same start =
       let is = one_less (length vs) d e in
       let r = std t n under names ps temps memory draws [] in
       let out = record { to = hit; taken = When true if_held yes_puts } ∷ (record { to = miss; taken = When false if_failed no_puts } ∷ []) in
       let here : temps d ≡ Some v = subst (λ k. temps k ≡ Some v) is holds.0 in
-      one_piece u n _ _ _ (some_left _ _ _) start
+      one_piece u n _ _ _ (some_left _ _) start
       (subst (λ o. Alike u n (source.run_by found count (Some at) (branch.choose_by t.unit test (not (is_false v)) held failed (src t n under names items vs memory draws))) (runs.run_by also (Some at) (template.if_some r o (exits.on_exit u r out)))) (sym here)
       (chosen at also hit miss test if_held if_failed yes_puts no_puts held failed items vs temps ps on_yes on_no (not (is_false v)) same tests to_yes to_no
       (edge_lined d first (listed held ++ items) go yes_puts vs temps on_yes is_go f holds.1 is) (edge_lined d second (listed failed ++ items) stay_on no_puts vs temps on_no is_stay g holds.1 is)))
@@ -278,7 +278,7 @@ module _ (t : Activation) (n : ℕ) (under : Below t n) (all : AllFollow (templa
   turn _ _ (a ∷ (b ∷ (c ∷ vs))) temps _ new also (follows.read_line _ d none some at unread read items ps on_none on_some to_none to_some f g) holds e same start =
       let is = three_less (length vs) d e in
       subst (λ k. Start (item.ReadLine at unread read ∷ items) (a ∷ (b ∷ (c ∷ vs))) temps (End (record { at = at; does = act.ReadLine None k (suc k) (suc (suc k)) }) (record { to = none; taken = NoLine } ∷ (record { to = some; taken = Line } ∷ [])) ∷ ps) new also → From (item.ReadLine at unread read ∷ items) (a ∷ (b ∷ (c ∷ vs))) temps (End (record { at = at; does = act.ReadLine None k (suc k) (suc (suc k)) }) (record { to = none; taken = NoLine } ∷ (record { to = some; taken = Line } ∷ [])) ∷ ps) new also) is
-      (λ start. one_piece u n _ _ _ (some_left _ _ _) start
+      (λ start. one_piece u n _ _ _ (some_left _ _) start
       (subst (λ o. Alike u n (source.run_by found count (Some at) (branch.read_line t.unit unread read (src t n under names items (a ∷ (b ∷ (c ∷ vs))) memory draws) (a ∷ (b ∷ (c ∷ (vs ++ under.values)))))) (runs.run_by also (Some at) (template.if_some (std t n under names ps temps memory draws []) o (exits.line_read u (record { to = none; taken = NoLine } ∷ (record { to = some; taken = Line } ∷ [])) None (std t n under names ps temps memory draws []))))) (sym (three_there a b c vs temps holds))
       (line_read at also none some unread read items vs temps ps on_none on_some (fgets t.unit.model (c ∷ (b ∷ (a ∷ []))) (record { memory = memory; draws = draws; violated = [] })) same to_none to_some (lined t n under d (listed unread ++ items) vs temps on_none f holds.1.1.1 is) (lined t n under d (listed read ++ items) vs temps on_some g holds.1.1.1 is)))) start
   turn _ _ [] temps _ new also (follows.read_value _ d l at target items ps there to f) holds e same start = absurd (no_value (suc (suc d)) e)
@@ -288,7 +288,7 @@ module _ (t : Activation) (n : ℕ) (under : Below t n) (all : AllFollow (templa
       let is = three_less (length vs) d e in
       let out = record { to = l; taken = NoLine } ∷ (record { to = l; taken = Line } ∷ []) in
       subst (λ k. Start (item.Do at (op.Library Fgets 3 target) ∷ items) (a ∷ (b ∷ (c ∷ vs))) temps (End (record { at = at; does = act.ReadLine (Some k) k (suc k) (suc (suc k)) }) out ∷ ps) new also → From (item.Do at (op.Library Fgets 3 target) ∷ items) (a ∷ (b ∷ (c ∷ vs))) temps (End (record { at = at; does = act.ReadLine (Some k) k (suc k) (suc (suc k)) }) out ∷ ps) new also) is
-      (λ start. one_piece u n _ _ _ (some_left _ _ _) start
+      (λ start. one_piece u n _ _ _ (some_left _ _) start
       (subst (λ o. Alike u n (source.run_by found count (Some at) (turns.operate t.unit (op.Library Fgets 3 target) (src t n under names items (a ∷ (b ∷ (c ∷ vs))) memory draws))) (runs.run_by also (Some at) (template.if_some (std t n under names ps temps memory draws []) o (exits.line_read u out (Some (length vs)) (std t n under names ps temps memory draws []))))) (sym (three_there a b c vs temps holds))
       (value_read at also l items vs temps ps there (fgets t.unit.model (c ∷ (b ∷ (a ∷ []))) (record { memory = memory; draws = draws; violated = [] })) same to (subst (λ k. Follows t n (suc k) items there) (sym is) f) holds.1.1.1))) start
   turn _ _ [] temps _ new also (follows.again _ d at operation a items ps is go) holds e same start = absurd (no_value d e)
@@ -297,49 +297,49 @@ module _ (t : Activation) (n : ℕ) (under : Below t n) (all : AllFollow (templa
       stay t n under _ refl names (item.Do at operation ∷ items) (v ∷ (v ∷ vs)) temps (at_place at a ∷ ps) memory draws new found also _ (alike.twice v at operation a items vs temps ps (subst (λ k. IsActBehind operation a k) less is) (subst (λ k. Follows t n (suc (suc k)) items ps) less go) holds) same
   turn _ _ vs temps _ new also (follows.calls_library _ d many at function target site items ps go) holds e same start =
       let a = act.Library (result_temp function d) function (temps_from d many) site (op.target_size t.unit target) in
-      one_piece u n _ _ _ (some_left _ _ _) start
+      one_piece u n _ _ _ (some_left _ _) start
       (subst (λ reply. Alike u n (source.run_by found count (Some at) (behind reply (λ xs w. steps.on (record (src t n under names items [] memory draws) { values = xs; world = w })))) (runs.run_by also (Some at) (template_acts.perform u a (std t n under names ps temps memory draws [])))) (sym (library_above under.values t.unit function d many target vs (record { memory = memory; draws = draws; violated = [] }) e))
       (operated t n under names memory draws found also count same at (behind_call function d) items vs temps ps _ _ (calls_agree u function d many target site vs (std t n under names ps temps memory draws []) holds e) go))
   turn _ _ vs temps _ new also (follows.literal _ d base i at items ps named go) holds e same start =
       subst (λ k. Start (item.Literal at i ∷ items) vs temps (at_place at (act.Address k base 0) ∷ ps) new also → From (item.Literal at i ∷ items) vs temps (at_place at (act.Address k base 0) ∷ ps) new also) e
-      (λ start. one_piece u n _ _ _ (some_left _ _ _) start (pointed_to_literal t n under names memory draws found also count same at items vs temps ps base i named (subst (λ k. Follows t n (suc k) items ps) (sym e) go) holds)) start
+      (λ start. one_piece u n _ _ _ (some_left _ _) start (pointed_to_literal t n under names memory draws found also count same at items vs temps ps base i named (subst (λ k. Follows t n (suc k) items ps) (sym e) go) holds)) start
   turn _ _ [] temps _ new also (follows.select _ d at kind object cases body items out ps arms go) holds e same start = absurd (no_value d e)
   turn _ _ (v ∷ vs) temps _ new also (follows.select _ d at kind object cases body items out ps arms go) holds e same start =
       let is = one_less (length vs) d e in
       let r = std t n under names ps temps memory draws [] in
       let here : temps d ≡ Some v = subst (λ k. temps k ≡ Some v) is holds.0 in
-      one_piece u n _ _ _ (some_left _ _ _) start
+      one_piece u n _ _ _ (some_left _ _) start
       (subst (λ o. Alike u n (source.run_by found count (Some at) (branch.select t.unit object cases body (src t n under names items (v ∷ vs) memory draws) (v ∷ (vs ++ under.values)))) (runs.run_by also (Some at) (template.if_some r o (λ v. with_number v r.world (λ k marks w. exits.on_exit u r out v))))) (sym here)
       (selected at also object cases body items out v vs temps ps arms same (λ value. lined t n under d (leap_in items (arms value).to) vs temps (arms value).there (go value) holds.1 is)))
   turn _ _ vs temps _ new also (follows.hop _ d l items ps there to go) holds e same start =
       let r = std t n under names ps temps memory draws [] in
-      one_piece u n _ _ _ (some_left _ _ _) start
+      one_piece u n _ _ _ (some_left _ _) start
       (subst (λ o. Alike u n (source.run_by found count (Some (own t)) (steps.on (src t n under names items vs memory draws))) (runs.run_by also (Some (own t)) (template.if_some r o (λ rest. template.on (template.going_on r rest))))) (sym to)
       (ran t n under names memory draws found also count same (own t) items vs temps there names (record { memory = memory; draws = draws; violated = [] }) (lined t n under d items vs temps there go holds e)))
   turn _ _ vs temps _ new also (follows.finish _ d at ps entry) holds e same start =
       let s = src t n under names [] vs memory draws in
       subst (λ callers. Next u n (before [] vs) (source.turned_on found count (turns.return_to t.unit s callers)) (template.running (std t n under names (End (record { at = at; does = act.Stop }) [] ∷ ps) temps memory draws new) also)) (sym (no_callers t.callers entry))
-      (one_piece u n _ _ _ (some_left _ _ _) start (alike.both_stopped Ended memory draws [] [] _ _ _ (ap (λ xs. xs ++ []) same)))
+      (one_piece u n _ _ _ (some_left _ _) start (alike.both_stopped Ended memory draws [] [] _ _ _ (ap (λ xs. xs ++ []) same)))
   turn _ _ vs temps _ new also (follows.calls _ d g at used f items ps is stands go) holds e same start = called t n under all names memory draws found also count old new same g at used f items temps ps vs d f.parameters (parted_at vs d f.parameters e) refl is stands go holds start
   turn _ _ [] temps _ new also (follows.binds _ d number depth at f items ps is where_it_is go) holds e same start = absurd (no_value d e)
   turn _ _ (p ∷ vs) temps _ new also (follows.binds _ d number depth at f items ps is where_it_is go) holds e same start =
       let less = one_less (length vs) d e in
       subst (λ k. Start (item.Bind at number depth ∷ items) (p ∷ vs) temps (at_place at (act.Store k number (scalar_of (local_type f number)) None) ∷ ps) new also → From (item.Bind at number depth ∷ items) (p ∷ vs) temps (at_place at (act.Store k number (scalar_of (local_type f number)) None) ∷ ps) new also) less
-      (λ start. one_piece u n _ _ _ (some_left _ _ _) start (bound t n under names memory draws found also count same at items p vs temps ps number depth f is (where_it_is ∙ sym less) (subst (λ k. Follows t n k items ps) (sym less) go) holds)) start
+      (λ start. one_piece u n _ _ _ (some_left _ _) start (bound t n under names memory draws found also count same at items p vs temps ps number depth f is (where_it_is ∙ sym less) (subst (λ k. Follows t n k items ps) (sym less) go) holds)) start
   turn _ _ vs temps _ new also (follows.enters_outcome _ d base f locals items ps is named go) holds e same start =
-      one_piece u n _ _ _ (some_left _ _ _) start (outcome_entered t n under names memory draws found also count same (own t) (item.Enters locals ∷ items) vs temps ps base f is named (lined t n under d (item.Enters locals ∷ items) vs temps ps go holds e))
+      one_piece u n _ _ _ (some_left _ _) start (outcome_entered t n under names memory draws found also count same (own t) (item.Enters locals ∷ items) vs temps ps base f is named (lined t n under d (item.Enters locals ∷ items) vs temps ps go holds e))
   turn _ _ vs temps _ new also (follows.outcome _ d base at f items ps is named go) holds e same start =
       subst (λ k. Start (item.Outcome at ∷ items) vs temps (at_place at (act.Address k base 0) ∷ ps) new also → From (item.Outcome at ∷ items) vs temps (at_place at (act.Address k base 0) ∷ ps) new also) e
-      (λ start. one_piece u n _ _ _ (some_left _ _ _) start (outcome_pointed_to t n under names memory draws found also count same at items vs temps ps base f is named (subst (λ k. Follows t n (suc k) items ps) (sym e) go) holds)) start
+      (λ start. one_piece u n _ _ _ (some_left _ _) start (outcome_pointed_to t n under names memory draws found also count same at items vs temps ps base f is named (subst (λ k. Follows t n (suc k) items ps) (sym e) go) holds)) start
   turn _ _ vs temps _ new also (follows.leaves_outcome _ d base at place f items ps is named go) holds e same start =
-      one_piece u n _ _ _ (some_left _ _ _) start (outcome_left t n under names memory draws found also count same at items vs temps ps base place f is named (lined t n under d items vs temps ps go holds e))
+      one_piece u n _ _ _ (some_left _ _) start (outcome_left t n under names memory draws found also count same at items vs temps ps base place f is named (lined t n under d items vs temps ps go holds e))
   turn _ _ vs temps _ new also (follows.used_outcome _ d base caller callers place f items ps is used is_f named go) holds e same start =
       subst (λ k. Start (item.Outcome caller.at ∷ items) vs temps (DoIfUsed (record { at = place; does = act.Address k base 0 }) ∷ ps) new also → From (item.Outcome caller.at ∷ items) vs temps (DoIfUsed (record { at = place; does = act.Address k base 0 }) ∷ ps) new also) e
-      (λ start. one_piece u n _ _ _ (some_left _ _ _) start
+      (λ start. one_piece u n _ _ _ (some_left _ _) start
       (subst (λ x. Alike u n (source.run_by found count (Some caller.at) (steps.point_to_outcome t.unit (src t n under names items vs memory draws))) (runs.stepped_on also x)) (sym (done_if_used t n under caller callers is (act.Address (length vs) base 0) (std t n under names ps temps memory draws []) ∙ ap (λ b. cond b (runs.instruction caller.at (template_acts.perform u (act.Address (length vs) base 0) (std t n under names ps temps memory draws []))) (runs.quiet (std t n under names ps temps memory draws []))) used))
       (outcome_pointed_to t n under names memory draws found also count same caller.at items vs temps ps base f is_f named (subst (λ k. Follows t n (suc k) items ps) (sym e) go) holds))) start
   turn _ _ vs temps _ new also (follows.does_if_used _ d next caller callers place operation a items ps is used does go) holds e same start =
-      one_piece u n _ _ _ (some_left _ _ _) start
+      one_piece u n _ _ _ (some_left _ _) start
       (subst (λ x. Alike u n (source.run_by found count (Some caller.at) (turns.operate t.unit operation (src t n under names items vs memory draws))) (runs.stepped_on also x)) (sym (done_if_used t n under caller callers is a (std t n under names ps temps memory draws []) ∙ ap (λ b. cond b (runs.instruction caller.at (template_acts.perform u a (std t n under names ps temps memory draws []))) (runs.quiet (std t n under names ps temps memory draws []))) used))
       (subst (λ reply. Alike u n (source.run_by found count (Some caller.at) (behind reply (λ xs w. steps.on (record (src t n under names items [] memory draws) { values = xs; world = w })))) (runs.run_by also (Some caller.at) (template_acts.perform u a (std t n under names ps temps memory draws [])))) (sym (performed_above under.values t.unit operation a d next vs (record { memory = memory; draws = draws; violated = [] }) does e))
       (operated t n under names memory draws found also count same caller.at next items vs temps ps _ _ (agree u operation a d next vs (std t n under names ps temps memory draws []) does holds e) go)))
@@ -348,7 +348,7 @@ module _ (t : Activation) (n : ℕ) (under : Below t n) (all : AllFollow (templa
       let skips : runs.if_used u i.does r under.waiting ≡ runs.quiet r = done_if_used t n under caller callers is i.does r ∙ ap (λ b. cond b (runs.instruction caller.at (template_acts.perform u i.does r)) (runs.quiet r)) unused in
       let there : runs.next u (template.running (std t n under names (DoIfUsed i ∷ ps) temps memory draws new) also) ≡ template.running r (also ++ []) = ap (λ x. runs.stepped_on also x) skips in
       let later = turn d items vs temps ps [] (also ++ []) f holds e (same ∙ sym (append-nil also)) (starts t n under names items vs temps ps memory draws old [] found (also ++ []) count (lined t n under d items vs temps ps (less n d items ps f) holds e) (same ∙ sym (append-nil also))) in
-      passed items vs (template.running (std t n under names (DoIfUsed i ∷ ps) temps memory draws new) also) _ (some_left _ _ _) start (subst (λ b. Next u n (before items vs) (source.turned_on found count (turns.turn_by t.unit (src t n under names items vs memory draws) items)) b) (sym there) later)
+      passed items vs (template.running (std t n under names (DoIfUsed i ∷ ps) temps memory draws new) also) _ (some_left _ _) start (subst (λ b. Next u n (before items vs) (source.turned_on found count (turns.turn_by t.unit (src t n under names items vs memory draws) items)) b) (sym there) later)
   turn _ _ vs temps _ new also (follows.goes_back _ caller callers is) holds e same start =
       returned u n t.function names memory draws found also count old new same t.callers under.values under.waiting under.waits caller callers is vs temps holds e start
 
@@ -368,9 +368,9 @@ module _ (t : Templates) (all : AllFollow t) (n g : ℕ) (names : ℕ → Option
   lined_turn (alike.plain items vs temps ps f holds) = turn here n kept all names memory draws found count old (length vs) items vs temps ps new also f holds refl same (starts here n kept names items vs temps ps memory draws old new found also count (alike.plain items vs temps ps (less n (length vs) items ps f) holds) same)
   lined_turn (alike.put b items vs temps ps f holds) = stay here n kept _ refl names items (truth b ∷ vs) temps ps memory draws new found also _ (alike.plain items (truth b ∷ vs) temps ps (less n _ items ps f) holds) same
   lined_turn (alike.twice v at operation does items vs temps ps is f holds) =
-      one_piece t n _ _ _ (some_left _ _ _) (starts here n kept names (item.Do at operation ∷ items) (v ∷ (v ∷ vs)) temps (at_place at does ∷ ps) memory draws old new found also count (alike.twice v at operation does items vs temps ps is (less n _ items ps f) holds) same)
-          (subst (λ reply. Alike t n (source.run_by found count (Some at) (behind reply (λ xs w. steps.on (record (src here n kept names items [] memory draws) { values = xs; world = w })))) (runs.run_by also (Some at) (template_acts.perform t does (std here n kept names ps temps memory draws [])))) (sym (copied_above below t.unit operation does v vs (record { memory = memory; draws = draws; violated = [] }) is))
-          (operated here n kept names memory draws found also count same at (suc (suc (length vs))) items (v ∷ (v ∷ vs)) temps ps _ _ (copies_agree t operation does v vs (std here n kept names ps temps memory draws []) is holds) (less n _ items ps f)))
+      one_piece t n _ _ _ (some_left _ _) (starts here n kept names (item.Do at operation ∷ items) (v ∷ (v ∷ vs)) temps (at_place at does ∷ ps) memory draws old new found also count (alike.twice v at operation does items vs temps ps is (less n _ items ps f) holds) same)
+      (subst (λ reply. Alike t n (source.run_by found count (Some at) (behind reply (λ xs w. steps.on (record (src here n kept names items [] memory draws) { values = xs; world = w })))) (runs.run_by also (Some at) (template_acts.perform t does (std here n kept names ps temps memory draws [])))) (sym (copied_above below t.unit operation does v vs (record { memory = memory; draws = draws; violated = [] }) is))
+      (operated here n kept names memory draws found also count same at (suc (suc (length vs))) items (v ∷ (v ∷ vs)) temps ps _ _ (copies_agree t operation does v vs (std here n kept names ps temps memory draws []) is holds) (less n _ items ps f)))
   lined_turn (alike.loose v items vs temps ps f holds) = stay here n kept _ refl names items vs temps ps memory draws new found also _ (alike.plain items vs temps ps (less n (length vs) items ps f) holds) same
 
 pub follow : (t : Templates) → AllFollow t → (n : ℕ) (a : SourceRun) (b : TemplateRun) → Alike t (suc n) a b → Next t n a (source.next t.unit a) b

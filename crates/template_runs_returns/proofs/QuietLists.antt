@@ -1,5 +1,5 @@
 -- Items that come to a step, a call or nothing, one after the other.
-use Rattle.std.proofs.Common.{◌≡◌, ℕ, suc, true, false, List, [], ◌∷◌, ◌++◌, Option, Some, None, refl}
+use Rattle.std.proofs.Common.{◌≡◌, ℕ, suc, Bool, true, false, List, [], ◌∷◌, ◌++◌, Option, refl}
 use Rattle.c_layout.specs.CheckedUnits.{UnitView}
 use Rattle.c_layout.specs.CheckedTrees.{TermTree, LvalueTree}
 use Rattle.lib_models_memory.specs.Scalars.{Scalar}
@@ -69,6 +69,6 @@ module _ (u : UnitView) (g : ℕ) (callers : List Frame) where
       by names [] w found steps = one_turn (item.Again ∷ rest) refl names [] w found steps (0, quiet_turns.has_stopped _ _ _ _)
       by names (v ∷ vs) w found steps = one_turn (item.Again ∷ rest) refl names (v ∷ vs) w found steps (ends names _ _ _ _)
 
-  pub if_is_used : (used : _) (items : List Item) → AllSettle items → AllSettle (if_used used items)
+  pub if_is_used : (used : Bool) (items : List Item) → AllSettle items → AllSettle (if_used used items)
   if_is_used true items all = all
   if_is_used false items all = both items (item.Drop ∷ []) all (more item.Drop [] drop none)

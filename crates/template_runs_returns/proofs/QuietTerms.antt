@@ -1,5 +1,5 @@
 -- The items of terms and conditions come to a step.
-use Rattle.std.proofs.Common.{◌≡◌, ℕ, Bool, true, false, cond, List, [], ◌∷◌, ◌++◌, Option, Some, None, refl, ap, sym, subst}
+use Rattle.std.proofs.Common.{◌≡◌, ℕ, ℤ, Bool, true, false, cond, List, [], ◌∷◌, ◌++◌, Option, Some, None, refl, ap, sym, subst}
 use Rattle.cc_base.specs.declared.diagnostics.Place.{Place}
 use Rattle.cc_base.specs.declared.int_types.IntType.{IntType}
 use Rattle.c_layout.specs.Types.{Ty, same_kind}
@@ -89,7 +89,7 @@ module _ (u : UnitView) (g : ℕ) (callers : List Frame) where
 
   -- ---- forms
 
-  module _ (at : Place) (ctype : Ty) (parens : ℕ) (constant : Option _) where
+  module _ (at : Place) (ctype : Ty) (parens : ℕ) (constant : Option ℤ) where
     abbrev E : tree.FormTree → TermTree
     E form = Typed at ctype parens constant form
 

@@ -1,5 +1,6 @@
 -- Turns of the source that are no step, no call and no return end.
 use Rattle.std.proofs.Common.{◌≡◌, ℕ, suc, Bool, true, false, cond, List, [], ◌∷◌, ◌++◌, Option, Some, None, refl}
+use Rattle.cc_base.specs.declared.diagnostics.Place.{Place}
 use Rattle.c_layout.specs.CheckedUnits.{UnitView, FunctionView}
 use Rattle.c_layout.specs.CheckedTrees as tree
 use Rattle.c_layout.specs.CheckedTrees.{TermTree, StatementTree, StatementTrees, StoreTree, StoreValue, StoreCopy, StoreText}
@@ -137,12 +138,12 @@ module _ (u : UnitView) (g : ℕ) (callers : List Frame) where
 
   -- ---- statements
 
-  one_stored : (at : _) (x : ℕ) (y : StoreTree) → AllSettle u g callers (stored at x y)
+  one_stored : (at : Place) (x : ℕ) (y : StoreTree) → AllSettle u g callers (stored at x y)
   one_stored at x (StoreValue offset e) = quiet.first _ _ refl
   one_stored at x (StoreCopy offset l) = quiet.first _ _ refl
   one_stored at x (StoreText offset room text) = quiet.first _ _ refl
 
-  given_settles : (is_entry : Bool) (at : _) (e : Option TermTree) (items : List Item) → AllSettle u g callers items → AllSettle u g callers (returned is_entry at e ++ items)
+  given_settles : (is_entry : Bool) (at : Place) (e : Option TermTree) (items : List Item) → AllSettle u g callers items → AllSettle u g callers (returned is_entry at e ++ items)
   given_settles b at None items all = all
   given_settles true at (Some e) items all = gives_value e _ (quiet.more item.Drop _ (drop u g callers) all)
   given_settles false at (Some e) items all = quiet.first _ _ refl

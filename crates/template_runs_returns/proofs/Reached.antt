@@ -2,7 +2,7 @@
 use Rattle.std.proofs.Common.{◌≡◌, ◌≤◌, ◌<◌, ℕ, zero, suc, ◌+◌, ◌-◌, ◌==◌, ℤ, Bool, true, false, List, [], ◌∷◌, length, Option, refl, arith, ap, sym, subst, ◌∙◌}
 use Rattle.std.proofs.lemmas.Bool.{eq-eqb, eqb-true}
 use Rattle.lib_models_memory.specs.Scalars.{Scalar}
-use Rattle.lib_models_effects.specs.Worlds.{Violation}
+use Rattle.lib_models_effects.specs.Worlds.{World, Why, Violation}
 use Rattle.flow_lower_tasks.specs.Pieces.{PieceView}
 use Rattle.ref_machine.specs.Items as item
 use Rattle.ref_machine.specs.Items.{Item}
@@ -58,48 +58,48 @@ still e = cc
 
 -- nothing is left to do either, unless a turn is no step
 nothing_there : {t : Activation} (n d : ℕ) (items : List Item) (ps : List PieceView) → Follows t (suc n) d items ps → ps ≡ [] → moves items ≡ true → items ≡ []
-nothing_there n _ _ _ (follows.goes_back _ _ _ _) none now = refl
-nothing_there n _ _ _ (follows.finish _ _ _ _ _) none now = refl
-nothing_there n _ _ _ (follows.by_mark _ _ _ _ _ _) none now = absurd (some_left none)
-nothing_there n _ _ _ (follows.value _ _ _ _ _ _) none now = absurd (still now)
-nothing_there n _ _ _ (follows.unused _ _ _ _ _ _) none now = absurd (still now)
-nothing_there n _ _ _ (follows.address _ _ _ _ _ _) none now = absurd (still now)
-nothing_there n _ _ _ (follows.statement _ _ _ _ _ _) none now = absurd (still now)
-nothing_there n _ _ _ (follows.in_while _ _ _ _ _ _ _) none now = absurd (still now)
-nothing_there n _ _ _ (follows.in_do _ _ _ _ _ _ _) none now = absurd (still now)
-nothing_there n _ _ _ (follows.in_for _ _ _ _ _ _ _ _) none now = absurd (still now)
-nothing_there n _ _ _ (follows.turn_end _ _ _ _ _) none now = absurd (still now)
-nothing_there n _ _ _ (follows.loop_end _ _ _ _ _) none now = absurd (still now)
-nothing_there n _ _ _ (follows.break_out _ _ _ _ _) none now = absurd (still now)
-nothing_there n _ _ _ (follows.next_turn _ _ _ _ _) none now = absurd (still now)
-nothing_there n _ _ _ (follows.go_to _ _ _ _ _ _ _ _ _ _) none now = absurd (still now)
-nothing_there n _ _ _ (follows.leave_function _ _ _ _ _ _ _) none now = absurd (still now)
-nothing_there n _ _ _ (follows.end_body _ _ _ _ _ _ _) none now = absurd (still now)
-nothing_there n _ _ _ (follows.does _ _ _ _ _ _ _ _ _ _) none now = absurd (some_left none)
-nothing_there n _ _ _ (follows.stores _ _ _ _ _ _ _) none now = absurd (some_left none)
-nothing_there n _ _ _ (follows.again _ _ _ _ _ _ _ _ _) none now = absurd (some_left none)
-nothing_there n _ _ _ (follows.calls_library _ _ _ _ _ _ _ _ _ _) none now = absurd (some_left none)
-nothing_there n _ _ _ (follows.drop _ _ _ _ _) none now = absurd (still now)
-nothing_there n _ _ _ (follows.object _ _ _ _ _ _ _ _ _ _) none now = absurd (some_left none)
-nothing_there n _ _ _ (follows.literal _ _ _ _ _ _ _ _ _) none now = absurd (some_left none)
-nothing_there n _ _ _ (follows.on_object _ _ _ _ _ _ _ _ _ _) none now = absurd (some_left none)
-nothing_there n _ _ _ (follows.enters_none _ _ _ _ _) none now = absurd (still now)
-nothing_there n _ _ _ (follows.enters _ _ _ _ _ _ _ _ _) none now = absurd (some_left none)
-nothing_there n _ _ _ (follows.leaves_none _ _ _ _ _) none now = absurd (still now)
-nothing_there n _ _ _ (follows.leaves _ _ _ _ _ _ _ _ _) none now = absurd (some_left none)
-nothing_there n _ _ _ (follows.choose _ _ _ _ _ _ _ _ _ _ _ _ _ _ _ _ _ _ _ _ _ _ _ _ _ _ _ _) none now = absurd (some_left none)
-nothing_there n _ _ _ (follows.read_line _ _ _ _ _ _ _ _ _ _ _ _ _ _ _) none now = absurd (some_left none)
-nothing_there n _ _ _ (follows.read_value _ _ _ _ _ _ _ _ _ _) none now = absurd (some_left none)
-nothing_there n _ _ _ (follows.select _ _ _ _ _ _ _ _ _ _ _ _) none now = absurd (some_left none)
-nothing_there n _ _ _ (follows.hop _ _ _ _ _ _ _ _) none now = absurd (some_left none)
-nothing_there n _ _ _ (follows.calls _ _ _ _ _ _ _ _ _ _ _) none now = absurd (some_left none)
-nothing_there n _ _ _ (follows.binds _ _ _ _ _ _ _ _ _ _ _) none now = absurd (some_left none)
-nothing_there n _ _ _ (follows.enters_outcome _ _ _ _ _ _ _ _ _ _) none now = absurd (some_left none)
-nothing_there n _ _ _ (follows.outcome _ _ _ _ _ _ _ _ _ _) none now = absurd (some_left none)
-nothing_there n _ _ _ (follows.leaves_outcome _ _ _ _ _ _ _ _ _ _ _) none now = absurd (some_left none)
-nothing_there n _ _ _ (follows.used_outcome _ _ _ _ _ _ _ _ _ _ _ _ _ _) none now = absurd (some_left none)
-nothing_there n _ _ _ (follows.does_if_used _ _ _ _ _ _ _ _ _ _ _ _ _ _) none now = absurd (some_left none)
-nothing_there n _ _ _ (follows.by_unused _ _ _ _ _ _ _ _ _ _) none now = absurd (some_left none)
+nothing_there n _ _ _ (follows.goes_back _ _ _ _) empty now = refl
+nothing_there n _ _ _ (follows.finish _ _ _ _ _) empty now = refl
+nothing_there n _ _ _ (follows.by_mark _ _ _ _ _ _) empty now = absurd (some_left empty)
+nothing_there n _ _ _ (follows.value _ _ _ _ _ _) empty now = absurd (still now)
+nothing_there n _ _ _ (follows.unused _ _ _ _ _ _) empty now = absurd (still now)
+nothing_there n _ _ _ (follows.address _ _ _ _ _ _) empty now = absurd (still now)
+nothing_there n _ _ _ (follows.statement _ _ _ _ _ _) empty now = absurd (still now)
+nothing_there n _ _ _ (follows.in_while _ _ _ _ _ _ _) empty now = absurd (still now)
+nothing_there n _ _ _ (follows.in_do _ _ _ _ _ _ _) empty now = absurd (still now)
+nothing_there n _ _ _ (follows.in_for _ _ _ _ _ _ _ _) empty now = absurd (still now)
+nothing_there n _ _ _ (follows.turn_end _ _ _ _ _) empty now = absurd (still now)
+nothing_there n _ _ _ (follows.loop_end _ _ _ _ _) empty now = absurd (still now)
+nothing_there n _ _ _ (follows.break_out _ _ _ _ _) empty now = absurd (still now)
+nothing_there n _ _ _ (follows.next_turn _ _ _ _ _) empty now = absurd (still now)
+nothing_there n _ _ _ (follows.go_to _ _ _ _ _ _ _ _ _ _) empty now = absurd (still now)
+nothing_there n _ _ _ (follows.leave_function _ _ _ _ _ _ _) empty now = absurd (still now)
+nothing_there n _ _ _ (follows.end_body _ _ _ _ _ _ _) empty now = absurd (still now)
+nothing_there n _ _ _ (follows.does _ _ _ _ _ _ _ _ _ _) empty now = absurd (some_left empty)
+nothing_there n _ _ _ (follows.stores _ _ _ _ _ _ _) empty now = absurd (some_left empty)
+nothing_there n _ _ _ (follows.again _ _ _ _ _ _ _ _ _) empty now = absurd (some_left empty)
+nothing_there n _ _ _ (follows.calls_library _ _ _ _ _ _ _ _ _ _) empty now = absurd (some_left empty)
+nothing_there n _ _ _ (follows.drop _ _ _ _ _) empty now = absurd (still now)
+nothing_there n _ _ _ (follows.object _ _ _ _ _ _ _ _ _ _) empty now = absurd (some_left empty)
+nothing_there n _ _ _ (follows.literal _ _ _ _ _ _ _ _ _) empty now = absurd (some_left empty)
+nothing_there n _ _ _ (follows.on_object _ _ _ _ _ _ _ _ _ _) empty now = absurd (some_left empty)
+nothing_there n _ _ _ (follows.enters_none _ _ _ _ _) empty now = absurd (still now)
+nothing_there n _ _ _ (follows.enters _ _ _ _ _ _ _ _ _) empty now = absurd (some_left empty)
+nothing_there n _ _ _ (follows.leaves_none _ _ _ _ _) empty now = absurd (still now)
+nothing_there n _ _ _ (follows.leaves _ _ _ _ _ _ _ _ _) empty now = absurd (some_left empty)
+nothing_there n _ _ _ (follows.choose _ _ _ _ _ _ _ _ _ _ _ _ _ _ _ _ _ _ _ _ _ _ _ _ _ _ _ _) empty now = absurd (some_left empty)
+nothing_there n _ _ _ (follows.read_line _ _ _ _ _ _ _ _ _ _ _ _ _ _ _) empty now = absurd (some_left empty)
+nothing_there n _ _ _ (follows.read_value _ _ _ _ _ _ _ _ _ _) empty now = absurd (some_left empty)
+nothing_there n _ _ _ (follows.select _ _ _ _ _ _ _ _ _ _ _ _) empty now = absurd (some_left empty)
+nothing_there n _ _ _ (follows.hop _ _ _ _ _ _ _ _) empty now = absurd (some_left empty)
+nothing_there n _ _ _ (follows.calls _ _ _ _ _ _ _ _ _ _ _) empty now = absurd (some_left empty)
+nothing_there n _ _ _ (follows.binds _ _ _ _ _ _ _ _ _ _ _) empty now = absurd (some_left empty)
+nothing_there n _ _ _ (follows.enters_outcome _ _ _ _ _ _ _ _ _ _) empty now = absurd (some_left empty)
+nothing_there n _ _ _ (follows.outcome _ _ _ _ _ _ _ _ _ _) empty now = absurd (some_left empty)
+nothing_there n _ _ _ (follows.leaves_outcome _ _ _ _ _ _ _ _ _ _ _) empty now = absurd (some_left empty)
+nothing_there n _ _ _ (follows.used_outcome _ _ _ _ _ _ _ _ _ _ _ _ _ _) empty now = absurd (some_left empty)
+nothing_there n _ _ _ (follows.does_if_used _ _ _ _ _ _ _ _ _ _ _ _ _ _) empty now = absurd (some_left empty)
+nothing_there n _ _ _ (follows.by_unused _ _ _ _ _ _ _ _ _ _) empty now = absurd (some_left empty)
 
 -- both name the same
 at_return : (t : Templates) (Q : (ℕ → Option ℕ) → Type 0) (n : ℕ) (callers : List Frame) (below : List Scalar) (waiting : List template.Frame) (names : ℕ → Option ℕ) → Waits t n callers below waiting → AtEnd Q callers names → AtReturn Q waiting names
@@ -107,15 +107,15 @@ at_return t Q n _ _ _ names alike.none q = tt
 at_return t Q n _ _ _ names (alike.more g others items vs temps ps at used callers below waiting reached f holds rest) q = q
 
 lined_there : (Q : (ℕ → Option ℕ) → Type 0) {t : Activation} (n : ℕ) {items : List Item} {vs : List Scalar} {temps : ℕ → Option Scalar} {ps : List PieceView} → Lined t (suc n) items vs temps ps → ps ≡ [] → moves items ≡ true → items ≡ []
-lined_there Q n (alike.plain items vs temps ps f holds) none now = nothing_there n _ items ps f none now
-lined_there Q n (alike.loose v items vs temps ps f holds) none now = absurd (still now)
-lined_there Q n (alike.put b items vs temps ps f holds) none now = absurd (still now)
-lined_there Q n (alike.twice v at operation a items vs temps ps is f holds) none now = absurd (some_left none)
+lined_there Q n (alike.plain items vs temps ps f holds) empty now = nothing_there n _ items ps f empty now
+lined_there Q n (alike.loose v items vs temps ps f holds) empty now = absurd (still now)
+lined_there Q n (alike.put b items vs temps ps f holds) empty now = absurd (still now)
+lined_there Q n (alike.twice v at operation a items vs temps ps is f holds) empty now = absurd (some_left empty)
 
 -- where a step, a call or a return comes next
 returns_there : (t : Templates) (Q : (ℕ → Option ℕ) → Type 0) (n : ℕ) (s : State) (found : List Violation) (steps : ℕ) (b : TemplateRun) → moves s.control ≡ true → EndsWith Q (source.running s found steps) → Alike t (suc n) (source.running s found steps) b → rest_of b ≡ [] → ReturnsWith Q b
-returns_there t Q n _ _ _ _ now ends (alike.both_run _ _ found also count (alike.related g names items vs temps ps memory draws old new callers below waiting reached l waits) same) none =
-    λ left. at_return t Q (suc n) callers below waiting names waits (ends (lined_there Q n l none now))
+returns_there t Q n _ _ _ _ now ends (alike.both_run _ _ found also count (alike.related g names items vs temps ps memory draws old new callers below waiting reached l waits) same) empty =
+    λ left. at_return t Q (suc n) callers below waiting names waits (ends (lined_there Q n l empty now))
 
 -- the next turns of a run
 turns_later : (t : Templates) (r : SourceRun) (m : ℕ) → source.turns_from t.unit (source.next t.unit r) m ≡ source.turns_from t.unit r (suc m)
@@ -125,18 +125,18 @@ turns_later t r (suc m) = ap (source.next t.unit) (turns_later t r m)
 module _ (t : Templates) (all : AllFollow t) where
   -- where no pieces are left, turns that are no step lead to where nothing is left to do
   returns_behind : (Q : (ℕ → Option ℕ) → Type 0) (k : ℕ) (r : SourceRun) (b : TemplateRun) → Comes t.unit k r → ((m : ℕ) → EndsWith Q (source.turns_from t.unit r m)) → (n : ℕ) → Alike t (n + suc k) r b → rest_of b ≡ [] → ReturnsWith Q b
-  returns_behind Q _ _ b (quiet_turns.has_stopped why w found steps) ends n both none = stopped both
+  returns_behind Q _ _ b (quiet_turns.has_stopped why w found steps) ends n both empty = stopped both
     where
-      stopped : {n : ℕ} {why : _} {w : _} {found : _} {steps : ℕ} {b : TemplateRun} → Alike t n (source.stopped why w found steps) b → ReturnsWith Q b
+      stopped : {n : ℕ} {why : Why} {w : World} {found : List Violation} {steps : ℕ} {b : TemplateRun} → Alike t n (source.stopped why w found steps) b → ReturnsWith Q b
       stopped (alike.both_stopped _ _ _ _ _ _ _ _ _) = tt
-  returns_behind Q _ _ b (quiet_turns.there s found steps now) ends n both none = returns_there t Q n s found steps b now (ends 0) (subst (λ k. Alike t k (source.running s found steps) b) (plus_one n) both) none
+  returns_behind Q _ _ b (quiet_turns.there s found steps now) ends n both empty = returns_there t Q n s found steps b now (ends 0) (subst (λ k. Alike t k (source.running s found steps) b) (plus_one n) both) empty
     where
       plus_one : (n : ℕ) → n + 1 ≡ suc n
       plus_one n = omega arith
-  returns_behind Q _ _ b (quiet_turns.quiet k r still later) ends n both none =
+  returns_behind Q _ _ b (quiet_turns.quiet k r still later) ends n both empty =
       let x = follow t all (n + suc k) r b (subst (λ k. Alike t k r b) (plus_suc n (suc k)) both) in
-      let same : steps_from t x.steps b ≡ b = ap (λ k. steps_from t k b) (x.rests still none) in
-      returns_behind Q k (source.next t.unit r) b later (λ m. subst (EndsWith Q) (sym (turns_later t r m)) (ends (suc m))) n (subst (λ b. Alike t (n + suc k) (source.next t.unit r) b) same x.both) none
+      let same : steps_from t x.steps b ≡ b = ap (λ k. steps_from t k b) (x.rests still empty) in
+      returns_behind Q k (source.next t.unit r) b later (λ m. subst (EndsWith Q) (sym (turns_later t r m)) (ends (suc m))) n (subst (λ b. Alike t (n + suc k) (source.next t.unit r) b) same x.both) empty
     where
       plus_suc : (n m : ℕ) → n + suc m ≡ suc (n + m)
       plus_suc n m = omega arith
@@ -174,7 +174,7 @@ module _ (t : Templates) (all : AllFollow t) where
         less_or : (i : ℕ) → i ≤ i + 1
         less_or i = omega arith
 
-        stays : {m : ℕ} {why : _} {w : _} {found : _} {steps : ℕ} (b : TemplateRun) → Alike t m (source.stopped why w found steps) b → Alike t n (source.stopped why w found steps) (runs.next t b)
+        stays : {m : ℕ} {why : Why} {w : World} {found : List Violation} {steps : ℕ} (b : TemplateRun) → Alike t m (source.stopped why w found steps) b → Alike t n (source.stopped why w found steps) (runs.next t b)
         stays _ (alike.both_stopped why memory draws old new found also count same) = alike.both_stopped why memory draws old new found also count same
 
         stands : (r a : SourceRun) (b : TemplateRun) → r ≡ a → r ≡ source.stopped why w found steps → Alike t (n + 1) a b → Alike t n a (runs.next t b)
@@ -190,7 +190,7 @@ module _ (t : Templates) (all : AllFollow t) where
         same_one i = omega arith
 
         both_ways : {a : Bool} → a ≡ true → a ≡ false → ⊥
-        both_ways yes no = cc
+        both_ways one other = cc
 
         by : (x : Next t n (Run t.unit draws i) (source.next t.unit (Run t.unit draws i)) b) (k : ℕ) → x.steps ≡ k → Further n i (i + 1) b
         by x zero e = absurd (both_ways (subst (λ r. moves_next r ≡ true) is now) (x.moved e))
@@ -232,10 +232,10 @@ module _ (t : Templates) (all : AllFollow t) where
 
     below_total : (b i : ℕ) → i ≤ b → quiets i ≤ total b
     unfolding total
-    below_total zero i le = subst (λ k. quiets k ≤ quiets 0) (none i le) (itself (quiets 0))
+    below_total zero i le = subst (λ k. quiets k ≤ quiets 0) (empty i le) (itself (quiets 0))
       where
-        none : (i : ℕ) → i ≤ 0 → 0 ≡ i
-        none i le = omega (arith, le)
+        empty : (i : ℕ) → i ≤ 0 → 0 ≡ i
+        empty i le = omega (arith, le)
 
         itself : (k : ℕ) → k ≤ k
         itself k = omega arith
@@ -255,7 +255,7 @@ module _ (t : Templates) (all : AllFollow t) where
         by false e = more (quiets i) (total b) (quiets (suc b)) (below_total b i (smaller i b le (λ same. no (eq-eqb i (suc b) same) e)))
           where
             no : (i == suc b) ≡ true → (i == suc b) ≡ false → ⊥
-            no yes no = cc
+            no one other = cc
 
     record Stands (n bound : ℕ) (b : TemplateRun) : Type 0 where
       turn : ℕ
@@ -302,7 +302,7 @@ module _ (t : Templates) (all : AllFollow t) where
         let q = quiets x.turn in
         let le = below_total r.bound x.turn x.early in
         let here : Alike t (0 + suc q) (Run t.unit draws x.turn) b = alike_fewer t (0 + suc q) (total r.bound - q) (Run t.unit draws x.turn) b (subst (λ k. Alike t k (Run t.unit draws x.turn) b) (split q (total r.bound) le) x.both) in
-        at_end Q b (λ none. returns_behind Q q (Run t.unit draws x.turn) b (quiet_turns_end t.unit (Run t.unit draws x.turn)).1 (λ m. subst (EndsWith Q) (sym (turns_on x.turn m)) (ends (m + x.turn))) 0 here none)
+        at_end Q b (λ empty. returns_behind Q q (Run t.unit draws x.turn) b (quiet_turns_end t.unit (Run t.unit draws x.turn)).1 (λ m. subst (EndsWith Q) (sym (turns_on x.turn m)) (ends (m + x.turn))) 0 here empty)
       where
         split : (q s : ℕ) → q ≤ s → suc s ≡ (0 + suc q) + (s - q)
         split q s le = omega (arith, le)
@@ -318,5 +318,5 @@ module _ (t : Templates) (all : AllFollow t) where
             suc_plus m i = omega arith
 
         at_end : (Q : (ℕ → Option ℕ) → Type 0) (b : TemplateRun) → (rest_of b ≡ [] → ReturnsWith Q b) → ReturnsWith Q b
-        at_end Q (template.running s found) f = λ none. f none none
+        at_end Q (template.running s found) f = λ empty. f empty empty
         at_end Q (template.stopped why w found) f = tt

@@ -3,4 +3,4 @@
 
 mod theorems;
 
-pub use theorems::returns_are_followed;
+pub use theorems::{quiet_turns_end, returns_are_followed};

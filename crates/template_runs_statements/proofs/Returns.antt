@@ -171,16 +171,16 @@ module _ (s : SettingView) (t : Activation) (fits : IsOfUnit t s) (n : ℕ) (aro
       let own_jobs = object_jobs act.Leave s.at s.parameters (length q.names) in
       let names_are : all.names ≡ (g.names ++ locals xs) ++ locals s.parameters = work_names (jobs.Ready last) z ∙ z_is.names ∙ ap (λ ns. ns ++ locals s.parameters) q_is.names in
       let jobs_are : all.jobs ≡ (front ++ (outer ++ own_jobs)) ++ jobs.Ready last ∷ [] =
-          one_more_job z.jobs (jobs.Ready last) z refl ∙ ap (λ ks. ks ++ jobs.Ready last ∷ []) (z_is.jobs ∙ ap (λ ks. ks ++ own_jobs) (q_is.jobs ∙ ap (λ ks. ks ++ outer) given.jobs) ∙ append_assoc front outer own_jobs) in
+      one_more_job z.jobs (jobs.Ready last) z refl ∙ ap (λ ks. ks ++ jobs.Ready last ∷ []) (z_is.jobs ∙ ap (λ ks. ks ++ own_jobs) (q_is.jobs ∙ ap (λ ks. ks ++ outer) given.jobs) ∙ append_assoc front outer own_jobs) in
       let first_names : all.names ≡ p.names ++ (outcome_names e ++ (locals xs ++ locals s.parameters)) =
-          names_are ∙ append_assoc g.names (locals xs) (locals s.parameters) ∙ ap (λ ns. ns ++ (locals xs ++ locals s.parameters)) given.names ∙ append_assoc p.names (outcome_names e) (locals xs ++ locals s.parameters) in
+      names_are ∙ append_assoc g.names (locals xs) (locals s.parameters) ∙ ap (λ ns. ns ++ (locals xs ++ locals s.parameters)) given.names ∙ append_assoc p.names (outcome_names e) (locals xs ++ locals s.parameters) in
       let own_names : all.names ≡ q.names ++ (locals s.parameters ++ []) = work_names (jobs.Ready last) z ∙ z_is.names ∙ ap (λ ns. q.names ++ ns) (sym (append-nil (locals s.parameters))) in
       let leaving : List Item = item.Leaves xs ∷ (item.Leaves (numbers_from 0 f.parameters) ∷ []) in
       let left_all : IsKnown t (planless all) → Runs s t n (outer ++ own_jobs) leaving 0 0 = λ known_all.
-          then s t n outer own_jobs (item.Leaves xs ∷ []) (item.Leaves (numbers_from 0 f.parameters) ∷ []) 0 0 0
-          (subst (λ at. Runs s t n (object_jobs act.Leave at xs (length g.names)) (item.Leaves xs ∷ []) 0 0) (sym fits.place) (leaves s t fits n xs (length g.names) 0 (named_from t (planless all) g.names xs (locals s.parameters) known_all (names_are ∙ append_assoc g.names (locals xs) (locals s.parameters)))))
-          (subst (λ at. Runs s t n (object_jobs act.Leave at s.parameters (length q.names)) (item.Leaves (numbers_from 0 f.parameters) ∷ []) 0 0) (sym fits.place)
-          (subst (λ ys. Runs s t n (object_jobs act.Leave (own t) s.parameters (length q.names)) (item.Leaves ys ∷ []) 0 0) parameters (leaves s t fits n s.parameters (length q.names) 0 (named_from t (planless all) q.names s.parameters [] known_all own_names)))) in
+      then s t n outer own_jobs (item.Leaves xs ∷ []) (item.Leaves (numbers_from 0 f.parameters) ∷ []) 0 0 0
+      (subst (λ at. Runs s t n (object_jobs act.Leave at xs (length g.names)) (item.Leaves xs ∷ []) 0 0) (sym fits.place) (leaves s t fits n xs (length g.names) 0 (named_from t (planless all) g.names xs (locals s.parameters) known_all (names_are ∙ append_assoc g.names (locals xs) (locals s.parameters)))))
+      (subst (λ at. Runs s t n (object_jobs act.Leave at s.parameters (length q.names)) (item.Leaves (numbers_from 0 f.parameters) ∷ []) 0 0) (sym fits.place)
+      (subst (λ ys. Runs s t n (object_jobs act.Leave (own t) s.parameters (length q.names)) (item.Leaves ys ∷ []) 0 0) parameters (leaves s t fits n s.parameters (length q.names) 0 (named_from t (planless all) q.names s.parameters [] known_all own_names)))) in
       let called : of_entry t ≡ false = ap is_entry waits in
       subst (λ is. Follows t n 0 (is ++ items) (ps ++ rest)) (sym (outcome_returned at e called))
       (subst (λ is. Follows t n 0 is (ps ++ rest)) (sym (append_assoc (outcome_items at e) (item.LeaveFunction ∷ []) items))
