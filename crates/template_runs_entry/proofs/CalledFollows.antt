@@ -24,8 +24,9 @@ use Rattle.template_runs_follow.specs.Follows.{Names, Follows, behind_own, own, 
 use Rattle.template_runs_follow.proofs.Constructions.{gives_drop, gives_no_enters, gives_object, gives_enter, gives_bind, gives_enter_outcome, gives_used_outcome, gives_if_used, gives_leave_outcome}
 use Rattle.template_runs_works.specs.TemplateParts.{IsOfUnit}
 use Rattle.template_runs_works.proofs.Runs.{Runs, then, piece_first}
+use Rattle.template_runs_works.proofs.Assignments.{nothing_done}
 use Rattle.template_runs_scopes.proofs.KeptScopes.{AreTerms}
-use Rattle.template_runs_scopes.proofs.Objects.{object_jobs, piece_before, empty_runs, marks, NamedFrom}
+use Rattle.template_runs_scopes.proofs.Objects.{object_jobs, piece_before, marks, NamedFrom}
 use Rattle.template_runs_entry.proofs.CalledPlans.{result_jobs, result_names, argument_jobs, outcome_jobs}
 
 -- ---- the works are terms
@@ -96,7 +97,7 @@ module _ (t : Activation) (s : SettingView) (fits : IsOfUnit t s) (f : FunctionV
       (piece_first s t n (at_place f.at (act.Store count number (scalar_of (local_type f number)) None)) (item.Bind f.at number (count - suc number) ∷ []) (suc count) count (λ items rest go. gives_bind n count number (count - suc number) f.at f items rest is (depth_is count number less) go))
 
   arguments_bind : (k first base : ℕ) → first + k ≡ f.parameters → NamedFrom t base (numbers_from first k) → Runs s t n (argument_jobs f.at f (numbers_from first k) base) (bind_all f f.parameters (numbers_from first k)) f.parameters f.parameters
-  arguments_bind zero first base e named = empty_runs s t fits n [] f.parameters (λ items w go. go)
+  arguments_bind zero first base e named = nothing_done s t n f.parameters
   arguments_bind (suc k) first base e named =
       then s t n (jobs.Ready (at_place f.at (act.Address f.parameters base 0)) ∷ (jobs.Ready (at_place f.at (act.Store f.parameters first (scalar_of (local_type f first)) None)) ∷ [])) (argument_jobs f.at f (numbers_from (first + 1) k) (suc base)) (bind f f.parameters first) (bind_all f f.parameters (numbers_from (first + 1) k)) f.parameters f.parameters f.parameters
       (argument_binds first base (first_less first k f.parameters e) named.0) (arguments_bind k (first + 1) (suc base) (one_less first k f.parameters e) named.1)
@@ -125,7 +126,7 @@ module _ (t : Activation) (s : SettingView) (fits : IsOfUnit t s) (f : FunctionV
       then s t n (jobs.Ready (Mark l) ∷ []) _ [] _ count count 0 (marks s t fits n l count) all
     where
       itself : (k : ℕ) → 0 + k ≡ k
-      itself k = refl
+      itself k = omega arith
 
   -- ---- the epilogue
 
@@ -150,8 +151,8 @@ module _ (t : Activation) (s : SettingView) (fits : IsOfUnit t s) (f : FunctionV
     epilogue_runs base gives named = by (is_void f.returns) gives named
       where
         nothing_used : (used : Bool) → (used ≡ true → true ≡ false) → Runs s t n [] [] 0 (behind_own used 0)
-        nothing_used false no = empty_runs s t fits n [] 0 (λ items w go. go)
-        nothing_used true no = absurd (never (no refl))
+        nothing_used false is_so = nothing_done s t n 0
+        nothing_used true is_so = absurd (never (is_so refl))
           where
             never : true ≡ false → ⊥
             never e = cc
