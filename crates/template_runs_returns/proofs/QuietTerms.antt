@@ -188,7 +188,7 @@ module _ (u : UnitView) (g : ℕ) (callers : List Frame) where
   -- ---- all terms
 
   assigns : (l : LvalueTree) (a : TermTree) → AboutPlace l → About a → AllSettle u g callers (operands.assignment l a)
-  assigns l a first second = gives_address l _ first (gives_value a _ second (gives_step _ _ []))
+  assigns l a place about = gives_address l _ place (gives_value a _ about (gives_step _ _ []))
 
   mutual
     pub terms : (e : TermTree) → About e

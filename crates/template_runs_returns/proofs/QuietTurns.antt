@@ -41,11 +41,11 @@ module _ (u : UnitView) (g : ℕ) (callers : List Frame) where
   no_leaves rest ends = λ names values w found steps. one_turn u g callers (item.Leaves [] ∷ rest) refl names values w found steps (ends names _ _ _ _)
 
   enters : (xs : List ℕ) → Settled u g callers (item.Enters xs)
-  enters [] = no_enters
+  enters [] rest ends = no_enters rest ends
   enters (x ∷ xs) rest ends = at_once u g callers (item.Enters (x ∷ xs) ∷ rest) refl
 
   leaves : (xs : List ℕ) → Settled u g callers (item.Leaves xs)
-  leaves [] = no_leaves
+  leaves [] rest ends = no_leaves rest ends
   leaves (x ∷ xs) rest ends = at_once u g callers (item.Leaves (x ∷ xs) ∷ rest) refl
 
   truth : (b : Bool) → Settled u g callers (item.Truth b)
@@ -203,7 +203,18 @@ module _ (u : UnitView) (g : ℕ) (callers : List Frame) where
   first_ends item.NextTurn = next_turn
   first_ends item.LeaveFunction = leave_function
   first_ends item.EndBody = end_body
-  first_ends other = λ rest ends. at_once u g callers (other ∷ rest) refl
+  first_ends (item.Do at operation) = λ rest ends. at_once u g callers _ refl
+  first_ends (item.Object at o offset) = λ rest ends. at_once u g callers _ refl
+  first_ends (item.Literal at i) = λ rest ends. at_once u g callers _ refl
+  first_ends (item.Outcome at) = λ rest ends. at_once u g callers _ refl
+  first_ends (item.OnObject at local how) = λ rest ends. at_once u g callers _ refl
+  first_ends (item.Choose at test held failed) = λ rest ends. at_once u g callers _ refl
+  first_ends (item.ReadLine at unread read) = λ rest ends. at_once u g callers _ refl
+  first_ends (item.Select at o labels i) = λ rest ends. at_once u g callers _ refl
+  first_ends item.Hop = λ rest ends. at_once u g callers _ refl
+  first_ends (item.Invoke at h count used) = λ rest ends. at_once u g callers _ refl
+  first_ends (item.Bind at n depth) = λ rest ends. at_once u g callers _ refl
+  first_ends (item.LeaveOutcome at) = λ rest ends. at_once u g callers _ refl
 
   pub all_end : (items : List Item) → Ends u g callers items
   all_end [] = nothing_left

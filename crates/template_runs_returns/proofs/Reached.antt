@@ -1,6 +1,6 @@
 -- Each state of the templates stands where the source stands after some turn, for any number of turns more.
-use Rattle.std.proofs.Common.{◌≡◌, ◌≤◌, ◌<◌, ℕ, zero, suc, ◌+◌, ◌-◌, ◌==◌, ℤ, Bool, true, false, List, [], ◌∷◌, length, Option, refl, arith, ap, sym, subst, ◌∙◌}
-use Rattle.std.proofs.lemmas.Bool.{eq-eqb, eqb-true}
+use Rattle.std.proofs.Common.{◌≡◌, ◌≤◌, ◌<◌, ℕ, zero, suc, ◌+◌, ◌-◌, ℤ, nat_lt, Bool, true, false, List, [], ◌∷◌, length, Option, refl, arith, ap, sym, subst, ◌∙◌}
+use Rattle.std.proofs.lemmas.Bool.{ltb-true, ltb-false}
 use Rattle.lib_models_memory.specs.Scalars.{Scalar}
 use Rattle.lib_models_effects.specs.Worlds.{World, Why, Violation}
 use Rattle.flow_lower_tasks.specs.Pieces.{PieceView}
@@ -133,9 +133,9 @@ module _ (t : Templates) (all : AllFollow t) where
     where
       plus_one : (n : ℕ) → n + 1 ≡ suc n
       plus_one n = omega arith
-  returns_behind Q _ _ b (quiet_turns.quiet k r still later) ends n both empty =
+  returns_behind Q _ _ b (quiet_turns.quiet k r quiet later) ends n both empty =
       let x = follow t all (n + suc k) r b (subst (λ k. Alike t k r b) (plus_suc n (suc k)) both) in
-      let same : steps_from t x.steps b ≡ b = ap (λ k. steps_from t k b) (x.rests still empty) in
+      let same : steps_from t x.steps b ≡ b = ap (λ k. steps_from t k b) (x.rests quiet empty) in
       returns_behind Q k (source.next t.unit r) b later (λ m. subst (EndsWith Q) (sym (turns_later t r m)) (ends (suc m))) n (subst (λ b. Alike t (n + suc k) (source.next t.unit r) b) same x.both) empty
     where
       plus_suc : (n m : ℕ) → n + suc m ≡ suc (n + m)
@@ -195,9 +195,9 @@ module _ (t : Templates) (all : AllFollow t) where
         by : (x : Next t n (Run t.unit draws i) (source.next t.unit (Run t.unit draws i)) b) (k : ℕ) → x.steps ≡ k → Further n i (i + 1) b
         by x zero e = absurd (both_ways (subst (λ r. moves_next r ≡ true) is now) (x.moved e))
         by x (suc k) e = later_on n i (suc i) (i + 1) b (same_one i) (moved n i b x k e)
-    further _ i _ b (quiet_turns.quiet k r still later) is n both =
+    further _ i _ b (quiet_turns.quiet k r quiet later) is n both =
         let x = follow t all (n + suc k) (Run t.unit draws i) b (subst (λ k. Alike t k (Run t.unit draws i) b) (plus_suc n (suc k)) both) in
-        by x x.steps refl
+        by (λ z. further k (suc i) (source.next t.unit r) b later (ap (source.next t.unit) is) n z) x x.steps refl
       where
         plus_suc : (n m : ℕ) → n + suc m ≡ suc (n + m)
         plus_suc n m = omega arith
@@ -211,11 +211,11 @@ module _ (t : Templates) (all : AllFollow t) where
         weaker : (m : ℕ) → Further (n + suc k) i m b → Further n i m b
         weaker m f = record { turn = f.turn; early = f.early; both = alike_fewer t n (suc k) (Run t.unit draws f.turn) (runs.next t b) f.both }
 
-        by : (x : Next t (n + suc k) (Run t.unit draws i) (source.next t.unit (Run t.unit draws i)) b) (j : ℕ) → x.steps ≡ j → Further n i (i + suc (suc k)) b
-        by x zero e =
-            let f = further k (suc i) (source.next t.unit r) b later (ap (source.next t.unit) is) n (subst (λ j. Alike t (n + suc k) (Run t.unit draws (suc i)) (steps_from t j b)) e x.both) in
+        by : (Alike t (n + suc k) (Run t.unit draws (suc i)) b → Further n (suc i) (suc i + suc k) b) → (x : Next t (n + suc k) (Run t.unit draws i) (source.next t.unit (Run t.unit draws i)) b) (j : ℕ) → x.steps ≡ j → Further n i (i + suc (suc k)) b
+        by again x zero e =
+            let f = again (subst (λ j. Alike t (n + suc k) (Run t.unit draws (suc i)) (steps_from t j b)) e x.both) in
             record { turn = f.turn; early = subst (λ m. f.turn ≤ m) (moved_on i k) f.early; both = f.both }
-        by x (suc j) e = later_on n i (suc i) (i + suc (suc k)) b (enough i k) (weaker (suc i) (moved (n + suc k) i b x j e))
+        by again x (suc j) e = later_on n i (suc i) (i + suc (suc k)) b (enough i k) (weaker (suc i) (moved (n + suc k) i b x j e))
 
     -- ---- all states
 
@@ -226,10 +226,6 @@ module _ (t : Templates) (all : AllFollow t) where
     total zero = quiets 0
     total (suc b) = total b + quiets (suc b)
 
-    total_zero : total 0 ≡ quiets 0
-    unfolding total
-    total_zero = refl
-
     below_total : (b i : ℕ) → i ≤ b → quiets i ≤ total b
     unfolding total
     below_total zero i le = subst (λ k. quiets k ≤ quiets 0) (empty i le) (itself (quiets 0))
@@ -239,7 +235,7 @@ module _ (t : Templates) (all : AllFollow t) where
 
         itself : (k : ℕ) → k ≤ k
         itself k = omega arith
-    below_total (suc b) i le = by (i == suc b) refl
+    below_total (suc b) i le = by (λ i le. below_total b i le) (nat_lt i (suc b)) refl
       where
         last : (m k : ℕ) → k ≤ m + k
         last m k = omega arith
@@ -247,15 +243,15 @@ module _ (t : Templates) (all : AllFollow t) where
         more : (a m k : ℕ) → a ≤ m → a ≤ m + k
         more a m k le = omega (arith, le)
 
-        smaller : (i b : ℕ) → i ≤ suc b → (i ≡ suc b → ⊥) → i ≤ b
-        smaller i b le other = omega (arith, le, other)
+        smaller : (i b : ℕ) → i < suc b → i ≤ b
+        smaller i b less = omega (arith, less)
 
-        by : (c : Bool) → (i == suc b) ≡ c → quiets i ≤ total b + quiets (suc b)
-        by true e = subst (λ k. quiets k ≤ total b + quiets (suc b)) (sym (eqb-true i (suc b) e)) (last (total b) (quiets (suc b)))
-        by false e = more (quiets i) (total b) (quiets (suc b)) (below_total b i (smaller i b le (λ same. no (eq-eqb i (suc b) same) e)))
-          where
-            no : (i == suc b) ≡ true → (i == suc b) ≡ false → ⊥
-            no one other = cc
+        same : (i b : ℕ) → i ≤ suc b → suc b ≤ i → suc b ≡ i
+        same i b le ge = omega (arith, le, ge)
+
+        by : ((i : ℕ) → i ≤ b → quiets i ≤ total b) → (c : Bool) → nat_lt i (suc b) ≡ c → quiets i ≤ total b + quiets (suc b)
+        by earlier true e = more (quiets i) (total b) (quiets (suc b)) (earlier i (smaller i b (ltb-true i (suc b) e)))
+        by earlier false e = subst (λ k. quiets k ≤ total b + quiets (suc b)) (same i b le (ltb-false i (suc b) e)) (last (total b) (quiets (suc b)))
 
     record Stands (n bound : ℕ) (b : TemplateRun) : Type 0 where
       turn : ℕ

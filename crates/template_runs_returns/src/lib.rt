@@ -1,4 +1,4 @@
-//! What called functions name where they return, in the templates as in the source.
+//! What called functions name where they return, in the templates as in the source; turns that are no step end.
 #![tactic(auto)]
 
 mod theorems;

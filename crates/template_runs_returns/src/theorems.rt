@@ -1,4 +1,4 @@
-//! A called function that returns in the templates names what it names where it returns in the source.
+//! A called function that returns in the templates names no object where it names none in the source.
 ghost use Rattle.template_runs_returns.specs.QuietTurns.{QuietTurnsEnd};
 ghost use Rattle.template_runs_returns.specs.Returns.{ReturnsAreFollowed};
 
@@ -8,9 +8,8 @@ pub fn quiet_turns_end()
     ensures { QuietTurnsEnd }
 {}
 
-/// Where all functions follow in their templates, and in the source something holds of what each called function names that
-/// has nothing left to do, it holds of what each called function names that has no pieces left in the templates, behind any
-/// number of steps. So it is since turns of the source that are no step end.
+/// Where all functions follow in their templates, and in the source each called function that has nothing left to do names no
+/// object any more, so it is with each called function that has no pieces left in the templates, behind any number of steps.
 pub fn returns_are_followed()
     ensures { ReturnsAreFollowed }
 {}
