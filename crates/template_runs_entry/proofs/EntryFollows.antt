@@ -24,10 +24,10 @@ use Rattle.ref_machine.specs.SourceSteps.{place_of}
 use Rattle.template_runs.specs.TemplateStates.{Templates}
 use Rattle.template_runs.specs.TemplateSteps.{template_begin, steps_from}
 use Rattle.template_runs_follow.specs.Activations.{Activation, entry_of}
-use Rattle.template_runs_follow.specs.Alike.{Agree}
+use Rattle.template_runs_turns.specs.Alike.{Agree}
 use Rattle.template_runs_follow.specs.Follows.{Follows, AllFollow, pieces}
 use Rattle.template_runs_follow.proofs.Constructions.{gives_end, gives_end_body}
-use Rattle.template_runs_follow.proofs.TurnsFollow.{runs_agree}
+use Rattle.template_runs_turns.proofs.TurnsFollow.{runs_agree}
 use Rattle.template_runs_works.specs.TemplateParts.{IsOfUnit, IsKnown, Stands, stops}
 use Rattle.template_runs_works.proofs.Runs.{headed, joined, split}
 use Rattle.template_runs_works.proofs.Assignments.{one_more_job}

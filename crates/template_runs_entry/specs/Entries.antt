@@ -9,7 +9,7 @@ use Rattle.ref_machine.specs.SourceRuns.{Run}
 use Rattle.ref_machine.specs.SourceStates.{function_at}
 use Rattle.template_runs.specs.TemplateStates.{Templates}
 use Rattle.template_runs.specs.TemplateSteps.{template_begin, steps_from}
-use Rattle.template_runs_follow.specs.Alike.{Agree}
+use Rattle.template_runs_turns.specs.Alike.{Agree}
 use Rattle.template_runs_follow.specs.Follows.{Reached, AllFollow}
 use Rattle.template_runs_scopes.specs.SuitedStatements.{AllSuitIn}
 

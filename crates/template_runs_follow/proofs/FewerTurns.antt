@@ -1,16 +1,10 @@
 -- What follows for so many turns follows for fewer.
 use Rattle.std.specs.Prelude.{ℕ, zero, suc, List}
 use Rattle.flow_lower_tasks.specs.Pieces.{PieceView}
-use Rattle.lib_models_memory.specs.Scalars.{Scalar}
 use Rattle.ref_machine.specs.Items.{Item}
-use Rattle.ref_machine.specs.SourceStates.{Frame}
-use Rattle.template_runs.specs.TemplateStates as template
-use Rattle.template_runs.specs.TemplateStates.{Templates}
 use Rattle.template_runs_follow.specs.Activations.{Activation}
 use Rattle.template_runs_follow.specs.Follows as follows
 use Rattle.template_runs_follow.specs.Follows.{Follows}
-use Rattle.template_runs_follow.specs.Alike as alike
-use Rattle.template_runs_follow.specs.Alike.{Waits}
 
 pub less : {t : Activation} (n d : ℕ) (items : List Item) (ps : List PieceView) → Follows t (suc n) d items ps → Follows t n d items ps
 less zero d items ps f = follows.enough d items ps
@@ -57,8 +51,3 @@ less (suc n) _ _ _ (follows.used_outcome _ d base caller callers place f items p
 less (suc n) _ _ _ (follows.does_if_used _ d next caller callers place operation a items ps is used does go) = follows.does_if_used n d next caller callers place operation a items ps is used does (less n next items ps go)
 less (suc n) _ _ _ (follows.by_unused _ d caller callers step items ps is unused go) = follows.by_unused (suc n) d caller callers step items ps is unused (less (suc n) d items ps go)
 less (suc n) _ _ _ (follows.goes_back _ caller callers is) = follows.goes_back n caller callers is
-
--- so it is in the functions that wait
-pub wait_less : {t : Templates} (n : ℕ) {callers : List Frame} {below : List Scalar} {waiting : List template.Frame} → Waits t (suc n) callers below waiting → Waits t n callers below waiting
-wait_less n alike.none = alike.none
-wait_less n (alike.more g names items vs temps ps at used callers below waiting reached f holds rest) = alike.more g names items vs temps ps at used callers below waiting reached (less n _ items ps f) holds (wait_less n rest)

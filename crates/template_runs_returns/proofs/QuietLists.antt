@@ -10,7 +10,7 @@ use Rattle.ref_machine.specs.TermItems.{address_items, if_used}
 use Rattle.ref_machine.specs.ConditionItems.{term_items}
 use Rattle.ref_machine.specs.SourceStates.{Frame, State}
 use Rattle.ref_machine.specs.SourceRuns.{running, next}
-use Rattle.template_runs_follow.specs.Alike.{moves, moves_first}
+use Rattle.template_runs_turns.specs.Alike.{moves, moves_first}
 use Rattle.template_runs_returns.specs.QuietTurns as quiet_turns
 use Rattle.template_runs_returns.specs.QuietTurns.{Comes}
 

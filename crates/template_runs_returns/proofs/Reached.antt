@@ -17,10 +17,11 @@ use Rattle.template_runs_settled.specs.SettledRuns.{AtReturn, ReturnsWith}
 use Rattle.template_runs_follow.specs.Activations.{Activation, entry_of}
 use Rattle.template_runs_follow.specs.Follows as follows
 use Rattle.template_runs_follow.specs.Follows.{Follows, AllFollow, pieces}
-use Rattle.template_runs_follow.specs.Alike as alike
-use Rattle.template_runs_follow.specs.Alike.{Lined, Waits, Alike, Next, moves, moves_next, rest_of}
-use Rattle.template_runs_follow.proofs.FewerTurns.{less, wait_less}
-use Rattle.template_runs_follow.proofs.TurnsFollow.{follow, begun, steps_on}
+use Rattle.template_runs_turns.specs.Alike as alike
+use Rattle.template_runs_turns.specs.Alike.{Lined, Waits, Alike, Next, moves, moves_next, rest_of}
+use Rattle.template_runs_follow.proofs.FewerTurns.{less}
+use Rattle.template_runs_turns.proofs.CallsAlike.{wait_less}
+use Rattle.template_runs_turns.proofs.TurnsFollow.{follow, begun, steps_on}
 use Rattle.template_runs_returns.specs.QuietTurns as quiet_turns
 use Rattle.template_runs_returns.specs.QuietTurns.{Comes}
 use Rattle.template_runs_returns.specs.Returns.{AtEnd, EndsWith}

@@ -4,7 +4,7 @@ use Rattle.c_layout.specs.CheckedUnits.{UnitView}
 use Rattle.lib_models_effects.specs.Worlds.{World, Why, Violation}
 use Rattle.ref_machine.specs.SourceStates.{State}
 use Rattle.ref_machine.specs.SourceRuns.{SourceRun, running, stopped, next}
-use Rattle.template_runs_follow.specs.Alike.{moves, moves_next}
+use Rattle.template_runs_turns.specs.Alike.{moves, moves_next}
 
 -- behind so many of them a run has stopped, or a step, a call or a return comes next
 pub data Comes (u : UnitView) : ℕ → SourceRun → Type 0 where

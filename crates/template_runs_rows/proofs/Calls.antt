@@ -18,7 +18,7 @@ use Rattle.flow_lower_functions.specs.Turns.{has_work, template_of}
 use Rattle.ref_machine.specs.SourceRuns.{SourceRun, Run, found_in}
 use Rattle.template_runs.specs.TemplateStates.{Templates, TemplateRun}
 use Rattle.template_runs.specs.TemplateSteps.{template_begin, steps_from}
-use Rattle.template_runs_follow.specs.Alike.{Agree}
+use Rattle.template_runs_turns.specs.Alike.{Agree}
 use Rattle.template_runs_slice.specs.Units.{at, found_at, term, number, value, binary, local, function_of, unit_of, made, done, ends, address, load, store, constant, int}
 
 abbrev pub call : TermTree

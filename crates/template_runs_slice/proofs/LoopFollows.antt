@@ -13,7 +13,7 @@ use Rattle.template_runs_follow.specs.Follows as follows
 use Rattle.template_runs_follow.specs.Activations.{entry_of}
 use Rattle.template_runs_follow.specs.Follows.{Follows, AllFollow, pieces}
 use Rattle.template_runs_follow.proofs.Constructions.{gives_value, gives_unused, gives_address, gives_statement, gives_turn_end, gives_loop_end, gives_drop, gives_no_enters, gives_no_leaves, gives_step, gives_store, gives_object, gives_change, gives_enter, gives_leave, gives_return, gives_hop, gives_choice, gives_end}
-use Rattle.template_runs_follow.proofs.TurnsFollow.{runs_agree}
+use Rattle.template_runs_turns.proofs.TurnsFollow.{runs_agree}
 use Rattle.template_runs_slice.specs.Units.{at}
 use Rattle.template_runs_slice.specs.Loop.{is_less, counts, loop, quotient, main, behind_loop, in_body, in_test, of_main, templates, IsFollowed}
 

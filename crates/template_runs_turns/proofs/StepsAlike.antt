@@ -39,9 +39,9 @@ use Rattle.template_runs_acts.specs.Acts.{Holds, SameReply, SameStore}
 use Rattle.template_runs_acts.proofs.HeldValues.{holds_put}
 use Rattle.template_runs_follow.specs.Activations.{Activation, templates_of}
 use Rattle.template_runs_follow.specs.Follows.{Names, Follows, Reached, change_act}
-use Rattle.template_runs_follow.specs.Alike as alike
-use Rattle.template_runs_follow.specs.Alike.{Lined, Waits, Related, Alike, Next, moves_next, rest_of}
-use Rattle.template_runs_follow.proofs.ValuesBelow.{raised}
+use Rattle.template_runs_turns.specs.Alike as alike
+use Rattle.template_runs_turns.specs.Alike.{Lined, Waits, Related, Alike, Next, moves_next, rest_of}
+use Rattle.template_runs_turns.proofs.ValuesBelow.{raised}
 
 -- what stands below the function that runs, in both machines
 pub record Below (t : Activation) (n : ℕ) : Type 0 where

@@ -55,14 +55,14 @@ use Rattle.template_runs_acts.proofs.CallsAgree.{calls_agree}
 use Rattle.template_runs_follow.specs.Activations.{Activation, templates_of, activation, entry_of, of_entry}
 use Rattle.template_runs_follow.specs.Follows as follows
 use Rattle.template_runs_follow.specs.Follows.{pieces, own, Leads, SameTest, IsEdge, Selected, Follows, Reached, AllFollow, at_place}
-use Rattle.template_runs_follow.specs.Alike as alike
-use Rattle.template_runs_follow.specs.Alike.{Lined, Waits, Related, Alike, Next, Agree, moves_next, rest_of}
-use Rattle.template_runs_follow.proofs.FewerTurns.{less, wait_less}
-use Rattle.template_runs_follow.proofs.ValuesBelow.{performed_above, copied_above, library_above}
-use Rattle.template_runs_follow.proofs.CallsAlike.{no_callers, parted_at, called, done_if_used, returned}
-use Rattle.template_runs_follow.proofs.StepsAlike.{Below, first_then, one_piece, some_left, starts, lined, src, std, stay, ran, halted, operated, stored, pointed_to, pointed_to_literal, changed_alike, entered_alike, left_alike, outcome_pointed_to, outcome_entered, outcome_left, bound}
-use Rattle.template_runs_follow.proofs.TestsAlike as testing
-use Rattle.template_runs_follow.proofs.TestsAlike.{SameTesting, held_alike, failed_alike, cases_alike}
+use Rattle.template_runs_turns.specs.Alike as alike
+use Rattle.template_runs_turns.specs.Alike.{Lined, Waits, Related, Alike, Next, Agree, moves_next, rest_of}
+use Rattle.template_runs_follow.proofs.FewerTurns.{less}
+use Rattle.template_runs_turns.proofs.ValuesBelow.{performed_above, copied_above, library_above}
+use Rattle.template_runs_turns.proofs.CallsAlike.{wait_less, no_callers, parted_at, called, done_if_used, returned}
+use Rattle.template_runs_turns.proofs.StepsAlike.{Below, first_then, one_piece, some_left, starts, lined, src, std, stay, ran, halted, operated, stored, pointed_to, pointed_to_literal, changed_alike, entered_alike, left_alike, outcome_pointed_to, outcome_entered, outcome_left, bound}
+use Rattle.template_runs_turns.proofs.TestsAlike as testing
+use Rattle.template_runs_turns.proofs.TestsAlike.{SameTesting, held_alike, failed_alike, cases_alike}
 
 no_value : (n : ℕ) → 0 ≡ suc n → ⊥
 no_value n e = omega (arith, e)

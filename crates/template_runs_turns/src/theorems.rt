@@ -1,5 +1,5 @@
 //! Where the items of the source stand in the pieces of templates, a run of the unit is one of the templates.
-ghost use Rattle.template_runs_follow.specs.Alike.{TurnsAreFollowed, RunsAreFollowed};
+ghost use Rattle.template_runs_turns.specs.Alike.{TurnsAreFollowed, RunsAreFollowed};
 
 /// Where both runs stand alike for one turn more, a turn of the source is so many pieces of the templates: none, or one,
 /// and before it the labels and what is done only where a call's value is used. A step, a call and a return are a piece, and

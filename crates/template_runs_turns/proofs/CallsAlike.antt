@@ -30,11 +30,17 @@ use Rattle.template_runs_acts.specs.Acts.{Holds}
 use Rattle.template_runs_follow.specs.Activations.{Activation, templates_of, activation}
 use Rattle.template_runs_follow.specs.Follows as follows
 use Rattle.template_runs_follow.specs.Follows.{pieces, Follows, AllFollow, IsCalled, CallsThere, Reached, behind_own}
-use Rattle.template_runs_follow.specs.Alike as alike
-use Rattle.template_runs_follow.specs.Alike.{Waits, Alike, Next}
-use Rattle.template_runs_follow.proofs.StepsAlike.{Below, src, std, one_piece, some_left}
+use Rattle.template_runs_follow.proofs.FewerTurns.{less}
+use Rattle.template_runs_turns.specs.Alike as alike
+use Rattle.template_runs_turns.specs.Alike.{Waits, Alike, Next}
+use Rattle.template_runs_turns.proofs.StepsAlike.{Below, src, std, one_piece, some_left}
 
 -- ---- functions that wait
+
+-- they wait for fewer turns too
+pub wait_less : {t : Templates} (n : ℕ) {callers : List Frame} {below : List Scalar} {waiting : List template.Frame} → Waits t (suc n) callers below waiting → Waits t n callers below waiting
+wait_less n alike.none = alike.none
+wait_less n (alike.more g names items vs temps ps at used callers below waiting reached f holds rest) = alike.more g names items vs temps ps at used callers below waiting reached (less n _ items ps f) holds (wait_less n rest)
 
 pub no_callers : (callers : List Frame) → is_entry callers ≡ true → callers ≡ []
 no_callers [] entry = refl
