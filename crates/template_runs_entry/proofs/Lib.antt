@@ -1,2 +1,6 @@
 pub mod ScopeTrees
+pub mod Bodies
+pub mod CalledPlans
+pub mod CalledFollows
+pub mod CalledFunctions
 pub mod EntryFollows

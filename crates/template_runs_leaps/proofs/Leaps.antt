@@ -15,7 +15,7 @@ use Rattle.flow_lower_works.specs.Derivations.{Makes}
 use Rattle.ref_machine.specs.Items as item
 use Rattle.ref_machine.specs.Items.{Item}
 use Rattle.ref_machine.specs.Scopes.{jump, open_scopes, leap_in, entering_first}
-use Rattle.template_runs.specs.TemplateStates.{Templates}
+use Rattle.template_runs_follow.specs.Activations.{Activation}
 use Rattle.template_runs_follow.specs.Follows.{Follows}
 use Rattle.template_runs_works.specs.TemplateParts.{IsOfUnit, IsKnown, Stands}
 use Rattle.template_runs_works.proofs.Runs.{Runs, then, then_ends}
@@ -45,7 +45,7 @@ chain_there s _ _ (chains.inside number around objects scopes is chain) = at_mos
     at_most : (a b : ℕ) → a < b → a ≤ b
     at_most a b less = omega (arith, less)
 
-module _ (s : SettingView) (t : Templates) (fits : IsOfUnit t s) (n : ℕ) where
+module _ (s : SettingView) (t : Activation) (fits : IsOfUnit t s) (n : ℕ) where
   -- some objects are left and others entered, and then a jump leads behind a label
   pub leaves_enters : (xs ys : List ℕ) (landing : Landing) (to : List Item) (there : List PieceView) → ((w : List PieceView) → Follows t n 0 (item.Hop ∷ to) (jumping s.at landing.label ∷ w)) → (p : Plan) → p.jobs ≡ []
       → (ps : List PieceView) (r : Plan) → Makes s (planless (branches.jump s.at landing.label (all_entered s.at ys (all_left s.at xs p)))) (branches.jump s.at landing.label (all_entered s.at ys (all_left s.at xs p))).jobs ps r → IsKnown t r → (rest : List PieceView) → Stands t (ps ++ rest)
@@ -95,14 +95,14 @@ module _ (s : SettingView) (t : Templates) (fits : IsOfUnit t s) (n : ℕ) where
       (subst (λ ys. Follows t n 0 (item.Leaves w.leaves ∷ (item.Enters ys ∷ (item.Hop ∷ to))) (ps ++ rest)) (sym w.entered)
       (leaves_enters w.leaves w.enters landing to there hop p none ps r (subst (λ x. Makes s (planless x) x.jobs ps r) is_all m) known rest stands))
 
-module _ (s : SettingView) (t : Templates) (fits : IsOfUnit t s) (apart : AreApart s) where
+module _ (s : SettingView) (t : Activation) (fits : IsOfUnit t s) (apart : AreApart s) where
   pub leaps : (n from : ℕ) (landing : Landing) (items to : List Item) → Chain s from (open_scopes items) → Lies s t n landing to
       → (p : Plan) → p.jobs ≡ [] → (ps : List PieceView) (r : Plan) → Makes s (planless (leap s from landing p)) (leap s from landing p).jobs ps r → IsKnown t r → (rest : List PieceView) → Stands t (ps ++ rest) → Follows t n 0 (jump items to) (ps ++ rest)
   leaps n from landing items to here l p none ps r m known rest stands =
       leaps_by s t fits n from landing items to (way_of s apart from landing.scope (open_scopes items) (open_scopes to) here l.scopes) (chain_there s from (open_scopes items) here) (chain_there s landing.scope (open_scopes to) l.scopes) l.there
       (λ w. hops s t fits n 0 landing.label to w l.there l.leads l.follows) p none ps r m known rest stands
 
-module _ (s : SettingView) (t : Templates) (fits : IsOfUnit t s) where
+module _ (s : SettingView) (t : Activation) (fits : IsOfUnit t s) where
   -- a way on which nothing is left
   pub edges : (n from : ℕ) (landing : Landing) (items to : List Item) → from ≤ length s.scopes.scopes → (l : Lies s t n landing to) → (w : chains.IsWay s from landing.scope (open_scopes items) (open_scopes to)) → w.leaves ≡ []
       → (p : Plan) → p.jobs ≡ [] → (ps : List PieceView) (r : Plan) → Makes s (planless (leap s from landing p)) (leap s from landing p).jobs ps r → IsKnown t r → (rest : List PieceView) → Stands t (ps ++ rest)

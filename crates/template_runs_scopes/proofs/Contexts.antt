@@ -10,7 +10,7 @@ use Rattle.flow_lower_statements.specs.Loops.{in_loop}
 use Rattle.ref_machine.specs.Items as item
 use Rattle.ref_machine.specs.Items.{Item}
 use Rattle.ref_machine.specs.Scopes.{is_in, all_of, open_scopes, without, inwards, behind_loop, behind_turn}
-use Rattle.template_runs.specs.TemplateStates.{Templates}
+use Rattle.template_runs_follow.specs.Activations.{Activation}
 use Rattle.template_runs_follow.specs.Follows.{Leads, Follows}
 use Rattle.template_runs_scopes.specs.Scopes.{IsScope}
 use Rattle.template_runs_scopes.specs.SuitedStatements.{AreNew}
@@ -71,7 +71,7 @@ pub inwards_in : (scopes : List (List ℕ)) → AreIn (inwards scopes) (all_of s
 inwards_in [] = tt
 inwards_in (scope ∷ scopes) = both_in (inwards scopes) scope (scope ++ all_of scopes) (in_more_all scope (inwards scopes) (all_of scopes) (inwards_in scopes)) (front_in scope [] (all_of scopes))
 
-module _ (s : SettingView) (t : Templates) where
+module _ (s : SettingView) (t : Activation) where
   -- ---- blocks
 
   through : (a b c : ℕ) → a ≤ b → b < c → a < c

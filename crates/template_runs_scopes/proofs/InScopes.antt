@@ -11,7 +11,7 @@ use Rattle.flow_lower_works.specs.Derivations.{is_piece, parts, Makes}
 use Rattle.flow_lower_works.proofs.Derivations.{parted}
 use Rattle.flow_lower_growth.proofs.GrowingWorks.{grows, jobs_none}
 use Rattle.ref_machine.specs.Items.{Item}
-use Rattle.template_runs.specs.TemplateStates.{Templates}
+use Rattle.template_runs_follow.specs.Activations.{Activation}
 use Rattle.template_runs_follow.specs.Follows.{Follows}
 use Rattle.template_runs_follow.proofs.FewerTurns.{less}
 use Rattle.template_runs_works.specs.TemplateParts.{IsKnown, Stands}
@@ -20,7 +20,7 @@ use Rattle.template_runs_scopes.proofs.KeptScopes.{AreTerms}
 use Rattle.template_runs_scopes.proofs.ScopesOfTerms.{scopes_kept}
 use Rattle.template_runs_scopes.specs.Contexts.{Lands, Context}
 
-module _ (s : SettingView) (t : Templates) where
+module _ (s : SettingView) (t : Activation) where
   -- ---- fewer turns
 
   lands_less : (n : ℕ) (scopes : List (List ℕ)) (to : List Item) (from : ℕ) (landing : Landing) → Lands s t (suc n) scopes to from landing → Lands s t n scopes to from landing

@@ -6,7 +6,7 @@ use Rattle.flow_lower_tasks.specs.declared.pending_works.Landing.{Landing}
 use Rattle.flow_lower_tasks.specs.declared.pending_works.Surroundings.{Surroundings}
 use Rattle.ref_machine.specs.Items.{Item}
 use Rattle.ref_machine.specs.Scopes.{is_in, all_of, open_scopes, without, inwards, behind_loop, behind_turn}
-use Rattle.template_runs.specs.TemplateStates.{Templates}
+use Rattle.template_runs_follow.specs.Activations.{Activation}
 use Rattle.template_runs_follow.specs.Follows.{Leads, Follows}
 use Rattle.template_runs_scopes.specs.Scopes.{IsScope}
 
@@ -20,7 +20,7 @@ abbrev pub AreIn : List ℕ → List ℕ → Type 0
 AreIn [] known = Unit {0}
 AreIn (x ∷ xs) known = (is_in x known ≡ true) × AreIn xs known
 
-module _ (s : SettingView) (t : Templates) where
+module _ (s : SettingView) (t : Activation) where
   -- a jump from such scopes to items behind a label leaves such objects and enters none
   pub record Lands (n : ℕ) (scopes : List (List ℕ)) (to : List Item) (from : ℕ) (landing : Landing) : Type 0 where
     pub objects : List ℕ

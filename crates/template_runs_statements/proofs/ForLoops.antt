@@ -25,7 +25,7 @@ use Rattle.flow_lower_works.proofs.Derivations.{parted}
 use Rattle.ref_machine.specs.Items as item
 use Rattle.ref_machine.specs.Items.{Item}
 use Rattle.ref_machine.specs.StatementItems.{of_statement, statements, clause, for_body, for_turn}
-use Rattle.template_runs.specs.TemplateStates.{Templates}
+use Rattle.template_runs_follow.specs.Activations.{Activation, of_entry}
 use Rattle.template_runs_follow.specs.Follows as follows
 use Rattle.template_runs_follow.specs.Follows.{Leads, Follows}
 use Rattle.template_runs_follow.proofs.Constructions.{gives_statement, gives_loop_end, gives_turn_end}
@@ -153,20 +153,20 @@ clause_loop : (after : Option TermTree) (more : List Item) → behind_loop (clau
 clause_loop None more = refl
 clause_loop (Some e) more = refl
 
-module _ (s : SettingView) (t : Templates) (fits : IsOfUnit t s) where
-  clause_runs : (m : ℕ) (after : Option TermTree) → SuitsIf false after → Runs s t m (clause_jobs after) (clause after) 0 0
+module _ (s : SettingView) (t : Activation) (fits : IsOfUnit t s) where
+  clause_runs : (m : ℕ) (after : Option TermTree) → SuitsIf t.unit false after → Runs s t m (clause_jobs after) (clause after) 0 0
   clause_runs m None suits = nothing_done s t m 0
   clause_runs m (Some e) suits = (terms s t fits m e).done 0 suits.0 suits.1
 
   -- the condition of a turn, or none
-  test_follows : (m : ℕ) (test after : Option TermTree) (body : StatementTree) (l : ℕ) → SuitsIf true test → (p : Plan) → p.jobs ≡ [] → (ft : List PieceView) (pt : Plan) → Makes s p (test_jobs test l) ft pt → IsKnown t pt → (more : List Item) (w rest : List PieceView) → Stands t (ft ++ Mark (l + 2) ∷ w) → Leads t (l + 2) w → Leads t (l + 4) rest
+  test_follows : (m : ℕ) (test after : Option TermTree) (body : StatementTree) (l : ℕ) → SuitsIf t.unit true test → (p : Plan) → p.jobs ≡ [] → (ft : List PieceView) (pt : Plan) → Makes s p (test_jobs test l) ft pt → IsKnown t pt → (more : List Item) (w rest : List PieceView) → Stands t (ft ++ Mark (l + 2) ∷ w) → Leads t (l + 2) w → Leads t (l + 4) rest
       → Follows t m 0 (for_body test after body ++ more) w → Follows t m 0 more rest → Follows t m 0 (for_turn t.unit test after body ++ more) (ft ++ Mark (l + 2) ∷ w)
   test_follows m None after body l suits p none ft pt mt known more w rest stands to_body to_last f g =
       subst (λ xs. Follows t m 0 (for_body None after body ++ more) (xs ++ Mark (l + 2) ∷ w)) (sym (none_made s p ft pt mt)) (follows.by_mark m 0 (l + 2) (for_body None after body ++ more) w f)
   test_follows m (Some e) after body l suits p none ft pt mt known more w rest stands to_body to_last f g =
       (terms s t fits m e).decided (decided (record { yes = l + 2; no = l + 4 }) 0) suits.0 suits.1 p none ft pt mt known (for_body (Some e) after body) [] more (Mark (l + 2) ∷ w) w rest stands to_body to_last f g
 
-  module _ (test after : Option TermTree) (body : StatementTree) (about : AboutStatement s t body) (around : Surroundings) (looping : Bool) (known : List ℕ) (c l : ℕ) (suits_test : SuitsIf true test) (suits_after : SuitsIf false after) (suits_body : SuitsIn true known body) (scopes : HasScopes s body around.scope c) (few : l + 5 ≤ 2 ^ 32 - 1)
+  module _ (test after : Option TermTree) (body : StatementTree) (about : AboutStatement s t body) (around : Surroundings) (looping : Bool) (known : List ℕ) (c l : ℕ) (suits_test : SuitsIf t.unit true test) (suits_after : SuitsIf t.unit false after) (suits_body : SuitsIn t.unit true known body) (scopes : HasScopes s body around.scope c) (few : l + 5 ≤ 2 ^ 32 - 1)
       (p : Plan) (none : p.jobs ≡ []) (ft : List PieceView) (pt : Plan) (mt : Makes s p (test_jobs test l) ft pt) (known_t : IsKnown t pt) (none_t : pt.jobs ≡ []) (begun : pt.scopes ≡ c)
       (fb : List PieceView) (pb : Plan) (mb : Makes s pt (jobs.Statement body (in_loop around (l + 4) (l + 3)) ∷ []) fb pb) (known_b : IsKnown t pb) (none_b : pb.jobs ≡ [])
       (fs : List PieceView) (pa : Plan) (ma : Makes s pb (clause_jobs after) fs pa) (known_a : IsKnown t pa) (items : List Item) (rest : List PieceView) where
@@ -224,7 +224,7 @@ module _ (s : SettingView) (t : Templates) (fits : IsOfUnit t s) where
   kept_many : (p : Plan) (js : List Job) (ps : List PieceView) (r : Plan) → AreTerms js → p.jobs ≡ [] → Makes s p js ps r → r.scopes ≡ p.scopes
   kept_many p js ps r terms none m = (scopes_kept s p js ps r m (subst AreTerms (sym none) tt) terms).0
 
-  turns_count : (test after : Option TermTree) (body : StatementTree) (about : AboutStatement s t body) (around : Surroundings) (known : List ℕ) (c l n : ℕ) → SuitsIn true known body → HasScopes s body around.scope c → Counts s c (c + scopes_in body) (turn_jobs s.at test after body around l)
+  turns_count : (test after : Option TermTree) (body : StatementTree) (about : AboutStatement s t body) (around : Surroundings) (known : List ℕ) (c l n : ℕ) → SuitsIn t.unit true known body → HasScopes s body around.scope c → Counts s c (c + scopes_in body) (turn_jobs s.at test after body around l)
   unfolding turn_jobs
   turns_count test after body about around known c l n suits_body scopes =
       count_on s c c (c + scopes_in body) (jobs.Ready (Mark (l + 1)) ∷ []) _ (count_terms s c _ (tt, tt))
@@ -234,7 +234,7 @@ module _ (s : SettingView) (t : Templates) (fits : IsOfUnit t s) where
       (count_on s (c + scopes_in body) (c + scopes_in body) (c + scopes_in body) (jobs.Ready (Mark (l + 3)) ∷ []) _ (count_terms s (c + scopes_in body) _ (tt, tt))
       (count_on s (c + scopes_in body) (c + scopes_in body) (c + scopes_in body) (clause_jobs after) _ (count_terms s (c + scopes_in body) _ (clauses_are_terms after)) (count_terms s (c + scopes_in body) _ (tt, (tt, tt))))))))
 
-  turns_go : (n : ℕ) (test after : Option TermTree) (body : StatementTree) (about : AboutStatement s t body) (around : Surroundings) (looping : Bool) (known : List ℕ) (c l : ℕ) → SuitsIf true test → SuitsIf false after → SuitsIn true known body → HasScopes s body around.scope c → l + 5 ≤ 2 ^ 32 - 1
+  turns_go : (n : ℕ) (test after : Option TermTree) (body : StatementTree) (about : AboutStatement s t body) (around : Surroundings) (looping : Bool) (known : List ℕ) (c l : ℕ) → SuitsIf t.unit true test → SuitsIf t.unit false after → SuitsIn t.unit true known body → HasScopes s body around.scope c → l + 5 ≤ 2 ^ 32 - 1
       → Goes s t n c (c + scopes_in body) (Within s t n around looping known) (turn_jobs s.at test after body around l) (item.ForTurn test after body ∷ (item.LoopEnd ∷ []))
   unfolding turn_jobs
   turns_go n test after body about around looping known c l suits_test suits_after suits_body scopes few = record {
@@ -276,7 +276,7 @@ module _ (s : SettingView) (t : Templates) (fits : IsOfUnit t s) where
       let starts = about_first n inner false more (suc c) suits.1 scopes.1 in
       let same : (p : Plan) → p.jobs ≡ [] → p.scopes ≡ c → Planned s.at objects (statement_jobs first inner ++ turn_jobs s.at test after body inner p.labels) p.labels p (parts s j p) = λ p none begun_p. subst (λ k. Planned s.at objects (statement_jobs first (in_scope around k) ++ turn_jobs s.at test after body (in_scope around k) p.labels) p.labels p (parts s j p)) begun_p (for_planned s objects first test after body around p none) in
       subst (λ k. Goes s t n c k (Within s t n around looping known) (j ∷ []) (item.Statement (tree.For objects first test after body) ∷ [])) (sums c (all_scopes_in first) (scopes_in body))
-      (gives_way s t n c last (Within s t n around looping known) j (item.Statement (tree.For objects first test after body)) (of_statement t.unit true (tree.For objects first test after body)) refl (gives_statement n 0 (tree.For objects first test after body))
+      (gives_way s t n c last (Within s t n around looping known) j (item.Statement (tree.For objects first test after body)) (of_statement t.unit (of_entry t) (tree.For objects first test after body)) refl (gives_statement n 0 (tree.For objects first test after body))
       (λ p none begun_p ps r m known_last items rest stands k f.
       let all = parts s j p in
       let x = same p none begun_p in

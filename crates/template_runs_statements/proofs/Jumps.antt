@@ -1,11 +1,9 @@
--- `break`, `continue` and `return`.
+-- `break` and `continue`.
 use Rattle.std.proofs.Common.{◌≡◌, ◌≤◌, ℕ, zero, suc, ◌==◌, Bool, true, cond, nat_lt, List, [], ◌∷◌, ◌++◌, length, Option, Some, None, refl, ap, sym, subst, ◌∙◌, append_assoc}
 use Rattle.cc_base.specs.declared.diagnostics.Place.{Place}
-use Rattle.c_layout.specs.CheckedUnits.{FunctionView}
 use Rattle.c_layout.specs.CheckedTrees as tree
-use Rattle.c_layout.specs.CheckedTrees.{TermTree, StatementTree}
 use Rattle.flow_lower_tasks.specs.Acts as act
-use Rattle.flow_lower_tasks.specs.Pieces.{PieceView, End}
+use Rattle.flow_lower_tasks.specs.Pieces.{PieceView}
 use Rattle.flow_lower_tasks.specs.Plans.{Plan, with_work}
 use Rattle.flow_lower_tasks.specs.Scopes.{ScopeView}
 use Rattle.flow_lower_tasks.specs.Settings.{SettingView}
@@ -16,28 +14,23 @@ use Rattle.flow_lower_tasks.specs.declared.pending_works.Surroundings.{Surroundi
 use Rattle.flow_lower_expressions.specs.Branches as branches
 use Rattle.flow_lower_statements.specs.ScopeJumps as scopes
 use Rattle.flow_lower_statements.specs.ScopeJumps.{way, way_between, leap, all_left, all_entered}
-use Rattle.flow_lower_statements.specs.Jumps as lowered
 use Rattle.flow_lower_functions.specs.Turns.{planless}
 use Rattle.flow_lower_works.specs.Derivations.{parts, Makes}
 use Rattle.flow_lower_works.proofs.Derivations.{parted}
 use Rattle.flow_lower_growth.proofs.GrowingWorks.{jobs_none}
-use Rattle.ref_machine.specs.StatementItems.{of_statement}
 use Rattle.ref_machine.specs.Items as item
 use Rattle.ref_machine.specs.Items.{Item}
 use Rattle.ref_machine.specs.Scopes.{jump, all_of, open_scopes, without, inwards, behind_loop, behind_turn}
-use Rattle.ref_machine.specs.SourceStates.{function_at}
-use Rattle.template_runs.specs.TemplateStates.{Templates}
+use Rattle.template_runs_follow.specs.Activations.{Activation}
 use Rattle.template_runs_follow.specs.Follows as follows
 use Rattle.template_runs_follow.specs.Follows.{own, Follows}
 use Rattle.template_runs_follow.proofs.FewerTurns.{less}
-use Rattle.template_runs_follow.proofs.Constructions.{gives_statement, gives_no_enters, gives_return, gives_end}
+use Rattle.template_runs_follow.proofs.Constructions.{gives_statement, gives_no_enters}
 use Rattle.template_runs_works.specs.TemplateParts.{IsOfUnit, IsKnown, Stands}
 use Rattle.template_runs_works.proofs.Runs.{Runs, then_ends, dropped, stands_behind, joined, split}
 use Rattle.template_runs_works.proofs.Assignments.{one_more_job, nothing_done}
 use Rattle.template_runs_terms.proofs.Choices.{jumping, hops}
 use Rattle.template_runs_works.proofs.Laying.{known_between}
-use Rattle.template_runs_terms.proofs.Terms.{terms}
-use Rattle.template_runs_scopes.specs.SuitedStatements.{SuitsIf}
 use Rattle.template_runs_scopes.proofs.KeptScopes.{AreTerms, Keeps, keeps_or, kept}
 use Rattle.template_runs_scopes.proofs.ScopesOfTerms.{scopes_kept}
 use Rattle.template_runs_scopes.specs.Contexts.{Lands, Within}
@@ -55,7 +48,7 @@ pub keeps_left : {start : Plan} (at : Place) (xs : List ℕ) (p : Plan) → Keep
 keeps_left at [] p g = g
 keeps_left at (x ∷ xs) p g = keeps_left at xs (scopes.left at x p) (search kept depth 30)
 
-keeps_way : {start : Plan} (s : SettingView) (steps : List ScopeView) (from to : ℕ) (p : Plan) → Keeps start p → Keeps start (way s steps from to p)
+pub keeps_way : {start : Plan} (s : SettingView) (steps : List ScopeView) (from to : ℕ) (p : Plan) → Keeps start p → Keeps start (way s steps from to p)
 keeps_way s [] from to p g = g
 keeps_way s (x ∷ steps) from to p g =
     let inward = keeps_entered s.at (scopes.objects s to) (way s steps from (scopes.around s to) p) (keeps_way s steps from (scopes.around s to) p g) in
@@ -65,24 +58,17 @@ keeps_way s (x ∷ steps) from to p g =
 keeps_leap : {start : Plan} (s : SettingView) (from : ℕ) (to : Landing) (p : Plan) → Keeps start p → Keeps start (leap s from to p)
 keeps_leap s from to p g = let on_way = keeps_way s s.scopes.scopes from to.scope p g in search kept depth 30
 
-keeps_given : {start : Plan} (s : SettingView) (at : Place) (e : Option TermTree) (p : Plan) → Keeps start p → Keeps start (lowered.given s at e p)
-keeps_given s at None p g = g
-keeps_given s at (Some e) p g = search kept depth 30
-
-keeps_end : {start : Plan} (s : SettingView) (at : Place) (from : ℕ) (p : Plan) → Keeps start p → Keeps start (lowered.end s at from p)
-keeps_end s at from p g = let on_way = keeps_way s s.scopes.scopes from 0 p g in search (kept, keeps_left) depth 30
-
-work_names : (j : Job) (p : Plan) → (with_work j p).names ≡ p.names
+pub work_names : (j : Job) (p : Plan) → (with_work j p).names ≡ p.names
 unfolding with_work
 work_names j p = refl
 
-module _ (s : SettingView) (t : Templates) (fits : IsOfUnit t s) (n : ℕ) where
+module _ (s : SettingView) (t : Activation) (fits : IsOfUnit t s) (n : ℕ) where
   -- a work whose plan begins no scope
-  no_scopes : (j : Job) (c : ℕ) → ((p : Plan) → p.jobs ≡ [] → Keeps p (parts s j p)) → (p : Plan) → p.jobs ≡ [] → p.scopes ≡ c → (ps : List PieceView) (r : Plan) → Makes s (planless (parts s j p)) (parts s j p).jobs ps r → r.scopes ≡ c
+  pub no_scopes : (j : Job) (c : ℕ) → ((p : Plan) → p.jobs ≡ [] → Keeps p (parts s j p)) → (p : Plan) → p.jobs ≡ [] → p.scopes ≡ c → (ps : List PieceView) (r : Plan) → Makes s (planless (parts s j p)) (parts s j p).jobs ps r → r.scopes ≡ c
   no_scopes j c keeps p none begun ps r m = (scopes_kept s (planless (parts s j p)) (parts s j p).jobs ps r m tt (keeps p none).terms).0 ∙ (keeps p none).scopes ∙ begun
 
   -- some works, and then objects are left and a piece ends the block
-  leaves_and : (q : Plan) (xs : List ℕ) (p : Plan) → Planned act.Leave s.at xs p q → (front : List Job) (is : List Item) → p.jobs ≡ front → Runs s t n front is 0 0 → (last : PieceView) (all : Plan) → all.jobs ≡ q.jobs ++ jobs.Ready last ∷ [] → all.names ≡ q.names → (ps : List PieceView) (r : Plan) → Makes s (planless all) all.jobs ps r → IsKnown t r → (items hs : List Item) (rest : List PieceView) → Stands t (ps ++ rest)
+  pub leaves_and : (q : Plan) (xs : List ℕ) (p : Plan) → Planned act.Leave s.at xs p q → (front : List Job) (is : List Item) → p.jobs ≡ front → Runs s t n front is 0 0 → (last : PieceView) (all : Plan) → all.jobs ≡ q.jobs ++ jobs.Ready last ∷ [] → all.names ≡ q.names → (ps : List PieceView) (r : Plan) → Makes s (planless all) all.jobs ps r → IsKnown t r → (items hs : List Item) (rest : List PieceView) → Stands t (ps ++ rest)
       → ((w : List PieceView) → Follows t n 0 (item.Leaves xs ∷ items) w → Follows t n 0 hs w) → ((w : List PieceView) → Follows t n 0 items (last ∷ w)) → Follows t n 0 (is ++ hs) (ps ++ rest)
   leaves_and q xs p planned front is before runs last all jobs_are names_are ps r m known items hs rest stands wrap end =
       let known_all = known_between s t (planless all) all.jobs ps r m known in
@@ -114,6 +100,18 @@ module _ (s : SettingView) (t : Templates) (fits : IsOfUnit t s) (n : ℕ) where
       by zero f = follows.enough _ _ _
       by (suc n) f = follows.next_turn n 0 items ps (less n 0 _ ps f)
 
+  -- some works, others behind them, and then a piece that ends the block
+  pub works_and : (front js : List Job) (is ls : List Item) (last : PieceView) (all : Plan) → all.jobs ≡ (front ++ js) ++ jobs.Ready last ∷ [] → (IsKnown t (planless all) → Runs s t n front is 0 0) → (IsKnown t (planless all) → Runs s t n js ls 0 0) → (ps : List PieceView) (r : Plan) → Makes s (planless all) all.jobs ps r → IsKnown t r → (items hs : List Item) (rest : List PieceView) → Stands t (ps ++ rest)
+      → ((w : List PieceView) → Follows t n 0 (ls ++ items) w → Follows t n 0 hs w) → ((w : List PieceView) → Follows t n 0 items (last ∷ w)) → Follows t n 0 (is ++ hs) (ps ++ rest)
+  works_and front js is ls last all jobs_are runs others ps r m known items hs rest stands wrap end =
+      let known_all = known_between s t (planless all) all.jobs ps r m known in
+      let is_js : all.jobs ≡ front ++ (js ++ jobs.Ready last ∷ []) = jobs_are ∙ append_assoc front js (jobs.Ready last ∷ []) in
+      let x = parted s (planless all) front (js ++ jobs.Ready last ∷ []) ps r (subst (λ ks. Makes s (planless all) ks ps r) is_js m) in
+      let here = split s t n ps x.front x.back rest x.all stands in
+      let none_between = jobs_none s (planless all) front x.front x.between x.first refl in
+      let later = then_ends s t n js ls 0 0 x.between none_between ((others known_all).from x.between none_between) last x.back r x.second known items rest (stands_behind t x.front (x.back ++ rest) here) end in
+      joined s t n 0 (is ++ hs) ps x.front x.back rest x.all ((runs known_all).from (planless all) refl x.front x.between x.first (known_between s t x.between (js ++ jobs.Ready last ∷ []) x.back r x.second known) hs (x.back ++ rest) here (wrap (x.back ++ rest) later))
+
   -- a jump outwards
   jumps : (from : ℕ) (landing : Landing) (items to : List Item) → from ≤ length s.scopes.scopes → Lands s t n (open_scopes items) to from landing → (p : Plan) → p.jobs ≡ [] → (ps : List PieceView) (r : Plan) → Makes s (planless (leap s from landing p)) (leap s from landing p).jobs ps r → IsKnown t r → (rest : List PieceView) → Stands t (ps ++ rest)
       → Follows t n 0 (jump items to) (ps ++ rest)
@@ -136,49 +134,3 @@ module _ (s : SettingView) (t : Templates) (fits : IsOfUnit t s) (n : ℕ) where
     continues e = gives_way s t n c c (Within s t n around looping known) (jobs.Statement tree.Continue around) (item.Statement tree.Continue) (item.NextTurn ∷ []) refl (gives_statement n 0 tree.Continue)
         (λ p none begun ps r m known items rest stands k f. gives_continue items (ps ++ rest) (jumps around.scope around.on_continue items (behind_turn items) k.enough (k.on_continue e) p none ps r m known rest stands))
         (no_scopes (jobs.Statement tree.Continue around) c (λ p none. keeps_leap s around.scope around.on_continue p (record { scopes = refl; terms = subst AreTerms (sym none) tt })))
-
-    -- ---- `return` from the entry
-
-    module _ (f : FunctionView) (is_f : function_at t.unit t.unit.entry ≡ Some f) (is_entry : s.is_entry ≡ true) where
-      abbrev value_jobs : Option TermTree → List Job
-      value_jobs None = []
-      value_jobs (Some e) = jobs.Value e 0 ∷ []
-
-      abbrev value_items : Option TermTree → List Item
-      value_items None = []
-      value_items (Some e) = item.Value e ∷ (item.Drop ∷ [])
-
-      abbrev value_plan : Option TermTree → Plan → Plan
-      value_plan None p = p
-      value_plan (Some e) p = with_work (jobs.Value e 0) p
-
-      value_planned : (e : Option TermTree) (p : Plan) → p.jobs ≡ [] → (value_plan e p).jobs ≡ value_jobs e
-      value_planned None p none = none
-      value_planned (Some e) p none = one_more_job [] (jobs.Value e 0) p none
-
-      value_runs : (e : Option TermTree) → SuitsIf true e → Runs s t n (value_jobs e) (value_items e) 0 0
-      value_runs None suits = nothing_done s t n 0
-      value_runs (Some e) suits = dropped s t n (jobs.Value e 0 ∷ []) (item.Value e ∷ []) 0 ((terms s t fits n e).value 0 suits.0 suits.1)
-
-      given_is : (at : Place) (e : Option TermTree) (p : Plan) → lowered.given s at e p ≡ value_plan e p
-      given_is at None p = refl
-      given_is at (Some e) p = ap (λ b. cond b (with_work (jobs.Value e 0) p) (lowered.outcome at e p)) is_entry
-
-      returned_items : (at : Place) (e : Option TermTree) → of_statement t.unit true (tree.Return at e) ≡ value_items e ++ item.LeaveFunction ∷ []
-      returned_items at None = refl
-      returned_items at (Some e) = refl
-
-      pub returns : (at : Place) (e : Option TermTree) → SuitsIf true e → Goes s t n c c (Within s t n around looping known) (jobs.Statement (tree.Return at e) around ∷ []) (item.Statement (tree.Return at e) ∷ [])
-      returns at e suits = gives_way s t n c c (Within s t n around looping known) (jobs.Statement (tree.Return at e) around) (item.Statement (tree.Return at e)) (of_statement t.unit true (tree.Return at e)) refl (gives_statement n 0 (tree.Return at e))
-          (λ p none begun ps r m known items rest stands k go.
-          let xs = all_of (open_scopes items) in
-          let g = value_plan e p in
-          let q = all_left s.at xs g in
-          let all = lowered.stopped at q in
-          let is_all : lowered.giving s at e around p ≡ all = ap (lowered.end s at around.scope) (given_is at e p) ∙ ap (λ b. cond b (lowered.stopped at (way_between s around.scope 0 g)) (lowered.exit s (way_between s around.scope 0 g))) is_entry ∙ ap (lowered.stopped at) (way_up s s.scopes.scopes around.scope 0 xs k.home k.enough g) in
-          let last = End (record { at = at; does = act.Stop }) [] in
-          subst (λ is. Follows t n 0 (is ++ items) (ps ++ rest)) (sym (returned_items at e))
-          (subst (λ is. Follows t n 0 is (ps ++ rest)) (sym (append_assoc (value_items e) (item.LeaveFunction ∷ []) items))
-          (leaves_and q xs g (left_planned s.at xs g) (value_jobs e) (value_items e) (value_planned e p none) (value_runs e suits) last all (one_more_job q.jobs (jobs.Ready last) q refl) (work_names (jobs.Ready last) q) ps r (subst (λ x. Makes s (planless x) x.jobs ps r) is_all m) known [] (item.LeaveFunction ∷ items) rest stands
-          (λ w h. gives_return n 0 f items w is_f h) (λ w. gives_end n 0 at w))))
-          (no_scopes (jobs.Statement (tree.Return at e) around) c (λ p none. keeps_end s at around.scope (lowered.given s at e p) (keeps_given s at e p (record { scopes = refl; terms = subst AreTerms (sym none) tt }))))

@@ -1,4 +1,5 @@
 pub mod Jumps
+mod Returns
 pub mod Declarations
 pub mod Sequences
 pub mod Selections

@@ -20,7 +20,7 @@ use Rattle.ref_machine.specs.Items as item
 use Rattle.ref_machine.specs.Items.{Item}
 use Rattle.ref_machine.specs.ConditionItems as source
 use Rattle.ref_machine.specs.StatementItems.{of_statement}
-use Rattle.template_runs.specs.TemplateStates.{Templates}
+use Rattle.template_runs_follow.specs.Activations.{Activation, of_entry}
 use Rattle.template_runs_follow.specs.Follows as follows
 use Rattle.template_runs_follow.specs.Follows.{Leads, Follows}
 use Rattle.template_runs_follow.proofs.Constructions.{gives_statement, gives_loop_end, gives_turn_end}
@@ -92,21 +92,21 @@ line_quiet : (x : ReadView) (wants : Bool) (held failed : item.Items) → IsQuie
 line_quiet x true held failed = arguments_quiet x.call.arguments (item.ReadLine x.call.at failed held ∷ []) (record { scopes = λ items. refl; after_loop = λ items. refl; after_turn = λ items. refl })
 line_quiet x false held failed = arguments_quiet x.call.arguments (item.ReadLine x.call.at held failed ∷ []) (record { scopes = λ items. refl; after_loop = λ items. refl; after_turn = λ items. refl })
 
-leaf_quiet : (t : Templates) (is_test : Bool) (e : TermTree) (o : Option ReadView) (held failed : item.Items) → IsQuiet (source.leaf_by t.unit is_test e o held failed)
+leaf_quiet : (t : Activation) (is_test : Bool) (e : TermTree) (o : Option ReadView) (held failed : item.Items) → IsQuiet (source.leaf_by t.unit is_test e o held failed)
 leaf_quiet t is_test e None held failed = record { scopes = λ items. refl; after_loop = λ items. refl; after_turn = λ items. refl }
 leaf_quiet t is_test e (Some x) held failed = line_quiet x x.wants_line held failed
 
-pub condition_quiet : (t : Templates) (is_test : Bool) (e : TermTree) (held failed : List Item) → IsQuiet (source.condition t.unit is_test e held failed)
+pub condition_quiet : (t : Activation) (is_test : Bool) (e : TermTree) (held failed : List Item) → IsQuiet (source.condition t.unit is_test e held failed)
 condition_quiet t is_test (Typed at ctype parens fixed (tree.Logical And a b)) held failed = condition_quiet t is_test a (source.condition t.unit is_test b held failed) failed
 condition_quiet t is_test (Typed at ctype parens fixed (tree.Logical Or a b)) held failed = condition_quiet t is_test a held (source.condition t.unit is_test b held failed)
 condition_quiet t is_test (Typed at ctype parens fixed (tree.Not a)) held failed = condition_quiet t is_test a failed held
 condition_quiet t is_test (Typed at ctype parens fixed (tree.Conditional c a b)) held failed = condition_quiet t true c (source.condition t.unit false a held failed) (source.condition t.unit false b held failed)
 condition_quiet t is_test e held failed = leaf_quiet t is_test e (read_by e) (item.items_of held) (item.items_of failed)
 
-module _ (s : SettingView) (t : Templates) (fits : IsOfUnit t s) where
+module _ (s : SettingView) (t : Activation) (fits : IsOfUnit t s) where
   -- ---- the turns of `while`
 
-  module _ (e : TermTree) (body : StatementTree) (about : AboutStatement s t body) (around : Surroundings) (looping : Bool) (known : List ℕ) (c l : ℕ) (suits_test : SuitsBehind true 0 e) (suits_body : SuitsIn true known body) (scopes : HasScopes s body around.scope c) (few : l + 3 ≤ 2 ^ 32 - 1)
+  module _ (e : TermTree) (body : StatementTree) (about : AboutStatement s t body) (around : Surroundings) (looping : Bool) (known : List ℕ) (c l : ℕ) (suits_test : SuitsBehind t.unit true 0 e) (suits_body : SuitsIn t.unit true known body) (scopes : HasScopes s body around.scope c) (few : l + 3 ≤ 2 ^ 32 - 1)
       (p : Plan) (none : p.jobs ≡ []) (fc : List PieceView) (pc : Plan) (mc : Makes s p (jobs.Condition e (decided (record { yes = l + 1; no = l + 2 }) 0) ∷ []) fc pc) (known_c : IsKnown t pc) (none_c : pc.jobs ≡ []) (begun : pc.scopes ≡ c)
       (fb : List PieceView) (pb : Plan) (mb : Makes s pc (jobs.Statement body (in_loop around (l + 2) l) ∷ []) fb pb) (known_b : IsKnown t pb) (items : List Item) (rest : List PieceView) where
     abbrev while_pieces : List PieceView
@@ -133,7 +133,7 @@ module _ (s : SettingView) (t : Templates) (fits : IsOfUnit t s) where
         follows.in_while m 0 e body (item.LoopEnd ∷ items) while_pieces
         ((terms s t fits m e).decided (decided (record { yes = l + 1; no = l + 2 }) 0) suits_test.0 suits_test.1 p none fc pc mc known_c (item.Statement body ∷ (item.Hop ∷ (item.TurnEnd ∷ (item.WhileTurn e body ∷ [])))) [] (item.LoopEnd ∷ items) (Mark (l + 1) ∷ (fb ++ jumping s.at l ∷ (Mark (l + 2) ∷ rest))) (fb ++ jumping s.at l ∷ (Mark (l + 2) ∷ rest)) rest at_c to_yes to_last on_yes (gives_loop_end m 0 items rest less_f))
 
-  while_from : (n : ℕ) (e : TermTree) (body : StatementTree) (about : AboutStatement s t body) (around : Surroundings) (looping : Bool) (known : List ℕ) (c l : ℕ) → SuitsBehind true 0 e → SuitsIn true known body → HasScopes s body around.scope c → l + 3 ≤ 2 ^ 32 - 1
+  while_from : (n : ℕ) (e : TermTree) (body : StatementTree) (about : AboutStatement s t body) (around : Surroundings) (looping : Bool) (known : List ℕ) (c l : ℕ) → SuitsBehind t.unit true 0 e → SuitsIn t.unit true known body → HasScopes s body around.scope c → l + 3 ≤ 2 ^ 32 - 1
       → (p : Plan) → p.jobs ≡ [] → p.scopes ≡ c → (ps : List PieceView) (r : Plan) → Makes s p (while_jobs s.at e body around l) ps r → IsKnown t r → (items : List Item) (rest : List PieceView) → Stands t (ps ++ rest) → Within s t n around looping known items → Follows t n 0 items rest → Follows t n 0 (item.WhileTurn e body ∷ (item.LoopEnd ∷ items)) (ps ++ rest)
   unfolding while_jobs
   while_from n e body about around looping known c l suits_test suits_body scopes few p none begun ps r m known_r items rest stands k f =
@@ -157,7 +157,7 @@ module _ (s : SettingView) (t : Templates) (fits : IsOfUnit t s) where
   pub of_while : (e : TermTree) (body : StatementTree) → AboutStatement s t body → AboutStatement s t (tree.While e body)
   of_while e body about n around looping known c suits scopes =
       let j = jobs.Statement (tree.While e body) around in
-      gives_way s t n c (c + scopes_in body) (Within s t n around looping known) j (item.Statement (tree.While e body)) (of_statement t.unit true (tree.While e body)) refl (gives_statement n 0 (tree.While e body))
+      gives_way s t n c (c + scopes_in body) (Within s t n around looping known) j (item.Statement (tree.While e body)) (of_statement t.unit (of_entry t) (tree.While e body)) refl (gives_statement n 0 (tree.While e body))
       (λ p none begun ps r m known_last items rest stands k f.
       let all = loops.while_loop s e body around p in
       let few = few_labels s t p j 3 all.jobs ps r (while_grows s e body around p) m known_last in
@@ -168,7 +168,7 @@ module _ (s : SettingView) (t : Templates) (fits : IsOfUnit t s) where
 
   -- ---- the turns of `do`
 
-  module _ (e : TermTree) (body : StatementTree) (about : AboutStatement s t body) (around : Surroundings) (looping : Bool) (known : List ℕ) (c l : ℕ) (suits_body : SuitsIn true known body) (suits_test : SuitsBehind true 0 e) (scopes : HasScopes s body around.scope c) (few : l + 3 ≤ 2 ^ 32 - 1)
+  module _ (e : TermTree) (body : StatementTree) (about : AboutStatement s t body) (around : Surroundings) (looping : Bool) (known : List ℕ) (c l : ℕ) (suits_body : SuitsIn t.unit true known body) (suits_test : SuitsBehind t.unit true 0 e) (scopes : HasScopes s body around.scope c) (few : l + 3 ≤ 2 ^ 32 - 1)
       (p : Plan) (none : p.jobs ≡ []) (begun : p.scopes ≡ c) (fb : List PieceView) (pb : Plan) (mb : Makes s p (jobs.Statement body (in_loop around (l + 2) (l + 1)) ∷ []) fb pb) (known_b : IsKnown t pb) (none_b : pb.jobs ≡ [])
       (fc : List PieceView) (pc : Plan) (mc : Makes s pb (jobs.Condition e (decided (record { yes = l; no = l + 2 }) 0) ∷ []) fc pc) (known_c : IsKnown t pc) (items : List Item) (rest : List PieceView) where
     abbrev do_pieces : List PieceView
@@ -196,7 +196,7 @@ module _ (s : SettingView) (t : Templates) (fits : IsOfUnit t s) where
         follows.in_do m 0 body e (item.LoopEnd ∷ items) do_pieces
         ((about m (in_loop around (l + 2) (l + 1)) true known c suits_body scopes).from p none begun fb pb mb known_b inside (Mark (l + 1) ∷ (fc ++ Mark (l + 2) ∷ rest)) at_body context (follows.by_mark m 0 (l + 1) inside (fc ++ Mark (l + 2) ∷ rest) (gives_turn_end m 0 turn (fc ++ Mark (l + 2) ∷ rest) tested)))
 
-  do_from : (n : ℕ) (e : TermTree) (body : StatementTree) (about : AboutStatement s t body) (around : Surroundings) (looping : Bool) (known : List ℕ) (c l : ℕ) → SuitsIn true known body → SuitsBehind true 0 e → HasScopes s body around.scope c → l + 3 ≤ 2 ^ 32 - 1
+  do_from : (n : ℕ) (e : TermTree) (body : StatementTree) (about : AboutStatement s t body) (around : Surroundings) (looping : Bool) (known : List ℕ) (c l : ℕ) → SuitsIn t.unit true known body → SuitsBehind t.unit true 0 e → HasScopes s body around.scope c → l + 3 ≤ 2 ^ 32 - 1
       → (p : Plan) → p.jobs ≡ [] → p.scopes ≡ c → (ps : List PieceView) (r : Plan) → Makes s p (do_jobs e body around l) ps r → IsKnown t r → (items : List Item) (rest : List PieceView) → Stands t (ps ++ rest) → Within s t n around looping known items → Follows t n 0 items rest → Follows t n 0 (item.DoTurn body e ∷ (item.LoopEnd ∷ items)) (ps ++ rest)
   unfolding do_jobs
   do_from n e body about around looping known c l suits_body suits_test scopes few p none begun ps r m known_r items rest stands k f =
@@ -218,7 +218,7 @@ module _ (s : SettingView) (t : Templates) (fits : IsOfUnit t s) where
   pub of_do : (body : StatementTree) (e : TermTree) → AboutStatement s t body → AboutStatement s t (tree.Do body e)
   of_do body e about n around looping known c suits scopes =
       let j = jobs.Statement (tree.Do body e) around in
-      gives_way s t n c (c + scopes_in body) (Within s t n around looping known) j (item.Statement (tree.Do body e)) (of_statement t.unit true (tree.Do body e)) refl (gives_statement n 0 (tree.Do body e))
+      gives_way s t n c (c + scopes_in body) (Within s t n around looping known) j (item.Statement (tree.Do body e)) (of_statement t.unit (of_entry t) (tree.Do body e)) refl (gives_statement n 0 (tree.Do body e))
       (λ p none begun ps r m known_last items rest stands k f.
       let all = loops.do_loop body e around p in
       let few = few_labels s t p j 3 all.jobs ps r (do_grows e body around p) m known_last in

@@ -25,7 +25,7 @@ use Rattle.ref_machine.specs.Items as item
 use Rattle.ref_machine.specs.Items.{Item}
 use Rattle.ref_machine.specs.ConditionItems as source
 use Rattle.ref_machine.specs.StatementItems.{of_statement, statements}
-use Rattle.template_runs.specs.TemplateStates.{Templates}
+use Rattle.template_runs_follow.specs.Activations.{Activation, of_entry}
 use Rattle.template_runs_follow.specs.Follows as follows
 use Rattle.template_runs_follow.specs.Follows.{Leads, Follows}
 use Rattle.template_runs_follow.proofs.Constructions.{gives_statement}
@@ -139,14 +139,14 @@ two_four = omega arith
 pub three_four : 3 < 4
 three_four = omega arith
 
-module _ (s : SettingView) (t : Templates) (fits : IsOfUnit t s) where
+module _ (s : SettingView) (t : Activation) (fits : IsOfUnit t s) where
   pub of_block : (objects : List ℕ) (items : StatementTrees) → AboutStatements s t items → AboutStatement s t (tree.Block objects items)
   of_block objects items about n around looping known c suits scopes =
       let j = jobs.Statement (tree.Block objects items) around in
       let inner = in_scope around c in
       let inside = about n inner looping (objects ++ known) (suc c) suits.1 scopes.1 in
       let same : (p : Plan) → p.jobs ≡ [] → p.scopes ≡ c → Enclosed s.at objects (statement_jobs items inner) p (parts s j p) = λ p none begun. subst (λ k. Enclosed s.at objects (statement_jobs items (in_scope around k)) p (parts s j p)) begun (block_planned s.at objects items (in_scope around p.scopes) p none) in
-      gives_way s t n c (c + suc (all_scopes_in items)) (Within s t n around looping known) j (item.Statement (tree.Block objects items)) (of_statement t.unit true (tree.Block objects items)) refl (gives_statement n 0 (tree.Block objects items))
+      gives_way s t n c (c + suc (all_scopes_in items)) (Within s t n around looping known) j (item.Statement (tree.Block objects items)) (of_statement t.unit (of_entry t) (tree.Block objects items)) refl (gives_statement n 0 (tree.Block objects items))
       (λ p none begun ps r m known_last items_behind rest stands k f.
       let all = parts s j p in
       let x = same p none begun in
@@ -193,7 +193,7 @@ module _ (s : SettingView) (t : Templates) (fits : IsOfUnit t s) where
   of_if e body about n around looping known c suits scopes =
       let j = jobs.Statement (tree.If e body) around in
       let goes = about n around looping known c suits.1 scopes in
-      gives_way s t n c (c + scopes_in body) (Within s t n around looping known) j (item.Statement (tree.If e body)) (of_statement t.unit true (tree.If e body)) refl (gives_statement n 0 (tree.If e body))
+      gives_way s t n c (c + scopes_in body) (Within s t n around looping known) j (item.Statement (tree.If e body)) (of_statement t.unit (of_entry t) (tree.If e body)) refl (gives_statement n 0 (tree.If e body))
       (λ p none begun ps r m known_last items rest stands k f.
       let all = selection e body around p in
       let few = few_labels s t p j 3 all.jobs ps r (if_grows e body around p) m known_last in
@@ -252,7 +252,7 @@ module _ (s : SettingView) (t : Templates) (fits : IsOfUnit t s) where
       let two = second n around looping known (c + scopes_in body) suits.2 scopes.1 in
       let last = (c + scopes_in body) + scopes_in other in
       subst (λ k. Goes s t n c k (Within s t n around looping known) (j ∷ []) (item.Statement (tree.IfElse e body other) ∷ [])) (sums c (scopes_in body) (scopes_in other))
-      (gives_way s t n c last (Within s t n around looping known) j (item.Statement (tree.IfElse e body other)) (of_statement t.unit true (tree.IfElse e body other)) refl (gives_statement n 0 (tree.IfElse e body other))
+      (gives_way s t n c last (Within s t n around looping known) j (item.Statement (tree.IfElse e body other)) (of_statement t.unit (of_entry t) (tree.IfElse e body other)) refl (gives_statement n 0 (tree.IfElse e body other))
       (λ p none begun ps r m known_last items rest stands k f.
       let all = two_way_selection s e body other around p in
       let few = few_labels s t p j 4 all.jobs ps r (else_grows s e body other around p) m known_last in

@@ -14,7 +14,7 @@ use Rattle.ref_machine.specs.Items as item
 use Rattle.ref_machine.specs.Items.{Item}
 use Rattle.ref_machine.specs.Scopes.{open_scopes, behind_loop, behind_turn}
 use Rattle.ref_machine.specs.StatementItems.{statements}
-use Rattle.template_runs.specs.TemplateStates.{Templates}
+use Rattle.template_runs_follow.specs.Activations.{Activation}
 use Rattle.template_runs_follow.specs.Follows.{own}
 use Rattle.template_runs_works.specs.TemplateParts.{IsOfUnit}
 use Rattle.template_runs_works.proofs.Assignments.{nothing_done}
@@ -53,18 +53,18 @@ pub statements_quiet : (rest : StatementTrees) → IsQuiet (statements rest)
 statements_quiet tree.NoMore = record { scopes = λ items. refl; after_loop = λ items. refl; after_turn = λ items. refl }
 statements_quiet (tree.And first rest) = let x = statements_quiet rest in record { scopes = λ items. x.scopes items; after_loop = λ items. x.after_loop items; after_turn = λ items. x.after_turn items }
 
-pub quiet_within : (s : SettingView) (t : Templates) (n : ℕ) (around : Surroundings) (looping : Bool) (known : List ℕ) (xs items : List Item) → IsQuiet xs → Within s t n around looping known items → Within s t n around looping known (xs ++ items)
+pub quiet_within : (s : SettingView) (t : Activation) (n : ℕ) (around : Surroundings) (looping : Bool) (known : List ℕ) (xs items : List Item) → IsQuiet xs → Within s t n around looping known items → Within s t n around looping known (xs ++ items)
 quiet_within s t n around looping known xs items quiet k =
     subst (λ ys. Context s t n around looping known ys (behind_loop (xs ++ items)) (behind_turn (xs ++ items))) (sym (quiet.scopes items))
     (subst (λ ys. Context s t n around looping known (open_scopes items) ys (behind_turn (xs ++ items))) (sym (quiet.after_loop items))
     (subst (λ ys. Context s t n around looping known (open_scopes items) (behind_loop items) ys) (sym (quiet.after_turn items)) k))
 
 -- what is proved of a statement
-abbrev pub AboutStatement : SettingView → Templates → StatementTree → Type 0
-AboutStatement s t i = (n : ℕ) (around : Surroundings) (looping : Bool) (known : List ℕ) (c : ℕ) → SuitsIn looping known i → HasScopes s i around.scope c → Goes s t n c (c + scopes_in i) (Within s t n around looping known) (jobs.Statement i around ∷ []) (item.Statement i ∷ [])
+abbrev pub AboutStatement : SettingView → Activation → StatementTree → Type 0
+AboutStatement s t i = (n : ℕ) (around : Surroundings) (looping : Bool) (known : List ℕ) (c : ℕ) → SuitsIn t.unit looping known i → HasScopes s i around.scope c → Goes s t n c (c + scopes_in i) (Within s t n around looping known) (jobs.Statement i around ∷ []) (item.Statement i ∷ [])
 
-abbrev pub AboutStatements : SettingView → Templates → StatementTrees → Type 0
-AboutStatements s t items = (n : ℕ) (around : Surroundings) (looping : Bool) (known : List ℕ) (c : ℕ) → AllSuitIn looping known items → AllHaveScopes s items around.scope c → Goes s t n c (c + all_scopes_in items) (Within s t n around looping known) (statement_jobs items around) (statements items)
+abbrev pub AboutStatements : SettingView → Activation → StatementTrees → Type 0
+AboutStatements s t items = (n : ℕ) (around : Surroundings) (looping : Bool) (known : List ℕ) (c : ℕ) → AllSuitIn t.unit looping known items → AllHaveScopes s items around.scope c → Goes s t n c (c + all_scopes_in items) (Within s t n around looping known) (statement_jobs items around) (statements items)
 
 plus_zero : (c : ℕ) → c ≡ c + 0
 plus_zero c = omega arith
@@ -78,7 +78,7 @@ after_suc c a = omega arith
 plus_one : (c : ℕ) → c + 1 ≡ suc c
 plus_one c = omega arith
 
-module _ (s : SettingView) (t : Templates) where
+module _ (s : SettingView) (t : Activation) where
   pub of_none : AboutStatements s t tree.NoMore
   of_none n around looping known c suits scopes = subst (λ k. Goes s t n c k (Within s t n around looping known) [] []) (plus_zero c) (plainly s t n c (Within s t n around looping known) [] [] tt (nothing_done s t n 0))
 
@@ -88,7 +88,7 @@ module _ (s : SettingView) (t : Templates) where
       (goes_on s t n c (c + scopes_in first) ((c + scopes_in first) + all_scopes_in rest) (Within s t n around looping known) (Within s t n around looping known) (jobs.Statement first around ∷ []) (statement_jobs rest around) (item.Statement first ∷ []) (statements rest)
       (λ items k. quiet_within s t n around looping known (statements rest) items (statements_quiet rest) k) (one n around looping known c suits.0 scopes.0) (others n around looping known (c + scopes_in first) suits.1 scopes.1))
 
-module _ (s : SettingView) (t : Templates) (fits : IsOfUnit t s) where
+module _ (s : SettingView) (t : Activation) (fits : IsOfUnit t s) where
   -- objects are entered, then what comes inside, then they are left
   pub enclosed : (n c last : ℕ) (objects : List ℕ) (first second : ℕ) (K L : List Item → Type 0) (js : List Job) (is : List Item) → ((items : List Item) → K items → L (item.Leaves objects ∷ items)) → NamedFrom t first objects → NamedFrom t second objects → Goes s t n c last L js is
       → Goes s t n c last K (object_jobs act.Enter s.at objects first ++ (js ++ object_jobs act.Leave s.at objects second)) (item.Enters objects ∷ (is ++ item.Leaves objects ∷ []))

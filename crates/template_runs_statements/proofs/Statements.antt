@@ -8,12 +8,13 @@ use Rattle.flow_lower_tasks.specs.Works as jobs
 use Rattle.flow_lower_tasks.specs.declared.pending_works.Surroundings.{Surroundings}
 use Rattle.ref_machine.specs.Items as item
 use Rattle.ref_machine.specs.SourceStates.{function_at}
-use Rattle.template_runs.specs.TemplateStates.{Templates}
-use Rattle.template_runs_works.specs.TemplateParts.{IsOfUnit}
+use Rattle.template_runs_follow.specs.Activations.{Activation}
+use Rattle.template_runs_works.specs.TemplateParts.{IsOfUnit, Ends}
 use Rattle.template_runs_scopes.specs.Contexts.{Within}
 use Rattle.template_runs_scopes.proofs.InScopes.{Goes}
 use Rattle.template_runs_statements.proofs.Declarations.{of_stores, of_list, of_forget, of_value, of_nothing}
-use Rattle.template_runs_statements.proofs.Jumps.{breaks, continues, returns}
+use Rattle.template_runs_statements.proofs.Jumps.{breaks, continues}
+use Rattle.template_runs_statements.proofs.Returns.{returns}
 use Rattle.template_runs_statements.proofs.Sequences.{AboutStatement, AboutStatements, of_none, of_more}
 use Rattle.template_runs_statements.proofs.Selections.{of_block, of_if, of_if_else}
 use Rattle.template_runs_statements.proofs.Loops.{of_while, of_do}
@@ -22,7 +23,7 @@ use Rattle.template_runs_statements.proofs.ForLoops.{of_for}
 plus_zero : (c : ℕ) → c ≡ c + 0
 plus_zero c = omega arith
 
-module _ (s : SettingView) (t : Templates) (fits : IsOfUnit t s) (f : FunctionView) (is_f : function_at t.unit t.unit.entry ≡ Some f) (is_entry : s.is_entry ≡ true) where
+module _ (s : SettingView) (t : Activation) (fits : IsOfUnit t s) (f : FunctionView) (is_f : function_at t.unit t.function ≡ Some f) (ends : Ends s t f) where
   -- a statement that begins no scope
   no_scope : (i : StatementTree) (n : ℕ) (around : Surroundings) (looping : Bool) (known : List ℕ) (c : ℕ) → Goes s t n c c (Within s t n around looping known) (jobs.Statement i around ∷ []) (item.Statement i ∷ []) → Goes s t n c (c + 0) (Within s t n around looping known) (jobs.Statement i around ∷ []) (item.Statement i ∷ [])
   no_scope i n around looping known c g = subst (λ k. Goes s t n c k (Within s t n around looping known) (jobs.Statement i around ∷ []) (item.Statement i ∷ [])) (plus_zero c) g
@@ -48,7 +49,7 @@ module _ (s : SettingView) (t : Templates) (fits : IsOfUnit t s) (f : FunctionVi
     about (tree.Goto k) = λ n around looping known c suits scopes. absurd suits
     about tree.Break = λ n around looping known c suits scopes. no_scope tree.Break n around looping known c (breaks s t fits n around looping known c suits)
     about tree.Continue = λ n around looping known c suits scopes. no_scope tree.Continue n around looping known c (continues s t fits n around looping known c suits)
-    about (tree.Return at e) = λ n around looping known c suits scopes. no_scope (tree.Return at e) n around looping known c (returns s t fits n around looping known c f is_f is_entry at e suits)
+    about (tree.Return at e) = λ n around looping known c suits scopes. no_scope (tree.Return at e) n around looping known c (returns s t fits n around looping known c f is_f ends at e suits)
 
     pub all_about : (items : StatementTrees) → AboutStatements s t items
     all_about tree.NoMore = of_none s t
