@@ -42,15 +42,12 @@ use Rattle.template_runs_scopes.proofs.Objects.{object_jobs, entered_planned, le
 use Rattle.template_runs_statements.proofs.Sequences.{statement_jobs, listed, enclosed}
 use Rattle.template_runs_statements.proofs.Statements.{all_about}
 use Rattle.template_runs_entry.specs.Entries.{IsEntry}
-use Rattle.template_runs_entry.proofs.ScopeTrees.{OfFunction, of_function}
+use Rattle.template_runs_scopes.proofs.FunctionBodies.{same_statements}
+use Rattle.template_runs_scopes.proofs.ScopeTrees.{OfFunction, of_function}
 
 gives_end_body : {t : Templates} (n d : ℕ) (f : FunctionView) (items : List Item) (ps : List PieceView) → function_at t.unit t.unit.entry ≡ Some f → Follows t n d [] ps → Follows t n d (item.EndBody ∷ items) ps
 gives_end_body zero d f items ps is go = follows.enough _ _ _
 gives_end_body (suc n) d f items ps is go = follows.end_body n d f items ps is (less n _ _ _ go)
-
-same_statements : (xs : List StatementTree) → statements (statement_trees xs) ≡ list_statements xs
-same_statements [] = refl
-same_statements (x ∷ xs) = ap (λ ys. item.Statement x ∷ ys) (same_statements xs)
 
 -- ---- the plan of the entry
 

@@ -1,2 +1,1 @@
-pub mod ScopeTrees
 pub mod EntryFollows

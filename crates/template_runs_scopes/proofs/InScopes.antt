@@ -1,5 +1,5 @@
 -- Works and items that stand in scopes and loops.
-use Rattle.std.proofs.Common.{◌≡◌, ℕ, suc, Bool, false, List, [], ◌∷◌, ◌++◌, refl, sym, subst, ◌∙◌, append_assoc}
+use Rattle.std.proofs.Common.{◌≡◌, ℕ, zero, suc, false, List, [], ◌∷◌, ◌++◌, refl, sym, subst, ◌∙◌, append_assoc}
 use Rattle.flow_lower_tasks.specs.Pieces.{PieceView}
 use Rattle.flow_lower_tasks.specs.Plans.{Plan}
 use Rattle.flow_lower_tasks.specs.Settings.{SettingView}
@@ -18,7 +18,8 @@ use Rattle.template_runs_works.specs.TemplateParts.{IsKnown, Stands}
 use Rattle.template_runs_works.proofs.Runs.{Runs, known_before, stands_behind, opened, joined, split}
 use Rattle.template_runs_scopes.proofs.KeptScopes.{AreTerms}
 use Rattle.template_runs_scopes.proofs.ScopesOfTerms.{scopes_kept}
-use Rattle.template_runs_scopes.specs.Contexts.{Lands, Context}
+use Rattle.template_runs_scopes.specs.SuitedStatements.{Enclosure}
+use Rattle.template_runs_scopes.specs.Contexts.{Reaches, LabelsReachBefore, Lands, Context}
 
 module _ (s : SettingView) (t : Templates) where
   -- ---- fewer turns
@@ -26,11 +27,18 @@ module _ (s : SettingView) (t : Templates) where
   lands_less : (n : ℕ) (scopes : List (List ℕ)) (to : List Item) (from : ℕ) (landing : Landing) → Lands s t (suc n) scopes to from landing → Lands s t n scopes to from landing
   lands_less n scopes to from landing l = record { objects = l.objects; up = l.up; leaves = l.leaves; stays = l.stays; within = l.within; there = l.there; leads = l.leads; follows = less n 0 to l.there l.follows }
 
-  pub context_less : (n : ℕ) (around : Surroundings) (in_loop : Bool) (known : List ℕ) (scopes : List (List ℕ)) (after_loop after_turn : List Item) → Context s t (suc n) around in_loop known scopes after_loop after_turn → Context s t n around in_loop known scopes after_loop after_turn
-  context_less n around in_loop known scopes after_loop after_turn c = record {
+  pub reaches_less : (n l : ℕ) (to : List Item) → Reaches t (suc n) l to → Reaches t n l to
+  reaches_less n l to x = record { there = x.there; leads = x.leads; follows = less n 0 to x.there x.follows }
+
+  pub labels_less : (n : ℕ) → LabelsReachBefore t (suc n) → LabelsReachBefore t n
+  labels_less zero all = tt
+  labels_less (suc n) all = λ f is l to there from. reaches_less n l to (all f is l to there from)
+
+  pub context_less : (n : ℕ) (around : Surroundings) (enclosed : Enclosure) (known : List ℕ) (scopes : List (List ℕ)) (after_loop after_turn : List Item) → Context s t (suc n) around enclosed known scopes after_loop after_turn → Context s t n around enclosed known scopes after_loop after_turn
+  context_less n around enclosed known scopes after_loop after_turn c = record {
     within = c.within;
-    enough = c.enough;
-    home = c.home;
+    chain = c.chain;
+    labels = labels_less n c.labels;
     on_break = λ e. lands_less n scopes after_loop around.scope around.on_break (c.on_break e);
     on_continue = λ e. lands_less n scopes after_turn around.scope around.on_continue (c.on_continue e);
   }

@@ -4,4 +4,4 @@ pub mod Sequences
 pub mod Selections
 pub mod Loops
 pub mod ForLoops
-pub mod Statements
+pub mod Labelled

@@ -4,6 +4,7 @@ use Rattle.std.proofs.lemmas.List.{append-nil}
 use Rattle.cc_base.specs.declared.diagnostics.Place.{Place}
 use Rattle.c_layout.specs.CheckedTrees as tree
 use Rattle.c_layout.specs.CheckedTrees.{TermTree, StatementTree, StatementTrees}
+use Rattle.c_layout.specs.CheckedUnits.{FunctionView}
 use Rattle.flow_lower_tasks.specs.Acts as act
 use Rattle.flow_lower_tasks.specs.Pieces.{PieceView, Mark}
 use Rattle.flow_lower_tasks.specs.Plans.{Plan, with_work, with_scope, with_labels}
@@ -67,7 +68,7 @@ pub record Enclosed (at : Place) (objects : List ℕ) (js : List Job) (p q : Pla
   pub names : q.names ≡ (p.names ++ locals objects) ++ locals objects
   pub scopes : q.scopes ≡ p.scopes + 1
 
-block_planned : (at : Place) (objects : List ℕ) (items : StatementTrees) (around : Surroundings) (p : Plan) → p.jobs ≡ [] → Enclosed at objects (statement_jobs items around) p (all_left at objects (all_statements items around (all_entered at objects (with_scope p))))
+pub block_planned : (at : Place) (objects : List ℕ) (items : StatementTrees) (around : Surroundings) (p : Plan) → p.jobs ≡ [] → Enclosed at objects (statement_jobs items around) p (all_left at objects (all_statements items around (all_entered at objects (with_scope p))))
 unfolding with_scope
 block_planned at objects items around p none =
     let first = all_entered at objects (with_scope p) in
@@ -91,31 +92,31 @@ one_more c a = omega arith
 
 -- ---- selections
 
-if_jobs : TermTree → StatementTree → Surroundings → ℕ → List Job
+pub if_jobs : TermTree → StatementTree → Surroundings → ℕ → List Job
 if_jobs e body around l = jobs.Ready (Mark l) ∷ (jobs.Condition e (decided (record { yes = l + 1; no = l + 2 }) 0) ∷ (jobs.Ready (Mark (l + 1)) ∷ (jobs.Statement body around ∷ (jobs.Ready (Mark (l + 2)) ∷ []))))
 
-if_planned : (e : TermTree) (body : StatementTree) (around : Surroundings) (p : Plan) → p.jobs ≡ [] → (selection e body around p).jobs ≡ if_jobs e body around p.labels
+pub if_planned : (e : TermTree) (body : StatementTree) (around : Surroundings) (p : Plan) → p.jobs ≡ [] → (selection e body around p).jobs ≡ if_jobs e body around p.labels
 unfolding with_work with_labels if_jobs
 if_planned e body around p none =
     ap (λ js. ((((js ++ jobs.Ready (Mark p.labels) ∷ []) ++ jobs.Condition e (decided (record { yes = p.labels + 1; no = p.labels + 2 }) 0) ∷ []) ++ jobs.Ready (Mark (p.labels + 1)) ∷ []) ++ jobs.Statement body around ∷ []) ++ jobs.Ready (Mark (p.labels + 2)) ∷ []) none
 
-if_scopes : (e : TermTree) (body : StatementTree) (around : Surroundings) (p : Plan) → (selection e body around p).scopes ≡ p.scopes
+pub if_scopes : (e : TermTree) (body : StatementTree) (around : Surroundings) (p : Plan) → (selection e body around p).scopes ≡ p.scopes
 unfolding with_work with_labels
 if_scopes e body around p = refl
 
-if_grows : (e : TermTree) (body : StatementTree) (around : Surroundings) (p : Plan) → Grows (with_labels 3 p) (selection e body around p)
+pub if_grows : (e : TermTree) (body : StatementTree) (around : Surroundings) (p : Plan) → Grows (with_labels 3 p) (selection e body around p)
 if_grows e body around p = let start : Grows (with_labels 3 p) (with_labels 3 p) = grows_not (with_labels 3 p) in search works depth 30
 
-else_planned : (s : SettingView) (e : TermTree) (body other : StatementTree) (around : Surroundings) (p : Plan) → p.jobs ≡ [] → (two_way_selection s e body other around p).jobs ≡ two_way_jobs s.at e (jobs.Statement body around) (jobs.Statement other around) 0 p.labels
+pub else_planned : (s : SettingView) (e : TermTree) (body other : StatementTree) (around : Surroundings) (p : Plan) → p.jobs ≡ [] → (two_way_selection s e body other around p).jobs ≡ two_way_jobs s.at e (jobs.Statement body around) (jobs.Statement other around) 0 p.labels
 unfolding with_work with_labels
 else_planned s e body other around p none =
     ap (λ js. (((((((js ++ jobs.Ready (Mark p.labels) ∷ []) ++ jobs.Condition e (decided (record { yes = p.labels + 1; no = p.labels + 2 }) 0) ∷ []) ++ jobs.Ready (Mark (p.labels + 1)) ∷ []) ++ jobs.Statement body around ∷ []) ++ jobs.Ready (jumping s.at (p.labels + 3)) ∷ []) ++ jobs.Ready (Mark (p.labels + 2)) ∷ []) ++ jobs.Statement other around ∷ []) ++ jobs.Ready (Mark (p.labels + 3)) ∷ []) none
 
-else_scopes : (s : SettingView) (e : TermTree) (body other : StatementTree) (around : Surroundings) (p : Plan) → (two_way_selection s e body other around p).scopes ≡ p.scopes
+pub else_scopes : (s : SettingView) (e : TermTree) (body other : StatementTree) (around : Surroundings) (p : Plan) → (two_way_selection s e body other around p).scopes ≡ p.scopes
 unfolding with_work with_labels
 else_scopes s e body other around p = refl
 
-else_grows : (s : SettingView) (e : TermTree) (body other : StatementTree) (around : Surroundings) (p : Plan) → Grows (with_labels 4 p) (two_way_selection s e body other around p)
+pub else_grows : (s : SettingView) (e : TermTree) (body other : StatementTree) (around : Surroundings) (p : Plan) → Grows (with_labels 4 p) (two_way_selection s e body other around p)
 else_grows s e body other around p = let start : Grows (with_labels 4 p) (with_labels 4 p) = grows_not (with_labels 4 p) in search works depth 30
 
 pub below : (l k m : ℕ) → k < m → l + k < l + m
@@ -139,8 +140,8 @@ two_four = omega arith
 pub three_four : 3 < 4
 three_four = omega arith
 
-module _ (s : SettingView) (t : Templates) (fits : IsOfUnit t s) where
-  pub of_block : (objects : List ℕ) (items : StatementTrees) → AboutStatements s t items → AboutStatement s t (tree.Block objects items)
+module _ (s : SettingView) (t : Templates) (fits : IsOfUnit t s) (g : FunctionView) where
+  pub of_block : (objects : List ℕ) (items : StatementTrees) → AboutStatements s t g items → AboutStatement s t g (tree.Block objects items)
   of_block objects items about n around looping known c suits scopes =
       let j = jobs.Statement (tree.Block objects items) around in
       let inner = in_scope around c in
@@ -189,7 +190,7 @@ module _ (s : SettingView) (t : Templates) (fits : IsOfUnit t s) where
       count_on s c c last (jobs.Ready (Mark l) ∷ (jobs.Condition e (decided (record { yes = l + 1; no = l + 2 }) 0) ∷ (jobs.Ready (Mark (l + 1)) ∷ []))) (jobs.Statement body around ∷ (jobs.Ready (Mark (l + 2)) ∷ [])) (count_terms s c _ (tt, (tt, (tt, tt))))
       (count_on s c last last (jobs.Statement body around ∷ []) (jobs.Ready (Mark (l + 2)) ∷ []) goes.ends (count_terms s last _ (tt, tt)))
 
-  pub of_if : (e : TermTree) (body : StatementTree) → AboutStatement s t body → AboutStatement s t (tree.If e body)
+  pub of_if : (e : TermTree) (body : StatementTree) → AboutStatement s t g body → AboutStatement s t g (tree.If e body)
   of_if e body about n around looping known c suits scopes =
       let j = jobs.Statement (tree.If e body) around in
       let goes = about n around looping known c suits.1 scopes in
@@ -245,7 +246,7 @@ module _ (s : SettingView) (t : Templates) (fits : IsOfUnit t s) where
   sums : (c a b : ℕ) → (c + a) + b ≡ c + (a + b)
   sums c a b = omega arith
 
-  pub of_if_else : (e : TermTree) (body other : StatementTree) → AboutStatement s t body → AboutStatement s t other → AboutStatement s t (tree.IfElse e body other)
+  pub of_if_else : (e : TermTree) (body other : StatementTree) → AboutStatement s t g body → AboutStatement s t g other → AboutStatement s t g (tree.IfElse e body other)
   of_if_else e body other first second n around looping known c suits scopes =
       let j = jobs.Statement (tree.IfElse e body other) around in
       let one = first n around looping known c suits.1 scopes.0 in

@@ -3,6 +3,7 @@ use Rattle.std.proofs.Common.{◌≡◌, ℕ, suc, ◌+◌, Bool, List, [], ◌�
 use Rattle.std.proofs.lemmas.List.{append-nil}
 use Rattle.c_layout.specs.CheckedTrees as tree
 use Rattle.c_layout.specs.CheckedTrees.{StatementTree, StatementTrees}
+use Rattle.c_layout.specs.CheckedUnits.{FunctionView}
 use Rattle.flow_lower_tasks.specs.Acts as act
 use Rattle.flow_lower_tasks.specs.Plans.{Plan, with_work}
 use Rattle.flow_lower_tasks.specs.Settings.{SettingView}
@@ -19,9 +20,10 @@ use Rattle.template_runs_follow.specs.Follows.{own}
 use Rattle.template_runs_works.specs.TemplateParts.{IsOfUnit}
 use Rattle.template_runs_works.proofs.Assignments.{nothing_done}
 use Rattle.template_runs_scopes.specs.Scopes.{scopes_in, all_scopes_in, HasScopes, AllHaveScopes}
-use Rattle.template_runs_scopes.specs.SuitedStatements.{SuitsIn, AllSuitIn}
+use Rattle.template_runs_scopes.specs.SuitedStatements.{Enclosure, SuitsIn, AllSuitIn}
 use Rattle.template_runs_scopes.specs.Contexts.{Context, Within}
 use Rattle.template_runs_scopes.proofs.InScopes.{Goes, plainly, goes_on}
+use Rattle.template_runs_scopes.proofs.QuietItems.{IsQuiet, statements_quiet}
 use Rattle.template_runs_scopes.proofs.Objects.{object_jobs, objects_are_terms, NamedFrom, enters, leaves}
 
 -- ---- works
@@ -44,27 +46,18 @@ listed (tree.And first rest) around p =
 
 -- ---- items before which nothing changes
 
-pub record IsQuiet (xs : List Item) : Type 0 where
-  pub scopes : (items : List Item) → open_scopes (xs ++ items) ≡ open_scopes items
-  pub after_loop : (items : List Item) → behind_loop (xs ++ items) ≡ behind_loop items
-  pub after_turn : (items : List Item) → behind_turn (xs ++ items) ≡ behind_turn items
-
-pub statements_quiet : (rest : StatementTrees) → IsQuiet (statements rest)
-statements_quiet tree.NoMore = record { scopes = λ items. refl; after_loop = λ items. refl; after_turn = λ items. refl }
-statements_quiet (tree.And first rest) = let x = statements_quiet rest in record { scopes = λ items. x.scopes items; after_loop = λ items. x.after_loop items; after_turn = λ items. x.after_turn items }
-
-pub quiet_within : (s : SettingView) (t : Templates) (n : ℕ) (around : Surroundings) (looping : Bool) (known : List ℕ) (xs items : List Item) → IsQuiet xs → Within s t n around looping known items → Within s t n around looping known (xs ++ items)
+pub quiet_within : (s : SettingView) (t : Templates) (n : ℕ) (around : Surroundings) (looping : Enclosure) (known : List ℕ) (xs items : List Item) → IsQuiet xs → Within s t n around looping known items → Within s t n around looping known (xs ++ items)
 quiet_within s t n around looping known xs items quiet k =
     subst (λ ys. Context s t n around looping known ys (behind_loop (xs ++ items)) (behind_turn (xs ++ items))) (sym (quiet.scopes items))
     (subst (λ ys. Context s t n around looping known (open_scopes items) ys (behind_turn (xs ++ items))) (sym (quiet.after_loop items))
     (subst (λ ys. Context s t n around looping known (open_scopes items) (behind_loop items) ys) (sym (quiet.after_turn items)) k))
 
 -- what is proved of a statement
-abbrev pub AboutStatement : SettingView → Templates → StatementTree → Type 0
-AboutStatement s t i = (n : ℕ) (around : Surroundings) (looping : Bool) (known : List ℕ) (c : ℕ) → SuitsIn looping known i → HasScopes s i around.scope c → Goes s t n c (c + scopes_in i) (Within s t n around looping known) (jobs.Statement i around ∷ []) (item.Statement i ∷ [])
+abbrev pub AboutStatement : SettingView → Templates → FunctionView → StatementTree → Type 0
+AboutStatement s t g i = (n : ℕ) (around : Surroundings) (looping : Enclosure) (known : List ℕ) (c : ℕ) → SuitsIn t.unit g looping known i → HasScopes s i around.scope c → Goes s t n c (c + scopes_in i) (Within s t n around looping known) (jobs.Statement i around ∷ []) (item.Statement i ∷ [])
 
-abbrev pub AboutStatements : SettingView → Templates → StatementTrees → Type 0
-AboutStatements s t items = (n : ℕ) (around : Surroundings) (looping : Bool) (known : List ℕ) (c : ℕ) → AllSuitIn looping known items → AllHaveScopes s items around.scope c → Goes s t n c (c + all_scopes_in items) (Within s t n around looping known) (statement_jobs items around) (statements items)
+abbrev pub AboutStatements : SettingView → Templates → FunctionView → StatementTrees → Type 0
+AboutStatements s t g items = (n : ℕ) (around : Surroundings) (looping : Enclosure) (known : List ℕ) (c : ℕ) → AllSuitIn t.unit g looping known items → AllHaveScopes s items around.scope c → Goes s t n c (c + all_scopes_in items) (Within s t n around looping known) (statement_jobs items around) (statements items)
 
 plus_zero : (c : ℕ) → c ≡ c + 0
 plus_zero c = omega arith
@@ -78,11 +71,11 @@ after_suc c a = omega arith
 plus_one : (c : ℕ) → c + 1 ≡ suc c
 plus_one c = omega arith
 
-module _ (s : SettingView) (t : Templates) where
-  pub of_none : AboutStatements s t tree.NoMore
+module _ (s : SettingView) (t : Templates) (g : FunctionView) where
+  pub of_none : AboutStatements s t g tree.NoMore
   of_none n around looping known c suits scopes = subst (λ k. Goes s t n c k (Within s t n around looping known) [] []) (plus_zero c) (plainly s t n c (Within s t n around looping known) [] [] tt (nothing_done s t n 0))
 
-  pub of_more : (first : StatementTree) (rest : StatementTrees) → AboutStatement s t first → AboutStatements s t rest → AboutStatements s t (tree.And first rest)
+  pub of_more : (first : StatementTree) (rest : StatementTrees) → AboutStatement s t g first → AboutStatements s t g rest → AboutStatements s t g (tree.And first rest)
   of_more first rest one others n around looping known c suits scopes =
       subst (λ k. Goes s t n c k (Within s t n around looping known) (jobs.Statement first around ∷ statement_jobs rest around) (item.Statement first ∷ statements rest)) (in_turn c (scopes_in first) (all_scopes_in rest))
       (goes_on s t n c (c + scopes_in first) ((c + scopes_in first) + all_scopes_in rest) (Within s t n around looping known) (Within s t n around looping known) (jobs.Statement first around ∷ []) (statement_jobs rest around) (item.Statement first ∷ []) (statements rest)
