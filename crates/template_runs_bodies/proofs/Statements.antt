@@ -90,7 +90,7 @@ module _ (s : SettingView) (t : Templates) (fits : IsOfUnit t s) (f : FunctionVi
     finds (tree.While e body) = found_while s t fits f e body (about body) (finds body)
     finds (tree.Do body e) = found_do s t fits f body e (about body) (finds body)
     finds (tree.For objects first test step body) = found_for s t fits f objects first test step body (all_about first) (about body) (finds body)
-    finds (tree.Switch at e labels has_default values body) = ?
+    finds (tree.Switch at e labels has_default values body) = λ n around looping known c suits scopes. ?
     finds (tree.Case k body) = λ n around looping known c suits scopes. found_labelled s t fits n around.choice c (c + scopes_in body) (Within s t n around looping known) body around (about body n around looping known c suits scopes) (finds body n around looping known c suits scopes) (tree.Case k body) (λ l. is_case l k) (λ p. behind (dispatch_at p around.choice).cases k) (λ p. refl) (λ p l m is e. case_mark p around.choice k l m is e)
     finds (tree.Default body) = λ n around looping known c suits scopes. found_labelled s t fits n around.choice c (c + scopes_in body) (Within s t n around looping known) body around (about body n around looping known c suits scopes) (finds body n around looping known c suits scopes) (tree.Default body) is_other (λ p. (dispatch_at p around.choice).fallback) (λ p. refl) (λ p l m is e. default_mark p around.choice l m is e)
     finds (tree.Label k body) = λ n around looping known c suits scopes. found_labelled s t fits n around.choice c (c + scopes_in body) (Within s t n around looping known) body around (about body n around looping known c suits scopes) (finds body n around looping known c suits scopes) (tree.Label k body) (λ l. is_label l k) (λ p. k) (λ p. refl) (λ p l m is e. label_mark p around.choice k l m is e)

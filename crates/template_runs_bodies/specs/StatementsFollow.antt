@@ -1,5 +1,5 @@
--- Statements of the entry follow in their pieces.
-use Rattle.std.specs.Prelude.{◌≡◌, ℕ, Bool, true, List, [], ◌∷◌, ◌++◌, Some}
+-- Statements of the entry follow in their pieces, and so does what is left to do from their labels on.
+use Rattle.std.specs.Prelude.{◌≡◌, ℕ, true, List, [], ◌∷◌, ◌++◌, Some}
 use Rattle.c_layout.specs.CheckedTrees.{StatementTree}
 use Rattle.c_layout.specs.CheckedUnits.{FunctionView}
 use Rattle.flow_lower_tasks.specs.Pieces.{PieceView}
@@ -9,15 +9,22 @@ use Rattle.flow_lower_tasks.specs.Works as jobs
 use Rattle.flow_lower_tasks.specs.declared.pending_works.Surroundings.{Surroundings}
 use Rattle.flow_lower_works.specs.Derivations.{Makes}
 use Rattle.ref_machine.specs.Items.{Item, Statement}
-use Rattle.ref_machine.specs.SourceStates.{function_at}
+use Rattle.ref_machine.specs.LabelSearch.{Sought, found}
 use Rattle.template_runs.specs.TemplateStates.{Templates}
 use Rattle.template_runs_follow.specs.Follows.{Follows}
 use Rattle.template_runs_works.specs.TemplateParts.{IsOfUnit, IsKnown, Stands}
-use Rattle.template_runs_scopes.specs.Contexts.{Within}
+use Rattle.template_runs_scopes.specs.Contexts.{Reaches, Within}
 use Rattle.template_runs_scopes.specs.Scopes.{HasScopes}
-use Rattle.template_runs_scopes.specs.SuitedStatements.{SuitsIn}
+use Rattle.template_runs_scopes.specs.SuitedStatements.{Enclosure, SuitsIn}
+use Rattle.template_runs_gotos.specs.Gotos.{HasLabels}
+use Rattle.template_runs_bodies.specs.LabelMarks.{IsMark}
 
 -- where the works of a statement come to pieces, its items follow in these, whatever comes behind
 abbrev pub StatementsFollow : Type 0
-StatementsFollow = (t : Templates) (s : SettingView) → IsOfUnit t s → (f : FunctionView) → function_at t.unit t.unit.entry ≡ Some f → s.is_entry ≡ true → (i : StatementTree) (n : ℕ) (around : Surroundings) (in_loop : Bool) (known : List ℕ) → SuitsIn in_loop known i → (p : Plan) → HasScopes s i around.scope p.scopes
-    → (ps : List PieceView) (r : Plan) → Makes s p (jobs.Statement i around ∷ []) ps r → p.jobs ≡ [] → IsKnown t r → (items : List Item) (rest : List PieceView) → Stands t (ps ++ rest) → Within s t n around in_loop known items → Follows t n 0 items rest → Follows t n 0 (Statement i ∷ items) (ps ++ rest)
+StatementsFollow = (t : Templates) (s : SettingView) → IsOfUnit t s → (f : FunctionView) → HasLabels t s f → s.is_entry ≡ true → (i : StatementTree) (n : ℕ) (around : Surroundings) (enclosed : Enclosure) (known : List ℕ) → SuitsIn t.unit f enclosed known i → (p : Plan) → HasScopes s i around.scope p.scopes
+    → (ps : List PieceView) (r : Plan) → Makes s p (jobs.Statement i around ∷ []) ps r → p.jobs ≡ [] → IsKnown t r → (items : List Item) (rest : List PieceView) → Stands t (ps ++ rest) → Within s t n around enclosed known items → Follows t n 0 items rest → Follows t n 0 (Statement i ∷ items) (ps ++ rest)
+
+-- and what is left to do from a label in it on follows behind the mark of the label
+abbrev pub LabelsFollow : Type 0
+LabelsFollow = (t : Templates) (s : SettingView) → IsOfUnit t s → (f : FunctionView) → HasLabels t s f → s.is_entry ≡ true → (i : StatementTree) (n : ℕ) (around : Surroundings) (enclosed : Enclosure) (known : List ℕ) → SuitsIn t.unit f enclosed known i → (p : Plan) → HasScopes s i around.scope p.scopes
+    → (ps : List PieceView) (r : Plan) → Makes s p (jobs.Statement i around ∷ []) ps r → p.jobs ≡ [] → IsKnown t r → (items : List Item) (rest : List PieceView) → Stands t (ps ++ rest) → Within s t n around enclosed known items → Follows t n 0 items rest → (l : Sought) (mark : ℕ) → IsMark p around.choice l mark → (to : List Item) → found t.unit l i items ≡ Some to → Reaches t n mark to

@@ -1,6 +1,6 @@
-//! Statements follow in the pieces to which they come.
+//! Bodies of functions follow in the pieces to which they come.
 #![tactic(auto)]
 
 mod theorems;
 
-pub use theorems::statements_follow;
+pub use theorems::{labels_follow, statements_follow};

@@ -16,7 +16,7 @@ made b = record { turns = 60; ended = refl; comes_to = refl }
 labelled : (b : ℕ) → IsLabelled (main b)
 labelled b = record { labels = λ l. omega arith; cases = λ n. refl; defaults = refl; switches = (tt, (((tt, tt), tt), (tt, tt))) }
 
-suits : (b : ℕ) → AllSuitIn false ((main b).scope ++ []) (statement_trees (main b).body)
+suits : (b : ℕ) → AllSuitIn (unit_of (main b ∷ [])) (main b) not_enclosed ((main b).scope ++ []) (statement_trees (main b).body)
 suits b = (tt, ((tt, (((tt, tt), omega arith), tt), ((tt, tt), omega arith), (tt, omega arith), tt), (((tt, tt), omega arith), tt)))
 
 is_entry : (b : ℕ) → IsEntry (templates b) (main b)

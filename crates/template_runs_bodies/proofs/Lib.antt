@@ -1,0 +1,6 @@
+pub mod Finding
+pub mod FoundSelections
+pub mod FoundLoops
+pub mod FoundLabelled
+pub mod Statements
+pub mod FunctionLabels

@@ -1,0 +1,4 @@
+pub mod GrownTrees
+pub mod KeptNotes
+pub mod NotedCases
+pub mod NotedChoices
