@@ -96,7 +96,7 @@ module _ (s : SettingView) (t : Templates) where
 
   -- a work gives way to its parts
   pub finds_way : (n choice c : ℕ) (K : List Item → Type 0) (j : Job) (find : Sought → List Item → Option (List Item)) → is_piece j ≡ false → ((p : Plan) → p.jobs ≡ [] → p.scopes ≡ c → FindsFrom n choice K (planless (parts s j p)) (parts s j p).jobs find) → Finds n choice c K (j ∷ []) find
-  finds_way n choice c K j find other inner = record {
+  finds_way n choice c K j find not_piece inner = record {
     from = λ p none begun ps r m known items rest stands k f l mark is to e.
-        inner p none begun ps r (opened s p j ps r other m) known items rest stands k f l mark (mark_kept p (planless (parts s j p)) choice l mark (planless_grows p (parts s j p) (grows_parts s j p)) is) to e;
+        inner p none begun ps r (opened s p j ps r not_piece m) known items rest stands k f l mark (mark_kept p (planless (parts s j p)) choice l mark (planless_grows p (parts s j p) (grows_parts s j p)) is) to e;
   }

@@ -37,7 +37,7 @@ at_most : (a : ℕ) → a ≤ a
 at_most a = omega arith
 
 -- the mark of the label that is sought
-label_mark : (p : Plan) (choice k : ℕ) (l : Sought) (mark : ℕ) → IsMark p choice l mark → is_label l k ≡ true → mark ≡ k
+pub label_mark : (p : Plan) (choice k : ℕ) (l : Sought) (mark : ℕ) → IsMark p choice l mark → is_label l k ≡ true → mark ≡ k
 label_mark p choice k _ _ (of_label n less) e = eqb-true n k e
 label_mark p choice k _ _ (of_case n there less) e = absurd (no e)
   where
@@ -48,7 +48,7 @@ label_mark p choice k _ _ (of_other there less) e = absurd (no e)
     no : false ≡ true → ⊥
     no e = cc
 
-case_mark : (p : Plan) (choice k : ℕ) (l : Sought) (mark : ℕ) → IsMark p choice l mark → is_case l k ≡ true → mark ≡ behind (dispatch_at p choice).cases k
+pub case_mark : (p : Plan) (choice k : ℕ) (l : Sought) (mark : ℕ) → IsMark p choice l mark → is_case l k ≡ true → mark ≡ behind (dispatch_at p choice).cases k
 case_mark p choice k _ _ (of_label n less) e = absurd (no e)
   where
     no : false ≡ true → ⊥
@@ -62,7 +62,7 @@ case_mark p choice k _ _ (of_other there less) e = absurd (no e)
     no : false ≡ true → ⊥
     no e = cc
 
-default_mark : (p : Plan) (choice : ℕ) (l : Sought) (mark : ℕ) → IsMark p choice l mark → is_other l ≡ true → mark ≡ (dispatch_at p choice).fallback
+pub default_mark : (p : Plan) (choice : ℕ) (l : Sought) (mark : ℕ) → IsMark p choice l mark → is_other l ≡ true → mark ≡ (dispatch_at p choice).fallback
 default_mark p choice _ _ (of_label n less) e = absurd (no e)
   where
     no : false ≡ true → ⊥
@@ -94,7 +94,7 @@ module _ (s : SettingView) (t : Templates) (fits : IsOfUnit t s) (n choice c las
         let to_start : Grows p start = planless_grows p all (subst (λ q. Grows p q) (same p) (grows_parts s (jobs.Statement i around) p)) in
         by (is_sought l) refl e
         (λ sought is_to.
-        record { there = x.back ++ rest; leads = subst (λ j. Stands t (Mark (mark p) ∷ (x.back ++ rest)) → _) refl (λ st. led s t fits lb p.labels p.labels (x.back ++ rest) (mark_below p choice l lb is) (at_most p.labels) few (subst (λ j. Stands t (Mark j ∷ (x.back ++ rest))) (sym (is_mark p l lb is sought)) st)) at_mark; follows = subst (λ xs. Follows t n 0 xs (x.back ++ rest)) is_to (goes.from start refl begun_all x.back r x.made known items rest at_body k f) })
+        record { there = x.back ++ rest; leads = led s t fits lb p.labels p.labels (x.back ++ rest) (mark_below p choice l lb is) (at_most p.labels) few (subst (λ j. Stands t (Mark j ∷ (x.back ++ rest))) (sym (is_mark p l lb is sought)) at_mark); follows = subst (λ xs. Follows t n 0 xs (x.back ++ rest)) is_to (goes.from start refl begun_all x.back r x.made known items rest at_body k f) })
         (λ is_to. finds.from start refl begun_all x.back r x.made known items rest at_body k f l lb (mark_kept p start choice l lb to_start is) to is_to);
   }
     where

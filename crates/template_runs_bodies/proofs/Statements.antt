@@ -49,6 +49,8 @@ module _ (s : SettingView) (t : Templates) (fits : IsOfUnit t s) (f : FunctionVi
       never to e = cc
 
   mutual
+    unfolding found found_in
+
     pub about : (i : StatementTree) → AboutStatement s t f i
     about (tree.Value e) = λ n around looping known c suits scopes. no_scope (tree.Value e) n around looping known c (of_value s t fits n around (Within s t n around looping known) c e suits)
     about tree.Nothing = λ n around looping known c suits scopes. no_scope tree.Nothing n around looping known c (of_nothing s t fits n around (Within s t n around looping known) c)
@@ -74,8 +76,6 @@ module _ (s : SettingView) (t : Templates) (fits : IsOfUnit t s) (f : FunctionVi
     pub all_about : (items : StatementTrees) → AboutStatements s t f items
     all_about tree.NoMore = of_none s t f
     all_about (tree.And first rest) = of_more s t f first rest (about first) (all_about rest)
-
-    unfolding found found_in
 
     pub finds : (i : StatementTree) → FoundStatement s t f i
     finds (tree.Value e) = no_label (tree.Value e) (λ l items. refl)

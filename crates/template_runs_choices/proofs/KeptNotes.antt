@@ -50,7 +50,7 @@ scope_cases : (k : ℕ) (objects : List ℕ) (t : TreeView) → (with_new_scope 
 unfolding with_new_scope
 scope_cases k objects t = refl
 
-scope_choices : (k : ℕ) (objects : List ℕ) (t : TreeView) → (with_new_scope k objects t).choices ≡ t.choices
+pub scope_choices : (k : ℕ) (objects : List ℕ) (t : TreeView) → (with_new_scope k objects t).choices ≡ t.choices
 unfolding with_new_scope
 scope_choices k objects t = refl
 
@@ -58,7 +58,7 @@ label_cases : (n k : ℕ) (t : TreeView) → (with_label n k t).cases ≡ t.case
 unfolding with_label
 label_cases n k t = refl
 
-label_choices : (n k : ℕ) (t : TreeView) → (with_label n k t).choices ≡ t.choices
+pub label_choices : (n k : ℕ) (t : TreeView) → (with_label n k t).choices ≡ t.choices
 unfolding with_label
 label_choices n k t = refl
 
@@ -66,7 +66,7 @@ default_cases : (c k : ℕ) (t : TreeView) → (with_default c k t).cases ≡ t.
 unfolding with_default
 default_cases c k t = refl
 
-case_choices : (c n k : ℕ) (t : TreeView) → (with_case c n k t).choices ≡ t.choices
+pub case_choices : (c n k : ℕ) (t : TreeView) → (with_case c n k t).choices ≡ t.choices
 unfolding with_case
 case_choices c n k t = refl
 

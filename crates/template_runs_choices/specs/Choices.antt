@@ -5,7 +5,7 @@ use Rattle.c_layout.specs.CheckedTrees.{StatementTree, StatementTrees}
 use Rattle.flow_lower_statements.specs.Switches.{choice_at, case_scope}
 use Rattle.flow_lower_tasks.specs.Settings.{SettingView}
 use Rattle.flow_lower_tasks.specs.Works.{behind}
-use Rattle.ref_machine.specs.LabelSearch.{case, other}
+use Rattle.ref_machine.specs.LabelSearch as sought
 use Rattle.template_runs_labels.specs.LabelScopes.{stands_in}
 use Rattle.template_runs_scopes.specs.Scopes.{scopes_in, all_scopes_in}
 
@@ -31,8 +31,8 @@ abbrev mutual
 -- of a switch the scopes of its cases and of its default label are noted, where its body stands in a scope and the scopes
 -- in it have the numbers from another one on
 pub record IsChoice (s : SettingView) (number count : ℕ) (body : StatementTree) (k c : ℕ) : Type 0 where
-  pub cases : (n scope : ℕ) → n < count → stands_in (case n) body k c ≡ Some scope → case_scope s (behind (choice_at s number).first n) ≡ scope
-  pub fallback : (choice_at s number).fallback ≡ stands_in other body k c
+  pub cases : (n scope : ℕ) → n < count → stands_in (sought.case n) body k c ≡ Some scope → case_scope s (behind (choice_at s number).first n) ≡ scope
+  pub fallback : (choice_at s number).fallback ≡ stands_in sought.other body k c
 
 -- so it is of the switches in a statement, which have the numbers from one on
 abbrev mutual

@@ -64,7 +64,7 @@ clause_jobs (Some e) = jobs.Unused e 0 ∷ []
 abbrev pub body_jobs : Place → Option TermTree → StatementTree → Surroundings → ℕ → List Job
 body_jobs at after body inside l = jobs.Ready (Mark (l + 2)) ∷ (jobs.Statement body (in_loop inside (l + 4) (l + 3)) ∷ (jobs.Ready (Mark (l + 3)) ∷ (clause_jobs after ++ (jobs.Ready (jumping at (l + 1)) ∷ (jobs.Ready (Mark (l + 4)) ∷ [])))))
 
-pub turn_jobs : Place → Option TermTree → Option TermTree → StatementTree → Surroundings → ℕ → List Job
+unfoldable pub turn_jobs : Place → Option TermTree → Option TermTree → StatementTree → Surroundings → ℕ → List Job
 turn_jobs at test after body inside l = jobs.Ready (Mark (l + 1)) ∷ (test_jobs test l ++ body_jobs at after body inside l)
 
 -- works that are planned one behind the other

@@ -44,7 +44,7 @@ use Rattle.template_runs_statements.proofs.Selections.{Counts, count_terms, coun
 
 -- ---- `while`
 
-pub while_jobs : Place → TermTree → StatementTree → Surroundings → ℕ → List Job
+unfoldable pub while_jobs : Place → TermTree → StatementTree → Surroundings → ℕ → List Job
 while_jobs at e body around l = jobs.Ready (Mark l) ∷ (jobs.Condition e (decided (record { yes = l + 1; no = l + 2 }) 0) ∷ (jobs.Ready (Mark (l + 1)) ∷ (jobs.Statement body (in_loop around (l + 2) l) ∷ (jobs.Ready (jumping at l) ∷ (jobs.Ready (Mark (l + 2)) ∷ [])))))
 
 pub while_planned : (s : SettingView) (e : TermTree) (body : StatementTree) (around : Surroundings) (p : Plan) → p.jobs ≡ [] → (loops.while_loop s e body around p).jobs ≡ while_jobs s.at e body around p.labels
@@ -61,7 +61,7 @@ while_grows s e body around p = let start : Grows (with_labels 3 p) (with_labels
 
 -- ---- `do`
 
-pub do_jobs : TermTree → StatementTree → Surroundings → ℕ → List Job
+unfoldable pub do_jobs : TermTree → StatementTree → Surroundings → ℕ → List Job
 do_jobs e body around l = jobs.Ready (Mark l) ∷ (jobs.Statement body (in_loop around (l + 2) (l + 1)) ∷ (jobs.Ready (Mark (l + 1)) ∷ (jobs.Condition e (decided (record { yes = l; no = l + 2 }) 0) ∷ (jobs.Ready (Mark (l + 2)) ∷ []))))
 
 pub do_planned : (e : TermTree) (body : StatementTree) (around : Surroundings) (p : Plan) → p.jobs ≡ [] → (loops.do_loop body e around p).jobs ≡ do_jobs e body around p.labels

@@ -92,7 +92,7 @@ one_more c a = omega arith
 
 -- ---- selections
 
-pub if_jobs : TermTree → StatementTree → Surroundings → ℕ → List Job
+unfoldable pub if_jobs : TermTree → StatementTree → Surroundings → ℕ → List Job
 if_jobs e body around l = jobs.Ready (Mark l) ∷ (jobs.Condition e (decided (record { yes = l + 1; no = l + 2 }) 0) ∷ (jobs.Ready (Mark (l + 1)) ∷ (jobs.Statement body around ∷ (jobs.Ready (Mark (l + 2)) ∷ []))))
 
 pub if_planned : (e : TermTree) (body : StatementTree) (around : Surroundings) (p : Plan) → p.jobs ≡ [] → (selection e body around p).jobs ≡ if_jobs e body around p.labels
