@@ -20,6 +20,7 @@ use Rattle.template_runs_follow.specs.Follows.{Follows}
 use Rattle.template_runs_works.specs.TemplateParts.{IsKnown, Stands}
 use Rattle.template_runs_works.proofs.Runs.{known_before, stands_behind, opened, split}
 use Rattle.template_runs_scopes.specs.Contexts.{Reaches}
+use Rattle.template_runs_scopes.proofs.Positions.{Position, position}
 use Rattle.template_runs_scopes.proofs.InScopes.{Goes}
 use Rattle.template_runs_statements.proofs.Selections.{Counts}
 use Rattle.template_runs_bodies.specs.LabelMarks.{IsMark, of_label, of_case, of_other}
@@ -58,14 +59,14 @@ module _ (s : SettingView) (t : Templates) where
   abbrev pub FindsFrom : ℕ → ℕ → (List Item → Type 0) → Plan → List Job → (Sought → List Item → Option (List Item)) → Type 0
   FindsFrom n choice K p js find = (ps : List PieceView) (r : Plan) → Makes s p js ps r → IsKnown t r → (items : List Item) (rest : List PieceView) → Stands t (ps ++ rest) → K items → Follows t n 0 items rest → (l : Sought) (mark : ℕ) → IsMark p choice l mark → (to : List Item) → find l items ≡ Some to → Reaches t n mark to
 
-  pub record Finds (n choice first : ℕ) (K : List Item → Type 0) (js : List Job) (find : Sought → List Item → Option (List Item)) : Type 0 where
-    pub from : (p : Plan) → p.jobs ≡ [] → p.scopes ≡ first → FindsFrom n choice K p js find
+  pub record Finds (n choice : ℕ) (first : Position) (K : List Item → Type 0) (js : List Job) (find : Sought → List Item → Option (List Item)) : Type 0 where
+    pub from : (p : Plan) → p.jobs ≡ [] → position p ≡ first → FindsFrom n choice K p js find
 
-  pub finds_none : (n choice c : ℕ) (K : List Item → Type 0) (js : List Job) → Finds n choice c K js (λ l items. None)
+  pub finds_none : (n choice : ℕ) (c : Position) (K : List Item → Type 0) (js : List Job) → Finds n choice c K js (λ l items. None)
   finds_none n choice c K js = record { from = λ p none begun ps r m known items rest stands k f l mark is to e. absurd (never to e) }
 
   -- in works that come first, where others and their items are behind
-  pub finds_front : (n choice first middle last : ℕ) (K L : List Item → Type 0) (js ks : List Job) (hs : List Item) (find : Sought → List Item → Option (List Item)) → ((items : List Item) → K items → L (hs ++ items)) → Finds n choice first L js find → Counts s first middle js → Goes s t n middle last K ks hs
+  pub finds_front : (n choice : ℕ) (first middle last : Position) (K L : List Item → Type 0) (js ks : List Job) (hs : List Item) (find : Sought → List Item → Option (List Item)) → ((items : List Item) → K items → L (hs ++ items)) → Finds n choice first L js find → Counts s first middle js → Goes s t n middle last K ks hs
       → Finds n choice first K (js ++ ks) (λ l items. find l (hs ++ items))
   finds_front n choice first middle last K L js ks hs find onwards finds counts goes = record {
     from = λ p none begun ps r m known items rest stands k f l mark is to e.
@@ -76,7 +77,7 @@ module _ (s : SettingView) (t : Templates) where
   }
 
   -- in works that come last
-  pub finds_back : (n choice first middle : ℕ) (K : List Item → Type 0) (js ks : List Job) (find : Sought → List Item → Option (List Item)) → Counts s first middle js → Finds n choice middle K ks find → Finds n choice first K (js ++ ks) find
+  pub finds_back : (n choice : ℕ) (first middle : Position) (K : List Item → Type 0) (js ks : List Job) (find : Sought → List Item → Option (List Item)) → Counts s first middle js → Finds n choice middle K ks find → Finds n choice first K (js ++ ks) find
   finds_back n choice first middle K js ks find counts finds = record {
     from = λ p none begun ps r m known items rest stands k f l mark is to e.
         let x = parted s p js ks ps r m in
@@ -89,13 +90,13 @@ module _ (s : SettingView) (t : Templates) where
   in_either n mark to (Some x) two e here there = here e
 
   -- by one search or another one
-  pub finds_either : (n choice c : ℕ) (K : List Item → Type 0) (js : List Job) (one two : Sought → List Item → Option (List Item)) → Finds n choice c K js one → Finds n choice c K js two → Finds n choice c K js (λ l items. first (one l items) (two l items))
+  pub finds_either : (n choice : ℕ) (c : Position) (K : List Item → Type 0) (js : List Job) (one two : Sought → List Item → Option (List Item)) → Finds n choice c K js one → Finds n choice c K js two → Finds n choice c K js (λ l items. first (one l items) (two l items))
   finds_either n choice c K js one two x y = record {
     from = λ p none begun ps r m known items rest stands k f l mark is to e. in_either n mark to (one l items) (two l items) e (λ a. x.from p none begun ps r m known items rest stands k f l mark is to a) (λ a. y.from p none begun ps r m known items rest stands k f l mark is to a);
   }
 
   -- a work gives way to its parts
-  pub finds_way : (n choice c : ℕ) (K : List Item → Type 0) (j : Job) (find : Sought → List Item → Option (List Item)) → is_piece j ≡ false → ((p : Plan) → p.jobs ≡ [] → p.scopes ≡ c → FindsFrom n choice K (planless (parts s j p)) (parts s j p).jobs find) → Finds n choice c K (j ∷ []) find
+  pub finds_way : (n choice : ℕ) (c : Position) (K : List Item → Type 0) (j : Job) (find : Sought → List Item → Option (List Item)) → is_piece j ≡ false → ((p : Plan) → p.jobs ≡ [] → position p ≡ c → FindsFrom n choice K (planless (parts s j p)) (parts s j p).jobs find) → Finds n choice c K (j ∷ []) find
   finds_way n choice c K j find not_piece inner = record {
     from = λ p none begun ps r m known items rest stands k f l mark is to e.
         inner p none begun ps r (opened s p j ps r not_piece m) known items rest stands k f l mark (mark_kept p (planless (parts s j p)) choice l mark (planless_grows p (parts s j p) (grows_parts s j p)) is) to e;

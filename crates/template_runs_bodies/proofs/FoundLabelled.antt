@@ -26,6 +26,7 @@ use Rattle.template_runs_works.specs.TemplateParts.{IsOfUnit, IsKnown, Stands}
 use Rattle.template_runs_works.proofs.Runs.{known_before, opened, headed, stands_after}
 use Rattle.template_runs_works.proofs.Laying.{led}
 use Rattle.template_runs_scopes.specs.Contexts.{Reaches, Within}
+use Rattle.template_runs_scopes.proofs.Positions.{Position}
 use Rattle.template_runs_scopes.proofs.InScopes.{Goes}
 use Rattle.template_runs_statements.proofs.Sequences.{AboutStatement}
 use Rattle.template_runs_statements.proofs.Labelled.{labelled_jobs, labelled_planned, labelled_scopes}
@@ -76,7 +77,7 @@ default_mark p choice _ _ (of_other there less) e = refl
 here_is : (to x : List Item) → Some x ≡ Some to → x ≡ to
 here_is to x e = cc
 
-module _ (s : SettingView) (t : Templates) (fits : IsOfUnit t s) (n choice c last : ℕ) (K : List Item → Type 0) (body : StatementTree) (around : Surroundings) (goes : Goes s t n c last K (jobs.Statement body around ∷ []) (item.Statement body ∷ []))
+module _ (s : SettingView) (t : Templates) (fits : IsOfUnit t s) (n choice : ℕ) (c last : Position) (K : List Item → Type 0) (body : StatementTree) (around : Surroundings) (goes : Goes s t n c last K (jobs.Statement body around ∷ []) (item.Statement body ∷ []))
     (finds : Finds s t n choice c K (jobs.Statement body around ∷ []) (λ l items. found t.unit l body items)) where
   pub found_labelled : (i : StatementTree) (is_sought : Sought → Bool) (mark : Plan → ℕ) → ((p : Plan) → parts s (jobs.Statement i around) p ≡ part (mark p) body around p) → ((p : Plan) (l : Sought) (m : ℕ) → IsMark p choice l m → is_sought l ≡ true → m ≡ mark p)
       → Finds s t n choice c K (jobs.Statement i around ∷ []) (λ l items. here_or (is_sought l) (item.Statement body ∷ items) (found t.unit l body items))

@@ -29,13 +29,13 @@ use Rattle.template_runs_works.proofs.Runs.{stands_after}
 use Rattle.template_runs_works.proofs.Laying.{from_piece, from_none, from_work, known_between, few_labels}
 use Rattle.template_runs_terms.proofs.Choices.{jumping}
 use Rattle.template_runs_scopes.specs.Contexts.{Reaches, Within}
-use Rattle.template_runs_scopes.specs.Scopes.{scopes_in, all_scopes_in, HasScopes}
 use Rattle.template_runs_scopes.specs.SuitedStatements.{Enclosure, not_enclosed, by_loop, SuitsBehind, SuitsIf, SuitsIn}
 use Rattle.template_runs_scopes.proofs.Contexts.{in_block}
+use Rattle.template_runs_scopes.proofs.Positions.{Position, position, inner, past, past_all}
 use Rattle.template_runs_scopes.proofs.InScopes.{Goes}
 use Rattle.template_runs_scopes.proofs.Objects.{object_jobs, objects_are_terms, named_from, locals}
-use Rattle.template_runs_statements.proofs.Sequences.{statement_jobs, AboutStatement, AboutStatements}
-use Rattle.template_runs_statements.proofs.Selections.{Counts, count_terms, count_on, kept_one, next_scope}
+use Rattle.template_runs_statements.proofs.Sequences.{statement_jobs, HasParts, AboutStatement, AboutStatements}
+use Rattle.template_runs_statements.proofs.Selections.{Counts, count_terms, count_on, kept_one}
 use Rattle.template_runs_statements.proofs.Loops.{while_jobs, while_planned, while_scopes, while_grows, while_at_body, while_context, while_again, while_turns, do_jobs, do_planned, do_scopes, do_grows, do_context, do_again, do_turns}
 use Rattle.template_runs_statements.proofs.ForLoops.{Planned, for_planned, for_grows, test_jobs, clause_jobs, turn_jobs, tests_are_terms, turns_count, turns_go, from_many, kept_many, for_at_body, for_context, for_again, for_turns}
 use Rattle.template_runs_bodies.specs.LabelMarks.{IsMark}
@@ -45,7 +45,7 @@ use Rattle.template_runs_bodies.proofs.FoundSelections.{FoundStatement, leaves_g
 module _ (s : SettingView) (t : Templates) (fits : IsOfUnit t s) (g : FunctionView) where
   -- ---- `while`
 
-  while_finds : (n : ℕ) (e : TermTree) (body : StatementTree) → AboutStatement s t g body → FoundStatement s t g body → (around : Surroundings) (looping : Enclosure) (known : List ℕ) (c l : ℕ) → SuitsBehind true 0 e → SuitsIn t.unit g by_loop known body → HasScopes s body around.scope c → l + 3 ≤ 2 ^ 32 - 1
+  while_finds : (n : ℕ) (e : TermTree) (body : StatementTree) → AboutStatement s t g body → FoundStatement s t g body → (around : Surroundings) (looping : Enclosure) (known : List ℕ) (c : Position) (l : ℕ) → SuitsBehind true 0 e → SuitsIn t.unit g by_loop known body → HasParts s body around.scope c → l + 3 ≤ 2 ^ 32 - 1
       → Finds s t n around.choice c (Within s t n around looping known) (while_jobs s.at e body around l) (λ lb items. found t.unit lb body (item.Hop ∷ (item.TurnEnd ∷ (item.WhileTurn e body ∷ (item.LoopEnd ∷ items)))))
   unfolding while_jobs
   while_finds n e body about found_body around looping known c l suits_test suits_body scopes few = record {
@@ -83,7 +83,7 @@ module _ (s : SettingView) (t : Templates) (fits : IsOfUnit t s) (g : FunctionVi
 
   -- ---- `do`
 
-  do_finds : (n : ℕ) (body : StatementTree) (e : TermTree) → AboutStatement s t g body → FoundStatement s t g body → (around : Surroundings) (looping : Enclosure) (known : List ℕ) (c l : ℕ) → SuitsIn t.unit g by_loop known body → SuitsBehind true 0 e → HasScopes s body around.scope c → l + 3 ≤ 2 ^ 32 - 1
+  do_finds : (n : ℕ) (body : StatementTree) (e : TermTree) → AboutStatement s t g body → FoundStatement s t g body → (around : Surroundings) (looping : Enclosure) (known : List ℕ) (c : Position) (l : ℕ) → SuitsIn t.unit g by_loop known body → SuitsBehind true 0 e → HasParts s body around.scope c → l + 3 ≤ 2 ^ 32 - 1
       → Finds s t n around.choice c (Within s t n around looping known) (do_jobs e body around l) (λ lb items. found t.unit lb body (do_test t.unit body e ++ item.LoopEnd ∷ items))
   unfolding do_jobs
   do_finds n body e about found_body around looping known c l suits_body suits_test scopes few = record {
@@ -118,7 +118,7 @@ module _ (s : SettingView) (t : Templates) (fits : IsOfUnit t s) (g : FunctionVi
   -- ---- `for`
 
   -- the body of a turn
-  turns_find : (n : ℕ) (test after : Option TermTree) (body : StatementTree) → AboutStatement s t g body → FoundStatement s t g body → (around : Surroundings) (looping : Enclosure) (known : List ℕ) (c l : ℕ) → SuitsIf true test → SuitsIf false after → SuitsIn t.unit g by_loop known body → HasScopes s body around.scope c → l + 5 ≤ 2 ^ 32 - 1
+  turns_find : (n : ℕ) (test after : Option TermTree) (body : StatementTree) → AboutStatement s t g body → FoundStatement s t g body → (around : Surroundings) (looping : Enclosure) (known : List ℕ) (c : Position) (l : ℕ) → SuitsIf true test → SuitsIf false after → SuitsIn t.unit g by_loop known body → HasParts s body around.scope c → l + 5 ≤ 2 ^ 32 - 1
       → Finds s t n around.choice c (Within s t n around looping known) (turn_jobs s.at test after body around l) (λ lb items. found t.unit lb body (for_step test after body ++ item.LoopEnd ∷ items))
   unfolding turn_jobs
   turns_find n test after body about found_body around looping known c l suits_test suits_after suits_body scopes few = record {
@@ -152,14 +152,14 @@ module _ (s : SettingView) (t : Templates) (fits : IsOfUnit t s) (g : FunctionVi
   unfolding found found_in
   found_for objects begin test after body about_first about found_body n around looping known c suits scopes =
       let j = jobs.Statement (tree.For objects begin test after body) around in
-      let inner = in_scope around c in
+      let within = in_scope around c.scopes in
       let more = objects ++ known in
       let K = Within s t n around looping known in
-      let L = Within s t n inner looping more in
-      let middle = suc c + all_scopes_in begin in
-      let last = middle + scopes_in body in
-      let starts = about_first n inner not_enclosed more (suc c) suits.1 scopes.1 in
-      let same : (p : Plan) → p.jobs ≡ [] → p.scopes ≡ c → Planned s.at objects (statement_jobs begin inner ++ turn_jobs s.at test after body inner p.labels) p.labels p (parts s j p) = λ p none begun_p. subst (λ k. Planned s.at objects (statement_jobs begin (in_scope around k) ++ turn_jobs s.at test after body (in_scope around k) p.labels) p.labels p (parts s j p)) begun_p (for_planned s objects begin test after body around p none) in
+      let L = Within s t n within looping more in
+      let middle = past_all (inner c) begin in
+      let last = past middle body in
+      let starts = about_first n within not_enclosed more (inner c) suits.1 (scopes.0.1, scopes.1.0) in
+      let same : (p : Plan) → p.jobs ≡ [] → position p ≡ c → Planned s.at objects (statement_jobs begin within ++ turn_jobs s.at test after body within p.labels) p.labels p (parts s j p) = λ p none begun_p. subst (λ k. Planned s.at objects (statement_jobs begin (in_scope around k) ++ turn_jobs s.at test after body (in_scope around k) p.labels) p.labels p (parts s j p)) (ap (λ (x : Position). x.scopes) begun_p) (for_planned s objects begin test after body around p none) in
       finds_way s t n around.choice c K j (λ l items. found t.unit l body (for_step test after body ++ (item.LoopEnd ∷ (item.Leaves objects ∷ items)))) refl
       (λ p none begun_p ps r m known_last items rest stands k f l mark is to is_to.
       let all = parts s j p in
@@ -167,16 +167,16 @@ module _ (s : SettingView) (t : Templates) (fits : IsOfUnit t s) (g : FunctionVi
       let few = few_labels s t p j 5 all.jobs ps r (for_grows s objects begin test after body around p) m known_last in
       let known_all = known_between s t (planless all) all.jobs ps r m known_last in
       let again = named_from t (planless all) (p.names ++ locals objects) objects [] known_all (x.names ∙ ap (λ ns. (p.names ++ locals objects) ++ ns) (sym (append-nil (locals objects)))) in
-      let turns = turn_jobs s.at test after body inner p.labels in
+      let turns = turn_jobs s.at test after body within p.labels in
       let enters = object_jobs act.Enter s.at objects (length p.names) in
       let outs = object_jobs act.Leave s.at objects (length (p.names ++ locals objects)) in
       let find : Sought → List Item → Option (List Item) = λ lb its. found t.unit lb body (for_step test after body ++ item.LoopEnd ∷ its) in
       let find_all : Sought → List Item → Option (List Item) = λ lb its. found t.unit lb body (for_step test after body ++ (item.LoopEnd ∷ (item.Leaves objects ∷ its))) in
-      let turned = turns_find n test after body about found_body inner looping more middle p.labels suits.2 suits.3 suits.4 scopes.2 few in
-      let counted = turns_count s t fits g test after body about inner more middle p.labels n suits.4 scopes.2 in
-      let inside = finds_back s t n around.choice (suc c) middle L (statement_jobs begin inner) turns find starts.ends turned in
-      let counts = count_on s (suc c) middle last (statement_jobs begin inner) turns starts.ends counted in
-      let left = finds_front s t n around.choice (suc c) last last K L (statement_jobs begin inner ++ turns) outs (item.Leaves objects ∷ []) find (λ its k. in_block s t n around looping known objects c its suits.0 scopes.0 k) inside counts (leaves_go s t fits g n last objects (length (p.names ++ locals objects)) K again) in
-      let entered = finds_back s t n around.choice (suc c) (suc c) K enters ((statement_jobs begin inner ++ turns) ++ outs) find_all (count_terms s (suc c) enters (objects_are_terms act.Enter s.at objects (length p.names))) left in
-      let whole = finds_back s t n around.choice (suc c) (suc c) K (jobs.Ready (Mark p.labels) ∷ []) (enters ++ ((statement_jobs begin inner ++ turns) ++ outs)) find_all (count_terms s (suc c) (jobs.Ready (Mark p.labels) ∷ []) (tt, tt)) entered in
-      whole.from (planless all) refl (x.scopes ∙ ap (λ k. k + 1) begun_p ∙ next_scope c) ps r (subst (λ ks. Makes s (planless all) ks ps r) x.jobs m) known_last items rest stands k f l mark is to is_to)
+      let turned = turns_find n test after body about found_body within looping more middle p.labels suits.2 suits.3 suits.4 (scopes.0.2, scopes.1.1) few in
+      let counted = turns_count s t fits g test after body about within more middle p.labels n suits.4 (scopes.0.2, scopes.1.1) in
+      let inside = finds_back s t n around.choice (inner c) middle L (statement_jobs begin within) turns find starts.ends turned in
+      let counts = count_on s (inner c) middle last (statement_jobs begin within) turns starts.ends counted in
+      let left = finds_front s t n around.choice (inner c) last last K L (statement_jobs begin within ++ turns) outs (item.Leaves objects ∷ []) find (λ its k. in_block s t n around looping known objects c.scopes its suits.0 scopes.0.0 k) inside counts (leaves_go s t fits g n last objects (length (p.names ++ locals objects)) K again) in
+      let entered = finds_back s t n around.choice (inner c) (inner c) K enters ((statement_jobs begin within ++ turns) ++ outs) find_all (count_terms s (inner c) enters (objects_are_terms act.Enter s.at objects (length p.names))) left in
+      let whole = finds_back s t n around.choice (inner c) (inner c) K (jobs.Ready (Mark p.labels) ∷ []) (enters ++ ((statement_jobs begin within ++ turns) ++ outs)) find_all (count_terms s (inner c) (jobs.Ready (Mark p.labels) ∷ []) (tt, tt)) entered in
+      whole.from (planless all) refl (x.scopes ∙ ap inner begun_p) ps r (subst (λ ks. Makes s (planless all) ks ps r) x.jobs m) known_last items rest stands k f l mark is to is_to)

@@ -27,22 +27,22 @@ use Rattle.template_runs_works.proofs.Runs.{stands_behind, stands_after}
 use Rattle.template_runs_works.proofs.Laying.{from_piece, from_none, from_work, led, known_between, few_labels}
 use Rattle.template_runs_terms.proofs.Choices.{jumping, hops, two_way_jobs}
 use Rattle.template_runs_scopes.specs.Contexts.{Within}
-use Rattle.template_runs_scopes.specs.Scopes.{scopes_in, all_scopes_in, HasScopes, AllHaveScopes}
 use Rattle.template_runs_scopes.specs.SuitedStatements.{Enclosure, SuitsIn, AllSuitIn}
 use Rattle.template_runs_scopes.proofs.Contexts.{in_block}
 use Rattle.template_runs_scopes.proofs.InScopes.{Goes, plainly}
 use Rattle.template_runs_scopes.proofs.Objects.{object_jobs, objects_are_terms, NamedFrom, named_from, locals, leaves, marks}
+use Rattle.template_runs_scopes.proofs.Positions.{Position, position, inner, past, past_all}
 use Rattle.template_runs_scopes.proofs.QuietItems.{statements_quiet}
-use Rattle.template_runs_statements.proofs.Sequences.{statement_jobs, quiet_within, AboutStatement, AboutStatements}
-use Rattle.template_runs_statements.proofs.Selections.{Counts, count_terms, count_on, Enclosed, block_planned, next_scope, if_jobs, if_planned, if_scopes, else_planned, else_scopes, else_grows, below, itself, three_four}
+use Rattle.template_runs_statements.proofs.Sequences.{statement_jobs, quiet_within, HasParts, AllHaveParts, AboutStatement, AboutStatements}
+use Rattle.template_runs_statements.proofs.Selections.{Counts, count_terms, count_on, Enclosed, block_planned, if_jobs, if_planned, if_scopes, else_planned, else_scopes, else_grows, below, itself, three_four}
 use Rattle.template_runs_bodies.proofs.Finding.{Finds, finds_none, finds_front, finds_back, finds_either, finds_way}
 
 -- what is proved of labels in a statement
 abbrev pub FoundStatement : SettingView → Templates → FunctionView → StatementTree → Type 0
-FoundStatement s t g i = (n : ℕ) (around : Surroundings) (looping : Enclosure) (known : List ℕ) (c : ℕ) → SuitsIn t.unit g looping known i → HasScopes s i around.scope c → Finds s t n around.choice c (Within s t n around looping known) (jobs.Statement i around ∷ []) (λ l items. found t.unit l i items)
+FoundStatement s t g i = (n : ℕ) (around : Surroundings) (looping : Enclosure) (known : List ℕ) (c : Position) → SuitsIn t.unit g looping known i → HasParts s i around.scope c → Finds s t n around.choice c (Within s t n around looping known) (jobs.Statement i around ∷ []) (λ l items. found t.unit l i items)
 
 abbrev pub FoundStatements : SettingView → Templates → FunctionView → StatementTrees → Type 0
-FoundStatements s t g items = (n : ℕ) (around : Surroundings) (looping : Enclosure) (known : List ℕ) (c : ℕ) → AllSuitIn t.unit g looping known items → AllHaveScopes s items around.scope c → Finds s t n around.choice c (Within s t n around looping known) (statement_jobs items around) (λ l rest. found_in t.unit l items rest)
+FoundStatements s t g items = (n : ℕ) (around : Surroundings) (looping : Enclosure) (known : List ℕ) (c : Position) → AllSuitIn t.unit g looping known items → AllHaveParts s items around.scope c → Finds s t n around.choice c (Within s t n around looping known) (statement_jobs items around) (λ l rest. found_in t.unit l items rest)
 
 module _ (s : SettingView) (t : Templates) (g : FunctionView) where
   pub found_no_more : FoundStatements s t g tree.NoMore
@@ -54,26 +54,26 @@ module _ (s : SettingView) (t : Templates) (g : FunctionView) where
   found_more one rest about others found_one found_rest n around looping known c suits scopes =
       let K = Within s t n around looping known in
       let first_job : List Job = jobs.Statement one around ∷ [] in
-      let middle = c + scopes_in one in
-      let here = about n around looping known c suits.0 scopes.0 in
-      let later = others n around looping known middle suits.1 scopes.1 in
+      let middle = past c one in
+      let here = about n around looping known c suits.0 (scopes.0.0, scopes.1.0) in
+      let later = others n around looping known middle suits.1 (scopes.0.1, scopes.1.1) in
       finds_either s t n around.choice c K (first_job ++ statement_jobs rest around) (λ l items. found t.unit l one (statements rest ++ items)) (λ l items. found_in t.unit l rest items)
-      (finds_front s t n around.choice c middle (middle + all_scopes_in rest) K K first_job (statement_jobs rest around) (statements rest) (λ l items. found t.unit l one items) (λ items k. quiet_within s t n around looping known (statements rest) items (statements_quiet rest) k) (found_one n around looping known c suits.0 scopes.0) here.ends later)
-      (finds_back s t n around.choice c middle K first_job (statement_jobs rest around) (λ l items. found_in t.unit l rest items) here.ends (found_rest n around looping known middle suits.1 scopes.1))
+      (finds_front s t n around.choice c middle (past_all middle rest) K K first_job (statement_jobs rest around) (statements rest) (λ l items. found t.unit l one items) (λ items k. quiet_within s t n around looping known (statements rest) items (statements_quiet rest) k) (found_one n around looping known c suits.0 (scopes.0.0, scopes.1.0)) here.ends later)
+      (finds_back s t n around.choice c middle K first_job (statement_jobs rest around) (λ l items. found_in t.unit l rest items) here.ends (found_rest n around looping known middle suits.1 (scopes.0.1, scopes.1.1)))
 
 module _ (s : SettingView) (t : Templates) (fits : IsOfUnit t s) (g : FunctionView) where
   -- objects are left
-  pub leaves_go : (n c : ℕ) (objects : List ℕ) (base : ℕ) (K : List Item → Type 0) → NamedFrom t base objects → Goes s t n c c K (object_jobs act.Leave s.at objects base) (item.Leaves objects ∷ [])
+  pub leaves_go : (n : ℕ) (c : Position) (objects : List ℕ) (base : ℕ) (K : List Item → Type 0) → NamedFrom t base objects → Goes s t n c c K (object_jobs act.Leave s.at objects base) (item.Leaves objects ∷ [])
   leaves_go n c objects base K named = subst (λ at. Goes s t n c c K (object_jobs act.Leave at objects base) (item.Leaves objects ∷ [])) (sym fits.place) (plainly s t n c K (object_jobs act.Leave (own t) objects base) (item.Leaves objects ∷ []) (objects_are_terms act.Leave (own t) objects base) (leaves s t fits n objects base 0 named))
 
   pub found_block : (objects : List ℕ) (items : StatementTrees) → AboutStatements s t g items → FoundStatements s t g items → FoundStatement s t g (tree.Block objects items)
   unfolding found found_in
   found_block objects items about found_items n around looping known c suits scopes =
       let j = jobs.Statement (tree.Block objects items) around in
-      let inner = in_scope around c in
+      let within = in_scope around c.scopes in
       let K = Within s t n around looping known in
-      let L = Within s t n inner looping (objects ++ known) in
-      let same : (p : Plan) → p.jobs ≡ [] → p.scopes ≡ c → Enclosed s.at objects (statement_jobs items inner) p (parts s j p) = λ p none begun. subst (λ k. Enclosed s.at objects (statement_jobs items (in_scope around k)) p (parts s j p)) begun (block_planned s.at objects items (in_scope around p.scopes) p none) in
+      let L = Within s t n within looping (objects ++ known) in
+      let same : (p : Plan) → p.jobs ≡ [] → position p ≡ c → Enclosed s.at objects (statement_jobs items within) p (parts s j p) = λ p none begun. subst (λ k. Enclosed s.at objects (statement_jobs items (in_scope around k)) p (parts s j p)) (ap (λ (x : Position). x.scopes) begun) (block_planned s.at objects items (in_scope around p.scopes) p none) in
       finds_way s t n around.choice c K j (λ l its. found_in t.unit l items (item.Leaves objects ∷ its)) refl
       (λ p none begun ps r m known_last its rest stands k f l mark is to e.
       let all = parts s j p in
@@ -82,20 +82,20 @@ module _ (s : SettingView) (t : Templates) (fits : IsOfUnit t s) (g : FunctionVi
       let again = named_from t (planless all) (p.names ++ locals objects) objects [] known_all (x.names ∙ ap (λ ns. (p.names ++ locals objects) ++ ns) (sym (append-nil (locals objects)))) in
       let enters = object_jobs act.Enter s.at objects (length p.names) in
       let outs = object_jobs act.Leave s.at objects (length (p.names ++ locals objects)) in
-      let last = suc c + all_scopes_in items in
-      let inside = about n inner looping (objects ++ known) (suc c) suits.1 scopes.1 in
-      let finds = found_items n inner looping (objects ++ known) (suc c) suits.1 scopes.1 in
-      let front = finds_front s t n around.choice (suc c) last last K L (statement_jobs items inner) outs (item.Leaves objects ∷ []) (λ l its. found_in t.unit l items its) (λ its k. in_block s t n around looping known objects c its suits.0 scopes.0 k) finds inside.ends (leaves_go n last objects (length (p.names ++ locals objects)) K again) in
-      let whole = finds_back s t n around.choice (suc c) (suc c) K enters (statement_jobs items inner ++ outs) (λ l its. found_in t.unit l items (item.Leaves objects ∷ its)) (count_terms s (suc c) enters (objects_are_terms act.Enter s.at objects (length p.names))) front in
-      whole.from (planless all) refl (x.scopes ∙ ap (λ k. k + 1) begun ∙ next_scope c) ps r (subst (λ ks. Makes s (planless all) ks ps r) x.jobs m) known_last its rest stands k f l mark is to e)
+      let last = past_all (inner c) items in
+      let inside = about n within looping (objects ++ known) (inner c) suits.1 (scopes.0.1, scopes.1) in
+      let finds = found_items n within looping (objects ++ known) (inner c) suits.1 (scopes.0.1, scopes.1) in
+      let front = finds_front s t n around.choice (inner c) last last K L (statement_jobs items within) outs (item.Leaves objects ∷ []) (λ l its. found_in t.unit l items its) (λ its k. in_block s t n around looping known objects c.scopes its suits.0 scopes.0.0 k) finds inside.ends (leaves_go n last objects (length (p.names ++ locals objects)) K again) in
+      let whole = finds_back s t n around.choice (inner c) (inner c) K enters (statement_jobs items within ++ outs) (λ l its. found_in t.unit l items (item.Leaves objects ∷ its)) (count_terms s (inner c) enters (objects_are_terms act.Enter s.at objects (length p.names))) front in
+      whole.from (planless all) refl (x.scopes ∙ ap inner begun) ps r (subst (λ ks. Makes s (planless all) ks ps r) x.jobs m) known_last its rest stands k f l mark is to e)
 
   -- ---- selections
 
   -- a label behind a work
-  marked : (n c l : ℕ) (K : List Item → Type 0) → Goes s t n c c K (jobs.Ready (Mark l) ∷ []) []
+  marked : (n : ℕ) (c : Position) (l : ℕ) (K : List Item → Type 0) → Goes s t n c c K (jobs.Ready (Mark l) ∷ []) []
   marked n c l K = plainly s t n c K (jobs.Ready (Mark l) ∷ []) [] (tt, tt) (marks s t fits n l 0)
 
-  if_finds : (n choice c last l : ℕ) (e : TermTree) (body : StatementTree) (around : Surroundings) (K : List Item → Type 0) (find : Sought → List Item → Option (List Item)) → Counts s c last (jobs.Statement body around ∷ []) → Finds s t n choice c K (jobs.Statement body around ∷ []) find → Finds s t n choice c K (if_jobs e body around l) find
+  if_finds : (n choice : ℕ) (c last : Position) (l : ℕ) (e : TermTree) (body : StatementTree) (around : Surroundings) (K : List Item → Type 0) (find : Sought → List Item → Option (List Item)) → Counts s c last (jobs.Statement body around ∷ []) → Finds s t n choice c K (jobs.Statement body around ∷ []) find → Finds s t n choice c K (if_jobs e body around l) find
   unfolding if_jobs
   if_finds n choice c last l e body around K find counts finds =
       let begins : List Job = jobs.Ready (Mark l) ∷ (jobs.Condition e (decided (record { yes = l + 1; no = l + 2 }) 0) ∷ (jobs.Ready (Mark (l + 1)) ∷ [])) in
@@ -110,11 +110,11 @@ module _ (s : SettingView) (t : Templates) (fits : IsOfUnit t s) (g : FunctionVi
       finds_way s t n around.choice c K j (λ l items. found t.unit l body items) refl
       (λ p none begun ps r m known_last items rest stands k f l mark is to is_to.
       let all = selection e body around p in
-      (if_finds n around.choice c (c + scopes_in body) p.labels e body around K (λ l items. found t.unit l body items) (about n around looping known c suits.1 scopes).ends (found_body n around looping known c suits.1 scopes)).from
+      (if_finds n around.choice c (past c body) p.labels e body around K (λ l items. found t.unit l body items) (about n around looping known c suits.1 scopes).ends (found_body n around looping known c suits.1 scopes)).from
       (planless all) refl (if_scopes e body around p ∙ begun) ps r (subst (λ ks. Makes s (planless all) ks ps r) (if_planned e body around p none) m) known_last items rest stands k f l mark is to is_to)
 
   -- behind the first part, over the second one
-  else_hops : (n middle last l : ℕ) (other : StatementTree) (around : Surroundings) (K : List Item → Type 0) → l + 4 ≤ 2 ^ 32 - 1 → Counts s middle last (jobs.Statement other around ∷ []) → Goes s t n middle last K (jobs.Ready (jumping s.at (l + 3)) ∷ (jobs.Ready (Mark (l + 2)) ∷ (jobs.Statement other around ∷ (jobs.Ready (Mark (l + 3)) ∷ [])))) (item.Hop ∷ [])
+  else_hops : (n : ℕ) (middle last : Position) (l : ℕ) (other : StatementTree) (around : Surroundings) (K : List Item → Type 0) → l + 4 ≤ 2 ^ 32 - 1 → Counts s middle last (jobs.Statement other around ∷ []) → Goes s t n middle last K (jobs.Ready (jumping s.at (l + 3)) ∷ (jobs.Ready (Mark (l + 2)) ∷ (jobs.Statement other around ∷ (jobs.Ready (Mark (l + 3)) ∷ [])))) (item.Hop ∷ [])
   else_hops n middle last l other around K few counts = record {
     from = λ p none begun ps r m known items rest stands k f.
         let q = jumping s.at (l + 3) in
@@ -132,7 +132,7 @@ module _ (s : SettingView) (t : Templates) (fits : IsOfUnit t s) (g : FunctionVi
         (count_on s middle last last (jobs.Statement other around ∷ []) (jobs.Ready (Mark (l + 3)) ∷ []) counts (count_terms s last _ (tt, tt)));
   }
 
-  else_finds : (n choice c middle last l : ℕ) (e : TermTree) (body other : StatementTree) (around : Surroundings) (K : List Item → Type 0) (one two : Sought → List Item → Option (List Item)) → ((items : List Item) → K items → K (item.Hop ∷ items)) → l + 4 ≤ 2 ^ 32 - 1
+  else_finds : (n choice : ℕ) (c middle last : Position) (l : ℕ) (e : TermTree) (body other : StatementTree) (around : Surroundings) (K : List Item → Type 0) (one two : Sought → List Item → Option (List Item)) → ((items : List Item) → K items → K (item.Hop ∷ items)) → l + 4 ≤ 2 ^ 32 - 1
       → Counts s c middle (jobs.Statement body around ∷ []) → Counts s middle last (jobs.Statement other around ∷ []) → Finds s t n choice c K (jobs.Statement body around ∷ []) one → Finds s t n choice middle K (jobs.Statement other around ∷ []) two
       → Finds s t n choice c K (two_way_jobs s.at e (jobs.Statement body around) (jobs.Statement other around) 0 l) (λ lb items. first (one lb (item.Hop ∷ items)) (two lb items))
   else_finds n choice c middle last l e body other around K one two onwards few counts also finds finds_other =
@@ -152,11 +152,11 @@ module _ (s : SettingView) (t : Templates) (fits : IsOfUnit t s) (g : FunctionVi
   found_if_else e body other about also found_body found_other n around looping known c suits scopes =
       let j = jobs.Statement (tree.IfElse e body other) around in
       let K = Within s t n around looping known in
-      let middle = c + scopes_in body in
+      let middle = past c body in
       finds_way s t n around.choice c K j (λ l items. first (found t.unit l body (item.Hop ∷ items)) (found t.unit l other items)) refl
       (λ p none begun ps r m known_last items rest stands k f l mark is to is_to.
       let all = two_way_selection s e body other around p in
       let few = few_labels s t p j 4 all.jobs ps r (else_grows s e body other around p) m known_last in
-      (else_finds n around.choice c middle (middle + scopes_in other) p.labels e body other around K (λ l items. found t.unit l body items) (λ l items. found t.unit l other items) (λ items k. k) few
-      (about n around looping known c suits.1 scopes.0).ends (also n around looping known middle suits.2 scopes.1).ends (found_body n around looping known c suits.1 scopes.0) (found_other n around looping known middle suits.2 scopes.1)).from
+      (else_finds n around.choice c middle (past middle other) p.labels e body other around K (λ l items. found t.unit l body items) (λ l items. found t.unit l other items) (λ items k. k) few
+      (about n around looping known c suits.1 (scopes.0.0, scopes.1.0)).ends (also n around looping known middle suits.2 (scopes.0.1, scopes.1.1)).ends (found_body n around looping known c suits.1 (scopes.0.0, scopes.1.0)) (found_other n around looping known middle suits.2 (scopes.0.1, scopes.1.1))).from
       (planless all) refl (else_scopes s e body other around p ∙ begun) ps r (subst (λ ks. Makes s (planless all) ks ps r) (else_planned s e body other around p none) m) known_last items rest stands k f l mark is to is_to)

@@ -19,6 +19,8 @@ use Rattle.template_runs_scopes.specs.Chains as chains
 use Rattle.template_runs_scopes.specs.Contexts.{Reaches, LabelsReach, LabelsReachBefore, Within}
 use Rattle.template_runs_scopes.specs.SuitedStatements.{not_enclosed, AllSuitIn}
 use Rattle.template_runs_scopes.proofs.FunctionBodies.{same_found}
+use Rattle.template_runs_scopes.proofs.Positions.{position, numbers}
+use Rattle.template_runs_choices.specs.Choices.{AllHaveChoices}
 use Rattle.template_runs_gotos.specs.Gotos.{HasLabels}
 use Rattle.template_runs_statements.proofs.Sequences.{statement_jobs}
 use Rattle.template_runs_bodies.specs.LabelMarks.{of_label}
@@ -38,7 +40,7 @@ never : false ≡ true → ⊥
 never never_so = cc
 
 module _ (s : SettingView) (t : Templates) (fits : IsOfUnit t s) (f : FunctionView) (has : HasLabels t s f) (is_entry : s.is_entry ≡ true) (suits : AllSuitIn t.unit f not_enclosed (f.scope ++ []) (statement_trees f.body))
-    (q : Plan) (none : q.jobs ≡ []) (begun : q.scopes ≡ 2) (few : f.labels ≤ q.labels) (ps : List PieceView) (r : Plan) (made : Makes s q (statement_jobs (statement_trees f.body) (outermost s.end)) ps r) (known : IsKnown t r)
+    (q : Plan) (none : q.jobs ≡ []) (begun : position q ≡ numbers 2 0) (choices : AllHaveChoices s (statement_trees f.body) 1 2 0) (few : f.labels ≤ q.labels) (ps : List PieceView) (r : Plan) (made : Makes s q (statement_jobs (statement_trees f.body) (outermost s.end)) ps r) (known : IsKnown t r)
     (rest : List PieceView) (stands : Stands t (ps ++ rest)) (last : (n : ℕ) → Follows t n 0 (behind_statements f) rest) where
   -- no loop is around the statements of a function
   body_within : (n : ℕ) → LabelsReachBefore t n → Within s t n (outermost s.end) not_enclosed (f.scope ++ []) (behind_statements f)
@@ -48,7 +50,7 @@ module _ (s : SettingView) (t : Templates) (fits : IsOfUnit t s) (f : FunctionVi
   labels_reach n before g is l to less from =
       let same = same_function g f (sym is ∙ has.is) in
       let is_to = same_found t.unit (label l) f.body (behind_statements f) ∙ subst (λ h. from_label t.unit h l ≡ Some to) same from in
-      (all_finds s t fits f has is_entry (statement_trees f.body) n (outermost s.end) not_enclosed (f.scope ++ []) 2 suits has.body).from
+      (all_finds s t fits f has is_entry (statement_trees f.body) n (outermost s.end) not_enclosed (f.scope ++ []) (numbers 2 0) suits (has.body, choices)).from
       q none begun ps r made known (behind_statements f) rest stands (body_within n before) (last n) (label l) l (of_label l (more_labels f.labels q.labels l few (subst (λ h. l < h.labels) same less))) to is_to
 
   pub labels_before : (n : ℕ) → LabelsReachBefore t n
@@ -57,4 +59,4 @@ module _ (s : SettingView) (t : Templates) (fits : IsOfUnit t s) (f : FunctionVi
 
   -- so the statements of the function follow
   pub body_follows : (n : ℕ) → Follows t n 0 (statements (statement_trees f.body) ++ behind_statements f) (ps ++ rest)
-  body_follows n = (all_about s t fits f has is_entry (statement_trees f.body) n (outermost s.end) not_enclosed (f.scope ++ []) 2 suits has.body).from q none begun ps r made known (behind_statements f) rest stands (body_within n (labels_before n)) (last n)
+  body_follows n = (all_about s t fits f has is_entry (statement_trees f.body) n (outermost s.end) not_enclosed (f.scope ++ []) (numbers 2 0) suits (has.body, choices)).from q none begun ps r made known (behind_statements f) rest stands (body_within n (labels_before n)) (last n)

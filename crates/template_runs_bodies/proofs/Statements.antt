@@ -1,6 +1,6 @@
 -- What is proved of all statements: that their items follow in their pieces, and that what is left to do from their labels
 -- on follows behind the marks of these.
-use Rattle.std.proofs.Common.{◌≡◌, ℕ, ◌+◌, true, List, ◌∷◌, [], Option, Some, None, refl, subst, arith}
+use Rattle.std.proofs.Common.{◌≡◌, ℕ, true, List, ◌∷◌, [], Option, Some, None, refl, subst}
 use Rattle.c_layout.specs.CheckedTrees as tree
 use Rattle.c_layout.specs.CheckedTrees.{StatementTree, StatementTrees, StoreValue, StoreCopy}
 use Rattle.c_layout.specs.CheckedUnits.{FunctionView}
@@ -17,8 +17,8 @@ use Rattle.template_runs.specs.TemplateStates.{Templates}
 use Rattle.template_runs_follow.proofs.Constructions.{gives_statement}
 use Rattle.template_runs_works.specs.TemplateParts.{IsOfUnit}
 use Rattle.template_runs_scopes.specs.Contexts.{Within}
-use Rattle.template_runs_scopes.specs.Scopes.{scopes_in, HasScopes}
 use Rattle.template_runs_scopes.specs.SuitedStatements.{Enclosure, SuitsIn}
+use Rattle.template_runs_scopes.proofs.Positions.{Position, past, past_none, none_past}
 use Rattle.template_runs_scopes.proofs.InScopes.{Goes}
 use Rattle.template_runs_gotos.specs.Gotos.{HasLabels}
 use Rattle.template_runs_statements.proofs.Declarations.{of_stores, of_list, of_forget, of_value, of_nothing}
@@ -31,15 +31,13 @@ use Rattle.template_runs_statements.proofs.Labelled.{of_labelled}
 use Rattle.template_runs_bodies.proofs.Finding.{finds_none}
 use Rattle.template_runs_bodies.proofs.FoundLabelled.{found_labelled, label_mark, case_mark, default_mark}
 use Rattle.template_runs_bodies.proofs.FoundLoops.{found_while, found_do, found_for}
+use Rattle.template_runs_bodies.proofs.Switches.{of_switch, found_switch}
 use Rattle.template_runs_bodies.proofs.FoundSelections.{FoundStatement, FoundStatements, found_no_more, found_more, found_block, found_if, found_if_else}
-
-plus_zero : (c : ℕ) → c ≡ c + 0
-plus_zero c = omega arith
 
 module _ (s : SettingView) (t : Templates) (fits : IsOfUnit t s) (f : FunctionView) (has : HasLabels t s f) (is_entry : s.is_entry ≡ true) where
   -- a statement that begins no scope
-  no_scope : (i : StatementTree) (n : ℕ) (around : Surroundings) (looping : Enclosure) (known : List ℕ) (c : ℕ) → Goes s t n c c (Within s t n around looping known) (jobs.Statement i around ∷ []) (item.Statement i ∷ []) → Goes s t n c (c + 0) (Within s t n around looping known) (jobs.Statement i around ∷ []) (item.Statement i ∷ [])
-  no_scope i n around looping known c g = subst (λ k. Goes s t n c k (Within s t n around looping known) (jobs.Statement i around ∷ []) (item.Statement i ∷ [])) (plus_zero c) g
+  no_scope : (i : StatementTree) (n : ℕ) (around : Surroundings) (looping : Enclosure) (known : List ℕ) (c : Position) → Goes s t n c c (Within s t n around looping known) (jobs.Statement i around ∷ []) (item.Statement i ∷ []) → Goes s t n c (past_none c) (Within s t n around looping known) (jobs.Statement i around ∷ []) (item.Statement i ∷ [])
+  no_scope i n around looping known c g = subst (λ k. Goes s t n c k (Within s t n around looping known) (jobs.Statement i around ∷ []) (item.Statement i ∷ [])) (none_past c) g
 
   -- a statement in which there are no labels
   no_label : (i : StatementTree) → ((l : Sought) (items : List Item) → found t.unit l i items ≡ None) → FoundStatement s t f i
@@ -64,10 +62,10 @@ module _ (s : SettingView) (t : Templates) (fits : IsOfUnit t s) (f : FunctionVi
     about (tree.While e body) = of_while s t fits f e body (about body)
     about (tree.Do body e) = of_do s t fits f body e (about body)
     about (tree.For objects first test step body) = of_for s t fits f objects first test step body (all_about first) (about body)
-    about (tree.Switch at e labels has_default values body) = λ n around looping known c suits scopes. ?
-    about (tree.Case k body) = λ n around looping known c suits scopes. of_labelled s t fits n c (c + scopes_in body) (Within s t n around looping known) body around (tree.Case k body) (λ p. behind (dispatch_at p around.choice).cases k) (λ p. refl) (gives_statement n 0 (tree.Case k body)) (about body n around looping known c suits scopes)
-    about (tree.Default body) = λ n around looping known c suits scopes. of_labelled s t fits n c (c + scopes_in body) (Within s t n around looping known) body around (tree.Default body) (λ p. (dispatch_at p around.choice).fallback) (λ p. refl) (gives_statement n 0 (tree.Default body)) (about body n around looping known c suits scopes)
-    about (tree.Label k body) = λ n around looping known c suits scopes. of_labelled s t fits n c (c + scopes_in body) (Within s t n around looping known) body around (tree.Label k body) (λ p. k) (λ p. refl) (gives_statement n 0 (tree.Label k body)) (about body n around looping known c suits scopes)
+    about (tree.Switch at e labels has_default values body) = of_switch s t fits f has at e labels has_default values body (about body) (finds body)
+    about (tree.Case k body) = λ n around looping known c suits scopes. of_labelled s t fits n c (past c body) (Within s t n around looping known) body around (tree.Case k body) (λ p. behind (dispatch_at p around.choice).cases k) (λ p. refl) (gives_statement n 0 (tree.Case k body)) (about body n around looping known c suits scopes)
+    about (tree.Default body) = λ n around looping known c suits scopes. of_labelled s t fits n c (past c body) (Within s t n around looping known) body around (tree.Default body) (λ p. (dispatch_at p around.choice).fallback) (λ p. refl) (gives_statement n 0 (tree.Default body)) (about body n around looping known c suits scopes)
+    about (tree.Label k body) = λ n around looping known c suits scopes. of_labelled s t fits n c (past c body) (Within s t n around looping known) body around (tree.Label k body) (λ p. k) (λ p. refl) (gives_statement n 0 (tree.Label k body)) (about body n around looping known c suits scopes)
     about (tree.Goto k) = λ n around looping known c suits scopes. no_scope (tree.Goto k) n around looping known c (goes_to s t fits n around looping known c f has k suits)
     about tree.Break = λ n around looping known c suits scopes. no_scope tree.Break n around looping known c (breaks s t fits n around looping known c suits)
     about tree.Continue = λ n around looping known c suits scopes. no_scope tree.Continue n around looping known c (continues s t fits n around looping known c suits)
@@ -90,10 +88,10 @@ module _ (s : SettingView) (t : Templates) (fits : IsOfUnit t s) (f : FunctionVi
     finds (tree.While e body) = found_while s t fits f e body (about body) (finds body)
     finds (tree.Do body e) = found_do s t fits f body e (about body) (finds body)
     finds (tree.For objects first test step body) = found_for s t fits f objects first test step body (all_about first) (about body) (finds body)
-    finds (tree.Switch at e labels has_default values body) = λ n around looping known c suits scopes. ?
-    finds (tree.Case k body) = λ n around looping known c suits scopes. found_labelled s t fits n around.choice c (c + scopes_in body) (Within s t n around looping known) body around (about body n around looping known c suits scopes) (finds body n around looping known c suits scopes) (tree.Case k body) (λ l. is_case l k) (λ p. behind (dispatch_at p around.choice).cases k) (λ p. refl) (λ p l m is e. case_mark p around.choice k l m is e)
-    finds (tree.Default body) = λ n around looping known c suits scopes. found_labelled s t fits n around.choice c (c + scopes_in body) (Within s t n around looping known) body around (about body n around looping known c suits scopes) (finds body n around looping known c suits scopes) (tree.Default body) is_other (λ p. (dispatch_at p around.choice).fallback) (λ p. refl) (λ p l m is e. default_mark p around.choice l m is e)
-    finds (tree.Label k body) = λ n around looping known c suits scopes. found_labelled s t fits n around.choice c (c + scopes_in body) (Within s t n around looping known) body around (about body n around looping known c suits scopes) (finds body n around looping known c suits scopes) (tree.Label k body) (λ l. is_label l k) (λ p. k) (λ p. refl) (λ p l m is e. label_mark p around.choice k l m is e)
+    finds (tree.Switch at e labels has_default values body) = found_switch s t fits f has at e labels has_default values body (finds body)
+    finds (tree.Case k body) = λ n around looping known c suits scopes. found_labelled s t fits n around.choice c (past c body) (Within s t n around looping known) body around (about body n around looping known c suits scopes) (finds body n around looping known c suits scopes) (tree.Case k body) (λ l. is_case l k) (λ p. behind (dispatch_at p around.choice).cases k) (λ p. refl) (λ p l m is e. case_mark p around.choice k l m is e)
+    finds (tree.Default body) = λ n around looping known c suits scopes. found_labelled s t fits n around.choice c (past c body) (Within s t n around looping known) body around (about body n around looping known c suits scopes) (finds body n around looping known c suits scopes) (tree.Default body) is_other (λ p. (dispatch_at p around.choice).fallback) (λ p. refl) (λ p l m is e. default_mark p around.choice l m is e)
+    finds (tree.Label k body) = λ n around looping known c suits scopes. found_labelled s t fits n around.choice c (past c body) (Within s t n around looping known) body around (about body n around looping known c suits scopes) (finds body n around looping known c suits scopes) (tree.Label k body) (λ l. is_label l k) (λ p. k) (λ p. refl) (λ p l m is e. label_mark p around.choice k l m is e)
     finds (tree.Goto k) = no_label (tree.Goto k) (λ l items. refl)
     finds tree.Break = no_label tree.Break (λ l items. refl)
     finds tree.Continue = no_label tree.Continue (λ l items. refl)

@@ -1,5 +1,5 @@
 -- Statements of the entry follow in their pieces, and so does what is left to do from their labels on.
-use Rattle.std.specs.Prelude.{◌≡◌, ℕ, true, List, [], ◌∷◌, ◌++◌, Some}
+use Rattle.std.specs.Prelude.{◌≡◌, ℕ, true, List, [], ◌∷◌, ◌++◌, length, Some}
 use Rattle.c_layout.specs.CheckedTrees.{StatementTree}
 use Rattle.c_layout.specs.CheckedUnits.{FunctionView}
 use Rattle.flow_lower_tasks.specs.Pieces.{PieceView}
@@ -16,15 +16,16 @@ use Rattle.template_runs_works.specs.TemplateParts.{IsOfUnit, IsKnown, Stands}
 use Rattle.template_runs_scopes.specs.Contexts.{Reaches, Within}
 use Rattle.template_runs_scopes.specs.Scopes.{HasScopes}
 use Rattle.template_runs_scopes.specs.SuitedStatements.{Enclosure, SuitsIn}
+use Rattle.template_runs_choices.specs.Choices.{HasChoices}
 use Rattle.template_runs_gotos.specs.Gotos.{HasLabels}
 use Rattle.template_runs_bodies.specs.LabelMarks.{IsMark}
 
 -- where the works of a statement come to pieces, its items follow in these, whatever comes behind
 abbrev pub StatementsFollow : Type 0
-StatementsFollow = (t : Templates) (s : SettingView) → IsOfUnit t s → (f : FunctionView) → HasLabels t s f → s.is_entry ≡ true → (i : StatementTree) (n : ℕ) (around : Surroundings) (enclosed : Enclosure) (known : List ℕ) → SuitsIn t.unit f enclosed known i → (p : Plan) → HasScopes s i around.scope p.scopes
+StatementsFollow = (t : Templates) (s : SettingView) → IsOfUnit t s → (f : FunctionView) → HasLabels t s f → s.is_entry ≡ true → (i : StatementTree) (n : ℕ) (around : Surroundings) (enclosed : Enclosure) (known : List ℕ) → SuitsIn t.unit f enclosed known i → (p : Plan) → HasScopes s i around.scope p.scopes → HasChoices s i around.scope p.scopes (length p.dispatches)
     → (ps : List PieceView) (r : Plan) → Makes s p (jobs.Statement i around ∷ []) ps r → p.jobs ≡ [] → IsKnown t r → (items : List Item) (rest : List PieceView) → Stands t (ps ++ rest) → Within s t n around enclosed known items → Follows t n 0 items rest → Follows t n 0 (Statement i ∷ items) (ps ++ rest)
 
 -- and what is left to do from a label in it on follows behind the mark of the label
 abbrev pub LabelsFollow : Type 0
-LabelsFollow = (t : Templates) (s : SettingView) → IsOfUnit t s → (f : FunctionView) → HasLabels t s f → s.is_entry ≡ true → (i : StatementTree) (n : ℕ) (around : Surroundings) (enclosed : Enclosure) (known : List ℕ) → SuitsIn t.unit f enclosed known i → (p : Plan) → HasScopes s i around.scope p.scopes
+LabelsFollow = (t : Templates) (s : SettingView) → IsOfUnit t s → (f : FunctionView) → HasLabels t s f → s.is_entry ≡ true → (i : StatementTree) (n : ℕ) (around : Surroundings) (enclosed : Enclosure) (known : List ℕ) → SuitsIn t.unit f enclosed known i → (p : Plan) → HasScopes s i around.scope p.scopes → HasChoices s i around.scope p.scopes (length p.dispatches)
     → (ps : List PieceView) (r : Plan) → Makes s p (jobs.Statement i around ∷ []) ps r → p.jobs ≡ [] → IsKnown t r → (items : List Item) (rest : List PieceView) → Stands t (ps ++ rest) → Within s t n around enclosed known items → Follows t n 0 items rest → (l : Sought) (mark : ℕ) → IsMark p around.choice l mark → (to : List Item) → found t.unit l i items ≡ Some to → Reaches t n mark to

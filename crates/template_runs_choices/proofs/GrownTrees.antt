@@ -8,7 +8,7 @@ use Rattle.c_layout.specs.CheckedTrees.{StatementTree, StatementTrees}
 use Rattle.flow_lower_statements.specs.Switches.{no_choice}
 use Rattle.flow_lower_tasks.specs.Scopes.{TreeView, with_new_scope, with_choice, with_case, with_default, with_label, scoped, all_scoped, case_place, case_noted, default_noted, default_noted_at}
 use Rattle.flow_lower_tasks.specs.declared.scope_trees.Choice.{Choice}
-use Rattle.template_runs_choices.specs.Choices.{switches_in, all_switches_in}
+use Rattle.template_runs_scopes.specs.Scopes.{switches_in, all_switches_in}
 
 -- the switch of a number in a tree
 abbrev pub choice_in : TreeView → ℕ → Choice

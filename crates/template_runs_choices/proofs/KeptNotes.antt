@@ -10,7 +10,7 @@ use Rattle.flow_lower_debts.specs.Marks.{one, cases_in, all_cases_in, defaults_i
 use Rattle.flow_lower_statements.specs.Switches.{no_choice}
 use Rattle.flow_lower_tasks.specs.Scopes.{TreeView, with_new_scope, with_choice, with_case, with_default, with_label, scoped, all_scoped, case_place, case_noted, default_noted, default_noted_at}
 use Rattle.flow_lower_tasks.specs.declared.scope_trees.Choice.{Choice}
-use Rattle.template_runs_choices.specs.Choices.{switches_in, all_switches_in}
+use Rattle.template_runs_scopes.specs.Scopes.{switches_in, all_switches_in}
 use Rattle.template_runs_choices.proofs.GrownTrees.{choice_in, Grown, stays, grown, all_grown, case_grown, default_grown, choice_grown}
 
 pub just_below : (a : ℕ) → a < suc a
@@ -40,7 +40,7 @@ new_case : (count : ℕ) (t : TreeView) (q : ℕ) → q < length t.cases → get
 unfolding with_choice
 new_case count t q less = get_or_append_left t.cases (replicate count 0) 0 q less
 
-new_choice : (count : ℕ) (t : TreeView) (q : ℕ) → q < length t.choices → choice_in (with_choice count t) q ≡ choice_in t q
+pub new_choice : (count : ℕ) (t : TreeView) (q : ℕ) → q < length t.choices → choice_in (with_choice count t) q ≡ choice_in t q
 unfolding with_choice
 new_choice count t q less = get_or_append_left t.choices (record { first = length t.cases; fallback = None } ∷ []) no_choice q less
 

@@ -9,15 +9,14 @@ use Rattle.flow_lower_debts.specs.Marks.{below, one, cases_in, all_cases_in, def
 use Rattle.flow_lower_statements.specs.Switches.{no_choice, choice_at, case_scope}
 use Rattle.flow_lower_tasks.specs.Scopes.{TreeView, with_new_scope, with_choice, with_case, with_default, with_label, scoped, all_scoped, no_scopes, function_scopes}
 use Rattle.flow_lower_tasks.specs.Settings.{SettingView}
-use Rattle.flow_lower_tasks.specs.Works.{behind}
 use Rattle.flow_lower_tasks.specs.declared.scope_trees.Choice.{Choice}
 use Rattle.ref_machine.specs.LabelSearch.{case}
 use Rattle.ref_machine.specs.LabelSearch as sought
 use Rattle.template_runs_labels.specs.LabelScopes.{either, stands_in}
-use Rattle.template_runs_scopes.specs.Scopes.{scopes_in, all_scopes_in}
+use Rattle.template_runs_scopes.specs.Scopes.{scopes_in, all_scopes_in, switches_in, all_switches_in}
 use Rattle.template_runs_scopes.specs.SuitedStatements.{Enclosure, by_loop, by_switch, not_enclosed, SuitsIn, AllSuitIn}
 use Rattle.template_runs_scopes.proofs.ScopeTrees.{scoped_more, all_more, length_new, length_more}
-use Rattle.template_runs_choices.specs.Choices.{switches_in, all_switches_in, IsChoice, HasChoices, AllHaveChoices}
+use Rattle.template_runs_choices.specs.Choices.{IsChoice, HasChoices, AllHaveChoices}
 use Rattle.template_runs_choices.proofs.GrownTrees.{choice_in, Grown, grown, all_grown, case_grown, default_grown, choice_grown}
 use Rattle.template_runs_choices.proofs.KeptNotes.{case_kept, all_case_kept, choice_kept, all_choice_kept, first_some, second_some, scope_grown, label_grown, new_begins, new_fallback, new_length, new_cases, just_below}
 use Rattle.template_runs_choices.proofs.NotedCases.{case_noted_in, case_scopes, default_scopes, label_scopes}
@@ -70,11 +69,11 @@ inner_on count t v c place low lowc counts defaults g x = record {
 }
 
 -- the first of two parts, and the second one
-inner_first : (t : TreeView) (c place low lowc : ℕ) (as bs : ℕ → ℕ) (a b : ℕ) → Inner t c place low lowc (λ m. as m + bs m) (a + b) → Inner t c place low lowc as a
-inner_first t c place low lowc as bs a b x = record { cases = λ m some. x.cases m (first_some (as m) (bs m) some); default = λ some. x.default (first_some a b some) }
+inner_first : (t : TreeView) (c place low lowc : ℕ) (xs ys : ℕ → ℕ) (a b : ℕ) → Inner t c place low lowc (λ m. xs m + ys m) (a + b) → Inner t c place low lowc xs a
+inner_first t c place low lowc xs ys a b x = record { cases = λ m some. x.cases m (first_some (xs m) (ys m) some); default = λ some. x.default (first_some a b some) }
 
-inner_second : (t : TreeView) (c place low lowc : ℕ) (as bs : ℕ → ℕ) (a b : ℕ) → Inner t c place low lowc (λ m. as m + bs m) (a + b) → Inner t c place low lowc bs b
-inner_second t c place low lowc as bs a b x = record { cases = λ m some. x.cases m (second_some (as m) (bs m) some); default = λ some. x.default (second_some a b some) }
+inner_second : (t : TreeView) (c place low lowc : ℕ) (xs ys : ℕ → ℕ) (a b : ℕ) → Inner t c place low lowc (λ m. xs m + ys m) (a + b) → Inner t c place low lowc ys b
+inner_second t c place low lowc xs ys a b x = record { cases = λ m some. x.cases m (second_some (xs m) (ys m) some); default = λ some. x.default (second_some a b some) }
 
 elsewhere : (q place m low : ℕ) → low ≤ q → place + m < low → min (place + m) (2 ^ 32 - 1) ≡ q → q < 2 ^ 32 - 1 → ⊥
 elsewhere q place m low le less e few = omega (arith, le, less, e, few)
@@ -137,8 +136,8 @@ module _ (s : SettingView) where
   in_numbers : (a len all : ℕ) → a < len → len ≤ all → all ≤ 2 ^ 32 - 1 → a < 2 ^ 32 - 1
   in_numbers a len all x y z = omega (arith, x, y, z)
 
-  place_is : (f n : ℕ) → f + n < 2 ^ 32 - 1 → behind f n ≡ f + n
-  place_is f n less = omega (arith, less)
+  in_all : (f count first len all : ℕ) → first ≡ f → len ≡ f + count → len ≤ all → all ≤ 2 ^ 32 - 1 → first + count ≤ 2 ^ 32 - 1
+  in_all f count first len all a b x y = omega (arith, a, b, x, y)
 
   no_less : (low f n : ℕ) → low ≤ f → low ≤ f + n
   no_less low f n le = omega (arith, le)
@@ -155,12 +154,13 @@ module _ (s : SettingView) where
         let settled : choice_at s number ≡ choice_in last number = b.choices number lec there_last in
         let begins : (choice_at s number).first ≡ length t.cases = ap (λ (x : Choice). x.first) settled ∙ g.same number there ∙ new_begins count t in
         record {
+          few = in_all (length t.cases) count (choice_at s number).first (length v.cases) (length last.cases) begins (new_cases count t) g.cases b.few;
           cases = λ n scope less is.
               let place = length t.cases in
               let less_v : place + n < length v.cases = sum_less place n count (length v.cases) less (new_cases count t) in
               let few : place + n < 2 ^ 32 - 1 = in_numbers (place + n) (length v.cases) (length last.cases) less_v g.cases b.few in
               let are : (m : ℕ) → 1 ≤ cases_in m body → place + m < 2 ^ 32 - 1 = λ m some. in_numbers (place + m) (length v.cases) (length last.cases) (sum_less place m count (length v.cases) (is_below m count (cases_in m body) (selected.cases m) some) (new_cases count t)) g.cases b.few in
-              ap (λ first. case_scope s (behind first n)) begins ∙ ap (λ i. case_scope s i) (place_is place n few)
+              ap (λ first. case_scope s (first + n)) begins
               ∙ b.cases (place + n) (no_less low place n le) (longer (place + n) (length v.cases) (length last.cases) less_v g.cases)
               ∙ case_noted_in n place few body k number v scope (there, new_begins count t) less_v are (at_most_one (nat_lt n count) (cases_in n body) (selected.cases n)) (subst (λ m. stands_in (case n) body k m ≡ Some scope) (sym (choice_scopes count t)) is);
           fallback = ap (λ (x : Choice). x.fallback) settled ∙ default_noted_in u f body enclosed known suits k number v there selected.fallback

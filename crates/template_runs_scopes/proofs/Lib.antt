@@ -1,3 +1,4 @@
+pub mod Positions
 pub mod KeptScopes
 pub mod KeptByTerms
 pub mod KeptByConditions

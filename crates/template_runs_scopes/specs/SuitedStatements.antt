@@ -78,9 +78,9 @@ ArePlain (tree.And first rest) = IsPlain first × ArePlain rest
 -- ---- what switches are on
 
 -- the type of an object that a function names
-abbrev pub type_in : UnitView → FunctionView → ObjectRef → Option Ty
-type_in u f (ref.Static m) = static_type (slice_get u.objects m)
-type_in u f (ref.Local m) = local_of (Some f) m
+abbrev pub object_type : UnitView → FunctionView → ObjectRef → Option Ty
+object_type u f (ref.Static m) = static_type (slice_get u.objects m)
+object_type u f (ref.Local m) = local_of (Some f) m
 
 -- an integer is read with the type of its object
 abbrev pub IsReadAs : Option Ty → Scalar → Type 0
@@ -89,7 +89,7 @@ IsReadAs o scalar.Pointer = Unit {0}
 
 abbrev pub IsSwitchedOn : UnitView → FunctionView → Option NamedObject → Type 0
 IsSwitchedOn u f None = Unit {0}
-IsSwitchedOn u f (Some o) = IsReadAs (type_in u f o.object) o.kind
+IsSwitchedOn u f (Some o) = IsReadAs (object_type u f o.object) o.kind
 
 -- each case of so many stands in a statement
 abbrev pub HasCases : ℕ → StatementTree → Type 0

@@ -36,19 +36,18 @@ use Rattle.template_runs_works.proofs.Runs.{Runs, stands_behind, stands_after, n
 use Rattle.template_runs_terms.proofs.Choices.{jumping, hops}
 use Rattle.template_runs_works.proofs.Laying.{from_piece, from_none, from_work, led, known_between, few_labels}
 use Rattle.template_runs_terms.proofs.Terms.{terms}
-use Rattle.template_runs_scopes.specs.Scopes.{scopes_in, all_scopes_in}
+use Rattle.template_runs_scopes.proofs.Positions.{Position, position, inner, past, past_all, one_inner, past_for}
 use Rattle.template_runs_scopes.proofs.KeptScopes.{AreTerms}
 use Rattle.template_runs_scopes.proofs.ScopesOfTerms.{scopes_kept}
 use Rattle.template_runs_scopes.specs.Contexts.{Within, Context}
 use Rattle.template_runs_scopes.proofs.InScopes.{context_less, Goes, goes_on, plainly, gives_way}
 use Rattle.template_runs_scopes.proofs.Objects.{object_jobs, objects_are_terms, entered_planned, left_planned, named_from, locals, marks}
 use Rattle.template_runs_scopes.proofs.Contexts.{in_block, in_body}
-use Rattle.template_runs_statements.proofs.Sequences.{statement_jobs, listed, AboutStatement, AboutStatements, enclosed}
+use Rattle.template_runs_statements.proofs.Sequences.{statement_jobs, listed, HasParts, AboutStatement, AboutStatements, enclosed}
 use Rattle.ref_machine.specs.Scopes.{open_scopes, behind_loop, behind_turn}
 use Rattle.template_runs_works.proofs.Assignments.{nothing_done}
 use Rattle.template_runs_scopes.specs.SuitedStatements.{Enclosure, not_enclosed, by_loop, SuitsIf, SuitsIn}
-use Rattle.template_runs_scopes.specs.Scopes.{HasScopes}
-use Rattle.template_runs_statements.proofs.Selections.{Counts, count_terms, count_on, below, itself, next_scope}
+use Rattle.template_runs_statements.proofs.Selections.{Counts, count_terms, count_on, below, itself}
 use Rattle.flow_lower_growth.proofs.GrowingStatements.{grows_statements, grows_entered, grows_left, grows_check, grows_step}
 
 -- ---- works of the turns, from the label of the condition on
@@ -75,7 +74,7 @@ planned_all (j ∷ js) p = planned_all js (with_work j p)
 record Adds (js : List Job) (p q : Plan) : Type 0 where
   jobs : q.jobs ≡ p.jobs ++ js
   names : q.names ≡ p.names
-  scopes : q.scopes ≡ p.scopes
+  scopes : position q ≡ position p
 
 adds : (js : List Job) (p : Plan) → Adds js p (planned_all js p)
 unfolding with_work planned_all
@@ -93,7 +92,7 @@ turns_are at (Some e) (Some x) body inside l p = refl
 pub record Planned (at : Place) (objects : List ℕ) (js : List Job) (l : ℕ) (p q : Plan) : Type 0 where
   pub jobs : q.jobs ≡ jobs.Ready (Mark l) ∷ (object_jobs act.Enter at objects (length p.names) ++ (js ++ object_jobs act.Leave at objects (length (p.names ++ locals objects))))
   pub names : q.names ≡ (p.names ++ locals objects) ++ locals objects
-  pub scopes : q.scopes ≡ p.scopes + 1
+  pub scopes : position q ≡ inner (position p)
 
 pub for_planned : (s : SettingView) (objects : List ℕ) (first : StatementTrees) (test after : Option TermTree) (body : StatementTree) (around : Surroundings) (p : Plan) → p.jobs ≡ []
     → Planned s.at objects (statement_jobs first (in_scope around p.scopes) ++ turn_jobs s.at test after body (in_scope around p.scopes) p.labels) p.labels p (loops.for_loop s objects first test after body around p)
@@ -119,7 +118,7 @@ for_planned s objects first test after body around p none =
           ∙ ap (λ xs. xs ++ object_jobs act.Leave s.at objects (length (p.names ++ locals objects))) (append_assoc (jobs.Ready (Mark l) ∷ enters) js turns)
           ∙ append_assoc (jobs.Ready (Mark l) ∷ enters) (js ++ turns) (object_jobs act.Leave s.at objects (length (p.names ++ locals objects)));
       names = f.names ∙ ap (λ ns. ns ++ locals objects) names_are;
-      scopes = f.scopes ∙ a.scopes ∙ i.scopes ∙ e.scopes;
+      scopes = f.scopes ∙ a.scopes ∙ i.scopes ∙ e.scopes ∙ one_inner p;
     }
 
 scope_grows : (p : Plan) → Grows (with_labels 5 p) (with_labels 5 (with_scope p))
@@ -167,8 +166,8 @@ module _ (s : SettingView) (t : Templates) (fits : IsOfUnit t s) (g : FunctionVi
   test_follows m (Some e) after body l suits p none ft pt mt known more w rest stands to_body to_last f g =
       (terms s t fits m e).decided (decided (record { yes = l + 2; no = l + 4 }) 0) suits.0 suits.1 p none ft pt mt known (for_body (Some e) after body) [] more (Mark (l + 2) ∷ w) w rest stands to_body to_last f g
 
-  module _ (test after : Option TermTree) (body : StatementTree) (about : AboutStatement s t g body) (around : Surroundings) (looping : Enclosure) (known : List ℕ) (c l : ℕ) (suits_test : SuitsIf true test) (suits_after : SuitsIf false after) (suits_body : SuitsIn t.unit g by_loop known body) (scopes : HasScopes s body around.scope c) (few : l + 5 ≤ 2 ^ 32 - 1)
-      (p : Plan) (none : p.jobs ≡ []) (ft : List PieceView) (pt : Plan) (mt : Makes s p (test_jobs test l) ft pt) (known_t : IsKnown t pt) (none_t : pt.jobs ≡ []) (begun : pt.scopes ≡ c)
+  module _ (test after : Option TermTree) (body : StatementTree) (about : AboutStatement s t g body) (around : Surroundings) (looping : Enclosure) (known : List ℕ) (c : Position) (l : ℕ) (suits_test : SuitsIf true test) (suits_after : SuitsIf false after) (suits_body : SuitsIn t.unit g by_loop known body) (scopes : HasParts s body around.scope c) (few : l + 5 ≤ 2 ^ 32 - 1)
+      (p : Plan) (none : p.jobs ≡ []) (ft : List PieceView) (pt : Plan) (mt : Makes s p (test_jobs test l) ft pt) (known_t : IsKnown t pt) (none_t : pt.jobs ≡ []) (begun : position pt ≡ c)
       (fb : List PieceView) (pb : Plan) (mb : Makes s pt (jobs.Statement body (in_loop around (l + 4) (l + 3)) ∷ []) fb pb) (known_b : IsKnown t pb) (none_b : pb.jobs ≡ [])
       (fs : List PieceView) (pa : Plan) (ma : Makes s pb (clause_jobs after) fs pa) (known_a : IsKnown t pa) (items : List Item) (rest : List PieceView) where
     abbrev pub behind_body : List PieceView
@@ -245,21 +244,21 @@ module _ (s : SettingView) (t : Templates) (fits : IsOfUnit t s) (g : FunctionVi
   clauses_are_terms None = tt
   clauses_are_terms (Some e) = (tt, tt)
 
-  pub kept_many : (p : Plan) (js : List Job) (ps : List PieceView) (r : Plan) → AreTerms js → p.jobs ≡ [] → Makes s p js ps r → r.scopes ≡ p.scopes
+  pub kept_many : (p : Plan) (js : List Job) (ps : List PieceView) (r : Plan) → AreTerms js → p.jobs ≡ [] → Makes s p js ps r → position r ≡ position p
   kept_many p js ps r terms none m = (scopes_kept s p js ps r m (subst AreTerms (sym none) tt) terms).0
 
-  pub turns_count : (test after : Option TermTree) (body : StatementTree) (about : AboutStatement s t g body) (around : Surroundings) (known : List ℕ) (c l n : ℕ) → SuitsIn t.unit g by_loop known body → HasScopes s body around.scope c → Counts s c (c + scopes_in body) (turn_jobs s.at test after body around l)
+  pub turns_count : (test after : Option TermTree) (body : StatementTree) (about : AboutStatement s t g body) (around : Surroundings) (known : List ℕ) (c : Position) (l n : ℕ) → SuitsIn t.unit g by_loop known body → HasParts s body around.scope c → Counts s c (past c body) (turn_jobs s.at test after body around l)
   unfolding turn_jobs
   turns_count test after body about around known c l n suits_body scopes =
-      count_on s c c (c + scopes_in body) (jobs.Ready (Mark (l + 1)) ∷ []) _ (count_terms s c _ (tt, tt))
-      (count_on s c c (c + scopes_in body) (test_jobs test l) _ (count_terms s c _ (tests_are_terms test l))
-      (count_on s c c (c + scopes_in body) (jobs.Ready (Mark (l + 2)) ∷ []) _ (count_terms s c _ (tt, tt))
-      (count_on s c (c + scopes_in body) (c + scopes_in body) (jobs.Statement body (in_loop around (l + 4) (l + 3)) ∷ []) _ (about n (in_loop around (l + 4) (l + 3)) by_loop known c suits_body scopes).ends
-      (count_on s (c + scopes_in body) (c + scopes_in body) (c + scopes_in body) (jobs.Ready (Mark (l + 3)) ∷ []) _ (count_terms s (c + scopes_in body) _ (tt, tt))
-      (count_on s (c + scopes_in body) (c + scopes_in body) (c + scopes_in body) (clause_jobs after) _ (count_terms s (c + scopes_in body) _ (clauses_are_terms after)) (count_terms s (c + scopes_in body) _ (tt, (tt, tt))))))))
+      count_on s c c (past c body) (jobs.Ready (Mark (l + 1)) ∷ []) _ (count_terms s c _ (tt, tt))
+      (count_on s c c (past c body) (test_jobs test l) _ (count_terms s c _ (tests_are_terms test l))
+      (count_on s c c (past c body) (jobs.Ready (Mark (l + 2)) ∷ []) _ (count_terms s c _ (tt, tt))
+      (count_on s c (past c body) (past c body) (jobs.Statement body (in_loop around (l + 4) (l + 3)) ∷ []) _ (about n (in_loop around (l + 4) (l + 3)) by_loop known c suits_body scopes).ends
+      (count_on s (past c body) (past c body) (past c body) (jobs.Ready (Mark (l + 3)) ∷ []) _ (count_terms s (past c body) _ (tt, tt))
+      (count_on s (past c body) (past c body) (past c body) (clause_jobs after) _ (count_terms s (past c body) _ (clauses_are_terms after)) (count_terms s (past c body) _ (tt, (tt, tt))))))))
 
-  pub turns_go : (n : ℕ) (test after : Option TermTree) (body : StatementTree) (about : AboutStatement s t g body) (around : Surroundings) (looping : Enclosure) (known : List ℕ) (c l : ℕ) → SuitsIf true test → SuitsIf false after → SuitsIn t.unit g by_loop known body → HasScopes s body around.scope c → l + 5 ≤ 2 ^ 32 - 1
-      → Goes s t n c (c + scopes_in body) (Within s t n around looping known) (turn_jobs s.at test after body around l) (item.ForTurn test after body ∷ (item.LoopEnd ∷ []))
+  pub turns_go : (n : ℕ) (test after : Option TermTree) (body : StatementTree) (about : AboutStatement s t g body) (around : Surroundings) (looping : Enclosure) (known : List ℕ) (c : Position) (l : ℕ) → SuitsIf true test → SuitsIf false after → SuitsIn t.unit g by_loop known body → HasParts s body around.scope c → l + 5 ≤ 2 ^ 32 - 1
+      → Goes s t n c (past c body) (Within s t n around looping known) (turn_jobs s.at test after body around l) (item.ForTurn test after body ∷ (item.LoopEnd ∷ []))
   unfolding turn_jobs
   turns_go n test after body about around looping known c l suits_test suits_after suits_body scopes few = record {
     from = λ p none begun_p ps r m known_r items rest stands k f.
@@ -286,20 +285,17 @@ module _ (s : SettingView) (t : Templates) (fits : IsOfUnit t s) (g : FunctionVi
       no : false ≡ true → ⊥
       no e = cc
 
-  sums : (c a b : ℕ) → (suc c + a) + b ≡ c + suc (a + b)
-  sums c a b = omega arith
-
   pub of_for : (objects : List ℕ) (first : StatementTrees) (test after : Option TermTree) (body : StatementTree) → AboutStatements s t g first → AboutStatement s t g body → AboutStatement s t g (tree.For objects first test after body)
   of_for objects first test after body about_first about n around looping known c suits scopes =
       let j = jobs.Statement (tree.For objects first test after body) around in
-      let inner = in_scope around c in
+      let within = in_scope around c.scopes in
       let more = objects ++ known in
-      let middle = suc c + all_scopes_in first in
-      let last = middle + scopes_in body in
+      let middle = past_all (inner c) first in
+      let last = past middle body in
       let loop : List Item = item.ForTurn test after body ∷ (item.LoopEnd ∷ []) in
-      let starts = about_first n inner not_enclosed more (suc c) suits.1 scopes.1 in
-      let same : (p : Plan) → p.jobs ≡ [] → p.scopes ≡ c → Planned s.at objects (statement_jobs first inner ++ turn_jobs s.at test after body inner p.labels) p.labels p (parts s j p) = λ p none begun_p. subst (λ k. Planned s.at objects (statement_jobs first (in_scope around k) ++ turn_jobs s.at test after body (in_scope around k) p.labels) p.labels p (parts s j p)) begun_p (for_planned s objects first test after body around p none) in
-      subst (λ k. Goes s t n c k (Within s t n around looping known) (j ∷ []) (item.Statement (tree.For objects first test after body) ∷ [])) (sums c (all_scopes_in first) (scopes_in body))
+      let starts = about_first n within not_enclosed more (inner c) suits.1 (scopes.0.1, scopes.1.0) in
+      let same : (p : Plan) → p.jobs ≡ [] → position p ≡ c → Planned s.at objects (statement_jobs first within ++ turn_jobs s.at test after body within p.labels) p.labels p (parts s j p) = λ p none begun_p. subst (λ k. Planned s.at objects (statement_jobs first (in_scope around k) ++ turn_jobs s.at test after body (in_scope around k) p.labels) p.labels p (parts s j p)) (ap (λ (x : Position). x.scopes) begun_p) (for_planned s objects first test after body around p none) in
+      subst (λ k. Goes s t n c k (Within s t n around looping known) (j ∷ []) (item.Statement (tree.For objects first test after body) ∷ [])) (past_for c first body)
       (gives_way s t n c last (Within s t n around looping known) j (item.Statement (tree.For objects first test after body)) (of_statement t.unit true (tree.For objects first test after body)) refl (gives_statement n 0 (tree.For objects first test after body))
       (λ p none begun_p ps r m known_last items rest stands k f.
       let all = parts s j p in
@@ -308,28 +304,28 @@ module _ (s : SettingView) (t : Templates) (fits : IsOfUnit t s) (g : FunctionVi
       let known_all = known_between s t (planless all) all.jobs ps r m known_last in
       let named = named_from t (planless all) p.names objects (locals objects) known_all (x.names ∙ append_assoc p.names (locals objects) (locals objects)) in
       let again = named_from t (planless all) (p.names ++ locals objects) objects [] known_all (x.names ∙ ap (λ ns. (p.names ++ locals objects) ++ ns) (sym (append-nil (locals objects)))) in
-      let turns = turn_jobs s.at test after body inner p.labels in
-      let inside : Goes s t n (suc c) last (Within s t n inner looping more) (statement_jobs first inner ++ turns) (statements first ++ loop) =
-      goes_on s t n (suc c) middle last (Within s t n inner looping more) (Within s t n inner not_enclosed more) (statement_jobs first inner) turns (statements first) loop
-      (λ items k. unlooped n inner looping more (open_scopes items) (behind_loop items) (behind_turn items) items (behind_turn items) k) starts
-      (turns_go n test after body about inner looping more middle p.labels suits.2 suits.3 suits.4 scopes.2 few) in
-      let whole = enclosed s t fits n (suc c) last objects (length p.names) (length (p.names ++ locals objects)) (Within s t n around looping known) (Within s t n inner looping more) (statement_jobs first inner ++ turns) (statements first ++ loop)
-      (λ items k. in_block s t n around looping known objects c items suits.0 scopes.0 k) named again inside in
-      let js = object_jobs act.Enter s.at objects (length p.names) ++ ((statement_jobs first inner ++ turns) ++ object_jobs act.Leave s.at objects (length (p.names ++ locals objects))) in
-      let marked = goes_on s t n (suc c) (suc c) last (Within s t n around looping known) Anything (jobs.Ready (Mark p.labels) ∷ []) js [] (item.Enters objects ∷ ((statements first ++ loop) ++ item.Leaves objects ∷ [])) (λ items k. tt)
-      (plainly s t n (suc c) Anything (jobs.Ready (Mark p.labels) ∷ []) [] (tt, tt) (marks s t fits n p.labels 0)) whole in
+      let turns = turn_jobs s.at test after body within p.labels in
+      let inside : Goes s t n (inner c) last (Within s t n within looping more) (statement_jobs first within ++ turns) (statements first ++ loop) =
+      goes_on s t n (inner c) middle last (Within s t n within looping more) (Within s t n within not_enclosed more) (statement_jobs first within) turns (statements first) loop
+      (λ items k. unlooped n within looping more (open_scopes items) (behind_loop items) (behind_turn items) items (behind_turn items) k) starts
+      (turns_go n test after body about within looping more middle p.labels suits.2 suits.3 suits.4 (scopes.0.2, scopes.1.1) few) in
+      let whole = enclosed s t fits n (inner c) last objects (length p.names) (length (p.names ++ locals objects)) (Within s t n around looping known) (Within s t n within looping more) (statement_jobs first within ++ turns) (statements first ++ loop)
+      (λ items k. in_block s t n around looping known objects c.scopes items suits.0 scopes.0.0 k) named again inside in
+      let js = object_jobs act.Enter s.at objects (length p.names) ++ ((statement_jobs first within ++ turns) ++ object_jobs act.Leave s.at objects (length (p.names ++ locals objects))) in
+      let marked = goes_on s t n (inner c) (inner c) last (Within s t n around looping known) Anything (jobs.Ready (Mark p.labels) ∷ []) js [] (item.Enters objects ∷ ((statements first ++ loop) ++ item.Leaves objects ∷ [])) (λ items k. tt)
+      (plainly s t n (inner c) Anything (jobs.Ready (Mark p.labels) ∷ []) [] (tt, tt) (marks s t fits n p.labels 0)) whole in
       subst (λ is. Follows t n 0 (item.Enters objects ∷ (is ++ items)) (ps ++ rest)) (append_assoc (statements first) loop (item.Leaves objects ∷ []))
-      (marked.from (planless all) refl (x.scopes ∙ ap (λ k. k + 1) begun_p ∙ next_scope c) ps r (subst (λ ks. Makes s (planless all) ks ps r) x.jobs m) known_last items rest stands k f))
+      (marked.from (planless all) refl (x.scopes ∙ ap inner begun_p) ps r (subst (λ ks. Makes s (planless all) ks ps r) x.jobs m) known_last items rest stands k f))
       (λ p none begun_p ps r m.
       let all = parts s j p in
       let x = same p none begun_p in
-      let turns = turn_jobs s.at test after body inner p.labels in
-      count_on s (suc c) (suc c) last (jobs.Ready (Mark p.labels) ∷ []) _ (count_terms s (suc c) _ (tt, tt))
-      (count_on s (suc c) (suc c) last (object_jobs act.Enter s.at objects (length p.names)) _ (count_terms s (suc c) _ (objects_are_terms act.Enter s.at objects (length p.names)))
-      (count_on s (suc c) last last (statement_jobs first inner ++ turns) _
-      (count_on s (suc c) middle last (statement_jobs first inner) turns starts.ends (turns_count test after body about inner more middle p.labels n suits.4 scopes.2))
+      let turns = turn_jobs s.at test after body within p.labels in
+      count_on s (inner c) (inner c) last (jobs.Ready (Mark p.labels) ∷ []) _ (count_terms s (inner c) _ (tt, tt))
+      (count_on s (inner c) (inner c) last (object_jobs act.Enter s.at objects (length p.names)) _ (count_terms s (inner c) _ (objects_are_terms act.Enter s.at objects (length p.names)))
+      (count_on s (inner c) last last (statement_jobs first within ++ turns) _
+      (count_on s (inner c) middle last (statement_jobs first within) turns starts.ends (turns_count test after body about within more middle p.labels n suits.4 (scopes.0.2, scopes.1.1)))
       (count_terms s last _ (objects_are_terms act.Leave s.at objects (length (p.names ++ locals objects))))))
-      (planless all) refl (x.scopes ∙ ap (λ k. k + 1) begun_p ∙ next_scope c) ps r (subst (λ ks. Makes s (planless all) ks ps r) x.jobs m)))
+      (planless all) refl (x.scopes ∙ ap inner begun_p) ps r (subst (λ ks. Makes s (planless all) ks ps r) x.jobs m)))
     where
       Anything : List Item → Type 0
       Anything items = Unit {0}

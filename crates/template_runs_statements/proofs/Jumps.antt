@@ -39,6 +39,7 @@ use Rattle.template_runs_works.proofs.Laying.{known_between}
 use Rattle.template_runs_terms.proofs.Terms.{terms}
 use Rattle.template_runs_scopes.specs.SuitedStatements.{Enclosure, SuitsIf, HasLabel}
 use Rattle.template_runs_scopes.specs.Chains.{Chain}
+use Rattle.template_runs_scopes.proofs.Positions.{Position, position}
 use Rattle.template_runs_scopes.proofs.KeptScopes.{AreTerms, Keeps, keeps_or, kept}
 use Rattle.template_runs_scopes.proofs.ScopesOfTerms.{scopes_kept}
 use Rattle.template_runs_scopes.specs.Contexts.{LabelsReachBefore, Lands, Within}
@@ -65,7 +66,7 @@ keeps_way s (x ∷ steps) from to p g =
     let outward = keeps_way s steps (scopes.around s from) to (all_left s.at (scopes.objects s from) p) (keeps_left s.at (scopes.objects s from) p g) in
     keeps_or (from == to) p _ g (keeps_or (nat_lt to from) _ _ outward inward)
 
-keeps_leap : {start : Plan} (s : SettingView) (from : ℕ) (to : Landing) (p : Plan) → Keeps start p → Keeps start (leap s from to p)
+pub keeps_leap : {start : Plan} (s : SettingView) (from : ℕ) (to : Landing) (p : Plan) → Keeps start p → Keeps start (leap s from to p)
 keeps_leap s from to p g = let on_way = keeps_way s s.scopes.scopes from to.scope p g in search kept depth 30
 
 keeps_given : {start : Plan} (s : SettingView) (at : Place) (e : Option TermTree) (p : Plan) → Keeps start p → Keeps start (lowered.given s at e p)
@@ -91,7 +92,7 @@ goto_turns s t fits f has l is_there around items chain p none ps r m known rest
 
 module _ (s : SettingView) (t : Templates) (fits : IsOfUnit t s) (n : ℕ) where
   -- a work whose plan begins no scope
-  no_scopes : (j : Job) (c : ℕ) → ((p : Plan) → p.jobs ≡ [] → Keeps p (parts s j p)) → (p : Plan) → p.jobs ≡ [] → p.scopes ≡ c → (ps : List PieceView) (r : Plan) → Makes s (planless (parts s j p)) (parts s j p).jobs ps r → r.scopes ≡ c
+  no_scopes : (j : Job) (c : Position) → ((p : Plan) → p.jobs ≡ [] → Keeps p (parts s j p)) → (p : Plan) → p.jobs ≡ [] → position p ≡ c → (ps : List PieceView) (r : Plan) → Makes s (planless (parts s j p)) (parts s j p).jobs ps r → position r ≡ c
   no_scopes j c keeps p none begun ps r m = (scopes_kept s (planless (parts s j p)) (parts s j p).jobs ps r m tt (keeps p none).terms).0 ∙ (keeps p none).scopes ∙ begun
 
   -- some works, and then objects are left and a piece ends the block
@@ -139,7 +140,7 @@ module _ (s : SettingView) (t : Templates) (fits : IsOfUnit t s) (n : ℕ) where
       (leaves_and q l.objects p (left_planned s.at l.objects p) [] [] none (nothing_done s t n 0) (jumping s.at landing.label) all (one_more_job q.jobs (jobs.Ready (jumping s.at landing.label)) q refl) (work_names (jobs.Ready (jumping s.at landing.label)) q) ps r (subst (λ x. Makes s (planless x) x.jobs ps r) is_all m) known (item.Enters [] ∷ (item.Hop ∷ to)) (item.Leaves l.objects ∷ (item.Enters [] ∷ (item.Hop ∷ to))) rest stands
       (λ w f. f) (λ w. gives_no_enters n 0 (item.Hop ∷ to) (jumping s.at landing.label ∷ w) (hops s t fits n 0 landing.label to w l.there l.leads l.follows))))
 
-  module _ (around : Surroundings) (looping : Enclosure) (known : List ℕ) (c : ℕ) where
+  module _ (around : Surroundings) (looping : Enclosure) (known : List ℕ) (c : Position) where
     pub breaks : looping.breaks ≡ true → Goes s t n c c (Within s t n around looping known) (jobs.Statement tree.Break around ∷ []) (item.Statement tree.Break ∷ [])
     breaks e = gives_way s t n c c (Within s t n around looping known) (jobs.Statement tree.Break around) (item.Statement tree.Break) (item.BreakOut ∷ []) refl (gives_statement n 0 tree.Break)
         (λ p none begun ps r m known items rest stands k f. gives_break items (ps ++ rest) (jumps around.scope around.on_break items (behind_loop items) (chain_there s around.scope (open_scopes items) k.chain) (k.on_break e) p none ps r m known rest stands))

@@ -16,6 +16,7 @@ use Rattle.template_runs.specs.TemplateStates.{Templates}
 use Rattle.template_runs_follow.specs.Follows.{Follows}
 use Rattle.template_runs_works.specs.TemplateParts.{IsOfUnit}
 use Rattle.template_runs_works.proofs.Runs.{two_jobs}
+use Rattle.template_runs_scopes.proofs.Positions.{Position, position}
 use Rattle.template_runs_scopes.proofs.InScopes.{Goes, plainly, goes_on, gives_way}
 use Rattle.template_runs_scopes.proofs.Objects.{marks}
 
@@ -25,11 +26,11 @@ labelled_jobs l body around = jobs.Ready (Mark l) ∷ (jobs.Statement body aroun
 pub labelled_planned : (l : ℕ) (body : StatementTree) (around : Surroundings) (p : Plan) → p.jobs ≡ [] → (part l body around p).jobs ≡ labelled_jobs l body around
 labelled_planned l body around p none = two_jobs (jobs.Ready (Mark l)) (jobs.Statement body around) p none
 
-pub labelled_scopes : (l : ℕ) (body : StatementTree) (around : Surroundings) (p : Plan) → (part l body around p).scopes ≡ p.scopes
+pub labelled_scopes : (l : ℕ) (body : StatementTree) (around : Surroundings) (p : Plan) → position (part l body around p) ≡ position p
 unfolding with_work
 labelled_scopes l body around p = refl
 
-module _ (s : SettingView) (t : Templates) (fits : IsOfUnit t s) (n c last : ℕ) (K : List Item → Type 0) (body : StatementTree) (around : Surroundings) where
+module _ (s : SettingView) (t : Templates) (fits : IsOfUnit t s) (n : ℕ) (c last : Position) (K : List Item → Type 0) (body : StatementTree) (around : Surroundings) where
   labelled_goes : (l : ℕ) → Goes s t n c last K (jobs.Statement body around ∷ []) (item.Statement body ∷ []) → Goes s t n c last K (labelled_jobs l body around) (item.Statement body ∷ [])
   labelled_goes l goes =
       goes_on s t n c c last K (λ items. Unit {0}) (jobs.Ready (Mark l) ∷ []) (jobs.Statement body around ∷ []) [] (item.Statement body ∷ []) (λ items k. tt)

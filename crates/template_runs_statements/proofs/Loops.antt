@@ -31,15 +31,14 @@ use Rattle.template_runs_works.proofs.Runs.{stands_behind, stands_after}
 use Rattle.template_runs_terms.proofs.Choices.{jumping, hops}
 use Rattle.template_runs_works.proofs.Laying.{from_piece, from_none, from_work, led, known_between, few_labels}
 use Rattle.template_runs_terms.proofs.Terms.{terms}
-use Rattle.template_runs_scopes.specs.Scopes.{scopes_in}
 use Rattle.template_runs_scopes.specs.Contexts.{Within}
+use Rattle.template_runs_scopes.proofs.Positions.{Position, position, past}
 use Rattle.template_runs_scopes.proofs.InScopes.{context_less, Goes, gives_way}
 use Rattle.template_runs_scopes.proofs.Contexts.{in_body}
 use Rattle.template_runs_scopes.proofs.QuietItems.{condition_quiet}
-use Rattle.template_runs_statements.proofs.Sequences.{AboutStatement}
+use Rattle.template_runs_statements.proofs.Sequences.{AboutStatement, HasParts}
 use Rattle.ref_machine.specs.Scopes.{open_scopes, behind_loop, behind_turn}
 use Rattle.template_runs_scopes.specs.SuitedStatements.{Enclosure, by_loop, SuitsBehind, SuitsIn}
-use Rattle.template_runs_scopes.specs.Scopes.{HasScopes}
 use Rattle.template_runs_statements.proofs.Selections.{Counts, count_terms, count_on, kept_one, below, itself, one_three, two_three}
 
 -- ---- `while`
@@ -52,7 +51,7 @@ unfolding with_work with_labels while_jobs
 while_planned s e body around p none =
     ap (λ js. (((((js ++ jobs.Ready (Mark p.labels) ∷ []) ++ jobs.Condition e (decided (record { yes = p.labels + 1; no = p.labels + 2 }) 0) ∷ []) ++ jobs.Ready (Mark (p.labels + 1)) ∷ []) ++ jobs.Statement body (in_loop around (p.labels + 2) p.labels) ∷ []) ++ jobs.Ready (jumping s.at p.labels) ∷ []) ++ jobs.Ready (Mark (p.labels + 2)) ∷ []) none
 
-pub while_scopes : (s : SettingView) (e : TermTree) (body : StatementTree) (around : Surroundings) (p : Plan) → (loops.while_loop s e body around p).scopes ≡ p.scopes
+pub while_scopes : (s : SettingView) (e : TermTree) (body : StatementTree) (around : Surroundings) (p : Plan) → position (loops.while_loop s e body around p) ≡ position p
 unfolding with_work with_labels
 while_scopes s e body around p = refl
 
@@ -69,7 +68,7 @@ unfolding with_work with_labels do_jobs
 do_planned e body around p none =
     ap (λ js. ((((js ++ jobs.Ready (Mark p.labels) ∷ []) ++ jobs.Statement body (in_loop around (p.labels + 2) (p.labels + 1)) ∷ []) ++ jobs.Ready (Mark (p.labels + 1)) ∷ []) ++ jobs.Condition e (decided (record { yes = p.labels; no = p.labels + 2 }) 0) ∷ []) ++ jobs.Ready (Mark (p.labels + 2)) ∷ []) none
 
-pub do_scopes : (e : TermTree) (body : StatementTree) (around : Surroundings) (p : Plan) → (loops.do_loop body e around p).scopes ≡ p.scopes
+pub do_scopes : (e : TermTree) (body : StatementTree) (around : Surroundings) (p : Plan) → position (loops.do_loop body e around p) ≡ position p
 unfolding with_work with_labels
 do_scopes e body around p = refl
 
@@ -82,8 +81,8 @@ first_below l = omega arith
 module _ (s : SettingView) (t : Templates) (fits : IsOfUnit t s) (g : FunctionView) where
   -- ---- the turns of `while`
 
-  module _ (e : TermTree) (body : StatementTree) (about : AboutStatement s t g body) (around : Surroundings) (looping : Enclosure) (known : List ℕ) (c l : ℕ) (suits_test : SuitsBehind true 0 e) (suits_body : SuitsIn t.unit g by_loop known body) (scopes : HasScopes s body around.scope c) (few : l + 3 ≤ 2 ^ 32 - 1)
-      (p : Plan) (none : p.jobs ≡ []) (fc : List PieceView) (pc : Plan) (mc : Makes s p (jobs.Condition e (decided (record { yes = l + 1; no = l + 2 }) 0) ∷ []) fc pc) (known_c : IsKnown t pc) (none_c : pc.jobs ≡ []) (begun : pc.scopes ≡ c)
+  module _ (e : TermTree) (body : StatementTree) (about : AboutStatement s t g body) (around : Surroundings) (looping : Enclosure) (known : List ℕ) (c : Position) (l : ℕ) (suits_test : SuitsBehind true 0 e) (suits_body : SuitsIn t.unit g by_loop known body) (scopes : HasParts s body around.scope c) (few : l + 3 ≤ 2 ^ 32 - 1)
+      (p : Plan) (none : p.jobs ≡ []) (fc : List PieceView) (pc : Plan) (mc : Makes s p (jobs.Condition e (decided (record { yes = l + 1; no = l + 2 }) 0) ∷ []) fc pc) (known_c : IsKnown t pc) (none_c : pc.jobs ≡ []) (begun : position pc ≡ c)
       (fb : List PieceView) (pb : Plan) (mb : Makes s pc (jobs.Statement body (in_loop around (l + 2) l) ∷ []) fb pb) (known_b : IsKnown t pb) (items : List Item) (rest : List PieceView) where
     abbrev pub while_pieces : List PieceView
     while_pieces = fc ++ Mark (l + 1) ∷ (fb ++ jumping s.at l ∷ (Mark (l + 2) ∷ rest))
@@ -122,8 +121,8 @@ module _ (s : SettingView) (t : Templates) (fits : IsOfUnit t s) (g : FunctionVi
         follows.in_while m 0 e body (item.LoopEnd ∷ items) while_pieces
         ((terms s t fits m e).decided (decided (record { yes = l + 1; no = l + 2 }) 0) suits_test.0 suits_test.1 p none fc pc mc known_c (item.Statement body ∷ (item.Hop ∷ (item.TurnEnd ∷ (item.WhileTurn e body ∷ [])))) [] (item.LoopEnd ∷ items) (Mark (l + 1) ∷ (fb ++ jumping s.at l ∷ (Mark (l + 2) ∷ rest))) (fb ++ jumping s.at l ∷ (Mark (l + 2) ∷ rest)) rest at_c to_yes (while_to_last stands) on_yes (gives_loop_end m 0 items rest less_f))
 
-  while_from : (n : ℕ) (e : TermTree) (body : StatementTree) (about : AboutStatement s t g body) (around : Surroundings) (looping : Enclosure) (known : List ℕ) (c l : ℕ) → SuitsBehind true 0 e → SuitsIn t.unit g by_loop known body → HasScopes s body around.scope c → l + 3 ≤ 2 ^ 32 - 1
-      → (p : Plan) → p.jobs ≡ [] → p.scopes ≡ c → (ps : List PieceView) (r : Plan) → Makes s p (while_jobs s.at e body around l) ps r → IsKnown t r → (items : List Item) (rest : List PieceView) → Stands t (ps ++ rest) → Within s t n around looping known items → Follows t n 0 items rest → Follows t n 0 (item.WhileTurn e body ∷ (item.LoopEnd ∷ items)) (ps ++ rest)
+  while_from : (n : ℕ) (e : TermTree) (body : StatementTree) (about : AboutStatement s t g body) (around : Surroundings) (looping : Enclosure) (known : List ℕ) (c : Position) (l : ℕ) → SuitsBehind true 0 e → SuitsIn t.unit g by_loop known body → HasParts s body around.scope c → l + 3 ≤ 2 ^ 32 - 1
+      → (p : Plan) → p.jobs ≡ [] → position p ≡ c → (ps : List PieceView) (r : Plan) → Makes s p (while_jobs s.at e body around l) ps r → IsKnown t r → (items : List Item) (rest : List PieceView) → Stands t (ps ++ rest) → Within s t n around looping known items → Follows t n 0 items rest → Follows t n 0 (item.WhileTurn e body ∷ (item.LoopEnd ∷ items)) (ps ++ rest)
   unfolding while_jobs
   while_from n e body about around looping known c l suits_test suits_body scopes few p none begun ps r m known_r items rest stands k f =
       let q = jumping s.at l in
@@ -137,7 +136,7 @@ module _ (s : SettingView) (t : Templates) (fits : IsOfUnit t s) (g : FunctionVi
       (λ b6 m6. from_none s r rest pb b6 (λ w. G (Mark l ∷ (fc ++ Mark (l + 1) ∷ (fb ++ q ∷ (Mark (l + 2) ∷ w))))) m6
       (λ stands. follows.by_mark n 0 l _ _ (while_turns e body about around looping known c l suits_test suits_body scopes few p none fc pc mc (known_between s t pc _ _ r m2 known_r) none_c (kept_one s p (jobs.Condition e (decided (record { yes = l + 1; no = l + 2 }) 0)) fc pc tt none mc ∙ begun) fb pb mb (known_between s t pb _ _ r m4 known_r) items rest stands n f k)))))))) stands
 
-  while_ends : (n : ℕ) (e : TermTree) (body : StatementTree) (around : Surroundings) (c last l : ℕ) (K : List Item → Type 0) → Goes s t n c last K (jobs.Statement body (in_loop around (l + 2) l) ∷ []) (item.Statement body ∷ []) → Counts s c last (while_jobs s.at e body around l)
+  while_ends : (n : ℕ) (e : TermTree) (body : StatementTree) (around : Surroundings) (c last : Position) (l : ℕ) (K : List Item → Type 0) → Goes s t n c last K (jobs.Statement body (in_loop around (l + 2) l) ∷ []) (item.Statement body ∷ []) → Counts s c last (while_jobs s.at e body around l)
   unfolding while_jobs
   while_ends n e body around c last l K goes =
       count_on s c c last (jobs.Ready (Mark l) ∷ (jobs.Condition e (decided (record { yes = l + 1; no = l + 2 }) 0) ∷ (jobs.Ready (Mark (l + 1)) ∷ []))) _ (count_terms s c _ (tt, (tt, (tt, tt))))
@@ -146,19 +145,19 @@ module _ (s : SettingView) (t : Templates) (fits : IsOfUnit t s) (g : FunctionVi
   pub of_while : (e : TermTree) (body : StatementTree) → AboutStatement s t g body → AboutStatement s t g (tree.While e body)
   of_while e body about n around looping known c suits scopes =
       let j = jobs.Statement (tree.While e body) around in
-      gives_way s t n c (c + scopes_in body) (Within s t n around looping known) j (item.Statement (tree.While e body)) (of_statement t.unit true (tree.While e body)) refl (gives_statement n 0 (tree.While e body))
+      gives_way s t n c (past c body) (Within s t n around looping known) j (item.Statement (tree.While e body)) (of_statement t.unit true (tree.While e body)) refl (gives_statement n 0 (tree.While e body))
       (λ p none begun ps r m known_last items rest stands k f.
       let all = loops.while_loop s e body around p in
       let few = few_labels s t p j 3 all.jobs ps r (while_grows s e body around p) m known_last in
       while_from n e body about around looping known c p.labels suits.0 suits.1 scopes few (planless all) refl (while_scopes s e body around p ∙ begun) ps r (subst (λ ks. Makes s (planless all) ks ps r) (while_planned s e body around p none) m) known_last items rest stands k f)
       (λ p none begun ps r m.
       let all = loops.while_loop s e body around p in
-      while_ends n e body around c (c + scopes_in body) p.labels (Within s t n (in_loop around (p.labels + 2) p.labels) by_loop known) (about n (in_loop around (p.labels + 2) p.labels) by_loop known c suits.1 scopes) (planless all) refl (while_scopes s e body around p ∙ begun) ps r (subst (λ ks. Makes s (planless all) ks ps r) (while_planned s e body around p none) m))
+      while_ends n e body around c (past c body) p.labels (Within s t n (in_loop around (p.labels + 2) p.labels) by_loop known) (about n (in_loop around (p.labels + 2) p.labels) by_loop known c suits.1 scopes) (planless all) refl (while_scopes s e body around p ∙ begun) ps r (subst (λ ks. Makes s (planless all) ks ps r) (while_planned s e body around p none) m))
 
   -- ---- the turns of `do`
 
-  module _ (e : TermTree) (body : StatementTree) (about : AboutStatement s t g body) (around : Surroundings) (looping : Enclosure) (known : List ℕ) (c l : ℕ) (suits_body : SuitsIn t.unit g by_loop known body) (suits_test : SuitsBehind true 0 e) (scopes : HasScopes s body around.scope c) (few : l + 3 ≤ 2 ^ 32 - 1)
-      (p : Plan) (none : p.jobs ≡ []) (begun : p.scopes ≡ c) (fb : List PieceView) (pb : Plan) (mb : Makes s p (jobs.Statement body (in_loop around (l + 2) (l + 1)) ∷ []) fb pb) (known_b : IsKnown t pb) (none_b : pb.jobs ≡ [])
+  module _ (e : TermTree) (body : StatementTree) (about : AboutStatement s t g body) (around : Surroundings) (looping : Enclosure) (known : List ℕ) (c : Position) (l : ℕ) (suits_body : SuitsIn t.unit g by_loop known body) (suits_test : SuitsBehind true 0 e) (scopes : HasParts s body around.scope c) (few : l + 3 ≤ 2 ^ 32 - 1)
+      (p : Plan) (none : p.jobs ≡ []) (begun : position p ≡ c) (fb : List PieceView) (pb : Plan) (mb : Makes s p (jobs.Statement body (in_loop around (l + 2) (l + 1)) ∷ []) fb pb) (known_b : IsKnown t pb) (none_b : pb.jobs ≡ [])
       (fc : List PieceView) (pc : Plan) (mc : Makes s pb (jobs.Condition e (decided (record { yes = l; no = l + 2 }) 0) ∷ []) fc pc) (known_c : IsKnown t pc) (items : List Item) (rest : List PieceView) where
     abbrev pub do_pieces : List PieceView
     do_pieces = fb ++ Mark (l + 1) ∷ (fc ++ Mark (l + 2) ∷ rest)
@@ -199,8 +198,8 @@ module _ (s : SettingView) (t : Templates) (fits : IsOfUnit t s) (g : FunctionVi
         follows.in_do m 0 body e (item.LoopEnd ∷ items) do_pieces
         ((about m (in_loop around (l + 2) (l + 1)) by_loop known c suits_body scopes).from p none begun fb pb mb known_b (item.TurnEnd ∷ do_test_items) (Mark (l + 1) ∷ (fc ++ Mark (l + 2) ∷ rest)) (stands_after t (Mark l) do_pieces stands) (do_context stands m back less_f less_k) (do_again stands m back less_f))
 
-  do_from : (n : ℕ) (e : TermTree) (body : StatementTree) (about : AboutStatement s t g body) (around : Surroundings) (looping : Enclosure) (known : List ℕ) (c l : ℕ) → SuitsIn t.unit g by_loop known body → SuitsBehind true 0 e → HasScopes s body around.scope c → l + 3 ≤ 2 ^ 32 - 1
-      → (p : Plan) → p.jobs ≡ [] → p.scopes ≡ c → (ps : List PieceView) (r : Plan) → Makes s p (do_jobs e body around l) ps r → IsKnown t r → (items : List Item) (rest : List PieceView) → Stands t (ps ++ rest) → Within s t n around looping known items → Follows t n 0 items rest → Follows t n 0 (item.DoTurn body e ∷ (item.LoopEnd ∷ items)) (ps ++ rest)
+  do_from : (n : ℕ) (e : TermTree) (body : StatementTree) (about : AboutStatement s t g body) (around : Surroundings) (looping : Enclosure) (known : List ℕ) (c : Position) (l : ℕ) → SuitsIn t.unit g by_loop known body → SuitsBehind true 0 e → HasParts s body around.scope c → l + 3 ≤ 2 ^ 32 - 1
+      → (p : Plan) → p.jobs ≡ [] → position p ≡ c → (ps : List PieceView) (r : Plan) → Makes s p (do_jobs e body around l) ps r → IsKnown t r → (items : List Item) (rest : List PieceView) → Stands t (ps ++ rest) → Within s t n around looping known items → Follows t n 0 items rest → Follows t n 0 (item.DoTurn body e ∷ (item.LoopEnd ∷ items)) (ps ++ rest)
   unfolding do_jobs
   do_from n e body about around looping known c l suits_body suits_test scopes few p none begun ps r m known_r items rest stands k f =
       let G : List PieceView → Type 0 = λ w. Stands t w → Follows t n 0 (item.DoTurn body e ∷ (item.LoopEnd ∷ items)) w in
@@ -212,7 +211,7 @@ module _ (s : SettingView) (t : Templates) (fits : IsOfUnit t s) (g : FunctionVi
       (λ b5 m5. from_none s r rest pc b5 (λ w. G (Mark l ∷ (fb ++ Mark (l + 1) ∷ (fc ++ Mark (l + 2) ∷ w)))) m5
       (λ stands. follows.by_mark n 0 l _ _ (do_turns e body about around looping known c l suits_body suits_test scopes few p none begun fb pb mb (known_between s t pb _ _ r m2 known_r) none_b fc pc mc (known_between s t pc _ _ r m4 known_r) items rest stands n f k))))))) stands
 
-  do_ends : (n : ℕ) (e : TermTree) (body : StatementTree) (around : Surroundings) (c last l : ℕ) (K : List Item → Type 0) → Goes s t n c last K (jobs.Statement body (in_loop around (l + 2) (l + 1)) ∷ []) (item.Statement body ∷ []) → Counts s c last (do_jobs e body around l)
+  do_ends : (n : ℕ) (e : TermTree) (body : StatementTree) (around : Surroundings) (c last : Position) (l : ℕ) (K : List Item → Type 0) → Goes s t n c last K (jobs.Statement body (in_loop around (l + 2) (l + 1)) ∷ []) (item.Statement body ∷ []) → Counts s c last (do_jobs e body around l)
   unfolding do_jobs
   do_ends n e body around c last l K goes =
       count_on s c c last (jobs.Ready (Mark l) ∷ []) _ (count_terms s c _ (tt, tt))
@@ -221,11 +220,11 @@ module _ (s : SettingView) (t : Templates) (fits : IsOfUnit t s) (g : FunctionVi
   pub of_do : (body : StatementTree) (e : TermTree) → AboutStatement s t g body → AboutStatement s t g (tree.Do body e)
   of_do body e about n around looping known c suits scopes =
       let j = jobs.Statement (tree.Do body e) around in
-      gives_way s t n c (c + scopes_in body) (Within s t n around looping known) j (item.Statement (tree.Do body e)) (of_statement t.unit true (tree.Do body e)) refl (gives_statement n 0 (tree.Do body e))
+      gives_way s t n c (past c body) (Within s t n around looping known) j (item.Statement (tree.Do body e)) (of_statement t.unit true (tree.Do body e)) refl (gives_statement n 0 (tree.Do body e))
       (λ p none begun ps r m known_last items rest stands k f.
       let all = loops.do_loop body e around p in
       let few = few_labels s t p j 3 all.jobs ps r (do_grows e body around p) m known_last in
       do_from n e body about around looping known c p.labels suits.0 suits.1 scopes few (planless all) refl (do_scopes e body around p ∙ begun) ps r (subst (λ ks. Makes s (planless all) ks ps r) (do_planned e body around p none) m) known_last items rest stands k f)
       (λ p none begun ps r m.
       let all = loops.do_loop body e around p in
-      do_ends n e body around c (c + scopes_in body) p.labels (Within s t n (in_loop around (p.labels + 2) (p.labels + 1)) by_loop known) (about n (in_loop around (p.labels + 2) (p.labels + 1)) by_loop known c suits.0 scopes) (planless all) refl (do_scopes e body around p ∙ begun) ps r (subst (λ ks. Makes s (planless all) ks ps r) (do_planned e body around p none) m))
+      do_ends n e body around c (past c body) p.labels (Within s t n (in_loop around (p.labels + 2) (p.labels + 1)) by_loop known) (about n (in_loop around (p.labels + 2) (p.labels + 1)) by_loop known c suits.0 scopes) (planless all) refl (do_scopes e body around p ∙ begun) ps r (subst (λ ks. Makes s (planless all) ks ps r) (do_planned e body around p none) m))
