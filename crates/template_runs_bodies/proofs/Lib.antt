@@ -10,3 +10,4 @@ pub mod SwitchPlans
 pub mod Switches
 pub mod Statements
 pub mod FunctionLabels
+pub mod CoveredCases

@@ -1,6 +1,2 @@
-//! Laws on where the labels of switches stand.
+//! Where the labels of switches stand.
 #![tactic(auto)]
-
-mod theorems;
-
-pub use theorems::choices_are_noted;

@@ -43,11 +43,14 @@ use Rattle.template_runs_works.proofs.Laying.{known_between}
 use Rattle.template_runs_scopes.specs.SuitedStatements.{not_enclosed}
 use Rattle.template_runs_scopes.proofs.FunctionBodies.{same_statements}
 use Rattle.template_runs_scopes.proofs.Objects.{object_jobs, objects_are_terms, entered_planned, left_planned, named_from, locals, enters, leaves}
+use Rattle.template_runs_scopes.proofs.Positions.{position, numbers}
 use Rattle.template_runs_scopes.proofs.ScopeTrees.{OfFunction, of_function}
 use Rattle.template_runs_labels.proofs.FoundLabels.{found_there}
+use Rattle.template_runs_noted.proofs.NotedChoices.{noted}
 use Rattle.template_runs_gotos.specs.Gotos.{HasLabels}
 use Rattle.template_runs_statements.proofs.Sequences.{statement_jobs, listed}
 use Rattle.template_runs_statements.proofs.Selections.{count_terms}
+use Rattle.template_runs_bodies.proofs.CoveredCases.{few_cases}
 use Rattle.template_runs_bodies.proofs.FunctionLabels as functions_labels
 use Rattle.template_runs_bodies.proofs.FunctionLabels.{behind_statements}
 use Rattle.template_runs_entry.specs.Entries.{IsEntry}
@@ -67,13 +70,13 @@ body_plan s f = functions.body s f (no_plan f.labels)
 record Planned (s : SettingView) (f : FunctionView) (js : List Job) (p : Plan) : Type 0 where
   jobs : p.jobs ≡ (object_jobs act.Enter s.at f.scope 0 ++ (js ++ object_jobs act.Leave s.at f.scope (length (locals f.scope)))) ++ jobs.Ready (stop s) ∷ []
   names : p.names ≡ locals f.scope ++ locals f.scope
-  scopes : p.scopes ≡ 2
+  scopes : position p ≡ numbers 2 0
 
 work_names : (j : Job) (p : Plan) → (with_work j p).names ≡ p.names
 unfolding with_work
 work_names j p = refl
 
-work_scopes : (j : Job) (p : Plan) → (with_work j p).scopes ≡ p.scopes
+work_scopes : (j : Job) (p : Plan) → position (with_work j p) ≡ position p
 unfolding with_work
 work_scopes j p = refl
 
@@ -140,6 +143,7 @@ module _ (t : Templates) (f : FunctionView) (e : IsEntry t f) where
       let in_turn = append_assoc ins (js ++ outs) (jobs.Ready (stop s) ∷ []) ∙ ap (λ ks. ins ++ ks) (append_assoc js outs (jobs.Ready (stop s) ∷ [])) in
       let m = subst (λ ks. Makes s (planless plan) ks (pieces t) made.last) (x.jobs ∙ in_turn) made.pieces in
       let known_all = known_between s t (planless plan) (ins ++ (js ++ ends)) (pieces t) made.last m known in
+      let choices = noted s t.unit f not_enclosed (f.scope ++ []) refl e.suits e.labelled (few_cases s f (outermost s.end) (planless plan) refl ins ends (pieces t) made.last m known.labels) in
       let named = named_from t (planless plan) [] f.scope (locals f.scope) known_all x.names in
       let again = named_from t (planless plan) (locals f.scope) f.scope [] known_all (x.names ∙ ap (λ ns. locals f.scope ++ ns) (sym (append-nil (locals f.scope)))) in
       let y = parted s (planless plan) ins (js ++ ends) (pieces t) made.last m in
@@ -148,7 +152,7 @@ module _ (t : Templates) (f : FunctionView) (e : IsEntry t f) where
       let none_behind = jobs_none s y.between js z.front z.between z.first none in
       let known_in = known_between s t y.between (js ++ ends) y.back made.last y.second known in
       let known_behind = known_between s t z.between ends z.back made.last z.second known in
-      let begun = count_terms s 2 ins (objects_are_terms act.Enter s.at f.scope 0) (planless plan) refl x.scopes y.front y.between y.first in
+      let begun = count_terms s (numbers 2 0) ins (objects_are_terms act.Enter s.at f.scope 0) (planless plan) refl x.scopes y.front y.between y.first in
       let stands : Stands t (pieces t ++ []) = record { front = []; all = sym (append-nil (pieces t)) } in
       let at_front = split s t n (pieces t) y.front y.back [] y.all stands in
       let at_body = split s t n y.back z.front z.back [] z.all (stands_behind t y.front (y.back ++ []) at_front) in
@@ -157,7 +161,7 @@ module _ (t : Templates) (f : FunctionView) (e : IsEntry t f) where
           then_ends s t n outs (item.Leaves f.scope ∷ []) 0 0 z.between none_behind (left.from z.between none_behind) (stop s) z.back made.last z.second known (item.EndBody ∷ []) [] (stands_behind t z.front (z.back ++ []) at_body)
           (λ w. gives_end_body n 0 f [] (stop s ∷ w) e.is (gives_end n 0 s.at w)) in
       let inside = joined s t n 0 (statements trees ++ behind_statements f) y.back z.front z.back [] z.all
-          (functions_labels.body_follows s t fits f has refl e.suits y.between none begun (enough f.labels plan.labels y.between.labels (grown s f).labels (grows s (planless plan) ins y.front y.between y.first).labels) z.front z.between z.first known_behind (z.back ++ []) at_body last n) in
+          (functions_labels.body_follows s t fits f has refl e.suits y.between none begun choices (enough f.labels plan.labels y.between.labels (grown s f).labels (grows s (planless plan) ins y.front y.between y.first).labels) z.front z.between z.first known_behind (z.back ++ []) at_body last n) in
       let entered : Runs s t n ins (item.Enters f.scope ∷ []) 0 0 = subst (λ at. Runs s t n (object_jobs act.Enter at f.scope 0) (item.Enters f.scope ∷ []) 0 0) (sym fits.place) (enters s t fits n f.scope 0 0 named) in
       let front = entered.from (planless plan) refl y.front y.between y.first known_in (statements trees ++ behind_statements f) (y.back ++ []) at_front inside in
       let whole = joined s t n 0 (item.Enters f.scope ∷ (statements trees ++ behind_statements f)) (pieces t) y.front y.back [] y.all front in

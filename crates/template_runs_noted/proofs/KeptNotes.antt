@@ -11,7 +11,7 @@ use Rattle.flow_lower_statements.specs.Switches.{no_choice}
 use Rattle.flow_lower_tasks.specs.Scopes.{TreeView, with_new_scope, with_choice, with_case, with_default, with_label, scoped, all_scoped, case_place, case_noted, default_noted, default_noted_at}
 use Rattle.flow_lower_tasks.specs.declared.scope_trees.Choice.{Choice}
 use Rattle.template_runs_scopes.specs.Scopes.{switches_in, all_switches_in}
-use Rattle.template_runs_choices.proofs.GrownTrees.{choice_in, Grown, stays, grown, all_grown, case_grown, default_grown, choice_grown}
+use Rattle.template_runs_noted.proofs.GrownTrees.{choice_in, Grown, stays, grown, all_grown, case_grown, default_grown, choice_grown}
 
 pub just_below : (a : ℕ) → a < suc a
 just_below a = omega arith

@@ -17,10 +17,10 @@ use Rattle.template_runs_scopes.specs.Scopes.{scopes_in, all_scopes_in, switches
 use Rattle.template_runs_scopes.specs.SuitedStatements.{Enclosure, by_loop, by_switch, not_enclosed, SuitsIn, AllSuitIn}
 use Rattle.template_runs_scopes.proofs.ScopeTrees.{scoped_more, all_more, length_new, length_more}
 use Rattle.template_runs_choices.specs.Choices.{IsChoice, HasChoices, AllHaveChoices}
-use Rattle.template_runs_choices.proofs.GrownTrees.{choice_in, Grown, grown, all_grown, case_grown, default_grown, choice_grown}
-use Rattle.template_runs_choices.proofs.KeptNotes.{case_kept, all_case_kept, choice_kept, all_choice_kept, first_some, second_some, scope_grown, label_grown, new_begins, new_fallback, new_length, new_cases, just_below}
-use Rattle.template_runs_choices.proofs.NotedCases.{case_noted_in, case_scopes, default_scopes, label_scopes}
-use Rattle.template_runs_choices.proofs.NotedDefaults.{default_noted_in}
+use Rattle.template_runs_noted.proofs.GrownTrees.{choice_in, Grown, grown, all_grown, case_grown, default_grown, choice_grown}
+use Rattle.template_runs_noted.proofs.KeptNotes.{case_kept, all_case_kept, choice_kept, all_choice_kept, first_some, second_some, scope_grown, label_grown, new_begins, new_fallback, new_length, new_cases, just_below}
+use Rattle.template_runs_noted.proofs.NotedCases.{case_noted_in, case_scopes, default_scopes, label_scopes}
+use Rattle.template_runs_noted.proofs.NotedDefaults.{default_noted_in}
 
 further : (c b a d : ℕ) → c < b → d ≡ b + a → c < d
 further c b a d less e = omega (arith, less, e)
@@ -234,11 +234,11 @@ module _ (s : SettingView) where
       has (tree.Case m body) enclosed known suits k c place low lowc t x le lec b =
           let o = with_case c m k t in
           let g = case_grown c m k t in
-          labelled body k t o (case_scopes c m k t) g.choices (has body enclosed known suits k c place low lowc o (inner_on 0 t o c place low lowc (λ j. cases_in j body) (defaults_in body) g (inner_second t c place low lowc (λ j. one j m) (λ j. cases_in j body) 0 (defaults_in body) x)) (through low (length t.cases) (length o.cases) le g.cases) (at_least lowc (length t.choices) 0 (length o.choices) lec g.choices) b)
+          labelled body k t o (case_scopes c m k t) g.choices (has body enclosed known suits k c place low lowc o (inner_on 0 t o c place low lowc (λ j. cases_in j body) (defaults_in body) g (record { cases = λ j some. x.cases j (second_some (one j m) (cases_in j body) some); default = x.default })) (through low (length t.cases) (length o.cases) le g.cases) (at_least lowc (length t.choices) 0 (length o.choices) lec g.choices) b)
       has (tree.Default body) enclosed known suits k c place low lowc t x le lec b =
           let o = with_default c k t in
           let g = default_grown c k t in
-          labelled body k t o (default_scopes c k t) g.choices (has body enclosed known suits k c place low lowc o (inner_on 0 t o c place low lowc (λ j. cases_in j body) (defaults_in body) g (inner_second t c place low lowc (λ j. 0) (λ j. cases_in j body) 1 (defaults_in body) x)) (through low (length t.cases) (length o.cases) le g.cases) (at_least lowc (length t.choices) 0 (length o.choices) lec g.choices) b)
+          labelled body k t o (default_scopes c k t) g.choices (has body enclosed known suits k c place low lowc o (inner_on 0 t o c place low lowc (λ j. cases_in j body) (defaults_in body) g (record { cases = x.cases; default = λ some. x.default (second_some 1 (defaults_in body) some) })) (through low (length t.cases) (length o.cases) le g.cases) (at_least lowc (length t.choices) 0 (length o.choices) lec g.choices) b)
       has (tree.Label m body) enclosed known suits k c place low lowc t x le lec b =
           let o = with_label m k t in
           let g = label_grown m k t in
@@ -262,8 +262,8 @@ module _ (s : SettingView) where
 
 -- ---- the switches of a function
 
-pub of_function : (s : SettingView) (u : UnitView) (f : FunctionView) (enclosed : Enclosure) (known : List ℕ) → s.scopes ≡ function_scopes f → AllSuitIn u f enclosed known (statement_trees f.body) → IsLabelled f → length (function_scopes f).cases ≤ 2 ^ 32 - 1 → AllHaveChoices s (statement_trees f.body) 1 2 0
-of_function s u f enclosed known is suits labelled few =
+pub noted : (s : SettingView) (u : UnitView) (f : FunctionView) (enclosed : Enclosure) (known : List ℕ) → s.scopes ≡ function_scopes f → AllSuitIn u f enclosed known (statement_trees f.body) → IsLabelled f → length (function_scopes f).cases ≤ 2 ^ 32 - 1 → AllHaveChoices s (statement_trees f.body) 1 2 0
+noted s u f enclosed known is suits labelled few =
     let start = no_scopes f.labels in
     let outer = with_new_scope 0 [] start in
     let inner = with_new_scope 0 f.scope outer in
