@@ -36,8 +36,8 @@ some_is : (x to : List Item) → Some x ≡ Some to → x ≡ to
 some_is x to e = cc
 
 -- all scopes that are open behind are open there
-all_open : (here there more : List (List ℕ)) → there ≡ more ++ here → all_of there ≡ all_of more ++ all_of here
-all_open here there more e = ap all_of e ∙ all_on more
+all_open : (here known more : List (List ℕ)) → known ≡ more ++ here → all_of known ≡ all_of more ++ all_of here
+all_open here known more e = ap all_of e ∙ all_on more
   where
     all_on : (more : List (List ℕ)) → all_of (more ++ here) ≡ all_of more ++ all_of here
     all_on [] = refl
@@ -47,8 +47,8 @@ all_open here there more e = ap all_of e ∙ all_on more
         assoc [] ys zs = refl
         assoc (x ∷ xs) ys zs = ap (λ us. x ∷ us) (assoc xs ys zs)
 
-none_left : (here there : List (List ℕ)) (more : List (List ℕ)) → there ≡ more ++ here → without (all_of there) (all_of here) ≡ []
-none_left here there more e = subst (λ known. without known (all_of here) ≡ []) (sym (all_open here there more e)) (all_in (all_of more ++ all_of here) (all_of here) (self_in (all_of here) (all_of more)))
+none_left : (here known more : List (List ℕ)) → known ≡ more ++ here → without (all_of known) (all_of here) ≡ []
+none_left here known more e = subst (λ xs. without xs (all_of here) ≡ []) (sym (all_open here known more e)) (all_in (all_of more ++ all_of here) (all_of here) (self_in (all_of here) (all_of more)))
 
 -- the way behind a label that is found
 record IsDeep (scopes : List (List ℕ)) (to : List Item) : Type 0 where

@@ -49,11 +49,11 @@ grows_on a b t u v x y = record {
     still : (q b a c : ℕ) → q < b → c ≡ b + a → q < c
     still q b a c less e = omega (arith, less, e)
 
-scope_grown : (k : ℕ) (objects : List ℕ) (t : TreeView) → Grown 0 t (with_new_scope k objects t)
+pub scope_grown : (k : ℕ) (objects : List ℕ) (t : TreeView) → Grown 0 t (with_new_scope k objects t)
 unfolding with_new_scope
 scope_grown k objects t = stays t (with_new_scope k objects t) refl refl
 
-label_grown : (n k : ℕ) (t : TreeView) → Grown 0 t (with_label n k t)
+pub label_grown : (n k : ℕ) (t : TreeView) → Grown 0 t (with_label n k t)
 unfolding with_label
 label_grown n k t = stays t (with_label n k t) refl refl
 

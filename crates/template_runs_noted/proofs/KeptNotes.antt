@@ -11,7 +11,7 @@ use Rattle.flow_lower_statements.specs.Switches.{no_choice}
 use Rattle.flow_lower_tasks.specs.Scopes.{TreeView, with_new_scope, with_choice, with_case, with_default, with_label, scoped, all_scoped, case_place, case_noted, default_noted, default_noted_at}
 use Rattle.flow_lower_tasks.specs.declared.scope_trees.Choice.{Choice}
 use Rattle.template_runs_scopes.specs.Scopes.{switches_in, all_switches_in}
-use Rattle.template_runs_noted.proofs.GrownTrees.{choice_in, Grown, stays, grown, all_grown, case_grown, default_grown, choice_grown}
+use Rattle.template_runs_noted.proofs.GrownTrees.{choice_in, Grown, scope_grown, label_grown, grown, all_grown, case_grown, default_grown, choice_grown}
 
 pub just_below : (a : ℕ) → a < suc a
 just_below a = omega arith
@@ -112,12 +112,6 @@ other_case c n k t q place begins apart = case_elsewhere (slice_get t.choices c)
 
 pub one_there : (n a : ℕ) → 1 ≤ one n n + a
 one_there n a = first_some (one n n) a (subst (λ x. 1 ≤ x) (sym (one_self n)) (omega arith))
-
-pub scope_grown : (k : ℕ) (objects : List ℕ) (t : TreeView) → Grown 0 t (with_new_scope k objects t)
-scope_grown k objects t = stays t (with_new_scope k objects t) (scope_choices k objects t) (scope_cases k objects t)
-
-pub label_grown : (n k : ℕ) (t : TreeView) → Grown 0 t (with_label n k t)
-label_grown n k t = stays t (with_label n k t) (label_choices n k t) (label_cases n k t)
 
 module _ (q : ℕ) (few : q < 2 ^ 32 - 1) where
   mutual

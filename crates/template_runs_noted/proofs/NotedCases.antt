@@ -17,8 +17,8 @@ use Rattle.template_runs_scopes.specs.Scopes.{scopes_in, all_scopes_in, switches
 use Rattle.template_runs_scopes.specs.SuitedStatements.{Enclosure, by_loop, by_switch, SuitsIn, AllSuitIn}
 use Rattle.template_runs_scopes.proofs.ScopeTrees.{scoped_more, all_more, length_new, length_more}
 use Rattle.template_runs_noted.proofs.CountedLabels.{case_counted, all_case_counted, default_counted, all_default_counted, plains_defaults}
-use Rattle.template_runs_noted.proofs.GrownTrees.{choice_in, Grown, grown, all_grown, case_grown, default_grown, choice_grown}
-use Rattle.template_runs_noted.proofs.KeptNotes.{OwnCases, OwnDefaults, case_kept, all_case_kept, choice_kept, all_choice_kept, first_some, second_some, one_there, scope_grown, label_grown, new_length, new_choice, just_below}
+use Rattle.template_runs_noted.proofs.GrownTrees.{choice_in, Grown, grown, all_grown, case_grown, default_grown, choice_grown, scope_grown, label_grown}
+use Rattle.template_runs_noted.proofs.KeptNotes.{OwnCases, OwnDefaults, case_kept, all_case_kept, choice_kept, all_choice_kept, first_some, second_some, one_there, new_length, new_choice, just_below}
 
 -- ---- numbers
 

@@ -15,8 +15,8 @@ use Rattle.template_runs_scopes.specs.Scopes.{scopes_in, all_scopes_in, switches
 use Rattle.template_runs_scopes.specs.SuitedStatements.{Enclosure, by_loop, SuitsIn, AllSuitIn}
 use Rattle.template_runs_scopes.proofs.ScopeTrees.{scoped_more, all_more, length_new, length_more}
 use Rattle.template_runs_noted.proofs.CountedLabels.{default_counted, all_default_counted, plains_defaults}
-use Rattle.template_runs_noted.proofs.GrownTrees.{choice_in, grown, all_grown, case_grown, default_grown, choice_grown}
-use Rattle.template_runs_noted.proofs.KeptNotes.{choice_kept, all_choice_kept, scope_grown, label_grown, scope_choices, label_choices, case_choices, new_length, new_choice, just_below}
+use Rattle.template_runs_noted.proofs.GrownTrees.{choice_in, grown, all_grown, case_grown, default_grown, choice_grown, scope_grown, label_grown}
+use Rattle.template_runs_noted.proofs.KeptNotes.{choice_kept, all_choice_kept, scope_choices, label_choices, case_choices, new_length, new_choice, just_below}
 use Rattle.template_runs_noted.proofs.NotedCases.{case_scopes, default_scopes, label_scopes}
 
 first_once : (a b : ℕ) → a + b ≤ 1 → a ≤ 1
