@@ -14,6 +14,7 @@ use Rattle.ref_machine.specs.LabelSearch.{label, from_label}
 use Rattle.ref_machine.specs.StatementItems.{statements}
 use Rattle.template_runs.specs.TemplateStates.{Templates}
 use Rattle.template_runs_follow.specs.Follows.{Follows}
+use Rattle.template_runs_follow.proofs.FewerTurns.{less}
 use Rattle.template_runs_works.specs.TemplateParts.{IsOfUnit, IsKnown, Stands}
 use Rattle.template_runs_scopes.specs.Chains as chains
 use Rattle.template_runs_scopes.specs.Contexts.{Reaches, LabelsReach, LabelsReachBefore, Within}
@@ -41,22 +42,22 @@ never never_so = cc
 
 module _ (s : SettingView) (t : Templates) (fits : IsOfUnit t s) (f : FunctionView) (has : HasLabels t s f) (is_entry : s.is_entry ≡ true) (suits : AllSuitIn t.unit f not_enclosed (f.scope ++ []) (statement_trees f.body))
     (q : Plan) (none : q.jobs ≡ []) (begun : position q ≡ numbers 2 0) (choices : AllHaveChoices s (statement_trees f.body) 1 2 0) (few : f.labels ≤ q.labels) (ps : List PieceView) (r : Plan) (made : Makes s q (statement_jobs (statement_trees f.body) (outermost s.end)) ps r) (known : IsKnown t r)
-    (rest : List PieceView) (stands : Stands t (ps ++ rest)) (last : (n : ℕ) → Follows t n 0 (behind_statements f) rest) where
+    (rest : List PieceView) (stands : Stands t (ps ++ rest)) where
   -- no loop is around the statements of a function
   body_within : (n : ℕ) → LabelsReachBefore t n → Within s t n (outermost s.end) not_enclosed (f.scope ++ []) (behind_statements f)
   body_within n before = record { within = λ x there. there; chain = chains.inside 1 0 f.scope [] has.outermost chains.outermost; labels = before; on_break = λ no. absurd (never no); on_continue = λ no. absurd (never no) }
 
-  labels_reach : (n : ℕ) → LabelsReachBefore t n → LabelsReach t n
-  labels_reach n before g is l to less from =
+  labels_reach : (n : ℕ) → LabelsReachBefore t n → Follows t n 0 (behind_statements f) rest → LabelsReach t n
+  labels_reach n before last g is l to there from =
       let same = same_function g f (sym is ∙ has.is) in
       let is_to = same_found t.unit (label l) f.body (behind_statements f) ∙ subst (λ h. from_label t.unit h l ≡ Some to) same from in
       (all_finds s t fits f has is_entry (statement_trees f.body) n (outermost s.end) not_enclosed (f.scope ++ []) (numbers 2 0) suits (has.body, choices)).from
-      q none begun ps r made known (behind_statements f) rest stands (body_within n before) (last n) (label l) l (of_label l (more_labels f.labels q.labels l few (subst (λ h. l < h.labels) same less))) to is_to
+      q none begun ps r made known (behind_statements f) rest stands (body_within n before) last (label l) l (of_label l (more_labels f.labels q.labels l few (subst (λ h. l < h.labels) same there))) to is_to
 
-  pub labels_before : (n : ℕ) → LabelsReachBefore t n
-  labels_before zero = tt
-  labels_before (suc n) = labels_reach n (labels_before n)
+  pub labels_before : (n : ℕ) → Follows t n 0 (behind_statements f) rest → LabelsReachBefore t n
+  labels_before zero last = tt
+  labels_before (suc n) last = let fewer = less n 0 (behind_statements f) rest last in labels_reach n (labels_before n fewer) fewer
 
   -- so the statements of the function follow
-  pub body_follows : (n : ℕ) → Follows t n 0 (statements (statement_trees f.body) ++ behind_statements f) (ps ++ rest)
-  body_follows n = (all_about s t fits f has is_entry (statement_trees f.body) n (outermost s.end) not_enclosed (f.scope ++ []) (numbers 2 0) suits (has.body, choices)).from q none begun ps r made known (behind_statements f) rest stands (body_within n (labels_before n)) (last n)
+  pub statements_go : (n : ℕ) → Follows t n 0 (behind_statements f) rest → Follows t n 0 (statements (statement_trees f.body) ++ behind_statements f) (ps ++ rest)
+  statements_go n last = (all_about s t fits f has is_entry (statement_trees f.body) n (outermost s.end) not_enclosed (f.scope ++ []) (numbers 2 0) suits (has.body, choices)).from q none begun ps r made known (behind_statements f) rest stands (body_within n (labels_before n last)) last

@@ -11,3 +11,4 @@ pub mod Switches
 pub mod Statements
 pub mod FunctionLabels
 pub mod CoveredCases
+pub mod Bodies

@@ -228,14 +228,14 @@ unfolding with_name
 name_last x q = refl
 
 module _ (t : Templates) (f : FunctionView) (is : function_at t.unit t.unit.entry ≡ Some f) where
-  of_entry : (o : ObjectRef) → entry_type t o ≡ object_type t.unit f o
-  of_entry (ref.Static m) = refl
-  of_entry (ref.Local m) = ap (λ g. local_of g m) is
+  named_type : (o : ObjectRef) → entry_type t o ≡ object_type t.unit f o
+  named_type (ref.Static m) = refl
+  named_type (ref.Local m) = ap (λ g. local_of g m) is
 
   same_by : (o : ObjectRef) (kind : Scalar) → IsReadAs (object_type t.unit f o) kind → (q : Plan) → IsKnown t (mention_of (record { object = o; kind = kind }) kind q).after → SameSwitched t (Some (record { object = o; kind = kind })) (mention_of (record { object = o; kind = kind }) kind q).base
   same_by o (scalar.Int kind) reads q known =
       subst (λ k. SameSwitched t (Some (record { object = o; kind = scalar.Int k })) (Some (length q.names))) (sym reads.2)
-      (follows.integers o (length q.names) reads.0 (known_name t (with_name (name_of_object o) q) q.names (name_of_object o) known (name_last (name_of_object o) q)) (of_entry o ∙ reads.1))
+      (follows.integers o (length q.names) reads.0 (known_name t (with_name (name_of_object o) q) q.names (name_of_object o) known (name_last (name_of_object o) q)) (named_type o ∙ reads.1))
   same_by o scalar.Pointer reads q known = follows.no_integer o
 
   pub same_switched : (o : Option NamedObject) → IsSwitchedOn t.unit f o → (q : Plan) → IsKnown t (mention_if o q).after → SameSwitched t o (mention_if o q).base

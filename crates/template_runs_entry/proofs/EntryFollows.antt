@@ -18,7 +18,6 @@ use Rattle.flow_lower_functions.specs.Turns.{planless}
 use Rattle.flow_lower_growth.specs.Growth.{Grows}
 use Rattle.flow_lower_growth.proofs.Growth.{works, grows_not}
 use Rattle.flow_lower_growth.proofs.GrowingStatements.{grows_entered, grows_statements, grows_left}
-use Rattle.flow_lower_growth.proofs.GrowingWorks.{grows, jobs_none}
 use Rattle.flow_lower_marks.proofs.MarkedTemplates.{marked_once}
 use Rattle.flow_lower_works.specs.Derivations.{Makes, IsDerived}
 use Rattle.flow_lower_works.proofs.Derivations.{parted, derived}
@@ -37,22 +36,18 @@ use Rattle.template_runs_follow.proofs.Constructions.{gives_end}
 use Rattle.template_runs_follow.proofs.FewerTurns.{less}
 use Rattle.template_runs_follow.proofs.TurnsFollow.{runs_agree}
 use Rattle.template_runs_works.specs.TemplateParts.{IsOfUnit, IsKnown, Stands}
-use Rattle.template_runs_works.proofs.Runs.{Runs, then_ends, stands_behind, joined, split}
+use Rattle.template_runs_works.proofs.Runs.{headed, joined, split}
 use Rattle.template_runs_works.proofs.Assignments.{one_more_job}
 use Rattle.template_runs_works.proofs.Laying.{known_between}
 use Rattle.template_runs_scopes.specs.SuitedStatements.{not_enclosed}
 use Rattle.template_runs_scopes.proofs.FunctionBodies.{same_statements}
-use Rattle.template_runs_scopes.proofs.Objects.{object_jobs, objects_are_terms, entered_planned, left_planned, named_from, locals, enters, leaves}
+use Rattle.template_runs_scopes.proofs.Objects.{object_jobs, entered_planned, left_planned, named_from, locals}
 use Rattle.template_runs_scopes.proofs.Positions.{position, numbers}
 use Rattle.template_runs_scopes.proofs.ScopeTrees.{OfFunction, of_function}
 use Rattle.template_runs_labels.proofs.FoundLabels.{found_there}
-use Rattle.template_runs_noted.proofs.NotedChoices.{noted}
 use Rattle.template_runs_gotos.specs.Gotos.{HasLabels}
 use Rattle.template_runs_statements.proofs.Sequences.{statement_jobs, listed}
-use Rattle.template_runs_statements.proofs.Selections.{count_terms}
-use Rattle.template_runs_bodies.proofs.CoveredCases.{few_cases}
-use Rattle.template_runs_bodies.proofs.FunctionLabels as functions_labels
-use Rattle.template_runs_bodies.proofs.FunctionLabels.{behind_statements}
+use Rattle.template_runs_bodies.proofs.Bodies.{body_items, body_jobs, body_from}
 use Rattle.template_runs_entry.specs.Entries.{IsEntry}
 
 gives_end_body : {t : Templates} (n d : ℕ) (f : FunctionView) (items : List Item) (ps : List PieceView) → function_at t.unit t.unit.entry ≡ Some f → Follows t n d [] ps → Follows t n d (item.EndBody ∷ items) ps
@@ -103,8 +98,8 @@ entry_planned s f =
 grown : (s : SettingView) (f : FunctionView) → Grows (no_plan f.labels) (functions.entry s f (no_plan f.labels))
 grown s f = let start = grows_not (no_plan f.labels) in search (works, grows_entered, grows_statements, grows_left) depth 40
 
-enough : (a b c : ℕ) → a + 1 ≤ b → b ≤ c → a ≤ c
-enough a b c x y = omega (arith, x, y)
+enough : (a b : ℕ) → a + 1 ≤ b → a ≤ b
+enough a b x = omega (arith, x)
 
 at_most_once : (b : Bool) (a : ℕ) → a ≤ cond b 1 0 → a ≤ 1
 at_most_once true a le = le
@@ -137,37 +132,22 @@ module _ (t : Templates) (f : FunctionView) (e : IsEntry t f) where
       let trees = statement_trees f.body in
       let js = statement_jobs trees (outermost s.end) in
       let x = entry_planned s f in
-      let ins = object_jobs act.Enter s.at f.scope 0 in
-      let outs = object_jobs act.Leave s.at f.scope (length (locals f.scope)) in
-      let ends : List Job = outs ++ jobs.Ready (stop s) ∷ [] in
-      let in_turn = append_assoc ins (js ++ outs) (jobs.Ready (stop s) ∷ []) ∙ ap (λ ks. ins ++ ks) (append_assoc js outs (jobs.Ready (stop s) ∷ [])) in
-      let m = subst (λ ks. Makes s (planless plan) ks (pieces t) made.last) (x.jobs ∙ in_turn) made.pieces in
-      let known_all = known_between s t (planless plan) (ins ++ (js ++ ends)) (pieces t) made.last m known in
-      let choices = noted s t.unit f not_enclosed (f.scope ++ []) refl e.suits e.labelled (few_cases s f (outermost s.end) (planless plan) refl ins ends (pieces t) made.last m known.labels) in
+      let all = body_jobs s f 0 (length (locals f.scope)) in
+      let m = subst (λ ks. Makes s (planless plan) ks (pieces t) made.last) x.jobs made.pieces in
+      let known_all = known_between s t (planless plan) (all ++ jobs.Ready (stop s) ∷ []) (pieces t) made.last m known in
       let named = named_from t (planless plan) [] f.scope (locals f.scope) known_all x.names in
       let again = named_from t (planless plan) (locals f.scope) f.scope [] known_all (x.names ∙ ap (λ ns. locals f.scope ++ ns) (sym (append-nil (locals f.scope)))) in
-      let y = parted s (planless plan) ins (js ++ ends) (pieces t) made.last m in
-      let z = parted s y.between js ends y.back made.last y.second in
-      let none = jobs_none s (planless plan) ins y.front y.between y.first refl in
-      let none_behind = jobs_none s y.between js z.front z.between z.first none in
-      let known_in = known_between s t y.between (js ++ ends) y.back made.last y.second known in
-      let known_behind = known_between s t z.between ends z.back made.last z.second known in
-      let begun = count_terms s (numbers 2 0) ins (objects_are_terms act.Enter s.at f.scope 0) (planless plan) refl x.scopes y.front y.between y.first in
+      let y = parted s (planless plan) all (jobs.Ready (stop s) ∷ []) (pieces t) made.last m in
+      let z = headed s y.between (stop s) [] y.back made.last y.second in
       let stands : Stands t (pieces t ++ []) = record { front = []; all = sym (append-nil (pieces t)) } in
-      let at_front = split s t n (pieces t) y.front y.back [] y.all stands in
-      let at_body = split s t n y.back z.front z.back [] z.all (stands_behind t y.front (y.back ++ []) at_front) in
-      let last : (n : ℕ) → Follows t n 0 (behind_statements f) (z.back ++ []) = λ n.
-          let left : Runs s t n outs (item.Leaves f.scope ∷ []) 0 0 = subst (λ at. Runs s t n (object_jobs act.Leave at f.scope (length (locals f.scope))) (item.Leaves f.scope ∷ []) 0 0) (sym fits.place) (leaves s t fits n f.scope (length (locals f.scope)) 0 again) in
-          then_ends s t n outs (item.Leaves f.scope ∷ []) 0 0 z.between none_behind (left.from z.between none_behind) (stop s) z.back made.last z.second known (item.EndBody ∷ []) [] (stands_behind t z.front (z.back ++ []) at_body)
-          (λ w. gives_end_body n 0 f [] (stop s ∷ w) e.is (gives_end n 0 s.at w)) in
-      let inside = joined s t n 0 (statements trees ++ behind_statements f) y.back z.front z.back [] z.all
-          (functions_labels.body_follows s t fits f has refl e.suits y.between none begun choices (enough f.labels plan.labels y.between.labels (grown s f).labels (grows s (planless plan) ins y.front y.between y.first).labels) z.front z.between z.first known_behind (z.back ++ []) at_body last n) in
-      let entered : Runs s t n ins (item.Enters f.scope ∷ []) 0 0 = subst (λ at. Runs s t n (object_jobs act.Enter at f.scope 0) (item.Enters f.scope ∷ []) 0 0) (sym fits.place) (enters s t fits n f.scope 0 0 named) in
-      let front = entered.from (planless plan) refl y.front y.between y.first known_in (statements trees ++ behind_statements f) (y.back ++ []) at_front inside in
-      let whole = joined s t n 0 (item.Enters f.scope ∷ (statements trees ++ behind_statements f)) (pieces t) y.front y.back [] y.all front in
+      let here = split s t n (pieces t) y.front y.back [] y.all stands in
+      let end : Follows t n 0 (item.EndBody ∷ []) (y.back ++ []) = subst (λ xs. Follows t n 0 (item.EndBody ∷ []) (xs ++ [])) (sym z.is) (gives_end_body n 0 f [] (stop s ∷ (z.back ++ [])) e.is (gives_end n 0 s.at (z.back ++ []))) in
+      let front = body_from s t fits f has refl e.suits e.labelled n 0 (length (locals f.scope)) named again (planless plan) refl x.scopes (enough f.labels plan.labels (grown s f).labels) y.front y.between y.first (known_between s t y.between (jobs.Ready (stop s) ∷ []) y.back made.last y.second known) (y.back ++ []) here end in
+      let whole = joined s t n 0 (body_items f (item.EndBody ∷ [])) (pieces t) y.front y.back [] y.all front in
       subst (λ xs. Follows t n 0 xs (pieces t)) (sym (ap body_of e.is))
-      (subst (λ xs. Follows t n 0 (item.Enters f.scope ∷ (xs ++ behind_statements f)) (pieces t)) (same_statements f.body)
-      (subst (λ ps. Follows t n 0 (item.Enters f.scope ∷ (statements trees ++ behind_statements f)) ps) (append-nil (pieces t)) whole))
+      (subst (λ xs. Follows t n 0 (item.Enters f.scope ∷ (xs ++ (item.Leaves f.scope ∷ (item.EndBody ∷ [])))) (pieces t)) (same_statements f.body)
+      (subst (λ xs. Follows t n 0 (item.Enters f.scope ∷ xs) (pieces t)) (append_assoc (statements trees) (item.Leaves f.scope ∷ []) (item.EndBody ∷ []))
+      (subst (λ ps. Follows t n 0 (body_items f (item.EndBody ∷ [])) ps) (append-nil (pieces t)) whole)))
 
   pub followed : (draws : List ℤ) (turns : ℕ) → (steps : ℕ) × Agree (Run t.unit draws turns) (steps_from t steps (template_begin t draws))
   followed draws turns = runs_agree t body_follows draws turns
