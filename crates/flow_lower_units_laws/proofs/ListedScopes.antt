@@ -14,7 +14,7 @@ use Rattle.flow_lower_units.specs.ScopeObjects.{all_marked, scopes_marked, all_s
 use Rattle.ref_machine.specs.Scopes.{is_in}
 use Rattle.template_runs_scopes.specs.Scopes.{IsScope}
 use Rattle.template_runs_scopes.specs.SuitedStatements.{AreNew}
-use Rattle.template_runs_ways.specs.Chains.{AreApart}
+use Rattle.template_runs_scopes.specs.Chains.{AreApart}
 use Rattle.flow_lower_units_laws.proofs.MarkedObjects.{clash, are_new, is_marked, Marks, none, then, marks_all, FunctionMarks, function_marks}
 
 -- ---- lists of objects, scope by scope

@@ -9,7 +9,7 @@ use Rattle.flow_lower_tasks.specs.Settings.{SettingView}
 use Rattle.flow_lower_units.specs.ScopeObjects.{has_own_objects}
 use Rattle.ref_machine.specs.Scopes.{is_in}
 use Rattle.template_runs_scopes.specs.SuitedStatements.{AreNew}
-use Rattle.template_runs_ways.specs.Chains.{AreApart}
+use Rattle.template_runs_scopes.specs.Chains.{AreApart}
 
 abbrev mutual
   -- no scope in a statement has an object of those around it

@@ -1,70 +1,51 @@
--- The body of a function follows in its pieces, between what is entered and what is left.
-use Rattle.std.proofs.Common.{◌≡◌, ◌≤◌, ◌<◌, ℕ, ◌+◌, true, false, List, [], ◌∷◌, ◌++◌, length, Some, refl, arith, ap, sym, subst, ◌∙◌, append_assoc}
-use Rattle.c_layout.specs.CheckedTrees.{StatementTree, statement_trees}
+-- What the entry and the functions that are called want of their bodies.
+use Rattle.std.proofs.Common.{◌≡◌, ◌≤◌, ◌<◌, ℕ, Bool, true, false, cond, nat_lt, List, [], ◌∷◌, ◌++◌, Some, refl, arith, ap, ◌∙◌, append_assoc}
+use Rattle.c_layout.specs.CheckedTrees.{statement_trees}
 use Rattle.c_layout.specs.CheckedUnits.{FunctionView}
-use Rattle.flow_lower_tasks.specs.Acts as act
+use Rattle.flow_lower_debts.specs.Marks.{all_labels_in, IsLabelled}
 use Rattle.flow_lower_tasks.specs.Plans.{Plan, with_work}
+use Rattle.flow_lower_tasks.specs.Scopes.{function_scopes}
 use Rattle.flow_lower_tasks.specs.Settings.{SettingView}
 use Rattle.flow_lower_tasks.specs.Works.{Job}
-use Rattle.flow_lower_functions.specs.Functions.{outermost}
 use Rattle.ref_machine.specs.Items as item
-use Rattle.ref_machine.specs.Items.{Item}
 use Rattle.ref_machine.specs.SourceStates.{function_at}
-use Rattle.ref_machine.specs.StatementItems.{statements, list_statements, body}
+use Rattle.ref_machine.specs.StatementItems.{statements, body}
 use Rattle.template_runs_follow.specs.Activations.{Activation}
-use Rattle.template_runs_works.specs.TemplateParts.{IsOfUnit, Ends}
-use Rattle.template_runs_scopes.specs.Contexts as contexts
-use Rattle.template_runs_scopes.specs.Contexts.{Within}
-use Rattle.template_runs_scopes.specs.Scopes.{all_scopes_in}
-use Rattle.template_runs_scopes.specs.SuitedStatements.{AllSuitIn}
-use Rattle.template_runs_scopes.proofs.InScopes.{Goes}
-use Rattle.template_runs_scopes.proofs.Objects.{object_jobs, NamedFrom}
-use Rattle.template_runs_statements.proofs.Sequences.{statement_jobs, enclosed}
-use Rattle.template_runs_statements.proofs.Statements.{all_about}
-use Rattle.template_runs_entry.proofs.ScopeTrees.{OfFunction}
+use Rattle.template_runs_scopes.specs.Chains.{AreApart}
+use Rattle.template_runs_scopes.specs.SuitedStatements.{not_enclosed, AllSuitIn}
+use Rattle.template_runs_scopes.proofs.FunctionBodies.{same_statements}
+use Rattle.template_runs_scopes.proofs.Positions.{position}
+use Rattle.template_runs_scopes.proofs.ScopeTrees.{OfFunction, of_function}
+use Rattle.template_runs_labels.proofs.FoundLabels.{found_there}
+use Rattle.template_runs_gotos.specs.Gotos.{HasLabels}
+use Rattle.template_runs_bodies.proofs.Bodies.{body_items}
 
 pub work_names : (j : Job) (p : Plan) → (with_work j p).names ≡ p.names
 unfolding with_work
 work_names j p = refl
 
-pub work_scopes : (j : Job) (p : Plan) → (with_work j p).scopes ≡ p.scopes
+pub work_scopes : (j : Job) (p : Plan) → position (with_work j p) ≡ position p
 unfolding with_work
 work_scopes j p = refl
-
--- ---- its items
-
-same_statements : (xs : List StatementTree) → statements (statement_trees xs) ≡ list_statements xs
-same_statements [] = refl
-same_statements (x ∷ xs) = ap (λ ys. item.Statement x ∷ ys) (same_statements xs)
-
-abbrev pub body_items : FunctionView → List Item → List Item
-body_items f items = item.Enters f.scope ∷ ((statements (statement_trees f.body) ++ item.Leaves f.scope ∷ []) ++ items)
 
 pub body_is : (f : FunctionView) → body_items f (item.EndBody ∷ []) ≡ body f
 body_is f =
     ap (λ xs. item.Enters f.scope ∷ xs) (append_assoc (statements (statement_trees f.body)) (item.Leaves f.scope ∷ []) (item.EndBody ∷ []))
     ∙ ap (λ xs. item.Enters f.scope ∷ (xs ++ (item.Leaves f.scope ∷ (item.EndBody ∷ [])))) (same_statements f.body)
 
--- ---- and its works
+at_most_once : (b : Bool) (a : ℕ) → a ≤ cond b 1 0 → a ≤ 1
+at_most_once true a le = le
+at_most_once false a le = omega (arith, le)
 
-module _ (t : Activation) (s : SettingView) (fits : IsOfUnit t s) (f : FunctionView) (is : function_at t.unit t.function ≡ Some f) (scopes : OfFunction s f) (suits : AllSuitIn t.unit false (f.scope ++ []) (statement_trees f.body)) where
-  outside : (n : ℕ) (items : List Item) → items ≡ item.EndBody ∷ [] → Within s t n (outermost s.end) false (f.scope ++ []) (item.Leaves f.scope ∷ items)
-  outside n items is = subst (λ xs. Within s t n (outermost s.end) false (f.scope ++ []) (item.Leaves f.scope ∷ xs)) (sym is)
-      (record { within = λ x there. there; enough = at_most 1 (length s.scopes.scopes) scopes.outermost.there; home = contexts.out 1 0 0 f.scope [] one scopes.outermost (contexts.here 0); on_break = λ no. absurd (never no); on_continue = λ no. absurd (never no) })
-    where
-      never : false ≡ true → ⊥
-      never never_so = cc
-
-      one : 0 < 1
-      one = omega arith
-
-      at_most : (a b : ℕ) → a < b → a ≤ b
-      at_most a b less = omega (arith, less)
-
-  -- behind it the function ends
-  pub body_goes : Ends s t f → (n first second : ℕ) → NamedFrom t first f.scope → NamedFrom t second f.scope
-      → Goes s t n 2 (2 + all_scopes_in (statement_trees f.body)) (λ items. items ≡ item.EndBody ∷ []) (object_jobs act.Enter s.at f.scope first ++ (statement_jobs (statement_trees f.body) (outermost s.end) ++ object_jobs act.Leave s.at f.scope second)) (item.Enters f.scope ∷ (statements (statement_trees f.body) ++ item.Leaves f.scope ∷ []))
-  body_goes ends n first second named again =
-      let trees = statement_trees f.body in
-      enclosed s t fits n 2 (2 + all_scopes_in trees) f.scope first second (λ items. items ≡ item.EndBody ∷ []) (Within s t n (outermost s.end) false (f.scope ++ [])) (statement_jobs trees (outermost s.end)) (statements trees) (outside n) named again
-      (all_about s t fits f is ends trees n (outermost s.end) false (f.scope ++ []) 2 suits scopes.body)
+pub has_labels : (t : Activation) (s : SettingView) (f : FunctionView) → function_at t.unit t.function ≡ Some f → s.scopes ≡ function_scopes f → AreApart s → IsLabelled f → AllSuitIn t.unit f not_enclosed (f.scope ++ []) (statement_trees f.body) → HasLabels t s f
+has_labels t s f is tree apart labelled suits =
+    let scopes : OfFunction s f = of_function s f tree in
+    record {
+      is = is;
+      tree = tree;
+      apart = apart;
+      outermost = scopes.outermost;
+      body = scopes.body;
+      once = λ l. at_most_once (nat_lt l f.labels) (all_labels_in l (statement_trees f.body)) (labelled.labels l);
+      found = λ l there. found_there t.unit f not_enclosed (f.scope ++ []) suits l there;
+    }

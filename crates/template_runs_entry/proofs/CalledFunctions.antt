@@ -28,7 +28,7 @@ use Rattle.ref_machine.specs.SourceSteps.{place_of}
 use Rattle.template_runs.specs.TemplateStates.{Templates}
 use Rattle.template_runs_follow.specs.Activations.{Activation, activation}
 use Rattle.template_runs_follow.specs.Follows as follows
-use Rattle.template_runs_follow.specs.Follows.{Names, Leads, Follows, AllFollow, IsCalled, pieces, own}
+use Rattle.template_runs_follow.specs.Follows.{Names, Leads, Follows, AllFollow, CallsThere, IsCalled, pieces, own}
 use Rattle.template_runs_follow.proofs.Constructions.{gives_end_body, gives_back}
 use Rattle.template_runs_works.specs.TemplateParts as parts_of
 use Rattle.template_runs_works.specs.TemplateParts.{IsOfUnit, IsKnown, Stands, Ends}
@@ -38,10 +38,11 @@ use Rattle.template_runs_works.proofs.Laying.{known_between}
 use Rattle.template_runs_scopes.proofs.KeptScopes.{AreTerms}
 use Rattle.template_runs_scopes.proofs.ScopesOfTerms.{scopes_kept}
 use Rattle.template_runs_scopes.proofs.Objects.{object_jobs, objects_are_terms, leaves, NamedFrom, named_from, locals}
+use Rattle.template_runs_scopes.proofs.Positions.{position, numbers}
 use Rattle.template_runs_statements.proofs.Sequences.{statement_jobs}
-use Rattle.template_runs_entry.specs.Entries.{IsMade, AreMade}
-use Rattle.template_runs_entry.proofs.ScopeTrees.{of_function}
-use Rattle.template_runs_entry.proofs.Bodies.{body_items, body_is, body_goes}
+use Rattle.template_runs_bodies.proofs.Bodies.{body_items, body_from}
+use Rattle.template_runs_entry.specs.Entries.{IsMade, AreMade, EntryIsNotCalled}
+use Rattle.template_runs_entry.proofs.Bodies.{body_is, has_labels}
 use Rattle.template_runs_entry.proofs.CalledPlans.{Adds, adds_then, adds_entered, adds_left, adds_work, adds_statements, adds_result, adds_arguments, adds_outcome, result_jobs, result_names, argument_jobs, outcome_jobs}
 use Rattle.template_runs_entry.proofs.CalledFollows.{terms_both, results_are_terms, arguments_are_terms, prologue_runs, epilogue_runs}
 
@@ -69,7 +70,7 @@ starts_with : (labels : ℕ) → (with_labels 2 (no_plan labels)).labels ≡ (la
 unfolding with_labels
 starts_with labels = refl
 
-starts_in : (labels : ℕ) → (with_labels 2 (no_plan labels)).scopes ≡ 2
+starts_in : (labels : ℕ) → position (with_labels 2 (no_plan labels)) ≡ numbers 2 0
 unfolding with_labels
 starts_in labels = refl
 
@@ -227,7 +228,7 @@ module _ (t : Templates) (g : ℕ) (f : FunctionView) (e : IsMade t g false f) (
   made = derived s plan (t.of g) e.template
 
   fits : IsOfUnit a s
-  fits = record { structs = refl; pointer = refl; int = refl; place = sym (ap place_of e.is); once = marked_once t.unit.structs t.unit.model.pointer t.unit.model.int f false (t.of g) e.template e.labelled }
+  fits = record { structs = refl; pointer = refl; int = refl; place = sym (ap place_of e.is); once = λ l less. marked_once t.unit.structs t.unit.model.pointer t.unit.model.int f false (t.of g) e.template e.labelled e.few_labels l }
 
   known : IsKnown a made.last
   known = record { names = λ base name there. subst (λ ns. slice_get ns base ≡ Some name) (sym made.names) there; labels = subst (λ l. l ≤ 2 ^ 32 - 1) made.labels e.few_labels }
@@ -310,15 +311,21 @@ module _ (t : Templates) (g : ℕ) (f : FunctionView) (e : IsMade t g false f) (
         (terms_both stored second (arguments_are_terms s.at f ns (length q3.names)) (tt, tt))),
   )
 
-  in_two : x.between.scopes ≡ 2
+  in_two : position x.between ≡ numbers 2 0
   in_two = (scopes_kept s (planless plan) start x.front x.between x.first tt start_is_terms).0 ∙ z0.scopes ∙ starts_in f.labels
+
+  -- labels are given away behind those of the function
+  labels_more : f.labels ≤ x.between.labels
+  labels_more = within f.labels plan.labels x.between.labels (z0.labels ∙ starts_with f.labels) (grows s (planless plan) start x.front x.between x.first).labels
+    where
+      within : (l m k : ℕ) → m ≡ (l + 1) + 2 → m ≤ k → l ≤ k
+      within l m k e le = omega (arith, e, le)
 
   body_follows : (n : ℕ) → Follows a n 0 (body f) (x.back ++ [])
   body_follows n =
       let named = named_from a (planless plan) q5.names f.scope names6 known_all z5.names in
       let again = named_from a (planless plan) q7.names f.scope names8 known_all z7.names in
-      let goes = body_goes a s fits f e.is (of_function s f refl) e.suits ends_there n (length q5.names) (length q7.names) named again in
-      let all = goes.from x.between none_x in_two y.front y.between y.first (known_between s a y.between (left ++ (last ++ gives)) y.back made.last y.second known) (item.EndBody ∷ []) (y.back ++ []) stands_middle refl (after_body n) in
+      let all = body_from s a fits f (has_labels a s f e.is refl e.apart e.labelled e.suits) ends_there e.suits e.labelled n (length q5.names) (length q7.names) named again x.between none_x in_two labels_more y.front y.between y.first (known_between s a y.between (left ++ (last ++ gives)) y.back made.last y.second known) (y.back ++ []) stands_middle (after_body n) in
       subst (λ is. Follows a n 0 is (x.back ++ [])) (body_is f) (joined s a n 0 (body_items f (item.EndBody ∷ [])) x.back y.front y.back [] y.all all)
 
   result_there : has ≡ Outcome ∷ [] → Names a (length q2.names) Outcome
@@ -332,5 +339,7 @@ module _ (t : Templates) (g : ℕ) (f : FunctionView) (e : IsMade t g false f) (
       let all = runs.from (planless plan) refl x.front x.between x.first (known_between s a x.between (middle ++ (left ++ (last ++ gives))) x.back made.last x.second known) (body f) (x.back ++ []) stands_start (body_follows n) in
       subst (λ ps. Follows a n f.parameters (prologue f f.parameters ++ body f) ps) (append-nil (pieces a)) (joined s a n f.parameters (prologue f f.parameters ++ body f) (pieces a) x.front x.back [] x.all all)
 
-pub all_follow : (t : Templates) → AreMade t → AllFollow t
-all_follow t made g f caller callers reached is n = called_follows t g f (made g f reached is.is is.not_entry) caller callers is n
+pub all_follow : (t : Templates) → EntryIsNotCalled t → AreMade t → AllFollow t
+all_follow t never made h g f caller callers reached calls is n =
+    let differs : g ≡ t.unit.entry → ⊥ = λ same. never h reached (subst (λ k. CallsThere (t.of h).pieces k) same calls) in
+    called_follows t g f (made g f (follows.called h g reached calls) is.is differs) caller callers is n

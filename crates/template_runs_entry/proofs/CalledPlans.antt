@@ -21,6 +21,7 @@ use Rattle.flow_lower_functions.specs.Functions as functions
 use Rattle.flow_lower_functions.specs.Functions.{local_type}
 use Rattle.template_runs_follow.specs.Follows.{at_place}
 use Rattle.template_runs_scopes.proofs.Objects.{object_jobs, Planned, entered_planned, left_planned, locals}
+use Rattle.template_runs_scopes.proofs.Positions.{position}
 use Rattle.template_runs_statements.proofs.Sequences.{statement_jobs}
 
 -- a plan has such works and names more than another one
@@ -28,7 +29,7 @@ pub record Adds (js : List Job) (ns : List NameView) (p q : Plan) : Type 0 where
   pub jobs : q.jobs ≡ p.jobs ++ js
   pub names : q.names ≡ p.names ++ ns
   pub labels : q.labels ≡ p.labels
-  pub scopes : q.scopes ≡ p.scopes
+  pub scopes : position q ≡ position p
 
 pub adds_then : (js ks : List Job) (ns ms : List NameView) (p q r : Plan) → Adds js ns p q → Adds ks ms q r → Adds (js ++ ks) (ns ++ ms) p r
 adds_then js ks ns ms p q r a b = record {

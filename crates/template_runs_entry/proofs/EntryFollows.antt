@@ -1,5 +1,5 @@
 -- The body of the entry follows in the pieces of its template.
-use Rattle.std.proofs.Common.{◌≡◌, ◌≤◌, ℕ, ◌-◌, ◌^◌, ℤ, true, List, [], ◌∷◌, ◌++◌, length, Some, slice_get, refl, ap, sym, subst, ◌∙◌, append_assoc}
+use Rattle.std.proofs.Common.{◌≡◌, ◌≤◌, ℕ, ◌+◌, ◌-◌, ◌^◌, ℤ, true, List, [], ◌∷◌, ◌++◌, length, Some, slice_get, refl, arith, ap, sym, subst, ◌∙◌, append_assoc}
 use Rattle.std.proofs.lemmas.List.{append-nil}
 use Rattle.c_layout.specs.CheckedTrees.{statement_trees}
 use Rattle.c_layout.specs.CheckedUnits.{FunctionView}
@@ -14,6 +14,9 @@ use Rattle.flow_lower_statements.specs.PlainStatements.{all_statements}
 use Rattle.flow_lower_functions.specs.Functions as functions
 use Rattle.flow_lower_functions.specs.Functions.{setting_of, no_plan, outermost}
 use Rattle.flow_lower_functions.specs.Turns.{planless}
+use Rattle.flow_lower_growth.specs.Growth.{Grows}
+use Rattle.flow_lower_growth.proofs.Growth.{works, grows_not}
+use Rattle.flow_lower_growth.proofs.GrowingStatements.{grows_entered, grows_statements, grows_left}
 use Rattle.flow_lower_marks.proofs.MarkedTemplates.{marked_once}
 use Rattle.flow_lower_works.specs.Derivations.{Makes, IsDerived}
 use Rattle.flow_lower_works.proofs.Derivations.{parted, derived}
@@ -33,10 +36,11 @@ use Rattle.template_runs_works.proofs.Runs.{headed, joined, split}
 use Rattle.template_runs_works.proofs.Assignments.{one_more_job}
 use Rattle.template_runs_works.proofs.Laying.{known_between}
 use Rattle.template_runs_scopes.proofs.Objects.{object_jobs, entered_planned, left_planned, named_from, locals}
+use Rattle.template_runs_scopes.proofs.Positions.{position, numbers}
 use Rattle.template_runs_statements.proofs.Sequences.{statement_jobs, listed}
+use Rattle.template_runs_bodies.proofs.Bodies.{body_items, body_jobs, body_from}
 use Rattle.template_runs_entry.specs.Entries.{IsEntry}
-use Rattle.template_runs_entry.proofs.ScopeTrees.{of_function}
-use Rattle.template_runs_entry.proofs.Bodies.{work_names, work_scopes, body_items, body_is, body_goes}
+use Rattle.template_runs_entry.proofs.Bodies.{work_names, work_scopes, body_is, has_labels}
 
 -- ---- the plan of the entry
 
@@ -49,7 +53,7 @@ body_plan s f = functions.body s f (no_plan f.labels)
 record Planned (s : SettingView) (f : FunctionView) (js : List Job) (p : Plan) : Type 0 where
   jobs : p.jobs ≡ (object_jobs act.Enter s.at f.scope 0 ++ (js ++ object_jobs act.Leave s.at f.scope (length (locals f.scope)))) ++ jobs.Ready (stop s) ∷ []
   names : p.names ≡ locals f.scope ++ locals f.scope
-  scopes : p.scopes ≡ 2
+  scopes : position p ≡ numbers 2 0
 
 entry_planned : (s : SettingView) (f : FunctionView) → Planned s f (statement_jobs (statement_trees f.body) (outermost s.end)) (functions.entry s f (no_plan f.labels))
 entry_planned s f =
@@ -70,6 +74,13 @@ entry_planned s f =
       scopes = work_scopes (jobs.Ready (stop s)) third ∙ x.scopes ∙ l.scopes ∙ e.scopes;
     }
 
+-- labels are given away behind those of the function
+grown : (s : SettingView) (f : FunctionView) → Grows (no_plan f.labels) (functions.entry s f (no_plan f.labels))
+grown s f = let start = grows_not (no_plan f.labels) in search (works, grows_entered, grows_statements, grows_left) depth 40
+
+enough : (a b : ℕ) → a + 1 ≤ b → a ≤ b
+enough a b x = omega (arith, x)
+
 module _ (t : Templates) (f : FunctionView) (e : IsEntry t f) where
   abbrev a : Activation
   a = entry_of t
@@ -84,28 +95,25 @@ module _ (t : Templates) (f : FunctionView) (e : IsEntry t f) where
   made = derived s plan (t.of t.unit.entry) e.template
 
   fits : IsOfUnit a s
-  fits = record { structs = refl; pointer = refl; int = refl; place = sym (ap place_of e.is); once = marked_once t.unit.structs t.unit.model.pointer t.unit.model.int f true (t.of t.unit.entry) e.template e.labelled }
+  fits = record { structs = refl; pointer = refl; int = refl; place = sym (ap place_of e.is); once = λ l less. marked_once t.unit.structs t.unit.model.pointer t.unit.model.int f true (t.of t.unit.entry) e.template e.labelled e.few_labels l }
 
   known : IsKnown a made.last
   known = record { names = λ base name there. subst (λ ns. slice_get ns base ≡ Some name) (sym made.names) there; labels = subst (λ l. l ≤ 2 ^ 32 - 1) made.labels e.few_labels }
 
   pub body_follows : (n : ℕ) → Follows a n 0 (body_of (function_at t.unit t.unit.entry)) (pieces a)
   body_follows n =
-      let trees = statement_trees f.body in
-      let js = statement_jobs trees (outermost s.end) in
       let x = entry_planned s f in
-      let all = object_jobs act.Enter s.at f.scope 0 ++ (js ++ object_jobs act.Leave s.at f.scope (length (locals f.scope))) in
+      let all = body_jobs s f 0 (length (locals f.scope)) in
       let m = subst (λ ks. Makes s (planless plan) ks (pieces a) made.last) x.jobs made.pieces in
       let known_all = known_between s a (planless plan) (all ++ jobs.Ready (stop s) ∷ []) (pieces a) made.last m known in
       let named = named_from a (planless plan) [] f.scope (locals f.scope) known_all x.names in
       let again = named_from a (planless plan) (locals f.scope) f.scope [] known_all (x.names ∙ ap (λ ns. locals f.scope ++ ns) (sym (append-nil (locals f.scope)))) in
-      let goes = body_goes a s fits f e.is (of_function s f refl) e.suits (stops refl refl) n 0 (length (locals f.scope)) named again in
       let y = parted s (planless plan) all (jobs.Ready (stop s) ∷ []) (pieces a) made.last m in
       let z = headed s y.between (stop s) [] y.back made.last y.second in
       let stands : Stands a (pieces a ++ []) = record { front = []; all = sym (append-nil (pieces a)) } in
       let here = split s a n (pieces a) y.front y.back [] y.all stands in
       let end : Follows a n 0 (item.EndBody ∷ []) (y.back ++ []) = subst (λ xs. Follows a n 0 (item.EndBody ∷ []) (xs ++ [])) (sym z.is) (gives_end_body n 0 f [] (stop s ∷ (z.back ++ [])) e.is (gives_end n 0 s.at (z.back ++ []) refl)) in
-      let front = goes.from (planless plan) refl x.scopes y.front y.between y.first (known_between s a y.between (jobs.Ready (stop s) ∷ []) y.back made.last y.second known) (item.EndBody ∷ []) (y.back ++ []) here refl end in
+      let front = body_from s a fits f (has_labels a s f e.is refl e.apart e.labelled e.suits) (stops refl refl) e.suits e.labelled n 0 (length (locals f.scope)) named again (planless plan) refl x.scopes (enough f.labels plan.labels (grown s f).labels) y.front y.between y.first (known_between s a y.between (jobs.Ready (stop s) ∷ []) y.back made.last y.second known) (y.back ++ []) here end in
       let whole = joined s a n 0 (body_items f (item.EndBody ∷ [])) (pieces a) y.front y.back [] y.all front in
       subst (λ xs. Follows a n 0 xs (pieces a)) (sym (ap body_of e.is))
       (subst (λ xs. Follows a n 0 xs (pieces a)) (body_is f)

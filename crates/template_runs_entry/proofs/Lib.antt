@@ -1,4 +1,3 @@
-pub mod ScopeTrees
 pub mod Bodies
 pub mod CalledPlans
 pub mod CalledFollows

@@ -118,10 +118,9 @@ pub record Selected (t : Activation) (object : Option NamedObject) (labels : Lis
 
 -- ---- calls
 
--- a function of the unit that is not the entry is called, and gives a value where one is used
+-- a function of the unit is called, and gives a value where one is used
 pub record IsCalled (u : UnitView) (g : ℕ) (used : Bool) (f : FunctionView) : Type 0 where
   pub is : function_at u g ≡ Some f
-  pub not_entry : g ≡ u.entry → ⊥
   pub gives : used ≡ true → is_void f.returns ≡ false
 
 -- a call of a function stands among pieces
@@ -225,6 +224,6 @@ pub data Follows (t : Activation) : ℕ → ℕ → List Item → List PieceView
   -- the function that waits goes on
   goes_back : (n : ℕ) (caller : Frame) (callers : List Frame) → t.callers ≡ caller ∷ callers → Follows t (suc n) (behind_own caller.used 0) [] []
 
--- each function that is reached follows in its template, whoever calls it: its arguments are pending, and it begins with its prologue
+-- each function that a reached one calls follows in its template, whoever waits: its arguments are pending, and it begins with its prologue
 abbrev pub AllFollow : Templates → Type 0
-AllFollow t = (g : ℕ) (f : FunctionView) (caller : Frame) (callers : List Frame) → Reached t g → IsCalled t.unit g caller.used f → (n : ℕ) → Follows (activation t g (caller ∷ callers)) n f.parameters (prologue f f.parameters ++ body f) (t.of g).pieces
+AllFollow t = (h g : ℕ) (f : FunctionView) (caller : Frame) (callers : List Frame) → Reached t h → CallsThere (t.of h).pieces g → IsCalled t.unit g caller.used f → (n : ℕ) → Follows (activation t g (caller ∷ callers)) n f.parameters (prologue f f.parameters ++ body f) (t.of g).pieces

@@ -1,4 +1,4 @@
--- A `goto` of the entry follows in its pieces.
+-- A `goto` follows in its pieces.
 use Rattle.std.specs.Prelude.{◌≡◌, ◌≤◌, ◌<◌, ℕ, suc, List, [], ◌∷◌, ◌++◌, Some}
 use Rattle.c_layout.specs.CheckedTrees.{Goto, statement_trees}
 use Rattle.c_layout.specs.CheckedUnits.{FunctionView}
@@ -18,10 +18,12 @@ use Rattle.template_runs_follow.specs.Activations.{Activation}
 use Rattle.template_runs_follow.specs.Follows.{Leads, Follows}
 use Rattle.template_runs_works.specs.TemplateParts.{IsOfUnit, IsKnown, Stands}
 use Rattle.template_runs_scopes.specs.Scopes.{IsScope, AllHaveScopes}
-use Rattle.template_runs_ways.specs.Chains.{Chain, AreApart}
+use Rattle.template_runs_scopes.specs.Chains.{Chain, AreApart}
+use Rattle.template_runs_scopes.specs.SuitedStatements.{HasLabel}
+use Rattle.template_runs_labels.specs.FoundLabels.{IsThere}
 
--- the function is the entry, its scopes are those of the setting, no object is in two of them, and it has each of its
--- labels once at most
+-- the function is the one that runs, its scopes are those of the setting, no object is in two of them, and it has each of its
+-- labels once at most, where the search finds it
 pub record HasLabels (t : Activation) (s : SettingView) (f : FunctionView) : Type 0 where
   pub is : function_at t.unit t.function ≡ Some f
   pub tree : s.scopes ≡ function_scopes f
@@ -29,6 +31,7 @@ pub record HasLabels (t : Activation) (s : SettingView) (f : FunctionView) : Typ
   pub outermost : IsScope s 1 0 f.scope
   pub body : AllHaveScopes s (statement_trees f.body) 1 2
   pub once : (l : ℕ) → all_labels_in l (statement_trees f.body) ≤ 1
+  pub found : (l : ℕ) → HasLabel f l → IsThere (from_label t.unit f l)
 
 -- where a label lies for some turns, a `goto` follows for two more
 abbrev pub GotosFollow : Type 0

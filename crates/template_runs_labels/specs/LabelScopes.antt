@@ -9,7 +9,7 @@ use Rattle.ref_machine.specs.LabelSearch.{Sought, label, is_label, is_case, is_o
 use Rattle.ref_machine.specs.Scopes.{open_scopes}
 use Rattle.template_runs_follow.specs.Activations.{Activation}
 use Rattle.template_runs_scopes.specs.Scopes.{scopes_in, all_scopes_in, IsScope, HasScopes, AllHaveScopes}
-use Rattle.template_runs_ways.specs.Chains.{Chain}
+use Rattle.template_runs_scopes.specs.Chains.{Chain}
 
 abbrev pub either : Option ℕ → Option ℕ → Option ℕ
 either (Some k) later = Some k

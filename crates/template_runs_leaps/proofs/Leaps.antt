@@ -23,9 +23,10 @@ use Rattle.template_runs_works.proofs.Assignments.{one_more_job}
 use Rattle.template_runs_works.proofs.Laying.{known_between}
 use Rattle.template_runs_terms.proofs.Choices.{jumping, hops}
 use Rattle.template_runs_scopes.proofs.Objects as objects
+use Rattle.template_runs_scopes.proofs.Ways.{chain_there}
 use Rattle.template_runs_scopes.proofs.Objects.{object_jobs, entered_planned, left_planned, named_from, locals}
-use Rattle.template_runs_ways.specs.Chains as chains
-use Rattle.template_runs_ways.specs.Chains.{Chain, AreApart}
+use Rattle.template_runs_scopes.specs.Chains.{Chain, AreApart}
+use Rattle.template_runs_ways.specs.Chains.{IsWay}
 use Rattle.template_runs_ways.proofs.WaysBetween.{way_is}
 use Rattle.template_runs_ways.proofs.WaysOfChains.{way_of}
 use Rattle.template_runs_leaps.specs.Leaps.{Lies}
@@ -33,17 +34,6 @@ use Rattle.template_runs_leaps.specs.Leaps.{Lies}
 work_names : (j : Job) (p : Plan) → (with_work j p).names ≡ p.names
 unfolding with_work
 work_names j p = refl
-
--- scopes of a chain are there
-chain_there : (s : SettingView) (number : ℕ) (scopes : List (List ℕ)) → Chain s number scopes → number ≤ length s.scopes.scopes
-chain_there s _ _ chains.outermost = least (length s.scopes.scopes)
-  where
-    least : (a : ℕ) → 0 ≤ a
-    least a = omega arith
-chain_there s _ _ (chains.inside number around objects scopes is chain) = at_most number (length s.scopes.scopes) is.there
-  where
-    at_most : (a b : ℕ) → a < b → a ≤ b
-    at_most a b less = omega (arith, less)
 
 module _ (s : SettingView) (t : Activation) (fits : IsOfUnit t s) (n : ℕ) where
   -- some objects are left and others entered, and then a jump leads behind a label
@@ -87,7 +77,7 @@ module _ (s : SettingView) (t : Activation) (fits : IsOfUnit t s) (n : ℕ) wher
       then_ends s t n js (item.Enters ys ∷ []) 0 0 (planless all) refl (inwards.from (planless all) refl) last ps r (subst (λ ks. Makes s (planless all) ks ps r) jobs_are m) known (item.Hop ∷ to) rest stands hop
 
   -- a jump to any place
-  pub leaps_by : (from : ℕ) (landing : Landing) (items to : List Item) → chains.IsWay s from landing.scope (open_scopes items) (open_scopes to) → from ≤ length s.scopes.scopes → landing.scope ≤ length s.scopes.scopes → (there : List PieceView) → ((w : List PieceView) → Follows t n 0 (item.Hop ∷ to) (jumping s.at landing.label ∷ w))
+  pub leaps_by : (from : ℕ) (landing : Landing) (items to : List Item) → IsWay s from landing.scope (open_scopes items) (open_scopes to) → from ≤ length s.scopes.scopes → landing.scope ≤ length s.scopes.scopes → (there : List PieceView) → ((w : List PieceView) → Follows t n 0 (item.Hop ∷ to) (jumping s.at landing.label ∷ w))
       → (p : Plan) → p.jobs ≡ [] → (ps : List PieceView) (r : Plan) → Makes s (planless (leap s from landing p)) (leap s from landing p).jobs ps r → IsKnown t r → (rest : List PieceView) → Stands t (ps ++ rest) → Follows t n 0 (jump items to) (ps ++ rest)
   leaps_by from landing items to w enough also there hop p none ps r m known rest stands =
       let is_all : leap s from landing p ≡ branches.jump s.at landing.label (all_entered s.at w.enters (all_left s.at w.leaves p)) = ap (branches.jump s.at landing.label) (way_is s s.scopes.scopes from landing.scope w.leaves w.enters w.between enough also p) in
@@ -104,7 +94,7 @@ module _ (s : SettingView) (t : Activation) (fits : IsOfUnit t s) (apart : AreAp
 
 module _ (s : SettingView) (t : Activation) (fits : IsOfUnit t s) where
   -- a way on which nothing is left
-  pub edges : (n from : ℕ) (landing : Landing) (items to : List Item) → from ≤ length s.scopes.scopes → (l : Lies s t n landing to) → (w : chains.IsWay s from landing.scope (open_scopes items) (open_scopes to)) → w.leaves ≡ []
+  pub edges : (n from : ℕ) (landing : Landing) (items to : List Item) → from ≤ length s.scopes.scopes → (l : Lies s t n landing to) → (w : IsWay s from landing.scope (open_scopes items) (open_scopes to)) → w.leaves ≡ []
       → (p : Plan) → p.jobs ≡ [] → (ps : List PieceView) (r : Plan) → Makes s (planless (leap s from landing p)) (leap s from landing p).jobs ps r → IsKnown t r → (rest : List PieceView) → Stands t (ps ++ rest)
       → (leap_in items to ≡ entering_first w.enters to) × Follows t n 0 (item.Enters w.enters ∷ (item.Hop ∷ to)) (ps ++ rest)
   edges n from landing items to enough l w none_left p none ps r m known rest stands =

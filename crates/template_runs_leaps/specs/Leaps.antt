@@ -12,7 +12,8 @@ use Rattle.ref_machine.specs.Scopes.{jump, open_scopes, leap_in, entering_first}
 use Rattle.template_runs_follow.specs.Activations.{Activation}
 use Rattle.template_runs_follow.specs.Follows.{Leads, Follows}
 use Rattle.template_runs_works.specs.TemplateParts.{IsOfUnit, IsKnown, Stands}
-use Rattle.template_runs_ways.specs.Chains.{Chain, AreApart, IsWay}
+use Rattle.template_runs_scopes.specs.Chains.{Chain, AreApart}
+use Rattle.template_runs_ways.specs.Chains.{IsWay}
 
 -- what is left to do from a label on follows behind it
 pub record Lies (s : SettingView) (t : Activation) (n : ℕ) (landing : Landing) (to : List Item) : Type 0 where

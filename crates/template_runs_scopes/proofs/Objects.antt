@@ -18,6 +18,7 @@ use Rattle.template_runs_follow.specs.Follows.{Names, Follows, at_place, own}
 use Rattle.template_runs_follow.proofs.Constructions.{gives_enter, gives_leave, gives_no_enters, gives_no_leaves}
 use Rattle.template_runs_works.specs.TemplateParts.{IsOfUnit, IsKnown, Stands}
 use Rattle.template_runs_works.proofs.Runs.{Runs, headed, none_made, stands_after}
+use Rattle.template_runs_scopes.proofs.Positions.{position}
 use Rattle.template_runs_scopes.proofs.KeptScopes.{AreTerms}
 
 -- ---- works
@@ -39,7 +40,7 @@ pub record Planned (does : ℕ → Act) (at : Place) (xs : List ℕ) (p q : Plan
   pub jobs : q.jobs ≡ p.jobs ++ object_jobs does at xs (length p.names)
   pub names : q.names ≡ p.names ++ locals xs
   pub labels : q.labels ≡ p.labels
-  pub scopes : q.scopes ≡ p.scopes
+  pub scopes : position q ≡ position p
 
 next_base : (names : List NameView) (x : NameView) → length (names ++ x ∷ []) ≡ suc (length names)
 next_base names x = let e = length-append names (x ∷ []) in omega (arith, e)

@@ -32,6 +32,7 @@ use Rattle.template_runs_works.proofs.Assignments.{one_more_job, nothing_done, s
 use Rattle.template_runs_works.proofs.Laying.{known_between}
 use Rattle.template_runs_terms.proofs.Terms.{terms, places}
 use Rattle.template_runs_scopes.specs.SuitedStatements.{SuitsBehind, SuitsAsStore, SuitAsStores}
+use Rattle.template_runs_scopes.proofs.Positions.{Position, position}
 use Rattle.template_runs_scopes.proofs.KeptScopes.{AreTerms}
 use Rattle.template_runs_scopes.proofs.ScopesOfTerms.{scopes_kept}
 use Rattle.template_runs_scopes.proofs.InScopes.{Goes, gives_way}
@@ -56,7 +57,7 @@ once_each x (y ∷ ys) = x ∷ once_each x ys
 pub record Stored (at : Place) (x : ℕ) (xs : List StoreTree) (p q : Plan) : Type 0 where
   pub jobs : q.jobs ≡ p.jobs ++ all_store_jobs at xs (length p.names)
   pub names : q.names ≡ p.names ++ locals (once_each x xs)
-  pub scopes : q.scopes ≡ p.scopes
+  pub scopes : position q ≡ position p
 
 next_base : (names : List NameView) (x : NameView) → length (names ++ x ∷ []) ≡ suc (length names)
 next_base names x = let e = length-append names (x ∷ []) in omega (arith, e)
@@ -64,7 +65,7 @@ next_base names x = let e = length-append names (x ∷ []) in omega (arith, e)
 record One (at : Place) (x : ℕ) (y : StoreTree) (p q : Plan) : Type 0 where
   jobs : q.jobs ≡ p.jobs ++ store_jobs at y (length p.names)
   names : q.names ≡ p.names ++ Local x ∷ []
-  scopes : q.scopes ≡ p.scopes
+  scopes : position q ≡ position p
 
 one_stored : (at : Place) (x : ℕ) (y : StoreTree) (p : Plan) → One at x y p (lowered.stored at x y p)
 unfolding with_work with_name
@@ -104,7 +105,7 @@ cleared_base : (at : Place) (x : ℕ) (p : Plan) → length (lowered.cleared at 
 unfolding with_work with_name
 cleared_base at x p = next_base p.names (Local x)
 
-cleared_scopes : (at : Place) (x : ℕ) (p : Plan) → (lowered.cleared at x p).scopes ≡ p.scopes
+cleared_scopes : (at : Place) (x : ℕ) (p : Plan) → position (lowered.cleared at x p) ≡ position p
 unfolding with_work with_name
 cleared_scopes at x p = refl
 
@@ -116,7 +117,7 @@ forgotten_names : (at : Place) (x : ℕ) (p : Plan) → (lowered.forget at x p).
 unfolding with_work with_name
 forgotten_names at x p = refl
 
-forgotten_scopes : (at : Place) (x : ℕ) (p : Plan) → (lowered.forget at x p).scopes ≡ p.scopes
+forgotten_scopes : (at : Place) (x : ℕ) (p : Plan) → position (lowered.forget at x p) ≡ position p
 unfolding with_work with_name
 forgotten_scopes at x p = refl
 
@@ -124,7 +125,7 @@ work_names : (j : Job) (p : Plan) → (with_work j p).names ≡ p.names
 unfolding with_work
 work_names j p = refl
 
-work_scopes : (j : Job) (p : Plan) → (with_work j p).scopes ≡ p.scopes
+work_scopes : (j : Job) (p : Plan) → position (with_work j p) ≡ position p
 unfolding with_work
 work_scopes j p = refl
 
@@ -151,9 +152,9 @@ module _ (s : SettingView) (t : Activation) (fits : IsOfUnit t s) (n : ℕ) wher
   all_run at x [] base suits named = nothing_done s t n 0
   all_run at x (y ∷ ys) base suits named = then s t n (store_jobs at y base) (all_store_jobs at ys (suc base)) (stored at x y) (all_stored at x ys) 0 0 0 (one_runs at x y base suits.0 named.0) (all_run at x ys (suc base) suits.1 named.1)
 
-  module _ (around : Surroundings) (K : List Item → Type 0) (c : ℕ) where
+  module _ (around : Surroundings) (K : List Item → Type 0) (c : Position) where
     -- the works of a statement that begins no scope and names objects
-    named_form : (i : StatementTree) (js : ℕ → List Job) (xs : List ℕ) → ((p : Plan) → p.jobs ≡ [] → (parts s (jobs.Statement i around) p).jobs ≡ js (length p.names)) → ((p : Plan) → (parts s (jobs.Statement i around) p).names ≡ p.names ++ locals xs) → ((p : Plan) → (parts s (jobs.Statement i around) p).scopes ≡ p.scopes)
+    named_form : (i : StatementTree) (js : ℕ → List Job) (xs : List ℕ) → ((p : Plan) → p.jobs ≡ [] → (parts s (jobs.Statement i around) p).jobs ≡ js (length p.names)) → ((p : Plan) → (parts s (jobs.Statement i around) p).names ≡ p.names ++ locals xs) → ((p : Plan) → position (parts s (jobs.Statement i around) p) ≡ position p)
         → ((base : ℕ) → AreTerms (js base)) → ((base : ℕ) → NamedFrom t base xs → Runs s t n (js base) (of_statement t.unit (of_entry t) i) 0 0) → Goes s t n c c K (jobs.Statement i around ∷ []) (item.Statement i ∷ [])
     named_form i js xs planned named counted are_terms runs = gives_way s t n c c K (jobs.Statement i around) (item.Statement i) (of_statement t.unit (of_entry t) i) refl (gives_statement n 0 i)
         (λ p none begun ps r m known items rest stands k f.
@@ -168,7 +169,7 @@ module _ (s : SettingView) (t : Activation) (fits : IsOfUnit t s) (n : ℕ) wher
     of_stores i at x xs same items suits = named_form i (all_store_jobs at xs) (once_each x xs)
         (λ p none. ap (λ (q : Plan). q.jobs) (same p) ∙ (stored_planned at x xs p).jobs ∙ ap (λ js. js ++ all_store_jobs at xs (length p.names)) none)
         (λ p. ap (λ (q : Plan). q.names) (same p) ∙ (stored_planned at x xs p).names)
-        (λ p. ap (λ (q : Plan). q.scopes) (same p) ∙ (stored_planned at x xs p).scopes)
+        (λ p. ap position (same p) ∙ (stored_planned at x xs p).scopes)
         (stores_are_terms at xs)
         (λ base named. subst (λ is. Runs s t n (all_store_jobs at xs base) is 0 0) (sym items) (all_run at x xs base suits named))
 

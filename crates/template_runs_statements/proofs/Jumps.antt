@@ -1,5 +1,5 @@
--- `break` and `continue`.
-use Rattle.std.proofs.Common.{◌≡◌, ◌≤◌, ℕ, zero, suc, ◌==◌, Bool, true, cond, nat_lt, List, [], ◌∷◌, ◌++◌, length, Option, Some, None, refl, ap, sym, subst, ◌∙◌, append_assoc}
+-- `break`, `continue` and `goto`.
+use Rattle.std.proofs.Common.{◌≡◌, ◌≤◌, ℕ, zero, suc, ◌==◌, true, cond, nat_lt, List, [], ◌∷◌, ◌++◌, length, Option, Some, None, refl, ap, sym, subst, ◌∙◌, append_assoc}
 use Rattle.cc_base.specs.declared.diagnostics.Place.{Place}
 use Rattle.c_layout.specs.CheckedTrees as tree
 use Rattle.flow_lower_tasks.specs.Acts as act
@@ -27,16 +27,21 @@ use Rattle.template_runs_follow.specs.Follows.{own, Follows}
 use Rattle.template_runs_follow.proofs.FewerTurns.{less}
 use Rattle.template_runs_follow.proofs.Constructions.{gives_statement, gives_no_enters}
 use Rattle.template_runs_works.specs.TemplateParts.{IsOfUnit, IsKnown, Stands}
-use Rattle.template_runs_works.proofs.Runs.{Runs, then_ends, dropped, stands_behind, joined, split}
+use Rattle.template_runs_works.proofs.Runs.{Runs, then_ends, dropped, stands_behind, joined, split, opened}
 use Rattle.template_runs_works.proofs.Assignments.{one_more_job, nothing_done}
 use Rattle.template_runs_terms.proofs.Choices.{jumping, hops}
 use Rattle.template_runs_works.proofs.Laying.{known_between}
+use Rattle.template_runs_scopes.specs.SuitedStatements.{Enclosure, HasLabel}
+use Rattle.template_runs_scopes.specs.Chains.{Chain}
+use Rattle.template_runs_scopes.proofs.Positions.{Position, position}
 use Rattle.template_runs_scopes.proofs.KeptScopes.{AreTerms, Keeps, keeps_or, kept}
 use Rattle.template_runs_scopes.proofs.ScopesOfTerms.{scopes_kept}
-use Rattle.template_runs_scopes.specs.Contexts.{Lands, Within}
-use Rattle.template_runs_scopes.proofs.InScopes.{Goes, gives_way}
+use Rattle.template_runs_scopes.specs.Contexts.{LabelsReachBefore, Lands, Within}
+use Rattle.template_runs_scopes.proofs.InScopes.{Goes, gives_way, reaches_less}
+use Rattle.template_runs_gotos.specs.Gotos.{HasLabels}
+use Rattle.template_runs_gotos.proofs.Gotos.{follows_goto}
 use Rattle.template_runs_scopes.proofs.Objects.{object_jobs, Planned, left_planned, named_from, locals, leaves}
-use Rattle.template_runs_scopes.proofs.Ways.{way_up, all_in}
+use Rattle.template_runs_scopes.proofs.Ways.{way_up, all_in, chain_there, chain_home}
 
 -- ---- ways begin no scopes
 
@@ -55,16 +60,26 @@ keeps_way s (x ∷ steps) from to p g =
     let outward = keeps_way s steps (scopes.around s from) to (all_left s.at (scopes.objects s from) p) (keeps_left s.at (scopes.objects s from) p g) in
     keeps_or (from == to) p _ g (keeps_or (nat_lt to from) _ _ outward inward)
 
-keeps_leap : {start : Plan} (s : SettingView) (from : ℕ) (to : Landing) (p : Plan) → Keeps start p → Keeps start (leap s from to p)
+pub keeps_leap : {start : Plan} (s : SettingView) (from : ℕ) (to : Landing) (p : Plan) → Keeps start p → Keeps start (leap s from to p)
 keeps_leap s from to p g = let on_way = keeps_way s s.scopes.scopes from to.scope p g in search kept depth 30
 
 pub work_names : (j : Job) (p : Plan) → (with_work j p).names ≡ p.names
 unfolding with_work
 work_names j p = refl
 
+-- a `goto` follows for more turns than its label leads somewhere for
+goto_turns : (s : SettingView) (t : Activation) → IsOfUnit t s → (f : FunctionView) → HasLabels t s f → (l : ℕ) → HasLabel f l → (around : Surroundings) (items : List Item) → Chain s around.scope (open_scopes items)
+    → (p : Plan) → p.jobs ≡ [] → (ps : List PieceView) (r : Plan) → Makes s p (jobs.Statement (tree.Goto l) around ∷ []) ps r → IsKnown t r → (rest : List PieceView) → Stands t (ps ++ rest) → (n : ℕ) → LabelsReachBefore t n → Follows t n 0 (item.Statement (tree.Goto l) ∷ items) (ps ++ rest)
+goto_turns s t fits f has l is_there around items chain p none ps r m known rest stands zero all = follows.enough _ _ _
+goto_turns s t fits f has l is_there around items chain p none ps r m known rest stands (suc zero) all = follows.statement 0 0 (tree.Goto l) items (ps ++ rest) (follows.enough _ _ _)
+goto_turns s t fits f has l is_there around items chain p none ps r m known rest stands (suc (suc n)) all =
+    let x = has.found l is_there in
+    let y = reaches_less s t n l x.to (all f has.is l x.to is_there.0 x.is) in
+    follows_goto t s fits f has n l around items x.to y.there chain is_there.0 x.is y.leads y.follows p none ps r m known rest stands
+
 module _ (s : SettingView) (t : Activation) (fits : IsOfUnit t s) (n : ℕ) where
   -- a work whose plan begins no scope
-  pub no_scopes : (j : Job) (c : ℕ) → ((p : Plan) → p.jobs ≡ [] → Keeps p (parts s j p)) → (p : Plan) → p.jobs ≡ [] → p.scopes ≡ c → (ps : List PieceView) (r : Plan) → Makes s (planless (parts s j p)) (parts s j p).jobs ps r → r.scopes ≡ c
+  pub no_scopes : (j : Job) (c : Position) → ((p : Plan) → p.jobs ≡ [] → Keeps p (parts s j p)) → (p : Plan) → p.jobs ≡ [] → position p ≡ c → (ps : List PieceView) (r : Plan) → Makes s (planless (parts s j p)) (parts s j p).jobs ps r → position r ≡ c
   no_scopes j c keeps p none begun ps r m = (scopes_kept s (planless (parts s j p)) (parts s j p).jobs ps r m tt (keeps p none).terms).0 ∙ (keeps p none).scopes ∙ begun
 
   -- some works, and then objects are left and a piece ends the block
@@ -124,13 +139,21 @@ module _ (s : SettingView) (t : Activation) (fits : IsOfUnit t s) (n : ℕ) wher
       (leaves_and q l.objects p (left_planned s.at l.objects p) [] [] none (nothing_done s t n 0) (jumping s.at landing.label) all (one_more_job q.jobs (jobs.Ready (jumping s.at landing.label)) q refl) (work_names (jobs.Ready (jumping s.at landing.label)) q) ps r (subst (λ x. Makes s (planless x) x.jobs ps r) is_all m) known (item.Enters [] ∷ (item.Hop ∷ to)) (item.Leaves l.objects ∷ (item.Enters [] ∷ (item.Hop ∷ to))) rest stands
       (λ w f. f) (λ w. gives_no_enters n 0 (item.Hop ∷ to) (jumping s.at landing.label ∷ w) (hops s t fits n 0 landing.label to w l.there l.leads l.follows))))
 
-  module _ (around : Surroundings) (looping : Bool) (known : List ℕ) (c : ℕ) where
-    pub breaks : looping ≡ true → Goes s t n c c (Within s t n around looping known) (jobs.Statement tree.Break around ∷ []) (item.Statement tree.Break ∷ [])
+  module _ (around : Surroundings) (looping : Enclosure) (known : List ℕ) (c : Position) where
+    pub breaks : looping.breaks ≡ true → Goes s t n c c (Within s t n around looping known) (jobs.Statement tree.Break around ∷ []) (item.Statement tree.Break ∷ [])
     breaks e = gives_way s t n c c (Within s t n around looping known) (jobs.Statement tree.Break around) (item.Statement tree.Break) (item.BreakOut ∷ []) refl (gives_statement n 0 tree.Break)
-        (λ p none begun ps r m known items rest stands k f. gives_break items (ps ++ rest) (jumps around.scope around.on_break items (behind_loop items) k.enough (k.on_break e) p none ps r m known rest stands))
+        (λ p none begun ps r m known items rest stands k f. gives_break items (ps ++ rest) (jumps around.scope around.on_break items (behind_loop items) (chain_there s around.scope (open_scopes items) k.chain) (k.on_break e) p none ps r m known rest stands))
         (no_scopes (jobs.Statement tree.Break around) c (λ p none. keeps_leap s around.scope around.on_break p (record { scopes = refl; terms = subst AreTerms (sym none) tt })))
 
-    pub continues : looping ≡ true → Goes s t n c c (Within s t n around looping known) (jobs.Statement tree.Continue around ∷ []) (item.Statement tree.Continue ∷ [])
+    pub continues : looping.continues ≡ true → Goes s t n c c (Within s t n around looping known) (jobs.Statement tree.Continue around ∷ []) (item.Statement tree.Continue ∷ [])
     continues e = gives_way s t n c c (Within s t n around looping known) (jobs.Statement tree.Continue around) (item.Statement tree.Continue) (item.NextTurn ∷ []) refl (gives_statement n 0 tree.Continue)
-        (λ p none begun ps r m known items rest stands k f. gives_continue items (ps ++ rest) (jumps around.scope around.on_continue items (behind_turn items) k.enough (k.on_continue e) p none ps r m known rest stands))
+        (λ p none begun ps r m known items rest stands k f. gives_continue items (ps ++ rest) (jumps around.scope around.on_continue items (behind_turn items) (chain_there s around.scope (open_scopes items) k.chain) (k.on_continue e) p none ps r m known rest stands))
         (no_scopes (jobs.Statement tree.Continue around) c (λ p none. keeps_leap s around.scope around.on_continue p (record { scopes = refl; terms = subst AreTerms (sym none) tt })))
+
+    pub goes_to : (f : FunctionView) → HasLabels t s f → (l : ℕ) → HasLabel f l → Goes s t n c c (Within s t n around looping known) (jobs.Statement (tree.Goto l) around ∷ []) (item.Statement (tree.Goto l) ∷ [])
+    goes_to f has l is_there = record {
+      from = λ p none begun ps r m known items rest stands k go. goto_turns s t fits f has l is_there around items k.chain p none ps r m known rest stands n k.labels;
+      ends = λ p none begun ps r m.
+          let j = jobs.Statement (tree.Goto l) around in
+          no_scopes j c (λ p none. keeps_leap s around.scope (record { label = l; scope = lowered.label_scope s l around.scope }) p (record { scopes = refl; terms = subst AreTerms (sym none) tt })) p none begun ps r (opened s p j ps r refl m);
+    }

@@ -1,8 +1,8 @@
 pub mod Jumps
-mod Returns
+pub mod Returns
 pub mod Declarations
 pub mod Sequences
 pub mod Selections
 pub mod Loops
 pub mod ForLoops
-pub mod Statements
+pub mod Labelled

@@ -37,12 +37,13 @@ use Rattle.template_runs_works.proofs.Runs.{Runs, then, piece_first, dropped}
 use Rattle.template_runs_works.proofs.Assignments.{one_more_job, nothing_done, stores}
 use Rattle.template_runs_terms.proofs.Choices.{jumping, hops}
 use Rattle.template_runs_terms.proofs.Terms.{terms}
-use Rattle.template_runs_scopes.specs.SuitedStatements.{SuitsAsReturned}
+use Rattle.template_runs_scopes.specs.SuitedStatements.{Enclosure, SuitsAsReturned}
 use Rattle.template_runs_scopes.specs.Contexts.{Within}
+use Rattle.template_runs_scopes.proofs.Positions.{Position}
 use Rattle.template_runs_scopes.proofs.KeptScopes.{AreTerms, Keeps, keeps_or, kept}
 use Rattle.template_runs_scopes.proofs.InScopes.{Goes, gives_way}
 use Rattle.template_runs_scopes.proofs.Objects.{object_jobs, left_planned, named_from, locals, leaves}
-use Rattle.template_runs_scopes.proofs.Ways.{way_up}
+use Rattle.template_runs_scopes.proofs.Ways.{way_up, chain_there, chain_home}
 use Rattle.template_runs_statements.proofs.Jumps.{keeps_left, keeps_way, work_names, no_scopes, leaves_and, works_and}
 
 keeps_given : {start : Plan} (s : SettingView) (at : Place) (e : Option TermTree) (p : Plan) → Keeps start p → Keeps start (lowered.given s at e p)
@@ -78,7 +79,7 @@ outcome_given at (Some e) p none = record { jobs = ap (λ js. ((js ++ jobs.Ready
 one_less : (e : TermTree) → 1 + room e ≤ 2 ^ 32 - 1 → 0 + room e ≤ 2 ^ 32 - 1
 one_less e le = omega (arith, le)
 
-module _ (s : SettingView) (t : Activation) (fits : IsOfUnit t s) (n : ℕ) (around : Surroundings) (looping : Bool) (known : List ℕ) (c : ℕ) (f : FunctionView) (is_f : function_at t.unit t.function ≡ Some f) where
+module _ (s : SettingView) (t : Activation) (fits : IsOfUnit t s) (n : ℕ) (around : Surroundings) (looping : Enclosure) (known : List ℕ) (c : Position) (f : FunctionView) (is_f : function_at t.unit t.function ≡ Some f) where
   abbrev ToReturn : Place → Option TermTree → Type 0
   ToReturn at e = (p : Plan) → p.jobs ≡ [] → (ps : List PieceView) (r : Plan) → Makes s (planless (lowered.giving s at e around p)) (lowered.giving s at e around p).jobs ps r → IsKnown t r → (items : List Item) (rest : List PieceView) → Stands t (ps ++ rest) → Within s t n around looping known items → Follows t n 0 (of_statement t.unit (of_entry t) (tree.Return at e) ++ items) (ps ++ rest)
 
@@ -104,7 +105,7 @@ module _ (s : SettingView) (t : Activation) (fits : IsOfUnit t s) (n : ℕ) (aro
   value_runs None suits = nothing_done s t n 0
   value_runs (Some e) suits = dropped s t n (jobs.Value e 0 ∷ []) (item.Value e ∷ []) 0 ((terms s t fits n e).value 0 suits.0 (one_less e suits.1))
 
-  value_is : (at : Place) (e : Option TermTree) (p : Plan) → s.is_entry ≡ true → lowered.given s at e p ≡ value_plan e p
+  value_is : (at : Place) (e : Option TermTree) (p : Plan) → s.is_entry ≡ of_entry t → lowered.given s at e p ≡ value_plan e p
   value_is at None p is = refl
   value_is at (Some e) p is = ap (λ b. cond b (with_work (jobs.Value e 0) p) (lowered.outcome at e p)) is
 
@@ -112,13 +113,13 @@ module _ (s : SettingView) (t : Activation) (fits : IsOfUnit t s) (n : ℕ) (aro
   value_returned at None is = refl
   value_returned at (Some e) is = ap (λ b. returned b at (Some e) ++ item.LeaveFunction ∷ []) is
 
-  from_entry : (at : Place) (e : Option TermTree) → SuitsAsReturned t.unit e → s.is_entry ≡ true → t.callers ≡ [] → ToReturn at e
+  from_entry : (at : Place) (e : Option TermTree) → SuitsAsReturned t.unit e → s.is_entry ≡ of_entry t → t.callers ≡ [] → ToReturn at e
   from_entry at e suits is none_wait p none ps r m known items rest stands k =
       let xs = all_of (open_scopes items) in
       let g = value_plan e p in
       let q = all_left s.at xs g in
       let all = lowered.stopped at q in
-      let is_all : lowered.giving s at e around p ≡ all = ap (lowered.end s at around.scope) (value_is at e p is) ∙ ap (λ b. cond b (lowered.stopped at (way_between s around.scope 0 g)) (lowered.exit s (way_between s around.scope 0 g))) is ∙ ap (lowered.stopped at) (way_up s s.scopes.scopes around.scope 0 xs k.home k.enough g) in
+      let is_all : lowered.giving s at e around p ≡ all = ap (lowered.end s at around.scope) (value_is at e p is) ∙ ap (λ b. cond b (lowered.stopped at (way_between s around.scope 0 g)) (lowered.exit s (way_between s around.scope 0 g))) is ∙ ap (lowered.stopped at) (way_up s s.scopes.scopes around.scope 0 xs (chain_home s around.scope (open_scopes items) k.chain) (chain_there s around.scope (open_scopes items) k.chain) g) in
       let last = End (record { at = at; does = act.Stop }) [] in
       let entry : of_entry t ≡ true = ap is_entry none_wait in
       subst (λ is. Follows t n 0 (is ++ items) (ps ++ rest)) (sym (value_returned at e entry))
@@ -165,7 +166,7 @@ module _ (s : SettingView) (t : Activation) (fits : IsOfUnit t s) (n : ℕ) (aro
       let z_is = left_planned s.at s.parameters q in
       let last = jumping s.at s.end in
       let all = branches.jump s.at s.end z in
-      let is_all : lowered.giving s at e around p ≡ all = ap (lowered.end s at around.scope) (outcome_is at e p is) ∙ ap (λ b. cond b (lowered.stopped at (way_between s around.scope 0 g)) (lowered.exit s (way_between s around.scope 0 g))) is ∙ ap (lowered.exit s) (way_up s s.scopes.scopes around.scope 0 xs k.home k.enough g) in
+      let is_all : lowered.giving s at e around p ≡ all = ap (lowered.end s at around.scope) (outcome_is at e p is) ∙ ap (λ b. cond b (lowered.stopped at (way_between s around.scope 0 g)) (lowered.exit s (way_between s around.scope 0 g))) is ∙ ap (lowered.exit s) (way_up s s.scopes.scopes around.scope 0 xs (chain_home s around.scope (open_scopes items) k.chain) (chain_there s around.scope (open_scopes items) k.chain) g) in
       let front = outcome_jobs at e (length p.names) in
       let outer = object_jobs act.Leave s.at xs (length g.names) in
       let own_jobs = object_jobs act.Leave s.at s.parameters (length q.names) in

@@ -119,7 +119,7 @@ module _ (t : Activation) (n : ℕ) (under : Below t n) (all : AllFollow (templa
       let below = vs ++ under.values in
       let waiting : List template.Frame = record { function = t.function; rest = ps; temps = temps; names = names; depth = length vs; at = at; used = used } ∷ under.waiting in
       let reached : Reached u g = follows.called t.function g under.reached stands in
-      let begins = all g f caller t.callers reached is n in
+      let begins = all t.function g f caller t.callers under.reached stands is n in
       let inside : Follows (activation u g (caller ∷ t.callers)) n many (prologue f many ++ body f) (t.of g).pieces = subst (λ k. Follows (activation u g (caller ∷ t.callers)) n k (prologue f k ++ body f) (t.of g).pieces) (sym is_many) begins in
       let r = template.running (std t n under names (Call (record { place = at; function = g; depth = length vs; used = used }) ∷ ps) temps memory draws new) also in
       let state : FunctionView → List Scalar → states.State = λ f values. record { function = g; names = empty_table; control = prologue f many ++ body f; values = values; frames = caller ∷ t.callers; world = record { memory = memory; draws = draws; violated = [] } } in

@@ -1,6 +1,5 @@
 -- What the laws ask of terms, and typing gives: what is copied is a struct, values are taken of calls that give one, a line
--- is read with three arguments, and a function of the unit that is called is there, is not the entry, and has as many
--- parameters as arguments.
+-- is read with three arguments, and a function of the unit that is called is there, and has as many parameters as arguments.
 use Rattle.std.specs.Prelude.{◌≡◌, ℕ, Bool, true, false}
 use Rattle.c_layout.specs.Types.{Struct}
 use Rattle.c_layout.specs.CheckedTrees as tree

@@ -1,1 +1,2 @@
+pub mod LabelMarks
 pub mod StatementsFollow
