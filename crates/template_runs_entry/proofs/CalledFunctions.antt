@@ -40,9 +40,9 @@ use Rattle.template_runs_scopes.proofs.ScopesOfTerms.{scopes_kept}
 use Rattle.template_runs_scopes.proofs.Objects.{object_jobs, objects_are_terms, leaves, NamedFrom, named_from, locals}
 use Rattle.template_runs_scopes.proofs.Positions.{position, numbers}
 use Rattle.template_runs_statements.proofs.Sequences.{statement_jobs}
-use Rattle.template_runs_bodies.proofs.Bodies.{body_items, body_from}
+use Rattle.template_runs_bodies.proofs.Bodies.{body_items, has_labels, body_from}
 use Rattle.template_runs_entry.specs.Entries.{IsMade, AreMade, EntryIsNotCalled}
-use Rattle.template_runs_entry.proofs.Bodies.{body_is, has_labels}
+use Rattle.template_runs_entry.proofs.Bodies.{body_is}
 use Rattle.template_runs_entry.proofs.CalledPlans.{Adds, adds_then, adds_entered, adds_left, adds_work, adds_statements, adds_result, adds_arguments, adds_outcome, result_jobs, result_names, argument_jobs, outcome_jobs}
 use Rattle.template_runs_entry.proofs.CalledFollows.{terms_both, results_are_terms, arguments_are_terms, prologue_runs, epilogue_runs}
 
@@ -325,7 +325,7 @@ module _ (t : Templates) (g : ℕ) (f : FunctionView) (e : IsMade t g false f) (
   body_follows n =
       let named = named_from a (planless plan) q5.names f.scope names6 known_all z5.names in
       let again = named_from a (planless plan) q7.names f.scope names8 known_all z7.names in
-      let all = body_from s a fits f (has_labels a s f e.is refl e.apart e.labelled e.suits) ends_there e.suits e.labelled n (length q5.names) (length q7.names) named again x.between none_x in_two labels_more y.front y.between y.first (known_between s a y.between (left ++ (last ++ gives)) y.back made.last y.second known) (y.back ++ []) stands_middle (after_body n) in
+      let all = body_from s a fits f (has_labels s a f e.is refl e.apart e.suits e.labelled) ends_there e.suits e.labelled n (length q5.names) (length q7.names) named again x.between none_x in_two labels_more y.front y.between y.first (known_between s a y.between (left ++ (last ++ gives)) y.back made.last y.second known) (y.back ++ []) stands_middle (after_body n) in
       subst (λ is. Follows a n 0 is (x.back ++ [])) (body_is f) (joined s a n 0 (body_items f (item.EndBody ∷ [])) x.back y.front y.back [] y.all all)
 
   result_there : has ≡ Outcome ∷ [] → Names a (length q2.names) Outcome

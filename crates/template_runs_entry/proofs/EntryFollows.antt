@@ -38,9 +38,9 @@ use Rattle.template_runs_works.proofs.Laying.{known_between}
 use Rattle.template_runs_scopes.proofs.Objects.{object_jobs, entered_planned, left_planned, named_from, locals}
 use Rattle.template_runs_scopes.proofs.Positions.{position, numbers}
 use Rattle.template_runs_statements.proofs.Sequences.{statement_jobs, listed}
-use Rattle.template_runs_bodies.proofs.Bodies.{body_items, body_jobs, body_from}
+use Rattle.template_runs_bodies.proofs.Bodies.{body_items, body_jobs, has_labels, body_from}
 use Rattle.template_runs_entry.specs.Entries.{IsEntry}
-use Rattle.template_runs_entry.proofs.Bodies.{work_names, work_scopes, body_is, has_labels}
+use Rattle.template_runs_entry.proofs.Bodies.{work_names, work_scopes, body_is}
 
 -- ---- the plan of the entry
 
@@ -113,7 +113,7 @@ module _ (t : Templates) (f : FunctionView) (e : IsEntry t f) where
       let stands : Stands a (pieces a ++ []) = record { front = []; all = sym (append-nil (pieces a)) } in
       let here = split s a n (pieces a) y.front y.back [] y.all stands in
       let end : Follows a n 0 (item.EndBody ∷ []) (y.back ++ []) = subst (λ xs. Follows a n 0 (item.EndBody ∷ []) (xs ++ [])) (sym z.is) (gives_end_body n 0 f [] (stop s ∷ (z.back ++ [])) e.is (gives_end n 0 s.at (z.back ++ []) refl)) in
-      let front = body_from s a fits f (has_labels a s f e.is refl e.apart e.labelled e.suits) (stops refl refl) e.suits e.labelled n 0 (length (locals f.scope)) named again (planless plan) refl x.scopes (enough f.labels plan.labels (grown s f).labels) y.front y.between y.first (known_between s a y.between (jobs.Ready (stop s) ∷ []) y.back made.last y.second known) (y.back ++ []) here end in
+      let front = body_from s a fits f (has_labels s a f e.is refl e.apart e.suits e.labelled) (stops refl refl) e.suits e.labelled n 0 (length (locals f.scope)) named again (planless plan) refl x.scopes (enough f.labels plan.labels (grown s f).labels) y.front y.between y.first (known_between s a y.between (jobs.Ready (stop s) ∷ []) y.back made.last y.second known) (y.back ++ []) here end in
       let whole = joined s a n 0 (body_items f (item.EndBody ∷ [])) (pieces a) y.front y.back [] y.all front in
       subst (λ xs. Follows a n 0 xs (pieces a)) (sym (ap body_of e.is))
       (subst (λ xs. Follows a n 0 xs (pieces a)) (body_is f)

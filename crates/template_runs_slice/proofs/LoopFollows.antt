@@ -15,6 +15,7 @@ use Rattle.template_runs_follow.specs.Follows.{Follows, AllFollow, pieces}
 use Rattle.template_runs_follow.proofs.Constructions.{gives_value, gives_unused, gives_address, gives_statement, gives_turn_end, gives_loop_end, gives_drop, gives_no_enters, gives_no_leaves, gives_step, gives_store, gives_object, gives_change, gives_enter, gives_leave, gives_return, gives_hop, gives_choice, gives_end}
 use Rattle.template_runs_turns.proofs.TurnsFollow.{runs_agree}
 use Rattle.template_runs_slice.specs.Units.{at}
+use Rattle.template_runs_slice.proofs.NoCalls.{not_called}
 use Rattle.template_runs_slice.specs.Loop.{is_less, counts, loop, quotient, main, behind_loop, in_body, in_test, of_main, templates, IsFollowed}
 
 module _ (b : ℕ) where
@@ -77,13 +78,9 @@ module _ (b : ℕ) where
   unfolding with_work with_name with_labels with_scope with_dispatch with_new_scope
   made = record { turns = 60; ended = refl; comes_to = refl }
 
--- the unit has no function but the entry
+-- the function calls none
 no_calls : (b : ℕ) → AllFollow (templates b)
-no_calls b zero f caller callers reached is n = absurd (is.not_entry refl)
-no_calls b (suc g) f caller callers reached is n = absurd (nothing is.is)
-  where
-    nothing : None ≡ Some f → ⊥
-    nothing e = cc
+no_calls b h g f caller callers reached calls is n = absurd (not_called g (of_main b).pieces tt calls)
 
 pub followed : (b : ℕ) → IsFollowed b
 followed b = record { template = made b; runs = runs_agree (templates b) (no_calls b) (starts b) }
