@@ -1,11 +1,12 @@
 -- The body of a function follows in its pieces, between what is entered and what is left.
-use Rattle.std.proofs.Common.{◌≡◌, ◌≤◌, ℕ, ◌++◌, List, [], ◌∷◌, true, refl, arith, sym, subst, append_assoc}
+use Rattle.std.proofs.Common.{◌≡◌, ◌≤◌, ℕ, Bool, true, false, cond, nat_lt, List, [], ◌∷◌, ◌++◌, Some, refl, arith, sym, subst, append_assoc}
 use Rattle.c_layout.specs.CheckedTrees.{statement_trees}
 use Rattle.c_layout.specs.CheckedUnits.{FunctionView}
-use Rattle.flow_lower_debts.specs.Marks.{IsLabelled}
+use Rattle.flow_lower_debts.specs.Marks.{all_labels_in, IsLabelled}
 use Rattle.flow_lower_tasks.specs.Acts as act
 use Rattle.flow_lower_tasks.specs.Pieces.{PieceView}
 use Rattle.flow_lower_tasks.specs.Plans.{Plan}
+use Rattle.flow_lower_tasks.specs.Scopes.{function_scopes}
 use Rattle.flow_lower_tasks.specs.Settings.{SettingView}
 use Rattle.flow_lower_tasks.specs.Works.{Job}
 use Rattle.flow_lower_functions.specs.Functions.{outermost}
@@ -14,15 +15,19 @@ use Rattle.flow_lower_works.specs.Derivations.{Makes}
 use Rattle.flow_lower_works.proofs.Derivations.{parted}
 use Rattle.ref_machine.specs.Items as item
 use Rattle.ref_machine.specs.Items.{Item}
+use Rattle.ref_machine.specs.SourceStates.{function_at}
 use Rattle.ref_machine.specs.StatementItems.{statements}
 use Rattle.template_runs.specs.TemplateStates.{Templates}
 use Rattle.template_runs_follow.specs.Follows.{own, Follows}
 use Rattle.template_runs_works.specs.TemplateParts.{IsOfUnit, IsKnown, Stands}
 use Rattle.template_runs_works.proofs.Runs.{Runs, stands_behind, joined, split}
 use Rattle.template_runs_works.proofs.Laying.{known_between}
+use Rattle.template_runs_scopes.specs.Chains.{AreApart}
 use Rattle.template_runs_scopes.specs.SuitedStatements.{not_enclosed, AllSuitIn}
 use Rattle.template_runs_scopes.proofs.Objects.{object_jobs, objects_are_terms, NamedFrom, enters, leaves}
 use Rattle.template_runs_scopes.proofs.Positions.{position, numbers}
+use Rattle.template_runs_scopes.proofs.ScopeTrees.{of_function}
+use Rattle.template_runs_labels.proofs.FoundLabels.{found_there}
 use Rattle.template_runs_noted.proofs.NotedChoices.{noted}
 use Rattle.template_runs_gotos.specs.Gotos.{HasLabels}
 use Rattle.template_runs_statements.proofs.Sequences.{statement_jobs}
@@ -38,6 +43,16 @@ body_jobs s f first second = object_jobs act.Enter s.at f.scope first ++ (statem
 
 through : (a b c : ℕ) → a ≤ b → b ≤ c → a ≤ c
 through a b c x y = omega (arith, x, y)
+
+at_most_once : (b : Bool) (a : ℕ) → a ≤ cond b 1 0 → a ≤ 1
+at_most_once true a le = le
+at_most_once false a le = omega (arith, le)
+
+-- the labels of a function whose scopes are those of a setting
+pub has_labels : (s : SettingView) (t : Templates) (f : FunctionView) → function_at t.unit t.unit.entry ≡ Some f → s.scopes ≡ function_scopes f → AreApart s → AllSuitIn t.unit f not_enclosed (f.scope ++ []) (statement_trees f.body) → IsLabelled f → HasLabels t s f
+has_labels s t f is tree apart suits labelled =
+    let scopes = of_function s f tree in
+    record { is = is; tree = tree; apart = apart; outermost = scopes.outermost; body = scopes.body; once = λ l. at_most_once (nat_lt l f.labels) (all_labels_in l (statement_trees f.body)) (labelled.labels l); found = λ l there. found_there t.unit f not_enclosed (f.scope ++ []) suits l there }
 
 module _ (s : SettingView) (t : Templates) (fits : IsOfUnit t s) (f : FunctionView) (has : HasLabels t s f) (is_entry : s.is_entry ≡ true) (suits : AllSuitIn t.unit f not_enclosed (f.scope ++ []) (statement_trees f.body)) (labelled : IsLabelled f) where
   -- behind it the function ends

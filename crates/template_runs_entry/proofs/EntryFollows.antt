@@ -1,9 +1,8 @@
 -- The body of the entry follows in the pieces of its template.
-use Rattle.std.proofs.Common.{◌≡◌, ◌≤◌, ℕ, zero, suc, ◌+◌, ◌-◌, ◌^◌, ℤ, Bool, true, false, cond, nat_lt, List, [], ◌∷◌, ◌++◌, length, Some, slice_get, refl, arith, ap, sym, subst, ◌∙◌, append_assoc}
+use Rattle.std.proofs.Common.{◌≡◌, ◌≤◌, ℕ, zero, suc, ◌+◌, ◌-◌, ◌^◌, ℤ, true, List, [], ◌∷◌, ◌++◌, length, Some, slice_get, refl, arith, ap, sym, subst, ◌∙◌, append_assoc}
 use Rattle.std.proofs.lemmas.List.{append-nil}
 use Rattle.c_layout.specs.CheckedTrees.{statement_trees}
 use Rattle.c_layout.specs.CheckedUnits.{FunctionView}
-use Rattle.flow_lower_debts.specs.Marks.{all_labels_in}
 use Rattle.flow_lower_tasks.specs.Acts as act
 use Rattle.flow_lower_tasks.specs.Pieces.{PieceView, End}
 use Rattle.flow_lower_tasks.specs.Plans.{Plan, with_work}
@@ -39,15 +38,12 @@ use Rattle.template_runs_works.specs.TemplateParts.{IsOfUnit, IsKnown, Stands}
 use Rattle.template_runs_works.proofs.Runs.{headed, joined, split}
 use Rattle.template_runs_works.proofs.Assignments.{one_more_job}
 use Rattle.template_runs_works.proofs.Laying.{known_between}
-use Rattle.template_runs_scopes.specs.SuitedStatements.{not_enclosed}
 use Rattle.template_runs_scopes.proofs.FunctionBodies.{same_statements}
 use Rattle.template_runs_scopes.proofs.Objects.{object_jobs, entered_planned, left_planned, named_from, locals}
 use Rattle.template_runs_scopes.proofs.Positions.{position, numbers}
-use Rattle.template_runs_scopes.proofs.ScopeTrees.{OfFunction, of_function}
-use Rattle.template_runs_labels.proofs.FoundLabels.{found_there}
 use Rattle.template_runs_gotos.specs.Gotos.{HasLabels}
 use Rattle.template_runs_statements.proofs.Sequences.{statement_jobs, listed}
-use Rattle.template_runs_bodies.proofs.Bodies.{body_items, body_jobs, body_from}
+use Rattle.template_runs_bodies.proofs.Bodies.{body_items, body_jobs, has_labels, body_from}
 use Rattle.template_runs_entry.specs.Entries.{IsEntry}
 
 gives_end_body : {t : Templates} (n d : ℕ) (f : FunctionView) (items : List Item) (ps : List PieceView) → function_at t.unit t.unit.entry ≡ Some f → Follows t n d [] ps → Follows t n d (item.EndBody ∷ items) ps
@@ -101,10 +97,6 @@ grown s f = let start = grows_not (no_plan f.labels) in search (works, grows_ent
 enough : (a b : ℕ) → a + 1 ≤ b → a ≤ b
 enough a b x = omega (arith, x)
 
-at_most_once : (b : Bool) (a : ℕ) → a ≤ cond b 1 0 → a ≤ 1
-at_most_once true a le = le
-at_most_once false a le = omega (arith, le)
-
 module _ (t : Templates) (f : FunctionView) (e : IsEntry t f) where
   abbrev s : SettingView
   s = setting_of t.unit.structs t.unit.model.pointer t.unit.model.int f true
@@ -121,11 +113,8 @@ module _ (t : Templates) (f : FunctionView) (e : IsEntry t f) where
   known : IsKnown t made.last
   known = record { names = λ base name there. subst (λ ns. slice_get ns base ≡ Some name) (sym made.names) there; labels = subst (λ l. l ≤ 2 ^ 32 - 1) made.labels e.few_labels }
 
-  scopes : OfFunction s f
-  scopes = of_function s f refl
-
   has : HasLabels t s f
-  has = record { is = e.is; tree = refl; apart = e.apart; outermost = scopes.outermost; body = scopes.body; once = λ l. at_most_once (nat_lt l f.labels) (all_labels_in l (statement_trees f.body)) (e.labelled.labels l); found = λ l there. found_there t.unit f not_enclosed (f.scope ++ []) e.suits l there }
+  has = has_labels s t f e.is refl e.apart e.suits e.labelled
 
   pub body_follows : (n : ℕ) → Follows t n 0 (body_of (function_at t.unit t.unit.entry)) (pieces t)
   body_follows n =
