@@ -78,6 +78,9 @@ choice_cases : (count : ℕ) (t : TreeView) → length (with_choice count t).cas
 unfolding with_choice
 choice_cases count t = length-append t.cases (replicate count 0) ∙ ap (λ k. length t.cases + k) (length-replicate count 0)
 
+zero_plus : (a : ℕ) → a ≡ 0 + a
+zero_plus a = omega arith
+
 plus_zero : (a : ℕ) → a ≡ a + 0
 plus_zero a = omega arith
 
@@ -117,7 +120,7 @@ pub cases_are : (f : FunctionView) → length (function_scopes f).cases ≡ all_
 cases_are f =
     let start = no_scopes f.labels in
     let outer = with_new_scope 0 [] start in
-    all_many (statement_trees f.body) 1 0 (with_new_scope 0 f.scope outer) ∙ ap (λ m. m + all_labels_of (statement_trees f.body)) (scope_cases 0 f.scope outer ∙ scope_cases 0 [] start)
+    all_many (statement_trees f.body) 1 0 (with_new_scope 0 f.scope outer) ∙ ap (λ m. m + all_labels_of (statement_trees f.body)) (scope_cases 0 f.scope outer ∙ scope_cases 0 [] start) ∙ sym (zero_plus (all_labels_of (statement_trees f.body)))
 
 -- ---- in works
 
@@ -129,9 +132,6 @@ abbrev pub labels_in_jobs : List Job → ℕ
 labels_in_jobs [] = 0
 labels_in_jobs (jobs.Statement i around ∷ js) = labels_of i + labels_in_jobs js
 labels_in_jobs (j ∷ js) = labels_in_jobs js
-
-zero_plus : (a : ℕ) → a ≡ 0 + a
-zero_plus a = omega arith
 
 one_and : (j : Job) (js : List Job) → labels_in_jobs (j ∷ js) ≡ labels_in_job j + labels_in_jobs js
 one_and (jobs.Value e d) js = zero_plus (labels_in_jobs js)

@@ -1,5 +1,6 @@
 -- `switch`: each value leads to its label in the body, through the block of its edge, or behind the switch.
 use Rattle.std.proofs.Common.{◌≡◌, ◌≤◌, ◌<◌, ℕ, ℤ, suc, ◌+◌, ◌-◌, ◌^◌, Bool, true, false, not, List, [], ◌∷◌, ◌++◌, length, Option, Some, None, slice_get, refl, arith, ap, sym, subst, ◌∙◌, append_assoc}
+use Rattle.std.proofs.lemmas.List.{append-nil}
 use Rattle.cc_base.specs.declared.diagnostics.Place.{Place}
 use Rattle.c_layout.specs.CheckedTrees as tree
 use Rattle.c_layout.specs.CheckedTrees.{TermTree, StatementTree}
@@ -55,7 +56,7 @@ use Rattle.template_runs_switches.proofs.SwitchTargets.{switch_follows}
 use Rattle.template_runs_statements.proofs.Sequences.{HasParts, AboutStatement}
 use Rattle.template_runs_statements.proofs.Selections.{count_terms, count_on, kept_one}
 use Rattle.template_runs_statements.proofs.ForLoops.{from_many, kept_many}
-use Rattle.template_runs_bodies.specs.LabelMarks.{IsMark, of_label}
+use Rattle.template_runs_bodies.specs.LabelMarks.{IsMark, of_label, of_case, of_other}
 use Rattle.template_runs_bodies.proofs.Finding.{finds_way, mark_kept}
 use Rattle.template_runs_bodies.proofs.FoundSelections.{FoundStatement}
 use Rattle.template_runs_bodies.proofs.SwitchArms.{IsTargeted, all_arms, aimed, one_block, block_terms, block_planned, enters_some}
