@@ -1,4 +1,4 @@
-//! Statements of the entry without calls of functions of the unit stand in their pieces as in the source.
+//! Statements stand in their pieces as in the source.
 ghost use Rattle.template_runs_bodies.specs.StatementsFollow.{LabelsFollow, StatementsFollow};
 
 /// Where the works of a statement come to pieces, its items follow in these, for any number of turns and whatever comes

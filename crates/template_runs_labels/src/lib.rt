@@ -1,4 +1,4 @@
-//! Laws on where the labels of the entry stand.
+//! Laws on where the labels of a function stand.
 #![tactic(auto)]
 
 mod theorems;

@@ -1,4 +1,4 @@
--- Jumps between any two places of the entry follow in their pieces.
+-- Jumps between any two places of a function follow in their pieces.
 use Rattle.std.specs.Prelude.{◌≡◌, ◌≤◌, ℕ, List, [], ◌∷◌, ◌++◌, length}
 use Rattle.flow_lower_tasks.specs.Pieces.{PieceView}
 use Rattle.flow_lower_tasks.specs.Plans.{Plan}
@@ -22,7 +22,7 @@ pub record Lies (s : SettingView) (t : Activation) (n : ℕ) (landing : Landing)
   pub leads : Leads t landing.label there
   pub follows : Follows t n 0 to there
 
--- from any scope of the entry
+-- from any scope of the function
 abbrev pub LeapsFollow : Type 0
 LeapsFollow = (t : Activation) (s : SettingView) → IsOfUnit t s → AreApart s → (n from : ℕ) (landing : Landing) (items to : List Item) → Chain s from (open_scopes items) → Lies s t n landing to
     → (p : Plan) → p.jobs ≡ [] → (ps : List PieceView) (r : Plan) → Makes s (planless (leap s from landing p)) (leap s from landing p).jobs ps r → IsKnown t r → (rest : List PieceView) → Stands t (ps ++ rest) → Follows t n 0 (jump items to) (ps ++ rest)

@@ -33,7 +33,7 @@ pub record Reaches (t : Activation) (n label : ℕ) (to : List Item) : Type 0 wh
   pub leads : Leads t label there
   pub follows : Follows t n 0 to there
 
--- what is left to do from each label of the entry on follows behind its mark
+-- what is left to do from each label of the function that runs on follows behind its mark
 abbrev pub LabelsReach : Activation → ℕ → Type 0
 LabelsReach t n = (f : FunctionView) → function_at t.unit t.function ≡ Some f → (l : ℕ) (to : List Item) → l < f.labels → from_label t.unit f l ≡ Some to → Reaches t n l to
 

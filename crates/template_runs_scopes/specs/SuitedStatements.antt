@@ -1,6 +1,6 @@
--- What the laws ask of statements, and typing gives: that
--- each jump has its loop, switch or label, that each case and label stands once, that what is copied is a struct, that an
--- integer object that is switched on is read with its own type, and that no object of a block is one of those around it.
+-- What the laws ask of statements, and typing gives: that each jump has its loop, switch or label, that each case and label
+-- stands once, that what is copied is a struct, that an integer object that is switched on is read with its own type, and
+-- that no object of a block is one of those around it.
 use Rattle.std.specs.Prelude.{◌≡◌, ◌≤◌, ◌<◌, ℕ, ◌+◌, ◌-◌, ◌^◌, Bool, true, false, List, [], ◌∷◌, ◌++◌, length, Option, Some, None, slice_get}
 use Rattle.c_layout.specs.Types.{Ty, Struct}
 use Rattle.c_layout.specs.CheckedTrees as tree

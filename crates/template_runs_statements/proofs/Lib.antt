@@ -1,5 +1,3 @@
-pub mod Jumps
-pub mod Returns
 pub mod Declarations
 pub mod Sequences
 pub mod Selections

@@ -43,8 +43,8 @@ use Rattle.template_runs_scopes.specs.SuitedStatements.{object_type, IsReadAs, I
 use Rattle.template_runs_scopes.proofs.KeptScopes.{AreTerms, Keeps, keeps_value, keeps_piece, keeps_name, keeps_labels, keeps_or}
 use Rattle.template_runs_scopes.proofs.Positions as positions
 use Rattle.template_runs_scopes.proofs.Positions.{Position, position, past, same_numbers}
-use Rattle.template_runs_statements.proofs.Jumps.{keeps_leap}
-use Rattle.template_runs_bodies.specs.LabelMarks.{IsMark, of_case, of_other}
+use Rattle.template_runs_jumps.proofs.Jumps.{keeps_leap}
+use Rattle.template_runs_cases.specs.LabelMarks.{IsMark, of_case, of_other}
 
 -- ---- the labels of a switch
 

@@ -44,7 +44,7 @@ use Rattle.template_runs_scopes.proofs.KeptScopes.{AreTerms, Keeps, keeps_or, ke
 use Rattle.template_runs_scopes.proofs.InScopes.{Goes, gives_way}
 use Rattle.template_runs_scopes.proofs.Objects.{object_jobs, left_planned, named_from, locals, leaves}
 use Rattle.template_runs_scopes.proofs.Ways.{way_up, chain_there, chain_home}
-use Rattle.template_runs_statements.proofs.Jumps.{keeps_left, keeps_way, work_names, no_scopes, leaves_and, works_and}
+use Rattle.template_runs_jumps.proofs.Jumps.{keeps_left, keeps_way, work_names, no_scopes, leaves_and, works_and}
 
 keeps_given : {start : Plan} (s : SettingView) (at : Place) (e : Option TermTree) (p : Plan) → Keeps start p → Keeps start (lowered.given s at e p)
 keeps_given s at None p g = g

@@ -1,0 +1,2 @@
+//! The edges of `switch` in their pieces.
+#![tactic(auto)]
