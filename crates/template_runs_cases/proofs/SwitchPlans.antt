@@ -34,7 +34,7 @@ use Rattle.ref_machine.specs.LabelSearch.{Sought, case, other}
 use Rattle.ref_machine.specs.SourceStates.{function_at, local_of}
 use Rattle.template_runs_follow.specs.Activations.{Activation}
 use Rattle.template_runs_follow.specs.Follows as follows
-use Rattle.template_runs_follow.specs.Follows.{Names, SameSwitched, entry_type}
+use Rattle.template_runs_follow.specs.Follows.{Names, SameSwitched, type_in}
 use Rattle.template_runs_works.specs.TemplateParts.{IsKnown}
 use Rattle.template_runs_works.proofs.Runs.{known_name}
 use Rattle.template_runs_works.proofs.Assignments.{one_more_job}

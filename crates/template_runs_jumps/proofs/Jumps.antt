@@ -1,7 +1,8 @@
 -- `break`, `continue` and `goto`.
-use Rattle.std.proofs.Common.{◌≡◌, ◌≤◌, ℕ, zero, suc, ◌==◌, true, cond, nat_lt, List, [], ◌∷◌, ◌++◌, length, Option, Some, None, refl, ap, sym, subst, ◌∙◌, append_assoc}
+use Rattle.std.proofs.Common.{◌≡◌, ◌≤◌, ℕ, zero, suc, ◌==◌, true, nat_lt, List, [], ◌∷◌, ◌++◌, length, refl, ap, sym, subst, ◌∙◌, append_assoc}
 use Rattle.cc_base.specs.declared.diagnostics.Place.{Place}
 use Rattle.c_layout.specs.CheckedTrees as tree
+use Rattle.c_layout.specs.CheckedUnits.{FunctionView}
 use Rattle.flow_lower_tasks.specs.Acts as act
 use Rattle.flow_lower_tasks.specs.Pieces.{PieceView}
 use Rattle.flow_lower_tasks.specs.Plans.{Plan, with_work}
@@ -12,8 +13,9 @@ use Rattle.flow_lower_tasks.specs.Works.{Job}
 use Rattle.flow_lower_tasks.specs.declared.pending_works.Landing.{Landing}
 use Rattle.flow_lower_tasks.specs.declared.pending_works.Surroundings.{Surroundings}
 use Rattle.flow_lower_expressions.specs.Branches as branches
+use Rattle.flow_lower_statements.specs.Jumps as lowered
 use Rattle.flow_lower_statements.specs.ScopeJumps as scopes
-use Rattle.flow_lower_statements.specs.ScopeJumps.{way, way_between, leap, all_left, all_entered}
+use Rattle.flow_lower_statements.specs.ScopeJumps.{way, leap, all_left, all_entered}
 use Rattle.flow_lower_functions.specs.Turns.{planless}
 use Rattle.flow_lower_works.specs.Derivations.{parts, Makes}
 use Rattle.flow_lower_works.proofs.Derivations.{parted}
@@ -23,11 +25,11 @@ use Rattle.ref_machine.specs.Items.{Item}
 use Rattle.ref_machine.specs.Scopes.{jump, all_of, open_scopes, without, inwards, behind_loop, behind_turn}
 use Rattle.template_runs_follow.specs.Activations.{Activation}
 use Rattle.template_runs_follow.specs.Follows as follows
-use Rattle.template_runs_follow.specs.Follows.{own, Follows}
+use Rattle.template_runs_follow.specs.Follows.{Follows}
 use Rattle.template_runs_follow.proofs.FewerTurns.{less}
 use Rattle.template_runs_follow.proofs.Constructions.{gives_statement, gives_no_enters}
 use Rattle.template_runs_works.specs.TemplateParts.{IsOfUnit, IsKnown, Stands}
-use Rattle.template_runs_works.proofs.Runs.{Runs, then_ends, dropped, stands_behind, joined, split, opened}
+use Rattle.template_runs_works.proofs.Runs.{Runs, then_ends, stands_behind, joined, split, opened}
 use Rattle.template_runs_works.proofs.Assignments.{one_more_job, nothing_done}
 use Rattle.template_runs_terms.proofs.Choices.{jumping, hops}
 use Rattle.template_runs_works.proofs.Laying.{known_between}
@@ -41,7 +43,7 @@ use Rattle.template_runs_scopes.proofs.InScopes.{Goes, gives_way, reaches_less}
 use Rattle.template_runs_gotos.specs.Gotos.{HasLabels}
 use Rattle.template_runs_gotos.proofs.Gotos.{follows_goto}
 use Rattle.template_runs_scopes.proofs.Objects.{object_jobs, Planned, left_planned, named_from, locals, leaves}
-use Rattle.template_runs_scopes.proofs.Ways.{way_up, all_in, chain_there, chain_home}
+use Rattle.template_runs_scopes.proofs.Ways.{way_up, all_in, chain_there}
 
 -- ---- ways begin no scopes
 
