@@ -75,7 +75,7 @@ module _ (s : SettingView) (t : Templates) (fits : IsOfUnit t s) (f : FunctionVi
       let last : Follows t n 0 (behind_statements f) (z.back ++ rest) = left.from z.between none_out z.back r z.second known (item.EndBody ∷ []) rest (stands_behind t z.front (z.back ++ rest) at_body) end in
       let choices = noted s t.unit f not_enclosed (f.scope ++ []) has.tree suits labelled (few_cases s f (outermost s.end) p none ins outs ps r m known.labels) in
       let inside = joined s t n 0 (statements trees ++ behind_statements f) y.back z.front z.back rest z.all
-          (statements_go s t fits f has is_entry suits y.between none_in begun_in choices few_in z.front z.between z.first (known_between s t z.between outs z.back r z.second known) (z.back ++ rest) at_body n last) in
+      (statements_go s t fits f has is_entry suits y.between none_in begun_in choices few_in z.front z.between z.first (known_between s t z.between outs z.back r z.second known) (z.back ++ rest) at_body n last) in
       let entered : Runs s t n ins (item.Enters f.scope ∷ []) 0 0 = subst (λ at. Runs s t n (object_jobs act.Enter at f.scope first) (item.Enters f.scope ∷ []) 0 0) (sym fits.place) (enters s t fits n f.scope first 0 named) in
       let front = entered.from p none y.front y.between y.first (known_between s t y.between (js ++ outs) y.back r y.second known) (statements trees ++ behind_statements f) (y.back ++ rest) at_front inside in
       subst (λ xs. Follows t n 0 (item.Enters f.scope ∷ xs) (ps ++ rest)) (sym (append_assoc (statements trees) (item.Leaves f.scope ∷ []) (item.EndBody ∷ [])))

@@ -178,9 +178,9 @@ module _ (s : SettingView) (t : Templates) (fits : IsOfUnit t s) (f : FunctionVi
         let one = aimed s from last armed.after in
         let mark : Sought → ℕ = switch_mark count p in
         let goals : AllGoals t s fits n body items from enough after mark 0 armed.arms = all_goals t s fits n body items from enough after mark 0 armed.arms (λ i a there. let y = arms.each i a there in
-            subst (λ j. Goal t s body items from (case j) (mark (case j)) after a.landing) (from_zero i) (goal_of_case t s has.apart body items from k.chain c.scopes stand.0 i (p.labels + i) after a.landing (is_found t.unit f i body (by_switch looping) known (item.LoopEnd ∷ items) suits.4 (suits.3 i y.0)) y.1.label_is (λ scope is. y.1.scope_is ∙ choice.cases i scope y.0 is))) in
+        subst (λ j. Goal t s body items from (case j) (mark (case j)) after a.landing) (from_zero i) (goal_of_case t s has.apart body items from k.chain c.scopes stand.0 i (p.labels + i) after a.landing (is_found t.unit f i body (by_switch looping) known (item.LoopEnd ∷ items) suits.4 (suits.3 i y.0)) y.1.label_is (λ scope is. y.1.scope_is ∙ choice.cases i scope y.0 is))) in
         let goal : Goal t s body items from other (p.labels + count) after last = subst (λ noted. Goal t s body items from other (p.labels + count) after (landing_of noted (dispatch_of count p) (record { label = after; scope = from }))) (sym choice.fallback)
-            (other_goal t s has.apart body items from k.chain (p.labels + count) after (dispatch_of count p) refl (found t.unit other body (item.LoopEnd ∷ items)) (stands_in other body from c.scopes) (in_scopes t s other body from c.scopes (item.LoopEnd ∷ items) stand.0 k.chain) refl) in
+        (other_goal t s has.apart body items from k.chain (p.labels + count) after (dispatch_of count p) refl (found t.unit other body (item.LoopEnd ∷ items)) (stands_in other body from c.scopes) (in_scopes t s other body from c.scopes (item.LoopEnd ∷ items) stand.0 k.chain) refl) in
         let v = valued s at e cases from p in
         let ev = edged s at e cases from p in
         let dv = dispatched s at e cases from p in
@@ -195,8 +195,8 @@ module _ (s : SettingView) (t : Templates) (fits : IsOfUnit t s) (f : FunctionVi
         let heads : List Job = jobs.Value e 0 ∷ (jobs.Ready piece ∷ []) in
         let none_named = mention_jobs (named e) last_to.after ∙ one.jobs ∙ arms.jobs ∙ none in
         let jobs_are : all.jobs ≡ jobs.Value e 0 ∷ (jobs.Ready piece ∷ (ej ++ (bj ++ tail))) =
-            whole_jobs s at e cases from p body around ∙ ap (λ js. js ++ tail) (end.jobs ∙ ap (λ js. js ++ bj) (edges.jobs ∙ ap (λ js. js ++ ej) (valued_jobs s at e cases from p none_named)))
-            ∙ append_assoc (heads ++ ej) bj tail ∙ append_assoc heads ej (bj ++ tail) in
+        whole_jobs s at e cases from p body around ∙ ap (λ js. js ++ tail) (end.jobs ∙ ap (λ js. js ++ bj) (edges.jobs ∙ ap (λ js. js ++ ej) (valued_jobs s at e cases from p none_named)))
+        ∙ append_assoc (heads ++ ej) bj tail ∙ append_assoc heads ej (bj ++ tail) in
         let names_are = whole_names s at e cases from p body around ∙ end.names ∙ ap (λ ns. ns ++ locals goal.objects) edges.names ∙ append_assoc v.names (locals xs) (locals goal.objects) in
         let named_edges = named_from t start v.names xs (locals goal.objects) known_all names_are in
         let named_end = named_from t start ev.names goal.objects [] known_all (whole_names s at e cases from p body around ∙ end.names ∙ ap (λ ns. ev.names ++ ns) (sym (append-nil (locals goal.objects)))) in
@@ -229,18 +229,18 @@ module _ (s : SettingView) (t : Templates) (fits : IsOfUnit t s) (f : FunctionVi
         let finds = finds_in p po none_o begun_o fb pb mb (known_between s t pb _ _ r m5 known_r) items rest at_body few k g in
         let ends : Reaches t n after items = record { there = rest; leads = to_after; follows = g } in
         let reached = all_reached t s fits n body items from enough after mark 0 armed.arms goals (λ i a there. let y = arms.each i a there in
-            subst (λ j. (x : Goal t s body items from (case j) (mark (case j)) after a.landing) → Reaches t n a.landing.label x.to) (from_zero i)
-            (λ x. reach t n body items (case i) (p.labels + i) after (λ to is. finds (case i) (p.labels + i) (mark_kept (started count p) po number (case i) (p.labels + i) grown_o (case_is_mark count p i y.0 few)) to is) ends x.to a.landing.label x.comes)) in
+        subst (λ j. (x : Goal t s body items from (case j) (mark (case j)) after a.landing) → Reaches t n a.landing.label x.to) (from_zero i)
+        (λ x. reach t n body items (case i) (p.labels + i) after (λ to is. finds (case i) (p.labels + i) (mark_kept (started count p) po number (case i) (p.labels + i) grown_o (case_is_mark count p i y.0 few)) to is) ends x.to a.landing.label x.comes)) in
         let reached_end = reach t n body items other (p.labels + count) after (λ to is. finds other (p.labels + count) (mark_kept (started count p) po number other (p.labels + count) grown_o (other_is_mark count p)) to is) ends goal.to last.label goal.comes in
         let enough_v = through armed.after.labels last_to.after.labels pv.labels one.labels (through last_to.after.labels start.labels pv.labels other_all.labels grown_v.labels) in
         let enough_e = through last_to.after.labels pv.labels pe.labels (through last_to.after.labels start.labels pv.labels other_all.labels grown_v.labels) grown_e.labels in
         let targets_are : (i : ℕ) (a : CaseArm) → slice_get armed.arms i ≡ Some a → IsTargeted s from a.landing a.to armed.after.labels = λ i a there. (arms.each i a there).1.target in
         let entered = all_lead t s fits n body items from enough after mark armed.after.labels 0 armed.arms goals (length v.names) targets_are pv none_v enough_v fe pe me (known_between s t pe _ _ r m3 known_r) named_edges we at_edges in
         let entered_end = one_leads t s fits n last_to.to last.label goal.objects (length ev.names) pe none_e fo po mo (known_between s t po _ _ r m4 known_r) named_end
-            (λ some. below last_to.to last_to.after.labels pe.labels (one.target.own (enters_some s from enough last goal.objects goal.between goal.is_there ∙ ap not some)) enough_e) wb at_end in
+        (λ some. below last_to.to last_to.after.labels pe.labels (one.target.own (enters_some s from enough last goal.objects goal.between goal.is_there ∙ ap not some)) enough_e) wb at_end in
         let targets : HasTargets t n 0 body (item.LoopEnd ∷ items) armed.arms last_to.to = record {
-            cases = λ i a there. subst (λ j. IsTarget t n 0 body (item.LoopEnd ∷ items) (case j) a.to) (sym (from_zero i)) (all_targets t s fits n body items from enough after mark armed.after.labels 0 armed.arms goals targets_are entered reached i a there);
-            others = target_of t s fits n body items from enough after mark other last last_to.to last_to.after.labels goal one.target entered_end reached_end;
+          cases = λ i a there. subst (λ j. IsTarget t n 0 body (item.LoopEnd ∷ items) (case j) a.to) (sym (from_zero i)) (all_targets t s fits n body items from enough after mark armed.after.labels 0 armed.arms goals targets_are entered reached i a there);
+          others = target_of t s fits n body items from enough after mark other last last_to.to last_to.after.labels goal one.target entered_end reached_end;
         } in
         ((terms s t fits n e).value 0 suits.0.0 suits.0.1).from start refl fv pv mv (known_between s t pv _ _ r m1 known_r) select (piece ∷ wd) stands
         (switch_follows t n 0 at (integer_type (term_type e)) (named e) sw.base cases armed.arms last_to.to body (item.LoopEnd ∷ items) wd arms.are same targets)))))))) stands

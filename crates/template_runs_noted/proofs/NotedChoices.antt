@@ -194,7 +194,7 @@ module _ (s : SettingView) where
           let two = inner_on (switches_in first) t v c place low lowc (λ m. cases_in m second) (defaults_in second) g (inner_second t c place low lowc (λ m. cases_in m first) (λ m. cases_in m second) (defaults_in first) (defaults_in second) x) in (
             has first enclosed known suits.1 k c place low lowc t one le lec (settled_before second k c place low lowc v two b),
             subst (λ m. HasChoices s second k m (length t.choices + switches_in first)) (length_more (scopes_in first) t v (scoped_more first k c t))
-            (subst (λ m. HasChoices s second k (length v.scopes) m) g.choices (has second enclosed known suits.2 k c place low lowc v two (through low (length t.cases) (length v.cases) le g.cases) (at_least lowc (length t.choices) (switches_in first) (length v.choices) lec g.choices) b)),
+                (subst (λ m. HasChoices s second k (length v.scopes) m) g.choices (has second enclosed known suits.2 k c place low lowc v two (through low (length t.cases) (length v.cases) le g.cases) (at_least lowc (length t.choices) (switches_in first) (length v.choices) lec g.choices) b)),
           )
       has (tree.While e body) enclosed known suits k c place low lowc t x le lec b = has body by_loop known suits.1 k c place low lowc t x le lec b
       has (tree.Do body e) enclosed known suits k c place low lowc t x le lec b = has body by_loop known suits.0 k c place low lowc t x le lec b
@@ -212,9 +212,9 @@ module _ (s : SettingView) where
           let scopes = length_more (all_scopes_in first) o v (all_more first outer c o) ∙ ap (λ m. m + all_scopes_in first) (length_new k objects t) in
           let switches = g.choices ∙ ap (λ m. m + all_switches_in first) (same_length o t h.choices) in (
             subst (λ m. AllHaveChoices s first outer m (length t.choices)) (length_new k objects t)
-            (subst (λ m. AllHaveChoices s first outer (length o.scopes) m) (same_length o t h.choices) (all_have first not_enclosed _ suits.1 outer c place low lowc o one le_o lec_o (settled_before body outer c place low lowc v two b))),
+                (subst (λ m. AllHaveChoices s first outer (length o.scopes) m) (same_length o t h.choices) (all_have first not_enclosed _ suits.1 outer c place low lowc o one le_o lec_o (settled_before body outer c place low lowc v two b))),
             subst (λ m. HasChoices s body outer m (length t.choices + all_switches_in first)) scopes
-            (subst (λ m. HasChoices s body outer (length v.scopes) m) switches (has body by_loop _ suits.4 outer c place low lowc v two (through low (length o.cases) (length v.cases) le_o g.cases) (at_least lowc (length o.choices) (all_switches_in first) (length v.choices) lec_o g.choices) b)),
+                (subst (λ m. HasChoices s body outer (length v.scopes) m) switches (has body by_loop _ suits.4 outer c place low lowc v two (through low (length o.cases) (length v.cases) le_o g.cases) (at_least lowc (length o.choices) (all_switches_in first) (length v.choices) lec_o g.choices) b)),
           )
       has (tree.Switch at e labels has_default values body) enclosed known suits k c place low lowc t x le lec b =
           let count = length labels in
@@ -229,7 +229,7 @@ module _ (s : SettingView) where
           let settled : Settled (scoped body k number v) (first + count) (suc number) = record { cases = λ q more less. b.cases q (past low first count q le more) less; choices = λ q more less. b.choices q (past_number lowc number q lec more) less; few = b.few } in (
             choice_is count body (by_switch enclosed) known suits.4 suits.2 k low lowc t le lec b,
             subst (λ m. HasChoices s body k m (suc number)) (choice_scopes count t)
-            (subst (λ m. HasChoices s body k (length v.scopes) m) (new_length count t) (has body (by_switch enclosed) known suits.4 k number first (first + count) (suc number) v inside (no_more (first + count) (length v.cases) (new_cases count t)) (no_more (suc number) (length v.choices) (new_length count t)) settled)),
+                (subst (λ m. HasChoices s body k (length v.scopes) m) (new_length count t) (has body (by_switch enclosed) known suits.4 k number first (first + count) (suc number) v inside (no_more (first + count) (length v.cases) (new_cases count t)) (no_more (suc number) (length v.choices) (new_length count t)) settled)),
           )
       has (tree.Case m body) enclosed known suits k c place low lowc t x le lec b =
           let o = with_case c m k t in
@@ -257,7 +257,7 @@ module _ (s : SettingView) where
           let two = inner_on (switches_in first) t v c place low lowc (λ m. all_cases_in m rest) (all_defaults_in rest) g (inner_second t c place low lowc (λ m. cases_in m first) (λ m. all_cases_in m rest) (defaults_in first) (all_defaults_in rest) x) in (
             has first enclosed known suits.0 k c place low lowc t one le lec (all_settled_before rest k c place low lowc v two b),
             subst (λ m. AllHaveChoices s rest k m (length t.choices + switches_in first)) (length_more (scopes_in first) t v (scoped_more first k c t))
-            (subst (λ m. AllHaveChoices s rest k (length v.scopes) m) g.choices (all_have rest enclosed known suits.1 k c place low lowc v two (through low (length t.cases) (length v.cases) le g.cases) (at_least lowc (length t.choices) (switches_in first) (length v.choices) lec g.choices) b)),
+                (subst (λ m. AllHaveChoices s rest k (length v.scopes) m) g.choices (all_have rest enclosed known suits.1 k c place low lowc v two (through low (length t.cases) (length v.cases) le g.cases) (at_least lowc (length t.choices) (switches_in first) (length v.choices) lec g.choices) b)),
           )
 
 -- ---- the switches of a function
