@@ -32,7 +32,7 @@ use Rattle.template_runs_noted.proofs.NotedChoices.{noted}
 use Rattle.template_runs_gotos.specs.Gotos.{HasLabels}
 use Rattle.template_runs_statements.proofs.Sequences.{statement_jobs}
 use Rattle.template_runs_statements.proofs.Selections.{count_terms}
-use Rattle.template_runs_cases.proofs.CoveredCases.{few_cases}
+use Rattle.template_runs_bodies.proofs.CoveredCases.{few_cases}
 use Rattle.template_runs_bodies.proofs.FunctionLabels.{behind_statements, statements_go}
 
 abbrev pub body_items : FunctionView → List Item → List Item
