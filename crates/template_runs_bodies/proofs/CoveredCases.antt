@@ -31,7 +31,7 @@ use Rattle.template_runs_statements.proofs.Selections.{block_planned, if_jobs, i
 use Rattle.template_runs_statements.proofs.Loops.{while_jobs, while_planned, do_jobs, do_planned}
 use Rattle.template_runs_statements.proofs.ForLoops.{for_planned, turn_jobs}
 use Rattle.template_runs_statements.proofs.Labelled.{labelled_jobs, labelled_planned}
-use Rattle.template_runs_bodies.proofs.SwitchPlans.{after_of, begun_of, started, begins, dispatched, switch_plan, start_grows, whole_grows, whole_jobs}
+use Rattle.template_runs_dispatches.proofs.SwitchPlans.{after_of, begun_of, started, begins, dispatched, switch_plan, start_grows, whole_grows, whole_jobs}
 
 -- how many case labels a statement has, in all of its switches
 abbrev mutual

@@ -23,7 +23,7 @@ use Rattle.template_runs_scopes.specs.Contexts.{Reaches}
 use Rattle.template_runs_scopes.proofs.Positions.{Position, position}
 use Rattle.template_runs_scopes.proofs.InScopes.{Goes}
 use Rattle.template_runs_statements.proofs.Selections.{Counts}
-use Rattle.template_runs_bodies.specs.LabelMarks.{IsMark, of_label, of_case, of_other}
+use Rattle.template_runs_dispatches.specs.LabelMarks.{IsMark, of_label, of_case, of_other}
 
 -- ---- marks
 

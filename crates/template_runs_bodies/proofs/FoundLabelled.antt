@@ -30,7 +30,7 @@ use Rattle.template_runs_scopes.proofs.Positions.{Position}
 use Rattle.template_runs_scopes.proofs.InScopes.{Goes}
 use Rattle.template_runs_statements.proofs.Sequences.{AboutStatement}
 use Rattle.template_runs_statements.proofs.Labelled.{labelled_jobs, labelled_planned, labelled_scopes}
-use Rattle.template_runs_bodies.specs.LabelMarks.{IsMark, of_label, of_case, of_other}
+use Rattle.template_runs_dispatches.specs.LabelMarks.{IsMark, of_label, of_case, of_other}
 use Rattle.template_runs_bodies.proofs.Finding.{Finds, mark_kept, mark_below}
 use Rattle.template_runs_bodies.proofs.FoundSelections.{FoundStatement}
 

@@ -38,7 +38,7 @@ use Rattle.template_runs_statements.proofs.Sequences.{statement_jobs, HasParts, 
 use Rattle.template_runs_statements.proofs.Selections.{Counts, count_terms, count_on, kept_one}
 use Rattle.template_runs_statements.proofs.Loops.{while_jobs, while_planned, while_scopes, while_grows, while_at_body, while_context, while_again, while_turns, do_jobs, do_planned, do_scopes, do_grows, do_context, do_again, do_turns}
 use Rattle.template_runs_statements.proofs.ForLoops.{Planned, for_planned, for_grows, test_jobs, clause_jobs, turn_jobs, tests_are_terms, turns_count, turns_go, from_many, kept_many, for_at_body, for_context, for_again, for_turns}
-use Rattle.template_runs_bodies.specs.LabelMarks.{IsMark}
+use Rattle.template_runs_dispatches.specs.LabelMarks.{IsMark}
 use Rattle.template_runs_bodies.proofs.Finding.{Finds, FindsFrom, finds_front, finds_back, finds_way, mark_kept}
 use Rattle.template_runs_bodies.proofs.FoundSelections.{FoundStatement, leaves_go}
 

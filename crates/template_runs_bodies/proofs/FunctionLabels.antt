@@ -24,7 +24,7 @@ use Rattle.template_runs_scopes.proofs.Positions.{position, numbers}
 use Rattle.template_runs_choices.specs.Choices.{AllHaveChoices}
 use Rattle.template_runs_gotos.specs.Gotos.{HasLabels}
 use Rattle.template_runs_statements.proofs.Sequences.{statement_jobs}
-use Rattle.template_runs_bodies.specs.LabelMarks.{of_label}
+use Rattle.template_runs_dispatches.specs.LabelMarks.{of_label}
 use Rattle.template_runs_bodies.proofs.Statements.{all_about, all_finds}
 
 -- what is left to do behind the statements of a function

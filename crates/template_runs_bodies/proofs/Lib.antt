@@ -2,11 +2,6 @@ pub mod Finding
 pub mod FoundSelections
 pub mod FoundLoops
 pub mod FoundLabelled
-pub mod DeeperScopes
-pub mod SwitchArms
-pub mod SwitchBlocks
-pub mod SwitchGoals
-pub mod SwitchPlans
 pub mod Switches
 pub mod Statements
 pub mod FunctionLabels

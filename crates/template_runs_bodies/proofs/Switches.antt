@@ -56,13 +56,13 @@ use Rattle.template_runs_switches.proofs.SwitchTargets.{switch_follows}
 use Rattle.template_runs_statements.proofs.Sequences.{HasParts, AboutStatement}
 use Rattle.template_runs_statements.proofs.Selections.{count_terms, count_on, kept_one}
 use Rattle.template_runs_statements.proofs.ForLoops.{from_many, kept_many}
-use Rattle.template_runs_bodies.specs.LabelMarks.{IsMark, of_label, of_case, of_other}
+use Rattle.template_runs_dispatches.specs.LabelMarks.{IsMark, of_label, of_case, of_other}
 use Rattle.template_runs_bodies.proofs.Finding.{finds_way, mark_kept}
 use Rattle.template_runs_bodies.proofs.FoundSelections.{FoundStatement}
-use Rattle.template_runs_bodies.proofs.SwitchArms.{IsTargeted, all_arms, aimed, one_block, block_terms, block_planned, enters_some}
-use Rattle.template_runs_bodies.proofs.SwitchBlocks.{Comes, to_label, to_end, Goal, one_leads, AllGoals, all_goals, edge_jobs, edge_terms, entered_in, edges_planned, all_lead, all_reached, all_targets, target_of}
-use Rattle.template_runs_bodies.proofs.SwitchGoals.{goal_found, goal_behind, goal_of_case, is_found}
-use Rattle.template_runs_bodies.proofs.SwitchPlans.{dispatch_of, after_of, begun_of, started, begins, start_position, switch_mark, case_is_mark, other_is_mark, past_switch, arms_at, other_at, other_to, switched, dispatch_piece, valued, edged, dispatched, switch_plan, dispatch_keeps, start_grows, named_grows, other_grows, whole_grows, whole_jobs, whole_position, whole_names, valued_jobs, valued_names, mention_jobs, same_switched}
+use Rattle.template_runs_dispatches.proofs.SwitchArms.{IsTargeted, all_arms, aimed, one_block, block_terms, block_planned, enters_some}
+use Rattle.template_runs_dispatches.proofs.SwitchBlocks.{Comes, to_label, to_end, Goal, one_leads, AllGoals, all_goals, edge_jobs, edge_terms, entered_in, edges_planned, all_lead, all_reached, all_targets, target_of}
+use Rattle.template_runs_dispatches.proofs.SwitchGoals.{goal_found, goal_behind, goal_of_case, is_found}
+use Rattle.template_runs_dispatches.proofs.SwitchPlans.{dispatch_of, after_of, begun_of, started, begins, start_position, switch_mark, case_is_mark, other_is_mark, past_switch, arms_at, other_at, other_to, switched, dispatch_piece, valued, edged, dispatched, switch_plan, dispatch_keeps, start_grows, named_grows, other_grows, whole_grows, whole_jobs, whole_position, whole_names, valued_jobs, valued_names, mention_jobs, same_switched}
 
 no_label : (to : List Item) → None ≡ Some to → ⊥
 no_label to e = cc

@@ -1,2 +1,1 @@
-pub mod LabelMarks
 pub mod StatementsFollow

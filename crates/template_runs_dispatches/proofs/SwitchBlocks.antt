@@ -32,7 +32,7 @@ use Rattle.template_runs_scopes.proofs.Objects as objects
 use Rattle.template_runs_scopes.proofs.Objects.{object_jobs, NamedFrom, locals}
 use Rattle.template_runs_switches.specs.SwitchTargets.{IsTarget}
 use Rattle.template_runs_ways.specs.Between.{Between}
-use Rattle.template_runs_bodies.proofs.SwitchArms.{IsTargeted, one_block, block_terms, Blocked, blocked_none, blocked_on, block_planned, enters_some}
+use Rattle.template_runs_dispatches.proofs.SwitchArms.{IsTargeted, one_block, block_terms, Blocked, blocked_none, blocked_on, block_planned, enters_some}
 
 -- from a label of a switch on, or behind the switch, where it has no such label
 pub data Comes (t : Templates) (body : StatementTree) (items : List Item) (l : Sought) (mark after : ℕ) : List Item → ℕ → Type 0 where

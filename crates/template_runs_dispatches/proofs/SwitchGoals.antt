@@ -26,8 +26,8 @@ use Rattle.template_runs_labels.proofs.LabelScopes.{in_scopes}
 use Rattle.template_runs_ways.specs.Between as between
 use Rattle.template_runs_ways.specs.Between.{Between}
 use Rattle.template_runs_ways.proofs.WaysOfChains.{way_of}
-use Rattle.template_runs_bodies.proofs.DeeperScopes.{Deepens, missing, there, deeper}
-use Rattle.template_runs_bodies.proofs.SwitchBlocks.{Comes, to_label, to_end, Goal}
+use Rattle.template_runs_dispatches.proofs.DeeperScopes.{Deepens, missing, there, deeper}
+use Rattle.template_runs_dispatches.proofs.SwitchBlocks.{Comes, to_label, to_end, Goal}
 
 never : (to : List Item) → None ≡ Some to → ⊥
 never to e = cc

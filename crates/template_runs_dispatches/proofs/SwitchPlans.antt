@@ -44,7 +44,7 @@ use Rattle.template_runs_scopes.proofs.KeptScopes.{AreTerms, Keeps, keeps_value,
 use Rattle.template_runs_scopes.proofs.Positions as positions
 use Rattle.template_runs_scopes.proofs.Positions.{Position, position, past, same_numbers}
 use Rattle.template_runs_statements.proofs.Jumps.{keeps_leap}
-use Rattle.template_runs_bodies.specs.LabelMarks.{IsMark, of_case, of_other}
+use Rattle.template_runs_dispatches.specs.LabelMarks.{IsMark, of_case, of_other}
 
 -- ---- the labels of a switch
 
