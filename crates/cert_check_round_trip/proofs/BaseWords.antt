@@ -1,5 +1,5 @@
 -- A set of bases is read back from its digits.
-use Rattle.std.proofs.Common.{◌≡◌, ◌≢◌, ◌∙◌, ◌+◌, ◌*◌, ◌/◌, ◌%◌, ◌<◌, ◌≤◌, ℕ, zero, suc, Bool, true, false, cond, ◌&&◌, ◌||◌, ◌==◌, ◌∷◌, length, refl, sym, ap, subst, arith, lt-ltb, ◌⊎◌, inl, inr}
+use Rattle.std.proofs.Common.{◌≡◌, ◌≢◌, ◌∙◌, ◌+◌, ◌*◌, ◌/◌, ◌%◌, ◌<◌, ◌≤◌, ℕ, zero, suc, Bool, true, false, cond, ◌&&◌, ◌||◌, ◌==◌, length, refl, sym, ap, subst, arith, lt-ltb, ◌⊎◌, inl, inr}
 use Rattle.std.specs.Prelude.{codes, nat_le}
 use Rattle.std.proofs.lemmas.Bool.{cases_Bool, cases_lt, eqb-true, and_parts}
 use Rattle.pointer_domain.specs.declared.base_sets.Bases.{Bases}
@@ -132,9 +132,6 @@ module _ (s : Bases) where
   four_more : (set : Bases) (at : ℕ) → at < 254 → HasFrom set (suc at * 4) → HasFrom (with_four set at) (at * 4)
   four_more set at low has n h = four_has set at n low h ∙ by_place (cases_lt n (at * 4))
     where
-
-
-
       by_place : (n < at * 4) ⊎ (at * 4 ≤ n) → ((bases_has s (at * 4 + 3) && (n == at * 4 + 3)) || ((bases_has s (at * 4 + 2) && (n == at * 4 + 2)) || ((bases_has s (at * 4 + 1) && (n == at * 4 + 1)) || ((bases_has s (at * 4) && (n == at * 4)) || bases_has set n)))) ≡ (bases_has s n && nat_le (at * 4) n)
       by_place (inl b) =
           or_right _ _ _ (other (bases_has s (at * 4 + 3)) (at * 4 + 3) n (λ e. omega (arith, e, b)))
