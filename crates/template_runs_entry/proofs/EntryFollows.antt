@@ -103,7 +103,7 @@ module _ (t : Templates) (f : FunctionView) (e : IsEntry t f) where
   made = derived s plan (t.of t.unit.entry) e.template
 
   fits : IsOfUnit t s
-  fits = record { structs = refl; pointer = refl; int = refl; place = sym (ap place_of e.is); once = marked_once t.unit.structs t.unit.model.pointer t.unit.model.int f true (t.of t.unit.entry) e.template e.labelled }
+  fits = record { structs = refl; pointer = refl; int = refl; place = sym (ap place_of e.is); once = λ l less. marked_once t.unit.structs t.unit.model.pointer t.unit.model.int f true (t.of t.unit.entry) e.template e.labelled e.few_labels l }
 
   known : IsKnown t made.last
   known = record { names = λ base name there. subst (λ ns. slice_get ns base ≡ Some name) (sym made.names) there; labels = subst (λ l. l ≤ 2 ^ 32 - 1) made.labels e.few_labels }
