@@ -22,9 +22,9 @@ use Rattle.cert_check_reading.specs.MapReading.{has_head, head_read, map_rows, m
 use Rattle.cert_check_reading.specs.OwnReading.{IsOwnRow, greatest_own}
 use Rattle.cert_check_round_trip.specs.ReadableRows.{IsReadableRow, AreReadableRows}
 use Rattle.cert_check_round_trip.specs.ReadMaps.{IsSmall, IsReadBack}
-use Rattle.cert_check_round_trip.proofs.Words.{IsFreeOf, free_both}
-use Rattle.cert_check_round_trip.proofs.Numbers.{apart_below, decimal_free}
-use Rattle.cert_check_round_trip.proofs.CellWords.{same_refl}
+use Rattle.cert_check_text_laws.proofs.Words.{IsFreeOf, free_both}
+use Rattle.cert_check_text_laws.proofs.Numbers.{apart_below, decimal_free}
+use Rattle.cert_check_text_laws.proofs.CellWords.{same_refl}
 use Rattle.cert_check_round_trip.proofs.LineEnds.{until_there, ends_there, next_there, left_there, IsBehind}
 use Rattle.cert_check_round_trip.proofs.RowWords.{AreBlocksRead, blocks_back}
 use Rattle.cert_check_round_trip.proofs.OwnCells.{all_readable}

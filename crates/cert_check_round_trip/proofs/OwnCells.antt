@@ -35,11 +35,11 @@ use Rattle.abstract_steps_rows.specs.OwnRows.{reach_of, is_consistent, is_nowher
 use Rattle.cert_check_maps.specs.LeastCells as least
 use Rattle.cert_check_maps.specs.LeastCells.{is_least}
 use Rattle.cert_check_reading.specs.GreatestRows.{cert_numbers}
-use Rattle.cert_check_round_trip.specs.NearRanges.{IsNearRange, AreFew}
-use Rattle.cert_check_round_trip.specs.NearCells.{IsNearValue}
+use Rattle.cert_check_text_laws.specs.NearRanges.{IsNearRange, AreFew}
+use Rattle.cert_check_text_laws.specs.NearCells.{IsNearValue}
 use Rattle.cert_check_round_trip.specs.ReadableRows.{IsReadableCell, AreReadableCells}
-use Rattle.cert_check_round_trip.proofs.FewBases.{below_few, within_few}
-use Rattle.cert_check_round_trip.proofs.BaseWords.{empty_is}
+use Rattle.cert_check_text_laws.proofs.FewBases.{below_few, within_few}
+use Rattle.cert_check_text_laws.proofs.BaseWords.{empty_is}
 
 -- ---- numbers
 

@@ -8,7 +8,7 @@ use Rattle.pointer_domain.specs.declared.base_sets.Bases.{Bases}
 use Rattle.pointer_domain.specs.BaseSets.{no_base, word_of, bases_has, bases_with, bases_within}
 use Rattle.pointer_domain.specs.BaseFacts.{word_of_union, word_of_same, word_of_other, union_within}
 use Rattle.abstract_steps_rows.specs.OwnRows.{bases_below}
-use Rattle.cert_check_round_trip.specs.NearRanges.{IsOutside, AreFew}
+use Rattle.cert_check_text_laws.specs.NearRanges.{IsOutside, AreFew}
 
 none_word : (i : ℕ) → word_of no_base i ≡ 0
 none_word i = grind arith

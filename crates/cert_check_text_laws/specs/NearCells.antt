@@ -7,7 +7,7 @@ use Rattle.value_domain.specs.declared.row_cells.Cell.{Cell}
 use Rattle.value_domain.specs.declared.row_cells.Cell.TheVariants.{Nothing, Value, First, State, Mixed}
 use Rattle.cert_check_text.specs.declared.map_lines.MapLine.{MapLine}
 use Rattle.cert_check_text.specs.declared.map_lines.MapLine.TheVariants.{Unreached, Reached, Placed}
-use Rattle.cert_check_round_trip.specs.NearRanges.{IsNearRange, AreFew}
+use Rattle.cert_check_text_laws.specs.NearRanges.{IsNearRange, AreFew}
 
 -- into bases below 1,016, with bounds from -2^64 to 2^64
 pub record IsNearPointer (p : Pointers Interval) : Type 0 where

@@ -6,9 +6,9 @@ use Rattle.pointer_domain.specs.declared.base_sets.Bases.{Bases}
 use Rattle.pointer_domain.specs.BaseSets.{no_base, bases_has, bases_with, bases_empty}
 use Rattle.pointer_domain.specs.BaseFacts.{with_has_same, with_has_other}
 use Rattle.cert_check_text.specs.BaseDigits.{bit_value, nibble, hex_digit, used_below, digits_below, bases_text, hex_value, with_bit, with_digit, with_nibble, bases_from, bases_of}
-use Rattle.cert_check_round_trip.proofs.Words.{IsFreeOf}
-use Rattle.cert_check_round_trip.specs.NearRanges.{AreFew}
-use Rattle.cert_check_round_trip.proofs.FewBases.{none_few, with_few, same_sets}
+use Rattle.cert_check_text_laws.proofs.Words.{IsFreeOf}
+use Rattle.cert_check_text_laws.specs.NearRanges.{AreFew}
+use Rattle.cert_check_text_laws.proofs.FewBases.{none_few, with_few, same_sets}
 
 -- ---- one base
 

@@ -14,8 +14,8 @@ use Rattle.interval_domain.specs.declared.intervals.Interval.TheVariants.{Bottom
 use Rattle.cert_check_text.specs.LineWords.{Bytes, until, behind, first_byte}
 use Rattle.cert_check_text.specs.DecimalWords.{cap, grown, magnitude, small, capped, number_of, range_of}
 use Rattle.cert_check_text.specs.CellTexts.{range_text}
-use Rattle.cert_check_round_trip.specs.NearRanges.{IsNearNumber, IsNearRange}
-use Rattle.cert_check_round_trip.proofs.Words.{IsFreeOf, free_both, until_is, behind_is}
+use Rattle.cert_check_text_laws.specs.NearRanges.{IsNearNumber, IsNearRange}
+use Rattle.cert_check_text_laws.proofs.Words.{IsFreeOf, free_both, until_is, behind_is}
 
 -- ---- digits
 

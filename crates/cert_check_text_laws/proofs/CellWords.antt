@@ -22,11 +22,11 @@ use Rattle.cert_check_text.specs.CellTexts.{bit_text, labels_sum, range_text, wi
 use Rattle.cert_check_text.specs.declared.map_lines.MapLine.{MapLine}
 use Rattle.cert_check_text.specs.declared.map_lines.MapLine.TheVariants.{Unreached, Reached, Placed}
 use Rattle.cert_check_text.specs.MapLines.{reached_text, placed_text, line_text, line_given, line_if_same, line_of}
-use Rattle.cert_check_round_trip.specs.NearRanges.{IsNearRange}
-use Rattle.cert_check_round_trip.specs.NearCells.{IsNearPointer, IsNearValue, IsNearCell, IsNearLine}
-use Rattle.cert_check_round_trip.proofs.Words.{IsFreeOf, until_is, until_end, behind_is}
-use Rattle.cert_check_round_trip.proofs.Numbers.{apart_below, apart_above, small_back, decimal_free, range_back, range_free}
-use Rattle.cert_check_round_trip.proofs.BaseWords.{bases_back, bases_free}
+use Rattle.cert_check_text_laws.specs.NearRanges.{IsNearRange}
+use Rattle.cert_check_text_laws.specs.NearCells.{IsNearPointer, IsNearValue, IsNearCell, IsNearLine}
+use Rattle.cert_check_text_laws.proofs.Words.{IsFreeOf, until_is, until_end, behind_is}
+use Rattle.cert_check_text_laws.proofs.Numbers.{apart_below, apart_above, small_back, decimal_free, range_back, range_free}
+use Rattle.cert_check_text_laws.proofs.BaseWords.{bases_back, bases_free}
 
 -- ---- words
 
