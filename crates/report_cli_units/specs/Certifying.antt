@@ -7,11 +7,14 @@ use Rattle.cc_base.specs.declared.diagnostics.Diag.{Diag}
 use Rattle.c_layout.specs.declared.unit_tokens.Unit7.{Unit7}
 use Rattle.c_layout.specs.declared.syntax_tree.declarations.Tree7.{Tree7}
 use Rattle.c_layout.specs.declared.checked_tree.checked_units.Checked.{Checked}
+use Rattle.c_layout.specs.CheckedUnits.{unit_view}
 use Rattle.flow_program.specs.declared.programs.Flow.{Flow}
 use Rattle.flow_program.specs.Nearest.{AreThresholds}
 use Rattle.flow_program.specs.ThresholdNumbers.{limits_of}
 use Rattle.flow_program.specs.StructNumbers.{flow_numbers}
 use Rattle.flow_program.specs.WellFormed.{is_well_formed}
+use Rattle.flow_lower_objects.specs.PlainObjects.{has_plain_objects}
+use Rattle.flow_lower_units.specs.RegularUnits.{is_regular_unit}
 use Rattle.cert_check.specs.declared.verdicts.CertFault.{CertFault}
 use Rattle.cert_check.specs.declared.verdicts.CertFault.TheVariants.{Form, Start, Edge}
 use Rattle.cert_check.specs.declared.verdicts.Verdict.TheVariants as verdict
@@ -30,12 +33,14 @@ cert_reason (Form n) = codes "Form " ++ decimal n
 cert_reason Start = codes "Start"
 cert_reason (Edge e) = codes "Edge " ++ decimal e
 
--- the program of a unit, which is well formed
+-- the program of a unit whose objects are plain and whose functions are regular; it is well formed
 pub record IsProgram (unit : Unit7) (s : SettingView) (flow : Flow) : Type 0 where
   pub tree : Tree7
   pub parsed : IsParsed unit tree
   pub checked : Checked
   pub typed : IsTyped s tree checked
+  pub plain : has_plain_objects (unit_view checked) ≡ true
+  pub regular : is_regular_unit (unit_view checked) ≡ true
   pub lowered : IsLowered checked flow
   pub well_formed : is_well_formed standard_limits flow ≡ true
 

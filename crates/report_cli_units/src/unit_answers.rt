@@ -3,6 +3,7 @@ ghost use Rattle.std.specs.Prelude.{◌≡◌, ◌++◌, IfErr, IfOk, Some, true
 ghost use Rattle.c_layout.specs.CheckedUnits.{unit_view};
 ghost use Rattle.c_layout.specs.Models.{is_model};
 ghost use Rattle.flow_lower_objects.specs.PlainObjects.{has_plain_objects};
+ghost use Rattle.flow_lower_units.specs.RegularUnits.{is_regular_unit};
 ghost use Rattle.flow_program.specs.WellFormed.{base_cells, is_well_formed};
 ghost use Rattle.cc_base.specs.Standard.{standard_limits};
 ghost use Rattle.report_cli_units.specs.Judging.{setting_view, judgement, cells_from, cell_count, IsParsed, IsTyped, IsLowered, IsTurned, IsJudged, IsFound, StopsUnit};
@@ -126,6 +127,7 @@ pub(crate) fn lowered(
     requires typed { IsTyped (setting_view setting) tree.now checked.now }
     ensures lowered { IfOk result (IsLowered checked.now) }
     ensures plain { IfOk result (λ f. has_plain_objects (unit_view checked.now) ≡ true) }
+    ensures regular { IfOk result (λ f. is_regular_unit (unit_view checked.now) ≡ true) }
     ensures well_formed { IfOk result (λ f. is_well_formed standard_limits f ≡ true) }
     ensures stops { IfErr result (StopsUnit unit.now (setting_view setting.entry)) }
 {

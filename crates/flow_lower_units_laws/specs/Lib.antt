@@ -1,0 +1,3 @@
+pub mod LabelsOnce
+pub mod NewObjects
+pub mod NamesThere
