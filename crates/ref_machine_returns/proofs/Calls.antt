@@ -1,9 +1,8 @@
 -- Calls and returns: what a function begins with, and what is left to do at its end.
-use Rattle.std.proofs.Common.{◌≡◌, ◌⊎◌, inl, inr, ℕ, zero, suc, ◌==◌, ◌||◌, Bool, true, false, cond, List, [], ◌∷◌, ◌++◌, replicate, append_assoc, Option, Some, None, refl, ap, sym, subst, ◌∙◌}
-use Rattle.std.proofs.lemmas.List.{append-nil}
+use Rattle.std.proofs.Common.{◌≡◌, ℕ, zero, suc, ◌==◌, ◌||◌, Bool, true, false, cond, List, [], ◌∷◌, ◌++◌, replicate, Option, Some, None, refl, ap, sym, subst, ◌∙◌}
 use Rattle.cc_base.specs.declared.diagnostics.Place.{Place}
 use Rattle.c_layout.specs.CheckedTrees.{statement_trees}
-use Rattle.c_layout.specs.CheckedUnits.{UnitView, FunctionView}
+use Rattle.c_layout.specs.CheckedUnits.{FunctionView}
 use Rattle.flow_lower_tasks.specs.TermKinds.{is_void}
 use Rattle.flow_lower_functions.specs.Functions.{numbers_from}
 use Rattle.lib_models_effects.specs.NumberedTables.{empty_table, clear_at}
@@ -14,14 +13,14 @@ use Rattle.ref_machine.specs.StatementItems.{list_statements, body}
 use Rattle.ref_machine.specs.CallSteps.{with_result, bind_all, prologue, result_loaded, epilogue, behind_body}
 use Rattle.ref_machine.specs.SourceStates.{Frame, result_object}
 use Rattle.ref_machine_returns.specs.StandingJumps.{AllJumpsStand}
-use Rattle.ref_machine_returns.specs.EndedObjects.{own_objects, ended_by, ended, AreAmong, EndOwn}
-use Rattle.ref_machine_returns.specs.Leavings.{Fits, AllFit, Fit, Leaving}
-use Rattle.ref_machine_returns.proofs.Members.{apart, of_both, among_left, among_right, both_among, among_more, each_among, none_among, all_among, among_through}
+use Rattle.ref_machine_returns.specs.EndedObjects.{own_objects, ended, AreAmong, EndOwn}
+use Rattle.ref_machine_returns.specs.Leavings.{Fit, Leaving}
+use Rattle.ref_machine_returns.proofs.Members.{among_left, both_among, each_among, none_among, all_among, among_through}
 use Rattle.ref_machine_returns.proofs.Ends.{own_more, ended_among}
 use Rattle.ref_machine_returns.proofs.Fitting.{Adds, adds_both}
 use Rattle.ref_machine_returns.proofs.FittingStatements.{in_block}
 use Rattle.ref_machine_returns.proofs.Labels.{end_owns}
-use Rattle.ref_machine_returns.proofs.Jumps.{covered_by, leaving_one}
+use Rattle.ref_machine_returns.proofs.Jumps.{covered_by, gone, leaving_one}
 
 none_some : (i : ℕ) → None ≡ Some i → ⊥
 none_some i e = cc
@@ -98,11 +97,11 @@ module _ (f : FunctionView) where
         let others : List Item = behind_body f [] (caller ∷ callers) in
         covered_by f names (item.EndBody ∷ rest) others (both_among (own_objects f) (ended f rest) (ended f others) (own_ended caller) (among_through (ended f rest) [] (ended f others) leaving.fit.0 (none_among (ended f others)))) (tt, epilogue_fits caller) leaving
 
-    pub at_return : Leaving f names rest → Leaving f names (item.Leaves (all_of (open_scopes rest)) ∷ behind_body f (item.Hop ∷ []) (caller ∷ callers))
+    pub at_return : Leaving f names (item.LeaveFunction ∷ rest) → Leaving f names (item.Leaves (all_of (open_scopes rest)) ∷ behind_body f (item.Hop ∷ []) (caller ∷ callers))
     at_return leaving =
         let scopes : List ℕ = all_of (open_scopes rest) in
         let others : List Item = item.Leaves scopes ∷ behind_body f (item.Hop ∷ []) (caller ∷ callers) in
-        covered_by f names rest others (among_through (ended f rest) (scopes ++ own_objects f) (ended f others) (ended_among f rest) (each_among scopes (own_objects f) (numbers_from 0 f.parameters ++ ended f (epilogue f caller)) (own_ended caller))) (tt, (tt, (tt, epilogue_fits caller))) leaving
+        covered_by f names rest others (among_through (ended f rest) (scopes ++ own_objects f) (ended f others) (ended_among f rest) (each_among scopes (own_objects f) (numbers_from 0 f.parameters ++ ended f (epilogue f caller)) (own_ended caller))) (tt, (tt, (tt, epilogue_fits caller))) (gone f names item.LeaveFunction rest refl leaving)
 
   pub leaving_outcome : (names : ℕ → Option ℕ) (at : Place) (rest : List Item) → Leaving f names (item.LeaveOutcome at ∷ rest) → Leaving f (clear_at names (result_object f)) rest
   leaving_outcome names at rest leaving = leaving_one f names (result_object f) (item.LeaveOutcome at ∷ rest) rest others leaving.fit.1 leaving

@@ -1,5 +1,5 @@
 -- What items end, with others before them.
-use Rattle.std.proofs.Common.{◌≡◌, ◌⊎◌, inl, inr, ℕ, Bool, true, false, cond, List, [], ◌∷◌, ◌++◌, append_assoc, refl}
+use Rattle.std.proofs.Common.{◌≡◌, ◌⊎◌, inl, inr, ℕ, Bool, true, false, cond, List, [], ◌∷◌, ◌++◌, append_assoc}
 use Rattle.c_layout.specs.CheckedUnits.{FunctionView}
 use Rattle.flow_lower_tasks.specs.TermKinds.{is_void}
 use Rattle.flow_lower_functions.specs.Functions.{numbers_from}
@@ -35,6 +35,9 @@ module _ (f : FunctionView) where
   result_own true ns = none_among ns
   result_own false ns = among_right ns (result_object f ∷ [])
 
+  outcome_own : AreAmong (with_result f []) (own_objects f)
+  outcome_own = result_own (is_void f.returns) (numbers_from 0 f.parameters)
+
   -- what is ended is in open scopes, or is a parameter or the result
   pub ended_among : (items : List Item) → AreAmong (ended f items) (all_of (open_scopes items) ++ own_objects f)
   ended_among [] n e = none_among (own_objects f) n e
@@ -43,14 +46,19 @@ module _ (f : FunctionView) where
       by : (is_in n objects ≡ true) ⊎ (is_in n (ended f items) ≡ true) → (is_in n (ended f items) ≡ true → is_in n (all_of (open_scopes items) ++ own_objects f) ≡ true) → is_in n ((objects ++ all_of (open_scopes items)) ++ own_objects f) ≡ true
       by (inl is) later = among_left (objects ++ all_of (open_scopes items)) (own_objects f) n (among_left objects (all_of (open_scopes items)) n is)
       by (inr is) later = rw append_assoc (among_more objects (all_of (open_scopes items) ++ own_objects f) _ (all_among _) n (later is))
-  ended_among (item.EndBody ∷ items) n e = both_among (own_objects f) (ended f items) (all_of (open_scopes items) ++ own_objects f) (among_right (all_of (open_scopes items)) (own_objects f)) (ended_among items) n e
-  ended_among (item.LeaveOutcome at ∷ items) n e = both_among (with_result f []) (ended f items) (all_of (open_scopes items) ++ own_objects f) (among_through (with_result f []) (own_objects f) (all_of (open_scopes items) ++ own_objects f) (result_own (is_void f.returns) (numbers_from 0 f.parameters)) (among_right (all_of (open_scopes items)) (own_objects f))) (ended_among items) n e
+  ended_among (item.EndBody ∷ items) n e =
+      let all : List ℕ = all_of (open_scopes items) ++ own_objects f in
+      both_among (own_objects f) (ended f items) all (among_right (all_of (open_scopes items)) (own_objects f)) (ended_among items) n e
+  ended_among (item.LeaveOutcome at ∷ items) n e =
+      let all : List ℕ = all_of (open_scopes items) ++ own_objects f in
+      let own : AreAmong (own_objects f) all = among_right (all_of (open_scopes items)) (own_objects f) in
+      both_among (with_result f []) (ended f items) all (among_through (with_result f []) (own_objects f) all outcome_own own) (ended_among items) n e
   ended_among (i ∷ items) n e = ended_among items n e
 
   -- ---- jumps
 
   pub entered_among : (from to : List Item) → AreAmong (entered_between from to) (ended f to)
-  entered_among from to = among_through (entered_between from to) (inwards (open_scopes to)) (ended f to) (without_among (all_of (open_scopes from)) (inwards (open_scopes to))) (among_through (inwards (open_scopes to)) (all_of (open_scopes to)) (ended f to) (inwards_among (open_scopes to)) (open_among to))
+  entered_among from to n e = open_among to n (inwards_among (open_scopes to) n (without_among (all_of (open_scopes from)) (inwards (open_scopes to)) n e))
 
   -- what was ended from one place on is left on the way to another place, or ended from there on
   pub left_or_ended : (from to : List Item) → EndOwn f to → AreAmong (ended f from) (left_between from to ++ ended f to)

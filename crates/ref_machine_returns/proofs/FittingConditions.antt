@@ -1,18 +1,18 @@
 -- The items of conditions fit where what follows them fits.
-use Rattle.std.proofs.Common.{◌≡◌, ℕ, Bool, true, false, List, [], ◌∷◌, ◌++◌, Option, Some, None, append_assoc, refl, ap, sym, subst, ◌∙◌}
+use Rattle.std.proofs.Common.{◌≡◌, Bool, true, false, List, [], ◌∷◌, ◌++◌, Option, Some, None, append_assoc, refl, ap, sym, subst, ◌∙◌}
+use Rattle.cc_base.specs.declared.diagnostics.Place.{Place}
 use Rattle.c_layout.specs.CheckedTrees as tree
 use Rattle.c_layout.specs.CheckedTrees.{TermTree, TermTrees, Typed}
 use Rattle.c_layout.specs.CheckedUnits.{UnitView, FunctionView}
 use Rattle.c_layout.specs.declared.syntax_tree.expressions.LogicalOp.TheVariants.{And, Or}
-use Rattle.flow_lower_tasks.specs.TermKinds.{term_at}
 use Rattle.flow_lower_conditions.specs.Conditions.{ReadView, read_by}
 use Rattle.ref_machine.specs.Items as item
 use Rattle.ref_machine.specs.Items.{Item, items_of}
 use Rattle.ref_machine.specs.Scopes.{behind_loop}
 use Rattle.ref_machine.specs.TermItems.{arguments}
 use Rattle.ref_machine.specs.ConditionItems.{line_items, leaf_by, leaf, condition}
-use Rattle.ref_machine_returns.specs.Leavings.{Fits, AllFit, Fit}
-use Rattle.ref_machine_returns.proofs.Fitting.{Adds, fit_after, all_fit, adds_both}
+use Rattle.ref_machine_returns.specs.Leavings.{Fit}
+use Rattle.ref_machine_returns.proofs.Fitting.{Adds, fit_after, all_fit}
 
 pub arguments_add : (f : FunctionView) (args : TermTrees) → Adds f (arguments args)
 arguments_add f tree.End rest fit = fit
@@ -28,9 +28,15 @@ behind_line args i rest same = ap behind_loop (append_assoc (arguments args) (i 
 module _ (u : UnitView) (f : FunctionView) where
   -- ---- a condition that is a term or reads a line
 
+  read_fits : (args : TermTrees) (at : Place) (none some rest : List Item) → Fit f (none ++ rest) → Fit f (some ++ rest) → Fit f ((arguments args ++ item.ReadLine at (items_of none) (items_of some) ∷ []) ++ rest)
+  read_fits args at none some rest one other =
+      let read : Item = item.ReadLine at (items_of none) (items_of some) in
+      let all : Fit f (arguments args ++ read ∷ rest) = arguments_add f args (read ∷ rest) ((all_fit f none rest one, all_fit f some rest other), fit_after f none rest one) in
+      subst (Fit f) (sym (append_assoc (arguments args) (read ∷ []) rest)) all
+
   line_fits : (r : ReadView) (wants : Bool) (held failed rest : List Item) → Fit f (held ++ rest) → Fit f (failed ++ rest) → Fit f (line_items r wants (items_of held) (items_of failed) ++ rest)
-  line_fits r true held failed rest one other = subst (Fit f) (sym (append_assoc (arguments r.call.arguments) (item.ReadLine r.call.at (items_of failed) (items_of held) ∷ []) rest)) (arguments_add f r.call.arguments (item.ReadLine r.call.at (items_of failed) (items_of held) ∷ rest) ((all_fit f failed rest other, all_fit f held rest one), fit_after f failed rest other))
-  line_fits r false held failed rest one other = subst (Fit f) (sym (append_assoc (arguments r.call.arguments) (item.ReadLine r.call.at (items_of held) (items_of failed) ∷ []) rest)) (arguments_add f r.call.arguments (item.ReadLine r.call.at (items_of held) (items_of failed) ∷ rest) ((all_fit f held rest one, all_fit f failed rest other), fit_after f failed rest other))
+  line_fits r true held failed rest one other = read_fits r.call.arguments r.call.at failed held rest other one
+  line_fits r false held failed rest one other = read_fits r.call.arguments r.call.at held failed rest one other
 
   leaf_by_fits : (is_test : Bool) (e : TermTree) (o : Option ReadView) (held failed rest : List Item) → Fit f (held ++ rest) → Fit f (failed ++ rest) → Fit f (leaf_by u is_test e o (items_of held) (items_of failed) ++ rest)
   leaf_by_fits is_test e (Some r) held failed rest one other = line_fits r r.wants_line held failed rest one other

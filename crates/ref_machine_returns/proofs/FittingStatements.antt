@@ -1,5 +1,5 @@
 -- The items of statements fit where the statements stand.
-use Rattle.std.proofs.Common.{◌≡◌, ℕ, Bool, true, false, List, [], ◌∷◌, ◌++◌, Option, Some, None, append_assoc, refl, sym, subst}
+use Rattle.std.proofs.Common.{◌≡◌, ℕ, Bool, true, false, List, [], ◌∷◌, ◌++◌, Option, Some, None, append_assoc, sym, subst}
 use Rattle.cc_base.specs.declared.diagnostics.Place.{Place}
 use Rattle.c_layout.specs.CheckedTrees as tree
 use Rattle.c_layout.specs.CheckedTrees.{TermTree, StatementTree, StatementTrees, statement_trees, StoreTree, StoreValue, StoreCopy, StoreText}
@@ -8,10 +8,10 @@ use Rattle.ref_machine.specs.Items as item
 use Rattle.ref_machine.specs.Items.{Item}
 use Rattle.ref_machine.specs.Scopes.{behind_loop, behind_turn}
 use Rattle.ref_machine.specs.ConditionItems.{condition}
-use Rattle.ref_machine.specs.StatementItems.{statements, stored, all_stored, while_turn, do_test, do_turn, for_step, for_body, for_turn, returned, of_statement, list_statements, body}
+use Rattle.ref_machine.specs.StatementItems.{statements, stored, all_stored, while_turn, do_test, do_turn, for_step, for_body, for_turn, returned, of_statement, list_statements}
 use Rattle.ref_machine_returns.specs.StandingJumps.{JumpsStand, AllJumpsStand}
-use Rattle.ref_machine_returns.specs.EndedObjects.{own_objects, ended, AreAmong, EndOwn}
-use Rattle.ref_machine_returns.specs.Leavings.{Encloses, Stands, Turns, Selects, Fits, AllFit, Fit}
+use Rattle.ref_machine_returns.specs.EndedObjects.{ended, AreAmong, EndOwn}
+use Rattle.ref_machine_returns.specs.Leavings.{Encloses, Stands, Turns, Fit}
 use Rattle.ref_machine_returns.proofs.Members.{apart, among_left, all_among, among_through}
 use Rattle.ref_machine_returns.proofs.Ends.{ended_more, own_more}
 use Rattle.ref_machine_returns.proofs.Fitting.{Adds, adds_both}
@@ -85,11 +85,14 @@ module _ (u : UnitView) (f : FunctionView) where
   -- ---- loops
 
   -- a body with the end of its turn behind it
-  loop_body : (s : StatementTree) (rest end : List Item) → JumpsStand true true s → EndOwn f rest → EndOwn f (behind_loop rest) → EndOwn f (behind_turn rest) → Stands f s rest
-  loop_body s rest end jumps ends one other = standing f true true s rest jumps (record { ends = ends; at_break = λ e. one; at_continue = λ e. other })
+  loop_body : (s : StatementTree) (rest : List Item) → JumpsStand true true s → EndOwn f rest → EndOwn f (behind_loop rest) → EndOwn f (behind_turn rest) → Stands f s rest
+  loop_body s rest jumps ends one other = standing f true true s rest jumps (record { ends = ends; at_break = λ e. one; at_continue = λ e. other })
 
   pub while_fits : (c : TermTree) (s : StatementTree) (rest : List Item) → Turns f s rest → Fit f rest → Fit f (while_turn u c s ++ rest)
-  while_fits c s rest turns fit = condition_fits u f true c (item.Statement s ∷ (item.Hop ∷ (item.TurnEnd ∷ (item.WhileTurn c s ∷ [])))) [] rest (loop_body s (item.Hop ∷ (item.TurnEnd ∷ (item.WhileTurn c s ∷ rest))) rest turns.jumps turns.ends turns.at_break turns.ends, (tt, (tt, (turns, fit)))) fit
+  while_fits c s rest turns fit =
+      let again : List Item = item.Hop ∷ (item.TurnEnd ∷ (item.WhileTurn c s ∷ [])) in
+      let stands : Stands f s (again ++ rest) = loop_body s (again ++ rest) turns.jumps turns.ends turns.at_break turns.ends in
+      condition_fits u f true c (item.Statement s ∷ again) [] rest (stands, (tt, (tt, (turns, fit)))) fit
 
   pub test_encloses : (c : TermTree) (s : StatementTree) (rest : List Item) → Turns f s rest → Encloses f true true (do_test u s c ++ rest)
   test_encloses c s rest turns =
@@ -120,17 +123,18 @@ module _ (u : UnitView) (f : FunctionView) where
 
   -- ---- loops in their scopes
 
-  pub turning : (breaks continues : Bool) (s : StatementTree) (rest : List Item) → JumpsStand true true s → EndOwn f rest → Turns f s (item.LoopEnd ∷ rest)
-  turning breaks continues s rest jumps ends = record { jumps = jumps; ends = ends; at_break = ends }
+  pub turning : (s : StatementTree) (rest : List Item) → JumpsStand true true s → EndOwn f rest → Turns f s (item.LoopEnd ∷ rest)
+  turning s rest jumps ends = record { jumps = jumps; ends = ends; at_break = ends }
 
   for_scope_fits : (objects : List ℕ) (first : StatementTrees) (c step : Option TermTree) (s : StatementTree) (rest : List Item) → AllJumpsStand false false first → JumpsStand true true s → EndOwn f rest → Fit f rest → Fit f (item.Enters objects ∷ ((statements first ++ (item.ForTurn c step s ∷ (item.LoopEnd ∷ (item.Leaves objects ∷ [])))) ++ rest))
   for_scope_fits objects first c step s rest before jumps ends fit =
       let left : List Item = item.Leaves objects ∷ rest in
       let own : EndOwn f left = own_more f (item.Leaves objects ∷ []) rest ends in
       let end : List Item = item.ForTurn c step s ∷ (item.LoopEnd ∷ left) in
-      let turns : Turns f s (item.LoopEnd ∷ left) = turning true true s left jumps own in
+      let turns : Turns f s (item.LoopEnd ∷ left) = turning s left jumps own in
       let all : Fit f (statements first ++ end) = statements_fit f false false first end before (no_loop f end own) (turns, (tt, (tt, fit))) in
-      subst (λ xs. Fit f (item.Enters objects ∷ xs)) (sym (append_assoc (statements first) (item.ForTurn c step s ∷ (item.LoopEnd ∷ (item.Leaves objects ∷ []))) rest)) (entering f objects (statements first) end (among_left objects (ended f rest)) all)
+      let same : (statements first ++ (item.ForTurn c step s ∷ (item.LoopEnd ∷ (item.Leaves objects ∷ [])))) ++ rest ≡ statements first ++ end = append_assoc (statements first) _ rest in
+      subst (λ xs. Fit f (item.Enters objects ∷ xs)) (sym same) (entering f objects (statements first) end (among_left objects (ended f rest)) all)
 
   -- ---- statements
 
@@ -150,8 +154,8 @@ module _ (u : UnitView) (f : FunctionView) where
   fits_in breaks continues is_entry (tree.Block objects items) rest jumps enclosed fit = block_fits f breaks continues objects items rest jumps enclosed fit
   fits_in breaks continues is_entry (tree.If c s) rest jumps enclosed fit = condition_fits u f true c (item.Statement s ∷ []) [] rest (standing f breaks continues s rest jumps enclosed, fit) fit
   fits_in breaks continues is_entry (tree.IfElse c one other) rest jumps enclosed fit = condition_fits u f true c (item.Statement one ∷ (item.Hop ∷ [])) (item.Statement other ∷ []) rest (standing f breaks continues one (item.Hop ∷ rest) jumps.0 (hop_encloses breaks continues rest enclosed), (tt, fit)) (standing f breaks continues other rest jumps.1 enclosed, fit)
-  fits_in breaks continues is_entry (tree.While c s) rest jumps enclosed fit = (turning breaks continues s rest jumps enclosed.ends, (tt, fit))
-  fits_in breaks continues is_entry (tree.Do s c) rest jumps enclosed fit = (turning breaks continues s rest jumps enclosed.ends, (tt, fit))
+  fits_in breaks continues is_entry (tree.While c s) rest jumps enclosed fit = (turning s rest jumps enclosed.ends, (tt, fit))
+  fits_in breaks continues is_entry (tree.Do s c) rest jumps enclosed fit = (turning s rest jumps enclosed.ends, (tt, fit))
   fits_in breaks continues is_entry (tree.For objects first c step s) rest jumps enclosed fit = for_scope_fits objects first c step s rest jumps.0 jumps.1 enclosed.ends fit
   fits_in breaks continues is_entry (tree.Switch at e labels has_default enumerators s) rest jumps enclosed fit = (tt, (record { stands = standing f true continues s (item.LoopEnd ∷ rest) jumps (switch_encloses breaks continues rest enclosed); lands = all_among (ended f rest) }, (tt, fit)))
   fits_in breaks continues is_entry (tree.Case n s) rest jumps enclosed fit = (standing f breaks continues s rest jumps enclosed, fit)

@@ -1,5 +1,5 @@
 -- The items of terms fit wherever they stand.
-use Rattle.std.proofs.Common.{◌≡◌, ℕ, Bool, true, false, cond, List, [], ◌∷◌, ◌++◌, Option}
+use Rattle.std.proofs.Common.{ℕ, Bool, true, false, cond, List, [], ◌∷◌, ◌++◌, Option}
 use Rattle.cc_base.specs.declared.diagnostics.Place.{Place}
 use Rattle.cc_base.specs.declared.int_types.IntType.{IntType}
 use Rattle.c_layout.specs.Types.{Ty, same_kind}
@@ -20,10 +20,10 @@ use Rattle.ref_machine.specs.Operations as op
 use Rattle.ref_machine.specs.Operations.{RightFirst}
 use Rattle.ref_machine.specs.Items as item
 use Rattle.ref_machine.specs.Items.{Item}
-use Rattle.ref_machine.specs.TermItems.{address_items, integer_kind, converted, sides, compound, compound_shift, kept, store_step, target, step, pointer_step, arguments, argument_count, library_items}
+use Rattle.ref_machine.specs.TermItems.{address_items, integer_kind, converted, compound, kept, store_step, step, pointer_step, arguments, argument_count, library_items}
 use Rattle.ref_machine.specs.ConditionItems.{logical, arm, conditional, of_form, term_items}
-use Rattle.ref_machine_returns.specs.Leavings.{Fits, AllFit, Fit}
-use Rattle.ref_machine_returns.proofs.Fitting.{Adds, adds_none, adds_both, adds_if_used, adds_left_if}
+use Rattle.ref_machine_returns.specs.Leavings.{Fit}
+use Rattle.ref_machine_returns.proofs.Fitting.{Adds, adds_both, adds_if_used, adds_left_if}
 use Rattle.ref_machine_returns.proofs.FittingConditions.{arguments_add, condition_fits}
 
 module _ (u : UnitView) (f : FunctionView) where

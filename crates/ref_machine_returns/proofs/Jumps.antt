@@ -1,15 +1,15 @@
 -- How what a function has to do changes, so that all that it names is ended still.
-use Rattle.std.proofs.Common.{◌≡◌, ◌⊎◌, inl, inr, ℕ, ◌==◌, Bool, true, false, ◌||◌, List, [], ◌∷◌, ◌++◌, Option, Some, None, refl, ap, sym, subst, ◌∙◌}
+use Rattle.std.proofs.Common.{◌≡◌, ℕ, ◌==◌, Bool, true, false, ◌||◌, List, [], ◌∷◌, ◌++◌, Option, Some, None, refl, ap, sym, subst, ◌∙◌}
 use Rattle.c_layout.specs.CheckedUnits.{UnitView, FunctionView}
 use Rattle.lib_models_effects.specs.NumberedTables.{put_at, clear_at}
 use Rattle.ref_machine.specs.Items as item
 use Rattle.ref_machine.specs.Items.{Item}
-use Rattle.ref_machine.specs.Scopes.{is_in, left_between, entered_between, jump, entering_first, leap_in, behind_loop, behind_turn}
+use Rattle.ref_machine.specs.Scopes.{is_in, entered_between, jump, entering_first, leap_in, behind_loop, behind_turn}
 use Rattle.ref_machine.specs.SourceStates.{Frame, function_at}
-use Rattle.ref_machine_returns.specs.EndedObjects.{own_objects, ended_by, ended, AreAmong, EndOwn}
-use Rattle.ref_machine_returns.specs.Leavings.{Fits, Fit, Leaving, LeavingAt, AllLeaving}
-use Rattle.ref_machine_returns.proofs.Members.{apart, right_or, all_among}
-use Rattle.ref_machine_returns.proofs.Ends.{ended_more, behind_among, entered_among, left_or_ended}
+use Rattle.ref_machine_returns.specs.EndedObjects.{ended_by, ended, AreAmong, EndOwn}
+use Rattle.ref_machine_returns.specs.Leavings.{Fits, Fit, Leaving, AllLeaving}
+use Rattle.ref_machine_returns.proofs.Members.{right_or, all_among}
+use Rattle.ref_machine_returns.proofs.Ends.{ended_more, entered_among, left_or_ended}
 use Rattle.ref_machine_returns.proofs.Fitting.{fit_behind_loop, fit_behind_turn}
 use Rattle.ref_machine_returns.proofs.Labels.{Reached}
 
@@ -21,12 +21,16 @@ none_some i e = cc
 some_same : (f g : FunctionView) → Some f ≡ Some g → f ≡ g
 some_same f g e = cc
 
-pub one_function : (o : Option FunctionView) (f g : FunctionView) → o ≡ Some f → o ≡ Some g → f ≡ g
+one_function : (o : Option FunctionView) (f g : FunctionView) → o ≡ Some f → o ≡ Some g → f ≡ g
 one_function o f g one other = some_same f g (sym one ∙ other)
 
 pub change_all : (u : UnitView) (g : ℕ) (names other : ℕ → Option ℕ) (items others : List Item) (frames : List Frame) → ((f : FunctionView) → function_at u g ≡ Some f → Leaving f names items → Leaving f other others) → AllLeaving u g names items frames → AllLeaving u g other others frames
 change_all u g names other items others [] change all = tt
 change_all u g names other items others (c ∷ cs) change all = (record { function = all.0.function; is = all.0.is; leaving = change all.0.function all.0.is all.0.leaving }, all.1)
+
+-- where its function is known
+pub change_for : (u : UnitView) (g : ℕ) (f : FunctionView) → function_at u g ≡ Some f → (names other : ℕ → Option ℕ) (items others : List Item) (frames : List Frame) → (Leaving f names items → Leaving f other others) → AllLeaving u g names items frames → AllLeaving u g other others frames
+change_for u g f is_f names other items others frames change all = change_all u g names other items others frames (λ h is. subst (λ h. Leaving h names items → Leaving h other others) (one_function (function_at u g) f h is_f is) change) all
 
 module _ (f : FunctionView) (names : ℕ → Option ℕ) where
   -- ---- other items in the place of one
@@ -40,16 +44,19 @@ module _ (f : FunctionView) (names : ℕ → Option ℕ) where
     fit = fit leaving.fit.0 leaving.fit.1;
   }
 
+  pub gone : (i : Item) (rest : List Item) → ended_by f i ≡ [] → Leaving f names (i ∷ rest) → Leaving f names rest
+  gone i rest none leaving = in_place i [] rest none (λ fits fit. fit) leaving
+
   -- ---- jumps
 
   pub jumping : (from to : List Item) → EndOwn f to → Fit f to → Leaving f names from → Leaving f names (jump from to)
   jumping from to own fit leaving = covered_by from (jump from to) (left_or_ended f from to own) (tt, (entered_among f from to, (tt, fit))) leaving
 
-  pub breaking : (rest : List Item) → EndOwn f (behind_loop rest) → Leaving f names rest → Leaving f names (jump rest (behind_loop rest))
-  breaking rest own leaving = jumping rest (behind_loop rest) own (fit_behind_loop f rest leaving.fit) leaving
+  pub breaking : (rest : List Item) → Leaving f names (item.BreakOut ∷ rest) → Leaving f names (jump rest (behind_loop rest))
+  breaking rest leaving = jumping rest (behind_loop rest) leaving.fit.0 (fit_behind_loop f rest leaving.fit.1) (gone item.BreakOut rest refl leaving)
 
-  pub continuing : (rest : List Item) → EndOwn f (behind_turn rest) → Leaving f names rest → Leaving f names (jump rest (behind_turn rest))
-  continuing rest own leaving = jumping rest (behind_turn rest) own (fit_behind_turn f rest leaving.fit) leaving
+  pub continuing : (rest : List Item) → Leaving f names (item.NextTurn ∷ rest) → Leaving f names (jump rest (behind_turn rest))
+  continuing rest leaving = jumping rest (behind_turn rest) leaving.fit.0 (fit_behind_turn f rest leaving.fit.1) (gone item.NextTurn rest refl leaving)
 
   entered_first : (xs to : List Item) (objects : List ℕ) → AreAmong objects (ended f to) → Fit f to → (AreAmong (ended f to) (ended f (entering_first objects to))) × Fit f (entering_first objects to)
   entered_first xs to [] among fit = (all_among (ended f to), fit)

@@ -1,22 +1,23 @@
 -- In each run functions that were called leave what they name.
-use Rattle.std.proofs.Common.{◌≡◌, ℕ, ℤ, zero, suc, ◌+◌, ◌==◌, Bool, true, false, List, [], ◌∷◌, ◌++◌, Option, Some, None, refl, ap, sym, subst, ◌∙◌}
+use Rattle.std.proofs.Common.{◌≡◌, ℕ, zero, suc, true, false, List, [], ◌∷◌, Option, Some, None, refl, ap, sym, subst, ◌∙◌}
 use Rattle.cc_base.specs.declared.diagnostics.Place.{Place}
 use Rattle.c_layout.specs.CheckedUnits.{UnitView, FunctionView}
-use Rattle.lib_models_effects.specs.Worlds.{World, Reply, goes, stops, Violation}
+use Rattle.lib_models_effects.specs.Worlds.{Reply, goes, stops, Violation}
 use Rattle.lib_models_effects.specs.UnitStarts.{start_world}
 use Rattle.ref_machine.specs.Items.{Item}
 use Rattle.ref_machine.specs.Scopes.{is_in}
 use Rattle.ref_machine.specs.SourceStates.{Frame, State}
 use Rattle.ref_machine.specs.SourceSteps.{is_entry, turn}
-use Rattle.ref_machine.specs.SourceRuns.{SourceRun, running, stopped, run_by, next, begun_by, source_begin, turns_from, Run}
+use Rattle.ref_machine.specs.SourceRuns.{SourceRun, running, stopped, run_by, next, begun_by, source_begin, turns_from}
 use Rattle.ref_machine_returns.specs.StandingJumps.{UnitJumpsStand}
 use Rattle.ref_machine_returns.specs.EndedObjects.{ended}
 use Rattle.ref_machine_returns.specs.Leavings.{Leaving, AllLeaving, IsLeaving}
-use Rattle.ref_machine_returns.specs.ReturnedFunctions.{HasLeftAll, CalledFunctionsLeaveAll}
+use Rattle.ref_machine_returns.specs.ReturnedFunctions.{CalledFunctionsLeaveAll}
 use Rattle.ref_machine_returns.proofs.Members.{apart, other_apart}
 use Rattle.ref_machine_returns.proofs.Replies.{IfGoes}
 use Rattle.ref_machine_returns.proofs.Turns.{turn_leaves}
 
+-- it holds of the state in which a run is, if it goes on
 abbrev IfRuns : (State → Type 0) → SourceRun → Type 0
 IfRuns P (running s found steps) = P s
 IfRuns P (stopped why w found steps) = Unit {0}

@@ -14,7 +14,7 @@ use Rattle.flow_lower_conditions.specs.declared.branch_tests.NamedObject.{NamedO
 use Rattle.flow_lower_functions.specs.Functions.{local_type}
 use Rattle.lib_models_memory.specs.Scalars.{Scalar, is_false}
 use Rattle.lib_models_effects.specs.NumberedTables.{put_at, clear_at}
-use Rattle.lib_models_effects.specs.Worlds.{World, Reply, unviolated}
+use Rattle.lib_models_effects.specs.Worlds.{World, Reply, behind, unviolated}
 use Rattle.lib_models_effects.specs.ObjectEffects.{next_instance}
 use Rattle.lib_models_effects.specs.Accesses.{store}
 use Rattle.lib_models_effects.specs.LibraryCalls.{fgets}
@@ -29,32 +29,40 @@ use Rattle.ref_machine.specs.Scopes.{is_in, all_of, open_scopes, jump, leap_in, 
 use Rattle.ref_machine.specs.LabelSearch as sought
 use Rattle.ref_machine.specs.LabelSearch.{Sought, found, from_label, case_of}
 use Rattle.ref_machine.specs.SourceStates.{Frame, State, with_world, first_do, function_at, result_object, type_of, instance_of}
-use Rattle.ref_machine.specs.ObjectSteps.{point_to, point_to_literal, point_to_outcome, enter_if, change}
-use Rattle.ref_machine.specs.BranchSteps.{in_world, with_side, testing, choose_by, choose, read_line, matching, on_case, landing, land, select}
+use Rattle.ref_machine.specs.ObjectSteps.{on, point_to, point_to_literal, point_to_outcome, enter_if}
+use Rattle.ref_machine.specs.ObjectSteps as objects
+use Rattle.ref_machine.specs.BranchSteps.{in_world, with_side, testing, choose_by, choose, read_line, matching, on_case, landing, land, select_label, select}
 use Rattle.ref_machine.specs.CallSteps.{behind_body, invoke, bind_value, bind_parameter, leave_outcome}
 use Rattle.ref_machine.specs.SourceSteps.{is_entry, operate, again, enter_all, leave_all, go_to, act, return_to, turn_by, turn}
 use Rattle.ref_machine_returns.specs.StandingJumps.{UnitJumpsStand}
 use Rattle.ref_machine_returns.specs.EndedObjects.{own_objects, ended_by, ended}
-use Rattle.ref_machine_returns.specs.Leavings.{Selects, Fits, Fit, Leaving, AllLeaving, IsLeaving}
+use Rattle.ref_machine_returns.specs.Leavings.{Selects, Fits, AllFit, Fit, Leaving, AllLeaving, IsLeaving}
 use Rattle.ref_machine_returns.proofs.Fitting.{listed_fit, fit_behind_loop}
 use Rattle.ref_machine_returns.proofs.FittingTerms.{address_adds, term_adds}
 use Rattle.ref_machine_returns.proofs.FittingStatements.{while_fits, do_fits, for_fits, statement_fits}
 use Rattle.ref_machine_returns.proofs.Labels.{IfSome, Reached, found_fits, label_found}
 use Rattle.ref_machine_returns.proofs.Replies.{IfGoes, goes_behind, goes_on, goes_if_some, goes_if_such, goes_with_number}
-use Rattle.ref_machine_returns.proofs.Jumps.{one_function, change_all, in_place, jumping, breaking, continuing, leaping, entering_one, leaving_one}
+use Rattle.ref_machine_returns.proofs.Jumps.{change_all, change_for, gone, in_place, jumping, breaking, continuing, leaping, entering_one, leaving_one}
 use Rattle.ref_machine_returns.proofs.Calls.{beginning, at_end, at_return, leaving_outcome}
 
 -- the function that runs has such items to do, and all leave what they name
-abbrev pub IsLeavingBy : UnitView → State → List Item → Type 0
-IsLeavingBy u s items = AllLeaving u s.function s.names items s.frames
+abbrev pub IsLeavingBy : UnitView → List Item → State → Type 0
+IsLeavingBy u items s = AllLeaving u s.function s.names items s.frames
+
+-- it has one item more to do, before the others
+abbrev pub IsLeavingAt : UnitView → Item → State → Type 0
+IsLeavingAt u i s = IsLeavingBy u (i ∷ s.control) s
 
 module _ (u : UnitView) where
   -- ---- one item with others in its place
 
-  expanded : (s : State) (i : Item) (items : List Item) → ((f : FunctionView) → ended_by f i ≡ []) → ((f : FunctionView) → Fits f i s.control → Fit f s.control → Fit f (items ++ s.control)) → IsLeavingBy u s (i ∷ s.control) → IsLeavingBy u s (items ++ s.control)
-  expanded s i items none fit all = change_all u s.function s.names s.names (i ∷ s.control) (items ++ s.control) s.frames (λ f is leaving. in_place f s.names i items s.control (none f) (fit f) leaving) all
+  change : (s : State) (i : Item) (names : ℕ → Option ℕ) (items : List Item) → ((f : FunctionView) → Leaving f s.names (i ∷ s.control) → Leaving f names items) → IsLeavingAt u i s → AllLeaving u s.function names items s.frames
+  change s i names items how all = change_all u s.function s.names names (i ∷ s.control) items s.frames (λ f is. how f) all
 
-  passed : (s : State) (i : Item) → ((f : FunctionView) → ended_by f i ≡ []) → IsLeavingBy u s (i ∷ s.control) → IsLeavingBy u s s.control
+  expanded : (s : State) (i : Item) (items : List Item) → ((f : FunctionView) → ended_by f i ≡ []) → ((f : FunctionView) → Fits f i s.control → Fit f s.control → Fit f (items ++ s.control)) → IsLeavingAt u i s → IsLeavingBy u (items ++ s.control) s
+  expanded s i items none fit all = change s i s.names (items ++ s.control) (λ f leaving. in_place f s.names i items s.control (none f) (fit f) leaving) all
+
+  passed : (s : State) (i : Item) → ((f : FunctionView) → ended_by f i ≡ []) → IsLeavingAt u i s → IsLeaving u s
   passed s i none all = expanded s i [] none (λ f fits fit. fit) all
 
   -- ---- values and objects
@@ -75,25 +83,30 @@ module _ (u : UnitView) where
   pointing_to_outcome : (s : State) → IsLeaving u s → IfGoes (IsLeaving u) (point_to_outcome u s)
   pointing_to_outcome s all = goes_if_some (IsLeaving u) s (function_at u s.function) _ (λ f is. pointing s (Local (result_object f)) 0 all)
 
-  changing : (s : State) (n : ℕ) (how : Change) → IsLeaving u s → IfGoes (IsLeaving u) (change s n how)
+  changing : (s : State) (n : ℕ) (how : Change) → IsLeaving u s → IfGoes (IsLeaving u) (objects.change s n how)
   changing s n how all = goes_if_some (IsLeaving u) s (s.names n) _ (λ i is. all)
 
   -- ---- lifetimes
 
-  entering_if : (s : State) (n : ℕ) (ns : List ℕ) (o : Option ℕ) → IsLeavingBy u s (item.Enters (n ∷ ns) ∷ s.control) → IfGoes (IsLeaving u) (enter_if u (first_do (item.Enters ns ∷ []) s) n o)
+  entering_if : (s : State) (n : ℕ) (ns : List ℕ) (o : Option ℕ) → IsLeavingAt u (item.Enters (n ∷ ns)) s → IfGoes (IsLeaving u) (enter_if u (first_do (item.Enters ns ∷ []) s) n o)
   entering_if s n ns (Some i) all = tt
-  entering_if s n ns None all = goes_if_some (IsLeaving u) (first_do (item.Enters ns ∷ []) s) (function_at u s.function) _ (λ g is. change_all u s.function s.names (put_at s.names n (next_instance s.world)) (item.Enters (n ∷ ns) ∷ s.control) (item.Enters ns ∷ s.control) s.frames (λ f is leaving. entering_one f s.names n (next_instance s.world) ns s.control leaving) all)
+  entering_if s n ns None all =
+      let new : ℕ = next_instance s.world in
+      goes_if_some (IsLeaving u) (first_do (item.Enters ns ∷ []) s) (function_at u s.function) _ (λ g is. change s (item.Enters (n ∷ ns)) (put_at s.names n new) (item.Enters ns ∷ s.control) (λ f l. entering_one f s.names n new ns s.control l) all)
 
-  entering : (s : State) (ns : List ℕ) → IsLeavingBy u s (item.Enters ns ∷ s.control) → IfGoes (IsLeaving u) (enter_all u s ns).reply
+  entering : (s : State) (ns : List ℕ) → IsLeavingAt u (item.Enters ns) s → IfGoes (IsLeaving u) (enter_all u s ns).reply
   entering s [] all = passed s (item.Enters []) (λ f. refl) all
   entering s (n ∷ ns) all = entering_if s n ns (s.names n) all
 
   others_left : (n : ℕ) (ns xs : List ℕ) (m : ℕ) → (m == n) ≡ false → is_in m ((n ∷ ns) ++ xs) ≡ true → is_in m (ns ++ xs) ≡ true
   others_left n ns xs m other e = ap (λ b. b || is_in m (ns ++ xs)) (sym other) ∙ e
 
-  leaving : (s : State) (ns : List ℕ) → IsLeavingBy u s (item.Leaves ns ∷ s.control) → IfGoes (IsLeaving u) (leave_all u s ns).reply
+  leaving : (s : State) (ns : List ℕ) → IsLeavingAt u (item.Leaves ns) s → IfGoes (IsLeaving u) (leave_all u s ns).reply
   leaving s [] all = passed s (item.Leaves []) (λ f. refl) all
-  leaving s (n ∷ ns) all = goes_if_some (IsLeaving u) (first_do (item.Leaves ns ∷ []) s) (s.names n) _ (λ i is. change_all u s.function s.names (clear_at s.names n) (item.Leaves (n ∷ ns) ∷ s.control) (item.Leaves ns ∷ s.control) s.frames (λ f is l. leaving_one f s.names n (item.Leaves (n ∷ ns) ∷ s.control) (item.Leaves ns ∷ s.control) (others_left n ns (ended f s.control)) (tt, l.fit.1) l) all)
+  leaving s (n ∷ ns) all = goes_if_some (IsLeaving u) (first_do (item.Leaves ns ∷ []) s) (s.names n) _ (λ i is. change s (item.Leaves (n ∷ ns)) (clear_at s.names n) (item.Leaves ns ∷ s.control) how all)
+    where
+      how : (f : FunctionView) → Leaving f s.names (item.Leaves (n ∷ ns) ∷ s.control) → Leaving f (clear_at s.names n) (item.Leaves ns ∷ s.control)
+      how f l = leaving_one f s.names n (item.Leaves (n ∷ ns) ∷ s.control) (item.Leaves ns ∷ s.control) (others_left n ns (ended f s.control)) (tt, l.fit.1) l
 
   -- ---- conditions
 
@@ -122,21 +135,24 @@ module _ (u : UnitView) where
         by of.Pointer = holds s.world
 
   module _ (at : Place) (test : Option NamedTest) (held failed : Items) where
-    choice : Item
-    choice = item.Choose at test held failed
+    abbrev IsChoosing : State → Type 0
+    IsChoosing = IsLeavingAt u (item.Choose at test held failed)
 
-    chosen_by : (s : State) (b : Bool) → IsLeavingBy u s (item.Choose at test held failed ∷ s.control) → IfGoes (IsLeaving u) (choose_by u test b held failed s)
-    chosen_by s true all = goes_behind (IsLeaving u) (λ t. IsLeavingBy u t (item.Choose at test held failed ∷ t.control)) (testing u s test true) _ (test_goes (λ t. IsLeavingBy u t (item.Choose at test held failed ∷ t.control)) s (λ w. all) test true) (λ t w all. expanded t (item.Choose at test held failed) (listed held) (λ f. refl) (λ f fits fit. listed_fit f held t.control fits.0 fit) all)
-    chosen_by s false all = goes_behind (IsLeaving u) (λ t. IsLeavingBy u t (item.Choose at test held failed ∷ t.control)) (testing u s test false) _ (test_goes (λ t. IsLeavingBy u t (item.Choose at test held failed ∷ t.control)) s (λ w. all) test false) (λ t w all. expanded t (item.Choose at test held failed) (listed failed) (λ f. refl) (λ f fits fit. listed_fit f failed t.control fits.1 fit) all)
+    tested : (s : State) (b : Bool) (items : Items) → ((f : FunctionView) (rest : List Item) → Fits f (item.Choose at test held failed) rest → AllFit f items rest) → IsChoosing s → IfGoes (IsLeaving u) (behind (testing u s test b) (λ s w. on (first_do (listed items) s)))
+    tested s b items one all = goes_behind (IsLeaving u) IsChoosing (testing u s test b) _ (test_goes IsChoosing s (λ w. all) test b) (λ t w all. expanded t (item.Choose at test held failed) (listed items) (λ f. refl) (λ f fits fit. listed_fit f items t.control (one f t.control fits) fit) all)
 
-    chosen : (s : State) (vs : List Scalar) → IsLeavingBy u s (item.Choose at test held failed ∷ s.control) → IfGoes (IsLeaving u) (choose u test held failed s vs)
+    chosen_by : (s : State) (b : Bool) → IsChoosing s → IfGoes (IsLeaving u) (choose_by u test b held failed s)
+    chosen_by s true all = tested s true held (λ f rest fits. fits.0) all
+    chosen_by s false all = tested s false failed (λ f rest fits. fits.1) all
+
+    chosen : (s : State) (vs : List Scalar) → IsChoosing s → IfGoes (IsLeaving u) (choose u test held failed s vs)
     chosen s [] all = tt
     chosen s (v ∷ vs) all = chosen_by (record s { values = vs }) (not (is_false v)) all
 
-  read : (at : Place) (none some : Items) (s : State) (vs : List Scalar) → IsLeavingBy u s (item.ReadLine at none some ∷ s.control) → IfGoes (IsLeaving u) (read_line u none some s vs)
+  read : (at : Place) (none some : Items) (s : State) (vs : List Scalar) → IsLeavingAt u (item.ReadLine at none some) s → IfGoes (IsLeaving u) (read_line u none some s vs)
   read at none some s (stream ∷ (count ∷ (text ∷ vs))) all = goes_on (IsLeaving u) (fgets u.model (text ∷ (count ∷ (stream ∷ []))) s.world) _ (λ v w. by (is_false v))
     where
-      by : (b : Bool) → IsLeavingBy u s (listed (cond b none some) ++ s.control)
+      by : (b : Bool) → IsLeavingBy u (listed (cond b none some) ++ s.control) s
       by true = expanded s (item.ReadLine at none some) (listed none) (λ f. refl) (λ f fits fit. listed_fit f none s.control fits.0 fit) all
       by false = expanded s (item.ReadLine at none some) (listed some) (λ f. refl) (λ f fits fit. listed_fit f some s.control fits.1 fit) all
   read at none some s [] all = tt
@@ -158,31 +174,43 @@ module _ (u : UnitView) where
   such_some P o x is h = let family : Option _ → Type 0 = IfSome P in subst family is h
 
   module _ (at : Place) (o : Option NamedObject) (labels : List CaseLabel) (statement : StatementTree) where
-    land_goes : (l : Sought) (s : State) → IsLeavingBy u s (item.Select at o labels statement ∷ s.control) → IfGoes (IsLeaving u) (land u statement l s)
-    land_goes l s all = goes_if_some (IsLeaving u) s (landing l (found u l statement s.control) s.control) _ (λ to is. change_all u s.function s.names s.names (item.Select at o labels statement ∷ s.control) (leap_in s.control to) s.frames (λ f is_f l_f. leaping f s.names s.control to (such_some (Reached f (ended f s.control)) (landing l (found u l statement s.control) s.control) to is (landed f statement l s.control l_f.fit.0 l_f.fit.1)) (record { covered = l_f.covered; fit = l_f.fit.1 })) all)
+    abbrev IsSelecting : State → Type 0
+    IsSelecting = IsLeavingAt u (item.Select at o labels statement)
 
-    selected : (s : State) (vs : List Scalar) → IsLeavingBy u s (item.Select at o labels statement ∷ s.control) → IfGoes (IsLeaving u) (select u o labels statement s vs)
+    land_goes : (l : Sought) (s : State) → IsSelecting s → IfGoes (IsLeaving u) (land u statement l s)
+    land_goes l s all = goes_if_some (IsLeaving u) s (landing l (found u l statement s.control) s.control) _ (λ to is. change s (item.Select at o labels statement) s.names (leap_in s.control to) (how to is) all)
+      where
+        reached : (f : FunctionView) (to : List Item) → landing l (found u l statement s.control) s.control ≡ Some to → Fit f (item.Select at o labels statement ∷ s.control) → Reached f (ended f s.control) to
+        reached f to is fit = such_some (Reached f (ended f s.control)) (landing l (found u l statement s.control) s.control) to is (landed f statement l s.control fit.0 fit.1)
+
+        how : (to : List Item) → landing l (found u l statement s.control) s.control ≡ Some to → (f : FunctionView) → Leaving f s.names (item.Select at o labels statement ∷ s.control) → Leaving f s.names (leap_in s.control to)
+        how to is f leaving = leaping f s.names s.control to (reached f to is leaving.fit) (gone f s.names (item.Select at o labels statement) s.control refl leaving)
+
+    matched : (l : Sought) (value : ℤ) (s : State) → IsSelecting s → IfGoes (IsLeaving u) (select_label u o statement l value s)
+    matched l value s all = goes_behind (IsLeaving u) IsSelecting (on_case u o l value s) _ (case_goes IsSelecting s (λ w. all) o l value) (λ t w all. land_goes l t all)
+
+    selected : (s : State) (vs : List Scalar) → IsSelecting s → IfGoes (IsLeaving u) (select u o labels statement s vs)
     selected s [] all = tt
-    selected s (v ∷ vs) all = goes_with_number (IsLeaving u) v s.world _ (λ n labelled w. goes_behind (IsLeaving u) (λ t. IsLeavingBy u t (item.Select at o labels statement ∷ t.control)) (on_case u o (case_of labels 0 n) n (record s { values = vs })) _ (case_goes (λ t. IsLeavingBy u t (item.Select at o labels statement ∷ t.control)) (record s { values = vs }) (λ w. all) o (case_of labels 0 n) n) (λ t w all. land_goes (case_of labels 0 n) t all))
+    selected s (v ∷ vs) all = goes_with_number (IsLeaving u) v s.world _ (λ n labelled w. matched (case_of labels 0 n) n (record s { values = vs }) all)
 
   -- ---- jumps
 
   module _ (stand : UnitJumpsStand u) where
-    goes_to : (s : State) (n : ℕ) → IsLeavingBy u s (item.GoTo n ∷ s.control) → IfGoes (IsLeaving u) (go_to u s n)
-    goes_to s n all = goes_if_some (IsLeaving u) s (function_at u s.function) _ (λ g is_g. goes_if_such (IsLeaving u) (Reached g (own_objects g)) s (from_label u g n) _ (label_found u g n (stand s.function g is_g)) (λ to reached. change_all u s.function s.names s.names (item.GoTo n ∷ s.control) (jump s.control to) s.frames (λ f is leaving. there f to (subst (λ h. Reached h (own_objects h) to) (one_function (function_at u s.function) g f is_g is) reached) leaving) all))
+    goes_to : (s : State) (n : ℕ) → IsLeavingAt u (item.GoTo n) s → IfGoes (IsLeaving u) (go_to u s n)
+    goes_to s n all = goes_if_some (IsLeaving u) s (function_at u s.function) _ (λ f is. goes_if_such (IsLeaving u) (Reached f (own_objects f)) s (from_label u f n) _ (label_found u f n (stand s.function f is)) (λ to reached. there f is to reached))
       where
-        there : (f : FunctionView) (to : List Item) → Reached f (own_objects f) to → Leaving f s.names (item.GoTo n ∷ s.control) → Leaving f s.names (jump s.control to)
-        there f to reached leaving = jumping f s.names s.control to reached.ends reached.fit (record { covered = leaving.covered; fit = leaving.fit.1 })
+        there : (f : FunctionView) → function_at u s.function ≡ Some f → (to : List Item) → Reached f (own_objects f) to → IsLeavingBy u (jump s.control to) s
+        there f is to reached = change_for u s.function f is s.names s.names (item.GoTo n ∷ s.control) (jump s.control to) s.frames (λ leaving. jumping f s.names s.control to reached.ends reached.fit (gone f s.names (item.GoTo n) s.control refl leaving)) all
 
-    broken : (s : State) → IsLeavingBy u s (item.BreakOut ∷ s.control) → IsLeavingBy u s (jump s.control (behind_loop s.control))
-    broken s all = change_all u s.function s.names s.names (item.BreakOut ∷ s.control) (jump s.control (behind_loop s.control)) s.frames (λ f is l. breaking f s.names s.control l.fit.0 (record { covered = l.covered; fit = l.fit.1 })) all
+    broken : (s : State) → IsLeavingAt u item.BreakOut s → IsLeavingBy u (jump s.control (behind_loop s.control)) s
+    broken s all = change s item.BreakOut s.names (jump s.control (behind_loop s.control)) (λ f l. breaking f s.names s.control l) all
 
-    continued : (s : State) → IsLeavingBy u s (item.NextTurn ∷ s.control) → IsLeavingBy u s (jump s.control (behind_turn s.control))
-    continued s all = change_all u s.function s.names s.names (item.NextTurn ∷ s.control) (jump s.control (behind_turn s.control)) s.frames (λ f is l. continuing f s.names s.control l.fit.0 (record { covered = l.covered; fit = l.fit.1 })) all
+    continued : (s : State) → IsLeavingAt u item.NextTurn s → IsLeavingBy u (jump s.control (behind_turn s.control)) s
+    continued s all = change s item.NextTurn s.names (jump s.control (behind_turn s.control)) (λ f l. continuing f s.names s.control l) all
 
     -- ---- calls and returns
 
-    invoked : (s : State) (at : Place) (g count : ℕ) (used : Bool) → IsLeavingBy u s (item.Invoke at g count used ∷ s.control) → IfGoes (IsLeaving u) (invoke u s at g count used)
+    invoked : (s : State) (at : Place) (g count : ℕ) (used : Bool) → IsLeavingAt u (item.Invoke at g count used) s → IfGoes (IsLeaving u) (invoke u s at g count used)
     invoked s at g count used all = goes_if_some (IsLeaving u) s (function_at u g) _ (λ f is. (record { function = f; is = is; leaving = beginning f count (stand g f is) }, passed s (item.Invoke at g count used) (λ f. refl) all))
 
     bound_value : (s : State) (f : FunctionView) (n depth : ℕ) (vs : List Scalar) → IsLeaving u s → IfGoes (IsLeaving u) (bind_value u s f n depth vs)
@@ -193,19 +221,24 @@ module _ (u : UnitView) where
     bound s n depth all = goes_if_some (IsLeaving u) s (function_at u s.function) _ (λ f is. bound_value s f n depth s.values all)
 
     ending : (s : State) (f : FunctionView) (frames : List Frame) → function_at u s.function ≡ Some f → AllLeaving u s.function s.names (item.EndBody ∷ s.control) frames → AllLeaving u s.function s.names (behind_body f [] frames) frames
-    ending s f [] is_f all = tt
-    ending s f (c ∷ cs) is_f all = change_all u s.function s.names s.names (item.EndBody ∷ s.control) (behind_body f [] (c ∷ cs)) (c ∷ cs) (λ g is l. subst (λ h. Leaving g s.names (behind_body h [] (c ∷ cs))) (one_function (function_at u s.function) g f is is_f) (at_end g s.names s.control c cs l)) all
+    ending s f [] is all = tt
+    ending s f (c ∷ cs) is all = change_for u s.function f is s.names s.names (item.EndBody ∷ s.control) (behind_body f [] (c ∷ cs)) (c ∷ cs) (λ l. at_end f s.names s.control c cs l) all
 
     returning : (s : State) (f : FunctionView) (frames : List Frame) → function_at u s.function ≡ Some f → AllLeaving u s.function s.names (item.LeaveFunction ∷ s.control) frames → AllLeaving u s.function s.names (item.Leaves (all_of (open_scopes s.control)) ∷ behind_body f (item.Hop ∷ []) frames) frames
-    returning s f [] is_f all = tt
-    returning s f (c ∷ cs) is_f all = change_all u s.function s.names s.names (item.LeaveFunction ∷ s.control) (item.Leaves (all_of (open_scopes s.control)) ∷ behind_body f (item.Hop ∷ []) (c ∷ cs)) (c ∷ cs) (λ g is l. subst (λ h. Leaving g s.names (item.Leaves (all_of (open_scopes s.control)) ∷ behind_body h (item.Hop ∷ []) (c ∷ cs))) (one_function (function_at u s.function) g f is is_f) (at_return g s.names s.control c cs (record { covered = l.covered; fit = l.fit.1 }))) all
+    returning s f [] is all = tt
+    returning s f (c ∷ cs) is all =
+        let others : List Item = item.Leaves (all_of (open_scopes s.control)) ∷ behind_body f (item.Hop ∷ []) (c ∷ cs) in
+        change_for u s.function f is s.names s.names (item.LeaveFunction ∷ s.control) others (c ∷ cs) (λ l. at_return f s.names s.control c cs l) all
 
-    outcome_left : (s : State) (at : Place) → IsLeavingBy u s (item.LeaveOutcome at ∷ s.control) → IfGoes (IsLeaving u) (leave_outcome u s)
-    outcome_left s at all = goes_if_some (IsLeaving u) s (function_at u s.function) _ (λ f is_f. goes_if_some (IsLeaving u) s (s.names (result_object f)) _ (λ i is_i. change_all u s.function s.names (clear_at s.names (result_object f)) (item.LeaveOutcome at ∷ s.control) s.control s.frames (λ g is l. subst (λ h. Leaving g (clear_at s.names (result_object h)) s.control) (one_function (function_at u s.function) g f is is_f) (leaving_outcome g s.names at s.control l)) all))
+    outcome_left : (s : State) (at : Place) → IsLeavingAt u (item.LeaveOutcome at) s → IfGoes (IsLeaving u) (leave_outcome u s)
+    outcome_left s at all = goes_if_some (IsLeaving u) s (function_at u s.function) _ (λ f is. goes_if_some (IsLeaving u) s (s.names (result_object f)) _ (λ i named. there f is))
+      where
+        there : (f : FunctionView) → function_at u s.function ≡ Some f → AllLeaving u s.function (clear_at s.names (result_object f)) s.control s.frames
+        there f is = change_for u s.function f is s.names (clear_at s.names (result_object f)) (item.LeaveOutcome at ∷ s.control) s.control s.frames (λ l. leaving_outcome f s.names at s.control l) all
 
     -- ---- turns
 
-    acts : (i : Item) (s : State) → IsLeavingBy u s (i ∷ s.control) → IfGoes (IsLeaving u) (act u i s).reply
+    acts : (i : Item) (s : State) → IsLeavingAt u i s → IfGoes (IsLeaving u) (act u i s).reply
     acts (item.Value e) s all = expanded s (item.Value e) (term_items u true e) (λ f. refl) (λ f fits fit. term_adds u f true e s.control fit) all
     acts (item.Unused e) s all = expanded s (item.Unused e) (term_items u false e) (λ f. refl) (λ f fits fit. term_adds u f false e s.control fit) all
     acts (item.Address l) s all = expanded s (item.Address l) (address_items u l) (λ f. refl) (λ f fits fit. address_adds u f l s.control fit) all
@@ -242,7 +275,7 @@ module _ (u : UnitView) where
     returned_to s items [] all = tt
     returned_to s items (c ∷ cs) all = all.1
 
-    turned_by : (s : State) (items : List Item) → IsLeavingBy u s items → IfGoes (IsLeaving u) (turn_by u s items).reply
+    turned_by : (s : State) (items : List Item) → IsLeavingBy u items s → IfGoes (IsLeaving u) (turn_by u s items).reply
     turned_by s [] all = returned_to s [] s.frames all
     turned_by s (i ∷ items) all = acts i (record s { control = items }) all
 

@@ -1,5 +1,5 @@
 -- Functions of the source that return.
-use Rattle.std.specs.Prelude.{◌≡◌, ℕ, ℤ, false, List, [], Option, None}
+use Rattle.std.specs.Prelude.{◌≡◌, ℕ, ℤ, false, List, [], None}
 use Rattle.c_layout.specs.CheckedUnits.{UnitView}
 use Rattle.lib_models_effects.specs.Worlds.{Violation}
 use Rattle.ref_machine.specs.SourceStates.{State}
