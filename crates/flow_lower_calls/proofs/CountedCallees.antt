@@ -55,4 +55,4 @@ module _ (u : UnitView) where
 pub entry_not_called : (u : UnitView) (templates : List (Option TemplateView)) (table : List (Option FunctionCounts)) → IsPrepared u templates table → (n m : ℕ) (f : FunctionView) (t : TemplateView) → Reaches u n → IsTemplateOf u n f t → Calls t.pieces m → m ≡ u.entry → ⊥
 entry_not_called u templates table p n m f t reached is calls e =
     let x = p.all u.entry begun in
-    no_circle u u.entry x.1.0 (p.are_counts u.entry x.1.0 x.1.1.1) n (way_to u n reached) (record { function = f; template = t; is = is; calls = subst (λ k. Calls t.pieces k) e calls })
+    no_circle u u.entry x.1 (p.are_counts u.entry x.1 x.3) n (way_to u n reached) (record { function = f; template = t; is = is; calls = subst (λ k. Calls t.pieces k) e calls })

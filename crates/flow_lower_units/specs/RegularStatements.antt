@@ -22,6 +22,10 @@ abbrev pub is_regular_clause : UnitView → FunctionView → Bool → Option Ter
 is_regular_clause u f used None = true
 is_regular_clause u f used (Some e) = is_regular_term u f used 0 e
 
+-- the condition and the step of a `for`
+abbrev pub are_regular_clauses : UnitView → FunctionView → Option TermTree → Option TermTree → Bool
+are_regular_clauses u f e step = is_regular_clause u f true e && is_regular_clause u f false step
+
 -- a value that is returned, behind the address of the result
 abbrev pub is_regular_result : UnitView → FunctionView → Option TermTree → Bool
 is_regular_result u f None = true
@@ -106,7 +110,7 @@ abbrev mutual
   is_regular_statement u f breaks loops (tree.IfElse e first second) = is_regular_term u f true 0 e && (is_regular_statement u f breaks loops first && is_regular_statement u f breaks loops second)
   is_regular_statement u f breaks loops (tree.While e body) = is_regular_term u f true 0 e && is_regular_statement u f true true body
   is_regular_statement u f breaks loops (tree.Do body e) = is_regular_term u f true 0 e && is_regular_statement u f true true body
-  is_regular_statement u f breaks loops (tree.For objects first e step body) = (are_plain first && (are_regular_statements u f false false first && (is_regular_clause u f true e && is_regular_clause u f false step))) && is_regular_statement u f true true body
+  is_regular_statement u f breaks loops (tree.For objects first e step body) = (are_plain first && (are_regular_statements u f false false first && are_regular_clauses u f e step)) && is_regular_statement u f true true body
   is_regular_statement u f breaks loops (tree.Switch at e labels has_default values body) = is_regular_switch u f e && is_regular_statement u f true loops body
   is_regular_statement u f breaks loops (tree.Case n body) = is_regular_statement u f breaks loops body
   is_regular_statement u f breaks loops (tree.Default body) = is_regular_statement u f breaks loops body
@@ -119,7 +123,3 @@ abbrev mutual
   pub are_regular_statements : UnitView → FunctionView → Bool → Bool → StatementTrees → Bool
   are_regular_statements u f breaks loops tree.NoMore = true
   are_regular_statements u f breaks loops (tree.And first rest) = is_regular_statement u f breaks loops first && are_regular_statements u f breaks loops rest
-
--- the clauses of a `for`
-abbrev pub are_regular_clauses : UnitView → FunctionView → StatementTrees → Option TermTree → Option TermTree → Bool
-are_regular_clauses u f first e step = are_plain first && (are_regular_statements u f false false first && (is_regular_clause u f true e && is_regular_clause u f false step))

@@ -29,6 +29,18 @@ fn is_regular_clause(
     }
 }
 
+/// Whether the condition and the step of a `for` are such as typing makes them.
+fn are_regular_clauses(
+    unit: &Checked,
+    function: &Function,
+    test: &Option<CheckedTerm>,
+    step: &Option<CheckedTerm>,
+) -> bool
+    ensures { result ≡ spec.are_regular_clauses (unit_view unit.now) (function_view function.now) (option_map term_tree test.now) (option_map term_tree step.now) }
+{
+    is_regular_clause(unit, function, true, test) && is_regular_clause(unit, function, false, step)
+}
+
 /// Whether a value that is returned is such as typing makes it, behind the address of the result.
 fn is_regular_result(unit: &Checked, function: &Function, value: &Option<CheckedTerm>) -> bool
     ensures { result ≡ spec.is_regular_result (unit_view unit.now) (function_view function.now) (option_map term_tree value.now) }
@@ -176,23 +188,6 @@ pub fn are_regular_statements(
     true
 }
 
-/// Whether the clauses of a `for` are such as typing makes them.
-#[cycle(statements)]
-fn are_regular_clauses(
-    unit: &Checked,
-    function: &Function,
-    first: &[CheckedStatement],
-    test: &Option<CheckedTerm>,
-    step: &Option<CheckedTerm>,
-) -> bool
-    ensures { result ≡ spec.are_regular_clauses (unit_view unit.now) (function_view function.now) (statement_trees (map statement_tree first.now)) (option_map term_tree test.now) (option_map term_tree step.now) }
-{
-    are_plain(first)
-        && (are_regular_statements(unit, function, false, false, first)
-            && (is_regular_clause(unit, function, true, test)
-                && is_regular_clause(unit, function, false, step)))
-}
-
 /// Whether a statement is such as typing makes it.
 #[cycle(statements)]
 fn is_regular_statement(
@@ -234,7 +229,9 @@ fn is_regular_statement(
                 && is_regular_statement(unit, function, true, true, body)
         }
         CheckedStatement::For(_, first, test, step, body) => {
-            are_regular_clauses(unit, function, first.as_slice(), test, step)
+            (are_plain(first.as_slice())
+                && (are_regular_statements(unit, function, false, false, first.as_slice())
+                    && are_regular_clauses(unit, function, test, step)))
                 && is_regular_statement(unit, function, true, true, body)
         }
         CheckedStatement::Switch(_, value, _, _, _, body) => {

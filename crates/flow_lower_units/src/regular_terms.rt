@@ -104,36 +104,6 @@ fn are_regular_terms(unit: &Checked, function: &Function, depth: u32, terms: &[C
     true
 }
 
-/// Whether two terms stand in temporaries one behind the other.
-#[cycle(terms)]
-fn are_operands(
-    unit: &Checked,
-    function: &Function,
-    depth: u32,
-    left: &CheckedTerm,
-    right: &CheckedTerm,
-) -> bool
-    ensures { result ≡ spec.are_behind depth (spec.is_regular_term (unit_view unit.now) (function_view function.now) true depth (term_tree left.now)) (spec.is_regular_term (unit_view unit.now) (function_view function.now) true (depth + 1) (term_tree right.now)) }
-{
-    is_regular_term(unit, function, true, depth, left)
-        && (has_room(depth, 1) && is_regular_term(unit, function, true, depth + 1, right))
-}
-
-/// Whether an lvalue and a term stand in temporaries one behind the other.
-#[cycle(terms)]
-fn are_sides(
-    unit: &Checked,
-    function: &Function,
-    depth: u32,
-    target: &Lvalue,
-    value: &CheckedTerm,
-) -> bool
-    ensures { result ≡ spec.are_behind depth (spec.is_regular_place (unit_view unit.now) (function_view function.now) depth (lvalue_tree target.now)) (spec.is_regular_term (unit_view unit.now) (function_view function.now) true (depth + 1) (term_tree value.now)) }
-{
-    is_regular_place(unit, function, depth, target)
-        && (has_room(depth, 1) && is_regular_term(unit, function, true, depth + 1, value))
-}
-
 /// Whether an lvalue is such as typing makes it.
 #[cycle(terms)]
 pub fn is_regular_place(unit: &Checked, function: &Function, depth: u32, at: &Lvalue) -> bool
@@ -181,11 +151,13 @@ pub fn is_regular_term(
         TermForm::Discard(operand) => {
             !used && is_regular_term(unit, function, false, depth, operand)
         }
-        TermForm::Integer(_, left, right) | TermForm::Compare(_, left, right) => are_operands(
-            unit, function, depth, left, right,
-        ),
-        TermForm::Shift(_, _, left, right) => are_operands(unit, function, depth, left, right),
-        TermForm::Difference(_, left, right) => are_operands(unit, function, depth, left, right),
+        TermForm::Integer(_, left, right)
+        | TermForm::Compare(_, left, right)
+        | TermForm::Difference(_, left, right)
+        | TermForm::Shift(_, _, left, right) => {
+            is_regular_term(unit, function, true, depth, left)
+                && (has_room(depth, 1) && is_regular_term(unit, function, true, depth + 1, right))
+        }
         TermForm::Logical(_, left, right) => {
             is_regular_term(unit, function, true, depth, left)
                 && is_regular_term(unit, function, true, depth, right)
@@ -199,9 +171,15 @@ pub fn is_regular_term(
             is_regular_term(unit, function, false, depth, first)
                 && is_regular_term(unit, function, used, depth, last)
         }
-        TermForm::Assign(target, value) => are_sides(unit, function, depth, target, value),
+        TermForm::Assign(target, value) => {
+            is_regular_place(unit, function, depth, target)
+                && (has_room(depth, 1) && is_regular_term(unit, function, true, depth + 1, value))
+        }
         TermForm::Compound(_, _, target, value) | TermForm::CompoundShift(_, _, target, value) => {
-            has_room(depth, 2) && are_sides(unit, function, depth, target, value)
+            has_room(depth, 2)
+                && (is_regular_place(unit, function, depth, target)
+                    && (has_room(depth, 1)
+                        && is_regular_term(unit, function, true, depth + 1, value)))
         }
         TermForm::Step(_, _, _, at) | TermForm::StepPointer(_, _, _, at) => {
             has_room(depth, 2) && is_regular_place(unit, function, depth, at)

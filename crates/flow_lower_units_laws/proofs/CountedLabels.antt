@@ -169,27 +169,6 @@ on a b c d p q n k m x y = record {
 met : (l due behind : ℕ) → behind ≡ due + 1 → (c : ℕ) → due ≡ c → one l c + below l due ≡ below l behind
 met l due behind more c is = subst (λ b. one l c + below l due ≡ below l b) (sym more) (subst (λ d. one l d + below l due ≡ below l (due + 1)) is (one_more l due))
 
-at_label : (c : ℕ) (n m : Numbers) → IsBehindLabel c n m → Between (λ l. one l c) (λ l. 0) 0 n m
-at_label c n m x = record {
-  labels = λ l. met l n.labels m.labels x.more c x.due;
-  cases = λ l. plus_none _ _ (ap (λ k. below l k) (sym x.cases));
-  fallback = plus_none _ _ (ap once_if (sym x.fallback));
-}
-
-at_case : (c : ℕ) (n m : Numbers) → IsBehindCase c n m → Between (λ l. 0) (λ l. one l c) 0 n m
-at_case c n m x = record {
-  labels = λ l. plus_none _ _ (ap (λ k. below l k) (sym x.labels));
-  cases = λ l. met l n.cases m.cases x.more c x.due;
-  fallback = plus_none _ _ (ap once_if (sym x.fallback));
-}
-
-at_default : (n m : Numbers) → IsBehindDefault n m → Between (λ l. 0) (λ l. 0) 1 n m
-at_default n m x = record {
-  labels = λ l. plus_none _ _ (ap (λ k. below l k) (sym x.labels));
-  cases = λ l. plus_none _ _ (ap (λ k. below l k) (sym x.cases));
-  fallback = subst (λ b. 1 + once_if b ≡ once_if m.has_default) (sym x.free) (ap once_if (sym x.taken));
-}
-
 -- ---- statements
 
 record Counted (i : StatementTree) (n m : Numbers) : Type 0 where
@@ -200,9 +179,40 @@ record AllCounted (is : StatementTrees) (n m : Numbers) : Type 0 where
   counts : Between (λ l. all_labels_in l is) (λ l. all_cases_in l is) (all_defaults_in is) n m
   switches : AllSelectedOnce is
 
--- a body behind a label
+-- a body behind other counts
 behind : (body : StatementTree) (a c : ℕ → ℕ) (p : ℕ) (n k m : Numbers) → Between a c p n k → Counted body k m → Between (λ l. a l + labels_in l body) (λ l. c l + cases_in l body) (p + defaults_in body) n m
 behind body a c p n k m x y = on a (λ l. labels_in l body) c (λ l. cases_in l body) p (defaults_in body) n k m x y.counts
+
+-- a body behind labels of its own
+labelled_body : (c : ℕ) (body : StatementTree) (n k m : Numbers) → IsBehindLabel c n k → Counted body k m → Counted (tree.Label c body) n m
+labelled_body c body n k m x y = record {
+  counts = record {
+    labels = λ l. both (one l c) (labels_in l body) (below l n.labels) (below l k.labels) (below l m.labels) (met l n.labels k.labels x.more c x.due) (y.counts.labels l);
+    cases = λ l. ap (λ v. cases_in l body + below l v) (sym x.cases) ∙ y.counts.cases l;
+    fallback = ap (λ b. defaults_in body + once_if b) (sym x.fallback) ∙ y.counts.fallback;
+  };
+  switches = y.switches;
+}
+
+case_body : (c : ℕ) (body : StatementTree) (n k m : Numbers) → IsBehindCase c n k → Counted body k m → Counted (tree.Case c body) n m
+case_body c body n k m x y = record {
+  counts = record {
+    labels = λ l. ap (λ v. labels_in l body + below l v) (sym x.labels) ∙ y.counts.labels l;
+    cases = λ l. both (one l c) (cases_in l body) (below l n.cases) (below l k.cases) (below l m.cases) (met l n.cases k.cases x.more c x.due) (y.counts.cases l);
+    fallback = ap (λ b. defaults_in body + once_if b) (sym x.fallback) ∙ y.counts.fallback;
+  };
+  switches = y.switches;
+}
+
+default_body : (body : StatementTree) (n k m : Numbers) → IsBehindDefault n k → Counted body k m → Counted (tree.Default body) n m
+default_body body n k m x y = record {
+  counts = record {
+    labels = λ l. ap (λ v. labels_in l body + below l v) (sym x.labels) ∙ y.counts.labels l;
+    cases = λ l. ap (λ v. cases_in l body + below l v) (sym x.cases) ∙ y.counts.cases l;
+    fallback = both 1 (defaults_in body) (once_if n.has_default) (once_if k.has_default) (once_if m.has_default) (subst (λ b. 1 + once_if b ≡ once_if k.has_default) (sym x.free) (ap once_if (sym x.taken))) y.counts.fallback;
+  };
+  switches = y.switches;
+}
 
 around_switch : (body : StatementTree) (count : ℕ) (has_default : Bool) (n k m : Numbers) → Counted body (in_switch n) k → IsBehindSwitch n count has_default k m → Between (λ l. labels_in l body) (λ l. 0) 0 n m × IsSelectedOnce count has_default body
 around_switch body count has_default n k m x y = (
@@ -241,15 +251,9 @@ mutual
       let x = counted body (in_switch n) k one in
       let y = around_switch body (length labels) has_default n k m x (switched n (length labels) has_default k m other) in
       record { counts = y.0; switches = (y.1, x.switches) })
-  counted (tree.Case c body) n m is = option_and_then_some (numbered body) (behind_case c n) m is (λ k one other.
-      let y = counted body k m other in
-      record { counts = behind body (λ l. 0) (λ l. one l c) 0 n k m (at_case c n k (case_met c n k one)) y; switches = y.switches })
-  counted (tree.Default body) n m is = option_and_then_some (numbered body) (behind_default n) m is (λ k one other.
-      let y = counted body k m other in
-      record { counts = behind body (λ l. 0) (λ l. 0) 1 n k m (at_default n k (default_met n k one)) y; switches = y.switches })
-  counted (tree.Label c body) n m is = option_and_then_some (numbered body) (behind_label c n) m is (λ k first other.
-      let y = counted body k m other in
-      record { counts = behind body (λ l. one l c) (λ l. 0) 0 n k m (at_label c n k (labelled c n k first)) y; switches = y.switches })
+  counted (tree.Case c body) n m is = option_and_then_some (numbered body) (behind_case c n) m is (λ k here other. case_body c body n k m (case_met c n k here) (counted body k m other))
+  counted (tree.Default body) n m is = option_and_then_some (numbered body) (behind_default n) m is (λ k here other. default_body body n k m (default_met n k here) (counted body k m other))
+  counted (tree.Label c body) n m is = option_and_then_some (numbered body) (behind_label c n) m is (λ k here other. labelled_body c body n k m (labelled c n k here) (counted body k m other))
   counted (tree.Goto c) n m is = record { counts = still n m is; switches = tt }
   counted tree.Break n m is = record { counts = still n m is; switches = tt }
   counted tree.Continue n m is = record { counts = still n m is; switches = tt }

@@ -4,3 +4,5 @@ pub mod ListedScopes
 pub mod NamesThere
 pub mod SwitchedIntegers
 pub mod RoomOfTerms
+pub mod UnitParts
+mod LookRows

@@ -242,9 +242,12 @@ below_first first (suc n) k e = by (λ later. below_first (first + 1) n k later)
     by further (inl e) = here (eqb-true k first e)
     by further (inr e) = next (further e)
 
+from_zero : (k n : ℕ) → k < 0 + n → k < n
+from_zero k n less = omega (arith, less)
+
 parameters_known : (n others : ℕ) → AllMarked (numbers_from 0 n) (so_many_marked n others)
 parameters_known n others k e =
-    let less : k < n = below_first 0 n k e in
+    let less : k < n = from_zero k n (below_first 0 n k e) in
     get_or_append_left (replicate n true) (replicate others false) true k (subst (λ m. k < m) (sym (length-replicate n true)) less) ∙ get_or-replicate n k true true less
 
 -- the marks of the outermost block, and those behind all scopes

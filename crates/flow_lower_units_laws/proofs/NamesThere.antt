@@ -233,6 +233,9 @@ module _ (u : UnitView) (f : FunctionView) where
       next : first + suc n ≤ length f.locals → (first + 1) + n ≤ length f.locals
       next le = omega (arith, le)
 
+  from_zero : f.parameters ≤ length f.locals → 0 + f.parameters ≤ length f.locals
+  from_zero le = omega (arith, le)
+
   pub names_there : is_regular_function u f ≡ true → NamesFunction Q f
   names_there is =
       let x = regular u f is in
@@ -240,7 +243,7 @@ module _ (u : UnitView) (f : FunctionView) where
       let long = so_many y.few in
       let m = marks_all f.scope (parameters_marked f) y.middle y.outermost in
       record {
-        parameters = below_locals 0 f.parameters y.few;
+        parameters = below_locals 0 f.parameters (from_zero y.few);
         scope = marked_there f.scope (parameters_marked f) y.middle long m;
         body = (names_statements false false (statement_trees f.body) y.middle y.after (m.long ∙ long) y.inside x.statements).names;
         outcome = tt;

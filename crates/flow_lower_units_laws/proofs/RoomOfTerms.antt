@@ -44,30 +44,30 @@ module _ (u : UnitView) (f : FunctionView) where
     room_term used d (Typed at t parens constant (tree.Minus a)) le is = room_term true d a le is
     room_term used d (Typed at t parens constant (tree.Complement a)) le is = room_term true d a le is
     room_term used d (Typed at t parens constant (tree.Not a)) le is = room_term true d a le is
-    room_term used d (Typed at t parens constant (tree.Integer sign a b)) le is = operands d a b le (behind d _ _ is)
-    room_term used d (Typed at t parens constant (tree.Shift back size a b)) le is = operands d a b le (behind d _ _ is)
-    room_term used d (Typed at t parens constant (tree.Difference size a b)) le is = operands d a b le (behind d _ _ is)
-    room_term used d (Typed at t parens constant (tree.Compare sign a b)) le is = operands d a b le (behind d _ _ is)
+    room_term used d (Typed at t parens constant (tree.Integer sign a b)) le is = let x = behind d (is_regular_term u f true d a) (is_regular_term u f true (d + 1) b) is in both d (room a) (room b) (room_term true d a le x.first) (room_term true (d + 1) b (fits (d + 1) x.room) x.second)
+    room_term used d (Typed at t parens constant (tree.Shift back size a b)) le is = let x = behind d (is_regular_term u f true d a) (is_regular_term u f true (d + 1) b) is in both d (room a) (room b) (room_term true d a le x.first) (room_term true (d + 1) b (fits (d + 1) x.room) x.second)
+    room_term used d (Typed at t parens constant (tree.Difference size a b)) le is = let x = behind d (is_regular_term u f true d a) (is_regular_term u f true (d + 1) b) is in both d (room a) (room b) (room_term true d a le x.first) (room_term true (d + 1) b (fits (d + 1) x.room) x.second)
+    room_term used d (Typed at t parens constant (tree.Compare sign a b)) le is = let x = behind d (is_regular_term u f true d a) (is_regular_term u f true (d + 1) b) is in both d (room a) (room b) (room_term true d a le x.first) (room_term true (d + 1) b (fits (d + 1) x.room) x.second)
     room_term used d (Typed at t parens constant (tree.Logical sign a b)) le is = let x = both_true _ _ is in greater d (room a) (room b) (2 ^ 32 - 1) (room_term true d a le x.0) (room_term true d b le x.1)
     room_term used d (Typed at t parens constant (tree.Conditional c a b)) le is =
         let x = both_true (is_regular_term u f true d c) (is_regular_term u f used d a && is_regular_term u f used d b) is in
         let y = both_true (is_regular_term u f used d a) (is_regular_term u f used d b) x.1 in
         greater d (room c) (larger (room a) (room b)) (2 ^ 32 - 1) (room_term true d c le x.0) (greater d (room a) (room b) (2 ^ 32 - 1) (room_term used d a le y.0) (room_term used d b le y.1))
     room_term used d (Typed at t parens constant (tree.Comma a b)) le is = let x = both_true _ _ is in greater d (room a) (room b) (2 ^ 32 - 1) (room_term false d a le x.0) (room_term used d b le x.1)
-    room_term used d (Typed at t parens constant (tree.Assign l a)) le is = sides d l a le (behind d _ _ is)
-    room_term used d (Typed at t parens constant (tree.Compound sign kind l a)) le is = let x = both_true (has_room (d + 2)) _ is in greater d 2 (both_rooms (room_of_place l) (room a)) (2 ^ 32 - 1) (fits (d + 2) x.0) (sides d l a le (behind d _ _ x.1))
-    room_term used d (Typed at t parens constant (tree.CompoundShift back size l a)) le is = let x = both_true (has_room (d + 2)) _ is in greater d 2 (both_rooms (room_of_place l) (room a)) (2 ^ 32 - 1) (fits (d + 2) x.0) (sides d l a le (behind d _ _ x.1))
+    room_term used d (Typed at t parens constant (tree.Assign l a)) le is = let x = behind d (is_regular_place u f d l) (is_regular_term u f true (d + 1) a) is in both d (room_of_place l) (room a) (room_place d l le x.first) (room_term true (d + 1) a (fits (d + 1) x.room) x.second)
+    room_term used d (Typed at t parens constant (tree.Compound sign kind l a)) le is =
+        let x = both_true (has_room (d + 2)) _ is in
+        let y = behind d (is_regular_place u f d l) (is_regular_term u f true (d + 1) a) x.1 in
+        greater d 2 (both_rooms (room_of_place l) (room a)) (2 ^ 32 - 1) (fits (d + 2) x.0) (both d (room_of_place l) (room a) (room_place d l le y.first) (room_term true (d + 1) a (fits (d + 1) y.room) y.second))
+    room_term used d (Typed at t parens constant (tree.CompoundShift back size l a)) le is =
+        let x = both_true (has_room (d + 2)) _ is in
+        let y = behind d (is_regular_place u f d l) (is_regular_term u f true (d + 1) a) x.1 in
+        greater d 2 (both_rooms (room_of_place l) (room a)) (2 ^ 32 - 1) (fits (d + 2) x.0) (both d (room_of_place l) (room a) (room_place d l le y.first) (room_term true (d + 1) a (fits (d + 1) y.room) y.second))
     room_term used d (Typed at t parens constant (tree.Step sign time kind l)) le is = let x = both_true (has_room (d + 2)) _ is in greater d 2 (room_of_place l) (2 ^ 32 - 1) (fits (d + 2) x.0) (room_place d l le x.1)
     room_term used d (Typed at t parens constant (tree.StepPointer sign time size l)) le is = let x = both_true (has_room (d + 2)) _ is in greater d 2 (room_of_place l) (2 ^ 32 - 1) (fits (d + 2) x.0) (room_place d l le x.1)
     room_term used d (Typed at t parens constant (tree.Struct l)) le is = room_place d l le is
     room_term used d (Typed at t parens constant (tree.Call function args is_used)) le is = room_terms d args le (both_true (are_regular_terms u f d args) _ is).0
     room_term used d (Typed at t parens constant (tree.Library function args target)) le is = room_terms d args le (both_true (are_regular_terms u f d args) _ is).0
-
-    operands : (d : ℕ) (a b : TermTree) → Fits d → Behind d (is_regular_term u f true d a) (is_regular_term u f true (d + 1) b) → Fits (d + both_rooms (room a) (room b))
-    operands d a b le x = both d (room a) (room b) (room_term true d a le x.first) (room_term true (d + 1) b (fits (d + 1) x.room) x.second)
-
-    sides : (d : ℕ) (l : LvalueTree) (a : TermTree) → Fits d → Behind d (is_regular_place u f d l) (is_regular_term u f true (d + 1) a) → Fits (d + both_rooms (room_of_place l) (room a))
-    sides d l a le x = both d (room_of_place l) (room a) (room_place d l le x.first) (room_term true (d + 1) a (fits (d + 1) x.room) x.second)
 
     pub room_place : (d : ℕ) (l : LvalueTree) → Fits d → is_regular_place u f d l ≡ true → Fits (d + room_of_place l)
     room_place d (Designates at t parens (tree.Object o)) le is = alone d le

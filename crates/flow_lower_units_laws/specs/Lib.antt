@@ -1,3 +1,4 @@
 pub mod LabelsOnce
 pub mod NewObjects
 pub mod NamesThere
+pub mod UnitParts

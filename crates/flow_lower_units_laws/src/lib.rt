@@ -4,6 +4,6 @@
 mod theorems;
 
 pub use theorems::{
-    functions_are_labelled, labels_stand_once, names_are_there, scopes_are_apart, scopes_are_own,
-    switches_are_on_integers, terms_have_room,
+    functions_are_labelled, functions_are_regular, labels_stand_once, names_are_there,
+    scopes_are_apart, scopes_are_own, switches_are_on_integers, terms_have_room,
 };

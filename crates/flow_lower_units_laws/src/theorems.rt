@@ -1,7 +1,13 @@
 //! Labels, objects, names and terms of the functions of a regular unit.
 ghost use Rattle.flow_lower_units_laws.specs.LabelsOnce.{LabelsStandOnce, FunctionsAreLabelled};
 ghost use Rattle.flow_lower_units_laws.specs.NewObjects.{ScopesAreOwn, ScopesAreApart};
+ghost use Rattle.flow_lower_units_laws.specs.UnitParts.{FunctionsAreRegular};
 ghost use Rattle.flow_lower_units_laws.specs.NamesThere.{NamesAreThere, SwitchesAreOnIntegers, TermsHaveRoom, PlacesHaveRoom};
+
+/// Each function of a regular unit is regular.
+pub fn functions_are_regular()
+    ensures { FunctionsAreRegular }
+{}
 
 /// Each label of a function stands once in its body, each case label of a `switch` once in that, a default label once
 /// where the `switch` says so, and none outside of a `switch`.
