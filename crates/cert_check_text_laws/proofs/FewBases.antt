@@ -1,14 +1,14 @@
 -- Sets of the bases below 1,016 are told by what they have.
-use Rattle.std.proofs.Common.{◌≡◌, ◌≢◌, ◌∙◌, ◌+◌, ◌*◌, ◌/◌, ◌%◌, ◌^◌, ◌<◌, ◌≤◌, ℕ, zero, suc, max, Bool, true, false, ◌==◌, refl, sym, ap, subst, arith, ◌⊎◌, inl, inr}
+use Rattle.std.proofs.Common.{◌≡◌, ◌≢◌, ◌∙◌, ◌+◌, ◌*◌, ◌/◌, ◌%◌, ◌^◌, ◌<◌, ◌≤◌, ℕ, zero, suc, max, true, ◌==◌, sym, ap, subst, arith, inl, inr}
 use Rattle.std.specs.Prelude.{bit_or}
 use Rattle.std.specs.Int.{bit_at}
 use Rattle.std.proofs.lemmas.Bool.{cases_Bool, cases_lt, eqb-true}
 use Rattle.std.proofs.lemmas.Nat.Bits.{same_from_bits, bit_at_or, bit_at-lt, bit_at-pow_other, bit_at-zero}
 use Rattle.pointer_domain.specs.declared.base_sets.Bases.{Bases}
-use Rattle.pointer_domain.specs.BaseSets.{no_base, word_of, with_word, bases_has, bases_with, bases_within}
+use Rattle.pointer_domain.specs.BaseSets.{no_base, word_of, bases_has, bases_with, bases_within}
 use Rattle.pointer_domain.specs.BaseFacts.{word_of_union, word_of_same, word_of_other, union_within}
 use Rattle.abstract_steps_rows.specs.OwnRows.{bases_below}
-use Rattle.cert_check_round_trip.specs.NearRanges.{IsOutside, AreFew}
+use Rattle.cert_check_text_laws.specs.NearRanges.{IsOutside, AreFew}
 
 none_word : (i : ℕ) → word_of no_base i ≡ 0
 none_word i = grind arith

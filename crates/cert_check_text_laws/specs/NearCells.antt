@@ -1,5 +1,5 @@
 -- Cells and lines that a certificate may have.
-use Rattle.std.specs.Prelude.{ℕ, ◌^◌, ◌<◌}
+use Rattle.std.specs.Prelude.{◌^◌, ◌<◌}
 use Rattle.interval_domain.specs.declared.intervals.Interval.{Interval}
 use Rattle.pointer_domain.specs.declared.pointer_sets.Pointers.{Pointers}
 use Rattle.value_domain.specs.declared.values.Value as values
@@ -7,7 +7,7 @@ use Rattle.value_domain.specs.declared.row_cells.Cell.{Cell}
 use Rattle.value_domain.specs.declared.row_cells.Cell.TheVariants.{Nothing, Value, First, State, Mixed}
 use Rattle.cert_check_text.specs.declared.map_lines.MapLine.{MapLine}
 use Rattle.cert_check_text.specs.declared.map_lines.MapLine.TheVariants.{Unreached, Reached, Placed}
-use Rattle.cert_check_round_trip.specs.NearRanges.{IsNearRange, AreFew}
+use Rattle.cert_check_text_laws.specs.NearRanges.{IsNearRange, AreFew}
 
 -- into bases below 1,016, with bounds from -2^64 to 2^64
 pub record IsNearPointer (p : Pointers Interval) : Type 0 where

@@ -1,14 +1,14 @@
 -- A set of bases is read back from its digits.
-use Rattle.std.proofs.Common.{◌≡◌, ◌≢◌, ◌∙◌, ◌+◌, ◌*◌, ◌/◌, ◌%◌, ◌<◌, ◌≤◌, ℕ, zero, suc, Bool, true, false, cond, ◌&&◌, ◌||◌, ◌==◌, ◌∷◌, length, refl, sym, ap, subst, arith, lt-ltb, ◌⊎◌, inl, inr}
+use Rattle.std.proofs.Common.{◌≡◌, ◌≢◌, ◌∙◌, ◌+◌, ◌*◌, ◌/◌, ◌%◌, ◌<◌, ◌≤◌, ℕ, zero, suc, Bool, true, false, cond, ◌&&◌, ◌||◌, ◌==◌, length, refl, sym, ap, subst, arith, lt-ltb, ◌⊎◌, inl, inr}
 use Rattle.std.specs.Prelude.{codes, nat_le}
 use Rattle.std.proofs.lemmas.Bool.{cases_Bool, cases_lt, eqb-true, and_parts}
 use Rattle.pointer_domain.specs.declared.base_sets.Bases.{Bases}
 use Rattle.pointer_domain.specs.BaseSets.{no_base, bases_has, bases_with, bases_empty}
 use Rattle.pointer_domain.specs.BaseFacts.{with_has_same, with_has_other}
 use Rattle.cert_check_text.specs.BaseDigits.{bit_value, nibble, hex_digit, used_below, digits_below, bases_text, hex_value, with_bit, with_digit, with_nibble, bases_from, bases_of}
-use Rattle.cert_check_round_trip.proofs.Words.{IsFreeOf}
-use Rattle.cert_check_round_trip.specs.NearRanges.{AreFew}
-use Rattle.cert_check_round_trip.proofs.FewBases.{none_few, with_few, same_sets}
+use Rattle.cert_check_text_laws.proofs.Words.{IsFreeOf}
+use Rattle.cert_check_text_laws.specs.NearRanges.{AreFew}
+use Rattle.cert_check_text_laws.proofs.FewBases.{none_few, with_few, same_sets}
 
 -- ---- one base
 

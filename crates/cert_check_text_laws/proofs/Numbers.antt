@@ -1,5 +1,5 @@
 -- Decimal numbers and ranges are read back from their words.
-use Rattle.std.proofs.Common.{◌≡◌, ◌∙◌, ◌+◌, ◌-◌, ◌*◌, ◌^◌, ◌<◌, ◌≤◌, ℕ, zero, suc, min, Bool, true, false, cond, ◌==◌, nat_lt, List, [], ◌∷◌, ◌++◌, length, refl, sym, ap, subst, arith, length-append}
+use Rattle.std.proofs.Common.{◌≡◌, ◌∙◌, ◌+◌, ◌-◌, ◌*◌, ◌^◌, ◌<◌, ◌≤◌, ℕ, suc, min, true, false, cond, ◌==◌, nat_lt, [], ◌∷◌, ◌++◌, length, refl, ap, arith, length-append}
 use Rattle.std.specs.Prelude.{ℤ, pos, negsuc, ◌-ℤ◌, ◌≤ℤ◌, int_le}
 use Rattle.std.specs.Fmt.{decimal, signed_decimal}
 use Rattle.std.specs.Char.{digit_value}
@@ -14,8 +14,8 @@ use Rattle.interval_domain.specs.declared.intervals.Interval.TheVariants.{Bottom
 use Rattle.cert_check_text.specs.LineWords.{Bytes, until, behind, first_byte}
 use Rattle.cert_check_text.specs.DecimalWords.{cap, grown, magnitude, small, capped, number_of, range_of}
 use Rattle.cert_check_text.specs.CellTexts.{range_text}
-use Rattle.cert_check_round_trip.specs.NearRanges.{IsNearNumber, IsNearRange}
-use Rattle.cert_check_round_trip.proofs.Words.{IsFreeOf, free_both, until_is, behind_is}
+use Rattle.cert_check_text_laws.specs.NearRanges.{IsNearNumber, IsNearRange}
+use Rattle.cert_check_text_laws.proofs.Words.{IsFreeOf, free_both, until_is, behind_is}
 
 -- ---- digits
 

@@ -1,5 +1,5 @@
 -- The words of a line: what stands before a byte that a word does not have, and behind it.
-use Rattle.std.proofs.Common.{◌≡◌, ◌∙◌, ◌+◌, ◌<◌, ◌≤◌, ℕ, zero, suc, Bool, true, false, cond, ◌==◌, List, [], ◌∷◌, ◌++◌, length, take, drop, refl, sym, ap, arith}
+use Rattle.std.proofs.Common.{◌≡◌, ◌∙◌, ◌+◌, ℕ, suc, true, false, cond, ◌==◌, [], ◌∷◌, ◌++◌, length, take, drop, refl, ap, arith}
 use Rattle.cert_check_text.specs.LineWords.{Bytes, word_length, until, behind}
 
 -- the byte is not among these

@@ -1,5 +1,5 @@
 -- The line of a cell is read back.
-use Rattle.std.proofs.Common.{◌≡◌, ◌∙◌, ◌+◌, ◌/◌, ◌%◌, ◌^◌, ◌<◌, ◌≤◌, ℕ, zero, suc, Bool, true, false, cond, ◌&&◌, ◌==◌, List, [], ◌∷◌, ◌++◌, length, Option, Some, None, refl, sym, ap, subst, arith, append_assoc}
+use Rattle.std.proofs.Common.{◌≡◌, ◌∙◌, ◌+◌, ◌/◌, ◌%◌, ◌^◌, ◌<◌, ◌≤◌, ℕ, Bool, true, false, cond, ◌&&◌, ◌==◌, List, [], ◌∷◌, ◌++◌, length, Some, None, refl, sym, ap, arith, append_assoc}
 use Rattle.std.specs.Prelude.{codes}
 use Rattle.std.specs.Fmt.{decimal}
 use Rattle.std.specs.Str.Parse.{AllDigits}
@@ -14,19 +14,19 @@ use Rattle.value_domain.specs.declared.label_sets.Labels.{Labels}
 use Rattle.value_domain.specs.declared.alloc_states.AllocState.{AllocState}
 use Rattle.value_domain.specs.declared.row_cells.Cell.{Cell}
 use Rattle.value_domain.specs.declared.row_cells.Cell.TheVariants.{Nothing, Value, First, State, Mixed}
-use Rattle.cert_check_text.specs.LineWords.{Bytes, until, behind, first_byte, same_all, same_bytes}
+use Rattle.cert_check_text.specs.LineWords.{Bytes, until, first_byte, same_all, same_bytes}
 use Rattle.cert_check_text.specs.DecimalWords.{small, range_of}
 use Rattle.cert_check_text.specs.BaseDigits.{bases_of, bases_text}
 use Rattle.cert_check_text.specs.CellReaders.{word, rest, is_set, labels_given, pointer_given, value_given, first_given, state_given, cell_given}
-use Rattle.cert_check_text.specs.CellTexts.{bit_text, labels_sum, range_text, with_word, with_words, with_pointer, with_value, with_first, with_state, with_cell}
+use Rattle.cert_check_text.specs.CellTexts.{bit_text, labels_sum, range_text, with_word, with_words, with_pointer, with_value, with_first, with_state}
 use Rattle.cert_check_text.specs.declared.map_lines.MapLine.{MapLine}
 use Rattle.cert_check_text.specs.declared.map_lines.MapLine.TheVariants.{Unreached, Reached, Placed}
 use Rattle.cert_check_text.specs.MapLines.{reached_text, placed_text, line_text, line_given, line_if_same, line_of}
-use Rattle.cert_check_round_trip.specs.NearRanges.{IsNearRange, AreFew}
-use Rattle.cert_check_round_trip.specs.NearCells.{IsNearPointer, IsNearValue, IsNearCell, IsNearLine}
-use Rattle.cert_check_round_trip.proofs.Words.{IsFreeOf, until_is, until_end, behind_is}
-use Rattle.cert_check_round_trip.proofs.Numbers.{apart_below, apart_above, small_back, decimal_free, range_back, range_free}
-use Rattle.cert_check_round_trip.proofs.BaseWords.{bases_back, bases_free}
+use Rattle.cert_check_text_laws.specs.NearRanges.{IsNearRange}
+use Rattle.cert_check_text_laws.specs.NearCells.{IsNearPointer, IsNearValue, IsNearCell, IsNearLine}
+use Rattle.cert_check_text_laws.proofs.Words.{IsFreeOf, until_is, until_end, behind_is}
+use Rattle.cert_check_text_laws.proofs.Numbers.{apart_below, apart_above, small_back, decimal_free, range_back, range_free}
+use Rattle.cert_check_text_laws.proofs.BaseWords.{bases_back, bases_free}
 
 -- ---- words
 

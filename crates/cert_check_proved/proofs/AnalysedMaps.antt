@@ -30,8 +30,8 @@ use Rattle.abstract_steps_laws_programs.proofs.WellFormed.{laid_out, all_named}
 use Rattle.flow_analysis.specs.Analyses.{row_lattice, machine_of}
 use Rattle.cert_check_reading.specs.GreatestRows.{cert_numbers}
 use Rattle.cert_check.specs.Verdicts.{cert_machine}
-use Rattle.cert_check_sound.specs.AnalysedMaps.{InductiveMapsAreClosed}
-use Rattle.cert_check_sound.proofs.WiderRows.{row_wide, wide_keeps}
+use Rattle.cert_check_proved.specs.AnalysedMaps.{InductiveMapsAreClosed}
+use Rattle.cert_check_proved.proofs.WiderRows.{row_wide, wide_keeps}
 
 module _ (flow : Flow) (list : List ℤ) (h : is_regular flow list ≡ true) (reaches : ReachesTypes list) where
   regular : Regular flow list

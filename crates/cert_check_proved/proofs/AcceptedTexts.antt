@@ -21,7 +21,7 @@ use Rattle.cert_check.specs.Verdicts.{cert_cells, cert_machine, IsVerdictOn}
 use Rattle.cert_check_round_trip.specs.ReadMaps.{IsSmall}
 use Rattle.cert_check_round_trip.proofs.MapWords.{read_back}
 use Rattle.cert_check_programs.specs.Certificates.{IsCertificate}
-use Rattle.cert_check_sound.proofs.AnalysedMaps.{inductive_closed}
+use Rattle.cert_check_proved.proofs.AnalysedMaps.{inductive_closed}
 
 -- a row is no longer than a pool of two of them
 row_below : (blocks width pool : ℕ) → (blocks + 2) * width ≤ pool → width ≤ pool
