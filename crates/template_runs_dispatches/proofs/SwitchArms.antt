@@ -1,23 +1,23 @@
 -- The edges of a switch: where they lead, and the works of their blocks.
-use Rattle.std.proofs.Common.{◌≡◌, ◌≤◌, ◌<◌, ℕ, zero, suc, ◌+◌, ◌-◌, ◌^◌, Bool, true, false, not, cond, List, [], ◌∷◌, ◌++◌, length, Option, Some, slice_get, refl, arith, ap, sym, subst, ◌∙◌, append_assoc, length-append}
+use Rattle.std.proofs.Common.{◌≡◌, ◌≤◌, ◌<◌, ℕ, zero, suc, ◌+◌, ◌-◌, ◌^◌, Bool, true, false, not, cond, List, [], ◌∷◌, ◌++◌, length, Some, slice_get, refl, arith, ap, sym, subst, ◌∙◌, append_assoc}
 use Rattle.std.proofs.lemmas.List.{append-nil}
 use Rattle.cc_base.specs.declared.diagnostics.Place.{Place}
 use Rattle.c_layout.specs.declared.checked_tree.checked_statements.CaseLabel.{CaseLabel}
 use Rattle.flow_lower_tasks.specs.Acts as act
-use Rattle.flow_lower_tasks.specs.Pieces.{NameView, Local, PieceView, Mark}
+use Rattle.flow_lower_tasks.specs.Pieces.{Local, PieceView, Mark}
 use Rattle.flow_lower_tasks.specs.Plans.{Plan, with_work, with_labels, begun}
 use Rattle.flow_lower_tasks.specs.Settings.{SettingView}
 use Rattle.flow_lower_tasks.specs.Works as jobs
 use Rattle.flow_lower_tasks.specs.Works.{Job, behind}
 use Rattle.flow_lower_tasks.specs.declared.pending_works.Landing.{Landing}
 use Rattle.flow_lower_expressions.specs.Branches as branches
-use Rattle.flow_lower_statements.specs.ScopeJumps.{enters_between, leap, all_entered, all_left, is_empty}
-use Rattle.flow_lower_statements.specs.Switches.{Targeted, targeted, edge_target, case_scope, case_landing, case_arms, edge_block, edge_blocks}
+use Rattle.flow_lower_statements.specs.ScopeJumps.{enters_between, leap, all_entered, is_empty}
+use Rattle.flow_lower_statements.specs.Switches.{Targeted, targeted, edge_target, case_scope, case_landing, case_arms, edge_block}
 use Rattle.flow_lower_statements.specs.declared.switch_statements.CaseArm.{CaseArm}
 use Rattle.template_runs_terms.proofs.Choices.{jumping}
 use Rattle.template_runs_works.proofs.Assignments.{one_more_job}
 use Rattle.template_runs_scopes.proofs.KeptScopes.{AreTerms}
-use Rattle.template_runs_scopes.proofs.Objects.{object_jobs, objects_are_terms, Planned, entered_planned, locals}
+use Rattle.template_runs_scopes.proofs.Objects.{object_jobs, objects_are_terms, entered_planned, locals}
 use Rattle.template_runs_scopes.proofs.Positions.{position}
 use Rattle.template_runs_switches.specs.ValueEdges.{AreArms}
 use Rattle.template_runs_ways.specs.Between.{Between}

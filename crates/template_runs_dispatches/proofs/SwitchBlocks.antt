@@ -1,5 +1,5 @@
 -- What lies behind the edges of a switch: the label itself, or a block that enters objects and jumps there.
-use Rattle.std.proofs.Common.{◌≡◌, ◌≤◌, ◌<◌, ℕ, zero, suc, ◌+◌, ◌-◌, ◌^◌, Bool, true, false, not, List, [], ◌∷◌, ◌++◌, length, Option, Some, None, slice_get, refl, arith, ap, sym, subst, ◌∙◌, append_assoc, length-append}
+use Rattle.std.proofs.Common.{◌≡◌, ◌≤◌, ◌<◌, ℕ, zero, suc, ◌+◌, false, not, List, [], ◌∷◌, ◌++◌, length, Some, slice_get, refl, arith, ap, sym, subst, ◌∙◌, length-append}
 use Rattle.std.proofs.lemmas.List.{length-map}
 use Rattle.c_layout.specs.CheckedTrees.{StatementTree}
 use Rattle.flow_lower_tasks.specs.Acts as act
@@ -19,9 +19,9 @@ use Rattle.ref_machine.specs.BranchSteps.{landing}
 use Rattle.ref_machine.specs.Items as item
 use Rattle.ref_machine.specs.Items.{Item}
 use Rattle.ref_machine.specs.LabelSearch.{Sought, case, found}
-use Rattle.ref_machine.specs.Scopes.{entered_between, entering_first, leap_in}
+use Rattle.ref_machine.specs.Scopes.{entered_between, entering_first}
 use Rattle.template_runs_follow.specs.Activations.{Activation}
-use Rattle.template_runs_follow.specs.Follows.{own, Leads, Follows}
+use Rattle.template_runs_follow.specs.Follows.{Leads, Follows}
 use Rattle.template_runs_works.specs.TemplateParts.{IsOfUnit, IsKnown, Stands}
 use Rattle.template_runs_works.proofs.Runs.{Runs, headed, known_before, then_ends, stands_after, stands_behind, split}
 use Rattle.template_runs_works.proofs.Laying.{led}

@@ -1,5 +1,5 @@
 -- Where the labels of a switch lead: into its body, or behind it, where it has no default label.
-use Rattle.std.proofs.Common.{◌≡◌, ◌≤◌, ◌<◌, ℕ, zero, suc, ◌+◌, ◌==◌, Bool, true, false, cond, List, [], ◌∷◌, ◌++◌, length, Option, Some, None, refl, arith, ap, sym, subst, ◌∙◌}
+use Rattle.std.proofs.Common.{◌≡◌, ◌≤◌, ℕ, zero, suc, ◌+◌, ◌==◌, Bool, true, false, cond, List, [], ◌∷◌, ◌++◌, Option, Some, None, refl, arith, ap, sym, subst, ◌∙◌}
 use Rattle.c_layout.specs.CheckedTrees as tree
 use Rattle.c_layout.specs.CheckedTrees.{StatementTree, StatementTrees}
 use Rattle.c_layout.specs.CheckedUnits.{UnitView, FunctionView}
@@ -11,7 +11,7 @@ use Rattle.ref_machine.specs.Items as item
 use Rattle.ref_machine.specs.Items.{Item}
 use Rattle.ref_machine.specs.LabelSearch.{Sought, case, first, here_or, found, found_in}
 use Rattle.ref_machine.specs.LabelSearch as sought
-use Rattle.ref_machine.specs.Scopes.{all_of, inwards, without, open_scopes, entered_between}
+use Rattle.ref_machine.specs.Scopes.{all_of, inwards, without, open_scopes}
 use Rattle.ref_machine.specs.StatementItems.{statements, do_test, for_step}
 use Rattle.template_runs_follow.specs.Activations.{Activation}
 use Rattle.template_runs_scopes.specs.Chains.{Chain, AreApart}

@@ -1,5 +1,5 @@
 -- `return`.
-use Rattle.std.proofs.Common.{◌≡◌, ◌≤◌, ℕ, suc, ◌+◌, ◌-◌, ◌^◌, Bool, true, false, cond, List, [], ◌∷◌, ◌++◌, length, Option, Some, None, slice_get, refl, arith, ap, sym, subst, ◌∙◌, append_assoc}
+use Rattle.std.proofs.Common.{◌≡◌, ◌≤◌, ℕ, ◌+◌, ◌-◌, ◌^◌, true, false, cond, List, [], ◌∷◌, ◌++◌, length, Option, Some, None, slice_get, refl, arith, ap, sym, subst, ◌∙◌, append_assoc}
 use Rattle.std.proofs.lemmas.List.{append-nil}
 use Rattle.cc_base.specs.declared.diagnostics.Place.{Place}
 use Rattle.c_layout.specs.CheckedUnits.{FunctionView}
@@ -40,7 +40,7 @@ use Rattle.template_runs_terms.proofs.Terms.{terms}
 use Rattle.template_runs_scopes.specs.SuitedStatements.{Enclosure, SuitsAsReturned}
 use Rattle.template_runs_scopes.specs.Contexts.{Within}
 use Rattle.template_runs_scopes.proofs.Positions.{Position}
-use Rattle.template_runs_scopes.proofs.KeptScopes.{AreTerms, Keeps, keeps_or, kept}
+use Rattle.template_runs_scopes.proofs.KeptScopes.{AreTerms, Keeps, kept}
 use Rattle.template_runs_scopes.proofs.InScopes.{Goes, gives_way}
 use Rattle.template_runs_scopes.proofs.Objects.{object_jobs, left_planned, named_from, locals, leaves}
 use Rattle.template_runs_scopes.proofs.Ways.{way_up, chain_there, chain_home}
