@@ -1,5 +1,5 @@
 -- Calls and returns: what a function begins with, and what is left to do at its end.
-use Rattle.std.proofs.Common.{◌≡◌, ℕ, zero, suc, ◌==◌, ◌||◌, Bool, true, false, cond, List, [], ◌∷◌, ◌++◌, replicate, Option, Some, None, refl, ap, sym, subst, ◌∙◌}
+use Rattle.std.proofs.Common.{◌≡◌, ℕ, zero, suc, ◌==◌, ◌||◌, Bool, true, false, cond, List, [], ◌∷◌, ◌++◌, replicate, Option, refl, ap, sym, subst, ◌∙◌}
 use Rattle.cc_base.specs.declared.diagnostics.Place.{Place}
 use Rattle.c_layout.specs.CheckedTrees.{statement_trees}
 use Rattle.c_layout.specs.CheckedUnits.{FunctionView}
@@ -20,10 +20,7 @@ use Rattle.ref_machine_returns.proofs.Ends.{own_more, ended_among}
 use Rattle.ref_machine_returns.proofs.Fitting.{Adds, adds_both}
 use Rattle.ref_machine_returns.proofs.FittingStatements.{in_block}
 use Rattle.ref_machine_returns.proofs.Labels.{end_owns}
-use Rattle.ref_machine_returns.proofs.Jumps.{covered_by, gone, leaving_one}
-
-none_some : (i : ℕ) → None ≡ Some i → ⊥
-none_some i e = cc
+use Rattle.ref_machine_returns.proofs.Jumps.{none_some, covered_by, gone, leaving_one}
 
 module _ (f : FunctionView) where
   -- ---- calls

@@ -5,7 +5,7 @@ use Rattle.flow_lower_tasks.specs.TermKinds.{is_void}
 use Rattle.flow_lower_functions.specs.Functions.{numbers_from}
 use Rattle.ref_machine.specs.Items as item
 use Rattle.ref_machine.specs.Items.{Item}
-use Rattle.ref_machine.specs.Scopes.{is_in, all_of, inwards, open_scopes, left_between, entered_between, behind_loop}
+use Rattle.ref_machine.specs.Scopes.{is_in, all_of, inwards, open_scopes, left_between, entered_between}
 use Rattle.ref_machine.specs.CallSteps.{with_result}
 use Rattle.ref_machine.specs.SourceStates.{result_object}
 use Rattle.ref_machine_returns.specs.EndedObjects.{own_objects, ended_by, ended, AreAmong, EndOwn}
@@ -18,11 +18,6 @@ module _ (f : FunctionView) where
 
   pub own_more : (xs items : List Item) → EndOwn f items → EndOwn f (xs ++ items)
   own_more xs items own = among_through (own_objects f) (ended f items) (ended f (xs ++ items)) own (ended_more xs items)
-
-  pub behind_among : (items : List Item) → AreAmong (ended f (behind_loop items)) (ended f items)
-  behind_among [] = none_among []
-  behind_among (item.LoopEnd ∷ items) = all_among (ended f items)
-  behind_among (i ∷ items) = among_more (ended_by f i) (ended f (behind_loop items)) (ended f items) (behind_among items)
 
   -- ---- open scopes
 

@@ -44,9 +44,6 @@ module _ (f : FunctionView) where
 
   -- ---- items before others
 
-  pub adds_none : Adds f []
-  adds_none rest fit = fit
-
   pub adds_both : (items others : List Item) → Adds f items → Adds f others → Adds f (items ++ others)
   adds_both items others one other rest fit = subst (Fit f) (sym (append_assoc items others rest)) (one (others ++ rest) (other rest fit))
 

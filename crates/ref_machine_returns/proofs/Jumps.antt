@@ -13,7 +13,7 @@ use Rattle.ref_machine_returns.proofs.Ends.{ended_more, entered_among, left_or_e
 use Rattle.ref_machine_returns.proofs.Fitting.{fit_behind_loop, fit_behind_turn}
 use Rattle.ref_machine_returns.proofs.Labels.{Reached}
 
-none_some : (i : ℕ) → None ≡ Some i → ⊥
+pub none_some : (i : ℕ) → None ≡ Some i → ⊥
 none_some i e = cc
 
 -- ---- the function that runs, if it was called

@@ -1,11 +1,10 @@
 -- What holds of the state in which a run goes on.
-use Rattle.std.proofs.Common.{◌≡◌, ℤ, Option, Some, None, refl, sym, subst}
-use Rattle.c_layout.specs.CheckedUnits.{UnitView, FunctionView}
+use Rattle.std.proofs.Common.{◌≡◌, ℤ, Option, Some, None, refl}
 use Rattle.lib_models_memory.specs.Scalars.{Scalar, integer, pointer}
 use Rattle.lib_models_memory.specs.Labels.{Labels}
 use Rattle.lib_models_effects.specs.Worlds.{World, Reply, goes, stops, behind}
 use Rattle.lib_models_effects.specs.Operands.{with_number}
-use Rattle.ref_machine.specs.SourceStates.{State, if_some, function_at, with_function}
+use Rattle.ref_machine.specs.SourceStates.{State, if_some}
 use Rattle.ref_machine_returns.proofs.Labels.{IfSome}
 
 -- it holds of what a reply gives, where the run goes on
@@ -33,7 +32,3 @@ module _ {A B : Type 0} (P : B → Type 0) where
 pub goes_with_number : {B : Type 0} (P : B → Type 0) (v : Scalar) (w : World) (use_it : ℤ → Labels → World → Reply B) → ((n : ℤ) (l : Labels) (w : World) → IfGoes P (use_it n l w)) → IfGoes P (with_number v w use_it)
 goes_with_number P (integer n l) w use_it h = h n l w
 goes_with_number P (pointer p) w use_it h = tt
-
--- the function that runs is known
-pub goes_with_function : {B : Type 0} (P : B → Type 0) (u : UnitView) (s : State) (f : FunctionView) (use_it : FunctionView → Reply B) → function_at u s.function ≡ Some f → IfGoes P (use_it f) → IfGoes P (with_function u s use_it)
-goes_with_function P u s f use_it is h = subst (λ o. IfGoes P (if_some s o use_it)) (sym is) h
