@@ -1,0 +1,2 @@
+pub mod RegularFunctions
+pub mod UnitRuns
