@@ -1,0 +1,6 @@
+//! What is told of a unit holds what its runs violate.
+#![tactic(auto)]
+
+mod theorems;
+
+pub use theorems::{judged_runs_are_found, reports_hold_runs};

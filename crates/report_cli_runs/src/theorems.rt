@@ -1,0 +1,23 @@
+//! Each rule that a run of a unit violates is told, at its place.
+ghost use Rattle.template_runs_units.specs.RegularFunctions.{RegularFunctionsSuit};
+ghost use Rattle.report_cli_runs.specs.FoundRuns.{JudgedRunsAreFound, ReportsHoldRuns};
+
+use abstract_steps_sound_units::checked_runs_are_found;
+use template_runs_units::unit_runs_are_program_runs;
+
+/// Each rule that a run of an accepted unit violates at a place is among the pairs that are told of it, also where turns
+/// are unrolled: whatever comes from the outside, and after any number of turns, unless the run is stuck there. Supposed is
+/// that the statements of regular functions are such as the laws on runs ask.
+pub fn judged_runs_are_found()
+    ensures { RegularFunctionsSuit → JudgedRunsAreFound }
+{
+    unit_runs_are_program_runs();
+    checked_runs_are_found();
+}
+
+/// So it is among the diagnostics of the unit's report.
+pub fn reports_hold_runs()
+    ensures { RegularFunctionsSuit → ReportsHoldRuns }
+{
+    judged_runs_are_found();
+}
