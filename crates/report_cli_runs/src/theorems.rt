@@ -1,6 +1,7 @@
 //! Each rule that a run of a unit violates is told, at its place.
 ghost use Rattle.template_runs_units.specs.RegularFunctions.{RegularFunctionsSuit};
 ghost use Rattle.report_cli_runs.specs.FoundRuns.{JudgedRunsAreFound, ReportsHoldRuns};
+ghost use Rattle.report_cli_runs.specs.AnsweredRuns.{AnswersHoldRuns};
 
 use abstract_steps_sound_units::checked_runs_are_found;
 use template_runs_units::unit_runs_are_program_runs;
@@ -20,4 +21,13 @@ pub fn reports_hold_runs()
     ensures { RegularFunctionsSuit → ReportsHoldRuns }
 {
     judged_runs_are_found();
+}
+
+/// The sentence: where `check` answers 0 or 1, it has put the report of the unit whole and in one call, and its diagnostics
+/// hold each rule that a run of the checked unit violates, at its place: whatever comes from the outside, and after any
+/// number of turns, unless the run is stuck there.
+pub fn answers_hold_runs()
+    ensures { RegularFunctionsSuit → AnswersHoldRuns }
+{
+    reports_hold_runs();
 }
