@@ -1,1 +1,2 @@
 pub mod FoundRuns
+pub mod ReplayedRuns
