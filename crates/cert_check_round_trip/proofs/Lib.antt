@@ -1,8 +1,3 @@
-pub mod Words
-pub mod Numbers
-pub mod FewBases
-pub mod BaseWords
-pub mod CellWords
 pub mod LineEnds
 pub mod RowWords
 pub mod OwnCells

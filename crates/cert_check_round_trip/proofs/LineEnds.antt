@@ -1,6 +1,5 @@
 -- A line that stands at a place of a text is read there.
-use Rattle.std.proofs.Common.{◌≡◌, ◌∙◌, ◌+◌, ◌-◌, ◌^◌, ◌<◌, ◌≤◌, ℕ, zero, suc, Bool, true, false, cond, ◌==◌, nat_lt, List, [], ◌∷◌, ◌++◌, length, drop, Option, Some, None, refl, sym, ap, subst, arith, append_assoc, length-append, lt-ltb}
-use Rattle.std.specs.Prelude.{codes}
+use Rattle.std.proofs.Common.{◌≡◌, ◌∙◌, ◌+◌, ◌-◌, ◌^◌, ◌≤◌, ℕ, suc, Bool, true, false, cond, nat_lt, List, [], ◌∷◌, ◌++◌, length, drop, Some, None, refl, sym, ap, subst, arith, append_assoc, length-append, lt-ltb}
 use Rattle.std.specs.Fmt.{decimal}
 use Rattle.std.proofs.lemmas.List.{drop-drop, length-drop}
 use Rattle.interval_domain.specs.declared.intervals.Interval.{Interval}
@@ -13,12 +12,12 @@ use Rattle.cert_check_text.specs.declared.map_lines.MapLine.TheVariants.{Unreach
 use Rattle.cert_check_text.specs.MapLines.{reached_text, line_text, line_of}
 use Rattle.cert_check_maps.specs.MapTexts.{ended_text}
 use Rattle.cert_check_reading.specs.TextPlaces.{line_at, next_place}
-use Rattle.cert_check_round_trip.specs.NearRanges.{IsNearRange}
-use Rattle.cert_check_round_trip.specs.NearCells.{IsNearPointer, IsNearValue, IsNearCell, IsNearLine}
-use Rattle.cert_check_round_trip.proofs.Words.{IsFreeOf, free_both, until_is, behind_is}
-use Rattle.cert_check_round_trip.proofs.Numbers.{apart_below, decimal_free, range_free}
-use Rattle.cert_check_round_trip.proofs.BaseWords.{bases_free}
-use Rattle.cert_check_round_trip.proofs.CellWords.{tail, sum_few, pointer_words, value_words, cell_words, cell_line, line_read}
+use Rattle.cert_check_text_laws.specs.NearRanges.{IsNearRange}
+use Rattle.cert_check_text_laws.specs.NearCells.{IsNearCell, IsNearLine}
+use Rattle.cert_check_text_laws.proofs.Words.{IsFreeOf, free_both, until_is, behind_is}
+use Rattle.cert_check_text_laws.proofs.Numbers.{apart_below, decimal_free, range_free}
+use Rattle.cert_check_text_laws.proofs.BaseWords.{bases_free}
+use Rattle.cert_check_text_laws.proofs.CellWords.{tail, sum_few, cell_words, cell_line, line_read}
 
 -- ---- no line has an end in it
 

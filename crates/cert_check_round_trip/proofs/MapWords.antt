@@ -1,15 +1,14 @@
 -- The text of a map of own rows is read back as the map.
-use Rattle.std.proofs.Common.{◌≡◌, ◌∙◌, ◌+◌, ◌^◌, ◌<◌, ◌≤◌, ℕ, zero, suc, Bool, true, false, cond, ◌&&◌, ◌==◌, nat_lt, List, [], ◌∷◌, ◌++◌, length, drop, replicate, Option, Some, None, refl, sym, ap, subst, arith, eq-eqb}
+use Rattle.std.proofs.Common.{◌≡◌, ◌∙◌, ◌^◌, ◌<◌, ◌≤◌, ℕ, suc, true, cond, List, [], ◌∷◌, ◌++◌, length, drop, Option, Some, None, refl, sym, ap, subst, arith, eq-eqb}
 use Rattle.std.specs.Prelude.{codes}
 use Rattle.std.specs.Fmt.{decimal}
 use Rattle.std.proofs.lemmas.Bool.{and_from}
 use Rattle.std.proofs.lemmas.List.{append-nil}
 use Rattle.cc_base.specs.InductiveMap.{row_at}
-use Rattle.interval_domain.specs.IntervalLattice.{interval_lattice, interval_order, interval_rounding, interval_heights}
-use Rattle.interval_domain.specs.IntervalNumbers.{interval_numbers, interval_bounding}
+use Rattle.interval_domain.specs.IntervalLattice.{interval_order, interval_rounding, interval_heights}
+use Rattle.interval_domain.specs.IntervalNumbers.{interval_bounding}
 use Rattle.interval_domain.specs.declared.intervals.Interval.{Interval}
 use Rattle.value_domain.specs.declared.row_cells.Cell.{Cell}
-use Rattle.value_domain.specs.declared.row_cells.Cell.TheVariants.{Nothing}
 use Rattle.flow_program.specs.declared.programs.Flow.{Flow}
 use Rattle.abstract_steps_rows.specs.CellKinds.{all_kinds}
 use Rattle.abstract_steps_rows.specs.FittedRows.{row_fit}
@@ -19,13 +18,13 @@ use Rattle.cert_check_text.specs.LineWords.{Bytes, same_bytes}
 use Rattle.cert_check_maps.specs.MapTexts.{head_text, blocks_text, text_of_map}
 use Rattle.cert_check_reading.specs.TextPlaces.{next_place}
 use Rattle.cert_check_reading.specs.GreatestRows.{cert_numbers, greatest_row}
-use Rattle.cert_check_reading.specs.MapReading.{has_head, head_read, map_rows, map_reading, is_whole}
+use Rattle.cert_check_reading.specs.MapReading.{has_head, head_read, map_rows, map_reading}
 use Rattle.cert_check_reading.specs.OwnReading.{IsOwnRow, greatest_own}
 use Rattle.cert_check_round_trip.specs.ReadableRows.{IsReadableRow, AreReadableRows}
 use Rattle.cert_check_round_trip.specs.ReadMaps.{IsSmall, IsReadBack}
-use Rattle.cert_check_round_trip.proofs.Words.{IsFreeOf, free_both}
-use Rattle.cert_check_round_trip.proofs.Numbers.{apart_below, decimal_free}
-use Rattle.cert_check_round_trip.proofs.CellWords.{same_refl}
+use Rattle.cert_check_text_laws.proofs.Words.{IsFreeOf, free_both}
+use Rattle.cert_check_text_laws.proofs.Numbers.{apart_below, decimal_free}
+use Rattle.cert_check_text_laws.proofs.CellWords.{same_refl}
 use Rattle.cert_check_round_trip.proofs.LineEnds.{until_there, ends_there, next_there, left_there, IsBehind}
 use Rattle.cert_check_round_trip.proofs.RowWords.{AreBlocksRead, blocks_back}
 use Rattle.cert_check_round_trip.proofs.OwnCells.{all_readable}

@@ -1,7 +1,7 @@
 -- Own cells of the system of certificates are found again in a text.
-use Rattle.std.proofs.Common.{◌≡◌, ◌∙◌, ◌-◌, ◌^◌, ◌≤◌, ℕ, zero, suc, min, Bool, true, false, cond, not, ◌&&◌, ◌||◌, List, [], ◌∷◌, length, replicate, Option, Some, None, refl, sym, ap, subst, arith, inl, inr}
-use Rattle.std.specs.Prelude.{ℤ, pos, negsuc, ◌≤ℤ◌, int_le, is_none}
-use Rattle.std.proofs.lemmas.Bool.{and_from, and_parts, or_cases, cases_Bool, not-true}
+use Rattle.std.proofs.Common.{◌≡◌, ◌∙◌, ◌-◌, ◌^◌, ℕ, zero, suc, min, Bool, true, false, cond, not, ◌&&◌, ◌||◌, List, [], ◌∷◌, length, replicate, refl, sym, ap, subst, arith, inl, inr}
+use Rattle.std.specs.Prelude.{pos, negsuc, ◌≤ℤ◌, is_none}
+use Rattle.std.proofs.lemmas.Bool.{and_from, and_parts, or_cases, not-true}
 use Rattle.std.proofs.lemmas.Int.{ints, clamps}
 use Rattle.cc_base.specs.LatticeParts.{flag_leq}
 use Rattle.interval_domain.specs.Best.{le_true, true_le}
@@ -16,16 +16,13 @@ use Rattle.interval_domain.specs.declared.intervals.Interval.TheVariants.{Bottom
 use Rattle.pointer_domain.specs.BaseSets.{no_base, bases_within, bases_empty}
 use Rattle.pointer_domain.specs.BaseLattice.{bases_order}
 use Rattle.pointer_domain.specs.PointerLattice.{pointers_leq, no_pointer}
-use Rattle.pointer_domain.specs.declared.base_sets.Bases.{Bases}
 use Rattle.pointer_domain.specs.declared.pointer_sets.Pointers.{Pointers}
 use Rattle.string_domain.specs.FirstZeros.{zero_lattice}
 use Rattle.string_domain.specs.declared.first_zeros.FirstZero.{FirstZero}
-use Rattle.value_domain.specs.LabelSets.{all_labels, no_labels, labels_leq, is_unlabelled}
+use Rattle.value_domain.specs.LabelSets.{is_unlabelled}
 use Rattle.value_domain.specs.Values.{value_lattice}
 use Rattle.value_domain.specs.AllocStates.{state_lattice}
-use Rattle.value_domain.specs.Cells.{cell_leq}
 use Rattle.value_domain.specs.declared.values.Value as values
-use Rattle.value_domain.specs.declared.label_sets.Labels.{Labels}
 use Rattle.value_domain.specs.declared.alloc_states.AllocState.{AllocState}
 use Rattle.value_domain.specs.declared.row_cells.Cell.{Cell}
 use Rattle.value_domain.specs.declared.row_cells.Cell.TheVariants.{Nothing, Value, First, State, Mixed}
@@ -34,16 +31,15 @@ use Rattle.abstract_steps_rows.specs.declared.cell_kinds.CellKind.TheVariants as
 use Rattle.abstract_steps_rows.specs.declared.own_cells.Reach.{Reach}
 use Rattle.abstract_steps_rows.specs.CellKinds.{first_kind, kinds_behind}
 use Rattle.abstract_steps_rows.specs.FittedRows.{number_fit, count_fit, bases_fit, if_somewhere, pointer_fit, greatest_number, greatest_pointer, greatest_value, greatest_first, greatest_state, cell_fit, cells_fit, cells_of}
-use Rattle.abstract_steps_rows.specs.OwnRows.{bases_below, reach_of, is_consistent, is_nowhere, is_somewhere, is_own_pointer, is_known_value, is_known_first, is_known_state, is_own_cell, are_own_cells}
+use Rattle.abstract_steps_rows.specs.OwnRows.{reach_of, is_consistent, is_nowhere, is_somewhere, is_own_pointer, is_known_value, is_known_first, is_known_state, is_own_cell, are_own_cells}
 use Rattle.cert_check_maps.specs.LeastCells as least
 use Rattle.cert_check_maps.specs.LeastCells.{is_least}
-use Rattle.cert_check_reading.specs.GreatestRows.{cert_numbers, emptied}
-use Rattle.cert_check_reading.specs.CellPlaces.{is_consistent_cell, has_line}
-use Rattle.cert_check_round_trip.specs.NearRanges.{IsNearRange, IsNearNumber, AreFew}
-use Rattle.cert_check_round_trip.specs.NearCells.{IsNearPointer, IsNearValue, IsNearCell}
+use Rattle.cert_check_reading.specs.GreatestRows.{cert_numbers}
+use Rattle.cert_check_text_laws.specs.NearRanges.{IsNearRange, AreFew}
+use Rattle.cert_check_text_laws.specs.NearCells.{IsNearValue}
 use Rattle.cert_check_round_trip.specs.ReadableRows.{IsReadableCell, AreReadableCells}
-use Rattle.cert_check_round_trip.proofs.FewBases.{below_few, within_few}
-use Rattle.cert_check_round_trip.proofs.BaseWords.{empty_is}
+use Rattle.cert_check_text_laws.proofs.FewBases.{below_few, within_few}
+use Rattle.cert_check_text_laws.proofs.BaseWords.{empty_is}
 
 -- ---- numbers
 

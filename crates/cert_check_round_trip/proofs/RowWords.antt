@@ -1,7 +1,6 @@
 -- The lines of a row, of a block and of a map are read back.
-use Rattle.std.proofs.Common.{◌≡◌, ◌∙◌, ◌+◌, ◌-◌, ◌^◌, ◌<◌, ◌≤◌, ℕ, zero, suc, Bool, true, false, cond, not, ◌&&◌, ◌==◌, nat_lt, nat_le, List, [], ◌∷◌, ◌++◌, length, drop, map, set, slice_set, slice_index_or, count_by, Option, Some, None, refl, sym, ap, subst, arith, append_assoc, length-append, lt-ltb, le-leb}
+use Rattle.std.proofs.Common.{◌≡◌, ◌∙◌, ◌+◌, ◌^◌, ◌<◌, ◌≤◌, ℕ, zero, suc, Bool, true, false, cond, not, nat_le, List, [], ◌∷◌, ◌++◌, length, drop, slice_set, slice_index_or, count_by, Option, Some, None, refl, sym, ap, subst, arith, append_assoc, length-append, lt-ltb, le-leb}
 use Rattle.std.proofs.lemmas.Bool.{and_from}
-use Rattle.std.proofs.lemmas.List.{append-nil}
 use Rattle.std.proofs.lemmas.List.Sums.{count_by-le-length, sum_by-cons}
 use Rattle.std.proofs.Math.Seq.{set-append_seam}
 use Rattle.interval_domain.specs.declared.intervals.Interval.{Interval}
@@ -10,9 +9,9 @@ use Rattle.value_domain.specs.declared.row_cells.Cell.TheVariants.{Nothing}
 use Rattle.cert_check_text.specs.LineWords.{Bytes}
 use Rattle.cert_check_text.specs.declared.map_lines.MapLine.TheVariants.{Unreached, Reached, Placed}
 use Rattle.cert_check_maps.specs.LeastCells.{is_least}
-use Rattle.cert_check_maps.specs.MapTexts.{ended_text, is_told, cell_text, cells_text, row_text, block_text, blocks_text}
+use Rattle.cert_check_maps.specs.MapTexts.{ended_text, is_told, cells_text, row_text, block_text, blocks_text}
 use Rattle.cert_check_reading.specs.declared.cell_reading.Reading.{Reading}
-use Rattle.cert_check_reading.specs.TextPlaces.{line_at, next_place}
+use Rattle.cert_check_reading.specs.TextPlaces.{line_at}
 use Rattle.cert_check_reading.specs.GreatestRows.{emptied, least_row}
 use Rattle.cert_check_reading.specs.CellPlaces.{has_line, has_place}
 use Rattle.cert_check_reading.specs.CellReading.{RowReading, row_reading, failed, placed, behind_cell, cell_read, cells_read}

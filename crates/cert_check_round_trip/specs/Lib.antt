@@ -1,4 +1,2 @@
-pub mod NearRanges
-pub mod NearCells
 pub mod ReadableRows
 pub mod ReadMaps

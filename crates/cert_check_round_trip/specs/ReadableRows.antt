@@ -5,7 +5,7 @@ use Rattle.value_domain.specs.declared.row_cells.Cell.{Cell}
 use Rattle.cert_check_maps.specs.LeastCells.{is_least}
 use Rattle.cert_check_reading.specs.GreatestRows.{emptied}
 use Rattle.cert_check_reading.specs.CellPlaces.{has_line}
-use Rattle.cert_check_round_trip.specs.NearCells.{IsNearCell}
+use Rattle.cert_check_text_laws.specs.NearCells.{IsNearCell}
 
 -- a cell that is the least of its position's kind, or may have a line there
 pub record IsReadableCell (greatest cell : Cell Interval) : Type 0 where

@@ -3,4 +3,4 @@
 
 mod theorems;
 
-pub use theorems::{lines_are_read_back, own_maps_are_read_back};
+pub use theorems::own_maps_are_read_back;

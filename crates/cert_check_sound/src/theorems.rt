@@ -1,16 +1,11 @@
 //! Rows may have offsets, sizes and first zeros below 0 in a certificate, which no row of an analysis has. So soundness
 //! goes by what rows stand for, and not by laws on larger rows.
-ghost use Rattle.std.specs.Prelude.{◌≡◌, ℤ, true, List};
+ghost use Rattle.std.specs.Prelude.{ℤ, List};
 ghost use Rattle.std.specs.Global.{Vec};
 ghost use Rattle.cc_base.specs.declared.diagnostics.Diag.{Diag};
 ghost use Rattle.c_layout.specs.CheckedUnits.{UnitView};
 ghost use Rattle.flow_program.specs.declared.programs.Flow.{Flow};
-ghost use Rattle.interval_domain.specs.IntervalLattice.{interval_lattice};
-ghost use Rattle.interval_domain.specs.IntervalNumbers.{interval_numbers};
 ghost use Rattle.lib_models_effects.specs.Worlds.{Violation};
-ghost use Rattle.abstract_steps_system.specs.FlowMachines.{has_start};
-ghost use Rattle.abstract_steps_laws_programs.specs.RegularPrograms.{is_regular};
-ghost use Rattle.abstract_steps_laws_own_rows.specs.OwnLists.{ReachesTypes};
 ghost use Rattle.abstract_steps_laws_own_starts.specs.CutStarts.{type_list};
 ghost use Rattle.abstract_steps_sound_analyses.specs.SoundAnalyses.{FindsEachPair};
 ghost use Rattle.cert_check_text.specs.LineWords.{Bytes};
@@ -19,7 +14,6 @@ ghost use Rattle.cert_check_programs.specs.declared.checked_maps.Verified.TheVar
 ghost use Rattle.cert_check_sound.specs.FittedRows.{FittedRowsStandForMore};
 ghost use Rattle.cert_check_sound.specs.CertifiedMaps.{ClosedMapsAreCarried, ClosedMapsBegin};
 ghost use Rattle.cert_check_sound.specs.SoundCertificates.{HoldsPairsOfUnits, HoldsPairsOfLowered, HoldsPairsOfChecked};
-ghost use Rattle.cert_check_sound.specs.AnalysedMaps.{CertificatesAreAccepted, InductiveMapsAreClosed};
 ghost use Rattle.cert_check_sound.specs.WorkedCertificates.{IsAcceptedBeyond};
 
 use abstract_steps_rows::Bounded;
@@ -59,15 +53,4 @@ pub fn accepted_certificates_hold_units()
 /// a pointer from 5 bytes before an object: no row of an analysis of it has one.
 pub fn premises_can_be_met()
     ensures { Flow → (flow : Flow) × (text : Bytes) × (found : Vec Diag) × (u : UnitView) × (v : Violation) × IsAcceptedBeyond flow type_list text found u v }
-{}
-
-/// Each inductive map of a regular program's system, as the one that the solver finds, is a closed map of the system of its
-/// certificates.
-pub fn inductive_maps_are_closed()
-    ensures { (flow : Flow) (list : List ℤ) → is_regular flow list ≡ true → ReachesTypes list → has_start interval_lattice interval_numbers flow ≡ true → InductiveMapsAreClosed flow list }
-{}
-
-/// The text of such a map, as it is written of the one that the solver finds, is accepted.
-pub fn proved_certificates_are_accepted()
-    ensures { (flow : Flow) (list : List ℤ) → is_regular flow list ≡ true → ReachesTypes list → CertificatesAreAccepted flow list }
 {}

@@ -3,4 +3,4 @@
 
 mod theorems;
 
-pub use theorems::{answers_hold_runs, judged_runs_are_found, reports_hold_runs};
+pub use theorems::{answers_hold_runs, judged_runs_are_found, replays_are_told, reports_hold_runs};

@@ -1,9 +1,11 @@
 //! Each rule that a run of a unit violates is told, at its place.
 ghost use Rattle.template_runs_units.specs.RegularFunctions.{RegularFunctionsSuit};
 ghost use Rattle.report_cli_runs.specs.FoundRuns.{JudgedRunsAreFound, ReportsHoldRuns};
+ghost use Rattle.report_cli_runs.specs.ReplayedRuns.{ReplaysAreTold};
 ghost use Rattle.report_cli_runs.specs.AnsweredRuns.{AnswersHoldRuns};
 
 use abstract_steps_sound_units::checked_runs_are_found;
+use report_cli_laws::one_parse;
 use template_runs_units::unit_runs_are_program_runs;
 
 /// Each rule that a run of an accepted unit violates at a place is among the pairs that are told of it, also where turns
@@ -20,6 +22,15 @@ pub fn judged_runs_are_found()
 pub fn reports_hold_runs()
     ensures { RegularFunctionsSuit → ReportsHoldRuns }
 {
+    judged_runs_are_found();
+}
+
+/// And each pair that a replay of an accepted unit finds is among those that are told of it, unless the replay ends as
+/// `left`.
+pub fn replays_are_told()
+    ensures { RegularFunctionsSuit → ReplaysAreTold }
+{
+    one_parse();
     judged_runs_are_found();
 }
 

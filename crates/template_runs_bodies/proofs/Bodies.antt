@@ -1,5 +1,5 @@
 -- The body of a function follows in its pieces, between what is entered and what is left.
-use Rattle.std.proofs.Common.{◌≡◌, ◌≤◌, ℕ, Bool, true, false, cond, nat_lt, List, [], ◌∷◌, ◌++◌, Some, refl, arith, sym, subst, append_assoc}
+use Rattle.std.proofs.Common.{◌≡◌, ◌≤◌, ℕ, Bool, true, false, cond, nat_lt, List, [], ◌∷◌, ◌++◌, Some, arith, sym, subst, append_assoc}
 use Rattle.c_layout.specs.CheckedTrees.{statement_trees}
 use Rattle.c_layout.specs.CheckedUnits.{FunctionView}
 use Rattle.flow_lower_debts.specs.Marks.{all_labels_in, IsLabelled}
@@ -18,7 +18,7 @@ use Rattle.ref_machine.specs.Items.{Item}
 use Rattle.ref_machine.specs.SourceStates.{function_at}
 use Rattle.ref_machine.specs.StatementItems.{statements}
 use Rattle.template_runs_follow.specs.Activations.{Activation}
-use Rattle.template_runs_follow.specs.Follows.{own, Follows}
+use Rattle.template_runs_follow.specs.Follows.{Follows}
 use Rattle.template_runs_works.specs.TemplateParts.{IsOfUnit, IsKnown, Stands, Ends}
 use Rattle.template_runs_works.proofs.Runs.{Runs, stands_behind, joined, split}
 use Rattle.template_runs_works.proofs.Laying.{known_between}
@@ -32,7 +32,7 @@ use Rattle.template_runs_noted.proofs.NotedChoices.{noted}
 use Rattle.template_runs_gotos.specs.Gotos.{HasLabels}
 use Rattle.template_runs_statements.proofs.Sequences.{statement_jobs}
 use Rattle.template_runs_statements.proofs.Selections.{count_terms}
-use Rattle.template_runs_cases.proofs.CoveredCases.{few_cases}
+use Rattle.template_runs_bodies.proofs.CoveredCases.{few_cases}
 use Rattle.template_runs_bodies.proofs.FunctionLabels.{behind_statements, statements_go}
 
 abbrev pub body_items : FunctionView → List Item → List Item

@@ -1,5 +1,5 @@
 -- Where labels stand in works, and what follows behind their marks.
-use Rattle.std.proofs.Common.{◌≡◌, ◌≤◌, ◌<◌, ℕ, suc, ◌+◌, ◌-◌, ◌^◌, ◌==◌, Bool, true, false, List, [], ◌∷◌, ◌++◌, length, get_or, Option, Some, None, refl, arith, ap, sym, subst, ◌∙◌, length-append}
+use Rattle.std.proofs.Common.{◌≡◌, ◌≤◌, ◌<◌, ℕ, false, List, [], ◌∷◌, ◌++◌, length, get_or, Option, Some, None, arith, ap, sym, subst, ◌∙◌, length-append}
 use Rattle.std.proofs.lemmas.List.{get_or_append_left}
 use Rattle.flow_lower_tasks.specs.Pieces.{PieceView}
 use Rattle.flow_lower_tasks.specs.Plans.{Plan}
@@ -13,8 +13,7 @@ use Rattle.flow_lower_growth.proofs.GrowingWorks.{grows, grows_parts, planless_g
 use Rattle.flow_lower_works.specs.Derivations.{is_piece, parts, Makes}
 use Rattle.flow_lower_works.proofs.Derivations.{parted}
 use Rattle.ref_machine.specs.Items.{Item}
-use Rattle.ref_machine.specs.LabelSearch.{Sought, case, other, first, inside_switch}
-use Rattle.ref_machine.specs.LabelSearch as sought
+use Rattle.ref_machine.specs.LabelSearch.{Sought, case, other, first}
 use Rattle.template_runs_follow.specs.Activations.{Activation}
 use Rattle.template_runs_follow.specs.Follows.{Follows}
 use Rattle.template_runs_works.specs.TemplateParts.{IsKnown, Stands}
@@ -23,7 +22,7 @@ use Rattle.template_runs_scopes.specs.Contexts.{Reaches}
 use Rattle.template_runs_scopes.proofs.Positions.{Position, position}
 use Rattle.template_runs_scopes.proofs.InScopes.{Goes}
 use Rattle.template_runs_statements.proofs.Selections.{Counts}
-use Rattle.template_runs_cases.specs.LabelMarks.{IsMark, of_label, of_case, of_other}
+use Rattle.template_runs_dispatches.specs.LabelMarks.{IsMark, of_label, of_case, of_other}
 
 -- ---- marks
 

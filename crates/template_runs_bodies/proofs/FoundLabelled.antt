@@ -1,10 +1,8 @@
 -- Statements with a label before them: the label leads to the statement, and other labels into it.
-use Rattle.std.proofs.Common.{◌≡◌, ◌≤◌, ◌<◌, ℕ, ◌==◌, Bool, true, false, List, [], ◌∷◌, ◌++◌, Option, Some, refl, arith, sym, subst, ◌∙◌}
+use Rattle.std.proofs.Common.{◌≡◌, ◌≤◌, ℕ, Bool, true, false, List, [], ◌∷◌, ◌++◌, Option, Some, refl, arith, sym, subst, ◌∙◌}
 use Rattle.std.proofs.lemmas.Bool.{eqb-true}
-use Rattle.c_layout.specs.CheckedTrees as tree
 use Rattle.c_layout.specs.CheckedTrees.{StatementTree}
-use Rattle.c_layout.specs.CheckedUnits.{FunctionView}
-use Rattle.flow_lower_tasks.specs.Pieces.{PieceView, Mark}
+use Rattle.flow_lower_tasks.specs.Pieces.{Mark}
 use Rattle.flow_lower_tasks.specs.Plans.{Plan}
 use Rattle.flow_lower_tasks.specs.Settings.{SettingView}
 use Rattle.flow_lower_tasks.specs.Works as jobs
@@ -14,7 +12,6 @@ use Rattle.flow_lower_statements.specs.Loops.{part}
 use Rattle.flow_lower_statements.specs.Switches.{dispatch_at}
 use Rattle.flow_lower_functions.specs.Turns.{planless}
 use Rattle.flow_lower_growth.specs.Growth.{Grows}
-use Rattle.flow_lower_growth.proofs.Growth.{grows_on}
 use Rattle.flow_lower_growth.proofs.GrowingWorks.{grows, grows_parts, planless_grows}
 use Rattle.flow_lower_works.specs.Derivations.{parts, Makes}
 use Rattle.ref_machine.specs.Items as item
@@ -22,17 +19,14 @@ use Rattle.ref_machine.specs.Items.{Item}
 use Rattle.ref_machine.specs.LabelSearch.{Sought, is_label, is_case, is_other, here_or, found}
 use Rattle.template_runs_follow.specs.Activations.{Activation}
 use Rattle.template_runs_follow.specs.Follows.{Follows}
-use Rattle.template_runs_works.specs.TemplateParts.{IsOfUnit, IsKnown, Stands}
+use Rattle.template_runs_works.specs.TemplateParts.{IsOfUnit, Stands}
 use Rattle.template_runs_works.proofs.Runs.{known_before, opened, headed, stands_after}
 use Rattle.template_runs_works.proofs.Laying.{led}
-use Rattle.template_runs_scopes.specs.Contexts.{Reaches, Within}
 use Rattle.template_runs_scopes.proofs.Positions.{Position}
 use Rattle.template_runs_scopes.proofs.InScopes.{Goes}
-use Rattle.template_runs_statements.proofs.Sequences.{AboutStatement}
-use Rattle.template_runs_statements.proofs.Labelled.{labelled_jobs, labelled_planned, labelled_scopes}
-use Rattle.template_runs_cases.specs.LabelMarks.{IsMark, of_label, of_case, of_other}
+use Rattle.template_runs_statements.proofs.Labelled.{labelled_planned, labelled_scopes}
+use Rattle.template_runs_dispatches.specs.LabelMarks.{IsMark, of_label, of_case, of_other}
 use Rattle.template_runs_bodies.proofs.Finding.{Finds, mark_kept, mark_below}
-use Rattle.template_runs_bodies.proofs.FoundSelections.{FoundStatement}
 
 at_most : (a : ℕ) → a ≤ a
 at_most a = omega arith

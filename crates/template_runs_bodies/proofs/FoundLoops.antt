@@ -1,5 +1,5 @@
 -- Labels in loops: behind the body, the next turn follows for as many turns.
-use Rattle.std.proofs.Common.{◌≡◌, ◌≤◌, ℕ, suc, ◌+◌, ◌-◌, ◌^◌, true, false, List, [], ◌∷◌, ◌++◌, length, Option, Some, refl, ap, sym, subst, ◌∙◌, append_assoc}
+use Rattle.std.proofs.Common.{◌≡◌, ◌≤◌, ℕ, ◌+◌, ◌-◌, ◌^◌, true, false, List, [], ◌∷◌, ◌++◌, length, Option, Some, refl, ap, sym, subst, ◌∙◌, append_assoc}
 use Rattle.std.proofs.lemmas.List.{append-nil}
 use Rattle.c_layout.specs.CheckedTrees as tree
 use Rattle.c_layout.specs.CheckedTrees.{TermTree, StatementTree, StatementTrees}
@@ -21,10 +21,9 @@ use Rattle.flow_lower_works.specs.Derivations.{parts, Makes}
 use Rattle.ref_machine.specs.Items as item
 use Rattle.ref_machine.specs.Items.{Item}
 use Rattle.ref_machine.specs.LabelSearch.{Sought, found, found_in}
-use Rattle.ref_machine.specs.StatementItems.{statements, clause, do_test, for_step}
+use Rattle.ref_machine.specs.StatementItems.{clause, do_test, for_step}
 use Rattle.template_runs_follow.specs.Activations.{Activation}
-use Rattle.template_runs_follow.specs.Follows.{Follows}
-use Rattle.template_runs_works.specs.TemplateParts.{IsOfUnit, IsKnown, Stands}
+use Rattle.template_runs_works.specs.TemplateParts.{IsOfUnit, Stands}
 use Rattle.template_runs_works.proofs.Runs.{stands_after}
 use Rattle.template_runs_works.proofs.Laying.{from_piece, from_none, from_work, known_between, few_labels}
 use Rattle.template_runs_terms.proofs.Choices.{jumping}
@@ -32,14 +31,12 @@ use Rattle.template_runs_scopes.specs.Contexts.{Reaches, Within}
 use Rattle.template_runs_scopes.specs.SuitedStatements.{Enclosure, not_enclosed, by_loop, SuitsBehind, SuitsIf, SuitsIn}
 use Rattle.template_runs_scopes.proofs.Contexts.{in_block}
 use Rattle.template_runs_scopes.proofs.Positions.{Position, position, inner, past, past_all}
-use Rattle.template_runs_scopes.proofs.InScopes.{Goes}
 use Rattle.template_runs_scopes.proofs.Objects.{object_jobs, objects_are_terms, named_from, locals}
 use Rattle.template_runs_statements.proofs.Sequences.{statement_jobs, HasParts, AboutStatement, AboutStatements}
-use Rattle.template_runs_statements.proofs.Selections.{Counts, count_terms, count_on, kept_one}
+use Rattle.template_runs_statements.proofs.Selections.{count_terms, count_on, kept_one}
 use Rattle.template_runs_statements.proofs.Loops.{while_jobs, while_planned, while_scopes, while_grows, while_at_body, while_context, while_again, while_turns, do_jobs, do_planned, do_scopes, do_grows, do_context, do_again, do_turns}
-use Rattle.template_runs_statements.proofs.ForLoops.{Planned, for_planned, for_grows, test_jobs, clause_jobs, turn_jobs, tests_are_terms, turns_count, turns_go, from_many, kept_many, for_at_body, for_context, for_again, for_turns}
-use Rattle.template_runs_cases.specs.LabelMarks.{IsMark}
-use Rattle.template_runs_bodies.proofs.Finding.{Finds, FindsFrom, finds_front, finds_back, finds_way, mark_kept}
+use Rattle.template_runs_statements.proofs.ForLoops.{Planned, for_planned, for_grows, test_jobs, clause_jobs, turn_jobs, tests_are_terms, turns_count, from_many, kept_many, for_at_body, for_context, for_again, for_turns}
+use Rattle.template_runs_bodies.proofs.Finding.{Finds, finds_front, finds_back, finds_way, mark_kept}
 use Rattle.template_runs_bodies.proofs.FoundSelections.{FoundStatement, leaves_go}
 
 module _ (s : SettingView) (t : Activation) (fits : IsOfUnit t s) (g : FunctionView) where

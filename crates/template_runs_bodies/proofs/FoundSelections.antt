@@ -1,5 +1,5 @@
 -- Labels in lists of statements, in blocks and in selections.
-use Rattle.std.proofs.Common.{◌≡◌, ◌≤◌, ℕ, suc, ◌+◌, ◌-◌, ◌^◌, List, [], ◌∷◌, ◌++◌, length, Option, Some, None, refl, ap, sym, subst, ◌∙◌}
+use Rattle.std.proofs.Common.{◌≡◌, ◌≤◌, ℕ, ◌+◌, ◌-◌, ◌^◌, List, [], ◌∷◌, ◌++◌, length, Option, refl, ap, sym, subst, ◌∙◌}
 use Rattle.std.proofs.lemmas.List.{append-nil}
 use Rattle.c_layout.specs.CheckedTrees as tree
 use Rattle.c_layout.specs.CheckedTrees.{TermTree, StatementTree, StatementTrees}
@@ -22,7 +22,7 @@ use Rattle.ref_machine.specs.LabelSearch.{Sought, first, found, found_in}
 use Rattle.ref_machine.specs.StatementItems.{statements}
 use Rattle.template_runs_follow.specs.Activations.{Activation}
 use Rattle.template_runs_follow.specs.Follows.{own, Follows}
-use Rattle.template_runs_works.specs.TemplateParts.{IsOfUnit, IsKnown, Stands}
+use Rattle.template_runs_works.specs.TemplateParts.{IsOfUnit, Stands}
 use Rattle.template_runs_works.proofs.Runs.{stands_behind, stands_after}
 use Rattle.template_runs_works.proofs.Laying.{from_piece, from_none, from_work, led, known_between, few_labels}
 use Rattle.template_runs_terms.proofs.Choices.{jumping, hops, two_way_jobs}

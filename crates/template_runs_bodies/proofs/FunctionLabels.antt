@@ -1,6 +1,6 @@
 -- The labels of a function lead to what is left to do from them, for any number of turns: for one turn more, where they do
 -- for fewer.
-use Rattle.std.proofs.Common.{◌≡◌, ◌≤◌, ◌<◌, ℕ, zero, suc, false, true, List, [], ◌∷◌, ◌++◌, Some, refl, arith, sym, subst, ◌∙◌}
+use Rattle.std.proofs.Common.{◌≡◌, ◌≤◌, ◌<◌, ℕ, zero, suc, false, true, List, [], ◌∷◌, ◌++◌, Some, arith, sym, subst, ◌∙◌}
 use Rattle.c_layout.specs.CheckedTrees.{statement_trees}
 use Rattle.c_layout.specs.CheckedUnits.{FunctionView}
 use Rattle.flow_lower_tasks.specs.Pieces.{PieceView}
@@ -17,14 +17,14 @@ use Rattle.template_runs_follow.specs.Follows.{Follows}
 use Rattle.template_runs_follow.proofs.FewerTurns.{less}
 use Rattle.template_runs_works.specs.TemplateParts.{IsOfUnit, IsKnown, Stands, Ends}
 use Rattle.template_runs_scopes.specs.Chains as chains
-use Rattle.template_runs_scopes.specs.Contexts.{Reaches, LabelsReach, LabelsReachBefore, Within}
+use Rattle.template_runs_scopes.specs.Contexts.{LabelsReach, LabelsReachBefore, Within}
 use Rattle.template_runs_scopes.specs.SuitedStatements.{not_enclosed, AllSuitIn}
 use Rattle.template_runs_scopes.proofs.FunctionBodies.{same_found}
 use Rattle.template_runs_scopes.proofs.Positions.{position, numbers}
 use Rattle.template_runs_choices.specs.Choices.{AllHaveChoices}
 use Rattle.template_runs_gotos.specs.Gotos.{HasLabels}
 use Rattle.template_runs_statements.proofs.Sequences.{statement_jobs}
-use Rattle.template_runs_cases.specs.LabelMarks.{of_label}
+use Rattle.template_runs_dispatches.specs.LabelMarks.{of_label}
 use Rattle.template_runs_bodies.proofs.Statements.{all_about, all_finds}
 
 -- what is left to do behind the statements of a function

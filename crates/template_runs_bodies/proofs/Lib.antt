@@ -5,4 +5,5 @@ pub mod FoundLabelled
 pub mod Switches
 pub mod Statements
 pub mod FunctionLabels
+pub mod CoveredCases
 pub mod Bodies

@@ -1,10 +1,9 @@
 -- What is proved of all statements: that their items follow in their pieces, and that what is left to do from their labels
 -- on follows behind the marks of these.
-use Rattle.std.proofs.Common.{◌≡◌, ℕ, true, List, ◌∷◌, [], Option, Some, None, refl, subst}
+use Rattle.std.proofs.Common.{◌≡◌, ℕ, List, ◌∷◌, [], Some, None, refl, subst}
 use Rattle.c_layout.specs.CheckedTrees as tree
 use Rattle.c_layout.specs.CheckedTrees.{StatementTree, StatementTrees, StoreValue, StoreCopy}
 use Rattle.c_layout.specs.CheckedUnits.{FunctionView}
-use Rattle.flow_lower_tasks.specs.Plans.{Plan}
 use Rattle.flow_lower_tasks.specs.Settings.{SettingView}
 use Rattle.flow_lower_tasks.specs.Works as jobs
 use Rattle.flow_lower_tasks.specs.Works.{behind}
@@ -17,7 +16,7 @@ use Rattle.template_runs_follow.specs.Activations.{Activation}
 use Rattle.template_runs_follow.proofs.Constructions.{gives_statement}
 use Rattle.template_runs_works.specs.TemplateParts.{IsOfUnit, Ends}
 use Rattle.template_runs_scopes.specs.Contexts.{Within}
-use Rattle.template_runs_scopes.specs.SuitedStatements.{Enclosure, SuitsIn}
+use Rattle.template_runs_scopes.specs.SuitedStatements.{Enclosure}
 use Rattle.template_runs_scopes.proofs.Positions.{Position, past, past_none, none_past}
 use Rattle.template_runs_scopes.proofs.InScopes.{Goes}
 use Rattle.template_runs_gotos.specs.Gotos.{HasLabels}
@@ -29,7 +28,6 @@ use Rattle.template_runs_statements.proofs.Selections.{of_block, of_if, of_if_el
 use Rattle.template_runs_statements.proofs.Loops.{of_while, of_do}
 use Rattle.template_runs_statements.proofs.ForLoops.{of_for}
 use Rattle.template_runs_statements.proofs.Labelled.{of_labelled}
-use Rattle.template_runs_bodies.proofs.Finding.{finds_none}
 use Rattle.template_runs_bodies.proofs.FoundLabelled.{found_labelled, label_mark, case_mark, default_mark}
 use Rattle.template_runs_bodies.proofs.FoundLoops.{found_while, found_do, found_for}
 use Rattle.template_runs_bodies.proofs.Switches.{of_switch, found_switch}

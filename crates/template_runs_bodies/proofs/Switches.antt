@@ -1,5 +1,5 @@
 -- `switch`: each value leads to its label in the body, through the block of its edge, or behind the switch.
-use Rattle.std.proofs.Common.{◌≡◌, ◌≤◌, ◌<◌, ℕ, ℤ, suc, ◌+◌, ◌-◌, ◌^◌, Bool, true, false, not, List, [], ◌∷◌, ◌++◌, length, Option, Some, None, slice_get, refl, arith, ap, sym, subst, ◌∙◌, append_assoc}
+use Rattle.std.proofs.Common.{◌≡◌, ◌≤◌, ◌<◌, ℕ, ℤ, ◌+◌, ◌-◌, ◌^◌, Bool, not, List, [], ◌∷◌, ◌++◌, length, Option, Some, None, slice_get, refl, arith, ap, sym, subst, ◌∙◌, append_assoc}
 use Rattle.std.proofs.lemmas.List.{append-nil}
 use Rattle.cc_base.specs.declared.diagnostics.Place.{Place}
 use Rattle.c_layout.specs.CheckedTrees as tree
@@ -27,7 +27,7 @@ use Rattle.ref_machine.specs.Items as item
 use Rattle.ref_machine.specs.Items.{Item}
 use Rattle.ref_machine.specs.LabelSearch as sought
 use Rattle.ref_machine.specs.LabelSearch.{Sought, case, other, found}
-use Rattle.ref_machine.specs.Scopes.{open_scopes, behind_loop, behind_turn}
+use Rattle.ref_machine.specs.Scopes.{open_scopes}
 use Rattle.ref_machine.specs.StatementItems.{of_statement}
 use Rattle.template_runs_follow.specs.Activations.{Activation, of_entry}
 use Rattle.template_runs_follow.specs.Follows as follows
@@ -42,7 +42,7 @@ use Rattle.template_runs_scopes.specs.Contexts.{Reaches, Within}
 use Rattle.template_runs_scopes.specs.SuitedStatements.{Enclosure, by_switch, SuitsIn}
 use Rattle.template_runs_scopes.proofs.Contexts.{in_body}
 use Rattle.template_runs_scopes.proofs.InScopes.{Goes, gives_way}
-use Rattle.template_runs_scopes.proofs.Objects.{NamedFrom, named_from, locals}
+use Rattle.template_runs_scopes.proofs.Objects.{named_from, locals}
 use Rattle.template_runs_scopes.proofs.Positions as positions
 use Rattle.template_runs_scopes.proofs.Positions.{Position, position, past}
 use Rattle.template_runs_scopes.proofs.Ways.{chain_there}
@@ -56,13 +56,13 @@ use Rattle.template_runs_switches.proofs.SwitchTargets.{switch_follows}
 use Rattle.template_runs_statements.proofs.Sequences.{HasParts, AboutStatement}
 use Rattle.template_runs_statements.proofs.Selections.{count_terms, count_on, kept_one}
 use Rattle.template_runs_statements.proofs.ForLoops.{from_many, kept_many}
-use Rattle.template_runs_cases.specs.LabelMarks.{IsMark, of_label, of_case, of_other}
+use Rattle.template_runs_dispatches.specs.LabelMarks.{IsMark, of_label, of_case, of_other}
 use Rattle.template_runs_bodies.proofs.Finding.{finds_way, mark_kept}
 use Rattle.template_runs_bodies.proofs.FoundSelections.{FoundStatement}
-use Rattle.template_runs_cases.proofs.SwitchArms.{IsTargeted, all_arms, aimed, one_block, block_terms, block_planned, enters_some}
-use Rattle.template_runs_cases.proofs.SwitchBlocks.{Comes, to_label, to_end, Goal, one_leads, AllGoals, all_goals, edge_jobs, edge_terms, entered_in, edges_planned, all_lead, all_reached, all_targets, target_of}
-use Rattle.template_runs_cases.proofs.SwitchGoals.{goal_found, goal_behind, goal_of_case, is_found}
-use Rattle.template_runs_cases.proofs.SwitchPlans.{dispatch_of, after_of, begun_of, started, begins, start_position, switch_mark, case_is_mark, other_is_mark, past_switch, arms_at, other_at, other_to, switched, dispatch_piece, valued, edged, dispatched, switch_plan, dispatch_keeps, start_grows, named_grows, other_grows, whole_grows, whole_jobs, whole_position, whole_names, valued_jobs, valued_names, mention_jobs, same_switched}
+use Rattle.template_runs_dispatches.proofs.SwitchArms.{IsTargeted, all_arms, aimed, one_block, block_terms, block_planned, enters_some}
+use Rattle.template_runs_dispatches.proofs.SwitchBlocks.{Comes, to_label, to_end, Goal, one_leads, AllGoals, all_goals, edge_jobs, edge_terms, entered_in, edges_planned, all_lead, all_reached, all_targets, target_of}
+use Rattle.template_runs_dispatches.proofs.SwitchGoals.{goal_found, goal_behind, goal_of_case, is_found}
+use Rattle.template_runs_dispatches.proofs.SwitchPlans.{dispatch_of, after_of, begun_of, started, begins, start_position, switch_mark, case_is_mark, other_is_mark, past_switch, arms_at, other_at, other_to, switched, dispatch_piece, valued, edged, dispatched, switch_plan, dispatch_keeps, start_grows, named_grows, other_grows, whole_grows, whole_jobs, whole_position, whole_names, valued_jobs, mention_jobs, same_switched}
 
 no_label : (to : List Item) → None ≡ Some to → ⊥
 no_label to e = cc

@@ -1,5 +1,5 @@
 -- Statements of a function follow in their pieces, and so does what is left to do from their labels on.
-use Rattle.std.specs.Prelude.{◌≡◌, ℕ, true, List, [], ◌∷◌, ◌++◌, length, Some}
+use Rattle.std.specs.Prelude.{◌≡◌, ℕ, List, [], ◌∷◌, ◌++◌, length, Some}
 use Rattle.c_layout.specs.CheckedTrees.{StatementTree}
 use Rattle.c_layout.specs.CheckedUnits.{FunctionView}
 use Rattle.flow_lower_tasks.specs.Pieces.{PieceView}
@@ -18,7 +18,7 @@ use Rattle.template_runs_scopes.specs.Scopes.{HasScopes}
 use Rattle.template_runs_scopes.specs.SuitedStatements.{Enclosure, SuitsIn}
 use Rattle.template_runs_choices.specs.Choices.{HasChoices}
 use Rattle.template_runs_gotos.specs.Gotos.{HasLabels}
-use Rattle.template_runs_cases.specs.LabelMarks.{IsMark}
+use Rattle.template_runs_dispatches.specs.LabelMarks.{IsMark}
 
 -- where the works of a statement come to pieces, its items follow in these, whatever comes behind
 abbrev pub StatementsFollow : Type 0

@@ -1,11 +1,11 @@
 -- The prologue of a function that is called, and what it does behind its body, follow in their pieces.
-use Rattle.std.proofs.Common.{◌≡◌, ◌≤◌, ◌<◌, ℕ, zero, suc, ◌+◌, ◌-◌, ◌^◌, Bool, true, false, cond, List, [], ◌∷◌, ◌++◌, length, replicate, Some, None, slice_get, refl, arith, ap, sym, subst, ◌∙◌, append_assoc}
+use Rattle.std.proofs.Common.{◌≡◌, ◌<◌, ℕ, zero, suc, ◌+◌, ◌-◌, Bool, true, false, cond, List, [], ◌∷◌, ◌++◌, replicate, Some, None, refl, arith, ap, sym, subst, ◌∙◌}
 use Rattle.std.proofs.lemmas.List.{append-nil}
 use Rattle.cc_base.specs.declared.diagnostics.Place.{Place}
 use Rattle.c_layout.specs.CheckedUnits.{FunctionView}
 use Rattle.c_layout.specs.declared.checked_tree.checked_terms.ObjectRef.TheVariants as object
 use Rattle.flow_lower_tasks.specs.Acts as act
-use Rattle.flow_lower_tasks.specs.Pieces.{NameView, Local, Outcome, PieceView, DoIfUsed, Mark}
+use Rattle.flow_lower_tasks.specs.Pieces.{Local, Outcome, PieceView, DoIfUsed, Mark}
 use Rattle.flow_lower_tasks.specs.Settings.{SettingView}
 use Rattle.flow_lower_tasks.specs.TermKinds.{scalar_of, is_void}
 use Rattle.flow_lower_tasks.specs.Works as jobs

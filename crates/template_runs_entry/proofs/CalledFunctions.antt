@@ -1,10 +1,10 @@
 -- A function that is called follows in the pieces of its template: its prologue, its body, and what comes behind.
-use Rattle.std.proofs.Common.{◌≡◌, ◌≤◌, ◌<◌, ℕ, suc, ◌+◌, ◌-◌, ◌^◌, false, List, [], ◌∷◌, ◌++◌, length, Some, slice_get, refl, arith, ap, sym, subst, ◌∙◌, append_assoc}
+use Rattle.std.proofs.Common.{◌≡◌, ◌≤◌, ◌<◌, ℕ, ◌+◌, ◌-◌, ◌^◌, false, List, [], ◌∷◌, ◌++◌, length, Some, slice_get, refl, arith, ap, sym, subst, ◌∙◌, append_assoc}
 use Rattle.std.proofs.lemmas.List.{append-nil}
 use Rattle.c_layout.specs.CheckedTrees.{StatementTrees, statement_trees}
 use Rattle.c_layout.specs.CheckedUnits.{FunctionView}
 use Rattle.flow_lower_tasks.specs.Acts as act
-use Rattle.flow_lower_tasks.specs.Pieces.{NameView, Outcome, PieceView, Mark}
+use Rattle.flow_lower_tasks.specs.Pieces.{NameView, Outcome, Mark}
 use Rattle.flow_lower_tasks.specs.Plans.{Plan, with_labels, begun}
 use Rattle.flow_lower_tasks.specs.Settings.{SettingView}
 use Rattle.flow_lower_tasks.specs.TermKinds.{scalar_of, is_void}
@@ -23,7 +23,7 @@ use Rattle.ref_machine.specs.CallSteps.{prologue, epilogue}
 use Rattle.ref_machine.specs.Items as item
 use Rattle.ref_machine.specs.Items.{Item}
 use Rattle.ref_machine.specs.StatementItems.{body}
-use Rattle.ref_machine.specs.SourceStates.{Frame, function_at}
+use Rattle.ref_machine.specs.SourceStates.{Frame}
 use Rattle.ref_machine.specs.SourceSteps.{place_of}
 use Rattle.template_runs.specs.TemplateStates.{Templates}
 use Rattle.template_runs_follow.specs.Activations.{Activation, activation}
@@ -37,7 +37,7 @@ use Rattle.template_runs_works.proofs.Labels.{leads}
 use Rattle.template_runs_works.proofs.Laying.{known_between}
 use Rattle.template_runs_scopes.proofs.KeptScopes.{AreTerms}
 use Rattle.template_runs_scopes.proofs.ScopesOfTerms.{scopes_kept}
-use Rattle.template_runs_scopes.proofs.Objects.{object_jobs, objects_are_terms, leaves, NamedFrom, named_from, locals}
+use Rattle.template_runs_scopes.proofs.Objects.{object_jobs, objects_are_terms, leaves, named_from, locals}
 use Rattle.template_runs_scopes.proofs.Positions.{position, numbers}
 use Rattle.template_runs_statements.proofs.Sequences.{statement_jobs}
 use Rattle.template_runs_bodies.proofs.Bodies.{body_items, has_labels, body_from}

@@ -1,5 +1,5 @@
 -- What is planned for a function that is called: its parameters, its body, and what comes behind.
-use Rattle.std.proofs.Common.{◌≡◌, ℕ, suc, ◌+◌, Bool, true, false, cond, List, [], ◌∷◌, ◌++◌, length, None, refl, arith, ap, sym, subst, ◌∙◌, append_assoc, length-append}
+use Rattle.std.proofs.Common.{◌≡◌, ℕ, suc, Bool, true, false, cond, List, [], ◌∷◌, ◌++◌, length, None, refl, arith, ap, sym, subst, ◌∙◌, append_assoc, length-append}
 use Rattle.std.proofs.lemmas.List.{append-nil}
 use Rattle.cc_base.specs.declared.diagnostics.Place.{Place}
 use Rattle.c_layout.specs.Types.{Ty}
@@ -9,8 +9,8 @@ use Rattle.c_layout.specs.CheckedUnits.{FunctionView}
 use Rattle.flow_program.specs.declared.machine_instructions.Scalar as declared
 use Rattle.flow_lower_tasks.specs.Acts as act
 use Rattle.flow_lower_tasks.specs.Acts.{Act}
-use Rattle.flow_lower_tasks.specs.Pieces.{NameView, Local, Outcome, DoIfUsed, Mark}
-use Rattle.flow_lower_tasks.specs.Plans.{Plan, with_work, with_name, with_labels, done, begun}
+use Rattle.flow_lower_tasks.specs.Pieces.{NameView, Local, Outcome, DoIfUsed}
+use Rattle.flow_lower_tasks.specs.Plans.{Plan, with_work, with_name, done}
 use Rattle.flow_lower_tasks.specs.TermKinds.{scalar_of, is_void}
 use Rattle.flow_lower_tasks.specs.Works as jobs
 use Rattle.flow_lower_tasks.specs.Works.{Job}

@@ -1,5 +1,5 @@
 -- `return`.
-use Rattle.std.proofs.Common.{◌≡◌, ◌≤◌, ℕ, suc, ◌+◌, ◌-◌, ◌^◌, Bool, true, false, cond, List, [], ◌∷◌, ◌++◌, length, Option, Some, None, slice_get, refl, arith, ap, sym, subst, ◌∙◌, append_assoc}
+use Rattle.std.proofs.Common.{◌≡◌, ◌≤◌, ℕ, ◌+◌, ◌-◌, ◌^◌, true, false, cond, List, [], ◌∷◌, ◌++◌, length, Option, Some, None, slice_get, refl, arith, ap, sym, subst, ◌∙◌, append_assoc}
 use Rattle.std.proofs.lemmas.List.{append-nil}
 use Rattle.cc_base.specs.declared.diagnostics.Place.{Place}
 use Rattle.c_layout.specs.CheckedUnits.{FunctionView}
@@ -40,7 +40,7 @@ use Rattle.template_runs_terms.proofs.Terms.{terms}
 use Rattle.template_runs_scopes.specs.SuitedStatements.{Enclosure, SuitsAsReturned}
 use Rattle.template_runs_scopes.specs.Contexts.{Within}
 use Rattle.template_runs_scopes.proofs.Positions.{Position}
-use Rattle.template_runs_scopes.proofs.KeptScopes.{AreTerms, Keeps, keeps_or, kept}
+use Rattle.template_runs_scopes.proofs.KeptScopes.{AreTerms, Keeps, kept}
 use Rattle.template_runs_scopes.proofs.InScopes.{Goes, gives_way}
 use Rattle.template_runs_scopes.proofs.Objects.{object_jobs, left_planned, named_from, locals, leaves}
 use Rattle.template_runs_scopes.proofs.Ways.{way_up, chain_there, chain_home}
@@ -105,7 +105,7 @@ module _ (s : SettingView) (t : Activation) (fits : IsOfUnit t s) (n : ℕ) (aro
   value_runs None suits = nothing_done s t n 0
   value_runs (Some e) suits = dropped s t n (jobs.Value e 0 ∷ []) (item.Value e ∷ []) 0 ((terms s t fits n e).value 0 suits.0 (one_less e suits.1))
 
-  value_is : (at : Place) (e : Option TermTree) (p : Plan) → s.is_entry ≡ of_entry t → lowered.given s at e p ≡ value_plan e p
+  value_is : (at : Place) (e : Option TermTree) (p : Plan) → s.is_entry ≡ true → lowered.given s at e p ≡ value_plan e p
   value_is at None p is = refl
   value_is at (Some e) p is = ap (λ b. cond b (with_work (jobs.Value e 0) p) (lowered.outcome at e p)) is
 
@@ -113,7 +113,7 @@ module _ (s : SettingView) (t : Activation) (fits : IsOfUnit t s) (n : ℕ) (aro
   value_returned at None is = refl
   value_returned at (Some e) is = ap (λ b. returned b at (Some e) ++ item.LeaveFunction ∷ []) is
 
-  from_entry : (at : Place) (e : Option TermTree) → SuitsAsReturned t.unit e → s.is_entry ≡ of_entry t → t.callers ≡ [] → ToReturn at e
+  from_entry : (at : Place) (e : Option TermTree) → SuitsAsReturned t.unit e → s.is_entry ≡ true → t.callers ≡ [] → ToReturn at e
   from_entry at e suits is none_wait p none ps r m known items rest stands k =
       let xs = all_of (open_scopes items) in
       let g = value_plan e p in

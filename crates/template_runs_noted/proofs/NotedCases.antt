@@ -1,24 +1,21 @@
 -- The cases and the default label of a switch are noted where they stand.
-use Rattle.std.proofs.Common.{◌≡◌, ◌≤◌, ◌<◌, ℕ, suc, ◌+◌, ◌-◌, ◌^◌, ◌==◌, min, Bool, true, false, cond, List, [], ◌∷◌, length, get_or, Option, Some, None, slice_get, refl, arith, ap, sym, subst, ◌∙◌}
+use Rattle.std.proofs.Common.{◌≡◌, ◌≤◌, ◌<◌, ℕ, ◌+◌, ◌-◌, ◌^◌, ◌==◌, min, Bool, true, false, cond, List, length, get_or, Option, Some, None, slice_get, refl, arith, ap, sym, subst, ◌∙◌}
 use Rattle.std.proofs.lemmas.Bool.{eqb-true}
 use Rattle.std.proofs.lemmas.List.{get_or-set_same}
 use Rattle.std.proofs.lemmas.Option.{slice_get-get_or}
 use Rattle.c_layout.specs.CheckedTrees as tree
 use Rattle.c_layout.specs.CheckedTrees.{StatementTree, StatementTrees}
-use Rattle.c_layout.specs.CheckedUnits.{UnitView, FunctionView}
-use Rattle.flow_lower_debts.specs.Marks.{one, cases_in, all_cases_in, defaults_in, all_defaults_in}
+use Rattle.flow_lower_debts.specs.Marks.{one, cases_in, all_cases_in}
 use Rattle.flow_lower_statements.specs.Switches.{no_choice}
-use Rattle.flow_lower_tasks.specs.Scopes.{TreeView, with_new_scope, with_choice, with_case, with_default, with_label, scoped, all_scoped, case_place, case_noted, default_noted, default_noted_at}
+use Rattle.flow_lower_tasks.specs.Scopes.{TreeView, with_new_scope, with_case, with_default, with_label, scoped, all_scoped, case_place, case_noted}
 use Rattle.flow_lower_tasks.specs.declared.scope_trees.Choice.{Choice}
 use Rattle.ref_machine.specs.LabelSearch.{case}
-use Rattle.ref_machine.specs.LabelSearch as sought
 use Rattle.template_runs_labels.specs.LabelScopes.{either, this_or, stands_in, all_stand_in}
 use Rattle.template_runs_scopes.specs.Scopes.{scopes_in, all_scopes_in, switches_in, all_switches_in}
-use Rattle.template_runs_scopes.specs.SuitedStatements.{Enclosure, by_loop, by_switch, SuitsIn, AllSuitIn}
 use Rattle.template_runs_scopes.proofs.ScopeTrees.{scoped_more, all_more, length_new, length_more}
-use Rattle.template_runs_noted.proofs.CountedLabels.{case_counted, all_case_counted, default_counted, all_default_counted, plains_defaults}
-use Rattle.template_runs_noted.proofs.GrownTrees.{choice_in, Grown, grown, all_grown, case_grown, default_grown, choice_grown, scope_grown, label_grown}
-use Rattle.template_runs_noted.proofs.KeptNotes.{OwnCases, OwnDefaults, case_kept, all_case_kept, choice_kept, all_choice_kept, first_some, second_some, one_there, new_length, new_choice, just_below}
+use Rattle.template_runs_noted.proofs.CountedLabels.{case_counted}
+use Rattle.template_runs_noted.proofs.GrownTrees.{choice_in, Grown, grown, all_grown, case_grown, default_grown, scope_grown, label_grown}
+use Rattle.template_runs_noted.proofs.KeptNotes.{OwnCases, case_kept, all_case_kept, first_some, second_some}
 
 -- ---- numbers
 

@@ -1,6 +1,6 @@
 -- What is noted of the switches of a function stands in its setting in the end: nothing that comes behind a switch changes
 -- its notes.
-use Rattle.std.proofs.Common.{◌≡◌, ◌≤◌, ◌<◌, ℕ, suc, ◌+◌, ◌-◌, ◌^◌, min, Bool, true, false, cond, nat_lt, List, [], ◌∷◌, ◌++◌, length, get_or, Option, Some, None, refl, arith, ap, sym, subst, ◌∙◌}
+use Rattle.std.proofs.Common.{◌≡◌, ◌≤◌, ◌<◌, ℕ, suc, ◌+◌, ◌-◌, ◌^◌, min, Bool, true, false, cond, nat_lt, List, [], length, get_or, Option, Some, None, refl, arith, ap, sym, subst, ◌∙◌}
 use Rattle.std.proofs.lemmas.Bool.{ltb-true}
 use Rattle.c_layout.specs.CheckedTrees as tree
 use Rattle.c_layout.specs.CheckedTrees.{StatementTree, StatementTrees, statement_trees}
@@ -17,7 +17,7 @@ use Rattle.template_runs_scopes.specs.Scopes.{scopes_in, all_scopes_in, switches
 use Rattle.template_runs_scopes.specs.SuitedStatements.{Enclosure, by_loop, by_switch, not_enclosed, SuitsIn, AllSuitIn}
 use Rattle.template_runs_scopes.proofs.ScopeTrees.{scoped_more, all_more, length_new, length_more}
 use Rattle.template_runs_choices.specs.Choices.{IsChoice, HasChoices, AllHaveChoices}
-use Rattle.template_runs_noted.proofs.GrownTrees.{choice_in, Grown, grown, all_grown, case_grown, default_grown, choice_grown, scope_grown, label_grown}
+use Rattle.template_runs_noted.proofs.GrownTrees.{choice_in, Grown, grown, all_grown, case_grown, default_grown, scope_grown, label_grown}
 use Rattle.template_runs_noted.proofs.KeptNotes.{case_kept, all_case_kept, choice_kept, all_choice_kept, first_some, second_some, new_begins, new_fallback, new_length, new_cases, just_below}
 use Rattle.template_runs_noted.proofs.NotedCases.{case_noted_in, case_scopes, default_scopes, label_scopes}
 use Rattle.template_runs_noted.proofs.NotedDefaults.{default_noted_in}

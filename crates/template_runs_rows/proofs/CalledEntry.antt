@@ -3,10 +3,9 @@ use Rattle.std.proofs.Common.{◌≡◌, ℕ, zero, suc, Bool, true, false, [], 
 use Rattle.c_layout.specs.CheckedTrees.{statement_trees}
 use Rattle.c_layout.specs.CheckedUnits.{FunctionView}
 use Rattle.flow_lower_debts.specs.Marks.{IsLabelled}
-use Rattle.flow_lower_functions.specs.Functions.{IsTemplate, setting_of}
+use Rattle.flow_lower_functions.specs.Functions.{setting_of}
 use Rattle.flow_lower_statements.specs.ScopeJumps.{objects}
 use Rattle.flow_lower_tasks.specs.Scopes.{with_new_scope}
-use Rattle.ref_machine.specs.SourceStates.{function_at}
 use Rattle.template_runs_scopes.specs.Chains.{AreApart}
 use Rattle.template_runs_scopes.specs.SuitedStatements.{not_enclosed, AreNew, AllSuitIn}
 use Rattle.template_runs_works.specs.SuitedTerms.{IsOwnCall}

@@ -1,5 +1,5 @@
 -- The items of the loop stand in the pieces of its template, turn by turn.
-use Rattle.std.specs.Prelude.{◌≡◌, ℕ, zero, suc, true, List, [], ◌∷◌, Some, None, refl}
+use Rattle.std.specs.Prelude.{ℕ, zero, suc, true, List, [], ◌∷◌, Some, refl}
 use Rattle.c_layout.specs.CheckedTrees as tree
 use Rattle.flow_lower_tasks.specs.Plans.{with_work, with_name, with_labels, with_scope, with_dispatch}
 use Rattle.flow_lower_tasks.specs.Scopes.{with_new_scope}

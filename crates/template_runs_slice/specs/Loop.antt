@@ -1,5 +1,5 @@
 -- `int main(void){int i;for(i=0;i<b;i++);return 1/i;}`, its template, and what is said of both.
-use Rattle.std.specs.Prelude.{◌≡◌, ℕ, pos, true, false, ℤ, List, [], ◌∷◌, Some, None}
+use Rattle.std.specs.Prelude.{ℕ, pos, true, false, ℤ, List, [], ◌∷◌, Some, None}
 use Rattle.cc_base.specs.declared.integer_operators.IntOp.TheVariants as sign
 use Rattle.cc_base.specs.declared.integer_operators.Rel.{Rel}
 use Rattle.cc_base.specs.declared.integer_operators.Rel.TheVariants as rel

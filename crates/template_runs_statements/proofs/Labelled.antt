@@ -1,5 +1,5 @@
 -- Statements with a label before them.
-use Rattle.std.proofs.Common.{◌≡◌, ℕ, List, [], ◌∷◌, ◌++◌, refl, subst, ◌∙◌}
+use Rattle.std.proofs.Common.{◌≡◌, ℕ, List, [], ◌∷◌, refl, subst, ◌∙◌}
 use Rattle.c_layout.specs.CheckedTrees.{StatementTree}
 use Rattle.flow_lower_tasks.specs.Pieces.{PieceView, Mark}
 use Rattle.flow_lower_tasks.specs.Plans.{Plan, with_work}

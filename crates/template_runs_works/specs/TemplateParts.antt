@@ -8,7 +8,7 @@ use Rattle.flow_lower_functions.specs.Functions.{numbers_from}
 use Rattle.flow_lower_debts.specs.Marks.{all_marked}
 use Rattle.ref_machine.specs.CallSteps.{epilogue}
 use Rattle.ref_machine.specs.SourceStates.{Frame}
-use Rattle.template_runs_follow.specs.Activations.{Activation, of_entry}
+use Rattle.template_runs_follow.specs.Activations.{Activation}
 use Rattle.template_runs_follow.specs.Follows.{Names, Leads, Follows, own, pieces}
 
 -- what a template is made from is of the unit, and each label is marked at most once
@@ -32,5 +32,5 @@ pub record Stands (t : Activation) (ps : List PieceView) : Type 0 where
 -- where a return leads: the run ends in the entry; a function that was called leaves its parameters and goes on behind its
 -- last label, where it gives its result
 pub data Ends (s : SettingView) (t : Activation) (f : FunctionView) : Type 0 where
-  stops : s.is_entry ≡ of_entry t → t.callers ≡ [] → Ends s t f
+  stops : s.is_entry ≡ true → t.callers ≡ [] → Ends s t f
   goes_back : s.is_entry ≡ false → s.parameters ≡ numbers_from 0 f.parameters → (caller : Frame) (callers : List Frame) → t.callers ≡ caller ∷ callers → (there : List PieceView) → Leads t s.end there → ((n : ℕ) → Follows t n 0 (epilogue f caller) there) → Ends s t f

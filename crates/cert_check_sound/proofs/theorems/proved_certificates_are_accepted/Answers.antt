@@ -1,5 +1,0 @@
-use Rattle.cert_check_sound.proofs.AcceptedTexts.{proved_accepted}
-use Rattle.cert_check_sound.proofs.theorems.proved_certificates_are_accepted.Goals as goal
-
-pub returns : goal.returns
-returns c = λ flow list regular reaches text certificate. proved_accepted flow list regular reaches text certificate

@@ -1,6 +1,0 @@
-pub mod DeeperScopes
-pub mod SwitchPlans
-pub mod SwitchArms
-pub mod SwitchBlocks
-pub mod SwitchGoals
-pub mod CoveredCases

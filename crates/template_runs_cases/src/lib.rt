@@ -1,2 +1,0 @@
-//! The edges of `switch` in their pieces.
-#![tactic(auto)]
