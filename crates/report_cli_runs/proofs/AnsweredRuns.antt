@@ -18,19 +18,19 @@ use Rattle.report_cli.specs.Verdicts.{Verdict, report_status, status_of, text_of
 use Rattle.report_cli_runs.specs.FoundRuns.{ReportsHoldRuns}
 use Rattle.report_cli_runs.specs.AnsweredRuns.{TellsRuns, IsAccepting, AnswersHoldRuns}
 
-past_one : (n : ℕ) → 2 ≤ n → IsAccepting n → ⊥
+pub past_one : (n : ℕ) → 2 ≤ n → IsAccepting n → ⊥
 past_one n past (inl e) = omega (arith, past, e)
 past_one n past (inr e) = omega (arith, past, e)
 
 -- no refusal is told with 0 or 1
-no_refusal : (r : Refusal) → IsAccepting (refusal_status r) → ⊥
+pub no_refusal : (r : Refusal) → IsAccepting (refusal_status r) → ⊥
 no_refusal (refusal.TooManyTokens count limit) h = past_one 8 (omega arith) h
 no_refusal (refusal.FileTooLong count limit) h = past_one 8 (omega arith) h
 no_refusal (refusal.TooLarge what count limit) h = past_one 8 (omega arith) h
 no_refusal _ h = past_one 2 (omega arith) h
 
 -- why there is no model is told with 3 or more
-no_model : (seen : Seen) (name : Bytes) (v : Verdict) → RefusesModel seen name v → IsAccepting (status_of v) → ⊥
+pub no_model : (seen : Seen) (name : Bytes) (v : Verdict) → RefusesModel seen name v → IsAccepting (status_of v) → ⊥
 no_model seen name (verdict.absent file) h ok = past_one 4 (omega arith) ok
 no_model seen name (verdict.too_long file) h ok = past_one 8 (omega arith) ok
 no_model seen name (verdict.no_model file reason) h ok = past_one 3 (omega arith) ok
@@ -49,7 +49,7 @@ no_model seen name (verdict.replayed names unit outcome) h ok = h
 no_model seen name (verdict.replayed_past file place count limit) h ok = h
 
 -- the report that a verdict is
-pub record Reports (seen : Seen) (c : CommandView) (m : Model) (v : Verdict) : Type 0 where
+record Reports (seen : Seen) (c : CommandView) (m : Model) (v : Verdict) : Type 0 where
   pub names : List Bytes
   pub diags : List Diag
   pub is : v ≡ verdict.reported c.format names c.unit diags
