@@ -1,5 +1,4 @@
 //! Each rule that a run of a unit violates is told, at its place.
-ghost use Rattle.template_runs_units.specs.RegularFunctions.{RegularFunctionsSuit};
 ghost use Rattle.report_cli_runs.specs.FoundRuns.{JudgedRunsAreFound, ReportsHoldRuns};
 ghost use Rattle.report_cli_runs.specs.ReplayedRuns.{ReplaysAreTold};
 
@@ -8,10 +7,9 @@ use report_cli_laws::one_parse;
 use template_runs_units::unit_runs_are_program_runs;
 
 /// Each rule that a run of an accepted unit violates at a place is among the pairs that are told of it, also where turns
-/// are unrolled: whatever comes from the outside, and after any number of turns, unless the run is stuck there. Supposed is
-/// that the statements of regular functions are such as the laws on runs ask.
+/// are unrolled: whatever comes from the outside, and after any number of turns, unless the run is stuck there.
 pub fn judged_runs_are_found()
-    ensures { RegularFunctionsSuit → JudgedRunsAreFound }
+    ensures { JudgedRunsAreFound }
 {
     unit_runs_are_program_runs();
     checked_runs_are_found();
@@ -19,7 +17,7 @@ pub fn judged_runs_are_found()
 
 /// So it is among the diagnostics of the unit's report.
 pub fn reports_hold_runs()
-    ensures { RegularFunctionsSuit → ReportsHoldRuns }
+    ensures { ReportsHoldRuns }
 {
     judged_runs_are_found();
 }
@@ -27,7 +25,7 @@ pub fn reports_hold_runs()
 /// And each pair that a replay of an accepted unit finds is among those that are told of it, unless the replay ends as
 /// `left`.
 pub fn replays_are_told()
-    ensures { RegularFunctionsSuit → ReplaysAreTold }
+    ensures { ReplaysAreTold }
 {
     one_parse();
     judged_runs_are_found();
