@@ -1,2 +1,3 @@
 pub mod FoundRuns
 pub mod ReplayedRuns
+pub mod CertifiedRuns

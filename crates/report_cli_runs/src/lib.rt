@@ -3,4 +3,6 @@
 
 mod theorems;
 
-pub use theorems::{judged_runs_are_found, replays_are_told, reports_hold_runs};
+pub use theorems::{
+    certificates_hold_runs, judged_runs_are_found, replays_are_told, reports_hold_runs,
+};

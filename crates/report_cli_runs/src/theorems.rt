@@ -1,8 +1,10 @@
 //! Each rule that a run of a unit violates is told, at its place.
 ghost use Rattle.report_cli_runs.specs.FoundRuns.{JudgedRunsAreFound, ReportsHoldRuns};
 ghost use Rattle.report_cli_runs.specs.ReplayedRuns.{ReplaysAreTold};
+ghost use Rattle.report_cli_runs.specs.CertifiedRuns.{CertificatesHoldRuns};
 
 use abstract_steps_sound_units::checked_runs_are_found;
+use cert_check_sound::accepted_certificates_hold_units;
 use report_cli_laws::one_parse;
 use template_runs_units::unit_runs_are_program_runs;
 
@@ -29,4 +31,12 @@ pub fn replays_are_told()
 {
     one_parse();
     judged_runs_are_found();
+}
+
+/// What is told of a certificate that is accepted for a unit holds each rule that a run of the unit violates at a place.
+pub fn certificates_hold_runs()
+    ensures { CertificatesHoldRuns }
+{
+    unit_runs_are_program_runs();
+    accepted_certificates_hold_units();
 }
