@@ -89,7 +89,7 @@ tells holds seen c sink status text v m has by_status by_text put r = record {
   report = r.report;
   by_status = by_status ∙ ap (λ (w : Verdict). status_of w) r.is;
   put = subst (λ (x : Bytes). PutOnce sink x) (by_text ∙ ap (λ (w : Verdict). text_of w) r.is) put;
-  holds = holds (FromFiles seen.files c.dirs m c.unit) (check_setting c m) r.names r.diags r.report;
+  holds = holds seen.files c.dirs m c.unit (check_setting c m) r.names r.diags r.report;
 }
 
 by_verdict : ReportsHoldRuns → (seen : Seen) (c : CommandView) (sink : Took) (status : ℕ) (text : Bytes) (v : Verdict) → IsVerdict seen (asked.Check c) v → status ≡ status_of v → text ≡ text_of v → PutOnce sink text → IsAccepting status → TellsRuns seen c sink status

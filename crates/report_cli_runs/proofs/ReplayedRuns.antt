@@ -1,20 +1,17 @@
 -- What is told of a unit holds what replays of it find.
-use Rattle.std.proofs.Common.{◌≡◌, ◌∙◌, ℕ, ℤ, List, Option, Some, map, ap, sym, subst}
-use Rattle.std.specs.List.{Contains, All}
+use Rattle.std.proofs.Common.{◌≡◌, ◌∙◌, ℕ, ℤ, List, Option, map, ap, sym, subst}
+use Rattle.std.specs.List.{Contains}
 use Rattle.std.proofs.lemmas.List.Elements.{All-map, All-contains, All-contains_itself}
 use Rattle.cc_base.specs.declared.diagnostics.Diag.{Diag}
 use Rattle.c_layout.specs.CheckedUnits.{UnitView, unit_view}
-use Rattle.c_layout.specs.declared.data_model.Model.{Model}
-use Rattle.c_layout.specs.declared.unit_tokens.Unit7.{Unit7}
-use Rattle.lib_models_effects.specs.Worlds.{Violation, Why, Stuck}
-use Rattle.ref_machine.specs.SourceRuns.{Run, found_in, why_of}
+use Rattle.lib_models_effects.specs.Worlds.{Violation, Why}
+use Rattle.ref_machine.specs.SourceRuns.{found_in, why_of}
 use Rattle.ref_machine.specs.RunFacts.{Left, end_by}
 use Rattle.replay_run.specs.OutcomeViews.{OutcomeView}
 use Rattle.replay_run.specs.Replays.{pair_of, IsOutcome}
-use Rattle.report_cli_units.specs.Judging.{judging, IsTyped, Judgement, IsJudged}
-use Rattle.report_cli_units.specs.Replaying.{ran, IsReplayed}
+use Rattle.report_cli_units.specs.Judging.{judging, IsTyped}
 use Rattle.report_cli_laws.specs.Accepted.{OneCheckedUnit}
-use Rattle.report_cli_runs.specs.FoundRuns.{IsViolatedBy, HoldsRunsOf, JudgedRunsAreFound}
+use Rattle.report_cli_runs.specs.FoundRuns.{HoldsRunsOf, JudgedRunsAreFound}
 use Rattle.report_cli_runs.specs.ReplayedRuns.{ReplaysAreTold}
 
 abbrev violation_of : Diag → Violation

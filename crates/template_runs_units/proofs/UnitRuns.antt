@@ -35,11 +35,11 @@ use Rattle.template_runs_laid.specs.LaidRuns as laid
 use Rattle.template_runs_follow.specs.Activations.{entry_of}
 use Rattle.template_runs_follow.specs.Follows.{Follows, Reached, entry, called, pieces}
 use Rattle.template_runs_turns.specs.Alike as followed
+use Rattle.template_runs_suited.specs.RegularFunctions.{RegularFunctionsSuit}
 use Rattle.template_runs_entry.specs.Entries.{IsMade, IsEntry, AreMade, EntryIsNotCalled, FunctionsAreFollowed, EntriesAreFollowed}
 use Rattle.template_runs_returns.specs.Returns.{AtEnd, EndsWith, ReturnsAreFollowed}
 use Rattle.template_runs_fit_units.specs.CheckedRuns as fit
 use Rattle.template_runs_fit_units.specs.CheckedRuns.{IsPlainlyMade, CheckedRunsAreTheSame}
-use Rattle.template_runs_units.specs.RegularFunctions.{RegularFunctionsSuit}
 use Rattle.template_runs_units.specs.UnitRuns.{IsProgramOf, AgreeUnlessStuck}
 use Rattle.template_runs_units.proofs.MadeTemplates.{IsFresh, made, fresh}
 
@@ -141,7 +141,7 @@ module _ (laws : Laws) (u : UnitView) (limits : Limits) (program : Flow) (o : Is
       record {
         is = is;
         template = subst (λ c. IsTemplate u.structs u.model.pointer u.model.int f c (of g)) same
-        (subst (λ h. IsTemplate u.structs u.model.pointer u.model.int h (g == u.entry) (of g)) (one_function x.function f (slice_get u.functions g) x.is_template.stands is) x.is_template.is_template);
+            (subst (λ h. IsTemplate u.structs u.model.pointer u.model.int h (g == u.entry) (of g)) (one_function x.function f (slice_get u.functions g) x.is_template.stands is) x.is_template.is_template);
         labelled = laws.labelled f (numbered u f e);
         few_labels = x.few;
         apart = laws.apart f (owned u f e) (setting_of u.structs u.model.pointer u.model.int f b) refl;

@@ -4,9 +4,9 @@ use Rattle.template_runs_units.proofs.theorems.unit_runs_are_program_runs.Goals 
 
 pub returns : goal.returns
 returns c =
-    λ suit u limits program o draws turns. unit_runs
+    λ u limits program o draws turns. unit_runs
     (record {
-      suit = suit;
+      suit = c.regular_functions_suit.ensures;
       regular = c.functions_are_regular.ensures;
       labelled = c.functions_are_labelled.ensures;
       named = c.names_are_there.ensures;
