@@ -14,11 +14,11 @@ Within fewer known = (x : ℕ) → is_in x fewer ≡ true → is_in x known ≡ 
 -- behind the same ones too
 pub behind_same : (xs fewer known : List ℕ) → Within fewer known → Within (xs ++ fewer) (xs ++ known)
 behind_same [] fewer known within x e = within x e
-behind_same (y ∷ xs) fewer known within x e = by (either_true (x == y) (is_in x (xs ++ fewer)) e)
+behind_same (y ∷ xs) fewer known within x e = by (behind_same xs fewer known within x) (either_true (x == y) (is_in x (xs ++ fewer)) e)
   where
-    by : ((x == y) ≡ true) ⊎ (is_in x (xs ++ fewer) ≡ true) → is_in x (y ∷ (xs ++ known)) ≡ true
-    by (inl same) = left_true (x == y) (is_in x (xs ++ known)) same
-    by (inr there) = right_true (x == y) (is_in x (xs ++ known)) (behind_same xs fewer known within x there)
+    by : (is_in x (xs ++ fewer) ≡ true → is_in x (xs ++ known) ≡ true) → ((x == y) ≡ true) ⊎ (is_in x (xs ++ fewer) ≡ true) → is_in x (y ∷ (xs ++ known)) ≡ true
+    by later (inl same) = left_true (x == y) (is_in x (xs ++ known)) same
+    by later (inr there) = right_true (x == y) (is_in x (xs ++ known)) (later there)
 
 mutual
   fewer_objects : (fewer known : List ℕ) → Within fewer known → (i : StatementTree) → HasNewObjects known i → HasNewObjects fewer i

@@ -102,7 +102,8 @@ module _ (u : UnitView) (f : FunctionView) where
     suits used d (Typed at t parens constant (tree.Struct l)) is = suits_place d l is
     suits used d (Typed at t parens constant (tree.Call function args is_used)) is =
         let x = both_true (are_regular_terms u f d args) (is_callable used is_used (looks.argument_count args) (slice_get u.functions function)) is in
-        (suits_all d args x.0, own_call used is_used function args x.1)
+        let y = own_call used is_used function args x.1 in
+        (suits_all d args x.0, y.0, y.1)
     suits used d (Typed at t parens constant (tree.Library function args target)) is =
         let x = both_true (are_regular_terms u f d args) (is_library_call used (looks.argument_count args) function) is in
         let y = both_true (not used || gives function) (not (reads_line function) || looks.argument_count args == 3) x.1 in
