@@ -35,7 +35,8 @@ CheckedRunsAreFound = (flow : Flow) (list : List ℤ) (found : List Diag) → Is
 few_temps : standard_limits.temps ≤ 2 ^ 32 - 1
 few_temps = omega arith
 
-pub program_of : (s : SettingView) (tree : Tree7) (checked : Checked) (flow : Flow) → IsTyped s tree checked → is_regular_unit (unit_view checked) ≡ true → IsLowered checked flow → is_well_formed standard_limits flow ≡ true → IsProgramOf (unit_view checked) standard_limits flow
+pub program_of : (s : SettingView) (tree : Tree7) (checked : Checked) (flow : Flow)
+    → IsTyped s tree checked → is_regular_unit (unit_view checked) ≡ true → IsLowered checked flow → is_well_formed standard_limits flow ≡ true → IsProgramOf (unit_view checked) standard_limits flow
 program_of s tree checked flow typed regular lowered good = record {
   model = s.model;
   name = s.entry;
@@ -73,7 +74,8 @@ violated_in runs u program is v violated =
     }
 
 -- the analysis is of the program, or of the one with turns unrolled
-finds_pairs : CheckedRunsAreFound → FindsTurnedPairsOfChecked → (turns : Option ℕ) (flow unrolled : Flow) (list : List ℤ) (found : List Diag) (u : UnitView) → IsTurned turns flow unrolled → is_well_formed standard_limits flow ≡ true → IsAnalysis unrolled list found → IsUnitOf u flow → FindsPairsOf flow found u
+finds_pairs : CheckedRunsAreFound → FindsTurnedPairsOfChecked → (turns : Option ℕ) (flow unrolled : Flow) (list : List ℤ) (found : List Diag) (u : UnitView)
+    → IsTurned turns flow unrolled → is_well_formed standard_limits flow ≡ true → IsAnalysis unrolled list found → IsUnitOf u flow → FindsPairsOf flow found u
 finds_pairs once turned None flow unrolled list found u is good analysis of = once flow list found (subst (λ f. IsAnalysis f list found) is analysis) u of
 finds_pairs once turned (Some turns) flow unrolled list found u is good analysis of = turned turns standard_limits flow unrolled list found good is analysis u of
 
