@@ -17,16 +17,16 @@ use Rattle.template_runs_wrong.specs.KeptObjects as objects
 use Rattle.template_runs_wrong.proofs.Stops.{none_agrees}
 
 abbrev steps_run : SourceRun
-steps_run = Run steps.unit [] 80
+steps_run = Run steps.unit [] 60
 
 abbrev steps_refused : TemplateRun
-steps_refused = run_of (with_templates steps.unit steps.wrong) [] 40
+steps_refused = run_of (with_templates steps.unit steps.wrong) [] 30
 
 steps_own : AreTemplates steps.right 0 steps.unit.functions
 unfolding with_work with_name with_labels with_scope with_dispatch with_new_scope
-steps_own = (record { turns = 80; ended = refl; comes_to = refl }, tt)
+steps_own = (record { turns = 60; ended = refl; comes_to = refl }, tt)
 
-steps_agree : Agree steps_run (run_of (with_templates steps.unit steps.right) [] 40)
+steps_agree : Agree steps_run (run_of (with_templates steps.unit steps.right) [] 30)
 unfolding leaves_of
 steps_agree = record { memory = refl; draws = refl; found = refl; why = refl }
 
@@ -38,7 +38,7 @@ steps_stop : why_of steps_refused ≡ Some why.Ended
 unfolding leaves_of
 steps_stop = refl
 
-steps_find : source.found_in steps_run ≡ found_at 60 rule.Diverr
+steps_find : source.found_in steps_run ≡ found_at 32 rule.Diverr
 unfolding leaves_of
 steps_find = refl
 
@@ -49,17 +49,17 @@ steps_find_else = refl
 steps_differ : Agree steps_run steps_refused → ⊥
 steps_differ agree = different (sym steps_find ∙ (agree.found ∙ steps_find_else))
   where
-    different : found_at 60 rule.Diverr ≡ [] → ⊥
+    different : found_at 32 rule.Diverr ≡ [] → ⊥
     different e = cc
 
 pub skipped_step_is_wrong : IsRefused steps.unit steps.right steps.wrong
 skipped_step_is_wrong = record {
   own = steps_own;
   draws = [];
-  turns = 80;
-  steps = 40;
+  turns = 60;
+  steps = 30;
   agrees = steps_agree;
-  agrees_with_none = λ n. none_agrees steps_run (with_templates steps.unit steps.wrong) [] 40 _ _ steps_end steps_stop steps_differ n;
+  agrees_with_none = λ n. none_agrees steps_run (with_templates steps.unit steps.wrong) [] 30 _ _ steps_end steps_stop steps_differ n;
 }
 
 abbrev objects_run : SourceRun
