@@ -1,14 +1,12 @@
 -- A run of templates that stops has no other states than those in which it goes on and the one in which it has stopped.
-use Rattle.std.proofs.Common.{◌≡◌, ◌⊎◌, inl, inr, ℕ, zero, suc, ℤ, List, Option, Some, None, refl, sym, ◌∙◌, subst}
-use Rattle.c_layout.specs.CheckedUnits.{UnitView}
-use Rattle.flow_lower_tasks.specs.Pieces.{TemplateView}
+use Rattle.std.proofs.Common.{◌≡◌, ◌⊎◌, inl, inr, ℕ, zero, suc, ℤ, List, Some, None, refl, sym, ◌∙◌, subst}
 use Rattle.lib_models_effects.specs.Worlds.{Why}
 use Rattle.ref_machine.specs.SourceRuns as source
 use Rattle.ref_machine.specs.SourceRuns.{SourceRun, Run}
 use Rattle.template_runs.specs.TemplateStates.{Templates, TemplateRun, running, stopped, why_of}
 use Rattle.template_runs.specs.TemplateSteps.{template_begin, steps_from}
 use Rattle.template_runs_turns.specs.Alike.{Agree}
-use Rattle.template_runs_wrong.specs.Refusals.{with_templates, run_of}
+use Rattle.template_runs_wrong.specs.Refusals.{run_of}
 
 stays : (t : Templates) (n : ℕ) (r : TemplateRun) (why : Why) → why_of r ≡ Some why → steps_from t n r ≡ r
 stays t zero r why e = refl

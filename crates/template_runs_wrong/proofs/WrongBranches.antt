@@ -1,5 +1,5 @@
 -- Wrong templates of selections and of `&&` are refused.
-use Rattle.std.proofs.Common.{◌≡◌, List, [], ◌∷◌, length, Some, None, refl, sym, ap, arith, ◌∙◌}
+use Rattle.std.proofs.Common.{◌≡◌, [], Some, refl, sym, ◌∙◌}
 use Rattle.cc_base.specs.declared.diagnostics.Rule.TheVariants as rule
 use Rattle.c_layout.specs.Leaves.{leaves_of}
 use Rattle.flow_lower_tasks.specs.Plans.{with_work, with_name, with_labels, with_scope, with_dispatch}
@@ -7,7 +7,7 @@ use Rattle.flow_lower_tasks.specs.Scopes.{with_new_scope}
 use Rattle.lib_models_effects.specs.Worlds as why
 use Rattle.ref_machine.specs.SourceRuns as source
 use Rattle.ref_machine.specs.SourceRuns.{SourceRun, Run}
-use Rattle.template_runs.specs.TemplateStates.{TemplateRun, world_of, found_in, why_of}
+use Rattle.template_runs.specs.TemplateStates.{TemplateRun, found_in, why_of}
 use Rattle.template_runs_turns.specs.Alike.{Agree}
 use Rattle.template_runs_slice.specs.Units.{found_at}
 use Rattle.template_runs_wrong.specs.Refusals.{IsRefused, AreTemplates, with_templates, run_of}

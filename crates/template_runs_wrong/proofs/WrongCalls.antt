@@ -1,5 +1,5 @@
 -- Wrong templates of calls are refused.
-use Rattle.std.proofs.Common.{◌≡◌, List, [], ◌∷◌, length, Some, None, refl, sym, ap, arith, ◌∙◌}
+use Rattle.std.proofs.Common.{◌≡◌, [], length, Some, refl, sym, ap, arith, ◌∙◌}
 use Rattle.cc_base.specs.declared.diagnostics.Rule.TheVariants as rule
 use Rattle.c_layout.specs.Leaves.{leaves_of}
 use Rattle.flow_lower_tasks.specs.Plans.{with_work, with_name, with_labels, with_scope, with_dispatch}

@@ -1,5 +1,5 @@
 -- `int main(void){return 0&&1/0;}`: where both operands of `&&` are evaluated, there is a division by 0.
-use Rattle.std.specs.Prelude.{ℕ, pos, true, false, List, [], ◌∷◌, Some, None}
+use Rattle.std.specs.Prelude.{ℕ, pos, true, false, [], ◌∷◌, Some, None}
 use Rattle.cc_base.specs.declared.integer_operators.IntOp.TheVariants as sign
 use Rattle.c_layout.specs.CheckedTrees as tree
 use Rattle.c_layout.specs.CheckedUnits.{FunctionView, UnitView}
@@ -8,7 +8,7 @@ use Rattle.c_layout.specs.declared.syntax_tree.expressions.LogicalOp.TheVariants
 use Rattle.flow_program.specs.declared.machine_instructions.Amount.TheVariants.{Temp}
 use Rattle.flow_program.specs.declared.machine_instructions.Scalar.TheVariants as scalar
 use Rattle.flow_lower_tasks.specs.Acts as act
-use Rattle.flow_lower_tasks.specs.Pieces.{TemplateView, PieceView, Mark, When}
+use Rattle.flow_lower_tasks.specs.Pieces.{TemplateView, Mark, When}
 use Rattle.template_runs_slice.specs.Units.{int, at, term, number, binary, function_of, unit_of, done, ends, constant}
 
 abbrev pub main : FunctionView
@@ -28,6 +28,7 @@ of_main failed = record {
   labels = 4;
 }
 
+-- the right operand is passed over where the left one is 0
 abbrev pub right : ℕ → TemplateView
 right n = of_main 3
 

@@ -12,6 +12,7 @@ use Rattle.flow_lower_tasks.specs.Acts as act
 use Rattle.flow_lower_tasks.specs.Pieces.{TemplateView, PieceView, Local, Mark, Call}
 use Rattle.template_runs_slice.specs.Units.{int, at, number, binary, local, function_of, unit_of, done, ends, address, store, constant}
 
+-- the call that divides by 0 in its last argument
 abbrev pub call : TermTree
 call = Typed (at 16) Void 0 None (tree.Call 1 (More (number 18 2) (More (binary 21 Divide (number 20 1) (number 22 0)) End)) false)
 
@@ -45,6 +46,7 @@ of_takes_two between = record {
   labels = 3;
 }
 
+-- both arguments are evaluated before the call
 abbrev pub right : ℕ → TemplateView
 right zero = of_main last_argument
 right (suc n) = of_takes_two []

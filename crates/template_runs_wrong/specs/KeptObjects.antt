@@ -3,16 +3,18 @@ use Rattle.std.specs.Prelude.{ℕ, List, [], ◌∷◌, ◌++◌, Some, None}
 use Rattle.c_layout.specs.Types.{Ty, Int, Pointer}
 use Rattle.c_layout.specs.CheckedTrees as tree
 use Rattle.c_layout.specs.CheckedTrees.{TermTree, Typed, LvalueTree, Designates, StatementTree, statement_trees}
-use Rattle.c_layout.specs.CheckedUnits.{LocalView, FunctionView, UnitView}
+use Rattle.c_layout.specs.CheckedUnits.{FunctionView, UnitView}
 use Rattle.c_layout.specs.declared.checked_tree.checked_terms.ObjectRef.TheVariants as object
 use Rattle.flow_program.specs.declared.machine_instructions.Scalar.TheVariants as scalar
 use Rattle.flow_lower_tasks.specs.Acts as act
 use Rattle.flow_lower_tasks.specs.Pieces.{TemplateView, PieceView, Local, Mark, Always}
 use Rattle.template_runs_slice.specs.Units.{int, at, term, number, object, local, function_of, unit_of, done, ends, address, load, store, constant}
 
+-- the type of p
 abbrev pub to_int : Ty
 to_int = Pointer (Int int)
 
+-- the pointer, at a place
 abbrev pub p : ℕ → LvalueTree
 p column = Designates (at column) to_int 0 (tree.Object (object.Local 0))
 
@@ -20,6 +22,7 @@ p column = Designates (at column) to_int 0 (tree.Object (object.Local 0))
 abbrev pub block : StatementTree
 block = tree.Block (1 ∷ []) (statement_trees (tree.Start (at 27) 1 (number 29 1) ∷ (tree.Value (Typed (at 32) to_int 0 None (tree.Assign (p 31) (Typed (at 33) to_int 0 None (tree.AddressOf (object 34 1))))) ∷ (tree.Goto 0 ∷ []))))
 
+-- `*p`
 abbrev pub target : TermTree
 target = term 56 (tree.Load (Designates (at 56) (Int int) 0 (tree.Target (Typed (at 57) to_int 0 None (tree.Load (p 57))))))
 
@@ -40,6 +43,7 @@ of_main leaves = record {
   labels = 2;
 }
 
+-- x ends at the jump
 abbrev pub right : ℕ → TemplateView
 right n = of_main (done 1 (act.Leave 8) ∷ [])
 

@@ -13,6 +13,7 @@ use Rattle.flow_lower_tasks.specs.Acts as act
 use Rattle.flow_lower_tasks.specs.Pieces.{TemplateView, PieceView, Static, Mark, Call}
 use Rattle.template_runs_slice.specs.Units.{int, at, term, number, binary, function_of, unit_of, done, ends, address, load, store, constant}
 
+-- the object of static storage
 abbrev pub x : ℕ → LvalueTree
 x column = Designates (at column) (Int int) 0 (tree.Object (object.Static 0))
 
@@ -33,6 +34,7 @@ of_main call = record {
   labels = 1;
 }
 
+-- 1 is stored in x
 abbrev pub of_sets : TemplateView
 of_sets = record {
   pieces = Mark 1 ∷ (Mark 2 ∷ (address 64 0 0 ∷ (constant 66 1 1 ∷ (store 64 0 1 ∷ (Mark 0 ∷ [])))));
@@ -40,6 +42,7 @@ of_sets = record {
   labels = 3;
 }
 
+-- the call stands before what follows it
 abbrev pub right : ℕ → TemplateView
 right zero = of_main (Call (record { place = at 35; function = 1; depth = 0; used = false }) ∷ [])
 right (suc n) = of_sets

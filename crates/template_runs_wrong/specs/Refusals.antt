@@ -16,7 +16,8 @@ with_templates u of = record { unit = u; of = of }
 abbrev pub run_of : Templates → List ℤ → ℕ → TemplateRun
 run_of t draws steps = steps_from t steps (template_begin t draws)
 
--- they are the templates of functions, of which the first one has that number; function 0 is the entry
+-- they are the templates of functions, of which the first one has that number, in a unit without structs and with pointers
+-- of 8 bytes; function 0 is the entry
 abbrev pub AreTemplates : (ℕ → TemplateView) → ℕ → List FunctionView → Type 0
 AreTemplates of n [] = Unit {0}
 AreTemplates of n (f ∷ fs) = IsTemplate [] 8 4 f (n == 0) (of n) × AreTemplates of (suc n) fs

@@ -1,5 +1,5 @@
 -- `int main(void){int i=1;for(;i;1/i){i=0;continue;}return 0;}`: the step of the loop divides by 0, unless `continue` skips it.
-use Rattle.std.specs.Prelude.{ℕ, pos, true, false, List, [], ◌∷◌, Some, None}
+use Rattle.std.specs.Prelude.{ℕ, pos, true, false, [], ◌∷◌, Some, None}
 use Rattle.cc_base.specs.declared.integer_operators.IntOp.TheVariants as sign
 use Rattle.cc_base.specs.declared.integer_operators.Rel.{Rel}
 use Rattle.cc_base.specs.declared.integer_operators.Rel.TheVariants as rel
@@ -15,6 +15,7 @@ use Rattle.flow_lower_tasks.specs.Acts as act
 use Rattle.flow_lower_tasks.specs.Pieces.{TemplateView, PieceView, Local, Mark, When, Always}
 use Rattle.template_runs_slice.specs.Units.{int, at, term, number, object, value, binary, local, function_of, unit_of, done, ends, address, load, store, constant}
 
+-- `{i=0;continue;}`
 abbrev pub body : StatementTree
 body = tree.Block [] (statement_trees (tree.Value (term 37 (tree.Assign (object 36 0) (number 38 0))) ∷ (tree.Continue ∷ [])))
 
@@ -48,6 +49,7 @@ of_main continued = record {
   labels = 6;
 }
 
+-- `continue` leads to the step
 abbrev pub right : ℕ → TemplateView
 right n = of_main 4
 

@@ -1,6 +1,6 @@
 -- `int main(void){if(1)return 0;else return 1/0;}`: where the branches of an `if` are taken the wrong way round, there
 -- is a division by 0.
-use Rattle.std.specs.Prelude.{ℕ, true, false, List, [], ◌∷◌, Some, None}
+use Rattle.std.specs.Prelude.{ℕ, true, false, [], ◌∷◌, Some, None}
 use Rattle.cc_base.specs.declared.integer_operators.IntOp.TheVariants as sign
 use Rattle.c_layout.specs.CheckedTrees as tree
 use Rattle.c_layout.specs.CheckedUnits.{FunctionView, UnitView}
@@ -8,7 +8,7 @@ use Rattle.c_layout.specs.declared.syntax_tree.expressions.BinaryOp.TheVariants.
 use Rattle.flow_program.specs.declared.machine_instructions.Amount.TheVariants.{Temp}
 use Rattle.flow_program.specs.declared.machine_instructions.Scalar.TheVariants as scalar
 use Rattle.flow_lower_tasks.specs.Acts as act
-use Rattle.flow_lower_tasks.specs.Pieces.{TemplateView, PieceView, Mark, When, Always}
+use Rattle.flow_lower_tasks.specs.Pieces.{TemplateView, Mark, When, Always}
 use Rattle.template_runs_slice.specs.Units.{int, at, number, binary, function_of, unit_of, done, ends, constant}
 
 abbrev pub main : FunctionView
@@ -28,6 +28,7 @@ of_main held failed = record {
   labels = 5;
 }
 
+-- the `else` is come to where the condition fails
 abbrev pub right : ℕ → TemplateView
 right n = of_main 2 3
 
