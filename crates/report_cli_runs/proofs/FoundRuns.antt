@@ -87,4 +87,4 @@ judged_runs runs once turned unit s j judged v violated =
     subst (λ ds. Contains ds (record { place = v.at; rule = v.rule })) (sym f.both) (Contains-append_right f.texts f.runs (record { place = v.at; rule = v.rule }) there)
 
 pub reports_hold : JudgedRunsAreFound → ReportsHoldRuns
-reports_hold judged given s names diags report v violated = report.listed.kept (record { place = v.at; rule = v.rule }) (judged report.expanded s report.found report.judged v violated)
+reports_hold judged files dirs model main s names diags report v violated = report.listed.kept (record { place = v.at; rule = v.rule }) (judged report.expanded s report.found report.judged v violated)

@@ -4,5 +4,6 @@
 mod theorems;
 
 pub use theorems::{
-    certificates_hold_runs, judged_runs_are_found, replays_are_told, reports_hold_runs,
+    answers_hold_runs, certificates_hold_runs, gates_hold_runs, judged_runs_are_found, replays_are_told,
+    reports_hold_runs,
 };

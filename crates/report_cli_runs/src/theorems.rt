@@ -2,6 +2,8 @@
 ghost use Rattle.report_cli_runs.specs.FoundRuns.{JudgedRunsAreFound, ReportsHoldRuns};
 ghost use Rattle.report_cli_runs.specs.ReplayedRuns.{ReplaysAreTold};
 ghost use Rattle.report_cli_runs.specs.CertifiedRuns.{CertificatesHoldRuns};
+ghost use Rattle.report_cli_runs.specs.AnsweredRuns.{AnswersHoldRuns};
+ghost use Rattle.report_cli_runs.specs.GatedRuns.{GatesHoldRuns};
 
 use abstract_steps_sound_units::checked_runs_are_found;
 use cert_check_sound::accepted_certificates_hold_units;
@@ -39,4 +41,20 @@ pub fn certificates_hold_runs()
 {
     unit_runs_are_program_runs();
     accepted_certificates_hold_units();
+}
+
+/// The sentence: where `check` answers 0 or 1, it has put the report of the unit whole and in one call, and its diagnostics
+/// hold each rule that a run of the checked unit violates, at its place: whatever comes from the outside, and after any
+/// number of turns, unless the run is stuck there.
+pub fn answers_hold_runs()
+    ensures { AnswersHoldRuns }
+{
+    reports_hold_runs();
+}
+
+/// So of `gate`: each such rule is told, or held by the baseline.
+pub fn gates_hold_runs()
+    ensures { GatesHoldRuns }
+{
+    reports_hold_runs();
 }
