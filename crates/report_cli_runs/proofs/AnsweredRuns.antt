@@ -1,10 +1,9 @@
 -- Where `check` answers 0 or 1, it has told a report, and reports hold what runs violate.
-use Rattle.std.proofs.Common.{◌≡◌, ◌≤◌, ◌⊎◌, ◌∙◌, inl, inr, ℕ, List, Option, ap, arith, subst}
+use Rattle.std.proofs.Common.{◌≡◌, ◌≤◌, ◌∙◌, inl, inr, ℕ, List, Option, ap, arith, subst}
 use Rattle.cc_base.specs.Outside.{Files}
 use Rattle.cc_base.specs.declared.diagnostics.Diag.{Diag}
 use Rattle.cc_base.specs.declared.refusals.Refusal.{Refusal}
 use Rattle.cc_base.specs.declared.refusals.Refusal.TheVariants as refusal
-use Rattle.c_layout.specs.CheckedUnits.{unit_view}
 use Rattle.c_layout.specs.declared.data_model.Model.{Model}
 use Rattle.c_preproc.specs.Causes.{Seen}
 use Rattle.report_cli_words.specs.declared.commands.Format.{Format}
@@ -12,7 +11,7 @@ use Rattle.report_cli_words.specs.Requests.{CommandView}
 use Rattle.report_cli_words.specs.Requests as asked
 use Rattle.report_cli_texts.specs.Reports.{Bytes}
 use Rattle.report_cli_texts.specs.Refusals.{refusal_status}
-use Rattle.report_cli.specs.Outcomes.{Took, PutOnce, Outcome, told, read_fault, write_fault, no_memory, status_at, Happened, Answers}
+use Rattle.report_cli.specs.Outcomes.{Took, PutOnce, Outcome, told, read_fault, write_fault, no_memory, status_at, Happened}
 use Rattle.report_cli.specs.Verdicts as verdict
 use Rattle.report_cli.specs.Verdicts.{Verdict, report_status, status_of, text_of, Tells, HasModel, RefusesModel, FromFiles, IsReport, AnswersUnit, Under, IsVerdict, check_setting}
 use Rattle.report_cli_runs.specs.FoundRuns.{ReportsHoldRuns}

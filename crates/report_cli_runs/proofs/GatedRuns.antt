@@ -1,5 +1,5 @@
 -- Where `gate` answers 0 or 1, it has told what is fresh of a report, and reports hold what runs violate.
-use Rattle.std.proofs.Common.{◌≡◌, ◌≤◌, ◌∙◌, inl, inr, ℕ, List, Option, ap, arith, subst}
+use Rattle.std.proofs.Common.{◌≡◌, ◌∙◌, inl, inr, ℕ, List, Option, ap, arith, subst}
 use Rattle.cc_base.specs.Outside.{Files}
 use Rattle.cc_base.specs.declared.diagnostics.Diag.{Diag}
 use Rattle.c_layout.specs.declared.data_model.Model.{Model}
@@ -9,7 +9,7 @@ use Rattle.report_cli_words.specs.declared.commands.Format.TheVariants as format
 use Rattle.report_cli_words.specs.Requests.{CommandView}
 use Rattle.report_cli_words.specs.Requests as asked
 use Rattle.report_cli_texts.specs.Reports.{Bytes}
-use Rattle.report_cli.specs.Outcomes.{Took, PutOnce, Outcome, told, read_fault, write_fault, no_memory, status_at, Happened, Answers}
+use Rattle.report_cli.specs.Outcomes.{Took, PutOnce, Outcome, told, read_fault, write_fault, no_memory, status_at, Happened}
 use Rattle.report_cli.specs.Verdicts as verdict
 use Rattle.report_cli.specs.Verdicts.{Verdict, status_of, text_of, HasModel, RefusesBase, FromFiles, IsFreshReport, AnswersFresh, AnswersGate, IsVerdict, gate_setting}
 use Rattle.report_cli_runs.specs.FoundRuns.{ReportsHoldRuns}
