@@ -13,7 +13,7 @@ use Rattle.report_cli_texts.specs.Reports.{Bytes}
 use Rattle.report_cli_units.specs.Judging.{SettingView, Judgement, IsJudged}
 use Rattle.report_cli.specs.Verdicts.{Verdict, reported, Gives, FromFiles, FromBytes, IsExpanded, IsReport, IsVerdict, check_setting}
 use Rattle.report_cli_laws.specs.Told.{IsAcceptedCheck, IsItsReport}
-use Rattle.report_cli_laws.proofs.Told.{same_unit, accepted_reported}
+use Rattle.report_cli_laws.proofs.Told.{same_unit, accepted_is_reported}
 use Rattle.report_cli_laws_reports.specs.OneReports.{SameReports}
 use Rattle.report_cli_laws_reports.proofs.OneJudgement.{one_set, one_judgement}
 
@@ -54,4 +54,4 @@ its_reports seen held c m v w told p q =
     p.reports ∙ (ap₂ (λ (names : List Bytes) (diags : List Diag). reported c.format names c.unit diags) same.0 same.1 ∙ sym q.reports)
 
 pub one_verdict : (seen : Seen) (c : CommandView) → IsAcceptedCheck seen c → (v w : Verdict) → IsVerdict seen (asked.Check c) v → IsVerdict seen (asked.Check c) w → v ≡ w
-one_verdict seen c a v w is also = its_reports seen a.held c a.model v w a.told (accepted_reported seen c a v is) (accepted_reported seen c a w also)
+one_verdict seen c a v w is also = its_reports seen a.held c a.model v w a.told (accepted_is_reported seen c a v is) (accepted_is_reported seen c a w also)
