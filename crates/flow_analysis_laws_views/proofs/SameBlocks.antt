@@ -7,7 +7,7 @@ use Rattle.std.proofs.Math.ListN.{get_or-map}
 use Rattle.flow_program.specs.declared.programs.Flow.{Flow}
 use Rattle.flow_program.specs.declared.basic_blocks.BasicBlock.{BasicBlock}
 use Rattle.flow_lower_tasks.specs.Acts.{Step, step}
-use Rattle.flow_program_views.specs.ProgramViews.{BlockView, EdgeView, FlowView, block, edge, flow_view}
+use Rattle.flow_program_views.specs.ProgramViews.{BlockView, FlowView, block, edge, flow_view}
 use Rattle.abstract_steps.specs.Edges.{last_of}
 use Rattle.abstract_steps_system.specs.BlockPasses.{instructions_in}
 use Rattle.abstract_steps_system.specs.FlowMachines.{head_in, edge_at, no_edge}

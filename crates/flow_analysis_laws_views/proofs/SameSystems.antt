@@ -1,9 +1,8 @@
 -- Programs with the same view have the same system.
-use Rattle.std.specs.Prelude.{◌≡◌, ℕ, ℤ, Bool, Option, Some, None, List, [], ◌∷◌, map, option_map, length, slice_get, replicate, refl}
+use Rattle.std.specs.Prelude.{◌≡◌, ℕ, ℤ, Option, Some, None, List, [], ◌∷◌, map, option_map, length, slice_get, replicate, refl}
 use Rattle.std.proofs.Common.{sym, ap, ap₂, ◌∙◌}
 use Rattle.cc_base.specs.Lattices.{LatticeOf}
 use Rattle.cc_base.specs.IntegerDomains.{IntegersOf}
-use Rattle.cc_base.specs.Machine.{Machine}
 use Rattle.flow_program.specs.declared.programs.Flow.{Flow}
 use Rattle.flow_program.specs.declared.flow_edges.Edge.{Edge}
 use Rattle.flow_program.specs.declared.machine_instructions.Instruction.{Instruction}

@@ -1,6 +1,6 @@
 -- The numbers that a program speaks of hang on its view.
 use Rattle.std.specs.Prelude.{◌≡◌, ℤ, pos, negsuc, true, List, [], ◌∷◌, ◌++◌, map, refl}
-use Rattle.std.proofs.Common.{sym, ap, ap₂, subst, subst₂, ◌∙◌}
+use Rattle.std.proofs.Common.{sym, ap, ap₂, subst₂, ◌∙◌}
 use Rattle.cc_base.specs.Ascending.{is_ascending}
 use Rattle.flow_program.specs.FlowNumbers.{operation_numbers, edge_numbers, instructions_numbers, blocks_numbers, edges_numbers, bases_numbers}
 use Rattle.flow_program.specs.Nearest.{AreThresholds}

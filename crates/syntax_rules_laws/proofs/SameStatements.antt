@@ -5,7 +5,7 @@ use Rattle.std.specs.Option.{option_map}
 use Rattle.std.specs.Global.{Global}
 use Rattle.std.proofs.Common.{sym, ap, ap₂, subst, ◌∙◌}
 use Rattle.cc_base.specs.declared.diagnostics.Diag.{Diag}
-use Rattle.c_layout.specs.CheckedTrees.{TermTree, StatementTree, StatementTrees, store_tree, statement_trees, statement_tree, term_tree, lvalue_tree}
+use Rattle.c_layout.specs.CheckedTrees.{StatementTree, store_tree, statement_trees, statement_tree, term_tree, lvalue_tree}
 use Rattle.c_layout.specs.CheckedTrees as tree
 use Rattle.c_layout.specs.declared.checked_tree.checked_terms.CheckedTerm.{CheckedTerm}
 use Rattle.c_layout.specs.declared.checked_tree.checked_statements.CaseLabel.{CaseLabel}
@@ -17,7 +17,7 @@ use Rattle.syntax_rules.specs.Slots.{switched}
 use Rattle.syntax_rules.specs.Switches.{is_covered}
 use Rattle.syntax_rules.specs.StatementPlaces.{statement_places, statements_places, stores_places, test_places, optional_places}
 use Rattle.syntax_rules.specs.StatementPlaces as places
-use Rattle.syntax_rules_laws.proofs.TreePlaces.{places_of_lvalue, places_of_term, places_of_stores, places_of_test, places_of_optional, covers, places_of_statement, places_of_statements}
+use Rattle.syntax_rules_laws.proofs.TreePlaces.{places_of_stores, places_of_test, places_of_optional, covers, places_of_statement, places_of_statements}
 use Rattle.syntax_rules_laws.proofs.SameTerms.{same_term, same_lvalue}
 
 -- ---- the tree of a statement, by its step

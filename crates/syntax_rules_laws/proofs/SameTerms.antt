@@ -7,7 +7,7 @@ use Rattle.std.proofs.Common.{sym, ap, ap₂, subst, ◌∙◌}
 use Rattle.cc_base.specs.declared.diagnostics.Diag.{Diag}
 use Rattle.cc_base.specs.declared.diagnostics.Place.{Place}
 use Rattle.c_layout.specs.Types.{view}
-use Rattle.c_layout.specs.CheckedTrees.{LvalueTree, LvalueFormTree, TermTree, FormTree, TermTrees, term_trees, term_tree, lvalue_tree}
+use Rattle.c_layout.specs.CheckedTrees.{LvalueTree, LvalueFormTree, TermTree, FormTree, term_trees, term_tree, lvalue_tree}
 use Rattle.c_layout.specs.CheckedTrees as tree
 use Rattle.c_layout.specs.declared.checked_tree.checked_terms.LvalueForm.{LvalueForm, LvalueForm-F, fold-LvalueForm, fold-roll-LvalueForm, roll-LvalueForm, map-LvalueForm}
 use Rattle.c_layout.specs.declared.checked_tree.checked_terms.TermForm.{TermForm, TermForm-F, fold-TermForm, fold-roll-TermForm, roll-TermForm, map-TermForm}
