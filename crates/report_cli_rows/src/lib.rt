@@ -1,0 +1,6 @@
+//! Worked rows.
+#![tactic(auto)]
+
+mod theorems;
+
+pub use theorems::nothing;

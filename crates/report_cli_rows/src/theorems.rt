@@ -1,0 +1,6 @@
+//! Rows.
+ghost use Rattle.std.specs.Prelude.{◌≡◌, ℕ};
+
+pub fn nothing()
+    ensures { (n : ℕ) → n ≡ n }
+{}
