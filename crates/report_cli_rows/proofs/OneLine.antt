@@ -5,7 +5,8 @@ use Rattle.std.specs.declared.cmp.Ordering.TheVariants.{Less, Equal, Greater}
 use Rattle.cc_base.specs.DiagnosticOrder.{IsOrderedSet, diagnostic_compare}
 use Rattle.cc_base.specs.declared.diagnostics.Diag.{Diag}
 use Rattle.report_cli.specs.Verdicts.{report_status}
-use Rattle.report_cli_rows.specs.OneLine.{division, OneLine, TwoLines}
+use Rattle.report_cli_rows_units.specs.WorkedPlaces.{division}
+use Rattle.report_cli_rows.specs.OneLine.{OneLine, TwoLines}
 
 -- ---- what is in a list
 

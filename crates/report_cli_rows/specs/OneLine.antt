@@ -1,14 +1,9 @@
 -- What is told where one pair of place and rule was found.
-use Rattle.std.specs.Prelude.{◌≡◌, ℕ, List, [], ◌∷◌}
+use Rattle.std.specs.Prelude.{◌≡◌, List, [], ◌∷◌}
 use Rattle.cc_base.specs.DiagnosticOrder.{IsOrderedSet}
 use Rattle.cc_base.specs.declared.diagnostics.Diag.{Diag}
-use Rattle.cc_base.specs.declared.diagnostics.Rule.TheVariants as rule
-use Rattle.report_cli_rows.specs.WorkedTexts.{at}
 use Rattle.report_cli.specs.Verdicts.{report_status}
-
--- a division by 0 at a column
-abbrev pub division : ℕ → Diag
-division column = record { place = at column; rule = rule.Diverr }
+use Rattle.report_cli_rows_units.specs.WorkedPlaces.{division}
 
 -- each once: of one pair, found once or twice, there is one list
 pub record OneLine : Type 0 where

@@ -1,5 +1,5 @@
 -- The terminals and the tree of the unit, and what it is checked to.
-use Rattle.std.specs.Prelude.{ℕ, pos, Bool, true, false, List, [], ◌∷◌, Option, Some, None, codes}
+use Rattle.std.specs.Prelude.{ℕ, pos, true, false, List, [], ◌∷◌, Some, None, codes}
 use Rattle.cc_base.specs.declared.int_types.IntType.{IntType}
 use Rattle.c_layout.specs.Models.{lp64}
 use Rattle.c_layout.specs.Types.{Int}
@@ -19,7 +19,7 @@ use Rattle.c_parser_tokens.specs.declared.terminals.Punctuator.{Punctuator}
 use Rattle.c_parser_tokens.specs.declared.terminals.Punctuator.TheVariants as p
 use Rattle.c_parser_tokens.specs.declared.terminals.Symbol.TheVariants as symbol
 use Rattle.c_parser_tokens.specs.declared.terminals.Terminal.{Terminal}
-use Rattle.report_cli_rows.specs.WorkedTexts.{at, Bytes}
+use Rattle.report_cli_rows_units.specs.WorkedPlaces.{at}
 
 abbrev pub int : IntType
 int = record { bytes = 4; signed = true; rank = 3 }

@@ -3,7 +3,7 @@ use Rattle.std.proofs.Common.{◌≡◌, ◌++◌, ◌-◌, ◌<◌, ℕ, zero, 
 use Rattle.c_layout.specs.Models.{lp64}
 use Rattle.flow_program.specs.Nearest.{AreThresholds, not_among, is_first_farther, without_farther, left_after, nearest_of}
 use Rattle.flow_program.specs.ThresholdNumbers.{limits_of}
-use Rattle.report_cli_rows.specs.WorkedAnalyses.{own_numbers, thresholds}
+use Rattle.report_cli_rows_analyses.specs.WorkedAnalyses.{own_numbers, thresholds}
 
 -- ---- what is left of a list stands in it
 
@@ -50,3 +50,17 @@ made n (zero, lt, at) = (2, omega arith, at)
 made n (suc zero, lt, at) = (0, omega arith, at)
 made n (suc (suc zero), lt, at) = (1, omega arith, at)
 made n (suc (suc (suc k)), lt, at) = omega (arith, lt)
+
+-- ---- no limit is left out, and no number stands beside these
+
+abbrev with_own : List ℤ → List ℤ
+with_own others = limits_of lp64 ++ nearest_of others
+
+first_limit : (others : List ℤ) → Contains (with_own others) (negsuc 127)
+first_limit others = (0, omega arith, refl)
+
+not_own : Contains own_numbers (negsuc 127) → ⊥
+not_own (zero, lt, at) = not_same at
+not_own (suc zero, lt, at) = not_same at
+not_own (suc (suc zero), lt, at) = not_same at
+not_own (suc (suc (suc k)), lt, at) = omega (arith, lt)

@@ -1,15 +1,15 @@
 -- A unit that divides by a digit, as the one file that is held, and what the expansion makes of it.
-use Rattle.std.specs.Prelude.{ℕ, Bool, true, false, List, [], ◌∷◌, ◌++◌, codes}
+use Rattle.std.specs.Prelude.{ℕ, true, false, List, [], ◌∷◌, ◌++◌, codes}
 use Rattle.std.specs.Ordering.{nat_cmp}
 use Rattle.std.specs.Cmp.Lexicographic.{slice_cmp}
 use Rattle.std.specs.FinMap as map
 use Rattle.cc_base.specs.Outside.{Files}
-use Rattle.cc_base.specs.declared.diagnostics.Place.{Place}
 use Rattle.cc_base.specs.declared.lexemes.Kind.{Kind}
 use Rattle.cc_base.specs.declared.lexemes.Kind.TheVariants as kind
 use Rattle.cc_base.specs.declared.lexemes.Token.{Token}
 use Rattle.c_layout.specs.Models.{lp64}
 use Rattle.c_layout.specs.declared.unit_tokens.Unit7.{Unit7}
+use Rattle.report_cli_rows_units.specs.WorkedPlaces.{at}
 
 abbrev pub Bytes : Type 0
 Bytes = List ℕ
@@ -32,9 +32,6 @@ abbrev pub held : Files
 held = held_with unit_text
 
 -- ---- the tokens
-
-abbrev pub at : ℕ → Place
-at column = record { file = 0; line = 1; col = column }
 
 abbrev pub token : Kind → Bytes → ℕ → Token
 token k text column = record { kind = k; text = text; place = at column; first = false; space = false }

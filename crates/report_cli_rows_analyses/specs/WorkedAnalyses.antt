@@ -14,7 +14,7 @@ use Rattle.flow_program.specs.declared.programs.Flow.{Flow}
 use Rattle.interval_domain.specs.declared.intervals.Interval.{Interval}
 use Rattle.value_domain.specs.declared.row_cells.Cell.{Cell}
 use Rattle.flow_analysis.specs.Analyses.{row_lattice, machine_of, IsAnalysis}
-use Rattle.report_cli_rows.specs.OneLine.{division}
+use Rattle.report_cli_rows_units.specs.WorkedPlaces.{division}
 
 abbrev pub Map : Type 0
 Map = List (Option (List (Cell Interval)))

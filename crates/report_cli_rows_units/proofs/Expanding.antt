@@ -21,8 +21,9 @@ use Rattle.c_preproc_directives.specs.OpenFiles.{Opened}
 use Rattle.c_preproc.specs.Known.{Known, start, expanded, with_known}
 use Rattle.c_preproc.specs.Searching.{found_of}
 use Rattle.c_preproc.specs.Units.{World, world_of, sought, then, under, opened_by, Opening, Entered, entered_as, entered, Course, course, Step, goes_on, on_reading, Preprocessed, preprocessed, Refused, step, follow, lines, file_read, read_if, unit, main_read, unit_from}
-use Rattle.report_cli_rows.proofs.Cutting.{cut}
-use Rattle.report_cli_rows.specs.WorkedTexts.{Bytes, at, name, held, unit_text, tokens_with}
+use Rattle.report_cli_rows_units.proofs.Cutting.{cut}
+use Rattle.report_cli_rows_units.specs.WorkedPlaces.{at}
+use Rattle.report_cli_rows_units.specs.WorkedTexts.{Bytes, name, held, unit_text, tokens_with}
 
 abbrev tokens : List Token
 tokens = tokens_with (codes "0")

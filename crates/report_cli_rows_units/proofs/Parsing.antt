@@ -1,8 +1,12 @@
 -- The tokens derive the tree.
-use Rattle.std.proofs.Common.{◌≡◌, ℕ, ◌≤◌, List, [], ◌∷◌, Some, Ok, refl, arith, codes}
+use Rattle.std.proofs.Common.{◌≡◌, ℕ, ◌≤◌, List, [], ◌∷◌, Some, Ok, ap, refl, arith, codes}
 use Rattle.c_layout.specs.Models.{lp64}
 use Rattle.c_layout.specs.declared.syntax_tree.expressions.BinaryOp.TheVariants as binary
-use Rattle.c_layout.specs.DeclarationTrees.{Return, NoStatement, MoreStatements}
+use Rattle.cc_base.specs.declared.lexemes.Token.{Token}
+use Rattle.c_layout.specs.SyntaxTrees as syntax
+use Rattle.c_layout.specs.SyntaxTrees.{Tree}
+use Rattle.c_layout.specs.DeclarationTrees.{ExternalTree, Defined, StatementTree, Return, NoStatement, MoreStatements}
+use Rattle.c_layout.specs.declared.data_model.Model.{Model}
 use Rattle.c_parser_tokens.specs.declared.terminals.Keyword.{Keyword}
 use Rattle.c_parser_tokens.specs.declared.terminals.Keyword.TheVariants as k
 use Rattle.c_parser_tokens.specs.declared.terminals.Punctuator.{Punctuator}
@@ -15,8 +19,10 @@ use Rattle.c_parser_declarations.specs.Declarations.{IsFunction}
 use Rattle.c_parser_declarations.specs.Specifiers.{IsSpec}
 use Rattle.c_parser.specs.Externals.{IsExternal, IsPiece, ArePieces, IsUnit}
 use Rattle.c_parser.specs.Statements.{DeriveStatement, IsBlock}
-use Rattle.report_cli_rows.specs.WorkedTexts.{at, tokens_with}
-use Rattle.report_cli_rows.specs.WorkedTrees.{sign, word, number, constant, main_name, behind_brace, terminals_with, quotient, tree_with}
+use Rattle.report_cli_rows_units.specs.WorkedPlaces.{at}
+use Rattle.report_cli_rows_units.specs.WorkedTexts.{tokens_with}
+use Rattle.report_cli_rows_units.specs.WorkedTrees.{sign, word, number, constant, main_name, behind_brace, terminals_with, quotient, tree_with}
+use Rattle.report_cli_rows_units.specs.WorkedUnits.{IsParsedTo}
 
 sign_at : (s : Punctuator) (n : ℕ) (ts : List Terminal) → IsSign s (sign s n ∷ ts) ts
 sign_at s n ts = record { symbol = refl; behind = refl }
@@ -105,8 +111,35 @@ module _ (value : ℕ) where
     refl,
   )
 
-pub parsed : IsUnit lp64 (tokens_with (codes "0")) (tree_with 0)
+parsed : IsUnit lp64 (tokens_with (codes "0")) (tree_with 0)
 parsed = record { terminals = terminals_with 0; classes = classes; pieces = piece 0 }
 
-pub also_parsed : IsUnit lp64 (tokens_with (codes "1")) (tree_with 1)
+also_parsed : IsUnit lp64 (tokens_with (codes "1")) (tree_with 1)
 also_parsed = record { terminals = terminals_with 1; classes = also_classes; pieces = piece 1 }
+
+-- ---- no other tree
+
+-- the right operand of what a unit of one function returns
+right_of_term : Tree → ℕ
+right_of_term (syntax.Binary at op x (syntax.Number place c)) = c.value
+right_of_term _ = 2
+
+right_of_body : List StatementTree → ℕ
+right_of_body (Return at (Some e) ∷ []) = right_of_term e
+right_of_body _ = 2
+
+right_of : List ExternalTree → ℕ
+right_of (Defined at words f body ∷ []) = right_of_body body
+right_of _ = 2
+
+other_tree : tree_with 1 ≡ tree_with 0 → ⊥
+unfolding right_of right_of_body right_of_term
+other_tree e = let same : 1 ≡ 0 = ap right_of e in omega (arith, same)
+
+pub parsed_to : ((model : Model) (tokens : List Token) (es ds : List ExternalTree) → IsUnit model tokens es → IsUnit model tokens ds → es ≡ ds) → IsParsedTo
+parsed_to one_tree = record {
+  there = parsed;
+  no_other = λ tree is. one_tree lp64 (tokens_with (codes "0")) tree (tree_with 0) is parsed;
+  also_there = also_parsed;
+  apart = λ is. other_tree (one_tree lp64 (tokens_with (codes "0")) (tree_with 1) (tree_with 0) is parsed);
+}

@@ -8,7 +8,7 @@ use Rattle.c_tokens.specs.FileTokens.{file_tokens, pieces_taken}
 use Rattle.c_tokens.specs.Punctuators.{punctuator_length}
 use Rattle.c_tokens.specs.Reading.{punctuator_at, piece_at}
 use Rattle.c_tokens.specs.Splicing.{Cell, cell_of, placed, joined, spliced_from, spliced}
-use Rattle.report_cli_rows.specs.WorkedTexts.{Bytes, unit_text, tokens_with}
+use Rattle.report_cli_rows_units.specs.WorkedTexts.{Bytes, unit_text, tokens_with}
 
 -- neither a backslash, a CR nor a LF
 abbrev is_simple : ℕ → Bool

@@ -43,11 +43,10 @@ use Rattle.abstract_steps_laws_programs.specs.RegularPrograms.{is_regular}
 use Rattle.rule_checks.specs.AdmittedRules.{pairs_of, instruction_pairs, block_pairs, map_pairs}
 use Rattle.rule_checks_operands.specs.TypedRows.{has_operands, are_typed, is_typed_block, is_typed_map}
 use Rattle.flow_analysis.specs.Analyses.{row_lattice, machine_of, admitted_pairs, IsAnalysis}
-use Rattle.report_cli_rows.specs.OneLine.{division}
-use Rattle.report_cli_rows.specs.WorkedTexts.{at}
-use Rattle.report_cli_rows.specs.WorkedTrees.{int}
+use Rattle.report_cli_rows_units.specs.WorkedPlaces.{at, division}
+use Rattle.report_cli_rows_units.specs.WorkedTrees.{int}
 use Rattle.flow_analysis_laws.specs.LeastAnalyses.{IsLeastMap, AdmitsExactly}
-use Rattle.report_cli_rows.specs.WorkedAnalyses.{Map, thresholds, IsLarger, IsFoundAlone}
+use Rattle.report_cli_rows_analyses.specs.WorkedAnalyses.{Map, thresholds, IsLarger, IsFoundAlone}
 
 -- ---- longer maps
 
