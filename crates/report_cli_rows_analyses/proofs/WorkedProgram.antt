@@ -6,7 +6,6 @@ use Rattle.std.specs.List.Sorted.{IsStrictlySortedBy}
 use Rattle.std.proofs.Common.{ap, arith, subst, sym, ◌∙◌}
 use Rattle.cc_base.specs.DiagnosticOrder.{diagnostic_compare}
 use Rattle.cc_base.specs.InductiveMap.{IsInductive, IsLeast, IsOwn, row_at}
-use Rattle.cc_base.specs.Lattices.{LatticeOf}
 use Rattle.cc_base.specs.Machine.{Machine}
 use Rattle.cc_base.specs.Rows.{reached_leq}
 use Rattle.cc_base.specs.Standard.{standard_limits}
@@ -54,8 +53,8 @@ one_more : {X : Type 0} (xs : List X) (x : X) → length (xs ++ x ∷ []) ≡ su
 one_more [] x = refl
 one_more (y ∷ ys) x = ap suc (one_more ys x)
 
-pub no_longer_map : {C : Type 0} (o : LatticeOf C) (m : Machine C) (rows : List (Option (List C))) (row : Option (List C)) → IsInductive o m rows → IsInductive o m (rows ++ row ∷ []) → ⊥
-no_longer_map o m rows row is also = let more = one_more rows row in let size = is.size in let other = also.size in omega (arith, more, size, other)
+pub no_longer_map : (m : Machine (Cell Interval)) (rows : Map) (row : Option (List (Cell Interval))) → IsInductive row_lattice m rows → IsInductive row_lattice m (rows ++ row ∷ []) → ⊥
+no_longer_map m rows row is also = let more = one_more rows row in let size = is.size in let other = also.size in omega (arith, more, size, other)
 
 -- ---- the program
 

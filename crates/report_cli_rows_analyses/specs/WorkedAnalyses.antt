@@ -1,11 +1,9 @@
 -- What is found in the program of the unit: one division by 0, and nothing else.
-use Rattle.std.specs.Prelude.{◌≡◌, ◌++◌, ℕ, ℤ, pos, negsuc, true, List, [], ◌∷◌, Option}
+use Rattle.std.specs.Prelude.{◌≡◌, ◌++◌, ◌-◌, ◌^◌, ℤ, pos, negsuc, true, List, [], ◌∷◌, Option}
 use Rattle.cc_base.specs.InductiveMap.{IsInductive, IsLeast}
-use Rattle.cc_base.specs.Lattices.{LatticeOf}
 use Rattle.cc_base.specs.Machine.{Machine}
 use Rattle.cc_base.specs.Standard.{standard_limits}
 use Rattle.cc_base.specs.declared.diagnostics.Diag.{Diag}
-use Rattle.c_layout.specs.Models.{lp64}
 use Rattle.flow_program.specs.Nearest.{AreThresholds}
 use Rattle.flow_program.specs.ThresholdNumbers.{limits_of}
 use Rattle.flow_program.specs.StructNumbers.{flow_numbers}
@@ -23,7 +21,7 @@ Map = List (Option (List (Cell Interval)))
 
 -- no map with a row more is inductive, whatever the system
 abbrev pub NoLongerMap : Type 0
-NoLongerMap = {C : Type 0} (o : LatticeOf C) (m : Machine C) (rows : List (Option (List C))) (row : Option (List C)) → IsInductive o m rows → IsInductive o m (rows ++ row ∷ []) → ⊥
+NoLongerMap = (m : Machine (Cell Interval)) (rows : Map) (row : Option (List (Cell Interval))) → IsInductive row_lattice m rows → IsInductive row_lattice m (rows ++ row ∷ []) → ⊥
 
 -- a map that is inductive too, and larger, is not the least one
 pub record IsLarger (flow : Flow) (list : List ℤ) (larger : Map) : Type 0 where
@@ -36,8 +34,11 @@ pub record IsLarger (flow : Flow) (list : List ℤ) (larger : Map) : Type 0 wher
 abbrev pub own_numbers : List ℤ
 own_numbers = negsuc 0 ∷ (pos 1 ∷ (pos 2 ∷ []))
 
+-- they and the limits, ascending
 abbrev pub thresholds : List ℤ
-thresholds = limits_of lp64 ++ own_numbers
+thresholds =
+    negsuc (2 ^ 63 - 1) ∷ (negsuc (2 ^ 31 - 1) ∷ (negsuc 32767 ∷ (negsuc 127 ∷ (negsuc 0 ∷ (pos 0 ∷ (pos 1 ∷ (pos 2 ∷ (pos 127 ∷ (pos 255 ∷ (pos 32767 ∷ (pos 65535
+    ∷ (pos (2 ^ 31 - 1) ∷ (pos (2 ^ 32 - 1) ∷ (pos (2 ^ 63 - 1) ∷ (pos (2 ^ 64 - 1) ∷ (pos (2 ^ 64) ∷ []))))))))))))))))
 
 -- just these are thresholds: no list without the limits will do, and none with a number more
 pub record IsListOf (flow : Flow) : Type 0 where
