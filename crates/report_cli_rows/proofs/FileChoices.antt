@@ -22,10 +22,10 @@ use Rattle.report_cli.specs.Baselines.{IsBaseline, IsFreshOf}
 use Rattle.report_cli.specs.FurtherFiles.{HoldsDraws}
 use Rattle.report_cli.specs.Verdicts.{HasModel, ReadsModel, IsModelText, FromFiles, IsExpanded}
 
-some_inj : {X : Type 0} {x y : X} → Some x ≡ Some y → x ≡ y
+pub some_inj : {X : Type 0} {x y : X} → Some x ≡ Some y → x ≡ y
 some_inj {X} {x} {y} e = ap (λ (p : Option X). elim p [ None ↦ x | Some z ↦ z ]) e
 
-ok_inj : {X Y : Type 0} {x y : X} → ◌≡◌ {A = Result X Y} (Ok x) (Ok y) → x ≡ y
+pub ok_inj : {X Y : Type 0} {x y : X} → ◌≡◌ {A = Result X Y} (Ok x) (Ok y) → x ≡ y
 ok_inj {X} {Y} {x} {y} e = ap (λ (p : Result X Y). elim p [ Ok z ↦ z | Err w ↦ x ]) e
 
 err_inj : {X Y : Type 0} {x y : Y} → ◌≡◌ {A = Result X Y} (Err x) (Err y) → x ≡ y
@@ -34,10 +34,10 @@ err_inj {X} {Y} {x} {y} e = ap (λ (p : Result X Y). elim p [ Ok z ↦ x | Err w
 ok_not_err : {X Y : Type 0} {x : X} {y : Y} → ◌≡◌ {A = Result X Y} (Ok x) (Err y) → ⊥
 ok_not_err {X} {Y} {x} {y} e = cc
 
-some_same : {X : Type 0} {x y : X} {o : Option X} → o ≡ Some x → o ≡ Some y → x ≡ y
+pub some_same : {X : Type 0} {x y : X} {o : Option X} → o ≡ Some x → o ≡ Some y → x ≡ y
 some_same {X} {x} {y} {o} is also = some_inj (sym is ∙ also)
 
-none_some : {X : Type 0} {x : X} {o : Option X} → o ≡ None → o ≡ Some x → ⊥
+pub none_some : {X : Type 0} {x : X} {o : Option X} → o ≡ None → o ≡ Some x → ⊥
 none_some {X} {x} {o} is also = let h : None ≡ Some x = sym is ∙ also in absurd (cc h)
 
 -- ---- the model
@@ -68,14 +68,14 @@ pub one_expansion :
     IsExpanded (FromFiles (Some held) dirs m main) m names u → IsExpanded (FromFiles (Some held) dirs m main) m others v → (u ≡ v) × (names ≡ others)
 one_expansion held dirs main m names others u v is also =
     let same = ok_inj (some_same (is.gives held refl) (also.gives held refl)) in
-    (same_unit u v (ap (λ (p : Preprocessed). p.tokens) (sym same)) (is.model ∙ sym also.model), ap (λ (p : Preprocessed). p.names) (sym same))
+    (same_unit u v (ap (λ (p : Preprocessed). p.tokens) same) (is.model ∙ sym also.model), ap (λ (p : Preprocessed). p.names) same)
 
 pub one_refusal :
     (held : Files) (dirs : List Bytes) (main : Bytes) (m : Model) (names others : List Bytes) (f g : Fault) →
     FromFiles (Some held) dirs m main names (Err (stop.Refused f)) → FromFiles (Some held) dirs m main others (Err (stop.Refused g)) → (f ≡ g) × (names ≡ others)
 one_refusal held dirs main m names others f g is also =
     let same = err_inj (some_same (is held refl) (also held refl)) in
-    (ap (λ (r : Refused). r.fault) (sym same), ap (λ (r : Refused). r.names) (sym same))
+    (ap (λ (r : Refused). r.fault) same, ap (λ (r : Refused). r.names) same)
 
 pub refused_or_expanded :
     (held : Files) (dirs : List Bytes) (main : Bytes) (m : Model) (names others : List Bytes) (u : Unit7) (f : Fault) →

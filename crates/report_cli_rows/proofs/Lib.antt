@@ -1,1 +1,4 @@
-mod Expanding
+mod OutcomeKinds
+mod FileChoices
+mod OneLine
+mod WorkedAnswers

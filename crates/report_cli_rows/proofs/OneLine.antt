@@ -21,7 +21,7 @@ none_there d (k, lt, at) = omega (arith, lt)
 
 one_there : (d e : Diag) → Contains (d ∷ []) e → e ≡ d
 one_there d e (zero, lt, at) = sym at
-one_there d e (suc k, lt, at) = omega (arith, lt)
+one_there d e (suc k, lt, at) = absurd (omega (arith, lt))
 
 is_least : (d e : Diag) (ds : List Diag) → IsStrictlySortedBy diagnostic_compare (d ∷ (e ∷ ds)) → diagnostic_compare d e ≡ Less
 unfolding IsStrictlySortedBy
@@ -44,11 +44,11 @@ one_list (d ∷ (e ∷ ds)) is =
 twice : (d e : Diag) → Contains (d ∷ (d ∷ [])) e → Contains (d ∷ []) e
 twice d e (zero, lt, at) = (0, omega arith, at)
 twice d e (suc zero, lt, at) = (0, omega arith, at)
-twice d e (suc (suc k), lt, at) = omega (arith, lt)
+twice d e (suc (suc k), lt, at) = absurd (omega (arith, lt))
 
 again : (d e : Diag) → Contains (d ∷ []) e → Contains (d ∷ (d ∷ [])) e
 again d e (zero, lt, at) = (0, omega arith, at)
-again d e (suc k, lt, at) = omega (arith, lt)
+again d e (suc k, lt, at) = absurd (omega (arith, lt))
 
 ascends_alone : (d : Diag) → IsStrictlySortedBy diagnostic_compare (d ∷ [])
 unfolding IsStrictlySortedBy
@@ -66,7 +66,7 @@ one_line = record {
 exchanged : (d e x : Diag) → Contains (d ∷ (e ∷ [])) x → Contains (e ∷ (d ∷ [])) x
 exchanged d e x (zero, lt, at) = (1, omega arith, at)
 exchanged d e x (suc zero, lt, at) = (0, omega arith, at)
-exchanged d e x (suc (suc k), lt, at) = omega (arith, lt)
+exchanged d e x (suc (suc k), lt, at) = absurd (omega (arith, lt))
 
 both_ascend : IsStrictlySortedBy diagnostic_compare (division 24 ∷ (division 30 ∷ []))
 unfolding IsStrictlySortedBy

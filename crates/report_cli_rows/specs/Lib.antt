@@ -1,1 +1,4 @@
-pub mod WorkedTexts
+pub mod OutcomeKinds
+pub mod FileChoices
+pub mod OneLine
+pub mod WorkedAnswers
