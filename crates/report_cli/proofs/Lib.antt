@@ -1,7 +1,5 @@
-pub mod Telling
-pub mod Choosing
-pub mod Called
-pub mod Gating
-pub mod Certified
-pub mod Judged
-pub mod Running
+pub mod FoundRuns
+pub mod ReplayedRuns
+pub mod CertifiedRuns
+pub mod AnsweredRuns
+pub mod GatedRuns

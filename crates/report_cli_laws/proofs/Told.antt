@@ -18,9 +18,9 @@ use Rattle.report_cli_words.specs.Requests as asked
 use Rattle.report_cli_texts.specs.Reports.{Bytes}
 use Rattle.report_cli_units.specs.Stages.{stage_of}
 use Rattle.report_cli_units.specs.Judging.{SettingView, RefusesUnit}
-use Rattle.report_cli.specs.Outcomes.{Took, PutOnce, Outcome, told, read_fault, write_fault, no_memory, status_at, Happened, Answers}
-use Rattle.report_cli.specs.Verdicts as verdict
-use Rattle.report_cli.specs.Verdicts.{Verdict, reported, report_status, report_in, status_of, text_of, Tells, HasModel, RefusesModel, ReadsModel, Gives, FromFiles, IsExpanded, IsReport, IsLaterRefusal, IsStaged, IsRefusal, IsLater, AnswersUnit, Under, IsVerdict, check_setting}
+use Rattle.report_cli_answers.specs.Outcomes.{Took, PutOnce, Outcome, told, read_fault, write_fault, no_memory, status_at, Happened, Answers}
+use Rattle.report_cli_answers.specs.Verdicts as verdict
+use Rattle.report_cli_answers.specs.Verdicts.{Verdict, reported, report_status, report_in, status_of, text_of, Tells, HasModel, RefusesModel, ReadsModel, Gives, FromFiles, IsExpanded, IsReport, IsLaterRefusal, IsStaged, IsRefusal, IsLater, AnswersUnit, Under, IsVerdict, check_setting}
 use Rattle.report_cli_laws.specs.Told.{IsTaken, IsAcceptedCheck, IsItsReport, ToldReport}
 use Rattle.report_cli_laws.proofs.NotRefused.{accepted_not_refused}
 

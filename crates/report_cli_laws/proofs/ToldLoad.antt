@@ -16,8 +16,8 @@ use Rattle.report_cli_texts.specs.LoadUnits.{load_of}
 use Rattle.report_cli_texts.specs.Reports.{Bytes}
 use Rattle.report_cli_units.specs.Stages.{stage_of}
 use Rattle.report_cli_units.specs.Judging.{SettingView, RefusesUnit}
-use Rattle.report_cli.specs.Verdicts as verdict
-use Rattle.report_cli.specs.Verdicts.{Verdict, summed, FromBytes, IsExpanded, IsSummary, IsLaterRefusal, IsStaged, IsRefusal, AnswersLoad, Under, IsVerdict, load_setting}
+use Rattle.report_cli_answers.specs.Verdicts as verdict
+use Rattle.report_cli_answers.specs.Verdicts.{Verdict, summed, FromBytes, IsExpanded, IsSummary, IsLaterRefusal, IsStaged, IsRefusal, AnswersLoad, Under, IsVerdict, load_setting}
 use Rattle.report_cli_laws.specs.Told.{IsTaken}
 use Rattle.report_cli_laws.specs.ToldLoad.{IsAcceptedLoad, IsItsSummary}
 use Rattle.report_cli_laws.proofs.NotRefused.{accepted_not_refused}

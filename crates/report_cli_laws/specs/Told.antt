@@ -10,8 +10,8 @@ use Rattle.report_cli_words.specs.Requests.{CommandView}
 use Rattle.report_cli_words.specs.Requests as asked
 use Rattle.report_cli_texts.specs.Reports.{Bytes}
 use Rattle.report_cli_units.specs.Judging.{SettingView}
-use Rattle.report_cli.specs.Outcomes.{Took, PutOnce, Answers}
-use Rattle.report_cli.specs.Verdicts.{Verdict, reported, report_status, report_in, Gives, FromFiles, IsExpanded, IsReport, IsVerdict, check_setting}
+use Rattle.report_cli_answers.specs.Outcomes.{Took, PutOnce, Answers}
+use Rattle.report_cli_answers.specs.Verdicts.{Verdict, reported, report_status, report_in, Gives, FromFiles, IsExpanded, IsReport, IsVerdict, check_setting}
 use Rattle.report_cli_laws.specs.Accepted.{IsAccepted}
 
 -- what is held gives tokens that each stage behind the expansion accepts

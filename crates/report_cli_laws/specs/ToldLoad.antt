@@ -9,7 +9,7 @@ use Rattle.report_cli_words.specs.Requests.{CommandView}
 use Rattle.report_cli_words.specs.Requests as asked
 use Rattle.report_cli_texts.specs.LoadUnits.{load_of}
 use Rattle.report_cli_texts.specs.Reports.{Bytes}
-use Rattle.report_cli.specs.Verdicts.{Verdict, summed, FromBytes, IsSummary, IsVerdict, load_setting}
+use Rattle.report_cli_answers.specs.Verdicts.{Verdict, summed, FromBytes, IsSummary, IsVerdict, load_setting}
 use Rattle.report_cli_laws.specs.Told.{IsTaken}
 
 -- the files are told, the model is a named one, and the unit that is made is accepted
