@@ -3,3 +3,8 @@ pub mod ReplayedRuns
 pub mod CertifiedRuns
 pub mod AnsweredRuns
 pub mod GatedRuns
+pub mod ToldVerdicts
+pub mod VerifiedRuns
+pub mod ToldReplays
+pub mod CompleteAnswers
+pub mod Clauses

@@ -1,9 +1,12 @@
-//! What is told of a unit holds what its runs violate.
+//! The program, and what its answers hold: each rule that a run of the unit violates is told.
 #![tactic(auto)]
 
+mod program;
 mod theorems;
 
+pub use program::run;
+pub use report_cli_texts::{load_unit, report_json, report_text};
 pub use theorems::{
     answers_hold_runs, certificates_hold_runs, gates_hold_runs, judged_runs_are_found,
-    replays_are_told, reports_hold_runs,
+    replays_are_told, replays_stand_in_reports, reports_hold_runs, verified_hold_runs,
 };

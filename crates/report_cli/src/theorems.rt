@@ -4,6 +4,8 @@ ghost use Rattle.report_cli.specs.ReplayedRuns.{ReplaysAreTold};
 ghost use Rattle.report_cli.specs.CertifiedRuns.{CertificatesHoldRuns};
 ghost use Rattle.report_cli.specs.AnsweredRuns.{AnswersHoldRuns};
 ghost use Rattle.report_cli.specs.GatedRuns.{GatesHoldRuns};
+ghost use Rattle.report_cli.specs.VerifiedRuns.{VerifiedHoldRuns};
+ghost use Rattle.report_cli.specs.ToldReplays.{ReplaysStandInReports};
 
 use abstract_steps_sound_units::checked_runs_are_found;
 use cert_check_sound::accepted_certificates_hold_units;
@@ -57,4 +59,18 @@ pub fn gates_hold_runs()
     ensures { GatesHoldRuns }
 {
     reports_hold_runs();
+}
+
+/// And of `verify`, where it accepts the certificate.
+pub fn verified_hold_runs()
+    ensures { VerifiedHoldRuns }
+{
+    certificates_hold_runs();
+}
+
+/// What `replay` tells of a unit stands in each report that `check` has of it, unless the replay ends as `left`.
+pub fn replays_stand_in_reports()
+    ensures { ReplaysStandInReports }
+{
+    replays_are_told();
 }

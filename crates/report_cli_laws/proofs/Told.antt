@@ -68,7 +68,7 @@ no_main {p} {x} is also = cc
 pub same_unit : (u v : Unit7) → u.tokens ≡ v.tokens → u.model ≡ v.model → u ≡ v
 same_unit u v p q = λ i. record { tokens = p i; model = q i }
 
-one_unit : (held : Files) (dirs : List Bytes) (m : Model) (main : Bytes) (names others : List Bytes) (u v : Unit7) → IsExpanded (FromFiles (Some held) dirs m main) m names u → IsExpanded (FromFiles (Some held) dirs m main) m others v → u ≡ v
+pub one_unit : (held : Files) (dirs : List Bytes) (m : Model) (main : Bytes) (names others : List Bytes) (u v : Unit7) → IsExpanded (FromFiles (Some held) dirs m main) m names u → IsExpanded (FromFiles (Some held) dirs m main) m others v → u ≡ v
 one_unit held dirs m main names others u v is also =
     let same = both (is.gives held refl) (also.gives held refl) in
     same_unit u v (ap (λ (p : Preprocessed). p.tokens) same) (is.model ∙ sym also.model)

@@ -1,0 +1,50 @@
+//! The program: from words to a status.
+ghost use Rattle.std.specs.Prelude.{◌≡◌, ◌≤◌, map, string_bytes};
+ghost use Rattle.c_preproc.specs.Causes.{seen_of};
+ghost use Rattle.report_cli_words.specs.Requests.{asked};
+ghost use Rattle.report_cli_answers.specs.Outcomes.{took, Answers};
+ghost use Rattle.report_cli.specs.Clauses.{RunsAreTold, FreshRunsAreTold, VerifiedRunsAreTold, ReplayIsTold};
+ghost use Rattle.report_cli.specs.CompleteAnswers.{IsComplete};
+
+use crate::theorems::{
+    answers_hold_runs, gates_hold_runs, replays_stand_in_reports, verified_hold_runs,
+};
+use cc_base::{Sink, Tree};
+use report_cli_answers::answer_words;
+use report_cli_laws::accepted_units_are_answered;
+use std::alloc::Global;
+
+/// Does all that the program does: takes the words behind its name, reads from the tree, puts its
+/// output into the sink in one call, and answers the status.
+///
+/// | status | when |
+/// |---|---|
+/// | 0, 1 | the unit is accepted; 1 where a diagnostic is printed |
+/// | 2 | the unit is refused |
+/// | 3 | the words, the model file, the baseline or the draws are refused |
+/// | 4 | the unit's file, the model file, the baseline, the certificate or the file of draws is not held |
+/// | 5 | a read failed; nothing is put |
+/// | 6 | the write failed; a prefix of the text went out |
+/// | 7 | want of memory; nothing is put |
+/// | 8 | a limit is passed |
+/// | 9 | the certificate is refused |
+///
+/// `runs` is the sentence: where `check` answers 0 or 1, what it has put holds each rule that a run of the unit violates.
+pub fn run<T: Tree, S: Sink>(alloc: Global, words: &[String], tree: &mut T, out: &mut S) -> u8
+    ensures answer { Answers (seen_of (T.files tree.old) (T.faults tree.old) (T.faults tree.new) (T.taken tree.old) (T.taken tree.new)) (asked (map string_bytes words.now)) (took (S.written out.old) (S.written out.new) (S.faults out.old) (S.faults out.new) (S.calls out.old) (S.calls out.new)) result }
+    ensures runs { RunsAreTold (seen_of (T.files tree.old) (T.faults tree.old) (T.faults tree.new) (T.taken tree.old) (T.taken tree.new)) (asked (map string_bytes words.now)) (took (S.written out.old) (S.written out.new) (S.faults out.old) (S.faults out.new) (S.calls out.old) (S.calls out.new)) result }
+    ensures gates { FreshRunsAreTold (seen_of (T.files tree.old) (T.faults tree.old) (T.faults tree.new) (T.taken tree.old) (T.taken tree.new)) (asked (map string_bytes words.now)) (took (S.written out.old) (S.written out.new) (S.faults out.old) (S.faults out.new) (S.calls out.old) (S.calls out.new)) result }
+    ensures verifies { VerifiedRunsAreTold (seen_of (T.files tree.old) (T.faults tree.old) (T.faults tree.new) (T.taken tree.old) (T.taken tree.new)) (asked (map string_bytes words.now)) (took (S.written out.old) (S.written out.new) (S.faults out.old) (S.faults out.new) (S.calls out.old) (S.calls out.new)) result }
+    ensures replays { ReplayIsTold (seen_of (T.files tree.old) (T.faults tree.old) (T.faults tree.new) (T.taken tree.old) (T.taken tree.new)) (asked (map string_bytes words.now)) (took (S.written out.old) (S.written out.new) (S.faults out.old) (S.faults out.new) (S.calls out.old) (S.calls out.new)) result }
+    ensures complete { IsComplete (seen_of (T.files tree.old) (T.faults tree.old) (T.faults tree.new) (T.taken tree.old) (T.taken tree.new)) (asked (map string_bytes words.now)) (took (S.written out.old) (S.written out.new) (S.faults out.old) (S.faults out.new) (S.calls out.old) (S.calls out.new)) result }
+    ensures files { T.files tree.new ≡ T.files tree.old }
+    ensures read_faults { T.faults tree.old ≤ T.faults tree.new }
+    ensures write_faults { S.faults out.old ≤ S.faults out.new }
+{
+    answers_hold_runs();
+    gates_hold_runs();
+    verified_hold_runs();
+    replays_stand_in_reports();
+    accepted_units_are_answered();
+    answer_words(alloc, words, tree, out)
+}
