@@ -15,7 +15,7 @@ use Rattle.report_cli_units.specs.Replaying.{ran}
 use Rattle.report_cli_answers.specs.Outcomes.{Took, PutOnce}
 use Rattle.report_cli_answers.specs.Verdicts as verdict
 use Rattle.report_cli_answers.specs.Verdicts.{Verdict, status_of, text_of, HasModel, RefusesDraws, FromFiles, IsExpanded, IsRunOf, AnswersRun, AnswersReplay, IsVerdict, replay_setting}
-use Rattle.report_cli_laws.proofs.Told.{one_unit}
+use Rattle.report_cli_laws.proofs.OneUnit.{one_unit}
 use Rattle.report_cli.specs.AnsweredRuns.{IsAccepting}
 use Rattle.report_cli.specs.ReplayedRuns.{ReplaysAreTold}
 use Rattle.report_cli.specs.ToldReplays.{IsSameUnit, StandsInReports, TellsReplay, ReplaysStandInReports}

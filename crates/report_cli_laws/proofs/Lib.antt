@@ -2,5 +2,6 @@ pub mod Short
 pub mod OneParse
 pub mod Grammar
 pub mod NotRefused
+pub mod OneUnit
 pub mod Told
 pub mod ToldLoad

@@ -22,6 +22,7 @@ use Rattle.report_cli_answers.specs.Outcomes.{Took, PutOnce, Outcome, told, read
 use Rattle.report_cli_answers.specs.Verdicts as verdict
 use Rattle.report_cli_answers.specs.Verdicts.{Verdict, reported, report_status, report_in, status_of, text_of, Tells, HasModel, RefusesModel, ReadsModel, Gives, FromFiles, IsExpanded, IsReport, IsLaterRefusal, IsStaged, IsRefusal, IsLater, AnswersUnit, Under, IsVerdict, check_setting}
 use Rattle.report_cli_laws.specs.Told.{IsTaken, IsAcceptedCheck, IsItsReport, ToldReport}
+use Rattle.report_cli_laws.proofs.OneUnit.{one_unit}
 use Rattle.report_cli_laws.proofs.NotRefused.{accepted_not_refused}
 
 none_some : {m : Model} {x : Option Model} → x ≡ None → x ≡ Some m → ⊥
@@ -54,24 +55,13 @@ pub model_same : (files : Option Files) (name : Bytes) (m n : Model) → model_n
 model_same files name m n named (inl also) = some_same also named
 model_same files name m n named (inr reads) = absurd (none_some reads.unnamed named)
 
--- ---- files give one unit
+-- ---- a unit that files give is held
 
 not_both : {p : Preprocessed} {r : Refused} {x : Option (Result Preprocessed Refused)} → x ≡ Some (Ok p) → x ≡ Some (Err r) → ⊥
 not_both {p} {r} {x} is also = cc
 
-both : {p q : Preprocessed} {x : Option (Result Preprocessed Refused)} → x ≡ Some (Ok p) → x ≡ Some (Ok q) → p ≡ q
-both {p} {q} {x} is also = cc
-
 no_main : {p : Preprocessed} {x : Option (Result Preprocessed Refused)} → x ≡ Some (Ok p) → x ≡ None → ⊥
 no_main {p} {x} is also = cc
-
-pub same_unit : (u v : Unit7) → u.tokens ≡ v.tokens → u.model ≡ v.model → u ≡ v
-same_unit u v p q = λ i. record { tokens = p i; model = q i }
-
-pub one_unit : (held : Files) (dirs : List Bytes) (m : Model) (main : Bytes) (names others : List Bytes) (u v : Unit7) → IsExpanded (FromFiles (Some held) dirs m main) m names u → IsExpanded (FromFiles (Some held) dirs m main) m others v → u ≡ v
-one_unit held dirs m main names others u v is also =
-    let same = both (is.gives held refl) (also.gives held refl) in
-    same_unit u v (ap (λ (p : Preprocessed). p.tokens) same) (is.model ∙ sym also.model)
 
 is_held : (held : Files) (dirs : List Bytes) (m : Model) (main : Bytes) (p : Preprocessed) → unit_from held dirs m main ≡ Some (Ok p) → file_at held main ≡ None → ⊥
 is_held held dirs m main p is none = no_main is (ap (λ (found : Option Bytes). main_read (world_of (sought held) dirs m) main found) none)

@@ -21,7 +21,8 @@ use Rattle.report_cli_answers.specs.Verdicts.{Verdict, summed, FromBytes, IsExpa
 use Rattle.report_cli_laws.specs.Told.{IsTaken}
 use Rattle.report_cli_laws.specs.ToldLoad.{IsAcceptedLoad, IsItsSummary}
 use Rattle.report_cli_laws.proofs.NotRefused.{accepted_not_refused}
-use Rattle.report_cli_laws.proofs.Told.{model_had, model_same, same_unit}
+use Rattle.report_cli_laws.proofs.OneUnit.{same_unit}
+use Rattle.report_cli_laws.proofs.Told.{model_had, model_same}
 
 not_both : {p : Preprocessed} {r : Refused} {x : Result Preprocessed Refused} → x ≡ Ok p → x ≡ Err r → ⊥
 not_both {p} {r} {x} is also = let h : Ok p ≡ Err r = sym is ∙ also in absurd (cc h)
