@@ -1,11 +1,11 @@
 -- Of an accepted unit no verdict but its report is called for, so each answer is that report or a failure.
-use Rattle.std.proofs.Common.{◌≡◌, ◌∙◌, ◌⊎◌, inl, inr, ℕ, ap, refl, subst}
+use Rattle.std.proofs.Common.{◌≡◌, ◌∙◌, ◌⊎◌, inl, inr, ℕ, ap, subst}
 use Rattle.c_preproc.specs.Causes.{Seen}
 use Rattle.report_cli_words.specs.Requests.{Asked, CommandView}
 use Rattle.report_cli_words.specs.Requests as asked
 use Rattle.report_cli_texts.specs.Reports.{Bytes}
 use Rattle.report_cli_answers.specs.Outcomes.{Took, PutOnce, Outcome, told, read_fault, write_fault, no_memory, status_at, Happened, Answers}
-use Rattle.report_cli_answers.specs.Verdicts.{Verdict, status_of, text_of, Tells, IsVerdict}
+use Rattle.report_cli_answers.specs.Verdicts.{Verdict, status_of, text_of, IsVerdict}
 use Rattle.report_cli_laws.specs.Told.{IsAcceptedCheck, ToldReport, AcceptedIsReported}
 use Rattle.report_cli_laws.specs.ToldLoad.{IsAcceptedLoad, AcceptedIsSummed}
 use Rattle.report_cli.specs.CompleteAnswers.{ToldSummary, GaveOut, IsComplete}

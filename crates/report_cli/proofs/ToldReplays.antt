@@ -1,8 +1,6 @@
 -- Where `replay` answers 0 or 1, it has told the pairs of one run, and reports of the same unit hold them.
-use Rattle.std.proofs.Common.{◌≡◌, ◌∙◌, inl, inr, ℕ, List, Option, Some, None, ap, arith, refl, subst}
-use Rattle.std.specs.List.{Contains}
+use Rattle.std.proofs.Common.{◌≡◌, ◌∙◌, inl, inr, ℕ, List, Option, Some, None, ap, arith, subst}
 use Rattle.cc_base.specs.Outside.{Files}
-use Rattle.cc_base.specs.declared.diagnostics.Diag.{Diag}
 use Rattle.c_layout.specs.declared.data_model.Model.{Model}
 use Rattle.c_layout.specs.declared.unit_tokens.Unit7.{Unit7}
 use Rattle.c_preproc.specs.Causes.{Seen}
@@ -20,7 +18,7 @@ use Rattle.report_cli.specs.AnsweredRuns.{IsAccepting}
 use Rattle.report_cli.specs.ReplayedRuns.{ReplaysAreTold}
 use Rattle.report_cli.specs.ToldReplays.{IsSameUnit, StandsInReports, TellsReplay, ReplaysStandInReports}
 use Rattle.report_cli.proofs.AnsweredRuns.{past_one, no_refusal, no_model}
-use Rattle.report_cli.proofs.ToldVerdicts.{TellsVerdict, tells_verdict, no_file}
+use Rattle.report_cli.proofs.ToldVerdicts.{tells_verdict, no_file}
 
 -- ---- a run
 

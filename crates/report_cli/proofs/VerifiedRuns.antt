@@ -17,7 +17,7 @@ use Rattle.report_cli.specs.AnsweredRuns.{IsAccepting}
 use Rattle.report_cli.specs.CertifiedRuns.{CertificatesHoldRuns}
 use Rattle.report_cli.specs.VerifiedRuns.{TellsVerifiedRuns, VerifiedHoldRuns}
 use Rattle.report_cli.proofs.AnsweredRuns.{past_one, no_refusal, no_model}
-use Rattle.report_cli.proofs.ToldVerdicts.{TellsVerdict, tells_verdict, no_file}
+use Rattle.report_cli.proofs.ToldVerdicts.{tells_verdict, no_file}
 
 -- what an accepted certificate shows, as a verdict
 record Shows (seen : Seen) (c : CommandView) (cert : Bytes) (m : Model) (v : Verdict) : Type 0 where
