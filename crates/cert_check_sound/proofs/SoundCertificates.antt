@@ -1,6 +1,5 @@
 -- The map of an accepted certificate covers each run, so that the pairs that it admits hold each pair.
 use Rattle.std.specs.Prelude.{List, Option, refl}
-use Rattle.std.specs.Global.{Vec}
 use Rattle.std.proofs.Common.{arith}
 use Rattle.cc_base.specs.ClosedMap.{IsClosed}
 use Rattle.cc_base.specs.Standard.{standard_limits}
@@ -33,8 +32,7 @@ use Rattle.cert_check_reading.specs.GreatestRows.{cert_numbers}
 use Rattle.cert_check_reading.specs.MapReading.{map_rows}
 use Rattle.cert_check.specs.Verdicts.{cert_cells, cert_machine}
 use Rattle.cert_check_laws.proofs.VerdictProofs.{closed_if_accepted}
-use Rattle.cert_check_programs.specs.Certificates.{look_numbers, IsLookedAt, IsVerified}
-use Rattle.cert_check_programs.specs.declared.checked_maps.Verified.TheVariants.{Found}
+use Rattle.cert_check_programs.specs.Certificates.{look_numbers, IsLookedAt, IsShown}
 use Rattle.cert_check_sound.specs.SoundCertificates.{HoldsPairsOfUnits, HoldsPairsOfLowered, HoldsPairsOfChecked}
 use Rattle.cert_check_sound.proofs.CertifiedMaps.{certified_begins, certified_carried}
 
@@ -58,8 +56,8 @@ module _ (flow : Flow) (look : IsLookedAt flow) where
       carried : Carries interval_lattice interval_numbers Stands flow rows
       carried = certified_carried interval_order interval_rounding interval_heights interval_bounding interval_ends cert_numbers refl flow (laid_out standard_limits flow regular.well_formed (omega (arith))) premises.shaped.few rows closed
 
-  module _ (text : Bytes) (found : Vec Diag) (shown : IsVerified flow text (Found found)) where
-    holds_looked_at : FindsEachPair flow look_numbers found.items
+  module _ (text : Bytes) (found : List Diag) (shown : IsShown flow text found) where
+    holds_looked_at : FindsEachPair flow look_numbers found
     holds_looked_at u start v there =
         let closed = closed_if_accepted flow text shown.accepted in
         let other = closed_if_accepted flow shown.typing shown.typed.accepted in
@@ -71,15 +69,15 @@ module _ (flow : Flow) (look : IsLookedAt flow) where
         (map_rows flow text) (begins u start (map_rows flow text) closed) (carried u start (map_rows flow text) closed) typed there.draws there.steps in
         shown.pairs.kept (record { place = v.at; rule = v.rule }) (covered.all v there.there)
 
-module _ (flow : Flow) (text : Bytes) (found : Vec Diag) (shown : IsVerified flow text (Found found)) where
-  pub holds_each_pair : FindsEachPair flow look_numbers found.items
+module _ (flow : Flow) (text : Bytes) (found : List Diag) (shown : IsShown flow text found) where
+  pub holds_each_pair : FindsEachPair flow look_numbers found
   holds_each_pair = holds_looked_at flow shown.looked_at text found shown
 
-  pub units_held : HoldsPairsOfUnits flow found.items
+  pub units_held : HoldsPairsOfUnits flow found
   units_held u starts v there = holds_each_pair u (entry_stands flow look_numbers shown.looked_at.regular shown.looked_at.checked.reaches shown.looked_at.started u starts) v there
 
-  pub lowered_held : HoldsPairsOfLowered flow found.items
+  pub lowered_held : HoldsPairsOfLowered flow found
   lowered_held u limits is initializers integers = units_held u (lowered_starts u limits flow is initializers integers)
 
-  pub checked_held : HoldsPairsOfChecked flow found.items
+  pub checked_held : HoldsPairsOfChecked flow found
   checked_held u is = units_held u (unit_starts u flow (sound_structs flow look_numbers shown.looked_at.regular shown.looked_at.checked.structs) is)

@@ -9,8 +9,7 @@ ghost use Rattle.lib_models_effects.specs.Worlds.{Violation};
 ghost use Rattle.abstract_steps_laws_own_starts.specs.CutStarts.{type_list};
 ghost use Rattle.abstract_steps_sound_analyses.specs.SoundAnalyses.{FindsEachPair};
 ghost use Rattle.cert_check_text.specs.LineWords.{Bytes};
-ghost use Rattle.cert_check_programs.specs.Certificates.{look_numbers, IsVerified};
-ghost use Rattle.cert_check_programs.specs.declared.checked_maps.Verified.TheVariants.{Found};
+ghost use Rattle.cert_check_programs.specs.Certificates.{look_numbers, IsShown};
 ghost use Rattle.cert_check_sound.specs.FittedRows.{FittedRowsStandForMore};
 ghost use Rattle.cert_check_sound.specs.CertifiedMaps.{ClosedMapsAreCarried, ClosedMapsBegin};
 ghost use Rattle.cert_check_sound.specs.SoundCertificates.{HoldsPairsOfUnits, HoldsPairsOfLowered, HoldsPairsOfChecked};
@@ -38,15 +37,15 @@ pub fn closed_maps_begin<I: Bounded>()
 /// Each rule that a run of a program violates at a place is among what is found by a certificate that is accepted, where the
 /// row of the entry stands for the start of the unit.
 pub fn accepted_certificates_hold_runs()
-    ensures { (flow : Flow) (text : Bytes) (found : Vec Diag) → IsVerified flow text (Found found) → FindsEachPair flow look_numbers found.items }
+    ensures { (flow : Flow) (text : Bytes) (found : List Diag) → IsShown flow text found → FindsEachPair flow look_numbers found }
 {}
 
 /// So is each rule that a run of a unit violates, where the program begins with what is in the unit's tables, and so where it
 /// is the lowered program of the unit. Of a checked unit nothing else is supposed.
 pub fn accepted_certificates_hold_units()
-    ensures units { (flow : Flow) (text : Bytes) (found : Vec Diag) → IsVerified flow text (Found found) → HoldsPairsOfUnits flow found.items }
-    ensures lowered { (flow : Flow) (text : Bytes) (found : Vec Diag) → IsVerified flow text (Found found) → HoldsPairsOfLowered flow found.items }
-    ensures checked { (flow : Flow) (text : Bytes) (found : Vec Diag) → IsVerified flow text (Found found) → HoldsPairsOfChecked flow found.items }
+    ensures units { (flow : Flow) (text : Bytes) (found : List Diag) → IsShown flow text found → HoldsPairsOfUnits flow found }
+    ensures lowered { (flow : Flow) (text : Bytes) (found : List Diag) → IsShown flow text found → HoldsPairsOfLowered flow found }
+    ensures checked { (flow : Flow) (text : Bytes) (found : List Diag) → IsShown flow text found → HoldsPairsOfChecked flow found }
 {}
 
 /// There is a program, which divides by 0, with an analysis that finds this, and a certificate of it that is accepted, with

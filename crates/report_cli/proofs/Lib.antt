@@ -1,7 +1,10 @@
-pub mod Telling
-pub mod Choosing
-pub mod Called
-pub mod Gating
-pub mod Certified
-pub mod Judged
-pub mod Running
+pub mod FoundRuns
+pub mod ReplayedRuns
+pub mod CertifiedRuns
+pub mod AnsweredRuns
+pub mod GatedRuns
+pub mod ToldVerdicts
+pub mod VerifiedRuns
+pub mod ToldReplays
+pub mod CompleteAnswers
+pub mod Clauses

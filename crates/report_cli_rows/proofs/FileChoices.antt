@@ -18,9 +18,9 @@ use Rattle.sarif_gate.specs.Comparing.{fresh_of}
 use Rattle.sarif_gate.specs.declared.known_results.Known.{Known}
 use Rattle.report_cli_draws.specs.DrawsFiles.{draws_in}
 use Rattle.report_cli_texts.specs.Reports.{Bytes}
-use Rattle.report_cli.specs.Baselines.{IsBaseline, IsFreshOf}
-use Rattle.report_cli.specs.FurtherFiles.{HoldsDraws}
-use Rattle.report_cli.specs.Verdicts.{HasModel, ReadsModel, IsModelText, FromFiles, IsExpanded}
+use Rattle.report_cli_answers.specs.Baselines.{IsBaseline, IsFreshOf}
+use Rattle.report_cli_answers.specs.FurtherFiles.{HoldsDraws}
+use Rattle.report_cli_answers.specs.Verdicts.{HasModel, ReadsModel, IsModelText, FromFiles, IsExpanded}
 
 pub some_inj : {X : Type 0} {x y : X} → Some x ≡ Some y → x ≡ y
 some_inj {X} {x} {y} e = ap (λ (p : Option X). elim p [ None ↦ x | Some z ↦ z ]) e

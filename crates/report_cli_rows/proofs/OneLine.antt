@@ -4,7 +4,7 @@ use Rattle.std.specs.List.Sorted.{IsStrictlySortedBy}
 use Rattle.std.specs.declared.cmp.Ordering.TheVariants.{Less, Equal, Greater}
 use Rattle.cc_base.specs.DiagnosticOrder.{IsOrderedSet, diagnostic_compare}
 use Rattle.cc_base.specs.declared.diagnostics.Diag.{Diag}
-use Rattle.report_cli.specs.Verdicts.{report_status}
+use Rattle.report_cli_answers.specs.Verdicts.{report_status}
 use Rattle.report_cli_rows_units.specs.WorkedPlaces.{division}
 use Rattle.report_cli_rows.specs.OneLine.{OneLine, TwoLines}
 

@@ -8,9 +8,9 @@ use Rattle.c_preproc.specs.Causes.{Seen}
 use Rattle.report_cli_texts.specs.Refusals.{refusal_status}
 use Rattle.report_cli_texts.specs.Reports.{Bytes}
 use Rattle.report_cli_words.specs.Requests.{Asked}
-use Rattle.report_cli.specs.Outcomes.{Took, PutOnce, Outcome, told, read_fault, write_fault, no_memory, status_at, Happened, Answers}
-use Rattle.report_cli.specs.Verdicts as verdict
-use Rattle.report_cli.specs.Verdicts.{Verdict, status_of, report_status, Tells, IsVerdict}
+use Rattle.report_cli_answers.specs.Outcomes.{Took, PutOnce, Outcome, told, read_fault, write_fault, no_memory, status_at, Happened, Answers}
+use Rattle.report_cli_answers.specs.Verdicts as verdict
+use Rattle.report_cli_answers.specs.Verdicts.{Verdict, status_of, report_status, Tells, IsVerdict}
 use Rattle.report_cli_rows.specs.OutcomeKinds.{IsTold, IsAlike, IsByStatus}
 
 -- ---- no verdict has the status of a fault

@@ -7,7 +7,7 @@ use Rattle.c_layout.specs.declared.data_model.Model.{Model}
 use Rattle.c_layout.specs.declared.unit_tokens.Unit7.{Unit7}
 use Rattle.c_preproc.specs.Units.{Preprocessed, Refused, preprocessed, unit_from}
 use Rattle.report_cli_texts.specs.Reports.{Bytes}
-use Rattle.report_cli.specs.Verdicts.{HasModel, FromFiles, IsExpanded}
+use Rattle.report_cli_answers.specs.Verdicts.{HasModel, FromFiles, IsExpanded}
 use Rattle.report_cli_rows_units.specs.WorkedTexts.{held, name, tokens_with, expanded, expanded_with}
 use Rattle.report_cli_rows_units.specs.WorkedUnits.{IsExpandedTo}
 use Rattle.report_cli_rows.proofs.FileChoices.{some_inj, some_same, none_some, ok_inj}

@@ -8,9 +8,9 @@ use Rattle.c_layout.specs.declared.data_model.Model.{Model}
 use Rattle.c_layout.specs.declared.unit_tokens.Unit7.{Unit7}
 use Rattle.sarif_gate.specs.declared.known_results.Known.{Known}
 use Rattle.report_cli_texts.specs.Reports.{Bytes}
-use Rattle.report_cli.specs.Baselines.{IsBaseline, IsFreshOf}
-use Rattle.report_cli.specs.FurtherFiles.{HoldsDraws}
-use Rattle.report_cli.specs.Verdicts.{HasModel, FromFiles, IsExpanded}
+use Rattle.report_cli_answers.specs.Baselines.{IsBaseline, IsFreshOf}
+use Rattle.report_cli_answers.specs.FurtherFiles.{HoldsDraws}
+use Rattle.report_cli_answers.specs.Verdicts.{HasModel, FromFiles, IsExpanded}
 
 abbrev pub OneModel : Type 0
 OneModel = (held : Files) (name : Bytes) (m other : Model) → HasModel (Some held) name m → HasModel (Some held) name other → m ≡ other

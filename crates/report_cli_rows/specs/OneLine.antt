@@ -2,7 +2,7 @@
 use Rattle.std.specs.Prelude.{◌≡◌, List, [], ◌∷◌}
 use Rattle.cc_base.specs.DiagnosticOrder.{IsOrderedSet}
 use Rattle.cc_base.specs.declared.diagnostics.Diag.{Diag}
-use Rattle.report_cli.specs.Verdicts.{report_status}
+use Rattle.report_cli_answers.specs.Verdicts.{report_status}
 use Rattle.report_cli_rows_units.specs.WorkedPlaces.{division}
 
 -- each once: of one pair, found once or twice, there is one list

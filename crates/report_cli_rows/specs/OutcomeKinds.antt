@@ -3,7 +3,7 @@ use Rattle.std.specs.Prelude.{◌≡◌, ℕ, Some}
 use Rattle.c_preproc.specs.Causes.{Seen}
 use Rattle.report_cli_texts.specs.Reports.{Bytes}
 use Rattle.report_cli_words.specs.Requests.{Asked}
-use Rattle.report_cli.specs.Outcomes.{Took, Outcome, Answers, told, read_fault, write_fault, no_memory}
+use Rattle.report_cli_answers.specs.Outcomes.{Took, Outcome, Answers, told, read_fault, write_fault, no_memory}
 
 -- none of the statuses that stand for a fault or for want of memory
 abbrev pub IsTold : ℕ → Type 0

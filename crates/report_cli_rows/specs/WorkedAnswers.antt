@@ -5,7 +5,7 @@ use Rattle.c_layout.specs.Models.{lp64, ilp32}
 use Rattle.c_layout.specs.declared.data_model.Model.{Model}
 use Rattle.c_layout.specs.declared.unit_tokens.Unit7.{Unit7}
 use Rattle.report_cli_texts.specs.Reports.{Bytes}
-use Rattle.report_cli.specs.Verdicts.{HasModel, Gives, FromFiles, IsExpanded}
+use Rattle.report_cli_answers.specs.Verdicts.{HasModel, Gives, FromFiles, IsExpanded}
 use Rattle.report_cli_rows_units.specs.WorkedTexts.{held, name, tokens_with, expanded, expanded_with}
 
 -- the name of a model is that model, whatever files there are

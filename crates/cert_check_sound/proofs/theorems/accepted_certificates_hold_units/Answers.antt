@@ -3,7 +3,7 @@ use Rattle.cert_check_sound.proofs.theorems.accepted_certificates_hold_units.Goa
 
 pub returns : goal.returns
 returns c = record {
-  units = λ flow text found verified. units_held flow text found verified;
-  lowered = λ flow text found verified. lowered_held flow text found verified;
-  checked = λ flow text found verified. checked_held flow text found verified;
+  units = λ flow text found shown. units_held flow text found shown;
+  lowered = λ flow text found shown. lowered_held flow text found shown;
+  checked = λ flow text found shown. checked_held flow text found shown;
 }
