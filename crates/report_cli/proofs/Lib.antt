@@ -6,5 +6,6 @@ pub mod GatedRuns
 pub mod ToldVerdicts
 pub mod VerifiedRuns
 pub mod ToldReplays
+pub mod AcceptedVerbs
 pub mod CompleteAnswers
 pub mod Clauses

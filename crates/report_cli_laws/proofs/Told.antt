@@ -67,11 +67,11 @@ staged_never held dirs main s names why _ taken h = early_never held dirs main s
 made_report : (seen : Seen) (c : CommandView) (m : Model) (form : Format) (names : List Bytes) (unit : Bytes) (diags : List Diag) → form ≡ c.format → unit ≡ c.unit → IsReport (FromFiles seen.files c.dirs m c.unit) (check_setting c m) names diags → IsItsReport seen c m (reported form names unit diags)
 made_report seen c m form names unit diags formed named is = record { names = names; diags = diags; reports = ap (λ (f : Format). reported f names unit diags) formed ∙ ap (λ (u : Bytes). reported c.format names u diags) named; is_report = is }
 
-lacks_not : (files : Option Files) (held : Files) (dirs : List Bytes) (m : Model) (main : Bytes) (s : SettingView) (reason : Type 0) → files ≡ Some held → IsTaken (FromFiles (Some held) dirs m main) s → Lacks files main reason → ⊥
+pub lacks_not : (files : Option Files) (held : Files) (dirs : List Bytes) (m : Model) (main : Bytes) (s : SettingView) (reason : Type 0) → files ≡ Some held → IsTaken (FromFiles (Some held) dirs m main) s → Lacks files main reason → ⊥
 lacks_not None held dirs m main s reason is taken lacks = absurd (cc is)
 lacks_not (Some files) held dirs m main s reason is taken lacks = is_held files dirs m main (unit_as taken.names taken.expanded) (taken.is_expanded.gives files (sym is)) lacks
 
-refusal_not : (files : Option Files) (held : Files) (dirs : List Bytes) (main : Bytes) (s : SettingView) (seen : Seen) (unit file : Bytes) (why : Fault) → files ≡ Some held → IsTaken (FromFiles (Some held) dirs s.model main) s → IsRefusal (FromFiles files dirs s.model main) seen dirs s unit file why → ⊥
+pub refusal_not : (files : Option Files) (held : Files) (dirs : List Bytes) (main : Bytes) (s : SettingView) (seen : Seen) (unit file : Bytes) (why : Fault) → files ≡ Some held → IsTaken (FromFiles (Some held) dirs s.model main) s → IsRefusal (FromFiles files dirs s.model main) seen dirs s unit file why → ⊥
 refusal_not files held dirs main s seen unit file why is taken r =
     staged_never held dirs main s r.names why why.refusal taken (subst (λ (fs : Option Files). IsStaged (FromFiles fs dirs s.model main) s r.names why (stage_of why.refusal)) is r.staged)
 

@@ -56,7 +56,7 @@ quotient value = syntax.Binary (at 24) binary.Divide (syntax.Number (at 23) (con
 abbrev pub tree_with : ℕ → List ExternalTree
 tree_with value =
     Defined (at 1) (TypeOf (at 1) type_word.Int ∷ []) (record { stars = []; name = record { at = at 5; text = codes "main" }; parameters = OnlyVoid })
-        (Return (at 16) (Some (quotient value)) ∷ [])
+    (Return (at 16) (Some (quotient value)) ∷ [])
     ∷ []
 
 -- ---- the checked unit
