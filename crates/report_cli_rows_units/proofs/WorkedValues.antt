@@ -114,10 +114,10 @@ module _ {Y : Type 0} (some : Vec Y) where
 
   -- ---- the checked unit
 
-  abbrev int_type : CType
+  abbrev pub int_type : CType
   int_type = ctype.Int int
 
-  abbrev number_checked : ℕ → ℕ → CheckedTerm
+  abbrev pub number_checked : ℕ → ℕ → CheckedTerm
   number_checked column value = record { place = at column; ctype = int_type; parens = 0; constant = Some (pos value); form = form.Number (pos value) }
 
   number_checked_is : (column value : ℕ) → term_tree (number_checked column value) ≡ number_term column value
