@@ -1,2 +1,3 @@
-mod WorkedProgram
-mod WorkedThresholds
+pub mod WorkedProgram
+pub mod WorkedThresholds
+pub mod Lowering

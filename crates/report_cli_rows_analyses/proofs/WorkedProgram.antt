@@ -1,6 +1,5 @@
 -- The program of the unit, its analysis and its thresholds.
-use Rattle.std.specs.Prelude.{◌≡◌, ◌++◌, ◌<◌, ◌^◌, ℕ, zero, suc, ℤ, pos, negsuc, true, false, Option, Some, None, List, [], ◌∷◌, length, refl}
-use Rattle.std.specs.Global.{Vec}
+use Rattle.std.specs.Prelude.{◌≡◌, ◌++◌, ℕ, zero, suc, ℤ, pos, negsuc, true, false, Option, Some, None, List, [], ◌∷◌, length, refl}
 use Rattle.std.specs.List.{Contains}
 use Rattle.std.specs.List.Sorted.{IsStrictlySortedBy}
 use Rattle.std.proofs.Common.{ap, arith, subst, sym, ◌∙◌}
@@ -44,6 +43,7 @@ use Rattle.rule_checks_operands.specs.TypedRows.{has_operands, are_typed, is_typ
 use Rattle.flow_analysis.specs.Analyses.{row_lattice, machine_of, admitted_pairs, IsAnalysis}
 use Rattle.report_cli_rows_units.specs.WorkedPlaces.{at, division}
 use Rattle.report_cli_rows_units.specs.WorkedTrees.{int}
+use Rattle.report_cli_rows_units.proofs.Built.{made, none}
 use Rattle.flow_analysis_laws.specs.LeastAnalyses.{IsLeastMap, AdmitsExactly}
 use Rattle.report_cli_rows_analyses.specs.WorkedAnalyses.{Map, thresholds, IsLarger, IsFoundAlone}
 
@@ -59,18 +59,12 @@ no_longer_map m rows row is also = let more = one_more rows row in let size = is
 -- ---- the program
 
 module _ (some : Flow) where
-  abbrev made : {X : Type 0} (xs : List X) → length xs < 2 ^ 63 → Vec X
-  made xs h = record { ptr = some.blocks.ptr; len = length xs; cap = length xs; alloc = some.blocks.alloc; items = xs; ok = (refl, omega arith); small = h }
-
-  abbrev none : {X : Type 0} → Vec X
-  none = made [] (omega arith)
-
   abbrev does : ℕ → Operation → Instruction
   does column o = record { place = at column; operation = o }
 
   abbrev first_block : BasicBlock
   first_block = record {
-    instructions = made (does 23 (op.Constant 0 (pos 1) int) ∷ (does 25 (op.Constant 1 (pos 0) int) ∷ (does 24 (op.Binary 0 Div 0 (amount.Temp 1) int) ∷ (does 16 op.Stop ∷ [])))) (omega arith);
+    instructions = made some.blocks (does 23 (op.Constant 0 (pos 1) int) ∷ (does 25 (op.Constant 1 (pos 0) int) ∷ (does 24 (op.Binary 0 Div 0 (amount.Temp 1) int) ∷ (does 16 op.Stop ∷ [])))) (omega arith);
     first_edge = 0;
     edges = 0;
     is_head = false;
@@ -78,21 +72,21 @@ module _ (some : Flow) where
 
   -- behind the body, which no edge leads to
   abbrev last_block : BasicBlock
-  last_block = record { instructions = made (does 5 op.Stop ∷ []) (omega arith); first_edge = 0; edges = 0; is_head = false }
+  last_block = record { instructions = made some.blocks (does 5 op.Stop ∷ []) (omega arith); first_edge = 0; edges = 0; is_head = false }
 
   abbrev stream : StructType
-  stream = record { fields = none; complete = false; size = 0; align = 1; leaves = 0; plain_leaves = 0 }
+  stream = record { fields = none some.blocks; complete = false; size = 0; align = 1; leaves = 0; plain_leaves = 0 }
 
   abbrev pub program : Flow
   program = record {
-    blocks = made (first_block ∷ (last_block ∷ [])) (omega arith);
-    edges = none;
-    bases = none;
+    blocks = made some.blocks (first_block ∷ (last_block ∷ [])) (omega arith);
+    edges = none some.blocks;
+    bases = none some.blocks;
     temps = 2;
-    initial = none;
-    parameters = none;
+    initial = none some.blocks;
+    parameters = none some.blocks;
     entry = at 5;
-    structs = record { items = made (stream ∷ []) (omega arith) };
+    structs = record { items = made some.blocks (stream ∷ []) (omega arith) };
     width = 2;
     model = lp64;
   }

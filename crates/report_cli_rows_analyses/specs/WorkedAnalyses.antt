@@ -9,10 +9,13 @@ use Rattle.flow_program.specs.ThresholdNumbers.{limits_of}
 use Rattle.flow_program.specs.StructNumbers.{flow_numbers}
 use Rattle.flow_program.specs.WellFormed.{is_well_formed}
 use Rattle.flow_program.specs.declared.programs.Flow.{Flow}
+use Rattle.flow_program_views.specs.ProgramViews.{FlowView, flow_view}
+use Rattle.flow_lower.specs.Lowerings.{IsLowering}
 use Rattle.interval_domain.specs.declared.intervals.Interval.{Interval}
 use Rattle.value_domain.specs.declared.row_cells.Cell.{Cell}
 use Rattle.flow_analysis.specs.Analyses.{row_lattice, machine_of, IsAnalysis}
 use Rattle.report_cli_rows_units.specs.WorkedPlaces.{division}
+use Rattle.report_cli_rows_units.specs.WorkedTrees.{checked_unit}
 
 abbrev pub Map : Type 0
 Map = List (Option (List (Cell Interval)))
@@ -55,7 +58,13 @@ pub record IsFoundAlone (flow : Flow) (list : List ℤ) : Type 0 where
   pub shorter : IsAnalysis flow list [] → ⊥
   pub other_place : IsAnalysis flow list (division 23 ∷ []) → ⊥
 
+-- the unit is lowered to this program and to no other
+pub record IsLoweredTo (flow : Flow) : Type 0 where
+  pub there : IsLowering checked_unit standard_limits (flow_view flow)
+  pub no_other : (f : FlowView) → IsLowering checked_unit standard_limits f → f ≡ flow_view flow
+
 pub record IsWorkedProgram (flow : Flow) (larger : Map) : Type 0 where
+  pub lowered : IsLoweredTo flow
   pub well_formed : is_well_formed standard_limits flow ≡ true
   pub listed : IsListOf flow
   pub found : IsFoundAlone flow thresholds
