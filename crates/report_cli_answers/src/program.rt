@@ -10,7 +10,12 @@ use std::alloc::Global;
 
 /// Does all that the program does: takes the words behind its name, reads from the tree, puts its
 /// output into the sink in one call, and answers the status.
-pub fn answer_words<T: Tree, S: Sink>(alloc: Global, words: &[String], tree: &mut T, out: &mut S) -> u8
+pub fn answer_words<T: Tree, S: Sink>(
+    alloc: Global,
+    words: &[String],
+    tree: &mut T,
+    out: &mut S,
+) -> u8
     ensures answer { Answers (seen_of (T.files tree.old) (T.faults tree.old) (T.faults tree.new) (T.taken tree.old) (T.taken tree.new)) (asked (map string_bytes words.now)) (took (S.written out.old) (S.written out.new) (S.faults out.old) (S.faults out.new) (S.calls out.old) (S.calls out.new)) result }
     ensures files { T.files tree.new ≡ T.files tree.old }
     ensures read_faults { T.faults tree.old ≤ T.faults tree.new }
