@@ -1,11 +1,12 @@
 -- What is written of an inductive map is accepted.
-use Rattle.std.proofs.Common.{◌≡◌, ◌+◌, ◌*◌, ◌^◌, ◌<◌, ◌≤◌, ℕ, true, List, Option, Some, None, length, arith, subst, sym}
-use Rattle.std.specs.Prelude.{ℤ}
+use Rattle.std.proofs.Common.{◌≡◌, ◌&&◌, ◌+◌, ◌*◌, ◌^◌, ◌<◌, ◌≤◌, ℕ, true, List, Option, Some, None, length, arith, subst, sym}
+use Rattle.std.specs.Prelude.{ℤ, nat_lt, ◌==◌}
+use Rattle.std.specs.List.{list_all}
 use Rattle.std.proofs.lemmas.Bool.{and_parts, ltb-true}
 use Rattle.std.proofs.Math.Nat.{mul-le-mul_left}
 use Rattle.cc_base.specs.Standard.{standard_limits}
 use Rattle.cc_base.specs.InductiveMap.{IsOwn, row_at}
-use Rattle.flow_program.specs.WellFormed.{is_well_formed, is_few}
+use Rattle.flow_program.specs.WellFormed.{names_of, are_blocks, fits_edge, are_placed, all_values, is_initial_object, is_parameter, is_within, is_few, are_few, is_laid_out, is_well_formed}
 use Rattle.flow_program.specs.declared.programs.Flow.{Flow}
 use Rattle.interval_domain.specs.declared.intervals.Interval.{Interval}
 use Rattle.value_domain.specs.declared.row_cells.Cell.{Cell}
@@ -32,15 +33,15 @@ row_below blocks width pool h =
 
 few_blocks : (f : Flow) → is_well_formed standard_limits f ≡ true → length f.blocks.items < 2 ^ 31
 few_blocks f h =
-    let a = and_parts _ _ h in
-    let b = and_parts _ _ a.1 in
-    let c = and_parts _ _ b.1 in
-    let d = and_parts _ _ c.1 in
-    let e = and_parts _ _ d.1 in
-    let g = and_parts _ _ e.1 in
-    let i = and_parts _ _ g.1 in
-    let j = and_parts _ _ i.1 in
-    let k = and_parts _ _ j.1 in
+    let a = and_parts (nat_lt 0 (length f.blocks.items)) _ h in
+    let b = and_parts (are_blocks (names_of f) (length f.blocks.items) f.edges.items 0 0 f.blocks.items f.edges.items) _ a.1 in
+    let c = and_parts (list_all (λ e. fits_edge (names_of f) e.kind) f.edges.items) _ b.1 in
+    let d = and_parts (are_placed 0 f.bases.items) _ c.1 in
+    let e = and_parts (f.width == all_values f.bases.items + f.temps) _ d.1 in
+    let g = and_parts (list_all (is_initial_object f.bases.items) f.initial.items) _ e.1 in
+    let i = and_parts (list_all (is_parameter f.model f.bases.items) f.parameters.items) _ g.1 in
+    let j = and_parts (is_within standard_limits f) (are_few f && is_laid_out f) i.1 in
+    let k = and_parts (are_few f) (is_laid_out f) j.1 in
     let l = and_parts (is_few (length f.blocks.items)) (is_few (length f.edges.items)) k.0 in
     ltb-true (length f.blocks.items) (2 ^ 31) l.0
 

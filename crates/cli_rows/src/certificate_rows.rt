@@ -109,7 +109,7 @@ const CHECKS: [Call; 10] = [
 ];
 
 #[test]
-fn checks(rt: HostRuntime) -> Result<(), Fail> {
+fn what_a_certificate_shows_is_printed(rt: HostRuntime) -> Result<(), Fail> {
     answer_all(&rt, rt.alloc(), &CHECKS)
 }
 

@@ -1,6 +1,7 @@
 -- Certificates of units: what stands behind the text of one, and behind the answer to one.
 use Rattle.std.specs.Prelude.{◌≡◌, ◌++◌, ℕ, ℤ, true, List, codes}
 use Rattle.std.specs.Fmt.{decimal}
+use Rattle.cc_base.specs.Ascending.{is_ascending}
 use Rattle.cc_base.specs.Standard.{standard_limits}
 use Rattle.cc_base.specs.declared.diagnostics.Diag.{Diag}
 use Rattle.c_layout.specs.declared.unit_tokens.Unit7.{Unit7}
@@ -41,10 +42,11 @@ pub record IsProgram (unit : Unit7) (s : SettingView) (flow : Flow) : Type 0 whe
   pub lowered : IsLowered checked flow
   pub well_formed : is_well_formed standard_limits flow ≡ true
 
--- the text is that of an inductive map of the program, with bounds rounded to its thresholds at heads
+-- the text is that of an inductive map of the program, with bounds rounded to its thresholds, in order, at heads
 pub record IsProvedBy (flow : Flow) (text : Bytes) : Type 0 where
   pub list : List ℤ
   pub thresholds : AreThresholds (limits_of flow.model) (flow_numbers flow) list
+  pub ascending : is_ascending list ≡ true
   pub certificate : IsCertificate flow list text
 
 -- the text is that of such a map of the unit's program

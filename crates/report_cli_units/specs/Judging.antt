@@ -1,5 +1,6 @@
 -- What a unit that was expanded comes to: the work behind the expansion, layer by layer, as far as the layers have clauses.
 use Rattle.std.specs.Prelude.{◌≡◌, ◌+◌, ◌++◌, ◌⊎◌, ℕ, ℤ, true, List, [], ◌∷◌, length, Option, Some, None, Ok, Err}
+use Rattle.cc_base.specs.Ascending.{is_ascending}
 use Rattle.cc_base.specs.DiagnosticOrder.{IsOrderedSet}
 use Rattle.cc_base.specs.Standard.{standard_limits}
 use Rattle.cc_base.specs.declared.diagnostics.Diag.{Diag}
@@ -71,12 +72,13 @@ IsTurned None flow analysed = analysed ≡ flow
 IsTurned (Some turns) flow analysed = flow_view analysed ≡ split turns (flow_view flow)
 
 -- what the syntactic rules find in a checked unit, and behind it what the analysis finds in the program
--- that is analysed, with bounds rounded to the thresholds of the unit's program
+-- that is analysed, with bounds rounded to the thresholds of the unit's program, in order
 pub record IsFound (checked : Checked) (flow analysed : Flow) (pairs : List Diag) : Type 0 where
   pub texts : List Diag
   pub by_texts : IsOrderedSet (unit_places checked) texts
   pub list : List ℤ
   pub thresholds : AreThresholds (limits_of flow.model) (flow_numbers flow) list
+  pub ascending : is_ascending list ≡ true
   pub runs : List Diag
   pub by_runs : IsAnalysis analysed list runs
   pub both : pairs ≡ texts ++ runs

@@ -9,6 +9,7 @@ ghost use Rattle.cc_base.specs.Standard.{standard_limits};
 ghost use Rattle.report_cli_units.specs.Judging.{setting_view, judgement, cells_from, cell_count, IsParsed, IsTyped, IsLowered, IsTurned, IsJudged, IsFound, StopsUnit};
 
 use crate::stages::{Stage, stop_at};
+use crate::unit_thresholds::unit_thresholds;
 use c_layout::{BaseInfo, Checked, Model, Tree7, Unit7};
 use c_parser::parse;
 use c_types::check;
@@ -16,7 +17,7 @@ use cc_base::{Diag, Limits, Memory, Stop};
 use flow_analysis::analyse;
 use flow_lower::lower;
 use flow_lower_counts::capped_sum;
-use flow_program::{Flow, thresholds};
+use flow_program::Flow;
 use std::alloc::{AllocError, Global};
 use syntax_rules::syntactic;
 use turn_split::split;
@@ -79,7 +80,7 @@ fn judge_program(
     ensures bases { IfOk result (λ j. j.bases ≡ length flow.now.bases.items) }
     ensures cells { IfOk result (λ j. j.cells ≡ cell_count flow.now) }
 {
-    let list = thresholds(alloc, flow)?;
+    let list = unit_thresholds(alloc, flow)?;
     let found = analyse(alloc, analysed, &list)?;
     let texts = syntactic(alloc, checked)?;
     Ok(Judged {

@@ -1,0 +1,2 @@
+mod WorkedProgram
+mod WorkedThresholds

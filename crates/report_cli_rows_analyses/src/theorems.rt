@@ -1,0 +1,19 @@
+//! What an analysis of the program of `int main(void){return 1/0;}` finds, and which maps, lists and thresholds it excludes.
+ghost use Rattle.flow_program.specs.declared.programs.Flow.{Flow};
+ghost use Rattle.report_cli_rows_analyses.specs.WorkedAnalyses.{Map, NoLongerMap, IsWorkedProgram};
+
+use flow_analysis_laws::{least_maps_are_exact, two_solvers_agree};
+
+/// No map with a row more than there are blocks is inductive.
+pub fn inductive_maps_have_a_row_for_each_block()
+    ensures { NoLongerMap }
+{}
+
+/// There is a program, that of a division by 0, whose analysis finds this and nothing else, with just these numbers as
+/// thresholds, and a larger inductive map, which is not the least one.
+pub fn one_division_is_found()
+    ensures { Flow → (flow : Flow) × (larger : Map) × IsWorkedProgram flow larger }
+{
+    least_maps_are_exact();
+    two_solvers_agree();
+}

@@ -1,0 +1,4 @@
+mod Cutting
+mod Expanding
+mod Parsing
+mod Checking
