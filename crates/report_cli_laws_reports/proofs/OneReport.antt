@@ -15,7 +15,8 @@ use Rattle.report_cli_units.specs.Judging.{SettingView, Judgement, IsJudged}
 use Rattle.report_cli_answers.specs.Verdicts.{Verdict, reported, summed, Gives, FromFiles, FromBytes, IsReport, IsSummary, IsVerdict, check_setting, load_setting}
 use Rattle.report_cli_laws.specs.Told.{IsAcceptedCheck, IsItsReport}
 use Rattle.report_cli_laws.specs.ToldLoad.{IsAcceptedLoad, IsItsSummary}
-use Rattle.report_cli_laws.proofs.Told.{same_unit, accepted_is_reported}
+use Rattle.report_cli_laws.proofs.OneUnit.{same_unit}
+use Rattle.report_cli_laws.proofs.Told.{accepted_is_reported}
 use Rattle.report_cli_laws.proofs.ToldLoad.{accepted_is_summed}
 use Rattle.report_cli_laws_reports.specs.OneReports.{SameReports, SameSummaries}
 use Rattle.report_cli_laws_reports.proofs.OneJudgement.{one_set, one_judgement}

@@ -7,7 +7,7 @@ pub fn one_judgement()
 {}
 
 /// Where the files are told, two reports of a unit have the same names and diagnostics, and two summaries of one that was
-/// made the same counts and diagnostics. Where the model is a named one too and the unit is accepted, `check` and `load` are
+/// made the same counts and diagnostics. where a model is given too and the unit is accepted, `check` and `load` are
 /// called to tell one thing.
 pub fn one_report()
     ensures report { OneReport }
