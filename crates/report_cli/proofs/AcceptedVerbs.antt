@@ -1,6 +1,6 @@
 -- Where a unit is accepted and what a verb reads beside it is held, no refusal of it is called for.
-use Rattle.std.proofs.Common.{◌≡◌, ◌∙◌, ◌≤◌, ◌⊎◌, inl, inr, ℕ, List, [], ◌∷◌, length, Option, Some, None, Result, Ok, Err, ap, refl, sym, subst}
-use Rattle.cc_base.specs.Outside.{Files, Holds, Rose, RoseBeyond}
+use Rattle.std.proofs.Common.{◌≡◌, ◌∙◌, ◌⊎◌, inl, inr, List, [], ◌∷◌, Option, Some, None, ap, refl, sym, subst}
+use Rattle.cc_base.specs.Outside.{Files, Rose, RoseBeyond}
 use Rattle.cc_base.specs.declared.diagnostics.Diag.{Diag}
 use Rattle.cc_base.specs.declared.refusals.Fault.{Fault}
 use Rattle.c_layout.specs.declared.data_model.Model.{Model}
@@ -21,7 +21,7 @@ use Rattle.report_cli_laws.specs.Told.{IsTaken}
 use Rattle.report_cli_laws.proofs.GivenModels.{lacks_never, long_never, same_held, model_had, model_same}
 use Rattle.report_cli_laws.proofs.Told.{lacks_not, refusal_not}
 use Rattle.report_cli.specs.AnsweredRuns.{IsAccepting}
-use Rattle.report_cli.specs.CompleteAnswers.{IsAcceptedUnit, IsHeldShort, IsHeldBaseline, IsHeldDraws, AreHeldDraws}
+use Rattle.report_cli.specs.CompleteAnswers.{IsAcceptedUnit, IsHeldShort, IsHeldBaseline, AreHeldDraws}
 
 accepting : (ds : List Diag) → IsAccepting (report_status ds)
 accepting [] = inl refl

@@ -1,5 +1,5 @@
 -- A model that is given is had, and no other one.
-use Rattle.std.proofs.Common.{◌≡◌, ◌∙◌, ◌≤◌, ◌<◌, Bool, true, false, length, Option, Some, None, Result, Ok, Err, IsUtf8, inl, inr, refl, sym, subst, ap, arith}
+use Rattle.std.proofs.Common.{◌≡◌, ◌∙◌, ◌≤◌, Bool, true, false, length, Option, Some, None, Result, Ok, Err, IsUtf8, inl, inr, refl, sym, subst, ap, arith}
 use Rattle.std.specs.Str.{is_utf8}
 use Rattle.std.proofs.lemmas.Str.{IsUtf8-from_is_utf8, is_utf8-from_IsUtf8}
 use Rattle.cc_base.specs.Outside.{Files, Holds, Lacks, HoldsTooLong, Rose, RoseBeyond, file_at}
@@ -10,7 +10,7 @@ use Rattle.c_preproc.specs.Causes.{Seen}
 use Rattle.report_cli_texts.specs.Reports.{Bytes}
 use Rattle.report_cli_answers.specs.Verdicts as verdict
 use Rattle.report_cli_answers.specs.Verdicts.{Verdict, HasModel, RefusesModel, ReadsModel, IsModelText}
-use Rattle.report_cli_laws.specs.GivenModels.{IsReadModel, IsGivenModel}
+use Rattle.report_cli_laws.specs.GivenModels.{IsGivenModel}
 
 none_some : {m : Model} {x : Option Model} → x ≡ None → x ≡ Some m → ⊥
 none_some {m} {x} is also = cc
