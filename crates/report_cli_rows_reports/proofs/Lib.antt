@@ -1,0 +1,2 @@
+mod TextPlaces
+mod WorkedReport
