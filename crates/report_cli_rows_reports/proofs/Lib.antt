@@ -1,2 +1,3 @@
 mod TextPlaces
 mod WorkedReport
+mod WorkedRuns

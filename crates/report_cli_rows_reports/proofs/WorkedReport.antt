@@ -116,7 +116,7 @@ module _ (some : Flow) (parsed_to : IsParsedTo) (checked_to : IsCheckedTo) (larg
       held = held;
       told = refl;
       model = lp64;
-      named = refl;
+      given = inl refl;
       taken = record {
         names = name ∷ [];
         expanded = expanded;
@@ -181,6 +181,7 @@ AreAnswered =
     ToldReport s c a.model sink status ⊎ ((status ≡ 5) ⊎ ((status ≡ 6) ⊎ (status ≡ 7)))
 
 pub told_of : (some : Flow) → IsParsedTo → IsCheckedTo → (flow : Flow) × (larger : Map) × IsWorkedProgram flow larger → IsExpandedFromHeld → IsNamedModel → OneReport → OneVerdict → AreAnswered → IsToldAlone
+unfolding accepted
 told_of some parsed_to checked_to (flow, larger, worked) from_held named one_report one_verdict answered =
     told_alone_is some parsed_to checked_to larger flow worked from_held named one_report one_verdict
         (λ sink status a. answered seen command (accepted some parsed_to checked_to larger flow worked from_held named) sink status a)

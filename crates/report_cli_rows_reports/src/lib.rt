@@ -3,4 +3,4 @@
 
 mod theorems;
 
-pub use theorems::one_line_is_told;
+pub use theorems::{one_line_is_told, unit_divides_by_zero};

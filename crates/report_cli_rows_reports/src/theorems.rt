@@ -1,6 +1,7 @@
 //! Of a unit that divides by 0, from its bytes to the text that is put.
 ghost use Rattle.flow_program.specs.declared.programs.Flow.{Flow};
 ghost use Rattle.report_cli_rows_reports.specs.WorkedReports.{IsToldAlone};
+ghost use Rattle.report_cli_rows_reports.specs.WorkedRuns.{DividesByZero};
 
 use report_cli_laws::accepted_units_are_answered;
 use report_cli_laws_reports::one_report;
@@ -21,3 +22,8 @@ pub fn one_line_is_told()
     accepted_units_are_answered();
     one_report();
 }
+
+/// The run of the unit violates that rule there, and ends by it.
+pub fn unit_divides_by_zero()
+    ensures { DividesByZero }
+{}
