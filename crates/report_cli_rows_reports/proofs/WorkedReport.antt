@@ -184,4 +184,4 @@ pub told_of : (some : Flow) → IsParsedTo → IsCheckedTo → (flow : Flow) × 
 unfolding accepted
 told_of some parsed_to checked_to (flow, larger, worked) from_held named one_report one_verdict answered =
     told_alone_is some parsed_to checked_to larger flow worked from_held named one_report one_verdict
-        (λ sink status a. answered seen command (accepted some parsed_to checked_to larger flow worked from_held named) sink status a)
+    (λ sink status a. answered seen command (accepted some parsed_to checked_to larger flow worked from_held named) sink status a)
