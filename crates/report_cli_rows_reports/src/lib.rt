@@ -3,4 +3,4 @@
 
 mod theorems;
 
-pub use theorems::{one_line_is_told, unit_divides_by_zero};
+pub use theorems::{one_line_is_told, premises_of_soundness_are_met, unit_divides_by_zero};

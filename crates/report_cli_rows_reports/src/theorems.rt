@@ -1,5 +1,7 @@
 //! Of a unit that divides by 0, from its bytes to the text that is put.
+ghost use Rattle.abstract_steps_sound_checked_starts.specs.CheckedStarts.{IsUnitOf};
 ghost use Rattle.flow_program.specs.declared.programs.Flow.{Flow};
+ghost use Rattle.report_cli_rows_units.specs.WorkedTrees.{checked_unit};
 ghost use Rattle.report_cli_rows_reports.specs.WorkedReports.{IsToldAlone};
 ghost use Rattle.report_cli_rows_reports.specs.WorkedRuns.{DividesByZero};
 
@@ -27,3 +29,11 @@ pub fn one_line_is_told()
 pub fn unit_divides_by_zero()
     ensures { DividesByZero }
 {}
+
+/// What the theorem on runs of programs supposes of a checked unit and its program is met.
+pub fn premises_of_soundness_are_met()
+    ensures { Flow → (flow : Flow) × IsUnitOf checked_unit flow }
+{
+    trees_are_checked();
+    one_division_is_found();
+}
