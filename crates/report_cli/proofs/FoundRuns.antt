@@ -15,15 +15,11 @@ use Rattle.flow_program_machine.specs.FlowStates as states
 use Rattle.flow_program_machine.specs.FlowStates.{FlowRun}
 use Rattle.flow_program_machine.specs.FlowSteps.{flow_steps}
 use Rattle.flow_program_machine.specs.FlowStarts.{flow_begin}
-use Rattle.flow_lower_objects.specs.PlainObjects.{has_plain_objects}
 use Rattle.flow_lower_units.specs.RegularUnits.{is_regular_unit}
 use Rattle.flow_analysis.specs.Analyses.{IsAnalysis}
 use Rattle.lib_models_effects.specs.Worlds.{Violation, Stuck}
 use Rattle.ref_machine.specs.SourceRuns.{SourceRun, Run, found_in, why_of}
 use Rattle.template_runs_units.specs.UnitRuns.{IsProgramOf, AgreeUnlessStuck, UnitRunsAreProgramRuns}
-use Rattle.abstract_steps_sound_analyses.specs.SoundAnalyses.{IsViolatedIn}
-use Rattle.abstract_steps_sound_checked_starts.specs.CheckedStarts.{IsUnitOf}
-use Rattle.abstract_steps_sound_units.specs.SoundUnits.{FindsPairsOf}
 use Rattle.abstract_steps_sound_units.specs.CheckedUnits.{FindsPairsOfChecked, FindsTurnedPairsOfChecked}
 use Rattle.report_cli_units.specs.Judging.{SettingView, IsTyped, IsLowered, IsTurned}
 use Rattle.report_cli.specs.FoundRuns.{IsViolatedBy, JudgedRunsAreFound, ReportsHoldRuns}
@@ -48,23 +44,18 @@ program_of s tree checked flow typed regular lowered good = record {
   room = few_temps;
 }
 
-pub unit_of : (s : SettingView) (tree : Tree7) (checked : Checked) (flow : Flow) → IsTyped s tree checked → has_plain_objects (unit_view checked) ≡ true → IsLowered checked flow → IsUnitOf (unit_view checked) flow
-unit_of s tree checked flow typed plain lowered = record {
-  model = s.model;
-  name = s.entry;
-  tree = unit_tree tree;
-  limits = standard_limits;
-  checked = typed.checks;
-  lowered = lowered.lowers;
-  plain = plain;
-}
-
 -- a run that is not stuck has violated what a run of the program has
 seen_by : (s : SourceRun) (r : FlowRun) (v : Violation) → AgreeUnlessStuck s r → (why_of s ≡ Some Stuck → ⊥) → Contains (found_in s) v → Contains (states.found_in r) v
 seen_by s r v (inl stuck) not_stuck there = absurd (not_stuck stuck)
 seen_by s r v (inr agree) not_stuck there = subst (λ vs. Contains vs v) agree.found there
 
-pub violated_in : UnitRunsAreProgramRuns → (u : UnitView) (program : Flow) → IsProgramOf u standard_limits program → (v : Violation) → IsViolatedBy u v → IsViolatedIn program u v
+-- a run of the program that violates a rule
+pub record ViolatesIn (program : Flow) (u : UnitView) (v : Violation) : Type 0 where
+  pub draws : List ℤ
+  pub steps : ℕ
+  pub there : Contains (states.found_in (flow_steps (flow_view program) steps (flow_begin u (flow_view program) draws))) v
+
+pub violated_in : UnitRunsAreProgramRuns → (u : UnitView) (program : Flow) → IsProgramOf u standard_limits program → (v : Violation) → IsViolatedBy u v → ViolatesIn program u v
 violated_in runs u program is v violated =
     let x = runs u standard_limits program is violated.draws violated.turns in
     record {
@@ -74,16 +65,19 @@ violated_in runs u program is v violated =
     }
 
 -- the analysis is of the program, or of the one with turns unrolled
-finds_pairs : CheckedRunsAreFound → FindsTurnedPairsOfChecked → (turns : Option ℕ) (flow unrolled : Flow) (list : List ℤ) (found : List Diag) (u : UnitView)
-    → IsTurned turns flow unrolled → is_well_formed standard_limits flow ≡ true → IsAnalysis unrolled list found → IsUnitOf u flow → FindsPairsOf flow found u
-finds_pairs once turned None flow unrolled list found u is good analysis of = once flow list found (subst (λ f. IsAnalysis f list found) is analysis) u of
-finds_pairs once turned (Some turns) flow unrolled list found u is good analysis of = turned turns standard_limits flow unrolled list found good is analysis u of
+finds_pairs : CheckedRunsAreFound → FindsTurnedPairsOfChecked → (turns : Option ℕ) (flow unrolled : Flow) (list : List ℤ) (found : List Diag)
+    → IsTurned turns flow unrolled → is_well_formed standard_limits flow ≡ true → IsAnalysis unrolled list found → FindsPairsOfChecked flow found
+finds_pairs once turned None flow unrolled list found is good analysis u of v there = once flow list found (subst (λ f. IsAnalysis f list found) is analysis) u of v there
+finds_pairs once turned (Some turns) flow unrolled list found is good analysis u of v there = turned turns standard_limits flow unrolled list found good is analysis u of v there
 
 pub judged_runs : UnitRunsAreProgramRuns → CheckedRunsAreFound → FindsTurnedPairsOfChecked → JudgedRunsAreFound
 judged_runs runs once turned unit s j judged v violated =
     let f = judged.found in
-    let finds = finds_pairs once turned s.turns judged.flow judged.analysed f.list f.runs (unit_view judged.checked) judged.turned judged.made f.by_runs (unit_of s judged.tree judged.checked judged.flow judged.typed judged.plain judged.lowered) in
-    let there = finds v (violated_in runs (unit_view judged.checked) judged.flow (program_of s judged.tree judged.checked judged.flow judged.typed judged.regular judged.lowered judged.made) v violated) in
+    let finds = finds_pairs once turned s.turns judged.flow judged.analysed f.list f.runs judged.turned judged.made f.by_runs in
+    let x = violated_in runs (unit_view judged.checked) judged.flow (program_of s judged.tree judged.checked judged.flow judged.typed judged.regular judged.lowered judged.made) v violated in
+    let there =
+    finds (unit_view judged.checked) (record { model = s.model; name = s.entry; tree = unit_tree judged.tree; limits = standard_limits; checked = judged.typed.checks; lowered = judged.lowered.lowers; plain = judged.plain }) v
+    (record { draws = x.draws; steps = x.steps; there = x.there }) in
     subst (λ ds. Contains ds (record { place = v.at; rule = v.rule })) (sym f.both) (Contains-append_right f.texts f.runs (record { place = v.at; rule = v.rule }) there)
 
 pub reports_hold : JudgedRunsAreFound → ReportsHoldRuns
