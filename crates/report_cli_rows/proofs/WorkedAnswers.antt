@@ -1,11 +1,11 @@
 -- What is held and named gives one unit and one model.
-use Rattle.std.proofs.Common.{◌≡◌, ◌∙◌, inl, inr, refl, sym, ap, subst, arith, ℕ, List, [], ◌∷◌, length, Option, Some, None, Result, Ok, codes}
+use Rattle.std.proofs.Common.{◌≡◌, inl, inr, refl, ap, subst, arith, ℕ, List, [], ◌∷◌, length, Option, Some, Ok, codes}
 use Rattle.cc_base.specs.Outside.{Files}
 use Rattle.cc_base.specs.declared.lexemes.Token.{Token}
 use Rattle.c_layout.specs.Models.{model_named, lp64, ilp32}
 use Rattle.c_layout.specs.declared.data_model.Model.{Model}
 use Rattle.c_layout.specs.declared.unit_tokens.Unit7.{Unit7}
-use Rattle.c_preproc.specs.Units.{Preprocessed, Refused, preprocessed, unit_from}
+use Rattle.c_preproc.specs.Units.{Preprocessed, preprocessed, unit_from}
 use Rattle.report_cli_texts.specs.Reports.{Bytes}
 use Rattle.report_cli_answers.specs.Verdicts.{HasModel, FromFiles, IsExpanded}
 use Rattle.report_cli_rows_units.specs.WorkedTexts.{held, name, tokens_with, expanded, expanded_with}

@@ -1,5 +1,5 @@
 -- What files that are told give: one model, one expansion, one baseline and one list of draws.
-use Rattle.std.specs.Prelude.{◌≡◌, ℕ, ℤ, List, Some, Ok, Err}
+use Rattle.std.specs.Prelude.{◌≡◌, ℤ, List, Some, Ok, Err}
 use Rattle.cc_base.specs.Outside.{Files}
 use Rattle.cc_base.specs.declared.diagnostics.Diag.{Diag}
 use Rattle.cc_base.specs.declared.refusals.Fault.{Fault}

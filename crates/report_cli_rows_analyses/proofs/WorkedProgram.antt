@@ -1,8 +1,8 @@
 -- The program of the unit, its analysis and its thresholds.
-use Rattle.std.specs.Prelude.{◌≡◌, ◌++◌, ℕ, zero, suc, ℤ, pos, negsuc, true, false, Option, Some, None, List, [], ◌∷◌, length, refl}
+use Rattle.std.specs.Prelude.{◌≡◌, ◌++◌, ℕ, zero, suc, ℤ, pos, true, false, Option, Some, None, List, [], ◌∷◌, length, refl}
 use Rattle.std.specs.List.{Contains}
 use Rattle.std.specs.List.Sorted.{IsStrictlySortedBy}
-use Rattle.std.proofs.Common.{ap, arith, subst, sym, ◌∙◌}
+use Rattle.std.proofs.Common.{ap, arith, subst, sym}
 use Rattle.cc_base.specs.DiagnosticOrder.{diagnostic_compare}
 use Rattle.cc_base.specs.InductiveMap.{IsInductive, IsLeast, IsOwn, row_at}
 use Rattle.cc_base.specs.Machine.{Machine}

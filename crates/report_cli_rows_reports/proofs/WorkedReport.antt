@@ -1,13 +1,13 @@
 -- The report of the held bytes, and that they have no other.
-use Rattle.std.proofs.Common.{◌≡◌, ◌∙◌, ◌⊎◌, inl, inr, refl, sym, ap, subst, arith, ℕ, true, List, [], ◌∷◌, Some, None, Ok, length, Contains, codes}
+use Rattle.std.proofs.Common.{◌≡◌, ◌∙◌, ◌⊎◌, inl, inr, refl, sym, ap, subst, arith, ℕ, true, List, [], ◌∷◌, Some, None, Ok, length, codes}
 use Rattle.std.specs.Fmt.{digits}
 use Rattle.std.specs.List.Sorted.{IsStrictlySortedBy}
-use Rattle.cc_base.specs.DiagnosticOrder.{IsOrderedSet, diagnostic_compare}
+use Rattle.cc_base.specs.DiagnosticOrder.{IsOrderedSet}
 use Rattle.cc_base.specs.Standard.{standard_limits}
 use Rattle.cc_base.specs.declared.diagnostics.Diag.{Diag}
 use Rattle.c_layout.specs.Models.{lp64}
-use Rattle.c_layout.specs.CheckedUnits.{UnitView, unit_view}
-use Rattle.c_layout.specs.DeclarationTrees.{ExternalTree, unit_tree}
+use Rattle.c_layout.specs.CheckedUnits.{UnitView}
+use Rattle.c_layout.specs.DeclarationTrees.{ExternalTree}
 use Rattle.c_parser.specs.Externals.{IsUnit}
 use Rattle.c_types.specs.UnitChecks.{check}
 use Rattle.flow_lower.specs.Lowerings.{IsLowering}
@@ -15,7 +15,6 @@ use Rattle.flow_lower_objects.specs.PlainObjects.{has_plain_objects}
 use Rattle.flow_lower_units.specs.RegularUnits.{is_regular_unit}
 use Rattle.flow_program.specs.declared.programs.Flow.{Flow}
 use Rattle.flow_program_views.specs.ProgramViews.{FlowView, flow_view}
-use Rattle.syntax_rules.specs.StatementPlaces.{unit_places}
 use Rattle.report_cli_texts.specs.Reports.{Bytes, report_of}
 use Rattle.report_cli_units.specs.Judging.{SettingView, judging, Judgement, IsJudged, IsParsed, IsTyped, IsLowered, IsFound, cell_count}
 use Rattle.c_preproc.specs.Causes.{Seen}
@@ -23,14 +22,13 @@ use Rattle.report_cli_words.specs.Requests as asked
 use Rattle.report_cli_words.specs.Requests.{CommandView}
 use Rattle.report_cli_answers.specs.Outcomes as outcome
 use Rattle.report_cli_answers.specs.Outcomes.{Took, PutOnce, Answers}
-use Rattle.report_cli_answers.specs.Verdicts.{Verdict, report_status, report_in, status_of, text_of, IsReport, IsVerdict, IsLater}
+use Rattle.report_cli_answers.specs.Verdicts.{report_status, IsVerdict, IsLater}
 use Rattle.report_cli_laws.specs.Told.{IsAcceptedCheck, ToldReport}
 use Rattle.report_cli_laws_reports.specs.OneReports.{OneReport, OneVerdict}
 use Rattle.report_cli_rows.specs.WorkedAnswers.{IsExpandedFromHeld, IsNamedModel}
 use Rattle.report_cli_rows_analyses.specs.WorkedAnalyses.{Map, thresholds, IsWorkedProgram}
-use Rattle.report_cli_rows_units.specs.WorkedPlaces.{division}
 use Rattle.report_cli_rows_units.specs.WorkedTexts.{held, name, tokens_with, expanded}
-use Rattle.report_cli_rows_units.specs.WorkedTrees.{tree_with, checked_unit}
+use Rattle.report_cli_rows_units.specs.WorkedTrees.{checked_unit}
 use Rattle.report_cli_rows_units.specs.WorkedUnits.{IsParsedTo, IsCheckedTo}
 use Rattle.report_cli_rows_units.proofs.WorkedValues.{tree, tree_is, unit, unit_is}
 use Rattle.report_cli_rows_reports.proofs.TextPlaces.{no_places}

@@ -1,16 +1,14 @@
 -- What is held is expanded, stage by stage: the tokens of the file, their numbers, macros, and the tokens again.
-use Rattle.std.specs.Prelude.{◌≡◌, refl, ℕ, Bool, true, false, List, [], ◌∷◌, Option, Some, None, Result, Ok, Err, cond, nat_le, length, codes}
-use Rattle.std.proofs.Common.{ap, sym, ◌∙◌}
+use Rattle.std.specs.Prelude.{◌≡◌, refl, ℕ, Bool, true, false, List, [], ◌∷◌, Option, Some, None, Result, Ok, codes}
+use Rattle.std.proofs.Common.{ap, ◌∙◌}
 use Rattle.std.specs.Ordering.{nat_cmp}
 use Rattle.std.specs.Cmp.Lexicographic.{slice_cmp}
 use Rattle.std.specs.FinMap as map
 use Rattle.cc_base.specs.Outside.{file_at}
-use Rattle.cc_base.specs.declared.diagnostics.Place.{Place}
 use Rattle.cc_base.specs.declared.lexemes.Kind.TheVariants as kind
 use Rattle.cc_base.specs.declared.lexemes.Token.{Token}
 use Rattle.cc_base.specs.declared.refusals.Fault.{Fault}
 use Rattle.c_layout.specs.Models.{lp64}
-use Rattle.c_tokens.specs.FileTokens.{file_tokens}
 use Rattle.c_preproc_macros.specs.Expanding.{Outcome, expansion, along, within, repl}
 use Rattle.c_preproc_macros.specs.Expanding.Outcome.{done}
 use Rattle.c_preproc_macros.specs.States.{setting_in}

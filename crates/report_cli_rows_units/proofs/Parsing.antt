@@ -1,7 +1,6 @@
 -- The tokens derive the tree.
-use Rattle.std.proofs.Common.{◌≡◌, ℕ, ◌≤◌, List, [], ◌∷◌, Some, Ok, ap, refl, arith, codes}
+use Rattle.std.proofs.Common.{◌≡◌, ℕ, List, [], ◌∷◌, Some, Ok, ap, refl, arith, codes}
 use Rattle.c_layout.specs.Models.{lp64}
-use Rattle.c_layout.specs.declared.syntax_tree.expressions.BinaryOp.TheVariants as binary
 use Rattle.cc_base.specs.declared.lexemes.Token.{Token}
 use Rattle.c_layout.specs.SyntaxTrees as syntax
 use Rattle.c_layout.specs.SyntaxTrees.{Tree}
@@ -14,10 +13,8 @@ use Rattle.c_parser_tokens.specs.declared.terminals.Punctuator.TheVariants as p
 use Rattle.c_parser_tokens.specs.declared.terminals.Terminal.{Terminal}
 use Rattle.c_parser_tokens.specs.Classes.{classified}
 use Rattle.c_parser_expressions.specs.Expressions.{Derives}
-use Rattle.c_parser_expressions.specs.Fronts.{IsSign, IsWord, IsName, IsConstant}
-use Rattle.c_parser_declarations.specs.Declarations.{IsFunction}
-use Rattle.c_parser_declarations.specs.Specifiers.{IsSpec}
-use Rattle.c_parser.specs.Externals.{IsExternal, IsPiece, ArePieces, IsUnit}
+use Rattle.c_parser_expressions.specs.Fronts.{IsSign, IsWord, IsConstant}
+use Rattle.c_parser.specs.Externals.{ArePieces, IsUnit}
 use Rattle.c_parser.specs.Statements.{DeriveStatement, IsBlock}
 use Rattle.report_cli_rows_units.specs.WorkedPlaces.{at}
 use Rattle.report_cli_rows_units.specs.WorkedTexts.{tokens_with}

@@ -12,8 +12,8 @@ use Rattle.c_layout.specs.SyntaxTrees.{Tree, tree_of, tree_step}
 use Rattle.c_layout.specs.DeclarationTrees as declaration
 use Rattle.c_layout.specs.DeclarationTrees.{ExternalTree, StatementTree, SpecTree, spec_tree, statement_tree, unit_tree}
 use Rattle.c_layout.specs.CheckedTrees as checked
-use Rattle.c_layout.specs.CheckedTrees.{LvalueFormTree, FormTree, TermTree, Typed, LvalueTree, term_tree}
-use Rattle.c_layout.specs.CheckedUnits.{FunctionView, UnitView, unit_view}
+use Rattle.c_layout.specs.CheckedTrees.{FormTree, TermTree, Typed, term_tree}
+use Rattle.c_layout.specs.CheckedUnits.{UnitView, unit_view}
 use Rattle.c_layout.specs.declared.struct_table.StructType.{StructType}
 use Rattle.c_layout.specs.declared.type_terms.CType.{CType, fold-roll-CType}
 use Rattle.c_layout.specs.declared.type_terms.CType.TheVariants as ctype

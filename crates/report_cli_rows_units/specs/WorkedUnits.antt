@@ -2,7 +2,6 @@
 use Rattle.std.specs.Prelude.{◌≡◌, List, [], ◌∷◌, Some, None, Ok, codes}
 use Rattle.cc_base.specs.declared.refusals.Refusal.TheVariants as refusal
 use Rattle.c_layout.specs.Models.{lp64, ilp32}
-use Rattle.c_layout.specs.CheckedUnits.{UnitView}
 use Rattle.c_layout.specs.DeclarationTrees.{ExternalTree}
 use Rattle.c_parser.specs.Externals.{IsUnit}
 use Rattle.c_preproc.specs.Units.{preprocessed, unit_from}
