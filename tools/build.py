@@ -1,10 +1,11 @@
 #!/usr/bin/env python3
 """build.py: proves the program and every crate below it, and leaves it in crates/ccheck_main/out/ccheck_main.
 
-The proving is that of `rt ci`, in a copy that has these crates alone and no must-fail edits: the edits, the crates of
-rows and the laws about definitions are for `make check`. What the kit keeps of a run is kept here too, so a build that
-was cut off goes on where it was, and `make check` proves none of these crates again. A line is printed for each crate,
-with how many are left; all that the proofs print stands in crates/ccheck_main/out/build.log.
+The proving is that of `rt ci`, in a copy that has these crates alone and no must-fail edits. The theorems on runs are
+among them, since clauses of `run` follow from them; the edits, the crates of rows and the laws that `run` does not
+stand on are for `make check`. What the kit keeps of a run is kept here too, so a build that was cut off goes on where
+it was, and `make check` proves none of these crates again. A line is printed for each crate, with how many are left;
+all that the proofs print stands in crates/ccheck_main/out/build.log.
 """
 import os
 import re

@@ -1,1 +1,3 @@
 pub mod Solved
+pub mod HeldMaps
+pub mod ReadMaps

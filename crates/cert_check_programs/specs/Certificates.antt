@@ -1,15 +1,19 @@
 -- Certificates of control-flow programs.
-use Rattle.std.specs.Prelude.{◌≡◌, ℤ, true, List, Option}
+use Rattle.std.specs.Prelude.{◌≡◌, ◌-◌, ◌^◌, ℤ, pos, negsuc, true, List, [], ◌∷◌, Option}
 use Rattle.cc_base.specs.DiagnosticOrder.{IsOrderedSet}
 use Rattle.cc_base.specs.Machine.{IsMonotone}
 use Rattle.cc_base.specs.InductiveMap.{IsInductive, IsLeast}
+use Rattle.cc_base.specs.declared.diagnostics.Diag.{Diag}
 use Rattle.flow_program.specs.declared.programs.Flow.{Flow}
 use Rattle.value_domain.specs.declared.row_cells.Cell.{Cell}
 use Rattle.interval_domain.specs.declared.intervals.Interval.{Interval}
 use Rattle.interval_domain.specs.IntervalLattice.{interval_lattice}
 use Rattle.interval_domain.specs.IntervalNumbers.{interval_numbers}
 use Rattle.abstract_steps_system.specs.FlowMachines.{has_start}
+use Rattle.abstract_steps_laws_programs.specs.RegularPrograms.{is_regular}
+use Rattle.rule_checks_operands.specs.TypedRows.{is_typed_map}
 use Rattle.flow_analysis.specs.Analyses.{row_lattice, machine_of, admitted_pairs}
+use Rattle.flow_analysis.specs.CheckedPrograms.{IsChecked}
 use Rattle.cert_check_text.specs.LineWords.{Bytes}
 use Rattle.cert_check_maps.specs.MapTexts.{text_of_map}
 use Rattle.cert_check_reading.specs.MapReading.{map_rows}
@@ -28,7 +32,31 @@ pub record IsCertificate (flow : Flow) (list : List ℤ) (text : Bytes) : Type 0
   pub least : IsMonotone row_lattice (machine_of flow list) → IsLeast row_lattice (machine_of flow list) rows
   pub is_text : text ≡ text_of_map flow rows
 
--- what a text comes to for a program: the pairs that its map admits, in order and each once, where it is closed; else why it is refused
+-- the text is that of a closed map by whose rows operands lie within the types that instructions name
+pub record IsTyping (flow : Flow) (text : Bytes) : Type 0 where
+  pub accepted : IsVerdictOn flow text Yes
+  pub typed : is_typed_map interval_lattice interval_numbers flow (map_rows flow text) ≡ true
+
+-- the ends of the bounds of certificates, and 0
+abbrev pub look_numbers : List ℤ
+look_numbers = negsuc (2 ^ 64 - 1) ∷ (pos 0 ∷ (pos (2 ^ 64) ∷ []))
+
+-- the program is such as soundness asks beside its operands
+pub record IsLookedAt (flow : Flow) : Type 0 where
+  pub started : has_start interval_lattice interval_numbers flow ≡ true
+  pub regular : is_regular flow look_numbers ≡ true
+  pub checked : IsChecked flow look_numbers
+
+-- the text is that of a closed map, which admits just these pairs, in order and each once; the program was looked at, and by some
+-- closed map, maybe a smaller one, its operands lie within their types
+pub record IsShown (flow : Flow) (text : Bytes) (found : List Diag) : Type 0 where
+  pub accepted : IsVerdictOn flow text Yes
+  pub pairs : IsOrderedSet (admitted_pairs flow (map_rows flow text)) found
+  pub looked_at : IsLookedAt flow
+  pub typing : Bytes
+  pub typed : IsTyping flow typing
+
+-- what a text comes to for a program: the pairs that its map admits where it is closed; else why it is refused
 abbrev pub IsVerified : Flow → Bytes → Verified → Type 0
-IsVerified flow text (Found found) = IsVerdictOn flow text Yes × IsOrderedSet (admitted_pairs flow (map_rows flow text)) found.items
+IsVerified flow text (Found found) = IsShown flow text found.items
 IsVerified flow text (Refused fault) = IsVerdictOn flow text (No fault)

@@ -3,6 +3,8 @@
 #![tactic(auto)]
 
 mod checked_maps;
+mod looks;
+mod smaller_maps;
 mod solved_maps;
 
 pub use checked_maps::{Verified, verify_program};

@@ -6,5 +6,3 @@ pub mod CertifiedMaps
 pub mod SoundCertificates
 pub mod WorkedCertificate
 mod WorkedAnalysis
-pub mod WiderRows
-pub mod AnalysedMaps

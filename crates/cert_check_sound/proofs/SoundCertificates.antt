@@ -1,59 +1,83 @@
 -- The map of an accepted certificate covers each run, so that the pairs that it admits hold each pair.
-use Rattle.std.specs.Prelude.{ℤ, List, refl}
-use Rattle.std.specs.Global.{Vec}
+use Rattle.std.specs.Prelude.{List, Option, refl}
 use Rattle.std.proofs.Common.{arith}
+use Rattle.cc_base.specs.ClosedMap.{IsClosed}
 use Rattle.cc_base.specs.Standard.{standard_limits}
 use Rattle.cc_base.specs.declared.diagnostics.Diag.{Diag}
+use Rattle.c_layout.specs.CheckedUnits.{UnitView}
 use Rattle.flow_program.specs.declared.programs.Flow.{Flow}
-use Rattle.interval_domain.specs.IntervalLattice.{interval_order, interval_rounding, interval_heights}
-use Rattle.interval_domain.specs.IntervalNumbers.{interval_bounding}
-use Rattle.flow_analysis.specs.Analyses.{IsAnalysis}
+use Rattle.interval_domain.specs.Spans.{Stands}
+use Rattle.interval_domain.specs.IntervalLattice.{interval_lattice, interval_order, interval_rounding, interval_heights}
+use Rattle.interval_domain.specs.IntervalNumbers.{interval_numbers, interval_bounding}
+use Rattle.interval_domain.specs.declared.intervals.Interval.{Interval}
+use Rattle.value_domain.specs.declared.row_cells.Cell.{Cell}
+use Rattle.store_domain_sound_programs.specs.Premises.{HasPremises}
 use Rattle.store_domain_sound_programs.proofs.WellFormedPremises.{meets_premises}
 use Rattle.abstract_steps_rows.specs.IntervalEnds.{interval_ends}
-use Rattle.abstract_steps_laws_programs.proofs.RegularPrograms.{regular_of}
+use Rattle.abstract_steps_laws_programs.proofs.RegularPrograms.{Regular, regular_of}
 use Rattle.abstract_steps_laws_programs.proofs.WellFormed.{laid_out}
 use Rattle.abstract_steps_laws_own_starts.proofs.RegularStarts.{regular_fits}
-use Rattle.abstract_steps_covered.proofs.Covering.{runs_covered}
-use Rattle.abstract_steps_sound_analyses.specs.SoundAnalyses.{FindsEachPair}
-use Rattle.abstract_steps_sound_analyses.proofs.SoundAnalyses.{standard_held, steps, ends, typed_runs}
+use Rattle.abstract_steps_covered.specs.Covering.{Begins, Carries, HasTypedRuns}
+use Rattle.abstract_steps_covered.proofs.Covering.{runs_covered, runs_typed_by_rows}
+use Rattle.abstract_steps_sound_maps.specs.CarriedMaps.{EntryStands}
+use Rattle.abstract_steps_sound_operands.proofs.TypedMaps.{map_types}
+use Rattle.abstract_steps_sound_analyses.specs.SoundAnalyses.{Suffices, FindsEachPair}
+use Rattle.abstract_steps_sound_analyses.proofs.SoundAnalyses.{standard_held, steps, ends}
 use Rattle.abstract_steps_sound_analyses.proofs.FoundRuns.{suffices}
 use Rattle.abstract_steps_sound_entries.proofs.EntryRows.{entry_stands}
 use Rattle.abstract_steps_sound_lowered_starts.proofs.LoweredStarts.{lowered_starts}
+use Rattle.abstract_steps_sound_checked_starts.proofs.CheckedStarts.{sound_structs, unit_starts}
 use Rattle.cert_check_text.specs.LineWords.{Bytes}
 use Rattle.cert_check_reading.specs.GreatestRows.{cert_numbers}
 use Rattle.cert_check_reading.specs.MapReading.{map_rows}
+use Rattle.cert_check.specs.Verdicts.{cert_cells, cert_machine}
 use Rattle.cert_check_laws.proofs.VerdictProofs.{closed_if_accepted}
-use Rattle.cert_check_programs.specs.Certificates.{IsVerified}
-use Rattle.cert_check_programs.specs.declared.checked_maps.Verified.TheVariants.{Found}
-use Rattle.cert_check_sound.specs.SoundCertificates.{IsCertifiable, HoldsPairsOfUnits, HoldsPairsOfLowered}
+use Rattle.cert_check_programs.specs.Certificates.{look_numbers, IsLookedAt, IsShown}
+use Rattle.cert_check_sound.specs.SoundCertificates.{HoldsPairsOfUnits, HoldsPairsOfLowered, HoldsPairsOfChecked}
 use Rattle.cert_check_sound.proofs.CertifiedMaps.{certified_begins, certified_carried}
 
-pub certifiable_of : (flow : Flow) (list : List ℤ) (found : List Diag) → IsAnalysis flow list found → IsCertifiable flow list
-certifiable_of flow list found a = record {
-  started = a.started;
-  regular = a.regular;
-  checked = a.checked;
-  rows = a.rows;
-  inductive = a.inductive;
-  typed = a.typed;
-}
+module _ (flow : Flow) (look : IsLookedAt flow) where
+  regular : Regular flow look_numbers
+  regular = regular_of flow look_numbers look.regular
 
-pub holds_each_pair : (flow : Flow) (list : List ℤ) (text : Bytes) (found : Vec Diag) → IsCertifiable flow list → IsVerified flow text (Found found) → FindsEachPair flow list found.items
-holds_each_pair flow list text found c verified u start v there =
-    let regular = regular_of flow list c.regular in
-    let premises = meets_premises standard_limits flow standard_held regular.well_formed in
-    let laid = laid_out standard_limits flow regular.well_formed (omega (arith)) in
-    let enough = suffices flow list c.regular c.checked in
-    let closed = closed_if_accepted flow text verified.0 in
-    let begins = certified_begins interval_order interval_rounding interval_heights interval_bounding interval_ends cert_numbers refl flow laid premises.shaped.few (map_rows flow text) closed list (regular_fits flow list c.regular c.checked.reaches c.started) u start in
-    let carried = certified_carried interval_order interval_rounding interval_heights interval_bounding interval_ends cert_numbers refl flow laid premises.shaped.few (map_rows flow text) closed in
-    let typed = typed_runs flow list c.regular enough u start c.rows c.inductive c.typed in
-    let covered = runs_covered _ _ _ flow standard_limits regular.well_formed (steps flow list c.regular enough) (ends flow list c.regular enough) u (map_rows flow text) begins carried typed there.draws there.steps in
-    verified.1.kept (record { place = v.at; rule = v.rule }) (covered.all v there.there)
+  premises : HasPremises flow
+  premises = meets_premises standard_limits flow standard_held regular.well_formed
 
-module _ (flow : Flow) (list : List ℤ) (text : Bytes) (found : Vec Diag) (c : IsCertifiable flow list) (verified : IsVerified flow text (Found found)) where
-  pub units_held : HoldsPairsOfUnits flow found.items
-  units_held u starts v there = holds_each_pair flow list text found c verified u (entry_stands flow list c.regular c.checked.reaches c.started u starts) v there
+  enough : Suffices flow look_numbers
+  enough = suffices flow look_numbers look.regular look.checked
 
-  pub lowered_held : HoldsPairsOfLowered flow found.items
+  module _ (u : UnitView) (start : EntryStands interval_lattice interval_numbers Stands flow look_numbers u) where
+    module _ (rows : List (Option (List (Cell Interval)))) (closed : IsClosed cert_cells (cert_machine flow) rows) where
+      begins : Begins interval_lattice interval_numbers Stands flow u rows
+      begins =
+          certified_begins interval_order interval_rounding interval_heights interval_bounding interval_ends cert_numbers refl flow (laid_out standard_limits flow regular.well_formed (omega (arith))) premises.shaped.few rows closed
+          look_numbers (regular_fits flow look_numbers look.regular look.checked.reaches look.started) u start
+
+      carried : Carries interval_lattice interval_numbers Stands flow rows
+      carried = certified_carried interval_order interval_rounding interval_heights interval_bounding interval_ends cert_numbers refl flow (laid_out standard_limits flow regular.well_formed (omega (arith))) premises.shaped.few rows closed
+
+  module _ (text : Bytes) (found : List Diag) (shown : IsShown flow text found) where
+    holds_looked_at : FindsEachPair flow look_numbers found
+    holds_looked_at u start v there =
+        let closed = closed_if_accepted flow text shown.accepted in
+        let other = closed_if_accepted flow shown.typing shown.typed.accepted in
+        let typed : HasTypedRuns flow u =
+        runs_typed_by_rows _ _ _ flow standard_limits regular.well_formed (steps flow look_numbers look.regular enough) (ends flow look_numbers look.regular enough) u
+        (map_rows flow shown.typing) (begins u start (map_rows flow shown.typing) other) (carried u start (map_rows flow shown.typing) other) (map_types interval_bounding flow (map_rows flow shown.typing) shown.typed.typed) in
+        let covered =
+        runs_covered _ _ _ flow standard_limits regular.well_formed (steps flow look_numbers look.regular enough) (ends flow look_numbers look.regular enough) u
+        (map_rows flow text) (begins u start (map_rows flow text) closed) (carried u start (map_rows flow text) closed) typed there.draws there.steps in
+        shown.pairs.kept (record { place = v.at; rule = v.rule }) (covered.all v there.there)
+
+module _ (flow : Flow) (text : Bytes) (found : List Diag) (shown : IsShown flow text found) where
+  pub holds_each_pair : FindsEachPair flow look_numbers found
+  holds_each_pair = holds_looked_at flow shown.looked_at text found shown
+
+  pub units_held : HoldsPairsOfUnits flow found
+  units_held u starts v there = holds_each_pair u (entry_stands flow look_numbers shown.looked_at.regular shown.looked_at.checked.reaches shown.looked_at.started u starts) v there
+
+  pub lowered_held : HoldsPairsOfLowered flow found
   lowered_held u limits is initializers integers = units_held u (lowered_starts u limits flow is initializers integers)
+
+  pub checked_held : HoldsPairsOfChecked flow found
+  checked_held u is = units_held u (unit_starts u flow (sound_structs flow look_numbers shown.looked_at.regular shown.looked_at.checked.structs) is)

@@ -76,8 +76,9 @@ use Rattle.cert_check_reading.specs.CellReading.{cell_read}
 use Rattle.cert_check_reading.specs.BlockReading.{block_read}
 use Rattle.cert_check_reading.specs.MapReading.{has_head, head_read, map_rows, map_reading, is_whole}
 use Rattle.cert_check_edges.specs.MapFaults.{starts_below}
-use Rattle.cert_check.specs.Verdicts.{cert_cells, cert_machine}
-use Rattle.cert_check_programs.specs.Certificates.{IsVerified}
+use Rattle.cert_check.specs.Verdicts.{cert_cells, cert_machine, IsVerdictOn}
+use Rattle.cert_check.specs.declared.verdicts.Verdict.TheVariants.{Yes}
+use Rattle.cert_check_programs.specs.Certificates.{look_numbers, IsVerified}
 use Rattle.cert_check_programs.specs.declared.checked_maps.Verified.TheVariants.{Found}
 
 none_some : {A : Type 0} (x : A) → None ≡ Some x → ⊥
@@ -254,11 +255,25 @@ module _ (some : Flow) where
   unfolding IsStrictlySortedBy
   ordered = record { ascending = (tt, tt); kept = λ d h. h; made = λ d h. h }
 
+  accepted : IsVerdictOn program text Yes
+  accepted = (whole, (subst (λ rs. starts_below cert_cells (cert_machine program) rs ≡ true) (sym rows_are) below, λ e lt. absurd (omega (arith, lt))))
+
+  -- by the certificate's own rows operands lie within their types
+  row_typed : is_typed_map interval_lattice interval_numbers program (Some row ∷ []) ≡ true
+  unfolding is_typed_map is_typed_block are_typed has_operands operate constant_step binary_step put_number value_at between_or_empty bases_below
+  row_typed = refl
+
+  look_regular : is_regular program look_numbers ≡ true
+  look_regular = refl
+
   pub verified : IsVerified program text (Found found)
-  verified = (
-    (whole, (subst (λ rs. starts_below cert_cells (cert_machine program) rs ≡ true) (sym rows_are) below, λ e lt. absurd (omega (arith, lt)))),
-    subst (λ rs. IsOrderedSet (admitted_pairs program rs) found.items) (sym rows_are) (subst (λ ps. IsOrderedSet ps found.items) (sym pairs_are) ordered),
-  )
+  verified = record {
+    accepted = accepted;
+    pairs = subst (λ rs. IsOrderedSet (admitted_pairs program rs) found.items) (sym rows_are) (subst (λ ps. IsOrderedSet ps found.items) (sym pairs_are) ordered);
+    looked_at = record { started = started; regular = look_regular; checked = record { parts = refl; structs = refl; reaches = refl } };
+    typing = text;
+    typed = record { accepted = accepted; typed = subst (λ rs. is_typed_map interval_lattice interval_numbers program rs ≡ true) (sym rows_are) row_typed };
+  }
 
   pub beyond : (machine_of program type_list).own row ≡ false
   unfolding bases_below between_or_empty nearest

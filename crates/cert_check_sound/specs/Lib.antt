@@ -2,4 +2,3 @@ pub mod FittedRows
 pub mod CertifiedMaps
 pub mod SoundCertificates
 pub mod WorkedCertificates
-pub mod AnalysedMaps

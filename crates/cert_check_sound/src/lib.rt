@@ -4,7 +4,6 @@
 mod theorems;
 
 pub use theorems::{
-    accepted_certificates_hold_runs, accepted_certificates_hold_units,
-    analysed_programs_are_certifiable, closed_maps_are_carried, closed_maps_begin,
-    fitted_rows_stand_for_more, inductive_maps_are_closed, premises_can_be_met,
+    accepted_certificates_hold_runs, accepted_certificates_hold_units, closed_maps_are_carried,
+    closed_maps_begin, fitted_rows_stand_for_more, premises_can_be_met,
 };

@@ -1,26 +1,18 @@
 //! Rows may have offsets, sizes and first zeros below 0 in a certificate, which no row of an analysis has. So soundness
 //! goes by what rows stand for, and not by laws on larger rows.
-ghost use Rattle.std.specs.Prelude.{◌≡◌, ℤ, true, List};
+ghost use Rattle.std.specs.Prelude.{ℤ, List};
 ghost use Rattle.std.specs.Global.{Vec};
 ghost use Rattle.cc_base.specs.declared.diagnostics.Diag.{Diag};
 ghost use Rattle.c_layout.specs.CheckedUnits.{UnitView};
 ghost use Rattle.flow_program.specs.declared.programs.Flow.{Flow};
-ghost use Rattle.interval_domain.specs.IntervalLattice.{interval_lattice};
-ghost use Rattle.interval_domain.specs.IntervalNumbers.{interval_numbers};
 ghost use Rattle.lib_models_effects.specs.Worlds.{Violation};
-ghost use Rattle.flow_analysis.specs.Analyses.{IsAnalysis};
-ghost use Rattle.abstract_steps_system.specs.FlowMachines.{has_start};
-ghost use Rattle.abstract_steps_laws_programs.specs.RegularPrograms.{is_regular};
-ghost use Rattle.abstract_steps_laws_own_rows.specs.OwnLists.{ReachesTypes};
 ghost use Rattle.abstract_steps_laws_own_starts.specs.CutStarts.{type_list};
 ghost use Rattle.abstract_steps_sound_analyses.specs.SoundAnalyses.{FindsEachPair};
 ghost use Rattle.cert_check_text.specs.LineWords.{Bytes};
-ghost use Rattle.cert_check_programs.specs.Certificates.{IsVerified};
-ghost use Rattle.cert_check_programs.specs.declared.checked_maps.Verified.TheVariants.{Found};
+ghost use Rattle.cert_check_programs.specs.Certificates.{look_numbers, IsShown};
 ghost use Rattle.cert_check_sound.specs.FittedRows.{FittedRowsStandForMore};
 ghost use Rattle.cert_check_sound.specs.CertifiedMaps.{ClosedMapsAreCarried, ClosedMapsBegin};
-ghost use Rattle.cert_check_sound.specs.SoundCertificates.{IsCertifiable, HoldsPairsOfUnits, HoldsPairsOfLowered};
-ghost use Rattle.cert_check_sound.specs.AnalysedMaps.{InductiveMapsAreClosed};
+ghost use Rattle.cert_check_sound.specs.SoundCertificates.{HoldsPairsOfUnits, HoldsPairsOfLowered, HoldsPairsOfChecked};
 ghost use Rattle.cert_check_sound.specs.WorkedCertificates.{IsAcceptedBeyond};
 
 use abstract_steps_rows::Bounded;
@@ -42,32 +34,22 @@ pub fn closed_maps_begin<I: Bounded>()
     ensures { (flow : Flow) (list other : List ℤ) → ClosedMapsBegin I.lattice I.numbers I.stands flow list other }
 {}
 
-/// Each rule that a run of a program violates at a place is among what is found by a certificate that is accepted, where
-/// what is supposed of the program and of its operands is decided by a computation.
+/// Each rule that a run of a program violates at a place is among what is found by a certificate that is accepted, where the
+/// row of the entry stands for the start of the unit.
 pub fn accepted_certificates_hold_runs()
-    ensures { (flow : Flow) (list : List ℤ) (text : Bytes) (found : Vec Diag) → IsCertifiable flow list → IsVerified flow text (Found found) → FindsEachPair flow list found.items }
+    ensures { (flow : Flow) (text : Bytes) (found : List Diag) → IsShown flow text found → FindsEachPair flow look_numbers found }
 {}
 
 /// So is each rule that a run of a unit violates, where the program begins with what is in the unit's tables, and so where it
-/// is the unit's lowered program.
+/// is the lowered program of the unit. Of a checked unit nothing else is supposed.
 pub fn accepted_certificates_hold_units()
-    ensures units { (flow : Flow) (list : List ℤ) (text : Bytes) (found : Vec Diag) → IsCertifiable flow list → IsVerified flow text (Found found) → HoldsPairsOfUnits flow found.items }
-    ensures lowered { (flow : Flow) (list : List ℤ) (text : Bytes) (found : Vec Diag) → IsCertifiable flow list → IsVerified flow text (Found found) → HoldsPairsOfLowered flow found.items }
-{}
-
-/// What is supposed of a program holds of each one that was analysed.
-pub fn analysed_programs_are_certifiable()
-    ensures { (flow : Flow) (list : List ℤ) (found : List Diag) → IsAnalysis flow list found → IsCertifiable flow list }
+    ensures units { (flow : Flow) (text : Bytes) (found : List Diag) → IsShown flow text found → HoldsPairsOfUnits flow found }
+    ensures lowered { (flow : Flow) (text : Bytes) (found : List Diag) → IsShown flow text found → HoldsPairsOfLowered flow found }
+    ensures checked { (flow : Flow) (text : Bytes) (found : List Diag) → IsShown flow text found → HoldsPairsOfChecked flow found }
 {}
 
 /// There is a program, which divides by 0, with an analysis that finds this, and a certificate of it that is accepted, with
 /// a pointer from 5 bytes before an object: no row of an analysis of it has one.
 pub fn premises_can_be_met()
     ensures { Flow → (flow : Flow) × (text : Bytes) × (found : Vec Diag) × (u : UnitView) × (v : Violation) × IsAcceptedBeyond flow type_list text found u v }
-{}
-
-/// Each inductive map of a regular program's system, as the one that the solver finds, is a closed map of the system of its
-/// certificates.
-pub fn inductive_maps_are_closed()
-    ensures { (flow : Flow) (list : List ℤ) → is_regular flow list ≡ true → ReachesTypes list → has_start interval_lattice interval_numbers flow ≡ true → InductiveMapsAreClosed flow list }
 {}

@@ -1,6 +1,6 @@
 //! One call of the program over files in memory.
 use cc_base::{MemSink, MemTree};
-use report_cli::run;
+use report_cli_answers::answer_words;
 use std::alloc::Global;
 use std::process::Abort;
 use std::test::Fail;
@@ -33,7 +33,7 @@ pub(crate) fn answer(
     }
     let mut tree = tree;
     let mut sink = MemSink::new(alloc, 65536, None)?;
-    let told = run(alloc, list.as_slice(), &mut tree, &mut sink);
+    let told = answer_words(alloc, list.as_slice(), &mut tree, &mut sink);
     let found = str::from_utf8(sink.bytes()).unwrap_or("?");
     assert!(rt; told == status && found == text, "{words}: {found}");
     Ok(())

@@ -1,6 +1,6 @@
 //! One call of the program over files in memory.
 use cc_base::{MemSink, MemTree};
-use report_cli::run;
+use report_cli_answers::answer_words;
 use std::alloc::Global;
 use std::process::Abort;
 use std::test::Fail;
@@ -55,7 +55,7 @@ pub(crate) fn call(alloc: Global, words: &str, setting: Setting) -> Result<Told,
     }
     let mut tree = setting.tree;
     let mut sink = MemSink::new(alloc, 65536, setting.most)?;
-    let status = run(alloc, list.as_slice(), &mut tree, &mut sink);
+    let status = answer_words(alloc, list.as_slice(), &mut tree, &mut sink);
     let text = Vec::from_slice(alloc, sink.bytes())?;
     Ok(Told { status, text })
 }

@@ -16,6 +16,10 @@ const LOOP: &str = "int main(void){int i;for(i=0;i<10;i++){}return 1/(i-10);}";
 /// A loop over an array, which breaks no rule.
 const FILLED: &str = "int main(void){int a[10];int i;for(i=0;i<10;i++)a[i]=i;return 0;}";
 
+/// A certificate of the loop whose numbers are beyond those of int.
+const WIDE: &str =
+    "ccheck-cert 1 6 4\nr 0\nr 1\n0 v - 1 0 0 - - - 0 0 0\nr 3\n0 v -18446744073709551616:18446744073709551616 0 0 0 - - - 0 0 0\n1 v - 0 0 1 0:0 0:0 4:4 0 0 0\n2 v -18446744073709551616:18446744073709551616 0 0 0 - - - 0 0 0\nr 3\n0 v -18446744073709551616:18446744073709551616 0 0 0 - - - 0 0 0\n1 v -18446744073709551616:18446744073709551616 0 0 0 - - - 0 0 0\n2 v -18446744073709551616:18446744073709551616 0 0 0 - - - 0 0 0\nr 3\n0 v -18446744073709551616:18446744073709551616 0 0 0 - - - 0 0 0\n1 v -18446744073709551616:18446744073709551616 0 0 0 - - - 0 0 0\n2 v -18446744073709551616:18446744073709551616 0 0 0 - - - 0 0 0\nu\n";
+
 const REFUSED: &str = "ccheck: words refused\n";
 
 const PROOFS: [Call; 5] = [
@@ -46,7 +50,7 @@ fn proofs(rt: HostRuntime) -> Result<(), Fail> {
     answer_all(&rt, rt.alloc(), &PROOFS)
 }
 
-const CHECKS: [Call; 9] = [
+const CHECKS: [Call; 10] = [
     (
         &[("a.c", DIVISION), ("c.txt", CERTIFICATE)],
         "verify a.c --cert c.txt",
@@ -58,6 +62,12 @@ const CHECKS: [Call; 9] = [
         "verify a.c --cert c.txt --format json --turns 3",
         1,
         FOUND,
+    ),
+    (
+        &[("a.c", LOOP), ("c.txt", WIDE)],
+        "verify a.c --cert c.txt",
+        1,
+        "a.c:1:36: intoflow: signed result is out of range\na.c:1:49: diverr: division is undefined\na.c:1:52: intoflow: signed result is out of range\n3 diagnostics in a.c\n",
     ),
     (
         &[("a.c", DIVISION), ("c.txt", "ccheck-cert 1 2 4\nu\nu\n")],
@@ -99,7 +109,7 @@ const CHECKS: [Call; 9] = [
 ];
 
 #[test]
-fn checks(rt: HostRuntime) -> Result<(), Fail> {
+fn what_a_certificate_shows_is_printed(rt: HostRuntime) -> Result<(), Fail> {
     answer_all(&rt, rt.alloc(), &CHECKS)
 }
 

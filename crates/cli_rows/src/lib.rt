@@ -22,6 +22,8 @@ mod literal_rows;
 #[cfg(test)]
 mod load_rows;
 #[cfg(test)]
+mod memory_rows;
+#[cfg(test)]
 mod preprocessing_rows;
 #[cfg(test)]
 mod program_rows;

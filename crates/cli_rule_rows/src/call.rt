@@ -1,6 +1,6 @@
 //! `check a.c` on a unit in memory.
 use cc_base::{MemSink, MemTree};
-use report_cli::run;
+use report_cli_answers::answer_words;
 use std::alloc::Global;
 use std::process::Abort;
 use std::test::Fail;
@@ -26,7 +26,7 @@ pub(crate) fn checked(alloc: Global, source: &str) -> Result<Told, Fail> {
     let mut tree = MemTree::new(alloc, Vec::new(alloc));
     tree.add("a.c", source.as_bytes())?;
     let mut sink = MemSink::new(alloc, 65536, None)?;
-    let status = run(alloc, words.as_slice(), &mut tree, &mut sink);
+    let status = answer_words(alloc, words.as_slice(), &mut tree, &mut sink);
     let text = Vec::from_slice(alloc, sink.bytes())?;
     Ok(Told { status, text })
 }

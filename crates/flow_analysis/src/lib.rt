@@ -7,4 +7,6 @@ mod laid_apart;
 mod program_analysis;
 mod regular_programs;
 
+pub use checked_programs::see_checked;
 pub use program_analysis::{analyse, analyse_counted};
+pub use regular_programs::is_regular;

@@ -2,3 +2,4 @@ pub mod OrderedSets
 pub mod LeastAnalyses
 pub mod CountedSteps
 mod WrongTables
+mod WholeTypes

@@ -103,7 +103,7 @@ known u templates table n prepared reached =
     let reaches : (m : ℕ) → Calls x.template.pieces m → Reaches u m = λ m calls. further n m x.function x.template reached x.is_template calls in
     let each = all_called (Reaches u) x.template.pieces reaches in
     let all_there = are_there table x.template.pieces (all_called (λ m. is_there (slice_get table m) ≡ true) x.template.pieces (λ m calls. counted_at (reaches m calls))) in
-    let here : IsSettled u n (settled table x.template) = record { function = x.function; template = x.template; table = table; is_template = x.is_template; reached = reached; all_counted = all_there; are_counts = prepared.are_counts; settles = refl } in
+    let here : IsSettled u n (settled table x.template) = record { function = x.function; template = x.template; table = table; is_template = x.is_template; few = x.few; reached = reached; all_counted = all_there; are_counts = prepared.are_counts; settles = refl } in
     let same = one_settled u n s (settled table x.template) x here in
     let made = one_count u n c (counts_from u n x.function x.template table) (prepared.are_counts n c is) (counts n x.function x.template table x.is_template all_there prepared.are_counts) in
     record {

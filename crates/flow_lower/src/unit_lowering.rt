@@ -8,6 +8,7 @@ ghost use Rattle.flow_program.specs.WellFormed.{is_well_formed};
 ghost use Rattle.flow_lower_counts.specs.Preparations.{templates_view};
 ghost use Rattle.flow_lower_counts.specs.SizeRefusals.{IsTooLarge};
 ghost use Rattle.flow_lower_objects.specs.PlainObjects.{has_plain_objects};
+ghost use Rattle.flow_lower_units.specs.RegularUnits.{is_regular_unit};
 ghost use Rattle.flow_program_views.specs.ProgramViews.{flow_view};
 ghost use Rattle.flow_lower.specs.Openings.{program_view};
 ghost use Rattle.flow_lower.specs.Lowerings as spec;
@@ -24,6 +25,7 @@ use flow_lower_counts::{
     unit_counts, within,
 };
 use flow_lower_objects::with_plain_objects;
+use flow_lower_units::with_regular_functions;
 use flow_program::{Flow, ParameterInput};
 use flow_program_checks::well_formed;
 use flow_program_views::structure_copies;
@@ -67,13 +69,15 @@ fn inputs(alloc: Global, entry: &Function) -> Result<Vec<ParameterInput>, AllocE
     Ok(list)
 }
 
-/// The entry of a unit whose objects are plain.
-fn plain_entry(unit: &Checked) -> Result<&Function, AllocError>
+/// The entry of a unit whose objects are plain and whose functions are regular.
+fn looked_at_entry(alloc: Global, unit: &Checked) -> Result<&Function, AllocError>
     ensures plain { IfOk result (λ f. has_plain_objects (unit_view unit.now) ≡ true) }
+    ensures regular { IfOk result (λ f. is_regular_unit (unit_view unit.now) ≡ true) }
     ensures found { IfOk result (λ f. slice_get (unit_view unit.now).functions unit.now.entry ≡ Some (function_view f.now)) }
     ensures only { IfOk result (λ f. (e : Function) → slice_get unit.now.functions.items unit.now.entry ≡ Some e → f.now ≡ e) }
 {
     with_plain_objects(unit)?;
+    with_regular_functions(alloc, unit)?;
     unit.functions.get(unit.entry as usize).ok_or(AllocError)
 }
 
@@ -129,9 +133,10 @@ fn counted(alloc: Global, unit: &Checked, found: &PreparedUnit) -> Result<UnitCo
 
 /// The control-flow program of a checked unit: the entry with every call of a function of the unit put
 /// in at its place. It is refused where a count passes its limit; the counts are made first, from the
-/// functions that are called up to the entry, so that nothing is made of a unit that is too large. What
-/// is made is looked at before it is given away: a program that is not well formed, or that has other
-/// bases or cells than were counted, would come to want of memory.
+/// functions that are called up to the entry, so that nothing is made of a unit that is too large. The
+/// unit is looked at before all else, and what is made before it is given away: a unit such as typing
+/// does not make, a program that is not well formed, or one that has other bases or cells than were
+/// counted, would come to want of memory.
 pub fn lower(alloc: Global, unit: &Checked, limits: &Limits) -> Result<Flow, Stop>
     ensures model { IfOk result (λ f. f.model ≡ unit.now.model) }
     ensures entry { IfOk result (λ f. (e : Function) → slice_get unit.now.functions.items unit.now.entry ≡ Some e → f.entry ≡ e.place) }
@@ -140,10 +145,11 @@ pub fn lower(alloc: Global, unit: &Checked, limits: &Limits) -> Result<Flow, Sto
     ensures lowering { IfOk result (λ f. IsLowering (unit_view unit.now) limits.now (flow_view f)) }
     ensures counted { IfOk result (λ f. (is : IsLowering (unit_view unit.now) limits.now (flow_view f)) → HasJust is.counts (flow_view f)) }
     ensures plain { IfOk result (λ f. has_plain_objects (unit_view unit.now) ≡ true) }
+    ensures regular { IfOk result (λ f. is_regular_unit (unit_view unit.now) ≡ true) }
     ensures refusal { IfErr result (λ s. Refuses (unit_view unit.now) limits.now s) }
     ensures cause { IfErr result (λ s. (e : Function) → slice_get unit.now.functions.items unit.now.entry ≡ Some e → IsTooLarge limits.now e.place s) }
 {
-    let entry = plain_entry(unit)?;
+    let entry = looked_at_entry(alloc, unit)?;
     let found = prepared(alloc, unit)?;
     let counts = counted(alloc, unit, &found)?;
     all_within(entry.place, counts, limits)?;

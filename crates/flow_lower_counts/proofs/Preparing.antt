@@ -1,5 +1,5 @@
 -- The functions that the entry reaches are settled and counted one after another.
-use Rattle.std.proofs.Common.{◌≡◌, ◌==◌, ◌<◌, ◌⊎◌, inl, inr, ℕ, zero, suc, Bool, true, false, cond, List, [], ◌∷◌, Option, Some, None, length, replicate, refl, ap, sym, subst, ◌∙◌}
+use Rattle.std.proofs.Common.{◌≡◌, ◌==◌, ◌≤◌, ◌<◌, ◌-◌, ◌^◌, ◌⊎◌, inl, inr, ℕ, zero, suc, Bool, true, false, cond, List, [], ◌∷◌, Option, Some, None, length, replicate, refl, ap, sym, subst, ◌∙◌}
 use Rattle.std.specs.List.{slice_get, slice_set}
 use Rattle.std.proofs.lemmas.List.{length-set, length-replicate}
 use Rattle.c_layout.specs.CheckedUnits.{FunctionView, UnitView}
@@ -15,14 +15,14 @@ some_same : {A : Type 0} (x y : A) → Some x ≡ Some y → x ≡ y
 some_same x y is = cc
 
 -- the template that was made, or one that was there
-made_at : (u : UnitView) (n m : ℕ) (f : FunctionView) (t s : TemplateView) (old : List (Option TemplateView)) → IsTemplateOf u n f t → Reaches u n → AreMade u old → ((m ≡ n) × (Some s ≡ Some t)) ⊎ (slice_get old m ≡ Some (Some s)) → IsReached u m s
-made_at u n m f t s old is reached made (inl p) =
-    subst (λ k. IsReached u k s) (sym p.0) (subst (λ v. IsReached u n v) (sym (some_same s t p.1)) (record { function = f; is_template = is; reached = reached }))
-made_at u n m f t s old is reached made (inr was) = made m s was
+made_at : (u : UnitView) (n m : ℕ) (f : FunctionView) (t s : TemplateView) (old : List (Option TemplateView)) → IsTemplateOf u n f t → t.labels ≤ 2 ^ 32 - 1 → Reaches u n → AreMade u old → ((m ≡ n) × (Some s ≡ Some t)) ⊎ (slice_get old m ≡ Some (Some s)) → IsReached u m s
+made_at u n m f t s old is few reached made (inl p) =
+    subst (λ k. IsReached u k s) (sym p.0) (subst (λ v. IsReached u n v) (sym (some_same s t p.1)) (record { function = f; is_template = is; reached = reached; few = few }))
+made_at u n m f t s old is few reached made (inr was) = made m s was
 
 pub still_made : (u : UnitView) (n : ℕ) (old new : List (Option TemplateView)) → IsMade u n old new → Reaches u n → AreMade u old → AreMade u new
 still_made u n old new is reached made m s there =
-    made_at u n m is.function is.template s old is.is_template reached made (set_cases old n m (Some is.template) (Some s) (sym (ap (λ ts. slice_get ts m) is.comes) ∙ there))
+    made_at u n m is.function is.template s old is.is_template is.few reached made (set_cases old n m (Some is.template) (Some s) (sym (ap (λ ts. slice_get ts m) is.comes) ∙ there))
 
 -- a function that one calls which has a template
 pub reaches_called : (u : UnitView) (ts : List (Option TemplateView)) (n m : ℕ) → AreMade u ts → CallsOf ts n m → Reaches u m
@@ -137,7 +137,7 @@ still_holds u n old new is h =
     let k = is.counting in
     let r = h.made n is.template is.was in
     let named = template_of u n k.function is.template k.stands r in
-    let settles : IsSettled u n is.settles = record { function = k.function; template = is.template; table = old.table; is_template = named; reached = r.reached; all_counted = k.all_counted; are_counts = h.settled.are_counts; settles = k.settles } in
+    let settles : IsSettled u n is.settles = record { function = k.function; template = is.template; table = old.table; is_template = named; few = r.few; reached = r.reached; all_counted = k.all_counted; are_counts = h.settled.are_counts; settles = k.settles } in
     let count : Counts u n is.counts = subst (λ c. Counts u n c) (sym k.counts) (counts n k.function is.template old.table named k.all_counted h.settled.are_counts) in
     let all = one_settled u n k.function is.template is.settles is.counts old.templates old.table is.within settles (k.function, is.template, named, k.all_counted) count h.settled in
     record {

@@ -1,6 +1,6 @@
 -- The functions that the entry reaches, and the templates and counts of each, from those of the functions
 -- that it calls.
-use Rattle.std.specs.Prelude.{◌≡◌, ℕ, Bool, true, false, cond, ◌==◌, List, [], ◌∷◌, length, map, slice_get, Option, Some, None}
+use Rattle.std.specs.Prelude.{◌≡◌, ◌≤◌, ◌-◌, ◌^◌, ℕ, Bool, true, false, cond, ◌==◌, List, [], ◌∷◌, length, map, slice_get, Option, Some, None}
 use Rattle.std.specs.Option.{option_map}
 use Rattle.c_layout.specs.CheckedUnits.{FunctionView, UnitView}
 use Rattle.flow_lower_tasks.specs.Pieces.{PieceView, Do, DoIfUsed, End, Mark, Call, TemplateView, template_view}
@@ -66,12 +66,13 @@ pub data Counts (u : UnitView) : ℕ → FunctionCounts → Type 0 where
 abbrev pub AreCounts : UnitView → List (Option FunctionCounts) → Type 0
 AreCounts u table = (m : ℕ) (c : FunctionCounts) → slice_get table m ≡ Some (Some c) → Counts u m c
 
--- the settled template of a function that is reached
+-- the settled template of a function that is reached; as they are made, templates have labels of 32 bits
 pub record IsSettled (u : UnitView) (n : ℕ) (s : TemplateView) : Type 0 where
   pub function : FunctionView
   pub template : TemplateView
   pub table : List (Option FunctionCounts)
   pub is_template : IsTemplateOf u n function template
+  pub few : template.labels ≤ 2 ^ 32 - 1
   pub reached : Reaches u n
   pub all_counted : are_counted table template.pieces ≡ true
   pub are_counts : AreCounts u table

@@ -1,5 +1,5 @@
 -- The steps to the templates and counts of a unit's functions.
-use Rattle.std.specs.Prelude.{◌≡◌, ◌<◌, ℕ, true, List, length, slice_get, slice_set, Option, Some, None}
+use Rattle.std.specs.Prelude.{◌≡◌, ◌≤◌, ◌<◌, ◌-◌, ◌^◌, ℕ, true, List, length, slice_get, slice_set, Option, Some, None}
 use Rattle.c_layout.specs.CheckedUnits.{FunctionView, UnitView}
 use Rattle.flow_lower_tasks.specs.Pieces.{TemplateView}
 use Rattle.flow_lower_tasks.specs.declared.template_pieces.Template.{Template}
@@ -12,17 +12,19 @@ use Rattle.flow_lower_counts.specs.Preparations.{templates_view, IsTemplateOf, C
 abbrev pub CallsOf : List (Option TemplateView) → ℕ → ℕ → Type 0
 CallsOf ts n m = (t : TemplateView) × (slice_get ts n ≡ Some (Some t)) × Calls t.pieces m
 
--- the template of a function comes in its place
+-- the template of a function, whose labels are numbers of 32 bits, comes in its place
 pub record IsMade (u : UnitView) (n : ℕ) (old new : List (Option TemplateView)) : Type 0 where
   pub function : FunctionView
   pub template : TemplateView
   pub is_template : IsTemplateOf u n function template
+  pub few : template.labels ≤ 2 ^ 32 - 1
   pub comes : new ≡ slice_set old n (Some template)
 
 pub record IsReached (u : UnitView) (n : ℕ) (t : TemplateView) : Type 0 where
   pub function : FunctionView
   pub is_template : IsTemplateOf u n function t
   pub reached : Reaches u n
+  pub few : t.labels ≤ 2 ^ 32 - 1
 
 -- each template is that of its function, which the entry reaches
 abbrev pub AreMade : UnitView → List (Option TemplateView) → Type 0

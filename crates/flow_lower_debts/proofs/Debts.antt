@@ -1,5 +1,5 @@
 -- The marks that planned works are still to make.
-use Rattle.std.proofs.Common.{◌≡◌, ◌<◌, ◌⊎◌, ℕ, ◌+◌, ◌-◌, ◌==◌, Bool, true, false, cond, nat_le, List, [], ◌∷◌, ◌++◌, length, Option, Some, None, slice_get, refl, arith, ap, sym, subst, ◌∙◌}
+use Rattle.std.proofs.Common.{◌≡◌, ◌≤◌, ◌<◌, ◌⊎◌, ℕ, ◌+◌, ◌-◌, ◌^◌, ◌==◌, Bool, true, false, cond, nat_le, List, [], ◌∷◌, ◌++◌, length, Option, Some, None, slice_get, refl, arith, ap, sym, subst, ◌∙◌}
 use Rattle.c_layout.specs.CheckedTrees.{StatementTree, TermTree, LvalueTree}
 use Rattle.flow_lower_tasks.specs.Acts.{Step}
 use Rattle.flow_lower_tasks.specs.Pieces.{NameView, ExitView, Do, End, Mark, Call}
@@ -35,9 +35,17 @@ pub record IsFree (i : StatementTree) : Type 0 where
   pub cases : (n : ℕ) → cases_in n i ≡ 0
   pub defaults : defaults_in i ≡ 0
 
+-- the labels of the cases that stand in a statement are numbers of 32 bits
+abbrev pub HasRoom : Dispatch → StatementTree → Type 0
+HasRoom d i = (n : ℕ) → 1 ≤ cases_in n i → d.cases + n ≤ 2 ^ 32 - 1
+
+pub record IsAround (ds : List Dispatch) (i : StatementTree) (choice : ℕ) : Type 0 where
+  pub there : choice < length ds
+  pub room : (d : Dispatch) → slice_get ds choice ≡ Some d → HasRoom d i
+
 -- the switch around a statement is known, where its labels stand there
 abbrev pub IsPlaced : List Dispatch → StatementTree → ℕ → Type 0
-IsPlaced ds i choice = (choice < length ds) ⊎ IsFree i
+IsPlaced ds i choice = IsAround ds i choice ⊎ IsFree i
 
 pub record IsSound (ds : List Dispatch) (i : StatementTree) (choice : ℕ) : Type 0 where
   pub placed : IsPlaced ds i choice

@@ -1,5 +1,5 @@
 -- The marks that statements are to make are those of their labels and of labels that they give away.
-use Rattle.std.proofs.Common.{◌≡◌, ◌≤◌, ◌<◌, ◌⊎◌, inl, inr, ℕ, ◌+◌, ◌-◌, ◌^◌, ◌==◌, Bool, true, false, cond, nat_le, nat_lt, List, [], ◌∷◌, length, get_or, Option, Some, None, slice_get, refl, arith, ap, sym, subst, ◌∙◌}
+use Rattle.std.proofs.Common.{◌≡◌, ◌≤◌, ◌<◌, inl, inr, ℕ, ◌+◌, ◌-◌, ◌^◌, ◌==◌, Bool, true, false, cond, nat_le, nat_lt, List, [], ◌∷◌, length, get_or, Option, Some, None, slice_get, refl, arith, ap, sym, subst, ◌∙◌}
 use Rattle.std.proofs.lemmas.Bool.{leb-true, leb-false, eqb-true, cond-false}
 use Rattle.std.proofs.lemmas.Option.{slice_get-get_or}
 use Rattle.cc_base.specs.declared.diagnostics.Place.{Place}
@@ -71,18 +71,21 @@ owed_end_of s at p g = search (debts, owed_left) depth 30
 no_more : (m n : ℕ) → m ≤ n → n ≡ 0 → m ≡ 0
 no_more m n le e = omega (arith, le, e)
 
+some_more : (m n : ℕ) → 1 ≤ m → m ≤ n → 1 ≤ n
+some_more m n some le = omega (arith, some, le)
+
 -- what stands in a part stands in the whole
 pub placed_part : (ds : List Dispatch) (choice : ℕ) (whole piece : StatementTree) → ((n : ℕ) → cases_in n piece ≤ cases_in n whole) → defaults_in piece ≤ defaults_in whole → IsPlaced ds whole choice → IsPlaced ds piece choice
-placed_part ds choice whole piece cases defaults (inl there) = inl there
+placed_part ds choice whole piece cases defaults (inl k) = inl (record { there = k.there; room = λ d e n one_there. k.room d e n (some_more (cases_in n piece) (cases_in n whole) one_there (cases n)) })
 placed_part ds choice whole piece cases defaults (inr free) = inr (record { cases = λ n. no_more (cases_in n piece) (cases_in n whole) (cases n) (free.cases n); defaults = no_more (defaults_in piece) (defaults_in whole) defaults free.defaults })
 
-same_most : (n : ℕ) → n ≤ n
+pub same_most : (n : ℕ) → n ≤ n
 same_most n = omega arith
 
 first_most : (m n : ℕ) → m ≤ m + n
 first_most m n = omega arith
 
-second_most : (m n : ℕ) → n ≤ m + n
+pub second_most : (m n : ℕ) → n ≤ m + n
 second_most m n = omega arith
 
 -- the parts of a list of statements, as a block
@@ -280,29 +283,21 @@ paid_label {ds = ds} {l = l} before label body around p none sound g le =
     sum : (o x y b a c : ℕ) → o ≡ (0 + x) + y → x + y ≤ b → a ≤ c → o + a ≤ b + c
     sum o x y b a c e le more = omega (arith, e, le, more)
 
--- a case of a switch: no label stops at the last number
-one_behind : (l first n rest : ℕ) → (l ≡ 2 ^ 32 - 1 → ⊥) → one l (behind first n) + cond (nat_le first l) rest 0 ≤ cond (nat_le first l) (one (l - first) n + rest) 0
-one_behind l first n rest other = by (nat_le first l) refl
+-- a case of a switch whose label is a number of 32 bits
+one_behind : (l first n rest : ℕ) → first + n ≤ 2 ^ 32 - 1 → one l (behind first n) + cond (nat_le first l) rest 0 ≤ cond (nat_le first l) (one (l - first) n + rest) 0
+one_behind l first n rest room = by (nat_le first l) refl
   where
+    exact : behind first n ≡ first + n
+    exact = omega (arith, room)
+
     none : (x y : ℕ) → x ≡ 0 → x + 0 ≤ y
     none x y e = omega (arith, e)
 
     too_early : l < first → l ≡ behind first n → ⊥
-    too_early before e = other (omega (arith, before, e))
-
-    at_last : first ≤ l → l ≡ behind first n → (l - first ≡ n) ⊎ (l ≡ 2 ^ 32 - 1)
-    at_last le e = by (nat_le (first + n) (2 ^ 32 - 1)) refl
-      where
-        by : (b : Bool) → nat_le (first + n) (2 ^ 32 - 1) ≡ b → (l - first ≡ n) ⊎ (l ≡ 2 ^ 32 - 1)
-        by true small = let room = leb-true (first + n) (2 ^ 32 - 1) small in inl (omega (arith, le, e, room))
-        by false large = let past = leb-false (first + n) (2 ^ 32 - 1) large in inr (omega (arith, e, past))
+    too_early before e = omega (arith, before, e, exact)
 
     shifted : first ≤ l → l ≡ behind first n → l - first ≡ n
-    shifted le e = by (at_last le e)
-      where
-        by : (l - first ≡ n) ⊎ (l ≡ 2 ^ 32 - 1) → l - first ≡ n
-        by (inl is) = is
-        by (inr last) = absurd (other last)
+    shifted le e = omega (arith, le, e, exact)
 
     same : (x y k : ℕ) → x ≡ 1 → y ≡ 1 → x + k ≤ y + k
     same x y k e f = omega (arith, e, f)
@@ -331,14 +326,14 @@ no_free_default body free = apart (defaults_in body) free.defaults
     apart m f = omega (arith, f)
 
 -- the switch of a case label is known
-pub case_owed : (ds : List Dispatch) (l n : ℕ) (body : StatementTree) (choice : ℕ) → (l ≡ 2 ^ 32 - 1 → ⊥) → choice < length ds → one l (behind (get_or ds choice no_dispatch).cases n) + (labels_in l body + dispatched l (slice_get ds choice) body) ≤ labels_in l body + dispatched l (slice_get ds choice) (tree.Case n body)
-case_owed ds l n body choice other there = at (slice_get-get_or ds choice no_dispatch there)
+pub case_owed : (ds : List Dispatch) (l n : ℕ) (body : StatementTree) (choice : ℕ) → choice < length ds → (get_or ds choice no_dispatch).cases + n ≤ 2 ^ 32 - 1 → one l (behind (get_or ds choice no_dispatch).cases n) + (labels_in l body + dispatched l (slice_get ds choice) body) ≤ labels_in l body + dispatched l (slice_get ds choice) (tree.Case n body)
+case_owed ds l n body choice there room = at (slice_get-get_or ds choice no_dispatch there)
   where
     sum : (x y c f e : ℕ) → x + c ≤ e → x + (y + (c + f)) ≤ y + (e + f)
     sum x y c f e le = omega (arith, le)
 
     at : slice_get ds choice ≡ Some (get_or ds choice no_dispatch) → one l (behind (get_or ds choice no_dispatch).cases n) + (labels_in l body + dispatched l (slice_get ds choice) body) ≤ labels_in l body + dispatched l (slice_get ds choice) (tree.Case n body)
-    at e = subst (λ found. one l (behind (get_or ds choice no_dispatch).cases n) + (labels_in l body + dispatched l found body) ≤ labels_in l body + dispatched l found (tree.Case n body)) (sym e) (sum _ (labels_in l body) _ _ _ (one_behind l (get_or ds choice no_dispatch).cases n (cases_in (l - (get_or ds choice no_dispatch).cases) body) other))
+    at e = subst (λ found. one l (behind (get_or ds choice no_dispatch).cases n) + (labels_in l body + dispatched l found body) ≤ labels_in l body + dispatched l found (tree.Case n body)) (sym e) (sum _ (labels_in l body) _ _ _ (one_behind l (get_or ds choice no_dispatch).cases n (cases_in (l - (get_or ds choice no_dispatch).cases) body) room))
 
 -- so is that of a default label
 pub default_owed : (ds : List Dispatch) (l : ℕ) (body : StatementTree) (choice : ℕ) → choice < length ds → one l (get_or ds choice no_dispatch).fallback + (labels_in l body + dispatched l (slice_get ds choice) body) ≤ labels_in l body + dispatched l (slice_get ds choice) (tree.Default body)

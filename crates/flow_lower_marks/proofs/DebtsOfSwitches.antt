@@ -1,6 +1,6 @@
 -- The marks that a switch is to make: those of its cases, of its default label, of its edges and of its end.
-use Rattle.std.proofs.Common.{◌≡◌, ◌≤◌, ◌<◌, ℕ, ◌+◌, ◌-◌, ◌==◌, Bool, true, false, cond, nat_le, List, [], ◌∷◌, ◌++◌, length, Option, Some, None, slice_get, inl, refl, arith, ap, sym, subst, ◌∙◌, length-append}
-use Rattle.std.proofs.lemmas.Bool.{leb-true, leb-false}
+use Rattle.std.proofs.Common.{◌≡◌, ◌≤◌, ◌<◌, ℕ, ◌+◌, ◌-◌, ◌^◌, ◌==◌, Bool, true, false, cond, nat_le, nat_lt, List, [], ◌∷◌, ◌++◌, length, Option, Some, None, slice_get, inl, refl, arith, ap, sym, subst, ◌∙◌, length-append}
+use Rattle.std.proofs.lemmas.Bool.{leb-true, leb-false, ltb-true, ltb-false}
 use Rattle.std.proofs.lemmas.Option.{slice_get-get_or}
 use Rattle.std.proofs.lemmas.List.{get_or_append_left}
 use Rattle.std.proofs.Math.Seq.{get_or-append_seam}
@@ -28,7 +28,7 @@ use Rattle.flow_lower_debts.specs.Marks.{one, below, labels_in, cases_in, defaul
 use Rattle.flow_lower_growth.proofs.Growth.{grows_not, works}
 use Rattle.flow_lower_growth.proofs.GrowingStatements.{grows_mention, grows_dispatch_behind, grows_dispatch_of}
 use Rattle.flow_lower_debts.proofs.MarkArithmetic.{one_below, below_more, below_yes, below_no}
-use Rattle.flow_lower_debts.proofs.Debts.{dispatched, IsSound, Owed, owed_none, owed_mark, owed_statement, debts}
+use Rattle.flow_lower_debts.proofs.Debts.{dispatched, HasRoom, IsSound, Owed, owed_none, owed_mark, owed_statement, debts}
 use Rattle.flow_lower_debts.proofs.DebtsOfTerms.{Paid, labels_of}
 use Rattle.flow_lower_marks.proofs.DebtsOfStatements.{owed_leap}
 
@@ -224,8 +224,22 @@ own_inside p d ds more e =
     let there : length p.dispatches < length (own ++ more) = omega (arith, counted, all) in
     subst (λ xs. length p.dispatches < length xs) (sym e) there
 
-pub paid_switch : (l : ℕ) (s : SettingView) (at : Place) (e : TermTree) (cases : List CaseLabel) (body : StatementTree) (around : Surroundings) (p : Plan) (before : ℕ) → p.jobs ≡ [] → IsSelected (length cases) body → AreSelected body → labels_in l body ≤ before → Paid (switch s at e cases body around p).dispatches l before p (switch s at e cases body around p)
-paid_switch l s at e cases body around p before none selected all_selected enough =
+own_same : (d x : Dispatch) → Some d ≡ Some x → d ≡ x
+own_same d x e = cc
+
+-- the cases of a switch have their labels before the last number
+room_of : (first count : ℕ) (body : StatementTree) → IsSelected count body → first + count + 1 + 1 ≤ 2 ^ 32 - 1 → (n : ℕ) → 1 ≤ cases_in n body → first + n ≤ 2 ^ 32 - 1
+room_of first count body selected most n some = by (nat_lt n count) refl
+  where
+    by : (b : Bool) → nat_lt n count ≡ b → first + n ≤ 2 ^ 32 - 1
+    by true e = let less = ltb-true n count e in omega (arith, less, most)
+    by false e = let none = below_no n count (ltb-false n count e) in let le = selected.cases n in absurd (no none le)
+      where
+        no : below n count ≡ 0 → cases_in n body ≤ below n count → ⊥
+        no none le = omega (arith, some, none, le)
+
+pub paid_switch : (l : ℕ) (s : SettingView) (at : Place) (e : TermTree) (cases : List CaseLabel) (body : StatementTree) (around : Surroundings) (p : Plan) (before : ℕ) → p.jobs ≡ [] → IsSelected (length cases) body → AreSelected body → labels_in l body ≤ before → (switch s at e cases body around p).labels ≤ 2 ^ 32 - 1 → Paid (switch s at e cases body around p).dispatches l before p (switch s at e cases body around p)
+paid_switch l s at e cases body around p before none selected all_selected enough few =
     let count = length cases in
     let b = begin_switch count around.scope p in
     let r = switch s at e cases body around p in
@@ -242,7 +256,9 @@ paid_switch l s at e cases body around p before none selected all_selected enoug
     let all : ds ≡ (p.dispatches ++ own ∷ []) ++ grown.more_dispatches = grown.dispatches ∙ ap (λ xs. xs ++ grown.more_dispatches) (begins_dispatches count around.scope p) in
     let inside : b.begun.choice < length ds = subst (λ c. c < length ds) (sym (begins_choice count around.scope p)) (own_inside p own ds grown.more_dispatches all) in
     let found : slice_get ds b.begun.choice ≡ Some own = ap (λ c. slice_get ds c) (begins_choice count around.scope p) ∙ own_found p own ds grown.more_dispatches all in
-    let sound : IsSound ds body b.begun.choice = record { placed = inl inside; switches = all_selected } in
+    let most : p.labels + count + 1 + 1 ≤ 2 ^ 32 - 1 = (let labelled = begins_labels count around.scope p in let more = grown.labels in omega (arith, labelled, more, few)) in
+    let room : (x : Dispatch) → slice_get ds b.begun.choice ≡ Some x → HasRoom x body = λ x is. subst (λ y. HasRoom y body) (own_same own x (sym found ∙ is)) (room_of p.labels count body selected most) in
+    let sound : IsSound ds body b.begun.choice = record { placed = inl (record { there = inside; room = room }); switches = all_selected } in
     let stated = owed_statement body (in_switch around b.begun) d sound sent.owed in
     let done = owed_mark b.begun.after.label (with_work (jobs.Statement body (in_switch around b.begun)) d) stated in
     record {

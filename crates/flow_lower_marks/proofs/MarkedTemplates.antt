@@ -1,5 +1,5 @@
 -- Each label of a function's template is marked at most once.
-use Rattle.std.proofs.Common.{◌≡◌, ◌≤◌, ◌<◌, inr, ℕ, ◌+◌, ◌-◌, ◌^◌, Bool, true, false, cond, List, [], ◌∷◌, slice_get, refl, arith, ap, sym, subst}
+use Rattle.std.proofs.Common.{◌≡◌, ◌≤◌, inr, ℕ, ◌+◌, ◌-◌, ◌^◌, Bool, true, false, cond, List, [], ◌∷◌, slice_get, refl, arith, ap, sym, subst}
 use Rattle.cc_base.specs.declared.diagnostics.Place.{Place}
 use Rattle.c_layout.specs.Types.{Ty}
 use Rattle.c_layout.specs.CheckedTrees as tree
@@ -125,20 +125,20 @@ module _ (ds : List Dispatch) (l : ℕ) (f : FunctionView) (labelled : IsLabelle
 
 -- ---- templates
 
-pub marked_below : (structs : List StructView) (pointer int_bytes : ℕ) (f : FunctionView) (is_entry : Bool) (t : TemplateView) → IsTemplate structs pointer int_bytes f is_entry t → IsLabelled f → (l : ℕ) → (l ≡ 2 ^ 32 - 1 → ⊥) → all_marked l t.pieces ≤ below l t.labels
-marked_below structs pointer int_bytes f is_entry t is labelled l not_last =
+pub marked_below : (structs : List StructView) (pointer int_bytes : ℕ) (f : FunctionView) (is_entry : Bool) (t : TemplateView) → IsTemplate structs pointer int_bytes f is_entry t → IsLabelled f → t.labels ≤ 2 ^ 32 - 1 → (l : ℕ) → all_marked l t.pieces ≤ below l t.labels
+marked_below structs pointer int_bytes f is_entry t is labelled few l =
     let s = setting_of structs pointer int_bytes f is_entry in
     let p = function s f (no_plan f.labels) in
     let d = derived s p t is in
     let x = starts p.dispatches l f labelled s refl in
-    let made = marks_made l not_last s (planless p) p.jobs t.pieces d.last d.pieces refl x.owed.sound in
+    let made = marks_made l s (planless p) p.jobs t.pieces d.last d.pieces refl x.owed.sound (subst (λ n. n ≤ 2 ^ 32 - 1) d.labels few) in
     subst (λ n. all_marked l t.pieces ≤ below l n) (sym d.labels) (sum _ _ _ _ _ made x.owed.most x.few)
   where
     sum : (all owe k start last : ℕ) → all + start ≤ owe + last → owe ≡ k → k ≤ start → all ≤ last
     sum all owe k start last p q r = omega (arith, p, q, r)
 
-pub marked_once : (structs : List StructView) (pointer int_bytes : ℕ) (f : FunctionView) (is_entry : Bool) (t : TemplateView) → IsTemplate structs pointer int_bytes f is_entry t → IsLabelled f → (l : ℕ) → l < 2 ^ 32 - 1 → all_marked l t.pieces ≤ 1
-marked_once structs pointer int_bytes f is_entry t is labelled l less =
-    let below_it = marked_below structs pointer int_bytes f is_entry t is labelled l (λ e. omega (arith, less, e)) in
-    let few = at_most_one l t.labels in
-    omega (arith, below_it, few)
+pub marked_once : (structs : List StructView) (pointer int_bytes : ℕ) (f : FunctionView) (is_entry : Bool) (t : TemplateView) → IsTemplate structs pointer int_bytes f is_entry t → IsLabelled f → t.labels ≤ 2 ^ 32 - 1 → (l : ℕ) → all_marked l t.pieces ≤ 1
+marked_once structs pointer int_bytes f is_entry t is labelled few l =
+    let below_it = marked_below structs pointer int_bytes f is_entry t is labelled few l in
+    let one_most = at_most_one l t.labels in
+    omega (arith, below_it, one_most)

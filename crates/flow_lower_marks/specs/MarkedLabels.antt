@@ -1,16 +1,16 @@
 -- Each label is marked at most once.
-use Rattle.std.specs.Prelude.{◌≡◌, ◌≤◌, ◌<◌, ℕ, ◌-◌, ◌^◌, Bool, List}
+use Rattle.std.specs.Prelude.{◌≤◌, ℕ, ◌-◌, ◌^◌, Bool, List}
 use Rattle.c_layout.specs.CheckedUnits.{FunctionView}
 use Rattle.c_layout.specs.StructViews.{StructView}
 use Rattle.flow_lower_tasks.specs.Pieces.{TemplateView}
 use Rattle.flow_lower_functions.specs.Functions.{IsTemplate}
 use Rattle.flow_lower_debts.specs.Marks.{below, all_marked, IsLabelled}
 
--- where a function has each of its labels at most once, its template marks each label at most once, but for the last
--- number, at which labels stop
+-- where a function has each of its labels at most once, and its template no more labels than numbers of 32 bits, the
+-- template marks each label at most once
 abbrev pub LabelsAreMarkedOnce : Type 0
-LabelsAreMarkedOnce = (structs : List StructView) (pointer int_bytes : ℕ) (f : FunctionView) (is_entry : Bool) (t : TemplateView) → IsTemplate structs pointer int_bytes f is_entry t → IsLabelled f → (l : ℕ) → l < 2 ^ 32 - 1 → all_marked l t.pieces ≤ 1
+LabelsAreMarkedOnce = (structs : List StructView) (pointer int_bytes : ℕ) (f : FunctionView) (is_entry : Bool) (t : TemplateView) → IsTemplate structs pointer int_bytes f is_entry t → IsLabelled f → t.labels ≤ 2 ^ 32 - 1 → (l : ℕ) → all_marked l t.pieces ≤ 1
 
--- so it does, and only where it has a label of that number, for every number but the last one
+-- so it does, and only where it has a label of that number
 abbrev pub LabelsAreMarkedBelow : Type 0
-LabelsAreMarkedBelow = (structs : List StructView) (pointer int_bytes : ℕ) (f : FunctionView) (is_entry : Bool) (t : TemplateView) → IsTemplate structs pointer int_bytes f is_entry t → IsLabelled f → (l : ℕ) → (l ≡ 2 ^ 32 - 1 → ⊥) → all_marked l t.pieces ≤ below l t.labels
+LabelsAreMarkedBelow = (structs : List StructView) (pointer int_bytes : ℕ) (f : FunctionView) (is_entry : Bool) (t : TemplateView) → IsTemplate structs pointer int_bytes f is_entry t → IsLabelled f → t.labels ≤ 2 ^ 32 - 1 → (l : ℕ) → all_marked l t.pieces ≤ below l t.labels

@@ -1,5 +1,5 @@
 //! Whether the objects of static storage of a unit are plain.
-ghost use Rattle.std.specs.Prelude.{◌≡◌, IfOk, map, true};
+ghost use Rattle.std.specs.Prelude.{◌≡◌, IfErr, IfOk, false, map, true};
 ghost use Rattle.std.specs.List.{list_all};
 ghost use Rattle.c_layout.specs.CheckedUnits.{static_view, unit_view};
 ghost use Rattle.flow_lower_objects.specs.PlainObjects as spec;
@@ -41,7 +41,8 @@ fn has_plain_objects(unit: &Checked) -> bool
 /// are of their types (6.7.9 of ISO/IEC 9899:2011). Typing makes no others; one would come to want of
 /// memory.
 pub fn with_plain_objects(unit: &Checked) -> Result<(), AllocError>
-    ensures { IfOk result (λ made. spec.has_plain_objects (unit_view unit.now) ≡ true) }
+    ensures plain { IfOk result (λ made. spec.has_plain_objects (unit_view unit.now) ≡ true) }
+    ensures other { IfErr result (λ why. spec.has_plain_objects (unit_view unit.now) ≡ false) }
 {
     if has_plain_objects(unit) {
         Ok(())

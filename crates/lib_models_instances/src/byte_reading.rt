@@ -69,24 +69,20 @@ fn digits(bytes: &[Byte7]) -> Option<UnsignedNumber>
     ensures value { option_map digits_view result ≡ digits_of (machine.numbers_in (contents (bytes_view bytes.now))) }
     ensures small { IfSome result (λ d. d.number < 256 ^ length bytes.now) }
 {
-    let Some((byte, rest)) = bytes.split_first() else {
-        return Some(UnsignedNumber {
-            number: 0,
-            labels: LabelSet {
-                low: false,
-                high: false,
-                changed: false,
-            },
-        });
+    let mut number = 0u64;
+    let mut labels = LabelSet {
+        low: false,
+        high: false,
+        changed: false,
     };
-    let Content7::Number(n, labels) = byte.content else {
-        return None;
-    };
-    let above = digits(rest)?;
-    Some(UnsignedNumber {
-        number: u64::from(n) + 256 * above.number,
-        labels: union_of(labels, above.labels),
-    })
+    for at in (0..bytes.len()).rev() {
+        let Content7::Number(n, own) = bytes[at].content else {
+            return None;
+        };
+        number = u64::from(n) + 256 * number;
+        labels = union_of(own, labels);
+    }
+    Some(UnsignedNumber { number, labels })
 }
 
 /// The number that an unsigned one of so many bits is in two's complement.

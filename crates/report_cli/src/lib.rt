@@ -1,15 +1,12 @@
-//! The program: words in, a report or a refusal out, and a status.
+//! The program, and what its answers hold: each rule that a run of the unit violates is told.
 #![tactic(auto)]
 
-mod baseline_files;
-mod certificate_decision;
-mod decision;
-mod draws_files;
-mod further_files;
-mod gate_decision;
-mod model_choice;
 mod program;
-mod replay_decision;
+mod theorems;
 
 pub use program::run;
 pub use report_cli_texts::{load_unit, report_json, report_text};
+pub use theorems::{
+    answers_hold_runs, certificates_hold_runs, gates_hold_runs, judged_runs_are_found,
+    replays_are_told, replays_stand_in_reports, reports_hold_runs, verified_hold_runs,
+};

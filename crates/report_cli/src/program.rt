@@ -2,10 +2,16 @@
 ghost use Rattle.std.specs.Prelude.{◌≡◌, ◌≤◌, map, string_bytes};
 ghost use Rattle.c_preproc.specs.Causes.{seen_of};
 ghost use Rattle.report_cli_words.specs.Requests.{asked};
-ghost use Rattle.report_cli.specs.Outcomes.{took, Answers};
+ghost use Rattle.report_cli_answers.specs.Outcomes.{took, Answers};
+ghost use Rattle.report_cli.specs.Clauses.{RunsAreTold, FreshRunsAreTold, VerifiedRunsAreTold, ReplayIsTold};
+ghost use Rattle.report_cli.specs.CompleteAnswers.{IsComplete};
 
-use crate::decision::{Halt, decide};
+use crate::theorems::{
+    answers_hold_runs, gates_hold_runs, replays_stand_in_reports, verified_hold_runs,
+};
 use cc_base::{Sink, Tree};
+use report_cli_answers::answer_words;
+use report_cli_laws::accepted_units_are_answered;
 use std::alloc::Global;
 
 /// Does all that the program does: takes the words behind its name, reads from the tree, puts its
@@ -22,18 +28,23 @@ use std::alloc::Global;
 /// | 7 | want of memory; nothing is put |
 /// | 8 | a limit is passed |
 /// | 9 | the certificate is refused |
+///
+/// `runs` is the sentence: where `check` answers 0 or 1, what it has put holds each rule that a run of the unit violates.
 pub fn run<T: Tree, S: Sink>(alloc: Global, words: &[String], tree: &mut T, out: &mut S) -> u8
     ensures answer { Answers (seen_of (T.files tree.old) (T.faults tree.old) (T.faults tree.new) (T.taken tree.old) (T.taken tree.new)) (asked (map string_bytes words.now)) (took (S.written out.old) (S.written out.new) (S.faults out.old) (S.faults out.new) (S.calls out.old) (S.calls out.new)) result }
+    ensures runs { RunsAreTold (seen_of (T.files tree.old) (T.faults tree.old) (T.faults tree.new) (T.taken tree.old) (T.taken tree.new)) (asked (map string_bytes words.now)) (took (S.written out.old) (S.written out.new) (S.faults out.old) (S.faults out.new) (S.calls out.old) (S.calls out.new)) result }
+    ensures gates { FreshRunsAreTold (seen_of (T.files tree.old) (T.faults tree.old) (T.faults tree.new) (T.taken tree.old) (T.taken tree.new)) (asked (map string_bytes words.now)) (took (S.written out.old) (S.written out.new) (S.faults out.old) (S.faults out.new) (S.calls out.old) (S.calls out.new)) result }
+    ensures verifies { VerifiedRunsAreTold (seen_of (T.files tree.old) (T.faults tree.old) (T.faults tree.new) (T.taken tree.old) (T.taken tree.new)) (asked (map string_bytes words.now)) (took (S.written out.old) (S.written out.new) (S.faults out.old) (S.faults out.new) (S.calls out.old) (S.calls out.new)) result }
+    ensures replays { ReplayIsTold (seen_of (T.files tree.old) (T.faults tree.old) (T.faults tree.new) (T.taken tree.old) (T.taken tree.new)) (asked (map string_bytes words.now)) (took (S.written out.old) (S.written out.new) (S.faults out.old) (S.faults out.new) (S.calls out.old) (S.calls out.new)) result }
+    ensures complete { IsComplete (seen_of (T.files tree.old) (T.faults tree.old) (T.faults tree.new) (T.taken tree.old) (T.taken tree.new)) (asked (map string_bytes words.now)) (took (S.written out.old) (S.written out.new) (S.faults out.old) (S.faults out.new) (S.calls out.old) (S.calls out.new)) result }
     ensures files { T.files tree.new ≡ T.files tree.old }
     ensures read_faults { T.faults tree.old ≤ T.faults tree.new }
     ensures write_faults { S.faults out.old ≤ S.faults out.new }
 {
-    match decide(alloc, words, tree) {
-        Ok(answer) => match out.put(answer.text.as_slice()) {
-            Ok(()) => answer.status,
-            Err(_) => 6,
-        },
-        Err(Halt::ReadFault) => 5,
-        Err(Halt::Memory) => 7,
-    }
+    answers_hold_runs();
+    gates_hold_runs();
+    verified_hold_runs();
+    replays_stand_in_reports();
+    accepted_units_are_answered();
+    answer_words(alloc, words, tree, out)
 }

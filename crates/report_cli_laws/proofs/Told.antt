@@ -6,7 +6,6 @@ use Rattle.cc_base.specs.declared.refusals.Fault.{Fault}
 use Rattle.cc_base.specs.declared.refusals.Refusal.{Refusal}
 use Rattle.cc_base.specs.declared.refusals.Refusal.TheVariants as refusal
 use Rattle.cc_base.specs.declared.refusals.Stop.TheVariants as stop
-use Rattle.c_layout.specs.Models.{model_named}
 use Rattle.c_layout.specs.declared.data_model.Model.{Model}
 use Rattle.c_layout.specs.declared.unit_tokens.Unit7.{Unit7}
 use Rattle.c_preproc.specs.Causes.{Seen}
@@ -18,60 +17,21 @@ use Rattle.report_cli_words.specs.Requests as asked
 use Rattle.report_cli_texts.specs.Reports.{Bytes}
 use Rattle.report_cli_units.specs.Stages.{stage_of}
 use Rattle.report_cli_units.specs.Judging.{SettingView, RefusesUnit}
-use Rattle.report_cli.specs.Outcomes.{Took, PutOnce, Outcome, told, read_fault, write_fault, no_memory, status_at, Happened, Answers}
-use Rattle.report_cli.specs.Verdicts as verdict
-use Rattle.report_cli.specs.Verdicts.{Verdict, reported, report_status, report_in, status_of, text_of, Tells, HasModel, RefusesModel, ReadsModel, Gives, FromFiles, IsExpanded, IsReport, IsLaterRefusal, IsStaged, IsRefusal, IsLater, AnswersUnit, Under, IsVerdict, check_setting}
+use Rattle.report_cli_answers.specs.Outcomes.{Took, PutOnce, Outcome, told, read_fault, write_fault, no_memory, status_at, Happened, Answers}
+use Rattle.report_cli_answers.specs.Verdicts as verdict
+use Rattle.report_cli_answers.specs.Verdicts.{Verdict, reported, report_status, report_in, status_of, text_of, Tells, Gives, FromFiles, IsExpanded, IsReport, IsLaterRefusal, IsStaged, IsRefusal, AnswersUnit, Under, IsVerdict, check_setting}
 use Rattle.report_cli_laws.specs.Told.{IsTaken, IsAcceptedCheck, IsItsReport, ToldReport}
+use Rattle.report_cli_laws.proofs.GivenModels.{model_had, model_same}
+use Rattle.report_cli_laws.proofs.OneUnit.{one_unit}
 use Rattle.report_cli_laws.proofs.NotRefused.{accepted_not_refused}
 
-none_some : {m : Model} {x : Option Model} → x ≡ None → x ≡ Some m → ⊥
-none_some {m} {x} is also = cc
-
-some_same : {m n : Model} {x : Option Model} → x ≡ Some m → x ≡ Some n → m ≡ n
-some_same {m} {n} {x} is also = cc
-
--- ---- a named model is had
-
-pub model_had : (seen : Seen) (name : Bytes) (m : Model) → model_named name ≡ Some m → (v : Verdict) → RefusesModel seen name v → ⊥
-model_had seen name m named (verdict.absent file) (same, none, lacks) = none_some none named
-model_had seen name m named (verdict.too_long file) (same, none, long) = none_some none named
-model_had seen name m named (verdict.no_model file reason) (same, why, is, reads) = none_some reads.unnamed named
-model_had seen name m named verdict.helped h = h
-model_had seen name m named verdict.versioned h = h
-model_had seen name m named verdict.words_refused h = h
-model_had seen name m named (verdict.no_baseline file) h = h
-model_had seen name m named (verdict.no_draws file) h = h
-model_had seen name m named (verdict.refused file why) h = h
-model_had seen name m named (verdict.reported form names unit diags) h = h
-model_had seen name m named (verdict.summed unit bases cells diags) h = h
-model_had seen name m named (verdict.proved text) h = h
-model_had seen name m named (verdict.proved_past unit count) h = h
-model_had seen name m named (verdict.cert_refused file why) h = h
-model_had seen name m named (verdict.replayed names unit outcome) h = h
-model_had seen name m named (verdict.replayed_past file place count limit) h = h
-
-pub model_same : (files : Option Files) (name : Bytes) (m n : Model) → model_named name ≡ Some m → HasModel files name n → n ≡ m
-model_same files name m n named (inl also) = some_same also named
-model_same files name m n named (inr reads) = absurd (none_some reads.unnamed named)
-
--- ---- files give one unit
+-- ---- a unit that files give is held
 
 not_both : {p : Preprocessed} {r : Refused} {x : Option (Result Preprocessed Refused)} → x ≡ Some (Ok p) → x ≡ Some (Err r) → ⊥
 not_both {p} {r} {x} is also = cc
 
-both : {p q : Preprocessed} {x : Option (Result Preprocessed Refused)} → x ≡ Some (Ok p) → x ≡ Some (Ok q) → p ≡ q
-both {p} {q} {x} is also = cc
-
 no_main : {p : Preprocessed} {x : Option (Result Preprocessed Refused)} → x ≡ Some (Ok p) → x ≡ None → ⊥
 no_main {p} {x} is also = cc
-
-pub same_unit : (u v : Unit7) → u.tokens ≡ v.tokens → u.model ≡ v.model → u ≡ v
-same_unit u v p q = λ i. record { tokens = p i; model = q i }
-
-one_unit : (held : Files) (dirs : List Bytes) (m : Model) (main : Bytes) (names others : List Bytes) (u v : Unit7) → IsExpanded (FromFiles (Some held) dirs m main) m names u → IsExpanded (FromFiles (Some held) dirs m main) m others v → u ≡ v
-one_unit held dirs m main names others u v is also =
-    let same = both (is.gives held refl) (also.gives held refl) in
-    same_unit u v (ap (λ (p : Preprocessed). p.tokens) same) (is.model ∙ sym also.model)
 
 is_held : (held : Files) (dirs : List Bytes) (m : Model) (main : Bytes) (p : Preprocessed) → unit_from held dirs m main ≡ Some (Ok p) → file_at held main ≡ None → ⊥
 is_held held dirs m main p is none = no_main is (ap (λ (found : Option Bytes). main_read (world_of (sought held) dirs m) main found) none)
@@ -107,11 +67,11 @@ staged_never held dirs main s names why _ taken h = early_never held dirs main s
 made_report : (seen : Seen) (c : CommandView) (m : Model) (form : Format) (names : List Bytes) (unit : Bytes) (diags : List Diag) → form ≡ c.format → unit ≡ c.unit → IsReport (FromFiles seen.files c.dirs m c.unit) (check_setting c m) names diags → IsItsReport seen c m (reported form names unit diags)
 made_report seen c m form names unit diags formed named is = record { names = names; diags = diags; reports = ap (λ (f : Format). reported f names unit diags) formed ∙ ap (λ (u : Bytes). reported c.format names u diags) named; is_report = is }
 
-lacks_not : (files : Option Files) (held : Files) (dirs : List Bytes) (m : Model) (main : Bytes) (s : SettingView) (reason : Type 0) → files ≡ Some held → IsTaken (FromFiles (Some held) dirs m main) s → Lacks files main reason → ⊥
+pub lacks_not : (files : Option Files) (held : Files) (dirs : List Bytes) (m : Model) (main : Bytes) (s : SettingView) (reason : Type 0) → files ≡ Some held → IsTaken (FromFiles (Some held) dirs m main) s → Lacks files main reason → ⊥
 lacks_not None held dirs m main s reason is taken lacks = absurd (cc is)
 lacks_not (Some files) held dirs m main s reason is taken lacks = is_held files dirs m main (unit_as taken.names taken.expanded) (taken.is_expanded.gives files (sym is)) lacks
 
-refusal_not : (files : Option Files) (held : Files) (dirs : List Bytes) (main : Bytes) (s : SettingView) (seen : Seen) (unit file : Bytes) (why : Fault) → files ≡ Some held → IsTaken (FromFiles (Some held) dirs s.model main) s → IsRefusal (FromFiles files dirs s.model main) seen dirs s unit file why → ⊥
+pub refusal_not : (files : Option Files) (held : Files) (dirs : List Bytes) (main : Bytes) (s : SettingView) (seen : Seen) (unit file : Bytes) (why : Fault) → files ≡ Some held → IsTaken (FromFiles (Some held) dirs s.model main) s → IsRefusal (FromFiles files dirs s.model main) seen dirs s unit file why → ⊥
 refusal_not files held dirs main s seen unit file why is taken r =
     staged_never held dirs main s r.names why why.refusal taken (subst (λ (fs : Option Files). IsStaged (FromFiles fs dirs s.model main) s r.names why (stage_of why.refusal)) is r.staged)
 
@@ -143,12 +103,12 @@ taken_of seen c a = subst (λ (fs : Option Files). IsTaken (FromFiles fs c.dirs 
 
 under_told : (seen : Seen) (c : CommandView) (a : IsAcceptedCheck seen c) (v : Verdict) → Under seen c.model (λ later m. AnswersUnit later c m v) → IsItsReport seen c a.model v
 under_told seen c a v u =
-    let same = model_same seen.files c.model a.model u.chosen a.named u.has_model in
+    let same = model_same seen.files a.held c.model a.model u.chosen a.told a.given u.has_model in
     let answered : AnswersUnit u.later c a.model v = subst (λ (m : Model). AnswersUnit u.later c m v) same u.answered in
     from_earlier seen u.later c a.model v u.is_later.files (unit_told u.later a.held c a.model (u.is_later.files ∙ a.told) (taken_of seen c a) v answered)
 
 pub accepted_is_reported : (seen : Seen) (c : CommandView) (a : IsAcceptedCheck seen c) (v : Verdict) → IsVerdict seen (asked.Check c) v → IsItsReport seen c a.model v
-accepted_is_reported seen c a v (inl refuses) = absurd (model_had seen c.model a.model a.named v refuses)
+accepted_is_reported seen c a v (inl refuses) = absurd (model_had seen a.held c.model a.model a.told a.given v refuses)
 accepted_is_reported seen c a v (inr under) = under_told seen c a v under
 
 -- ---- what is answered

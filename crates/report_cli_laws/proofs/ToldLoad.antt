@@ -16,12 +16,13 @@ use Rattle.report_cli_texts.specs.LoadUnits.{load_of}
 use Rattle.report_cli_texts.specs.Reports.{Bytes}
 use Rattle.report_cli_units.specs.Stages.{stage_of}
 use Rattle.report_cli_units.specs.Judging.{SettingView, RefusesUnit}
-use Rattle.report_cli.specs.Verdicts as verdict
-use Rattle.report_cli.specs.Verdicts.{Verdict, summed, FromBytes, IsExpanded, IsSummary, IsLaterRefusal, IsStaged, IsRefusal, AnswersLoad, Under, IsVerdict, load_setting}
+use Rattle.report_cli_answers.specs.Verdicts as verdict
+use Rattle.report_cli_answers.specs.Verdicts.{Verdict, summed, FromBytes, IsExpanded, IsSummary, IsLaterRefusal, IsStaged, IsRefusal, AnswersLoad, Under, IsVerdict, load_setting}
 use Rattle.report_cli_laws.specs.Told.{IsTaken}
 use Rattle.report_cli_laws.specs.ToldLoad.{IsAcceptedLoad, IsItsSummary}
 use Rattle.report_cli_laws.proofs.NotRefused.{accepted_not_refused}
-use Rattle.report_cli_laws.proofs.Told.{model_had, model_same, same_unit}
+use Rattle.report_cli_laws.proofs.GivenModels.{model_had, model_same}
+use Rattle.report_cli_laws.proofs.OneUnit.{same_unit}
 
 not_both : {p : Preprocessed} {r : Refused} {x : Result Preprocessed Refused} → x ≡ Ok p → x ≡ Err r → ⊥
 not_both {p} {r} {x} is also = let h : Ok p ≡ Err r = sym is ∙ also in absurd (cc h)
@@ -92,10 +93,10 @@ taken_of seen c a = subst (λ (fs : Option Files). IsTaken (FromBytes fs a.model
 
 under_told : (seen : Seen) (c : CommandView) (a : IsAcceptedLoad seen c) (v : Verdict) → Under seen c.model (λ later m. AnswersLoad later c m v) → IsItsSummary seen c a.model v
 under_told seen c a v u =
-    let same = model_same seen.files c.model a.model u.chosen a.named u.has_model in
+    let same = model_same seen.files a.held c.model a.model u.chosen a.told a.given u.has_model in
     let answered : AnswersLoad u.later c a.model v = subst (λ (m : Model). AnswersLoad u.later c m v) same u.answered in
     from_earlier seen u.later c a.model v u.is_later.files (unit_told u.later a.held c a.model (u.is_later.files ∙ a.told) (taken_of seen c a) v answered)
 
 pub accepted_is_summed : (seen : Seen) (c : CommandView) (a : IsAcceptedLoad seen c) (v : Verdict) → IsVerdict seen (asked.Load c) v → IsItsSummary seen c a.model v
-accepted_is_summed seen c a v (inl refuses) = absurd (model_had seen c.model a.model a.named v refuses)
+accepted_is_summed seen c a v (inl refuses) = absurd (model_had seen a.held c.model a.model a.told a.given v refuses)
 accepted_is_summed seen c a v (inr under) = under_told seen c a v under

@@ -2,7 +2,6 @@
 use Rattle.std.specs.Prelude.{◌≡◌, ◌⊎◌, ℕ, List, Some}
 use Rattle.cc_base.specs.Outside.{Files}
 use Rattle.cc_base.specs.declared.diagnostics.Diag.{Diag}
-use Rattle.c_layout.specs.Models.{model_named}
 use Rattle.c_layout.specs.declared.data_model.Model.{Model}
 use Rattle.c_layout.specs.declared.unit_tokens.Unit7.{Unit7}
 use Rattle.c_preproc.specs.Causes.{Seen}
@@ -10,9 +9,10 @@ use Rattle.report_cli_words.specs.Requests.{CommandView}
 use Rattle.report_cli_words.specs.Requests as asked
 use Rattle.report_cli_texts.specs.Reports.{Bytes}
 use Rattle.report_cli_units.specs.Judging.{SettingView}
-use Rattle.report_cli.specs.Outcomes.{Took, PutOnce, Answers}
-use Rattle.report_cli.specs.Verdicts.{Verdict, reported, report_status, report_in, Gives, FromFiles, IsExpanded, IsReport, IsVerdict, check_setting}
+use Rattle.report_cli_answers.specs.Outcomes.{Took, PutOnce, Answers}
+use Rattle.report_cli_answers.specs.Verdicts.{Verdict, reported, report_status, report_in, Gives, FromFiles, IsExpanded, IsReport, IsVerdict, check_setting}
 use Rattle.report_cli_laws.specs.Accepted.{IsAccepted}
+use Rattle.report_cli_laws.specs.GivenModels.{IsGivenModel}
 
 -- what is held gives tokens that each stage behind the expansion accepts
 pub record IsTaken (given : Gives) (s : SettingView) : Type 0 where
@@ -21,12 +21,12 @@ pub record IsTaken (given : Gives) (s : SettingView) : Type 0 where
   pub is_expanded : IsExpanded given s.model names expanded
   pub accepted : IsAccepted expanded s
 
--- the files are told, the model is a named one, and the unit is accepted
+-- the files are told, a model is given, and the unit is accepted
 pub record IsAcceptedCheck (seen : Seen) (c : CommandView) : Type 0 where
   pub held : Files
   pub told : seen.files ≡ Some held
   pub model : Model
-  pub named : model_named c.model ≡ Some model
+  pub given : IsGivenModel held c.model model
   pub taken : IsTaken (FromFiles seen.files c.dirs model c.unit) (check_setting c model)
 
 -- the report of the unit, in the form that is asked for

@@ -2,22 +2,22 @@
 use Rattle.std.specs.Prelude.{◌≡◌, ℕ, List, Some}
 use Rattle.cc_base.specs.Outside.{Files}
 use Rattle.cc_base.specs.declared.diagnostics.Diag.{Diag}
-use Rattle.c_layout.specs.Models.{model_named}
 use Rattle.c_layout.specs.declared.data_model.Model.{Model}
 use Rattle.c_preproc.specs.Causes.{Seen}
 use Rattle.report_cli_words.specs.Requests.{CommandView}
 use Rattle.report_cli_words.specs.Requests as asked
 use Rattle.report_cli_texts.specs.LoadUnits.{load_of}
 use Rattle.report_cli_texts.specs.Reports.{Bytes}
-use Rattle.report_cli.specs.Verdicts.{Verdict, summed, FromBytes, IsSummary, IsVerdict, load_setting}
+use Rattle.report_cli_answers.specs.Verdicts.{Verdict, summed, FromBytes, IsSummary, IsVerdict, load_setting}
+use Rattle.report_cli_laws.specs.GivenModels.{IsGivenModel}
 use Rattle.report_cli_laws.specs.Told.{IsTaken}
 
--- the files are told, the model is a named one, and the unit that is made is accepted
+-- the files are told, a model is given, and the unit that is made is accepted
 pub record IsAcceptedLoad (seen : Seen) (c : CommandView) : Type 0 where
   pub held : Files
   pub told : seen.files ≡ Some held
   pub model : Model
-  pub named : model_named c.model ≡ Some model
+  pub given : IsGivenModel held c.model model
   pub taken : IsTaken (FromBytes seen.files model c.unit (load_of c.seed c.count)) (load_setting model)
 
 -- the summary of the unit

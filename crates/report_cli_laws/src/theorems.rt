@@ -29,7 +29,7 @@ pub fn refusals_of_grammar_are_exact()
     ensures no_tree { RefusedHasNoTree }
 {}
 
-/// Where the files are told and the model is a named one, `check` is called to tell of an accepted unit nothing but its
+/// Where the files are told and a model is given, `check` is called to tell of an accepted unit nothing but its
 /// report: it answers 0 or 1 with the report, or 5, 6 or 7. `load` is called to tell nothing but its summary.
 pub fn accepted_units_are_answered()
     ensures reported { AcceptedIsReported }

@@ -1,26 +1,27 @@
 -- Certificates of units: what stands behind the text of one, and behind the answer to one.
 use Rattle.std.specs.Prelude.{◌≡◌, ◌++◌, ℕ, ℤ, true, List, codes}
 use Rattle.std.specs.Fmt.{decimal}
-use Rattle.cc_base.specs.DiagnosticOrder.{IsOrderedSet}
+use Rattle.cc_base.specs.Ascending.{is_ascending}
 use Rattle.cc_base.specs.Standard.{standard_limits}
 use Rattle.cc_base.specs.declared.diagnostics.Diag.{Diag}
 use Rattle.c_layout.specs.declared.unit_tokens.Unit7.{Unit7}
 use Rattle.c_layout.specs.declared.syntax_tree.declarations.Tree7.{Tree7}
 use Rattle.c_layout.specs.declared.checked_tree.checked_units.Checked.{Checked}
+use Rattle.c_layout.specs.CheckedUnits.{unit_view}
 use Rattle.flow_program.specs.declared.programs.Flow.{Flow}
 use Rattle.flow_program.specs.Nearest.{AreThresholds}
 use Rattle.flow_program.specs.ThresholdNumbers.{limits_of}
 use Rattle.flow_program.specs.StructNumbers.{flow_numbers}
 use Rattle.flow_program.specs.WellFormed.{is_well_formed}
+use Rattle.flow_lower_objects.specs.PlainObjects.{has_plain_objects}
+use Rattle.flow_lower_units.specs.RegularUnits.{is_regular_unit}
 use Rattle.cert_check.specs.declared.verdicts.CertFault.{CertFault}
 use Rattle.cert_check.specs.declared.verdicts.CertFault.TheVariants.{Form, Start, Edge}
 use Rattle.cert_check.specs.declared.verdicts.Verdict.TheVariants as verdict
 use Rattle.cert_check.specs.Verdicts.{IsVerdictOn}
-use Rattle.cert_check_reading.specs.MapReading.{map_rows}
 use Rattle.cert_check_programs.specs.declared.checked_maps.Verified.{Verified}
 use Rattle.cert_check_programs.specs.declared.checked_maps.Verified.TheVariants as verified
-use Rattle.cert_check_programs.specs.Certificates.{IsCertificate}
-use Rattle.flow_analysis.specs.Analyses.{admitted_pairs}
+use Rattle.cert_check_programs.specs.Certificates.{IsCertificate, IsShown}
 use Rattle.report_cli_texts.specs.Reports.{Bytes}
 use Rattle.report_cli_units.specs.Judging.{SettingView, IsParsed, IsTyped, IsLowered}
 
@@ -30,19 +31,22 @@ cert_reason (Form n) = codes "Form " ++ decimal n
 cert_reason Start = codes "Start"
 cert_reason (Edge e) = codes "Edge " ++ decimal e
 
--- the program of a unit, which is well formed
+-- the program of a unit whose objects are plain and whose functions are regular; it is well formed
 pub record IsProgram (unit : Unit7) (s : SettingView) (flow : Flow) : Type 0 where
   pub tree : Tree7
   pub parsed : IsParsed unit tree
   pub checked : Checked
   pub typed : IsTyped s tree checked
+  pub plain : has_plain_objects (unit_view checked) ≡ true
+  pub regular : is_regular_unit (unit_view checked) ≡ true
   pub lowered : IsLowered checked flow
   pub well_formed : is_well_formed standard_limits flow ≡ true
 
--- the text is that of an inductive map of the program, with bounds rounded to its thresholds at heads
+-- the text is that of an inductive map of the program, with bounds rounded to its thresholds, in order, at heads
 pub record IsProvedBy (flow : Flow) (text : Bytes) : Type 0 where
   pub list : List ℤ
   pub thresholds : AreThresholds (limits_of flow.model) (flow_numbers flow) list
+  pub ascending : is_ascending list ≡ true
   pub certificate : IsCertificate flow list text
 
 -- the text is that of such a map of the unit's program
@@ -58,7 +62,7 @@ pub data CertAnswer : Type 0 where
 
 -- the answer of a program to a text
 abbrev pub IsAnswerOn : Flow → Bytes → CertAnswer → Type 0
-IsAnswerOn flow text (shows diags) = IsVerdictOn flow text verdict.Yes × IsOrderedSet (admitted_pairs flow (map_rows flow text)) diags
+IsAnswerOn flow text (shows diags) = IsShown flow text diags
 IsAnswerOn flow text (refuses why) = IsVerdictOn flow text (verdict.No why)
 
 abbrev pub answer_view : Verified → CertAnswer

@@ -1,5 +1,6 @@
 -- What a unit that was expanded comes to: the work behind the expansion, layer by layer, as far as the layers have clauses.
 use Rattle.std.specs.Prelude.{◌≡◌, ◌+◌, ◌++◌, ◌⊎◌, ℕ, ℤ, true, List, [], ◌∷◌, length, Option, Some, None, Ok, Err}
+use Rattle.cc_base.specs.Ascending.{is_ascending}
 use Rattle.cc_base.specs.DiagnosticOrder.{IsOrderedSet}
 use Rattle.cc_base.specs.Standard.{standard_limits}
 use Rattle.cc_base.specs.declared.diagnostics.Diag.{Diag}
@@ -22,6 +23,7 @@ use Rattle.flow_program.specs.Nearest.{AreThresholds}
 use Rattle.flow_program.specs.ThresholdNumbers.{limits_of}
 use Rattle.flow_program.specs.StructNumbers.{flow_numbers}
 use Rattle.flow_lower_objects.specs.PlainObjects.{has_plain_objects}
+use Rattle.flow_lower_units.specs.RegularUnits.{is_regular_unit}
 use Rattle.flow_lower.specs.Lowerings as lowering
 use Rattle.flow_lower.specs.Lowerings.{IsLowering}
 use Rattle.flow_analysis.specs.Analyses.{IsAnalysis}
@@ -70,12 +72,13 @@ IsTurned None flow analysed = analysed ≡ flow
 IsTurned (Some turns) flow analysed = flow_view analysed ≡ split turns (flow_view flow)
 
 -- what the syntactic rules find in a checked unit, and behind it what the analysis finds in the program
--- that is analysed, with bounds rounded to the thresholds of the unit's program
+-- that is analysed, with bounds rounded to the thresholds of the unit's program, in order
 pub record IsFound (checked : Checked) (flow analysed : Flow) (pairs : List Diag) : Type 0 where
   pub texts : List Diag
   pub by_texts : IsOrderedSet (unit_places checked) texts
   pub list : List ℤ
   pub thresholds : AreThresholds (limits_of flow.model) (flow_numbers flow) list
+  pub ascending : is_ascending list ≡ true
   pub runs : List Diag
   pub by_runs : IsAnalysis analysed list runs
   pub both : pairs ≡ texts ++ runs
@@ -97,14 +100,15 @@ cells_from n (b ∷ bs) = cells_from (capped (n + base_cells b)) bs
 abbrev pub cell_count : Flow → ℕ
 cell_count flow = cells_from 0 flow.bases.items
 
--- an accepted unit: its checked unit, whose objects are plain, its well-formed program, the program that is analysed, and
--- what is found
+-- an accepted unit: its checked unit, whose objects are plain and whose functions are regular, its well-formed program, the
+-- program that is analysed, and what is found
 pub record IsJudged (unit : Unit7) (s : SettingView) (j : Judgement) : Type 0 where
   pub tree : Tree7
   pub parsed : IsParsed unit tree
   pub checked : Checked
   pub typed : IsTyped s tree checked
   pub plain : has_plain_objects (unit_view checked) ≡ true
+  pub regular : is_regular_unit (unit_view checked) ≡ true
   pub flow : Flow
   pub lowered : IsLowered checked flow
   pub made : is_well_formed standard_limits flow ≡ true

@@ -5,6 +5,7 @@ mod stages;
 mod unit_answers;
 mod unit_certificates;
 mod unit_replays;
+mod unit_thresholds;
 
 pub use stages::{Stage, stage_of};
 pub use unit_answers::{Judged, Setting, judge_unit};

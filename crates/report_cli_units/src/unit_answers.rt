@@ -3,11 +3,13 @@ ghost use Rattle.std.specs.Prelude.{◌≡◌, ◌++◌, IfErr, IfOk, Some, true
 ghost use Rattle.c_layout.specs.CheckedUnits.{unit_view};
 ghost use Rattle.c_layout.specs.Models.{is_model};
 ghost use Rattle.flow_lower_objects.specs.PlainObjects.{has_plain_objects};
+ghost use Rattle.flow_lower_units.specs.RegularUnits.{is_regular_unit};
 ghost use Rattle.flow_program.specs.WellFormed.{base_cells, is_well_formed};
 ghost use Rattle.cc_base.specs.Standard.{standard_limits};
 ghost use Rattle.report_cli_units.specs.Judging.{setting_view, judgement, cells_from, cell_count, IsParsed, IsTyped, IsLowered, IsTurned, IsJudged, IsFound, StopsUnit};
 
 use crate::stages::{Stage, stop_at};
+use crate::unit_thresholds::unit_thresholds;
 use c_layout::{BaseInfo, Checked, Model, Tree7, Unit7};
 use c_parser::parse;
 use c_types::check;
@@ -15,7 +17,7 @@ use cc_base::{Diag, Limits, Memory, Stop};
 use flow_analysis::analyse;
 use flow_lower::lower;
 use flow_lower_counts::capped_sum;
-use flow_program::{Flow, thresholds};
+use flow_program::Flow;
 use std::alloc::{AllocError, Global};
 use syntax_rules::syntactic;
 use turn_split::split;
@@ -78,7 +80,7 @@ fn judge_program(
     ensures bases { IfOk result (λ j. j.bases ≡ length flow.now.bases.items) }
     ensures cells { IfOk result (λ j. j.cells ≡ cell_count flow.now) }
 {
-    let list = thresholds(alloc, flow)?;
+    let list = unit_thresholds(alloc, flow)?;
     let found = analyse(alloc, analysed, &list)?;
     let texts = syntactic(alloc, checked)?;
     Ok(Judged {
@@ -126,6 +128,7 @@ pub(crate) fn lowered(
     requires typed { IsTyped (setting_view setting) tree.now checked.now }
     ensures lowered { IfOk result (IsLowered checked.now) }
     ensures plain { IfOk result (λ f. has_plain_objects (unit_view checked.now) ≡ true) }
+    ensures regular { IfOk result (λ f. is_regular_unit (unit_view checked.now) ≡ true) }
     ensures well_formed { IfOk result (λ f. is_well_formed standard_limits f ≡ true) }
     ensures stops { IfErr result (StopsUnit unit.now (setting_view setting.entry)) }
 {

@@ -5,10 +5,11 @@ ghost use Rattle.report_cli_units.specs.Judging.{setting_view, StopsUnit};
 ghost use Rattle.report_cli_units.specs.Certifying.{answer_view, IsProgram, IsProvedBy, IsProved, IsVerifiedUnit};
 
 use crate::unit_answers::{Setting, lowered, parsed, typed};
+use crate::unit_thresholds::unit_thresholds;
 use c_layout::Unit7;
 use cc_base::{Memory, Stop};
 use cert_check_programs::{Verified, prove_program, verify_program};
-use flow_program::{Flow, thresholds};
+use flow_program::Flow;
 use std::alloc::Global;
 
 /// Parses, checks and lowers a unit.
@@ -29,7 +30,7 @@ fn text_of_program(alloc: Global, flow: &Flow) -> Result<Vec<u8>, Memory>
     requires { is_model flow.now.model ≡ true }
     ensures { IfOk result (λ text. IsProvedBy flow.now text.items) }
 {
-    let list = thresholds(alloc, flow)?;
+    let list = unit_thresholds(alloc, flow)?;
     let text = prove_program(alloc, flow, &list)?;
     Ok(text)
 }

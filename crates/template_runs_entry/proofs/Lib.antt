@@ -1,2 +1,5 @@
-pub mod ScopeTrees
+pub mod Bodies
+pub mod CalledPlans
+pub mod CalledFollows
+pub mod CalledFunctions
 pub mod EntryFollows

@@ -1,6 +1,6 @@
-//! Runs of a unit are runs of the template of its entry.
+//! Runs of a unit are runs of the templates of its functions.
 #![tactic(auto)]
 
 mod theorems;
 
-pub use theorems::entries_are_followed;
+pub use theorems::{entries_are_followed, functions_are_followed};

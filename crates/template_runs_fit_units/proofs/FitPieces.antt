@@ -1,11 +1,10 @@
 -- Templates whose labels stand once and that are fit.
-use Rattle.std.proofs.Common.{◌≡◌, ◌≤◌, inl, inr, ℕ, zero, suc, ◌-◌, ◌^◌, ◌==◌, Bool, true, false, List, [], ◌∷◌, Option, Some, None, slice_get, refl, sym, subst, ◌∙◌}
-use Rattle.std.proofs.lemmas.Bool.{eqb-true, eq-eqb}
+use Rattle.std.proofs.Common.{◌≡◌, inl, inr, ℕ, zero, suc, ◌==◌, true, List, [], ◌∷◌, Option, Some, None, slice_get, sym, subst}
+use Rattle.std.proofs.lemmas.Bool.{eqb-true}
 use Rattle.c_layout.specs.CheckedUnits.{FunctionView, UnitView}
 use Rattle.flow_lower_tasks.specs.Acts as acts
 use Rattle.flow_lower_tasks.specs.Acts.{Act}
 use Rattle.flow_lower_tasks.specs.Pieces.{NameView, Local, Outcome, Static, Literal, Allocation, Way, Always, When, Case, Other, NoLine, Line, ExitView, PieceView, Do, DoIfUsed, End, Mark, Call, TemplateView}
-use Rattle.flow_lower_debts.specs.Marks.{below, all_marked}
 use Rattle.flow_lower_marks.proofs.MarkedTemplates.{marked_below}
 use Rattle.flow_lower_fit.specs.Starts.{IsStart, AreStarts}
 use Rattle.flow_lower_fit.proofs.StartingTemplates.{starts_of_template}
@@ -24,17 +23,7 @@ use Rattle.template_runs_fit_units.specs.CheckedRuns.{IsIntegerNamed, IsPlainlyM
 -- ---- labels
 
 pub stand_once : (u : UnitView) (n : ℕ) (t : TemplateView) → IsPlainlyMade u n t → LabelsStandOnce t
-stand_once u n t k l = by (l == 2 ^ 32 - 1) refl
-  where
-    apart : (l == 2 ^ 32 - 1) ≡ false → l ≡ 2 ^ 32 - 1 → ⊥
-    apart e is = no (sym (eq-eqb l (2 ^ 32 - 1) is) ∙ e)
-      where
-        no : true ≡ false → ⊥
-        no same = cc
-
-    by : (b : Bool) → (l == 2 ^ 32 - 1) ≡ b → all_marked l t.pieces ≤ below l t.labels
-    by true e = subst (λ x. all_marked x t.pieces ≤ below x t.labels) (sym (eqb-true l (2 ^ 32 - 1) e)) k.last
-    by false e = marked_below u.structs u.model.pointer u.model.int k.function (n == u.entry) t k.is_template.is_template k.labelled l (apart e)
+stand_once u n t k l = marked_below u.structs u.model.pointer u.model.int k.function (n == u.entry) t k.is_template.is_template k.labelled k.few l
 
 -- ---- pieces
 

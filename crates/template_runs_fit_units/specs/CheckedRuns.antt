@@ -13,7 +13,7 @@ use Rattle.flow_program_machine.specs.FlowSteps.{flow_steps}
 use Rattle.flow_program_machine.specs.FlowStarts.{flow_begin}
 use Rattle.flow_lower_tasks.specs.Pieces.{NameView, TemplateView}
 use Rattle.flow_lower_counts.specs.Preparations.{IsTemplateOf, Reaches}
-use Rattle.flow_lower_debts.specs.Marks.{below, all_marked, IsLabelled}
+use Rattle.flow_lower_debts.specs.Marks.{IsLabelled}
 use Rattle.flow_lower_fit_names.specs.NamedTrees.{NamesFunction}
 use Rattle.flow_lower_fit_switches.specs.SwitchedTrees.{SwitchesStatements}
 use Rattle.flow_lower.specs.Lowerings.{IsLowering}
@@ -28,13 +28,13 @@ use Rattle.template_runs_openings.specs.NameRanges.{IsNameThere}
 abbrev pub IsIntegerNamed : UnitView → FunctionView → NameView → Type 0
 IsIntegerNamed u f x = IsInteger (type_named u f (Some x))
 
--- the template of a function whose labels stand once, and whose trees name what is there and switch on integers; the last
--- number, at which labels stop, is none of its labels
+-- the template of a function whose labels stand once, and whose trees name what is there and switch on integers; it has
+-- no more labels than numbers of 32 bits
 pub record IsPlainlyMade (u : UnitView) (n : ℕ) (t : TemplateView) : Type 0 where
   pub function : FunctionView
   pub is_template : IsTemplateOf u n function t
   pub labelled : IsLabelled function
-  pub last : all_marked (2 ^ 32 - 1) t.pieces ≤ below (2 ^ 32 - 1) t.labels
+  pub few : t.labels ≤ 2 ^ 32 - 1
   pub named : NamesFunction (IsNameThere u function) function
   pub switches : SwitchesStatements (IsIntegerNamed u function) (statement_trees function.body)
 

@@ -2,11 +2,11 @@
 use Rattle.std.specs.Prelude.{ℕ, zero, suc, List}
 use Rattle.flow_lower_tasks.specs.Pieces.{PieceView}
 use Rattle.ref_machine.specs.Items.{Item}
-use Rattle.template_runs.specs.TemplateStates.{Templates}
+use Rattle.template_runs_follow.specs.Activations.{Activation}
 use Rattle.template_runs_follow.specs.Follows as follows
 use Rattle.template_runs_follow.specs.Follows.{Follows}
 
-pub less : {t : Templates} (n d : ℕ) (items : List Item) (ps : List PieceView) → Follows t (suc n) d items ps → Follows t n d items ps
+pub less : {t : Activation} (n d : ℕ) (items : List Item) (ps : List PieceView) → Follows t (suc n) d items ps → Follows t n d items ps
 less zero d items ps f = follows.enough d items ps
 less (suc n) _ _ _ (follows.by_mark _ d l items ps f) = follows.by_mark (suc n) d l items ps (less (suc n) d items ps f)
 less (suc n) _ _ _ (follows.value _ d e items ps f) = follows.value n d e items ps (less n d _ ps f)
@@ -41,4 +41,13 @@ less (suc n) _ _ _ (follows.calls_library _ d count at function target site item
 less (suc n) _ _ _ (follows.literal _ d base i at items ps named go) = follows.literal n d base i at items ps named (less n (suc d) items ps go)
 less (suc n) _ _ _ (follows.select _ d at kind object labels body items exits ps arms go) = follows.select n d at kind object labels body items exits ps arms (λ value. less n d _ _ (go value))
 less (suc n) _ _ _ (follows.hop _ d l items ps there to go) = follows.hop n d l items ps there to (less n d items there go)
-less (suc n) _ _ _ (follows.finish _ d at ps) = follows.finish n d at ps
+less (suc n) _ _ _ (follows.finish _ d at ps entry) = follows.finish n d at ps entry
+less (suc n) _ _ _ (follows.calls _ d g at used f items ps is stands go) = follows.calls n d g at used f items ps is stands (less n _ items ps go)
+less (suc n) _ _ _ (follows.binds _ d number depth at f items ps is where_it_is go) = follows.binds n d number depth at f items ps is where_it_is (less n d items ps go)
+less (suc n) _ _ _ (follows.enters_outcome _ d base f locals items ps is named go) = follows.enters_outcome n d base f locals items ps is named (less n d _ ps go)
+less (suc n) _ _ _ (follows.outcome _ d base at f items ps is_f named go) = follows.outcome n d base at f items ps is_f named (less n (suc d) items ps go)
+less (suc n) _ _ _ (follows.leaves_outcome _ d base at place f items ps is_f named go) = follows.leaves_outcome n d base at place f items ps is_f named (less n d items ps go)
+less (suc n) _ _ _ (follows.used_outcome _ d base caller callers place f items ps is used is_f named go) = follows.used_outcome n d base caller callers place f items ps is used is_f named (less n (suc d) items ps go)
+less (suc n) _ _ _ (follows.does_if_used _ d next caller callers place operation a items ps is used does go) = follows.does_if_used n d next caller callers place operation a items ps is used does (less n next items ps go)
+less (suc n) _ _ _ (follows.by_unused _ d caller callers step items ps is unused go) = follows.by_unused (suc n) d caller callers step items ps is unused (less (suc n) d items ps go)
+less (suc n) _ _ _ (follows.goes_back _ caller callers is) = follows.goes_back n caller callers is

@@ -4,7 +4,7 @@
 use Rattle.std.specs.Prelude.{◌≡◌, ℕ, zero, suc, ◌+◌, ℤ, pos, Bool, true, false, cond, List, [], ◌∷◌, ◌++◌, Option, Some, None, slice_get}
 use Rattle.cc_base.specs.declared.diagnostics.Place.{Place}
 use Rattle.c_layout.specs.CheckedTrees.{TermTree, LvalueTree, StatementTree}
-use Rattle.c_layout.specs.CheckedUnits.{FunctionView}
+use Rattle.c_layout.specs.CheckedUnits.{FunctionView, UnitView}
 use Rattle.c_layout.specs.declared.checked_tree.checked_statements.CaseLabel.{CaseLabel}
 use Rattle.c_layout.specs.Types.{Ty}
 use Rattle.c_layout.specs.declared.library_functions.LibFn.{LibFn}
@@ -20,10 +20,12 @@ use Rattle.flow_program.specs.declared.machine_instructions.Scalar.TheVariants a
 use Rattle.flow_lower_conditions.specs.declared.branch_tests.NamedObject.{NamedObject}
 use Rattle.flow_lower_expressions.specs.Calls.{result_temp}
 use Rattle.flow_lower_tasks.specs.Acts as act
-use Rattle.flow_lower_tasks.specs.Acts.{Act}
-use Rattle.flow_lower_tasks.specs.Pieces.{NameView, Local, Literal, PieceView, Do, End, Mark, ExitView, Way, When, Always, Case, Other, NoLine, Line}
+use Rattle.flow_lower_tasks.specs.Acts.{Act, Step}
+use Rattle.flow_lower_tasks.specs.Pieces.{NameView, Local, Outcome, Literal, PieceView, Do, DoIfUsed, End, Mark, Call, ExitView, Way, When, Always, Case, Other, NoLine, Line}
+use Rattle.flow_lower_tasks.specs.declared.template_pieces.OwnCall.{OwnCall}
 use Rattle.flow_lower_tasks.specs.Plans.{name_of_object}
-use Rattle.flow_lower_tasks.specs.TermKinds.{integer_type}
+use Rattle.flow_lower_tasks.specs.TermKinds.{integer_type, is_void, scalar_of}
+use Rattle.flow_lower_functions.specs.Functions.{local_type}
 use Rattle.lib_models_memory.specs.Labels.{Labels}
 use Rattle.lib_models_memory.specs.Scalars.{integer}
 use Rattle.ref_machine.specs.Items as item
@@ -35,40 +37,42 @@ use Rattle.ref_machine.specs.LabelSearch.{Sought, case, other, found, case_of, f
 use Rattle.ref_machine.specs.BranchSteps.{landing}
 use Rattle.ref_machine.specs.TermItems.{address_items}
 use Rattle.ref_machine.specs.ConditionItems.{term_items}
-use Rattle.ref_machine.specs.StatementItems.{of_statement, while_turn, do_turn, for_turn}
-use Rattle.ref_machine.specs.SourceStates.{function_at, static_type, local_of}
+use Rattle.ref_machine.specs.StatementItems.{of_statement, while_turn, do_turn, for_turn, body}
+use Rattle.ref_machine.specs.CallSteps.{prologue, behind_body}
+use Rattle.ref_machine.specs.SourceStates.{Frame, function_at, static_type, local_of, result_object}
 use Rattle.ref_machine.specs.SourceSteps.{place_of}
 use Rattle.lib_models_effects.specs.Tests.{opposite}
 use Rattle.template_runs.specs.TemplateStates.{Templates}
 use Rattle.template_runs.specs.TemplateExits.{behind_mark, exit_taken}
 use Rattle.template_runs_acts.specs.Acts.{IsAct, IsActBehind, temps_from, behind_call}
+use Rattle.template_runs_follow.specs.Activations.{Activation, of_entry, activation}
 
--- ---- what the entry's template has
+-- ---- what the template of the function that runs has
 
-abbrev pub pieces : Templates → List PieceView
-pieces t = (t.of t.unit.entry).pieces
+abbrev pub pieces : Activation → List PieceView
+pieces t = (t.of t.function).pieces
 
 -- a base has a name
-abbrev pub Names : Templates → ℕ → NameView → Type 0
-Names t base name = slice_get (t.of t.unit.entry).names base ≡ Some name
+abbrev pub Names : Activation → ℕ → NameView → Type 0
+Names t base name = slice_get (t.of t.function).names base ≡ Some name
 
 -- behind a label such pieces stand
-abbrev pub Leads : Templates → ℕ → List PieceView → Type 0
+abbrev pub Leads : Activation → ℕ → List PieceView → Type 0
 Leads t l ps = behind_mark l (pieces t) ≡ Some ps
 
 -- the place of steps that have none in the source
-abbrev pub own : Templates → Place
-own t = place_of (function_at t.unit t.unit.entry)
+abbrev pub own : Activation → Place
+own t = place_of (function_at t.unit t.function)
 
 -- ---- tests
 
-pub data SameSide (t : Templates) : NamedSide → Side → Type 0 where
+pub data SameSide (t : Activation) : NamedSide → Side → Type 0 where
   object : (o : NamedObject) (base : ℕ) → Names t base (name_of_object o.object) → SameSide t (item.named o) (side.Object base o.kind)
   number : (n : ℤ) → SameSide t (item.number n) (side.Number n)
   nothing : SameSide t item.nothing side.Null
 
 -- a test, and those of the edges on which it holds or not
-pub data SameTest (t : Templates) : Option NamedTest → Option Test → Option Test → Type 0 where
+pub data SameTest (t : Activation) : Option NamedTest → Option Test → Option Test → Type 0 where
   none : SameTest t None None None
   some : (test : NamedTest) (left right : Side) → SameSide t test.left left → SameSide t test.right right → SameTest t (Some test) (Some (record { left = left; rel = test.rel; right = right; common = test.common })) (Some (record { left = left; rel = opposite test.rel; right = right; common = test.common }))
 
@@ -85,24 +89,24 @@ pub data IsEdge : ℕ → List Item → Option (ℕ × ℤ) → ℕ → List Ite
 
 -- ---- switches
 
--- the type of an object in the entry
-abbrev pub entry_type : Templates → ObjectRef → Option Ty
-entry_type t (ref.Static m) = static_type (slice_get t.unit.objects m)
-entry_type t (ref.Local m) = local_of (function_at t.unit t.unit.entry) m
+-- the type of an object in the function that runs
+abbrev pub type_in : Activation → ObjectRef → Option Ty
+type_in t (ref.Static m) = static_type (slice_get t.unit.objects m)
+type_in t (ref.Local m) = local_of (function_at t.unit t.function) m
 
 -- the object that is switched on has a base, where it is an integer
-pub data SameSwitched (t : Templates) : Option NamedObject → Option ℕ → Type 0 where
+pub data SameSwitched (t : Activation) : Option NamedObject → Option ℕ → Type 0 where
   unnamed : SameSwitched t None None
   no_integer : (o : ObjectRef) → SameSwitched t (Some (record { object = o; kind = scalar.Pointer })) None
-  integers : (o : ObjectRef) (base : ℕ) (ctype : Ty) → Names t base (name_of_object o) → entry_type t o ≡ Some ctype → SameSwitched t (Some (record { object = o; kind = scalar.Int (integer_type ctype) })) (Some base)
+  integers : (o : ObjectRef) (base : ℕ) (ctype : Ty) → Names t base (name_of_object o) → type_in t o ≡ Some ctype → SameSwitched t (Some (record { object = o; kind = scalar.Int (integer_type ctype) })) (Some base)
 
 -- a value has its case label and its edge in both, or in neither
-pub data SameCase (t : Templates) (object : Option NamedObject) (value : ℤ) : Sought → Way → Type 0 where
+pub data SameCase (t : Activation) (object : Option NamedObject) (value : ℤ) : Sought → Way → Type 0 where
   matched : (number : ℕ) (base : Option ℕ) → SameSwitched t object base → SameCase t object value (case number) (Case (record { value = value; object = base }))
   unmatched : (values : List ℤ) → SameCase t object value other (Other values)
 
 -- where a value leads: the source from a label on, the pieces along an edge and behind its label
-pub record Selected (t : Templates) (object : Option NamedObject) (labels : List CaseLabel) (body : StatementTree) (items : List Item) (exits : List ExitView) (value : ℤ) : Type 0 where
+pub record Selected (t : Activation) (object : Option NamedObject) (labels : List CaseLabel) (body : StatementTree) (items : List Item) (exits : List ExitView) (value : ℤ) : Type 0 where
   pub way : Way
   pub label : ℕ
   pub to : List Item
@@ -111,6 +115,29 @@ pub record Selected (t : Templates) (object : Option NamedObject) (labels : List
   pub lands : landing (case_of labels 0 value) (found t.unit (case_of labels 0 value) body items) items ≡ Some to
   pub takes : (marks : Labels) → exit_taken (integer value marks) exits ≡ Some (record { to = label; taken = way })
   pub leads : Leads t label there
+
+-- ---- calls
+
+-- a function of the unit is called, and gives a value where one is used
+pub record IsCalled (u : UnitView) (g : ℕ) (used : Bool) (f : FunctionView) : Type 0 where
+  pub is : function_at u g ≡ Some f
+  pub gives : used ≡ true → is_void f.returns ≡ false
+
+-- a call of a function stands among pieces
+pub record CallsThere (ps : List PieceView) (g : ℕ) : Type 0 where
+  pub at : ℕ
+  pub call : OwnCall
+  pub there : slice_get ps at ≡ Some (Call call)
+  pub is : call.function ≡ g
+
+-- the entry is reached, and what the template of a function calls that is reached
+pub data Reached (t : Templates) : ℕ → Type 0 where
+  entry : Reached t t.unit.entry
+  called : (h g : ℕ) → Reached t h → CallsThere (t.of h).pieces g → Reached t g
+
+-- how many values are pending behind a call
+abbrev pub behind_own : Bool → ℕ → ℕ
+behind_own used d = cond used (suc d) d
 
 -- ---- items and pieces
 
@@ -123,14 +150,14 @@ abbrev pub at_place : Place → Act → PieceView
 at_place at a = Do (record { at = at; does = a })
 
 -- so many turns, so many values pending
-pub data Follows (t : Templates) : ℕ → ℕ → List Item → List PieceView → Type 0 where
+pub data Follows (t : Activation) : ℕ → ℕ → List Item → List PieceView → Type 0 where
   enough : (d : ℕ) (items : List Item) (ps : List PieceView) → Follows t zero d items ps
   by_mark : (n d l : ℕ) (items : List Item) (ps : List PieceView) → Follows t n d items ps → Follows t n d items (Mark l ∷ ps)
   -- items that give way to others
   value : (n d : ℕ) (e : TermTree) (items : List Item) (ps : List PieceView) → Follows t n d (term_items t.unit true e ++ items) ps → Follows t (suc n) d (item.Value e ∷ items) ps
   unused : (n d : ℕ) (e : TermTree) (items : List Item) (ps : List PieceView) → Follows t n d (term_items t.unit false e ++ items) ps → Follows t (suc n) d (item.Unused e ∷ items) ps
   address : (n d : ℕ) (l : LvalueTree) (items : List Item) (ps : List PieceView) → Follows t n d (address_items t.unit l ++ items) ps → Follows t (suc n) d (item.Address l ∷ items) ps
-  statement : (n d : ℕ) (i : StatementTree) (items : List Item) (ps : List PieceView) → Follows t n d (of_statement t.unit true i ++ items) ps → Follows t (suc n) d (item.Statement i ∷ items) ps
+  statement : (n d : ℕ) (i : StatementTree) (items : List Item) (ps : List PieceView) → Follows t n d (of_statement t.unit (of_entry t) i ++ items) ps → Follows t (suc n) d (item.Statement i ∷ items) ps
   in_while : (n d : ℕ) (e : TermTree) (body : StatementTree) (items : List Item) (ps : List PieceView) → Follows t n d (while_turn t.unit e body ++ items) ps → Follows t (suc n) d (item.WhileTurn e body ∷ items) ps
   in_do : (n d : ℕ) (body : StatementTree) (e : TermTree) (items : List Item) (ps : List PieceView) → Follows t n d (do_turn t.unit body e ++ items) ps → Follows t (suc n) d (item.DoTurn body e ∷ items) ps
   in_for : (n d : ℕ) (e step : Option TermTree) (body : StatementTree) (items : List Item) (ps : List PieceView) → Follows t n d (for_turn t.unit e step body ++ items) ps → Follows t (suc n) d (item.ForTurn e step body ∷ items) ps
@@ -139,9 +166,9 @@ pub data Follows (t : Templates) : ℕ → ℕ → List Item → List PieceView 
   -- jumps
   break_out : (n d : ℕ) (items : List Item) (ps : List PieceView) → Follows t n d (jump items (behind_loop items)) ps → Follows t (suc n) d (item.BreakOut ∷ items) ps
   next_turn : (n d : ℕ) (items : List Item) (ps : List PieceView) → Follows t n d (jump items (behind_turn items)) ps → Follows t (suc n) d (item.NextTurn ∷ items) ps
-  go_to : (n d l : ℕ) (f : FunctionView) (items to : List Item) (ps : List PieceView) → function_at t.unit t.unit.entry ≡ Some f → from_label t.unit f l ≡ Some to → Follows t n d (jump items to) ps → Follows t (suc n) d (item.GoTo l ∷ items) ps
-  leave_function : (n d : ℕ) (f : FunctionView) (items : List Item) (ps : List PieceView) → function_at t.unit t.unit.entry ≡ Some f → Follows t n d (item.Leaves (all_of (open_scopes items)) ∷ []) ps → Follows t (suc n) d (item.LeaveFunction ∷ items) ps
-  end_body : (n d : ℕ) (f : FunctionView) (items : List Item) (ps : List PieceView) → function_at t.unit t.unit.entry ≡ Some f → Follows t n d [] ps → Follows t (suc n) d (item.EndBody ∷ items) ps
+  go_to : (n d l : ℕ) (f : FunctionView) (items to : List Item) (ps : List PieceView) → function_at t.unit t.function ≡ Some f → from_label t.unit f l ≡ Some to → Follows t n d (jump items to) ps → Follows t (suc n) d (item.GoTo l ∷ items) ps
+  leave_function : (n d : ℕ) (f : FunctionView) (items : List Item) (ps : List PieceView) → function_at t.unit t.function ≡ Some f → Follows t n d (item.Leaves (all_of (open_scopes items)) ∷ behind_body f (item.Hop ∷ []) t.callers) ps → Follows t (suc n) d (item.LeaveFunction ∷ items) ps
+  end_body : (n d : ℕ) (f : FunctionView) (items : List Item) (ps : List PieceView) → function_at t.unit t.function ≡ Some f → Follows t n d (behind_body f [] t.callers) ps → Follows t (suc n) d (item.EndBody ∷ items) ps
   -- values
   does : (n d next : ℕ) (at : Place) (operation : Operation) (a : Act) (items : List Item) (ps : List PieceView) → IsAct operation a d next → Follows t n next items ps → Follows t (suc n) d (item.Do at operation ∷ items) (at_place at a ∷ ps)
   stores : (n d : ℕ) (at : Place) (kind : declared.Scalar) (items : List Item) (ps : List PieceView) → Follows t n d items ps → Follows t (suc n) (suc (suc d)) (item.Do at (op.Store kind) ∷ (item.Drop ∷ items)) (at_place at (act.Store d (suc d) kind None) ∷ ps)
@@ -182,4 +209,21 @@ pub data Follows (t : Templates) : ℕ → ℕ → List Item → List PieceView 
       → ((value : ℤ) → Follows t n d (leap_in items (arms value).to) (arms value).there)
       → Follows t (suc n) (suc d) (item.Select at object labels body ∷ items) (End (record { at = at; does = act.Switch d kind }) exits ∷ ps)
   hop : (n d l : ℕ) (items : List Item) (ps there : List PieceView) → Leads t l there → Follows t n d items there → Follows t (suc n) d (item.Hop ∷ items) (End (record { at = own t; does = act.Jump }) (record { to = l; taken = Always } ∷ []) ∷ ps)
-  finish : (n d : ℕ) (at : Place) (ps : List PieceView) → Follows t (suc n) d [] (End (record { at = at; does = act.Stop }) [] ∷ ps)
+  finish : (n d : ℕ) (at : Place) (ps : List PieceView) → of_entry t ≡ true → Follows t (suc n) d [] (End (record { at = at; does = act.Stop }) [] ∷ ps)
+  -- calls: the arguments are the newest values
+  calls : (n d g : ℕ) (at : Place) (used : Bool) (f : FunctionView) (items : List Item) (ps : List PieceView) → IsCalled t.unit g used f → CallsThere (pieces t) g → Follows t n (behind_own used d) items ps → Follows t (suc n) (d + f.parameters) (item.Invoke at g f.parameters used ∷ items) (Call (record { place = at; function = g; depth = d; used = used }) ∷ ps)
+  binds : (n d number depth : ℕ) (at : Place) (f : FunctionView) (items : List Item) (ps : List PieceView) → function_at t.unit t.function ≡ Some f → number + suc depth ≡ d → Follows t n d items ps → Follows t (suc n) (suc d) (item.Bind at number depth ∷ items) (at_place at (act.Store d number (scalar_of (local_type f number)) None) ∷ ps)
+  -- the object of the result
+  enters_outcome : (n d base : ℕ) (f : FunctionView) (locals : List ℕ) (items : List Item) (ps : List PieceView) → function_at t.unit t.function ≡ Some f → Names t base Outcome → Follows t n d (item.Enters locals ∷ items) ps → Follows t (suc n) d (item.Enters (result_object f ∷ locals) ∷ items) (at_place (own t) (act.Enter base) ∷ ps)
+  outcome : (n d base : ℕ) (at : Place) (f : FunctionView) (items : List Item) (ps : List PieceView) → function_at t.unit t.function ≡ Some f → Names t base Outcome → Follows t n (suc d) items ps → Follows t (suc n) d (item.Outcome at ∷ items) (at_place at (act.Address d base 0) ∷ ps)
+  leaves_outcome : (n d base : ℕ) (at place : Place) (f : FunctionView) (items : List Item) (ps : List PieceView) → function_at t.unit t.function ≡ Some f → Names t base Outcome → Follows t n d items ps → Follows t (suc n) d (item.LeaveOutcome at ∷ items) (at_place place (act.Leave base) ∷ ps)
+  -- what is done only where the call's value is used
+  used_outcome : (n d base : ℕ) (caller : Frame) (callers : List Frame) (place : Place) (f : FunctionView) (items : List Item) (ps : List PieceView) → t.callers ≡ caller ∷ callers → caller.used ≡ true → function_at t.unit t.function ≡ Some f → Names t base Outcome → Follows t n (suc d) items ps → Follows t (suc n) d (item.Outcome caller.at ∷ items) (DoIfUsed (record { at = place; does = act.Address d base 0 }) ∷ ps)
+  does_if_used : (n d next : ℕ) (caller : Frame) (callers : List Frame) (place : Place) (operation : Operation) (a : Act) (items : List Item) (ps : List PieceView) → t.callers ≡ caller ∷ callers → caller.used ≡ true → IsAct operation a d next → Follows t n next items ps → Follows t (suc n) d (item.Do caller.at operation ∷ items) (DoIfUsed (record { at = place; does = a }) ∷ ps)
+  by_unused : (n d : ℕ) (caller : Frame) (callers : List Frame) (step : Step) (items : List Item) (ps : List PieceView) → t.callers ≡ caller ∷ callers → caller.used ≡ false → Follows t n d items ps → Follows t n d items (DoIfUsed step ∷ ps)
+  -- the function that waits goes on
+  goes_back : (n : ℕ) (caller : Frame) (callers : List Frame) → t.callers ≡ caller ∷ callers → Follows t (suc n) (behind_own caller.used 0) [] []
+
+-- each function that a reached one calls follows in its template, whoever waits: its arguments are pending, and it begins with its prologue
+abbrev pub AllFollow : Templates → Type 0
+AllFollow t = (h g : ℕ) (f : FunctionView) (caller : Frame) (callers : List Frame) → Reached t h → CallsThere (t.of h).pieces g → IsCalled t.unit g caller.used f → (n : ℕ) → Follows (activation t g (caller ∷ callers)) n f.parameters (prologue f f.parameters ++ body f) (t.of g).pieces

@@ -1,6 +1,2 @@
-//! Laws on runs of a unit and of its templates.
+//! What the source still has to do stands in the pieces of templates that are still to be done.
 #![tactic(auto)]
-
-mod theorems;
-
-pub use theorems::{runs_are_followed, turns_are_followed};

@@ -16,12 +16,12 @@ use Rattle.ref_machine.specs.Items as item
 use Rattle.ref_machine.specs.Items.{Item}
 use Rattle.ref_machine.specs.LabelSearch.{label, from_label}
 use Rattle.ref_machine.specs.Scopes.{open_scopes}
-use Rattle.template_runs.specs.TemplateStates.{Templates}
+use Rattle.template_runs_follow.specs.Activations.{Activation}
 use Rattle.template_runs_follow.specs.Follows as follows
 use Rattle.template_runs_follow.specs.Follows.{Leads, Follows}
 use Rattle.template_runs_works.specs.TemplateParts.{IsOfUnit, IsKnown, Stands}
 use Rattle.template_runs_works.proofs.Runs.{opened}
-use Rattle.template_runs_ways.specs.Chains.{Chain}
+use Rattle.template_runs_scopes.specs.Chains.{Chain}
 use Rattle.template_runs_leaps.specs.Leaps.{Lies}
 use Rattle.template_runs_leaps.proofs.Leaps.{leaps}
 use Rattle.template_runs_labels.specs.LabelScopes.{all_stand_in, IsFound, missing, there}
@@ -45,7 +45,7 @@ scope_of s _ _ to (there other number chain) e = record { number = number; is = 
     same : Some other ≡ Some to → other ≡ to
     same e = cc
 
-module _ (t : Templates) (s : SettingView) (fits : IsOfUnit t s) (f : FunctionView) (has : HasLabels t s f) where
+module _ (t : Activation) (s : SettingView) (fits : IsOfUnit t s) (f : FunctionView) (has : HasLabels t s f) where
   -- what is left to do from a label on lies behind it, in the scope that is noted
   lies : (n l other : ℕ) (to : List Item) (w : List PieceView) → l < f.labels → from_label t.unit f l ≡ Some to → Leads t l w → Follows t n 0 to w → Lies s t n (record { label = l; scope = label_scope s l other }) to
   lies n l other to w less is leads go =

@@ -1,4 +1,4 @@
-//! `goto` in the entry.
+//! `goto` in its pieces.
 #![tactic(auto)]
 
 mod theorems;

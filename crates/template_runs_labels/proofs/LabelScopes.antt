@@ -1,5 +1,5 @@
 -- From a label on, the scopes around it are left.
-use Rattle.std.proofs.Common.{◌≡◌, ℕ, suc, ◌+◌, Bool, true, false, List, [], ◌∷◌, ◌++◌, Option, Some, None, refl, ap, sym, subst, ◌∙◌}
+use Rattle.std.proofs.Common.{◌≡◌, ℕ, suc, ◌+◌, Bool, true, false, List, [], ◌∷◌, ◌++◌, Option, Some, None, refl, sym, subst}
 use Rattle.c_layout.specs.CheckedTrees as tree
 use Rattle.c_layout.specs.CheckedTrees.{TermTree, StatementTree, StatementTrees, statement_trees}
 use Rattle.c_layout.specs.CheckedUnits.{FunctionView}
@@ -7,14 +7,14 @@ use Rattle.flow_lower_tasks.specs.Settings.{SettingView}
 use Rattle.ref_machine.specs.Items as item
 use Rattle.ref_machine.specs.Items.{Item}
 use Rattle.ref_machine.specs.LabelSearch as sought
-use Rattle.ref_machine.specs.LabelSearch.{Sought, is_label, is_case, is_other, first, here_or, found, found_in, found_among, from_label}
+use Rattle.ref_machine.specs.LabelSearch.{Sought, is_label, is_case, is_other, first, here_or, found, found_in, from_label}
 use Rattle.ref_machine.specs.Scopes.{open_scopes}
-use Rattle.ref_machine.specs.StatementItems.{statements, list_statements, do_test, for_step}
-use Rattle.template_runs.specs.TemplateStates.{Templates}
+use Rattle.ref_machine.specs.StatementItems.{statements, do_test, for_step}
+use Rattle.template_runs_follow.specs.Activations.{Activation}
 use Rattle.template_runs_scopes.specs.Scopes.{scopes_in, all_scopes_in, IsScope, HasScopes, AllHaveScopes}
-use Rattle.template_runs_statements.proofs.Loops.{condition_quiet}
-use Rattle.template_runs_statements.proofs.Sequences.{statements_quiet}
-use Rattle.template_runs_ways.specs.Chains.{Chain, outermost, inside}
+use Rattle.template_runs_scopes.proofs.FunctionBodies.{same_found}
+use Rattle.template_runs_scopes.proofs.QuietItems.{statements_quiet, condition_quiet}
+use Rattle.template_runs_scopes.specs.Chains.{Chain, outermost, inside}
 use Rattle.template_runs_labels.specs.LabelScopes as labels
 use Rattle.template_runs_labels.specs.LabelScopes.{either, this_or, stands_in, all_stand_in, IsFound, missing, there}
 
@@ -37,7 +37,7 @@ module _ (s : SettingView) where
   switch_found (sought.case n) one a found = missing
   switch_found sought.other one a found = missing
 
-module _ (t : Templates) (s : SettingView) (l : Sought) where
+module _ (t : Activation) (s : SettingView) (l : Sought) where
   mutual
     unfolding found found_in
 
@@ -74,18 +74,7 @@ module _ (t : Templates) (s : SettingView) (l : Sought) where
 
 -- ---- the labels of a function
 
-same_statements : (xs : List StatementTree) → statements (statement_trees xs) ≡ list_statements xs
-same_statements [] = refl
-same_statements (x ∷ xs) = ap (λ ys. item.Statement x ∷ ys) (same_statements xs)
-
-same_found : (t : Templates) (l : Sought) (xs : List StatementTree) (rest : List Item) → found_in t.unit l (statement_trees xs) rest ≡ found_among t.unit l xs rest
-unfolding found found_in
-same_found t l [] rest = refl
-same_found t l (x ∷ xs) rest =
-    ap (λ ys. first (found t.unit l x (ys ++ rest)) (found_in t.unit l (statement_trees xs) rest)) (same_statements xs)
-    ∙ ap (λ later. first (found t.unit l x (list_statements xs ++ rest)) later) (same_found t l xs rest)
-
-pub of_function : (t : Templates) (s : SettingView) (f : FunctionView) → IsScope s 1 0 f.scope → AllHaveScopes s (statement_trees f.body) 1 2 → (n : ℕ) → IsFound s (from_label t.unit f n) (all_stand_in (sought.label n) (statement_trees f.body) 1 2)
+pub of_function : (t : Activation) (s : SettingView) (f : FunctionView) → IsScope s 1 0 f.scope → AllHaveScopes s (statement_trees f.body) 1 2 → (n : ℕ) → IsFound s (from_label t.unit f n) (all_stand_in (sought.label n) (statement_trees f.body) 1 2)
 of_function t s f outer has n =
     let rest : List Item = item.Leaves f.scope ∷ (item.EndBody ∷ []) in
-    subst (λ there. IsFound s there (all_stand_in (sought.label n) (statement_trees f.body) 1 2)) (same_found t (sought.label n) f.body rest) (all_in_scopes t s (sought.label n) (statement_trees f.body) 1 2 rest has (inside 1 0 f.scope [] outer outermost))
+    subst (λ there. IsFound s there (all_stand_in (sought.label n) (statement_trees f.body) 1 2)) (same_found t.unit (sought.label n) f.body rest) (all_in_scopes t s (sought.label n) (statement_trees f.body) 1 2 rest has (inside 1 0 f.scope [] outer outermost))

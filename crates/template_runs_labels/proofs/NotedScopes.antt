@@ -9,7 +9,7 @@ use Rattle.flow_lower_tasks.specs.Scopes.{TreeView, with_new_scope, with_choice,
 use Rattle.flow_lower_debts.specs.Marks.{one, labels_in, all_labels_in}
 use Rattle.ref_machine.specs.LabelSearch.{label}
 use Rattle.template_runs_scopes.specs.Scopes.{scopes_in, all_scopes_in}
-use Rattle.template_runs_entry.proofs.ScopeTrees.{scoped_more, all_more, length_new, length_more}
+use Rattle.template_runs_scopes.proofs.ScopeTrees.{scoped_more, all_more, length_new, length_more}
 use Rattle.template_runs_labels.specs.LabelScopes.{either, this_or, stands_in, all_stand_in}
 
 -- ---- numbers

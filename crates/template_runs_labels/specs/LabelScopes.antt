@@ -7,9 +7,9 @@ use Rattle.flow_lower_tasks.specs.Settings.{SettingView}
 use Rattle.ref_machine.specs.Items.{Item}
 use Rattle.ref_machine.specs.LabelSearch.{Sought, label, is_label, is_case, is_other, found, from_label}
 use Rattle.ref_machine.specs.Scopes.{open_scopes}
-use Rattle.template_runs.specs.TemplateStates.{Templates}
+use Rattle.template_runs_follow.specs.Activations.{Activation}
 use Rattle.template_runs_scopes.specs.Scopes.{scopes_in, all_scopes_in, IsScope, HasScopes, AllHaveScopes}
-use Rattle.template_runs_ways.specs.Chains.{Chain}
+use Rattle.template_runs_scopes.specs.Chains.{Chain}
 
 abbrev pub either : Option ℕ → Option ℕ → Option ℕ
 either (Some k) later = Some k
@@ -50,8 +50,8 @@ pub data IsFound (s : SettingView) : Option (List Item) → Option ℕ → Type 
 
 -- so it is in each statement whose scopes stand in the tree
 abbrev pub LabelsStandInScopes : Type 0
-LabelsStandInScopes = (t : Templates) (s : SettingView) (l : Sought) (i : StatementTree) (k c : ℕ) (rest : List Item) → HasScopes s i k c → Chain s k (open_scopes rest) → IsFound s (found t.unit l i rest) (stands_in l i k c)
+LabelsStandInScopes = (t : Activation) (s : SettingView) (l : Sought) (i : StatementTree) (k c : ℕ) (rest : List Item) → HasScopes s i k c → Chain s k (open_scopes rest) → IsFound s (found t.unit l i rest) (stands_in l i k c)
 
 -- and so are the labels of a function
 abbrev pub FunctionLabelsStandInScopes : Type 0
-FunctionLabelsStandInScopes = (t : Templates) (s : SettingView) (f : FunctionView) → IsScope s 1 0 f.scope → AllHaveScopes s (statement_trees f.body) 1 2 → (n : ℕ) → IsFound s (from_label t.unit f n) (all_stand_in (label n) (statement_trees f.body) 1 2)
+FunctionLabelsStandInScopes = (t : Activation) (s : SettingView) (f : FunctionView) → IsScope s 1 0 f.scope → AllHaveScopes s (statement_trees f.body) 1 2 → (n : ℕ) → IsFound s (from_label t.unit f n) (all_stand_in (label n) (statement_trees f.body) 1 2)

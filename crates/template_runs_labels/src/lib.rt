@@ -1,6 +1,8 @@
-//! Laws on where the labels of the entry stand.
+//! Laws on where the labels of a function stand.
 #![tactic(auto)]
 
 mod theorems;
 
-pub use theorems::{function_labels_stand_in_scopes, labels_are_noted, labels_stand_in_scopes};
+pub use theorems::{
+    function_labels_stand_in_scopes, labels_are_found, labels_are_noted, labels_stand_in_scopes,
+};

@@ -1,4 +1,5 @@
 //! The scopes in which labels stand.
+ghost use Rattle.template_runs_labels.specs.FoundLabels.{LabelsAreFound};
 ghost use Rattle.template_runs_labels.specs.LabelScopes.{FunctionLabelsStandInScopes, LabelsStandInScopes};
 ghost use Rattle.template_runs_labels.specs.NotedScopes.{LabelsAreNoted};
 
@@ -15,4 +16,10 @@ pub fn function_labels_stand_in_scopes()
 /// The tree of a function's scopes notes each of its labels with the scope in which it stands, where it stands once.
 pub fn labels_are_noted()
     ensures { LabelsAreNoted }
+{}
+
+/// A label that stands in the body of a function is found there: no label stands in the first clause of a `for`, where
+/// the search does not look.
+pub fn labels_are_found()
+    ensures { LabelsAreFound }
 {}

@@ -1,5 +1,5 @@
 -- The pieces of a jump: what is left, what is entered, and the jump itself.
-use Rattle.std.proofs.Common.{◌≡◌, ◌≤◌, ◌<◌, ℕ, List, [], ◌∷◌, ◌++◌, length, refl, arith, ap, sym, subst, ◌∙◌, append_assoc}
+use Rattle.std.proofs.Common.{◌≡◌, ◌≤◌, ℕ, List, [], ◌∷◌, ◌++◌, length, refl, ap, sym, subst, ◌∙◌, append_assoc}
 use Rattle.std.proofs.lemmas.List.{append-nil}
 use Rattle.flow_lower_tasks.specs.Acts as act
 use Rattle.flow_lower_tasks.specs.Pieces.{PieceView}
@@ -15,7 +15,7 @@ use Rattle.flow_lower_works.specs.Derivations.{Makes}
 use Rattle.ref_machine.specs.Items as item
 use Rattle.ref_machine.specs.Items.{Item}
 use Rattle.ref_machine.specs.Scopes.{jump, open_scopes, leap_in, entering_first}
-use Rattle.template_runs.specs.TemplateStates.{Templates}
+use Rattle.template_runs_follow.specs.Activations.{Activation}
 use Rattle.template_runs_follow.specs.Follows.{Follows}
 use Rattle.template_runs_works.specs.TemplateParts.{IsOfUnit, IsKnown, Stands}
 use Rattle.template_runs_works.proofs.Runs.{Runs, then, then_ends}
@@ -23,9 +23,10 @@ use Rattle.template_runs_works.proofs.Assignments.{one_more_job}
 use Rattle.template_runs_works.proofs.Laying.{known_between}
 use Rattle.template_runs_terms.proofs.Choices.{jumping, hops}
 use Rattle.template_runs_scopes.proofs.Objects as objects
+use Rattle.template_runs_scopes.proofs.Ways.{chain_there}
 use Rattle.template_runs_scopes.proofs.Objects.{object_jobs, entered_planned, left_planned, named_from, locals}
-use Rattle.template_runs_ways.specs.Chains as chains
-use Rattle.template_runs_ways.specs.Chains.{Chain, AreApart}
+use Rattle.template_runs_scopes.specs.Chains.{Chain, AreApart}
+use Rattle.template_runs_ways.specs.Chains.{IsWay}
 use Rattle.template_runs_ways.proofs.WaysBetween.{way_is}
 use Rattle.template_runs_ways.proofs.WaysOfChains.{way_of}
 use Rattle.template_runs_leaps.specs.Leaps.{Lies}
@@ -34,18 +35,7 @@ work_names : (j : Job) (p : Plan) → (with_work j p).names ≡ p.names
 unfolding with_work
 work_names j p = refl
 
--- scopes of a chain are there
-chain_there : (s : SettingView) (number : ℕ) (scopes : List (List ℕ)) → Chain s number scopes → number ≤ length s.scopes.scopes
-chain_there s _ _ chains.outermost = least (length s.scopes.scopes)
-  where
-    least : (a : ℕ) → 0 ≤ a
-    least a = omega arith
-chain_there s _ _ (chains.inside number around objects scopes is chain) = at_most number (length s.scopes.scopes) is.there
-  where
-    at_most : (a b : ℕ) → a < b → a ≤ b
-    at_most a b less = omega (arith, less)
-
-module _ (s : SettingView) (t : Templates) (fits : IsOfUnit t s) (n : ℕ) where
+module _ (s : SettingView) (t : Activation) (fits : IsOfUnit t s) (n : ℕ) where
   -- some objects are left and others entered, and then a jump leads behind a label
   pub leaves_enters : (xs ys : List ℕ) (landing : Landing) (to : List Item) (there : List PieceView) → ((w : List PieceView) → Follows t n 0 (item.Hop ∷ to) (jumping s.at landing.label ∷ w)) → (p : Plan) → p.jobs ≡ []
       → (ps : List PieceView) (r : Plan) → Makes s (planless (branches.jump s.at landing.label (all_entered s.at ys (all_left s.at xs p)))) (branches.jump s.at landing.label (all_entered s.at ys (all_left s.at xs p))).jobs ps r → IsKnown t r → (rest : List PieceView) → Stands t (ps ++ rest)
@@ -87,7 +77,7 @@ module _ (s : SettingView) (t : Templates) (fits : IsOfUnit t s) (n : ℕ) where
       then_ends s t n js (item.Enters ys ∷ []) 0 0 (planless all) refl (inwards.from (planless all) refl) last ps r (subst (λ ks. Makes s (planless all) ks ps r) jobs_are m) known (item.Hop ∷ to) rest stands hop
 
   -- a jump to any place
-  pub leaps_by : (from : ℕ) (landing : Landing) (items to : List Item) → chains.IsWay s from landing.scope (open_scopes items) (open_scopes to) → from ≤ length s.scopes.scopes → landing.scope ≤ length s.scopes.scopes → (there : List PieceView) → ((w : List PieceView) → Follows t n 0 (item.Hop ∷ to) (jumping s.at landing.label ∷ w))
+  pub leaps_by : (from : ℕ) (landing : Landing) (items to : List Item) → IsWay s from landing.scope (open_scopes items) (open_scopes to) → from ≤ length s.scopes.scopes → landing.scope ≤ length s.scopes.scopes → (there : List PieceView) → ((w : List PieceView) → Follows t n 0 (item.Hop ∷ to) (jumping s.at landing.label ∷ w))
       → (p : Plan) → p.jobs ≡ [] → (ps : List PieceView) (r : Plan) → Makes s (planless (leap s from landing p)) (leap s from landing p).jobs ps r → IsKnown t r → (rest : List PieceView) → Stands t (ps ++ rest) → Follows t n 0 (jump items to) (ps ++ rest)
   leaps_by from landing items to w enough also there hop p none ps r m known rest stands =
       let is_all : leap s from landing p ≡ branches.jump s.at landing.label (all_entered s.at w.enters (all_left s.at w.leaves p)) = ap (branches.jump s.at landing.label) (way_is s s.scopes.scopes from landing.scope w.leaves w.enters w.between enough also p) in
@@ -95,16 +85,16 @@ module _ (s : SettingView) (t : Templates) (fits : IsOfUnit t s) (n : ℕ) where
       (subst (λ ys. Follows t n 0 (item.Leaves w.leaves ∷ (item.Enters ys ∷ (item.Hop ∷ to))) (ps ++ rest)) (sym w.entered)
       (leaves_enters w.leaves w.enters landing to there hop p none ps r (subst (λ x. Makes s (planless x) x.jobs ps r) is_all m) known rest stands))
 
-module _ (s : SettingView) (t : Templates) (fits : IsOfUnit t s) (apart : AreApart s) where
+module _ (s : SettingView) (t : Activation) (fits : IsOfUnit t s) (apart : AreApart s) where
   pub leaps : (n from : ℕ) (landing : Landing) (items to : List Item) → Chain s from (open_scopes items) → Lies s t n landing to
       → (p : Plan) → p.jobs ≡ [] → (ps : List PieceView) (r : Plan) → Makes s (planless (leap s from landing p)) (leap s from landing p).jobs ps r → IsKnown t r → (rest : List PieceView) → Stands t (ps ++ rest) → Follows t n 0 (jump items to) (ps ++ rest)
   leaps n from landing items to here l p none ps r m known rest stands =
       leaps_by s t fits n from landing items to (way_of s apart from landing.scope (open_scopes items) (open_scopes to) here l.scopes) (chain_there s from (open_scopes items) here) (chain_there s landing.scope (open_scopes to) l.scopes) l.there
       (λ w. hops s t fits n 0 landing.label to w l.there l.leads l.follows) p none ps r m known rest stands
 
-module _ (s : SettingView) (t : Templates) (fits : IsOfUnit t s) where
+module _ (s : SettingView) (t : Activation) (fits : IsOfUnit t s) where
   -- a way on which nothing is left
-  pub edges : (n from : ℕ) (landing : Landing) (items to : List Item) → from ≤ length s.scopes.scopes → (l : Lies s t n landing to) → (w : chains.IsWay s from landing.scope (open_scopes items) (open_scopes to)) → w.leaves ≡ []
+  pub edges : (n from : ℕ) (landing : Landing) (items to : List Item) → from ≤ length s.scopes.scopes → (l : Lies s t n landing to) → (w : IsWay s from landing.scope (open_scopes items) (open_scopes to)) → w.leaves ≡ []
       → (p : Plan) → p.jobs ≡ [] → (ps : List PieceView) (r : Plan) → Makes s (planless (leap s from landing p)) (leap s from landing p).jobs ps r → IsKnown t r → (rest : List PieceView) → Stands t (ps ++ rest)
       → (leap_in items to ≡ entering_first w.enters to) × Follows t n 0 (item.Enters w.enters ∷ (item.Hop ∷ to)) (ps ++ rest)
   edges n from landing items to enough l w none_left p none ps r m known rest stands =

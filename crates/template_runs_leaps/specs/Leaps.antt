@@ -1,4 +1,4 @@
--- Jumps between any two places of the entry follow in their pieces.
+-- Jumps between any two places of a function follow in their pieces.
 use Rattle.std.specs.Prelude.{◌≡◌, ◌≤◌, ℕ, List, [], ◌∷◌, ◌++◌, length}
 use Rattle.flow_lower_tasks.specs.Pieces.{PieceView}
 use Rattle.flow_lower_tasks.specs.Plans.{Plan}
@@ -9,25 +9,26 @@ use Rattle.flow_lower_functions.specs.Turns.{planless}
 use Rattle.flow_lower_works.specs.Derivations.{Makes}
 use Rattle.ref_machine.specs.Items.{Item, Enters, Hop}
 use Rattle.ref_machine.specs.Scopes.{jump, open_scopes, leap_in, entering_first}
-use Rattle.template_runs.specs.TemplateStates.{Templates}
+use Rattle.template_runs_follow.specs.Activations.{Activation}
 use Rattle.template_runs_follow.specs.Follows.{Leads, Follows}
 use Rattle.template_runs_works.specs.TemplateParts.{IsOfUnit, IsKnown, Stands}
-use Rattle.template_runs_ways.specs.Chains.{Chain, AreApart, IsWay}
+use Rattle.template_runs_scopes.specs.Chains.{Chain, AreApart}
+use Rattle.template_runs_ways.specs.Chains.{IsWay}
 
 -- what is left to do from a label on follows behind it
-pub record Lies (s : SettingView) (t : Templates) (n : ℕ) (landing : Landing) (to : List Item) : Type 0 where
+pub record Lies (s : SettingView) (t : Activation) (n : ℕ) (landing : Landing) (to : List Item) : Type 0 where
   pub scopes : Chain s landing.scope (open_scopes to)
   pub there : List PieceView
   pub leads : Leads t landing.label there
   pub follows : Follows t n 0 to there
 
--- from any scope of the entry
+-- from any scope of the function
 abbrev pub LeapsFollow : Type 0
-LeapsFollow = (t : Templates) (s : SettingView) → IsOfUnit t s → AreApart s → (n from : ℕ) (landing : Landing) (items to : List Item) → Chain s from (open_scopes items) → Lies s t n landing to
+LeapsFollow = (t : Activation) (s : SettingView) → IsOfUnit t s → AreApart s → (n from : ℕ) (landing : Landing) (items to : List Item) → Chain s from (open_scopes items) → Lies s t n landing to
     → (p : Plan) → p.jobs ≡ [] → (ps : List PieceView) (r : Plan) → Makes s (planless (leap s from landing p)) (leap s from landing p).jobs ps r → IsKnown t r → (rest : List PieceView) → Stands t (ps ++ rest) → Follows t n 0 (jump items to) (ps ++ rest)
 
 -- the way to a label of a switch leaves nothing: what is entered on it follows in the pieces of its edge's block
 abbrev pub EdgesFollow : Type 0
-EdgesFollow = (t : Templates) (s : SettingView) → IsOfUnit t s → (n from : ℕ) (landing : Landing) (items to : List Item) → from ≤ length s.scopes.scopes → (l : Lies s t n landing to) → (w : IsWay s from landing.scope (open_scopes items) (open_scopes to)) → w.leaves ≡ []
+EdgesFollow = (t : Activation) (s : SettingView) → IsOfUnit t s → (n from : ℕ) (landing : Landing) (items to : List Item) → from ≤ length s.scopes.scopes → (l : Lies s t n landing to) → (w : IsWay s from landing.scope (open_scopes items) (open_scopes to)) → w.leaves ≡ []
     → (p : Plan) → p.jobs ≡ [] → (ps : List PieceView) (r : Plan) → Makes s (planless (leap s from landing p)) (leap s from landing p).jobs ps r → IsKnown t r → (rest : List PieceView) → Stands t (ps ++ rest)
     → (leap_in items to ≡ entering_first w.enters to) × Follows t n 0 (Enters w.enters ∷ (Hop ∷ to)) (ps ++ rest)

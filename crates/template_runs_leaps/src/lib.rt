@@ -1,4 +1,4 @@
-//! Jumps between any two places of the entry.
+//! Jumps between any two places of a function.
 #![tactic(auto)]
 
 mod theorems;

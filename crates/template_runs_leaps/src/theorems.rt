@@ -2,7 +2,7 @@
 ghost use Rattle.template_runs_leaps.specs.Leaps.{EdgesFollow, LeapsFollow};
 
 /// Where what is left to do from a label on follows behind it, a jump to it follows in the pieces that lead there,
-/// wherever in the entry it stands: they leave and enter what the source does.
+/// wherever in the function it stands: they leave and enter what the source does.
 pub fn leaps_follow()
     ensures { LeapsFollow }
 {}

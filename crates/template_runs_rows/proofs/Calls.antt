@@ -18,26 +18,26 @@ use Rattle.flow_lower_functions.specs.Turns.{has_work, template_of}
 use Rattle.ref_machine.specs.SourceRuns.{SourceRun, Run, found_in}
 use Rattle.template_runs.specs.TemplateStates.{Templates, TemplateRun}
 use Rattle.template_runs.specs.TemplateSteps.{template_begin, steps_from}
-use Rattle.template_runs_follow.specs.Alike.{Agree}
+use Rattle.template_runs_turns.specs.Alike.{Agree}
 use Rattle.template_runs_slice.specs.Units.{at, found_at, term, number, value, binary, local, function_of, unit_of, made, done, ends, address, load, store, constant, int}
 
-abbrev call : TermTree
+abbrev pub call : TermTree
 call = term 25 (tree.Call 1 (More (number 27 2) (More (number 29 2) End)) true)
 
-abbrev main : FunctionView
+abbrev pub main : FunctionView
 main = function_of 0 [] [] (tree.Return (at 16) (Some (binary 24 Divide (number 23 1) call)) ∷ [])
 
-abbrev subtracts : FunctionView
+abbrev pub subtracts : FunctionView
 subtracts = function_of 2 (local 44 ∷ (local 50 ∷ [])) [] (tree.Return (at 53) (Some (binary 61 Subtract (value 60 0) (value 62 1))) ∷ [])
 
-abbrev of_main : TemplateView
+abbrev pub of_main : TemplateView
 of_main = record {
   pieces = constant 23 0 1 ∷ (constant 27 1 2 ∷ (constant 29 2 2 ∷ (Call (record { place = at 25; function = 1; depth = 1; used = true }) ∷ (done 24 (act.Binary 0 sign.Div 0 (Temp 1) int) ∷ (ends 16 act.Stop [] ∷ (ends 1 act.Stop [] ∷ []))))));
   names = [];
   labels = 1;
 }
 
-abbrev of_subtracts : TemplateView
+abbrev pub of_subtracts : TemplateView
 of_subtracts = record {
   pieces = Mark 1 ∷ (done 1 (act.Enter 0) ∷ (done 1 (act.Enter 1) ∷ (done 1 (act.Enter 2) ∷ (address 1 2 3 ∷ (store 1 2 0 ∷ (address 1 2 4 ∷ (store 1 2 1
       ∷ (Mark 2 ∷ (address 53 0 8 ∷ (address 60 1 11 ∷ (load 60 1 1 ∷ (address 62 2 12 ∷ (load 62 2 2 ∷ (done 61 (act.Binary 1 sign.Sub 1 (Temp 2) int) ∷ (store 53 0 1
@@ -47,27 +47,27 @@ of_subtracts = record {
   labels = 3;
 }
 
-abbrev template_at : ℕ → TemplateView
+abbrev pub template_at : ℕ → TemplateView
 template_at zero = of_main
 template_at (suc n) = of_subtracts
 
-abbrev templates : Templates
+abbrev pub templates : Templates
 templates = record { unit = unit_of (main ∷ (subtracts ∷ [])); of = template_at }
 
 -- these are their templates
-ended : has_work (made main true 40) ≡ false
+pub ended : has_work (made main true 40) ≡ false
 unfolding with_work with_name with_labels with_scope with_dispatch with_new_scope
 ended = refl
 
-is_made : template_of (made main true 40) ≡ of_main
+pub is_made : template_of (made main true 40) ≡ of_main
 unfolding with_work with_name with_labels with_scope with_dispatch with_new_scope
 is_made = refl
 
-also_ended : has_work (made subtracts false 60) ≡ false
+pub also_ended : has_work (made subtracts false 60) ≡ false
 unfolding with_work with_name with_labels with_scope with_dispatch with_new_scope
 also_ended = refl
 
-also_made : template_of (made subtracts false 60) ≡ of_subtracts
+pub also_made : template_of (made subtracts false 60) ≡ of_subtracts
 unfolding with_work with_name with_labels with_scope with_dispatch with_new_scope
 also_made = refl
 

@@ -1,3 +1,4 @@
 mod Loop
 mod Calls
 mod Entry
+mod CalledEntry

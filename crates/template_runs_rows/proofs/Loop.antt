@@ -5,7 +5,7 @@ use Rattle.lib_models_effects.specs.Worlds as why
 use Rattle.ref_machine.specs.SourceRuns.{SourceRun, Run, why_of}
 use Rattle.template_runs.specs.TemplateStates.{TemplateRun}
 use Rattle.template_runs.specs.TemplateSteps.{template_begin, steps_from}
-use Rattle.template_runs_follow.specs.Alike.{Agree}
+use Rattle.template_runs_turns.specs.Alike.{Agree}
 use Rattle.template_runs_slice.specs.Loop.{templates}
 
 abbrev of_source : SourceRun

@@ -1,5 +1,5 @@
 -- What is known in a block and in a loop.
-use Rattle.std.proofs.Common.{◌≡◌, ◌≤◌, ◌<◌, ℕ, ◌==◌, ◌||◌, Bool, true, false, List, [], ◌∷◌, ◌++◌, length, refl, arith, ap, sym, subst, ◌∙◌, append_assoc}
+use Rattle.std.proofs.Common.{◌≡◌, ◌≤◌, ◌<◌, ℕ, ◌==◌, ◌||◌, Bool, true, false, List, [], ◌∷◌, ◌++◌, refl, arith, ap, sym, subst, ◌∙◌, append_assoc}
 use Rattle.std.proofs.lemmas.Bool.{eq-eqb}
 use Rattle.flow_lower_tasks.specs.Pieces.{PieceView}
 use Rattle.flow_lower_tasks.specs.Settings.{SettingView}
@@ -10,10 +10,11 @@ use Rattle.flow_lower_statements.specs.Loops.{in_loop}
 use Rattle.ref_machine.specs.Items as item
 use Rattle.ref_machine.specs.Items.{Item}
 use Rattle.ref_machine.specs.Scopes.{is_in, all_of, open_scopes, without, inwards, behind_loop, behind_turn}
-use Rattle.template_runs.specs.TemplateStates.{Templates}
+use Rattle.template_runs_follow.specs.Activations.{Activation}
 use Rattle.template_runs_follow.specs.Follows.{Leads, Follows}
 use Rattle.template_runs_scopes.specs.Scopes.{IsScope}
-use Rattle.template_runs_scopes.specs.SuitedStatements.{AreNew}
+use Rattle.template_runs_scopes.specs.SuitedStatements.{AreNew, Enclosure, by_loop}
+use Rattle.template_runs_scopes.specs.Chains as chains
 use Rattle.template_runs_scopes.specs.Contexts.{Lands, Context, Within}
 use Rattle.template_runs_scopes.specs.Contexts as contexts
 use Rattle.template_runs_scopes.specs.Contexts.{Up, AreIn}
@@ -71,7 +72,7 @@ pub inwards_in : (scopes : List (List ℕ)) → AreIn (inwards scopes) (all_of s
 inwards_in [] = tt
 inwards_in (scope ∷ scopes) = both_in (inwards scopes) scope (scope ++ all_of scopes) (in_more_all scope (inwards scopes) (all_of scopes) (inwards_in scopes)) (front_in scope [] (all_of scopes))
 
-module _ (s : SettingView) (t : Templates) where
+module _ (s : SettingView) (t : Activation) where
   -- ---- blocks
 
   through : (a b c : ℕ) → a ≤ b → b < c → a < c
@@ -91,20 +92,14 @@ module _ (s : SettingView) (t : Templates) where
         follows = l.follows;
       }
 
-  pub in_block : (n : ℕ) (around : Surroundings) (looping : Bool) (known objects : List ℕ) (number : ℕ) (items : List Item) → AreNew objects known → IsScope s number around.scope objects → Within s t n around looping known items → Within s t n (in_scope around number) looping (objects ++ known) (item.Leaves objects ∷ items)
+  pub in_block : (n : ℕ) (around : Surroundings) (looping : Enclosure) (known objects : List ℕ) (number : ℕ) (items : List Item) → AreNew objects known → IsScope s number around.scope objects → Within s t n around looping known items → Within s t n (in_scope around number) looping (objects ++ known) (item.Leaves objects ∷ items)
   in_block n around looping known objects number items new is k = record {
     within = λ x e. in_either x objects (all_of (open_scopes items)) known (k.within x) e;
-    enough = at_most number (length s.scopes.scopes) is.there;
-    home = contexts.out number around.scope 0 objects (all_of (open_scopes items)) (through 0 around.scope number (least around.scope) is.later) is k.home;
+    chain = chains.inside number around.scope objects (open_scopes items) is k.chain;
+    labels = k.labels;
     on_break = λ e. lands_inside n known objects (open_scopes items) (behind_loop items) around.scope number around.on_break k.within new is (k.on_break e);
     on_continue = λ e. lands_inside n known objects (open_scopes items) (behind_turn items) around.scope number around.on_continue k.within new is (k.on_continue e);
   }
-    where
-      at_most : (a b : ℕ) → a < b → a ≤ b
-      at_most a b e = omega (arith, e)
-
-      least : (a : ℕ) → 0 ≤ a
-      least a = omega arith
 
   -- ---- loops
 
@@ -121,16 +116,16 @@ module _ (s : SettingView) (t : Templates) where
   }
 
   -- in the body of a loop, behind which such items are left: its ends stand where control goes on
-  pub in_body : (n : ℕ) (around : Surroundings) (looping : Bool) (known : List ℕ) (items inside turn : List Item) (on_break on_continue : ℕ) (behind back : List PieceView) → open_scopes inside ≡ open_scopes items → open_scopes turn ≡ open_scopes items → behind_loop inside ≡ items → behind_turn inside ≡ turn
-      → Leads t on_break behind → Leads t on_continue back → Follows t n 0 items behind → Follows t n 0 turn back → Within s t n around looping known items → Within s t n (in_loop around on_break on_continue) true known inside
+  pub in_body : (n : ℕ) (around : Surroundings) (looping : Enclosure) (known : List ℕ) (items inside turn : List Item) (on_break on_continue : ℕ) (behind back : List PieceView) → open_scopes inside ≡ open_scopes items → open_scopes turn ≡ open_scopes items → behind_loop inside ≡ items → behind_turn inside ≡ turn
+      → Leads t on_break behind → Leads t on_continue back → Follows t n 0 items behind → Follows t n 0 turn back → Within s t n around looping known items → Within s t n (in_loop around on_break on_continue) by_loop known inside
   in_body n around looping known items inside turn on_break on_continue behind back same also after_loop after_turn to_break to_continue f g k =
-      subst (λ scopes. Context s t n (in_loop around on_break on_continue) true known scopes (behind_loop inside) (behind_turn inside)) (sym same)
-      (subst (λ xs. Context s t n (in_loop around on_break on_continue) true known (open_scopes items) xs (behind_turn inside)) (sym after_loop)
-      (subst (λ xs. Context s t n (in_loop around on_break on_continue) true known (open_scopes items) items xs) (sym after_turn)
+      subst (λ scopes. Context s t n (in_loop around on_break on_continue) by_loop known scopes (behind_loop inside) (behind_turn inside)) (sym same)
+      (subst (λ xs. Context s t n (in_loop around on_break on_continue) by_loop known (open_scopes items) xs (behind_turn inside)) (sym after_loop)
+      (subst (λ xs. Context s t n (in_loop around on_break on_continue) by_loop known (open_scopes items) items xs) (sym after_turn)
       (record {
         within = k.within;
-        enough = k.enough;
-        home = k.home;
+        chain = k.chain;
+        labels = k.labels;
         on_break = λ e. lands_here n (open_scopes items) items around.scope on_break behind refl to_break f;
         on_continue = λ e. lands_here n (open_scopes items) turn around.scope on_continue back also to_continue g;
       })))

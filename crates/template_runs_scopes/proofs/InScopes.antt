@@ -1,5 +1,5 @@
 -- Works and items that stand in scopes and loops.
-use Rattle.std.proofs.Common.{◌≡◌, ℕ, suc, Bool, false, List, [], ◌∷◌, ◌++◌, refl, sym, subst, ◌∙◌, append_assoc}
+use Rattle.std.proofs.Common.{◌≡◌, ℕ, zero, suc, false, List, [], ◌∷◌, ◌++◌, refl, sym, subst, ◌∙◌, append_assoc}
 use Rattle.flow_lower_tasks.specs.Pieces.{PieceView}
 use Rattle.flow_lower_tasks.specs.Plans.{Plan}
 use Rattle.flow_lower_tasks.specs.Settings.{SettingView}
@@ -11,26 +11,35 @@ use Rattle.flow_lower_works.specs.Derivations.{is_piece, parts, Makes}
 use Rattle.flow_lower_works.proofs.Derivations.{parted}
 use Rattle.flow_lower_growth.proofs.GrowingWorks.{grows, jobs_none}
 use Rattle.ref_machine.specs.Items.{Item}
-use Rattle.template_runs.specs.TemplateStates.{Templates}
+use Rattle.template_runs_follow.specs.Activations.{Activation}
 use Rattle.template_runs_follow.specs.Follows.{Follows}
 use Rattle.template_runs_follow.proofs.FewerTurns.{less}
 use Rattle.template_runs_works.specs.TemplateParts.{IsKnown, Stands}
 use Rattle.template_runs_works.proofs.Runs.{Runs, known_before, stands_behind, opened, joined, split}
+use Rattle.template_runs_scopes.proofs.Positions.{Position, position}
 use Rattle.template_runs_scopes.proofs.KeptScopes.{AreTerms}
 use Rattle.template_runs_scopes.proofs.ScopesOfTerms.{scopes_kept}
-use Rattle.template_runs_scopes.specs.Contexts.{Lands, Context}
+use Rattle.template_runs_scopes.specs.SuitedStatements.{Enclosure}
+use Rattle.template_runs_scopes.specs.Contexts.{Reaches, LabelsReachBefore, Lands, Context}
 
-module _ (s : SettingView) (t : Templates) where
+module _ (s : SettingView) (t : Activation) where
   -- ---- fewer turns
 
   lands_less : (n : ℕ) (scopes : List (List ℕ)) (to : List Item) (from : ℕ) (landing : Landing) → Lands s t (suc n) scopes to from landing → Lands s t n scopes to from landing
   lands_less n scopes to from landing l = record { objects = l.objects; up = l.up; leaves = l.leaves; stays = l.stays; within = l.within; there = l.there; leads = l.leads; follows = less n 0 to l.there l.follows }
 
-  pub context_less : (n : ℕ) (around : Surroundings) (in_loop : Bool) (known : List ℕ) (scopes : List (List ℕ)) (after_loop after_turn : List Item) → Context s t (suc n) around in_loop known scopes after_loop after_turn → Context s t n around in_loop known scopes after_loop after_turn
-  context_less n around in_loop known scopes after_loop after_turn c = record {
+  pub reaches_less : (n l : ℕ) (to : List Item) → Reaches t (suc n) l to → Reaches t n l to
+  reaches_less n l to x = record { there = x.there; leads = x.leads; follows = less n 0 to x.there x.follows }
+
+  pub labels_less : (n : ℕ) → LabelsReachBefore t (suc n) → LabelsReachBefore t n
+  labels_less zero all = tt
+  labels_less (suc n) all = λ f is l to there from. reaches_less n l to (all f is l to there from)
+
+  pub context_less : (n : ℕ) (around : Surroundings) (enclosed : Enclosure) (known : List ℕ) (scopes : List (List ℕ)) (after_loop after_turn : List Item) → Context s t (suc n) around enclosed known scopes after_loop after_turn → Context s t n around enclosed known scopes after_loop after_turn
+  context_less n around enclosed known scopes after_loop after_turn c = record {
     within = c.within;
-    enough = c.enough;
-    home = c.home;
+    chain = c.chain;
+    labels = labels_less n c.labels;
     on_break = λ e. lands_less n scopes after_loop around.scope around.on_break (c.on_break e);
     on_continue = λ e. lands_less n scopes after_turn around.scope around.on_continue (c.on_continue e);
   }
@@ -38,15 +47,15 @@ module _ (s : SettingView) (t : Templates) where
   -- ---- works and their items
 
   -- so many scopes were begun before and are begun behind, and something is known of the items behind
-  abbrev pub GoesFrom : ℕ → ℕ → (List Item → Type 0) → Plan → List Job → List Item → Type 0
+  abbrev pub GoesFrom : ℕ → Position → (List Item → Type 0) → Plan → List Job → List Item → Type 0
   GoesFrom n last K p js is = (ps : List PieceView) (r : Plan) → Makes s p js ps r → IsKnown t r → (items : List Item) (rest : List PieceView) → Stands t (ps ++ rest) → K items → Follows t n 0 items rest → Follows t n 0 (is ++ items) (ps ++ rest)
 
-  pub record Goes (n first last : ℕ) (K : List Item → Type 0) (js : List Job) (is : List Item) : Type 0 where
-    pub from : (p : Plan) → p.jobs ≡ [] → p.scopes ≡ first → GoesFrom n last K p js is
-    pub ends : (p : Plan) → p.jobs ≡ [] → p.scopes ≡ first → (ps : List PieceView) (r : Plan) → Makes s p js ps r → r.scopes ≡ last
+  pub record Goes (n : ℕ) (first last : Position) (K : List Item → Type 0) (js : List Job) (is : List Item) : Type 0 where
+    pub from : (p : Plan) → p.jobs ≡ [] → position p ≡ first → GoesFrom n last K p js is
+    pub ends : (p : Plan) → p.jobs ≡ [] → position p ≡ first → (ps : List PieceView) (r : Plan) → Makes s p js ps r → position r ≡ last
 
   -- terms begin no scopes
-  pub plainly : (n c : ℕ) (K : List Item → Type 0) (js : List Job) (is : List Item) → AreTerms js → Runs s t n js is 0 0 → Goes n c c K js is
+  pub plainly : (n : ℕ) (c : Position) (K : List Item → Type 0) (js : List Job) (is : List Item) → AreTerms js → Runs s t n js is 0 0 → Goes n c c K js is
   plainly n c K js is terms runs = record {
     from = λ p none begun ps r m known items rest stands k f. runs.from p none ps r m known items rest stands f;
     ends = λ p none begun ps r m. (scopes_kept s p js ps r m (nothing p none) terms).0 ∙ begun;
@@ -55,7 +64,7 @@ module _ (s : SettingView) (t : Templates) where
       nothing : (p : Plan) → p.jobs ≡ [] → AreTerms p.jobs
       nothing p none = subst AreTerms (sym none) tt
 
-  pub goes_on : (n first middle last : ℕ) (K L : List Item → Type 0) (js ks : List Job) (is hs : List Item) → ((items : List Item) → K items → L (hs ++ items)) → Goes n first middle L js is → Goes n middle last K ks hs → Goes n first last K (js ++ ks) (is ++ hs)
+  pub goes_on : (n : ℕ) (first middle last : Position) (K L : List Item → Type 0) (js ks : List Job) (is hs : List Item) → ((items : List Item) → K items → L (hs ++ items)) → Goes n first middle L js is → Goes n middle last K ks hs → Goes n first last K (js ++ ks) (is ++ hs)
   goes_on n first middle last K L js ks is hs onwards one other = record {
     from = λ p none begun ps r m known items rest stands k f.
         let x = parted s p js ks ps r m in
@@ -70,13 +79,13 @@ module _ (s : SettingView) (t : Templates) where
   }
 
   -- what is known of the items behind follows from something else
-  pub knowing : (n first last : ℕ) (K L : List Item → Type 0) (js : List Job) (is : List Item) → ((items : List Item) → L items → K items) → Goes n first last K js is → Goes n first last L js is
+  pub knowing : (n : ℕ) (first last : Position) (K L : List Item → Type 0) (js : List Job) (is : List Item) → ((items : List Item) → L items → K items) → Goes n first last K js is → Goes n first last L js is
   knowing n first last K L js is weaker g = record { from = λ p none begun ps r m known items rest stands l f. g.from p none begun ps r m known items rest stands (weaker items l) f; ends = g.ends }
 
   -- a statement gives way to its parts
-  pub gives_way : (n first last : ℕ) (K : List Item → Type 0) (j : Job) (i : Item) (is : List Item) → is_piece j ≡ false → ((items : List Item) (ps : List PieceView) → Follows t n 0 (is ++ items) ps → Follows t n 0 (i ∷ items) ps)
-      → ((p : Plan) → p.jobs ≡ [] → p.scopes ≡ first → GoesFrom n last K (planless (parts s j p)) (parts s j p).jobs is)
-      → ((p : Plan) → p.jobs ≡ [] → p.scopes ≡ first → (ps : List PieceView) (r : Plan) → Makes s (planless (parts s j p)) (parts s j p).jobs ps r → r.scopes ≡ last)
+  pub gives_way : (n : ℕ) (first last : Position) (K : List Item → Type 0) (j : Job) (i : Item) (is : List Item) → is_piece j ≡ false → ((items : List Item) (ps : List PieceView) → Follows t n 0 (is ++ items) ps → Follows t n 0 (i ∷ items) ps)
+      → ((p : Plan) → p.jobs ≡ [] → position p ≡ first → GoesFrom n last K (planless (parts s j p)) (parts s j p).jobs is)
+      → ((p : Plan) → p.jobs ≡ [] → position p ≡ first → (ps : List PieceView) (r : Plan) → Makes s (planless (parts s j p)) (parts s j p).jobs ps r → position r ≡ last)
       → Goes n first last K (j ∷ []) (i ∷ [])
   gives_way n first last K j i is other gives inner ends = record {
     from = λ p none begun ps r m known items rest stands k f. gives items (ps ++ rest) (inner p none begun ps r (opened s p j ps r other m) known items rest stands k f);
@@ -84,8 +93,8 @@ module _ (s : SettingView) (t : Templates) where
   }
 
   -- where its parts are the same for each plan
-  pub consists_of : (n first begun last : ℕ) (K : List Item → Type 0) (j : Job) (js : List Job) (i : Item) (is : List Item) → is_piece j ≡ false → ((items : List Item) (ps : List PieceView) → Follows t n 0 (is ++ items) ps → Follows t n 0 (i ∷ items) ps)
-      → ((p : Plan) → p.jobs ≡ [] → (parts s j p).jobs ≡ js) → ((p : Plan) → p.scopes ≡ first → (parts s j p).scopes ≡ begun) → Goes n begun last K js is → Goes n first last K (j ∷ []) (i ∷ [])
+  pub consists_of : (n : ℕ) (first begun last : Position) (K : List Item → Type 0) (j : Job) (js : List Job) (i : Item) (is : List Item) → is_piece j ≡ false → ((items : List Item) (ps : List PieceView) → Follows t n 0 (is ++ items) ps → Follows t n 0 (i ∷ items) ps)
+      → ((p : Plan) → p.jobs ≡ [] → (parts s j p).jobs ≡ js) → ((p : Plan) → position p ≡ first → position (parts s j p) ≡ begun) → Goes n begun last K js is → Goes n first last K (j ∷ []) (i ∷ [])
   consists_of n first begun last K j js i is other gives same counted g = gives_way n first last K j i is other gives
       (λ p none e ps r m. g.from (planless (parts s j p)) refl (counted p e) ps r (subst (λ ks. Makes s (planless (parts s j p)) ks ps r) (same p none) m))
       (λ p none e ps r m. g.ends (planless (parts s j p)) refl (counted p e) ps r (subst (λ ks. Makes s (planless (parts s j p)) ks ps r) (same p none) m))

@@ -1,4 +1,4 @@
--- What begins no scopes.
+-- What begins no scopes and switches.
 use Rattle.std.proofs.Common.{◌≡◌, ℕ, Bool, true, false, cond, List, [], ◌∷◌, ◌++◌}
 use Rattle.c_layout.specs.CheckedTrees.{TermTree, LvalueTree}
 use Rattle.flow_lower_tasks.specs.Pieces.{NameView, PieceView}
@@ -7,6 +7,7 @@ use Rattle.flow_lower_tasks.specs.Works.{Job}
 use Rattle.flow_lower_tasks.specs.Plans.{Plan, with_work, with_name, with_labels}
 use Rattle.flow_lower_tasks.specs.declared.pending_works.Decision.{Decision}
 use Rattle.flow_lower_expressions.specs.Branches.{arm}
+use Rattle.template_runs_scopes.proofs.Positions.{position}
 
 -- a work that is no statement
 abbrev pub IsTerm : Job → Type 0
@@ -17,9 +18,9 @@ abbrev pub AreTerms : List Job → Type 0
 AreTerms [] = Unit {0}
 AreTerms (j ∷ js) = IsTerm j × AreTerms js
 
--- no scope was begun since then, and no statement is planned
+-- no scope and no switch was begun since then, and no statement is planned
 pub record Keeps (start p : Plan) : Type 0 where
-  pub scopes : p.scopes ≡ start.scopes
+  pub scopes : position p ≡ position start
   pub terms : AreTerms p.jobs
 
 one_more : (js : List Job) (j : Job) → AreTerms js → IsTerm j → AreTerms (js ++ j ∷ [])

@@ -1,3 +1,4 @@
+pub mod Positions
 pub mod KeptScopes
 pub mod KeptByTerms
 pub mod KeptByConditions
@@ -6,3 +7,6 @@ pub mod Ways
 pub mod InScopes
 pub mod Objects
 pub mod Contexts
+pub mod QuietItems
+pub mod ScopeTrees
+pub mod FunctionBodies

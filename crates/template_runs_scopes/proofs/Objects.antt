@@ -12,12 +12,13 @@ use Rattle.flow_lower_tasks.specs.Works.{Job}
 use Rattle.flow_lower_statements.specs.ScopeJumps.{entered, left, all_entered, all_left}
 use Rattle.ref_machine.specs.Items as item
 use Rattle.ref_machine.specs.Items.{Item}
-use Rattle.template_runs.specs.TemplateStates.{Templates}
+use Rattle.template_runs_follow.specs.Activations.{Activation}
 use Rattle.template_runs_follow.specs.Follows as follows
 use Rattle.template_runs_follow.specs.Follows.{Names, Follows, at_place, own}
 use Rattle.template_runs_follow.proofs.Constructions.{gives_enter, gives_leave, gives_no_enters, gives_no_leaves}
 use Rattle.template_runs_works.specs.TemplateParts.{IsOfUnit, IsKnown, Stands}
 use Rattle.template_runs_works.proofs.Runs.{Runs, headed, none_made, stands_after}
+use Rattle.template_runs_scopes.proofs.Positions.{position}
 use Rattle.template_runs_scopes.proofs.KeptScopes.{AreTerms}
 
 -- ---- works
@@ -39,7 +40,7 @@ pub record Planned (does : ℕ → Act) (at : Place) (xs : List ℕ) (p q : Plan
   pub jobs : q.jobs ≡ p.jobs ++ object_jobs does at xs (length p.names)
   pub names : q.names ≡ p.names ++ locals xs
   pub labels : q.labels ≡ p.labels
-  pub scopes : q.scopes ≡ p.scopes
+  pub scopes : position q ≡ position p
 
 next_base : (names : List NameView) (x : NameView) → length (names ++ x ∷ []) ≡ suc (length names)
 next_base names x = let e = length-append names (x ∷ []) in omega (arith, e)
@@ -64,11 +65,11 @@ left_planned at (x ∷ xs) p = planned_first act.Leave at x xs p (all_left at (x
 -- ---- names
 
 -- bases from a number on are those of objects
-abbrev pub NamedFrom : Templates → ℕ → List ℕ → Type 0
+abbrev pub NamedFrom : Activation → ℕ → List ℕ → Type 0
 NamedFrom t base [] = Unit {0}
 NamedFrom t base (x ∷ xs) = Names t base (Local x) × NamedFrom t (suc base) xs
 
-pub named_from : (t : Templates) (q : Plan) (before : List NameView) (xs : List ℕ) (after : List NameView) → IsKnown t q → q.names ≡ before ++ (locals xs ++ after) → NamedFrom t (length before) xs
+pub named_from : (t : Activation) (q : Plan) (before : List NameView) (xs : List ℕ) (after : List NameView) → IsKnown t q → q.names ≡ before ++ (locals xs ++ after) → NamedFrom t (length before) xs
 named_from t q before [] after known e = tt
 named_from t q before (x ∷ xs) after known e =
     let all = before ++ Local x ∷ [] in
@@ -81,7 +82,7 @@ named_from t q before (x ∷ xs) after known e =
     there [] x ys = refl
     there (y ∷ xs) x ys = there xs x ys
 
-module _ (s : SettingView) (t : Templates) (fits : IsOfUnit t s) (n : ℕ) where
+module _ (s : SettingView) (t : Activation) (fits : IsOfUnit t s) (n : ℕ) where
   -- a piece before others, where it gives one item for another
   pub piece_before : (q : PieceView) (js : List Job) (is hs : List Item) (d middle next : ℕ) → ((items : List Item) (w : List PieceView) → Follows t n middle (hs ++ items) w → Follows t n d (is ++ items) (q ∷ w)) → Runs s t n js hs middle next → Runs s t n (jobs.Ready q ∷ js) is d next
   piece_before q js is hs d middle next gives runs = record {

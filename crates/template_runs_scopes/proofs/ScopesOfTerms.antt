@@ -1,4 +1,4 @@
--- Works that are no statements begin no scopes.
+-- Works that are no statements begin no scopes and no switches.
 use Rattle.std.proofs.Common.{◌≡◌, true, false, List, [], ◌∷◌, refl, ◌∙◌}
 use Rattle.flow_lower_tasks.specs.Pieces.{PieceView}
 use Rattle.flow_lower_tasks.specs.Works as jobs
@@ -7,6 +7,7 @@ use Rattle.flow_lower_tasks.specs.Plans.{Plan}
 use Rattle.flow_lower_tasks.specs.Settings.{SettingView}
 use Rattle.flow_lower_functions.specs.Turns.{planless}
 use Rattle.flow_lower_works.specs.Derivations.{parts, Makes, nothing, piece, work}
+use Rattle.template_runs_scopes.proofs.Positions.{position}
 use Rattle.template_runs_scopes.proofs.KeptScopes.{IsTerm, AreTerms, Keeps}
 use Rattle.template_runs_scopes.proofs.KeptByTerms.{keeps_term, keeps_pointer}
 use Rattle.template_runs_scopes.proofs.KeptByConditions.{keeps_condition}
@@ -29,7 +30,7 @@ none_planned js e = elim_empty js e
         no : j ∷ js ≡ [] → ⊥
         no e = cc
 
-pub scopes_kept : (s : SettingView) (p : Plan) (js : List Job) (ps : List PieceView) (r : Plan) → Makes s p js ps r → AreTerms p.jobs → AreTerms js → (r.scopes ≡ p.scopes) × AreTerms r.jobs
+pub scopes_kept : (s : SettingView) (p : Plan) (js : List Job) (ps : List PieceView) (r : Plan) → Makes s p js ps r → AreTerms p.jobs → AreTerms js → (position r ≡ position p) × AreTerms r.jobs
 scopes_kept s p _ _ r (nothing _) none all = (refl, none)
 scopes_kept s p _ _ r (piece _ q js qs _ m) none all = scopes_kept s p js qs r m none all.1
 scopes_kept s p _ _ r (work _ j js ps q qs _ other m k) none all =

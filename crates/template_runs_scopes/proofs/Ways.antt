@@ -7,9 +7,11 @@ use Rattle.flow_lower_tasks.specs.Scopes.{ScopeView}
 use Rattle.flow_lower_tasks.specs.Settings.{SettingView}
 use Rattle.flow_lower_statements.specs.ScopeJumps as scopes
 use Rattle.flow_lower_statements.specs.ScopeJumps.{way, all_left}
-use Rattle.ref_machine.specs.Scopes.{is_in, without}
+use Rattle.ref_machine.specs.Scopes.{is_in, without, all_of}
 use Rattle.template_runs_scopes.specs.Contexts.{Up, here, out, AreIn}
 use Rattle.template_runs_scopes.specs.SuitedStatements.{AreNew}
+use Rattle.template_runs_scopes.specs.Chains as chains
+use Rattle.template_runs_scopes.specs.Chains.{Chain}
 
 pub outwards : (s : SettingView) (from to : ℕ) (xs : List ℕ) → Up s from to xs → to ≤ from
 outwards s _ _ _ (here k) = itself k
@@ -17,6 +19,24 @@ outwards s _ _ _ (here k) = itself k
     itself : (k : ℕ) → k ≤ k
     itself k = omega arith
 outwards s _ _ _ (out number around to objects xs less is up) = omega (arith, less)
+
+-- scopes of a chain are there, and lead to that of the parameters
+pub chain_there : (s : SettingView) (number : ℕ) (scopes : List (List ℕ)) → Chain s number scopes → number ≤ length s.scopes.scopes
+chain_there s _ _ chains.outermost = least (length s.scopes.scopes)
+  where
+    least : (a : ℕ) → 0 ≤ a
+    least a = omega arith
+chain_there s _ _ (chains.inside number around objects scopes is chain) = at_most number (length s.scopes.scopes) is.there
+  where
+    at_most : (a b : ℕ) → a < b → a ≤ b
+    at_most a b less = omega (arith, less)
+
+pub chain_home : (s : SettingView) (number : ℕ) (scopes : List (List ℕ)) → Chain s number scopes → Up s number 0 (all_of scopes)
+chain_home s _ _ chains.outermost = here 0
+chain_home s _ _ (chains.inside number around objects scopes is chain) = out number around 0 objects (all_of scopes) (above around number is.later) is (chain_home s around scopes chain)
+  where
+    above : (a b : ℕ) → a < b → 0 < b
+    above a b less = omega (arith, less)
 
 all_left_on : (at : Place) (xs ys : List ℕ) (p : Plan) → all_left at (xs ++ ys) p ≡ all_left at ys (all_left at xs p)
 all_left_on at [] ys p = refl

@@ -1,14 +1,19 @@
--- Where the items of statements stand: the scopes that are open, and the ends of the loop around.
-use Rattle.std.specs.Prelude.{◌≡◌, ◌≤◌, ◌<◌, ℕ, Bool, true, List, [], ◌∷◌, ◌++◌, length}
+-- Where the items of statements stand: the scopes that are open, the ends of the loop around, and the labels.
+use Rattle.std.specs.Prelude.{◌≡◌, ◌<◌, ℕ, zero, suc, true, List, [], ◌∷◌, ◌++◌, Some}
+use Rattle.c_layout.specs.CheckedUnits.{FunctionView}
 use Rattle.flow_lower_tasks.specs.Pieces.{PieceView}
 use Rattle.flow_lower_tasks.specs.Settings.{SettingView}
 use Rattle.flow_lower_tasks.specs.declared.pending_works.Landing.{Landing}
 use Rattle.flow_lower_tasks.specs.declared.pending_works.Surroundings.{Surroundings}
 use Rattle.ref_machine.specs.Items.{Item}
+use Rattle.ref_machine.specs.LabelSearch.{from_label}
 use Rattle.ref_machine.specs.Scopes.{is_in, all_of, open_scopes, without, inwards, behind_loop, behind_turn}
-use Rattle.template_runs.specs.TemplateStates.{Templates}
+use Rattle.ref_machine.specs.SourceStates.{function_at}
+use Rattle.template_runs_follow.specs.Activations.{Activation}
 use Rattle.template_runs_follow.specs.Follows.{Leads, Follows}
+use Rattle.template_runs_scopes.specs.Chains.{Chain}
 use Rattle.template_runs_scopes.specs.Scopes.{IsScope}
+use Rattle.template_runs_scopes.specs.SuitedStatements.{Enclosure}
 
 -- from a scope outwards to another one such objects are left
 pub data Up (s : SettingView) : ℕ → ℕ → List ℕ → Type 0 where
@@ -20,7 +25,26 @@ abbrev pub AreIn : List ℕ → List ℕ → Type 0
 AreIn [] known = Unit {0}
 AreIn (x ∷ xs) known = (is_in x known ≡ true) × AreIn xs known
 
-module _ (s : SettingView) (t : Templates) where
+-- ---- labels
+
+-- such items follow behind the mark of a label
+pub record Reaches (t : Activation) (n label : ℕ) (to : List Item) : Type 0 where
+  pub there : List PieceView
+  pub leads : Leads t label there
+  pub follows : Follows t n 0 to there
+
+-- what is left to do from each label of the function that runs on follows behind its mark
+abbrev pub LabelsReach : Activation → ℕ → Type 0
+LabelsReach t n = (f : FunctionView) → function_at t.unit t.function ≡ Some f → (l : ℕ) (to : List Item) → l < f.labels → from_label t.unit f l ≡ Some to → Reaches t n l to
+
+-- for fewer turns than so many
+abbrev pub LabelsReachBefore : Activation → ℕ → Type 0
+LabelsReachBefore t zero = Unit {0}
+LabelsReachBefore t (suc n) = LabelsReach t n
+
+-- ---- statements
+
+module _ (s : SettingView) (t : Activation) where
   -- a jump from such scopes to items behind a label leaves such objects and enters none
   pub record Lands (n : ℕ) (scopes : List (List ℕ)) (to : List Item) (from : ℕ) (landing : Landing) : Type 0 where
     pub objects : List ℕ
@@ -32,13 +56,13 @@ module _ (s : SettingView) (t : Templates) where
     pub leads : Leads t landing.label there
     pub follows : Follows t n 0 to there
 
-  -- where items stand: the scopes that are open, in a loop its ends, and the way to the end of the function
-  pub record Context (n : ℕ) (around : Surroundings) (in_loop : Bool) (known : List ℕ) (scopes : List (List ℕ)) (after_loop after_turn : List Item) : Type 0 where
+  -- where items stand: the scopes that are open, in a loop or switch its ends, and where labels lead for fewer turns
+  pub record Context (n : ℕ) (around : Surroundings) (enclosed : Enclosure) (known : List ℕ) (scopes : List (List ℕ)) (after_loop after_turn : List Item) : Type 0 where
     pub within : (x : ℕ) → is_in x (all_of scopes) ≡ true → is_in x known ≡ true
-    pub enough : around.scope ≤ length s.scopes.scopes
-    pub home : Up s around.scope 0 (all_of scopes)
-    pub on_break : in_loop ≡ true → Lands n scopes after_loop around.scope around.on_break
-    pub on_continue : in_loop ≡ true → Lands n scopes after_turn around.scope around.on_continue
+    pub chain : Chain s around.scope scopes
+    pub labels : LabelsReachBefore t n
+    pub on_break : enclosed.breaks ≡ true → Lands n scopes after_loop around.scope around.on_break
+    pub on_continue : enclosed.continues ≡ true → Lands n scopes after_turn around.scope around.on_continue
 
-  abbrev pub Within : ℕ → Surroundings → Bool → List ℕ → List Item → Type 0
-  Within n around in_loop known items = Context n around in_loop known (open_scopes items) (behind_loop items) (behind_turn items)
+  abbrev pub Within : ℕ → Surroundings → Enclosure → List ℕ → List Item → Type 0
+  Within n around enclosed known items = Context n around enclosed known (open_scopes items) (behind_loop items) (behind_turn items)

@@ -1,3 +1,4 @@
 pub mod Scopes
 pub mod SuitedStatements
+pub mod Chains
 pub mod Contexts

@@ -24,6 +24,25 @@ abbrev mutual
   all_scopes_in tree.NoMore = 0
   all_scopes_in (tree.And first rest) = scopes_in first + all_scopes_in rest
 
+-- how many switches begin in a statement
+abbrev mutual
+  pub switches_in : StatementTree → ℕ
+  switches_in (tree.Block objects items) = all_switches_in items
+  switches_in (tree.If e body) = switches_in body
+  switches_in (tree.IfElse e first second) = switches_in first + switches_in second
+  switches_in (tree.While e body) = switches_in body
+  switches_in (tree.Do body e) = switches_in body
+  switches_in (tree.For objects first e step body) = all_switches_in first + switches_in body
+  switches_in (tree.Switch at e labels has_default values body) = suc (switches_in body)
+  switches_in (tree.Case n body) = switches_in body
+  switches_in (tree.Default body) = switches_in body
+  switches_in (tree.Label n body) = switches_in body
+  switches_in other = 0
+
+  pub all_switches_in : StatementTrees → ℕ
+  all_switches_in tree.NoMore = 0
+  all_switches_in (tree.And first rest) = switches_in first + all_switches_in rest
+
 -- the scope of a number has these objects and stands in another one, which begins before it
 pub record IsScope (s : SettingView) (number around : ℕ) (objects : List ℕ) : Type 0 where
   pub there : number < length s.scopes.scopes

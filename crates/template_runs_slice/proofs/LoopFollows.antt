@@ -10,10 +10,12 @@ use Rattle.ref_machine.specs.SourceRuns.{body_of}
 use Rattle.ref_machine.specs.SourceStates.{function_at}
 use Rattle.template_runs_acts.specs.Acts as acts
 use Rattle.template_runs_follow.specs.Follows as follows
-use Rattle.template_runs_follow.specs.Follows.{Follows, pieces}
+use Rattle.template_runs_follow.specs.Activations.{entry_of}
+use Rattle.template_runs_follow.specs.Follows.{Follows, AllFollow, pieces}
 use Rattle.template_runs_follow.proofs.Constructions.{gives_value, gives_unused, gives_address, gives_statement, gives_turn_end, gives_loop_end, gives_drop, gives_no_enters, gives_no_leaves, gives_step, gives_store, gives_object, gives_change, gives_enter, gives_leave, gives_return, gives_hop, gives_choice, gives_end}
-use Rattle.template_runs_follow.proofs.TurnsFollow.{runs_agree}
+use Rattle.template_runs_turns.proofs.TurnsFollow.{runs_agree}
 use Rattle.template_runs_slice.specs.Units.{at}
+use Rattle.template_runs_slice.proofs.NoCalls.{not_called}
 use Rattle.template_runs_slice.specs.Loop.{is_less, counts, loop, quotient, main, behind_loop, in_body, in_test, of_main, templates, IsFollowed}
 
 module _ (b : ℕ) where
@@ -26,7 +28,7 @@ module _ (b : ℕ) where
   abbrev to_loop : List Item
   to_loop = item.ForTurn (Some (is_less b)) (Some counts) tree.Nothing ∷ (item.LoopEnd ∷ (item.Leaves [] ∷ to_return))
 
-  returns : (n : ℕ) → Follows (templates b) n 0 to_return behind_loop
+  returns : (n : ℕ) → Follows (entry_of (templates b)) n 0 to_return behind_loop
   returns n =
       gives_statement n 0 _ at_end _
       (gives_value n 0 quotient _ _
@@ -35,10 +37,10 @@ module _ (b : ℕ) where
       (gives_step n 2 1 _ _ _ _ _ (acts.binary_left 0 _ _)
       (gives_drop n 0 _ _
       (gives_return n 0 (main b) _ _ refl
-      (gives_leave n 0 7 0 [] _ _ refl (gives_no_leaves n 0 _ _ (gives_end n 0 _ _)))))))))))))
+      (gives_leave n 0 7 0 [] _ _ refl (gives_no_leaves n 0 _ _ (gives_end n 0 _ _ refl)))))))))))))
 
   -- behind the body the object is counted up, and control goes back
-  turns_back : (n : ℕ) → Follows (templates b) n 0 to_loop (in_test b) → Follows (templates b) n 0 (item.Statement tree.Nothing ∷ (item.TurnEnd ∷ (item.Unused counts ∷ (item.Hop ∷ to_loop)))) in_body
+  turns_back : (n : ℕ) → Follows (entry_of (templates b)) n 0 to_loop (in_test b) → Follows (entry_of (templates b)) n 0 (item.Statement tree.Nothing ∷ (item.TurnEnd ∷ (item.Unused counts ∷ (item.Hop ∷ to_loop)))) in_body
   turns_back n back =
       follows.by_mark n 0 4 _ _
       (gives_statement n 0 tree.Nothing _ _
@@ -49,7 +51,7 @@ module _ (b : ℕ) where
       (gives_store n 0 _ _ _ _
       (gives_hop n 0 2 _ _ (in_test b) refl back)))))))))
 
-  loops : (n : ℕ) → Follows (templates b) n 0 to_loop (in_test b)
+  loops : (n : ℕ) → Follows (entry_of (templates b)) n 0 to_loop (in_test b)
   loops zero = follows.enough 0 to_loop (in_test b)
   loops (suc n) =
       follows.in_for n 0 (Some (is_less b)) (Some counts) tree.Nothing _ _
@@ -62,7 +64,7 @@ module _ (b : ℕ) where
       (turns_back n (loops n))
       (gives_loop_end n 0 _ _ (gives_no_leaves n 0 _ _ (returns n))))))))))))
 
-  starts : (n : ℕ) → Follows (templates b) n 0 (body_of (function_at (templates b).unit (templates b).unit.entry)) (pieces (templates b))
+  starts : (n : ℕ) → Follows (entry_of (templates b)) n 0 (body_of (function_at (templates b).unit (templates b).unit.entry)) (pieces (entry_of (templates b)))
   starts n =
       gives_enter n 0 0 0 [] _ _ refl (gives_no_enters n 0 _ _
       (gives_statement n 0 _ _ _ (gives_change n 0 2 0 _ item.Forget _ _ refl
@@ -76,5 +78,9 @@ module _ (b : ℕ) where
   unfolding with_work with_name with_labels with_scope with_dispatch with_new_scope
   made = record { turns = 60; ended = refl; comes_to = refl }
 
+-- the function calls none
+no_calls : (b : ℕ) → AllFollow (templates b)
+no_calls b h g f caller callers reached calls is n = absurd (not_called g (of_main b).pieces tt calls)
+
 pub followed : (b : ℕ) → IsFollowed b
-followed b = record { template = made b; runs = runs_agree (templates b) (starts b) }
+followed b = record { template = made b; runs = runs_agree (templates b) (no_calls b) (starts b) }

@@ -1,5 +1,5 @@
 -- `int main(void){int i;for(i=0;i<b;i++);return 1/i;}`, its template, and what is said of both.
-use Rattle.std.specs.Prelude.{◌≡◌, ℕ, pos, true, false, ℤ, List, [], ◌∷◌, Some, None}
+use Rattle.std.specs.Prelude.{ℕ, pos, true, false, ℤ, List, [], ◌∷◌, Some, None}
 use Rattle.cc_base.specs.declared.integer_operators.IntOp.TheVariants as sign
 use Rattle.cc_base.specs.declared.integer_operators.Rel.{Rel}
 use Rattle.cc_base.specs.declared.integer_operators.Rel.TheVariants as rel
@@ -20,7 +20,7 @@ use Rattle.flow_lower_functions.specs.Functions.{IsTemplate}
 use Rattle.ref_machine.specs.SourceRuns.{Run}
 use Rattle.template_runs.specs.TemplateStates.{Templates}
 use Rattle.template_runs.specs.TemplateSteps.{template_begin, steps_from}
-use Rattle.template_runs_follow.specs.Alike.{Agree}
+use Rattle.template_runs_turns.specs.Alike.{Agree}
 use Rattle.template_runs_slice.specs.Units.{int, at, term, number, object, value, binary, local, function_of, unit_of, done, ends, address, load, store, constant}
 
 abbrev pub is_less : ℕ → TermTree

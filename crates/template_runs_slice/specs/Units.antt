@@ -1,5 +1,5 @@
 -- Small units, all on one line and in int, and the templates of their functions.
-use Rattle.std.specs.Prelude.{ℕ, pos, true, Bool, List, [], ◌∷◌, Option, Some, None}
+use Rattle.std.specs.Prelude.{ℕ, pos, true, Bool, List, [], ◌∷◌, Some, None}
 use Rattle.cc_base.specs.declared.diagnostics.Place.{Place}
 use Rattle.cc_base.specs.declared.diagnostics.Rule.{Rule}
 use Rattle.cc_base.specs.declared.int_types.IntType.{IntType}

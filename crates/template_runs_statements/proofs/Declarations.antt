@@ -1,5 +1,5 @@
 -- Declarations and their initializers.
-use Rattle.std.proofs.Common.{◌≡◌, ℕ, suc, true, false, List, [], ◌∷◌, ◌++◌, length, None, refl, arith, ap, sym, subst, ◌∙◌, append_assoc, length-append}
+use Rattle.std.proofs.Common.{◌≡◌, ℕ, suc, false, List, [], ◌∷◌, ◌++◌, length, None, refl, arith, ap, sym, subst, ◌∙◌, append_assoc, length-append}
 use Rattle.std.proofs.lemmas.List.{append-nil}
 use Rattle.cc_base.specs.declared.diagnostics.Place.{Place}
 use Rattle.c_layout.specs.Types.{Ty, Struct}
@@ -21,9 +21,9 @@ use Rattle.ref_machine.specs.Items as item
 use Rattle.ref_machine.specs.Items.{Item}
 use Rattle.ref_machine.specs.Operations as op
 use Rattle.ref_machine.specs.StatementItems.{of_statement, stored, all_stored}
-use Rattle.template_runs.specs.TemplateStates.{Templates}
 use Rattle.template_runs_acts.specs.Acts as acts
 use Rattle.template_runs_acts.specs.Acts.{IsAct}
+use Rattle.template_runs_follow.specs.Activations.{Activation, of_entry}
 use Rattle.template_runs_follow.specs.Follows.{Names, at_place}
 use Rattle.template_runs_follow.proofs.Constructions.{gives_statement, gives_object, gives_change, gives_step, gives_drop}
 use Rattle.template_runs_works.specs.TemplateParts.{IsOfUnit}
@@ -32,6 +32,7 @@ use Rattle.template_runs_works.proofs.Assignments.{one_more_job, nothing_done, s
 use Rattle.template_runs_works.proofs.Laying.{known_between}
 use Rattle.template_runs_terms.proofs.Terms.{terms, places}
 use Rattle.template_runs_scopes.specs.SuitedStatements.{SuitsBehind, SuitsAsStore, SuitAsStores}
+use Rattle.template_runs_scopes.proofs.Positions.{Position, position}
 use Rattle.template_runs_scopes.proofs.KeptScopes.{AreTerms}
 use Rattle.template_runs_scopes.proofs.ScopesOfTerms.{scopes_kept}
 use Rattle.template_runs_scopes.proofs.InScopes.{Goes, gives_way}
@@ -56,7 +57,7 @@ once_each x (y ∷ ys) = x ∷ once_each x ys
 pub record Stored (at : Place) (x : ℕ) (xs : List StoreTree) (p q : Plan) : Type 0 where
   pub jobs : q.jobs ≡ p.jobs ++ all_store_jobs at xs (length p.names)
   pub names : q.names ≡ p.names ++ locals (once_each x xs)
-  pub scopes : q.scopes ≡ p.scopes
+  pub scopes : position q ≡ position p
 
 next_base : (names : List NameView) (x : NameView) → length (names ++ x ∷ []) ≡ suc (length names)
 next_base names x = let e = length-append names (x ∷ []) in omega (arith, e)
@@ -64,7 +65,7 @@ next_base names x = let e = length-append names (x ∷ []) in omega (arith, e)
 record One (at : Place) (x : ℕ) (y : StoreTree) (p q : Plan) : Type 0 where
   jobs : q.jobs ≡ p.jobs ++ store_jobs at y (length p.names)
   names : q.names ≡ p.names ++ Local x ∷ []
-  scopes : q.scopes ≡ p.scopes
+  scopes : position q ≡ position p
 
 one_stored : (at : Place) (x : ℕ) (y : StoreTree) (p : Plan) → One at x y p (lowered.stored at x y p)
 unfolding with_work with_name
@@ -104,7 +105,7 @@ cleared_base : (at : Place) (x : ℕ) (p : Plan) → length (lowered.cleared at 
 unfolding with_work with_name
 cleared_base at x p = next_base p.names (Local x)
 
-cleared_scopes : (at : Place) (x : ℕ) (p : Plan) → (lowered.cleared at x p).scopes ≡ p.scopes
+cleared_scopes : (at : Place) (x : ℕ) (p : Plan) → position (lowered.cleared at x p) ≡ position p
 unfolding with_work with_name
 cleared_scopes at x p = refl
 
@@ -116,7 +117,7 @@ forgotten_names : (at : Place) (x : ℕ) (p : Plan) → (lowered.forget at x p).
 unfolding with_work with_name
 forgotten_names at x p = refl
 
-forgotten_scopes : (at : Place) (x : ℕ) (p : Plan) → (lowered.forget at x p).scopes ≡ p.scopes
+forgotten_scopes : (at : Place) (x : ℕ) (p : Plan) → position (lowered.forget at x p) ≡ position p
 unfolding with_work with_name
 forgotten_scopes at x p = refl
 
@@ -124,11 +125,11 @@ work_names : (j : Job) (p : Plan) → (with_work j p).names ≡ p.names
 unfolding with_work
 work_names j p = refl
 
-work_scopes : (j : Job) (p : Plan) → (with_work j p).scopes ≡ p.scopes
+work_scopes : (j : Job) (p : Plan) → position (with_work j p) ≡ position p
 unfolding with_work
 work_scopes j p = refl
 
-module _ (s : SettingView) (t : Templates) (fits : IsOfUnit t s) (n : ℕ) where
+module _ (s : SettingView) (t : Activation) (fits : IsOfUnit t s) (n : ℕ) where
   copy_act : (ctype : Ty) → ctype ≡ Struct (struct_number ctype) → IsAct (op.Copy ctype) (act.Copy 0 1 (struct_number ctype)) 2 1
   copy_act ctype is = subst (λ k. IsAct (op.Copy k) (act.Copy 0 1 (struct_number ctype)) 2 1) (sym is) (acts.copy 0 (struct_number ctype))
 
@@ -136,7 +137,7 @@ module _ (s : SettingView) (t : Templates) (fits : IsOfUnit t s) (n : ℕ) where
   points : (at : Place) (x offset base : ℕ) → Names t base (Local x) → Runs s t n (jobs.Ready (at_place at (act.Address 0 base offset)) ∷ []) (item.Object at (object.Local x) offset ∷ []) 0 1
   points at x offset base named = piece_first s t n (at_place at (act.Address 0 base offset)) (item.Object at (object.Local x) offset ∷ []) 0 1 (λ items rest f. gives_object n 0 base at (object.Local x) offset items rest named f)
 
-  one_runs : (at : Place) (x : ℕ) (y : StoreTree) (base : ℕ) → SuitsAsStore y → Names t base (Local x) → Runs s t n (store_jobs at y base) (stored at x y) 0 0
+  one_runs : (at : Place) (x : ℕ) (y : StoreTree) (base : ℕ) → SuitsAsStore t.unit y → Names t base (Local x) → Runs s t n (store_jobs at y base) (stored at x y) 0 0
   one_runs at x (StoreValue offset e) base suits named =
       then s t n (jobs.Ready (at_place at (act.Address 0 base offset)) ∷ []) _ (item.Object at (object.Local x) offset ∷ []) _ 0 1 0 (points at x offset base named)
       (then s t n (jobs.Value e 1 ∷ []) _ (item.Value e ∷ []) _ 1 2 0 ((terms s t fits n e).value 1 suits.0 suits.1) (stores s t n 0 at (scalar_of (term_type e))))
@@ -147,15 +148,15 @@ module _ (s : SettingView) (t : Templates) (fits : IsOfUnit t s) (n : ℕ) where
       (λ items rest f. gives_step n 2 1 at (op.Copy (lvalue_type l)) (act.Copy 0 1 (struct_number (lvalue_type l))) (item.Drop ∷ items) rest (copy_act (lvalue_type l) suits.2) (gives_drop n 0 items rest f))))
   one_runs at x (StoreText offset room text) base suits named = piece_first s t n (at_place at (act.Spell base offset room text)) (item.OnObject at x (item.Spell offset room text) ∷ []) 0 0 (λ items rest f. gives_change n 0 base x at (item.Spell offset room text) items rest named f)
 
-  all_run : (at : Place) (x : ℕ) (xs : List StoreTree) (base : ℕ) → SuitAsStores xs → NamedFrom t base (once_each x xs) → Runs s t n (all_store_jobs at xs base) (all_stored at x xs) 0 0
+  all_run : (at : Place) (x : ℕ) (xs : List StoreTree) (base : ℕ) → SuitAsStores t.unit xs → NamedFrom t base (once_each x xs) → Runs s t n (all_store_jobs at xs base) (all_stored at x xs) 0 0
   all_run at x [] base suits named = nothing_done s t n 0
   all_run at x (y ∷ ys) base suits named = then s t n (store_jobs at y base) (all_store_jobs at ys (suc base)) (stored at x y) (all_stored at x ys) 0 0 0 (one_runs at x y base suits.0 named.0) (all_run at x ys (suc base) suits.1 named.1)
 
-  module _ (around : Surroundings) (K : List Item → Type 0) (c : ℕ) where
+  module _ (around : Surroundings) (K : List Item → Type 0) (c : Position) where
     -- the works of a statement that begins no scope and names objects
-    named_form : (i : StatementTree) (js : ℕ → List Job) (xs : List ℕ) → ((p : Plan) → p.jobs ≡ [] → (parts s (jobs.Statement i around) p).jobs ≡ js (length p.names)) → ((p : Plan) → (parts s (jobs.Statement i around) p).names ≡ p.names ++ locals xs) → ((p : Plan) → (parts s (jobs.Statement i around) p).scopes ≡ p.scopes)
-        → ((base : ℕ) → AreTerms (js base)) → ((base : ℕ) → NamedFrom t base xs → Runs s t n (js base) (of_statement t.unit true i) 0 0) → Goes s t n c c K (jobs.Statement i around ∷ []) (item.Statement i ∷ [])
-    named_form i js xs planned named counted are_terms runs = gives_way s t n c c K (jobs.Statement i around) (item.Statement i) (of_statement t.unit true i) refl (gives_statement n 0 i)
+    named_form : (i : StatementTree) (js : ℕ → List Job) (xs : List ℕ) → ((p : Plan) → p.jobs ≡ [] → (parts s (jobs.Statement i around) p).jobs ≡ js (length p.names)) → ((p : Plan) → (parts s (jobs.Statement i around) p).names ≡ p.names ++ locals xs) → ((p : Plan) → position (parts s (jobs.Statement i around) p) ≡ position p)
+        → ((base : ℕ) → AreTerms (js base)) → ((base : ℕ) → NamedFrom t base xs → Runs s t n (js base) (of_statement t.unit (of_entry t) i) 0 0) → Goes s t n c c K (jobs.Statement i around ∷ []) (item.Statement i ∷ [])
+    named_form i js xs planned named counted are_terms runs = gives_way s t n c c K (jobs.Statement i around) (item.Statement i) (of_statement t.unit (of_entry t) i) refl (gives_statement n 0 i)
         (λ p none begun ps r m known items rest stands k f.
         let all = parts s (jobs.Statement i around) p in
         let here = named_from t (planless all) p.names xs [] (known_between s t (planless all) all.jobs ps r m known) (named p ∙ ap (λ ns. p.names ++ ns) (sym (append-nil (locals xs)))) in
@@ -164,15 +165,15 @@ module _ (s : SettingView) (t : Templates) (fits : IsOfUnit t s) (n : ℕ) where
         let all = parts s (jobs.Statement i around) p in
         (scopes_kept s (planless all) all.jobs ps r m tt (subst AreTerms (sym (planned p none)) (are_terms (length p.names)))).0 ∙ counted p ∙ begun)
 
-    pub of_stores : (i : StatementTree) (at : Place) (x : ℕ) (xs : List StoreTree) → ((p : Plan) → parts s (jobs.Statement i around) p ≡ lowered.all_stored at x xs p) → of_statement t.unit true i ≡ all_stored at x xs → SuitAsStores xs → Goes s t n c c K (jobs.Statement i around ∷ []) (item.Statement i ∷ [])
+    pub of_stores : (i : StatementTree) (at : Place) (x : ℕ) (xs : List StoreTree) → ((p : Plan) → parts s (jobs.Statement i around) p ≡ lowered.all_stored at x xs p) → of_statement t.unit (of_entry t) i ≡ all_stored at x xs → SuitAsStores t.unit xs → Goes s t n c c K (jobs.Statement i around ∷ []) (item.Statement i ∷ [])
     of_stores i at x xs same items suits = named_form i (all_store_jobs at xs) (once_each x xs)
         (λ p none. ap (λ (q : Plan). q.jobs) (same p) ∙ (stored_planned at x xs p).jobs ∙ ap (λ js. js ++ all_store_jobs at xs (length p.names)) none)
         (λ p. ap (λ (q : Plan). q.names) (same p) ∙ (stored_planned at x xs p).names)
-        (λ p. ap (λ (q : Plan). q.scopes) (same p) ∙ (stored_planned at x xs p).scopes)
+        (λ p. ap position (same p) ∙ (stored_planned at x xs p).scopes)
         (stores_are_terms at xs)
         (λ base named. subst (λ is. Runs s t n (all_store_jobs at xs base) is 0 0) (sym items) (all_run at x xs base suits named))
 
-    pub of_list : (at : Place) (x : ℕ) (xs : List StoreTree) → SuitAsStores xs → Goes s t n c c K (jobs.Statement (tree.StartList at x xs) around ∷ []) (item.Statement (tree.StartList at x xs) ∷ [])
+    pub of_list : (at : Place) (x : ℕ) (xs : List StoreTree) → SuitAsStores t.unit xs → Goes s t n c c K (jobs.Statement (tree.StartList at x xs) around ∷ []) (item.Statement (tree.StartList at x xs) ∷ [])
     of_list at x xs suits = named_form (tree.StartList at x xs) (λ base. jobs.Ready (at_place at (act.Clear base)) ∷ all_store_jobs at xs (suc base)) (x ∷ once_each x xs)
         (λ p none. let q = lowered.cleared at x p in (stored_planned at x xs q).jobs ∙ ap (λ b. q.jobs ++ all_store_jobs at xs b) (cleared_base at x p) ∙ ap (λ js. js ++ all_store_jobs at xs (suc (length p.names))) (cleared_jobs at x p none))
         (λ p. let q = lowered.cleared at x p in (stored_planned at x xs q).names ∙ cleared_names at x p (locals (once_each x xs)))
@@ -188,7 +189,7 @@ module _ (s : SettingView) (t : Templates) (fits : IsOfUnit t s) (n : ℕ) where
 
     -- ---- expressions
 
-    pub of_value : (e : TermTree) → SuitsBehind false 0 e → Goes s t n c c K (jobs.Statement (tree.Value e) around ∷ []) (item.Statement (tree.Value e) ∷ [])
+    pub of_value : (e : TermTree) → SuitsBehind t.unit false 0 e → Goes s t n c c K (jobs.Statement (tree.Value e) around ∷ []) (item.Statement (tree.Value e) ∷ [])
     of_value e suits = named_form (tree.Value e) (λ base. jobs.Unused e 0 ∷ []) [] (λ p none. one_more_job [] (jobs.Unused e 0) p none) (λ p. work_names (jobs.Unused e 0) p ∙ sym (append-nil p.names)) (λ p. work_scopes (jobs.Unused e 0) p) (λ base. (tt, tt)) (λ base named. (terms s t fits n e).done 0 suits.0 suits.1)
 
     pub of_nothing : Goes s t n c c K (jobs.Statement tree.Nothing around ∷ []) (item.Statement tree.Nothing ∷ [])

@@ -1,9 +1,10 @@
 -- `for`.
-use Rattle.std.proofs.Common.{◌≡◌, ◌≤◌, ◌<◌, ℕ, zero, suc, ◌+◌, ◌-◌, ◌^◌, Bool, true, false, List, [], ◌∷◌, ◌++◌, length, Option, Some, None, refl, arith, ap, sym, subst, ◌∙◌, append_assoc}
+use Rattle.std.proofs.Common.{◌≡◌, ◌≤◌, ◌<◌, ℕ, zero, suc, ◌+◌, ◌-◌, ◌^◌, true, false, List, [], ◌∷◌, ◌++◌, length, Option, Some, None, refl, arith, ap, sym, subst, ◌∙◌, append_assoc}
 use Rattle.std.proofs.lemmas.List.{append-nil}
 use Rattle.cc_base.specs.declared.diagnostics.Place.{Place}
 use Rattle.c_layout.specs.CheckedTrees as tree
 use Rattle.c_layout.specs.CheckedTrees.{TermTree, StatementTree, StatementTrees}
+use Rattle.c_layout.specs.CheckedUnits.{FunctionView}
 use Rattle.flow_lower_tasks.specs.Acts as act
 use Rattle.flow_lower_tasks.specs.Pieces.{PieceView, Mark}
 use Rattle.flow_lower_tasks.specs.Plans.{Plan, with_work, with_scope, with_labels, begun}
@@ -25,7 +26,7 @@ use Rattle.flow_lower_works.proofs.Derivations.{parted}
 use Rattle.ref_machine.specs.Items as item
 use Rattle.ref_machine.specs.Items.{Item}
 use Rattle.ref_machine.specs.StatementItems.{of_statement, statements, clause, for_body, for_turn}
-use Rattle.template_runs.specs.TemplateStates.{Templates}
+use Rattle.template_runs_follow.specs.Activations.{Activation, of_entry}
 use Rattle.template_runs_follow.specs.Follows as follows
 use Rattle.template_runs_follow.specs.Follows.{Leads, Follows}
 use Rattle.template_runs_follow.proofs.Constructions.{gives_statement, gives_loop_end, gives_turn_end}
@@ -35,35 +36,34 @@ use Rattle.template_runs_works.proofs.Runs.{Runs, stands_behind, stands_after, n
 use Rattle.template_runs_terms.proofs.Choices.{jumping, hops}
 use Rattle.template_runs_works.proofs.Laying.{from_piece, from_none, from_work, led, known_between, few_labels}
 use Rattle.template_runs_terms.proofs.Terms.{terms}
-use Rattle.template_runs_scopes.specs.Scopes.{scopes_in, all_scopes_in}
+use Rattle.template_runs_scopes.proofs.Positions.{Position, position, inner, past, past_all, one_inner, past_for}
 use Rattle.template_runs_scopes.proofs.KeptScopes.{AreTerms}
 use Rattle.template_runs_scopes.proofs.ScopesOfTerms.{scopes_kept}
 use Rattle.template_runs_scopes.specs.Contexts.{Within, Context}
 use Rattle.template_runs_scopes.proofs.InScopes.{context_less, Goes, goes_on, plainly, gives_way}
 use Rattle.template_runs_scopes.proofs.Objects.{object_jobs, objects_are_terms, entered_planned, left_planned, named_from, locals, marks}
 use Rattle.template_runs_scopes.proofs.Contexts.{in_block, in_body}
-use Rattle.template_runs_statements.proofs.Sequences.{statement_jobs, listed, AboutStatement, AboutStatements, enclosed}
+use Rattle.template_runs_statements.proofs.Sequences.{statement_jobs, listed, HasParts, AboutStatement, AboutStatements, enclosed}
 use Rattle.ref_machine.specs.Scopes.{open_scopes, behind_loop, behind_turn}
 use Rattle.template_runs_works.proofs.Assignments.{nothing_done}
-use Rattle.template_runs_scopes.specs.SuitedStatements.{SuitsIf, SuitsIn}
-use Rattle.template_runs_scopes.specs.Scopes.{HasScopes}
-use Rattle.template_runs_statements.proofs.Selections.{Counts, count_terms, count_on, below, itself, next_scope}
+use Rattle.template_runs_scopes.specs.SuitedStatements.{Enclosure, not_enclosed, by_loop, SuitsIf, SuitsIn}
+use Rattle.template_runs_statements.proofs.Selections.{Counts, count_terms, count_on, below, itself}
 use Rattle.flow_lower_growth.proofs.GrowingStatements.{grows_statements, grows_entered, grows_left, grows_check, grows_step}
 
 -- ---- works of the turns, from the label of the condition on
 
-abbrev test_jobs : Option TermTree → ℕ → List Job
+abbrev pub test_jobs : Option TermTree → ℕ → List Job
 test_jobs None l = []
 test_jobs (Some e) l = jobs.Condition e (decided (record { yes = l + 2; no = l + 4 }) 0) ∷ []
 
-abbrev clause_jobs : Option TermTree → List Job
+abbrev pub clause_jobs : Option TermTree → List Job
 clause_jobs None = []
 clause_jobs (Some e) = jobs.Unused e 0 ∷ []
 
-abbrev body_jobs : Place → Option TermTree → StatementTree → Surroundings → ℕ → List Job
+abbrev pub body_jobs : Place → Option TermTree → StatementTree → Surroundings → ℕ → List Job
 body_jobs at after body inside l = jobs.Ready (Mark (l + 2)) ∷ (jobs.Statement body (in_loop inside (l + 4) (l + 3)) ∷ (jobs.Ready (Mark (l + 3)) ∷ (clause_jobs after ++ (jobs.Ready (jumping at (l + 1)) ∷ (jobs.Ready (Mark (l + 4)) ∷ [])))))
 
-turn_jobs : Place → Option TermTree → Option TermTree → StatementTree → Surroundings → ℕ → List Job
+unfoldable pub turn_jobs : Place → Option TermTree → Option TermTree → StatementTree → Surroundings → ℕ → List Job
 turn_jobs at test after body inside l = jobs.Ready (Mark (l + 1)) ∷ (test_jobs test l ++ body_jobs at after body inside l)
 
 -- works that are planned one behind the other
@@ -74,7 +74,7 @@ planned_all (j ∷ js) p = planned_all js (with_work j p)
 record Adds (js : List Job) (p q : Plan) : Type 0 where
   jobs : q.jobs ≡ p.jobs ++ js
   names : q.names ≡ p.names
-  scopes : q.scopes ≡ p.scopes
+  scopes : position q ≡ position p
 
 adds : (js : List Job) (p : Plan) → Adds js p (planned_all js p)
 unfolding with_work planned_all
@@ -89,12 +89,12 @@ turns_are at (Some e) None body inside l p = refl
 turns_are at (Some e) (Some x) body inside l p = refl
 
 -- the whole of `for`
-record Planned (at : Place) (objects : List ℕ) (js : List Job) (l : ℕ) (p q : Plan) : Type 0 where
-  jobs : q.jobs ≡ jobs.Ready (Mark l) ∷ (object_jobs act.Enter at objects (length p.names) ++ (js ++ object_jobs act.Leave at objects (length (p.names ++ locals objects))))
-  names : q.names ≡ (p.names ++ locals objects) ++ locals objects
-  scopes : q.scopes ≡ p.scopes + 1
+pub record Planned (at : Place) (objects : List ℕ) (js : List Job) (l : ℕ) (p q : Plan) : Type 0 where
+  pub jobs : q.jobs ≡ jobs.Ready (Mark l) ∷ (object_jobs act.Enter at objects (length p.names) ++ (js ++ object_jobs act.Leave at objects (length (p.names ++ locals objects))))
+  pub names : q.names ≡ (p.names ++ locals objects) ++ locals objects
+  pub scopes : position q ≡ inner (position p)
 
-for_planned : (s : SettingView) (objects : List ℕ) (first : StatementTrees) (test after : Option TermTree) (body : StatementTree) (around : Surroundings) (p : Plan) → p.jobs ≡ []
+pub for_planned : (s : SettingView) (objects : List ℕ) (first : StatementTrees) (test after : Option TermTree) (body : StatementTree) (around : Surroundings) (p : Plan) → p.jobs ≡ []
     → Planned s.at objects (statement_jobs first (in_scope around p.scopes) ++ turn_jobs s.at test after body (in_scope around p.scopes) p.labels) p.labels p (loops.for_loop s objects first test after body around p)
 unfolding with_work with_labels with_scope
 for_planned s objects first test after body around p none =
@@ -118,7 +118,7 @@ for_planned s objects first test after body around p none =
           ∙ ap (λ xs. xs ++ object_jobs act.Leave s.at objects (length (p.names ++ locals objects))) (append_assoc (jobs.Ready (Mark l) ∷ enters) js turns)
           ∙ append_assoc (jobs.Ready (Mark l) ∷ enters) (js ++ turns) (object_jobs act.Leave s.at objects (length (p.names ++ locals objects)));
       names = f.names ∙ ap (λ ns. ns ++ locals objects) names_are;
-      scopes = f.scopes ∙ a.scopes ∙ i.scopes ∙ e.scopes;
+      scopes = f.scopes ∙ a.scopes ∙ i.scopes ∙ e.scopes ∙ one_inner p;
     }
 
 scope_grows : (p : Plan) → Grows (with_labels 5 p) (with_labels 5 (with_scope p))
@@ -128,7 +128,7 @@ scope_grows p = record { more_names = []; names = sym (append-nil p.names); labe
     one_longer : (k : ℕ) → k ≤ k + 1
     one_longer k = omega arith
 
-for_grows : (s : SettingView) (objects : List ℕ) (first : StatementTrees) (test after : Option TermTree) (body : StatementTree) (around : Surroundings) (p : Plan) → Grows (with_labels 5 p) (loops.for_loop s objects first test after body around p)
+pub for_grows : (s : SettingView) (objects : List ℕ) (first : StatementTrees) (test after : Option TermTree) (body : StatementTree) (around : Surroundings) (p : Plan) → Grows (with_labels 5 p) (loops.for_loop s objects first test after body around p)
 for_grows s objects first test after body around p = let start : Grows (with_labels 5 p) (with_labels 5 (with_scope p)) = scope_grows p in search (works, grows_entered, grows_statements, grows_check, grows_step, grows_left) depth 40
 
 one_five : 1 < 5
@@ -153,33 +153,68 @@ clause_loop : (after : Option TermTree) (more : List Item) → behind_loop (clau
 clause_loop None more = refl
 clause_loop (Some e) more = refl
 
-module _ (s : SettingView) (t : Templates) (fits : IsOfUnit t s) where
-  clause_runs : (m : ℕ) (after : Option TermTree) → SuitsIf false after → Runs s t m (clause_jobs after) (clause after) 0 0
+module _ (s : SettingView) (t : Activation) (fits : IsOfUnit t s) (g : FunctionView) where
+  clause_runs : (m : ℕ) (after : Option TermTree) → SuitsIf t.unit false after → Runs s t m (clause_jobs after) (clause after) 0 0
   clause_runs m None suits = nothing_done s t m 0
   clause_runs m (Some e) suits = (terms s t fits m e).done 0 suits.0 suits.1
 
   -- the condition of a turn, or none
-  test_follows : (m : ℕ) (test after : Option TermTree) (body : StatementTree) (l : ℕ) → SuitsIf true test → (p : Plan) → p.jobs ≡ [] → (ft : List PieceView) (pt : Plan) → Makes s p (test_jobs test l) ft pt → IsKnown t pt → (more : List Item) (w rest : List PieceView) → Stands t (ft ++ Mark (l + 2) ∷ w) → Leads t (l + 2) w → Leads t (l + 4) rest
+  test_follows : (m : ℕ) (test after : Option TermTree) (body : StatementTree) (l : ℕ) → SuitsIf t.unit true test → (p : Plan) → p.jobs ≡ [] → (ft : List PieceView) (pt : Plan) → Makes s p (test_jobs test l) ft pt → IsKnown t pt → (more : List Item) (w rest : List PieceView) → Stands t (ft ++ Mark (l + 2) ∷ w) → Leads t (l + 2) w → Leads t (l + 4) rest
       → Follows t m 0 (for_body test after body ++ more) w → Follows t m 0 more rest → Follows t m 0 (for_turn t.unit test after body ++ more) (ft ++ Mark (l + 2) ∷ w)
   test_follows m None after body l suits p none ft pt mt known more w rest stands to_body to_last f g =
       subst (λ xs. Follows t m 0 (for_body None after body ++ more) (xs ++ Mark (l + 2) ∷ w)) (sym (none_made s p ft pt mt)) (follows.by_mark m 0 (l + 2) (for_body None after body ++ more) w f)
   test_follows m (Some e) after body l suits p none ft pt mt known more w rest stands to_body to_last f g =
       (terms s t fits m e).decided (decided (record { yes = l + 2; no = l + 4 }) 0) suits.0 suits.1 p none ft pt mt known (for_body (Some e) after body) [] more (Mark (l + 2) ∷ w) w rest stands to_body to_last f g
 
-  module _ (test after : Option TermTree) (body : StatementTree) (about : AboutStatement s t body) (around : Surroundings) (looping : Bool) (known : List ℕ) (c l : ℕ) (suits_test : SuitsIf true test) (suits_after : SuitsIf false after) (suits_body : SuitsIn true known body) (scopes : HasScopes s body around.scope c) (few : l + 5 ≤ 2 ^ 32 - 1)
-      (p : Plan) (none : p.jobs ≡ []) (ft : List PieceView) (pt : Plan) (mt : Makes s p (test_jobs test l) ft pt) (known_t : IsKnown t pt) (none_t : pt.jobs ≡ []) (begun : pt.scopes ≡ c)
+  module _ (test after : Option TermTree) (body : StatementTree) (about : AboutStatement s t g body) (around : Surroundings) (looping : Enclosure) (known : List ℕ) (c : Position) (l : ℕ) (suits_test : SuitsIf t.unit true test) (suits_after : SuitsIf t.unit false after) (suits_body : SuitsIn t.unit g by_loop known body) (scopes : HasParts s body around.scope c) (few : l + 5 ≤ 2 ^ 32 - 1)
+      (p : Plan) (none : p.jobs ≡ []) (ft : List PieceView) (pt : Plan) (mt : Makes s p (test_jobs test l) ft pt) (known_t : IsKnown t pt) (none_t : pt.jobs ≡ []) (begun : position pt ≡ c)
       (fb : List PieceView) (pb : Plan) (mb : Makes s pt (jobs.Statement body (in_loop around (l + 4) (l + 3)) ∷ []) fb pb) (known_b : IsKnown t pb) (none_b : pb.jobs ≡ [])
       (fs : List PieceView) (pa : Plan) (ma : Makes s pb (clause_jobs after) fs pa) (known_a : IsKnown t pa) (items : List Item) (rest : List PieceView) where
-    abbrev behind_body : List PieceView
+    abbrev pub behind_body : List PieceView
     behind_body = fs ++ jumping s.at (l + 1) ∷ (Mark (l + 4) ∷ rest)
 
-    abbrev body_pieces : List PieceView
+    abbrev pub body_pieces : List PieceView
     body_pieces = fb ++ Mark (l + 3) ∷ behind_body
 
-    abbrev for_pieces : List PieceView
+    abbrev pub for_pieces : List PieceView
     for_pieces = ft ++ Mark (l + 2) ∷ body_pieces
 
-    for_turns : Stands t (Mark (l + 1) ∷ for_pieces) → (m : ℕ) → Follows t m 0 items rest → Within s t m around looping known items → Follows t m 0 (item.ForTurn test after body ∷ (item.LoopEnd ∷ items)) for_pieces
+    abbrev loop_items : List Item
+    loop_items = item.ForTurn test after body ∷ (item.LoopEnd ∷ items)
+
+    abbrev step_items : List Item
+    step_items = clause after ++ (item.Hop ∷ loop_items)
+
+    pub for_at_body : Stands t (Mark (l + 1) ∷ for_pieces) → Stands t body_pieces
+    for_at_body stands = stands_after t (Mark (l + 2)) body_pieces (stands_behind t ft (Mark (l + 2) ∷ body_pieces) (stands_after t (Mark (l + 1)) for_pieces stands))
+
+    for_at_step : Stands t (Mark (l + 1) ∷ for_pieces) → Stands t (Mark (l + 3) ∷ behind_body)
+    for_at_step stands = stands_behind t fb (Mark (l + 3) ∷ behind_body) (for_at_body stands)
+
+    for_to_last : Stands t (Mark (l + 1) ∷ for_pieces) → Leads t (l + 4) rest
+    for_to_last stands =
+        let at_clause = stands_after t (Mark (l + 3)) behind_body (for_at_step stands) in
+        led s t fits (l + 4) (l + 5) (l + 5) rest (below l 4 5 four_five) (itself (l + 5)) few (stands_after t (jumping s.at (l + 1)) (Mark (l + 4) ∷ rest) (stands_behind t fs (jumping s.at (l + 1) ∷ (Mark (l + 4) ∷ rest)) at_clause))
+
+    -- the step, where the next turn follows
+    for_stepped : Stands t (Mark (l + 1) ∷ for_pieces) → (m : ℕ) → Follows t m 0 loop_items for_pieces → Follows t m 0 step_items behind_body
+    for_stepped stands m back =
+        let at_clause = stands_after t (Mark (l + 3)) behind_body (for_at_step stands) in
+        let to_begin = led s t fits (l + 1) (l + 5) (l + 5) for_pieces (below l 1 5 one_five) (itself (l + 5)) few stands in
+        let again = hops s t fits m 0 (l + 1) loop_items (Mark (l + 4) ∷ rest) for_pieces to_begin back in
+        (clause_runs m after suits_after).from pb none_b fs pa ma known_a (item.Hop ∷ loop_items) (jumping s.at (l + 1) ∷ (Mark (l + 4) ∷ rest)) at_clause again
+
+    -- what is behind the body
+    pub for_again : Stands t (Mark (l + 1) ∷ for_pieces) → (m : ℕ) → Follows t m 0 loop_items for_pieces → Follows t m 0 (item.TurnEnd ∷ step_items) (Mark (l + 3) ∷ behind_body)
+    for_again stands m back = follows.by_mark m 0 (l + 3) (item.TurnEnd ∷ step_items) behind_body (gives_turn_end m 0 step_items behind_body (for_stepped stands m back))
+
+    -- where the body stands
+    pub for_context : Stands t (Mark (l + 1) ∷ for_pieces) → (m : ℕ) → Follows t m 0 loop_items for_pieces → Follows t m 0 items rest → Within s t m around looping known items → Within s t m (in_loop around (l + 4) (l + 3)) by_loop known (item.TurnEnd ∷ step_items)
+    for_context stands m back f k =
+        let to_step = led s t fits (l + 3) (l + 5) (l + 5) behind_body (below l 3 5 three_five) (itself (l + 5)) few (for_at_step stands) in
+        in_body s t m around looping known items (item.TurnEnd ∷ step_items) step_items (l + 4) (l + 3) rest behind_body (clause_scopes after (item.Hop ∷ loop_items)) (clause_scopes after (item.Hop ∷ loop_items)) (clause_loop after (item.Hop ∷ loop_items)) refl (for_to_last stands) to_step f (for_stepped stands m back) k
+
+    pub for_turns : Stands t (Mark (l + 1) ∷ for_pieces) → (m : ℕ) → Follows t m 0 items rest → Within s t m around looping known items → Follows t m 0 (item.ForTurn test after body ∷ (item.LoopEnd ∷ items)) for_pieces
     for_turns stands zero f k = follows.enough _ _ _
     for_turns stands (suc m) f k =
         let less_f = less m 0 items rest f in
@@ -187,33 +222,21 @@ module _ (s : SettingView) (t : Templates) (fits : IsOfUnit t s) where
         let back = for_turns stands m less_f less_k in
         let at_test = stands_after t (Mark (l + 1)) for_pieces stands in
         let at_mark = stands_behind t ft (Mark (l + 2) ∷ body_pieces) at_test in
-        let at_body = stands_after t (Mark (l + 2)) body_pieces at_mark in
-        let at_step = stands_behind t fb (Mark (l + 3) ∷ behind_body) at_body in
-        let at_clause = stands_after t (Mark (l + 3)) behind_body at_step in
-        let at_last = stands_after t (jumping s.at (l + 1)) (Mark (l + 4) ∷ rest) (stands_behind t fs (jumping s.at (l + 1) ∷ (Mark (l + 4) ∷ rest)) at_clause) in
-        let to_begin = led s t fits (l + 1) (l + 5) (l + 5) for_pieces (below l 1 5 one_five) (itself (l + 5)) few stands in
         let to_body = led s t fits (l + 2) (l + 5) (l + 5) body_pieces (below l 2 5 two_five) (itself (l + 5)) few at_mark in
-        let to_step = led s t fits (l + 3) (l + 5) (l + 5) behind_body (below l 3 5 three_five) (itself (l + 5)) few at_step in
-        let to_last = led s t fits (l + 4) (l + 5) (l + 5) rest (below l 4 5 four_five) (itself (l + 5)) few at_last in
-        let loop : List Item = item.ForTurn test after body ∷ (item.LoopEnd ∷ items) in
-        let turn : List Item = clause after ++ (item.Hop ∷ loop) in
-        let again = hops s t fits m 0 (l + 1) loop (Mark (l + 4) ∷ rest) for_pieces to_begin back in
-        let stepped : Follows t m 0 turn behind_body = (clause_runs m after suits_after).from pb none_b fs pa ma known_a (item.Hop ∷ loop) (jumping s.at (l + 1) ∷ (Mark (l + 4) ∷ rest)) at_clause again in
-        let context = in_body s t m around looping known items (item.TurnEnd ∷ turn) turn (l + 4) (l + 3) rest behind_body (clause_scopes after (item.Hop ∷ loop)) (clause_scopes after (item.Hop ∷ loop)) (clause_loop after (item.Hop ∷ loop)) refl to_last to_step less_f stepped less_k in
-        let in_it = (about m (in_loop around (l + 4) (l + 3)) true known c suits_body scopes).from pt none_t begun fb pb mb known_b (item.TurnEnd ∷ turn) (Mark (l + 3) ∷ behind_body) at_body context (follows.by_mark m 0 (l + 3) (item.TurnEnd ∷ turn) behind_body (gives_turn_end m 0 turn behind_body stepped)) in
+        let in_it = (about m (in_loop around (l + 4) (l + 3)) by_loop known c suits_body scopes).from pt none_t begun fb pb mb known_b (item.TurnEnd ∷ step_items) (Mark (l + 3) ∷ behind_body) (for_at_body stands) (for_context stands m back less_f less_k) (for_again stands m back) in
         follows.in_for m 0 test after body (item.LoopEnd ∷ items) for_pieces
-        (test_follows m test after body l suits_test p none ft pt mt known_t (item.LoopEnd ∷ items) body_pieces rest at_test to_body to_last
+        (test_follows m test after body l suits_test p none ft pt mt known_t (item.LoopEnd ∷ items) body_pieces rest at_test to_body (for_to_last stands)
         (subst (λ xs. Follows t m 0 (item.Statement body ∷ (item.TurnEnd ∷ xs)) body_pieces) (sym (append_assoc (clause after) (item.Hop ∷ (item.ForTurn test after body ∷ [])) (item.LoopEnd ∷ items))) in_it)
         (gives_loop_end m 0 items rest less_f))
 
   -- the works of some list, and then others
-  from_many : (r : Plan) (rest : List PieceView) (p : Plan) (js ks : List Job) (ps : List PieceView) (G : List PieceView → Type 0) → p.jobs ≡ [] → Makes s p (js ++ ks) ps r
+  pub from_many : (r : Plan) (rest : List PieceView) (p : Plan) (js ks : List Job) (ps : List PieceView) (G : List PieceView → Type 0) → p.jobs ≡ [] → Makes s p (js ++ ks) ps r
       → ((front : List PieceView) (between : Plan) (back : List PieceView) → Makes s p js front between → between.jobs ≡ [] → Makes s between ks back r → G (front ++ (back ++ rest))) → G (ps ++ rest)
   from_many r rest p js ks ps G none m later =
       let x = parted s p js ks ps r m in
       subst (λ xs. G (xs ++ rest)) (sym x.all) (subst G (sym (append_assoc x.front x.back rest)) (later x.front x.between x.back x.first (jobs_none s p js x.front x.between x.first none) x.second))
 
-  tests_are_terms : (test : Option TermTree) (l : ℕ) → AreTerms (test_jobs test l)
+  pub tests_are_terms : (test : Option TermTree) (l : ℕ) → AreTerms (test_jobs test l)
   tests_are_terms None l = tt
   tests_are_terms (Some e) l = (tt, tt)
 
@@ -221,21 +244,21 @@ module _ (s : SettingView) (t : Templates) (fits : IsOfUnit t s) where
   clauses_are_terms None = tt
   clauses_are_terms (Some e) = (tt, tt)
 
-  kept_many : (p : Plan) (js : List Job) (ps : List PieceView) (r : Plan) → AreTerms js → p.jobs ≡ [] → Makes s p js ps r → r.scopes ≡ p.scopes
+  pub kept_many : (p : Plan) (js : List Job) (ps : List PieceView) (r : Plan) → AreTerms js → p.jobs ≡ [] → Makes s p js ps r → position r ≡ position p
   kept_many p js ps r terms none m = (scopes_kept s p js ps r m (subst AreTerms (sym none) tt) terms).0
 
-  turns_count : (test after : Option TermTree) (body : StatementTree) (about : AboutStatement s t body) (around : Surroundings) (known : List ℕ) (c l n : ℕ) → SuitsIn true known body → HasScopes s body around.scope c → Counts s c (c + scopes_in body) (turn_jobs s.at test after body around l)
+  pub turns_count : (test after : Option TermTree) (body : StatementTree) (about : AboutStatement s t g body) (around : Surroundings) (known : List ℕ) (c : Position) (l n : ℕ) → SuitsIn t.unit g by_loop known body → HasParts s body around.scope c → Counts s c (past c body) (turn_jobs s.at test after body around l)
   unfolding turn_jobs
   turns_count test after body about around known c l n suits_body scopes =
-      count_on s c c (c + scopes_in body) (jobs.Ready (Mark (l + 1)) ∷ []) _ (count_terms s c _ (tt, tt))
-      (count_on s c c (c + scopes_in body) (test_jobs test l) _ (count_terms s c _ (tests_are_terms test l))
-      (count_on s c c (c + scopes_in body) (jobs.Ready (Mark (l + 2)) ∷ []) _ (count_terms s c _ (tt, tt))
-      (count_on s c (c + scopes_in body) (c + scopes_in body) (jobs.Statement body (in_loop around (l + 4) (l + 3)) ∷ []) _ (about n (in_loop around (l + 4) (l + 3)) true known c suits_body scopes).ends
-      (count_on s (c + scopes_in body) (c + scopes_in body) (c + scopes_in body) (jobs.Ready (Mark (l + 3)) ∷ []) _ (count_terms s (c + scopes_in body) _ (tt, tt))
-      (count_on s (c + scopes_in body) (c + scopes_in body) (c + scopes_in body) (clause_jobs after) _ (count_terms s (c + scopes_in body) _ (clauses_are_terms after)) (count_terms s (c + scopes_in body) _ (tt, (tt, tt))))))))
+      count_on s c c (past c body) (jobs.Ready (Mark (l + 1)) ∷ []) _ (count_terms s c _ (tt, tt))
+      (count_on s c c (past c body) (test_jobs test l) _ (count_terms s c _ (tests_are_terms test l))
+      (count_on s c c (past c body) (jobs.Ready (Mark (l + 2)) ∷ []) _ (count_terms s c _ (tt, tt))
+      (count_on s c (past c body) (past c body) (jobs.Statement body (in_loop around (l + 4) (l + 3)) ∷ []) _ (about n (in_loop around (l + 4) (l + 3)) by_loop known c suits_body scopes).ends
+      (count_on s (past c body) (past c body) (past c body) (jobs.Ready (Mark (l + 3)) ∷ []) _ (count_terms s (past c body) _ (tt, tt))
+      (count_on s (past c body) (past c body) (past c body) (clause_jobs after) _ (count_terms s (past c body) _ (clauses_are_terms after)) (count_terms s (past c body) _ (tt, (tt, tt))))))))
 
-  turns_go : (n : ℕ) (test after : Option TermTree) (body : StatementTree) (about : AboutStatement s t body) (around : Surroundings) (looping : Bool) (known : List ℕ) (c l : ℕ) → SuitsIf true test → SuitsIf false after → SuitsIn true known body → HasScopes s body around.scope c → l + 5 ≤ 2 ^ 32 - 1
-      → Goes s t n c (c + scopes_in body) (Within s t n around looping known) (turn_jobs s.at test after body around l) (item.ForTurn test after body ∷ (item.LoopEnd ∷ []))
+  pub turns_go : (n : ℕ) (test after : Option TermTree) (body : StatementTree) (about : AboutStatement s t g body) (around : Surroundings) (looping : Enclosure) (known : List ℕ) (c : Position) (l : ℕ) → SuitsIf t.unit true test → SuitsIf t.unit false after → SuitsIn t.unit g by_loop known body → HasParts s body around.scope c → l + 5 ≤ 2 ^ 32 - 1
+      → Goes s t n c (past c body) (Within s t n around looping known) (turn_jobs s.at test after body around l) (item.ForTurn test after body ∷ (item.LoopEnd ∷ []))
   unfolding turn_jobs
   turns_go n test after body about around looping known c l suits_test suits_after suits_body scopes few = record {
     from = λ p none begun_p ps r m known_r items rest stands k f.
@@ -256,27 +279,24 @@ module _ (s : SettingView) (t : Templates) (fits : IsOfUnit t s) where
   }
 
   -- outside of loops nothing is asked of what is behind a loop
-  unlooped : (n : ℕ) (around : Surroundings) (looping : Bool) (known : List ℕ) (scopes : List (List ℕ)) (a b c d : List Item) → Context s t n around looping known scopes a b → Context s t n around false known scopes c d
-  unlooped n around looping known scopes a b c d k = record { within = k.within; enough = k.enough; home = k.home; on_break = λ e. absurd (no e); on_continue = λ e. absurd (no e) }
+  pub unlooped : (n : ℕ) (around : Surroundings) (looping : Enclosure) (known : List ℕ) (scopes : List (List ℕ)) (a b c d : List Item) → Context s t n around looping known scopes a b → Context s t n around not_enclosed known scopes c d
+  unlooped n around looping known scopes a b c d k = record { within = k.within; chain = k.chain; labels = k.labels; on_break = λ e. absurd (no e); on_continue = λ e. absurd (no e) }
     where
       no : false ≡ true → ⊥
       no e = cc
 
-  sums : (c a b : ℕ) → (suc c + a) + b ≡ c + suc (a + b)
-  sums c a b = omega arith
-
-  pub of_for : (objects : List ℕ) (first : StatementTrees) (test after : Option TermTree) (body : StatementTree) → AboutStatements s t first → AboutStatement s t body → AboutStatement s t (tree.For objects first test after body)
+  pub of_for : (objects : List ℕ) (first : StatementTrees) (test after : Option TermTree) (body : StatementTree) → AboutStatements s t g first → AboutStatement s t g body → AboutStatement s t g (tree.For objects first test after body)
   of_for objects first test after body about_first about n around looping known c suits scopes =
       let j = jobs.Statement (tree.For objects first test after body) around in
-      let inner = in_scope around c in
+      let within = in_scope around c.scopes in
       let more = objects ++ known in
-      let middle = suc c + all_scopes_in first in
-      let last = middle + scopes_in body in
+      let middle = past_all (inner c) first in
+      let last = past middle body in
       let loop : List Item = item.ForTurn test after body ∷ (item.LoopEnd ∷ []) in
-      let starts = about_first n inner false more (suc c) suits.1 scopes.1 in
-      let same : (p : Plan) → p.jobs ≡ [] → p.scopes ≡ c → Planned s.at objects (statement_jobs first inner ++ turn_jobs s.at test after body inner p.labels) p.labels p (parts s j p) = λ p none begun_p. subst (λ k. Planned s.at objects (statement_jobs first (in_scope around k) ++ turn_jobs s.at test after body (in_scope around k) p.labels) p.labels p (parts s j p)) begun_p (for_planned s objects first test after body around p none) in
-      subst (λ k. Goes s t n c k (Within s t n around looping known) (j ∷ []) (item.Statement (tree.For objects first test after body) ∷ [])) (sums c (all_scopes_in first) (scopes_in body))
-      (gives_way s t n c last (Within s t n around looping known) j (item.Statement (tree.For objects first test after body)) (of_statement t.unit true (tree.For objects first test after body)) refl (gives_statement n 0 (tree.For objects first test after body))
+      let starts = about_first n within not_enclosed more (inner c) suits.1 (scopes.0.1, scopes.1.0) in
+      let same : (p : Plan) → p.jobs ≡ [] → position p ≡ c → Planned s.at objects (statement_jobs first within ++ turn_jobs s.at test after body within p.labels) p.labels p (parts s j p) = λ p none begun_p. subst (λ k. Planned s.at objects (statement_jobs first (in_scope around k) ++ turn_jobs s.at test after body (in_scope around k) p.labels) p.labels p (parts s j p)) (ap (λ (x : Position). x.scopes) begun_p) (for_planned s objects first test after body around p none) in
+      subst (λ k. Goes s t n c k (Within s t n around looping known) (j ∷ []) (item.Statement (tree.For objects first test after body) ∷ [])) (past_for c first body)
+      (gives_way s t n c last (Within s t n around looping known) j (item.Statement (tree.For objects first test after body)) (of_statement t.unit (of_entry t) (tree.For objects first test after body)) refl (gives_statement n 0 (tree.For objects first test after body))
       (λ p none begun_p ps r m known_last items rest stands k f.
       let all = parts s j p in
       let x = same p none begun_p in
@@ -284,28 +304,28 @@ module _ (s : SettingView) (t : Templates) (fits : IsOfUnit t s) where
       let known_all = known_between s t (planless all) all.jobs ps r m known_last in
       let named = named_from t (planless all) p.names objects (locals objects) known_all (x.names ∙ append_assoc p.names (locals objects) (locals objects)) in
       let again = named_from t (planless all) (p.names ++ locals objects) objects [] known_all (x.names ∙ ap (λ ns. (p.names ++ locals objects) ++ ns) (sym (append-nil (locals objects)))) in
-      let turns = turn_jobs s.at test after body inner p.labels in
-      let inside : Goes s t n (suc c) last (Within s t n inner looping more) (statement_jobs first inner ++ turns) (statements first ++ loop) =
-      goes_on s t n (suc c) middle last (Within s t n inner looping more) (Within s t n inner false more) (statement_jobs first inner) turns (statements first) loop
-      (λ items k. unlooped n inner looping more (open_scopes items) (behind_loop items) (behind_turn items) items (behind_turn items) k) starts
-      (turns_go n test after body about inner looping more middle p.labels suits.2 suits.3 suits.4 scopes.2 few) in
-      let whole = enclosed s t fits n (suc c) last objects (length p.names) (length (p.names ++ locals objects)) (Within s t n around looping known) (Within s t n inner looping more) (statement_jobs first inner ++ turns) (statements first ++ loop)
-      (λ items k. in_block s t n around looping known objects c items suits.0 scopes.0 k) named again inside in
-      let js = object_jobs act.Enter s.at objects (length p.names) ++ ((statement_jobs first inner ++ turns) ++ object_jobs act.Leave s.at objects (length (p.names ++ locals objects))) in
-      let marked = goes_on s t n (suc c) (suc c) last (Within s t n around looping known) Anything (jobs.Ready (Mark p.labels) ∷ []) js [] (item.Enters objects ∷ ((statements first ++ loop) ++ item.Leaves objects ∷ [])) (λ items k. tt)
-      (plainly s t n (suc c) Anything (jobs.Ready (Mark p.labels) ∷ []) [] (tt, tt) (marks s t fits n p.labels 0)) whole in
+      let turns = turn_jobs s.at test after body within p.labels in
+      let inside : Goes s t n (inner c) last (Within s t n within looping more) (statement_jobs first within ++ turns) (statements first ++ loop) =
+      goes_on s t n (inner c) middle last (Within s t n within looping more) (Within s t n within not_enclosed more) (statement_jobs first within) turns (statements first) loop
+      (λ items k. unlooped n within looping more (open_scopes items) (behind_loop items) (behind_turn items) items (behind_turn items) k) starts
+      (turns_go n test after body about within looping more middle p.labels suits.2 suits.3 suits.4 (scopes.0.2, scopes.1.1) few) in
+      let whole = enclosed s t fits n (inner c) last objects (length p.names) (length (p.names ++ locals objects)) (Within s t n around looping known) (Within s t n within looping more) (statement_jobs first within ++ turns) (statements first ++ loop)
+      (λ items k. in_block s t n around looping known objects c.scopes items suits.0 scopes.0.0 k) named again inside in
+      let js = object_jobs act.Enter s.at objects (length p.names) ++ ((statement_jobs first within ++ turns) ++ object_jobs act.Leave s.at objects (length (p.names ++ locals objects))) in
+      let marked = goes_on s t n (inner c) (inner c) last (Within s t n around looping known) Anything (jobs.Ready (Mark p.labels) ∷ []) js [] (item.Enters objects ∷ ((statements first ++ loop) ++ item.Leaves objects ∷ [])) (λ items k. tt)
+      (plainly s t n (inner c) Anything (jobs.Ready (Mark p.labels) ∷ []) [] (tt, tt) (marks s t fits n p.labels 0)) whole in
       subst (λ is. Follows t n 0 (item.Enters objects ∷ (is ++ items)) (ps ++ rest)) (append_assoc (statements first) loop (item.Leaves objects ∷ []))
-      (marked.from (planless all) refl (x.scopes ∙ ap (λ k. k + 1) begun_p ∙ next_scope c) ps r (subst (λ ks. Makes s (planless all) ks ps r) x.jobs m) known_last items rest stands k f))
+      (marked.from (planless all) refl (x.scopes ∙ ap inner begun_p) ps r (subst (λ ks. Makes s (planless all) ks ps r) x.jobs m) known_last items rest stands k f))
       (λ p none begun_p ps r m.
       let all = parts s j p in
       let x = same p none begun_p in
-      let turns = turn_jobs s.at test after body inner p.labels in
-      count_on s (suc c) (suc c) last (jobs.Ready (Mark p.labels) ∷ []) _ (count_terms s (suc c) _ (tt, tt))
-      (count_on s (suc c) (suc c) last (object_jobs act.Enter s.at objects (length p.names)) _ (count_terms s (suc c) _ (objects_are_terms act.Enter s.at objects (length p.names)))
-      (count_on s (suc c) last last (statement_jobs first inner ++ turns) _
-      (count_on s (suc c) middle last (statement_jobs first inner) turns starts.ends (turns_count test after body about inner more middle p.labels n suits.4 scopes.2))
+      let turns = turn_jobs s.at test after body within p.labels in
+      count_on s (inner c) (inner c) last (jobs.Ready (Mark p.labels) ∷ []) _ (count_terms s (inner c) _ (tt, tt))
+      (count_on s (inner c) (inner c) last (object_jobs act.Enter s.at objects (length p.names)) _ (count_terms s (inner c) _ (objects_are_terms act.Enter s.at objects (length p.names)))
+      (count_on s (inner c) last last (statement_jobs first within ++ turns) _
+      (count_on s (inner c) middle last (statement_jobs first within) turns starts.ends (turns_count test after body about within more middle p.labels n suits.4 (scopes.0.2, scopes.1.1)))
       (count_terms s last _ (objects_are_terms act.Leave s.at objects (length (p.names ++ locals objects))))))
-      (planless all) refl (x.scopes ∙ ap (λ k. k + 1) begun_p ∙ next_scope c) ps r (subst (λ ks. Makes s (planless all) ks ps r) x.jobs m)))
+      (planless all) refl (x.scopes ∙ ap inner begun_p) ps r (subst (λ ks. Makes s (planless all) ks ps r) x.jobs m)))
     where
       Anything : List Item → Type 0
       Anything items = Unit {0}

@@ -1,7 +1,6 @@
-pub mod Jumps
 pub mod Declarations
 pub mod Sequences
 pub mod Selections
 pub mod Loops
 pub mod ForLoops
-pub mod Statements
+pub mod Labelled

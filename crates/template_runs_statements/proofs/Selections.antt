@@ -1,9 +1,10 @@
 -- Blocks, `if` and `else`.
-use Rattle.std.proofs.Common.{◌≡◌, ◌≤◌, ◌<◌, ℕ, suc, ◌+◌, ◌-◌, ◌^◌, true, List, [], ◌∷◌, ◌++◌, length, refl, arith, ap, sym, subst, ◌∙◌, append_assoc}
+use Rattle.std.proofs.Common.{◌≡◌, ◌≤◌, ◌<◌, ℕ, ◌+◌, ◌-◌, ◌^◌, true, List, [], ◌∷◌, ◌++◌, length, refl, arith, ap, sym, subst, ◌∙◌, append_assoc}
 use Rattle.std.proofs.lemmas.List.{append-nil}
 use Rattle.cc_base.specs.declared.diagnostics.Place.{Place}
 use Rattle.c_layout.specs.CheckedTrees as tree
 use Rattle.c_layout.specs.CheckedTrees.{TermTree, StatementTree, StatementTrees}
+use Rattle.c_layout.specs.CheckedUnits.{FunctionView}
 use Rattle.flow_lower_tasks.specs.Acts as act
 use Rattle.flow_lower_tasks.specs.Pieces.{PieceView, Mark}
 use Rattle.flow_lower_tasks.specs.Plans.{Plan, with_work, with_scope, with_labels}
@@ -25,7 +26,7 @@ use Rattle.ref_machine.specs.Items as item
 use Rattle.ref_machine.specs.Items.{Item}
 use Rattle.ref_machine.specs.ConditionItems as source
 use Rattle.ref_machine.specs.StatementItems.{of_statement, statements}
-use Rattle.template_runs.specs.TemplateStates.{Templates}
+use Rattle.template_runs_follow.specs.Activations.{Activation, of_entry}
 use Rattle.template_runs_follow.specs.Follows as follows
 use Rattle.template_runs_follow.specs.Follows.{Leads, Follows}
 use Rattle.template_runs_follow.proofs.Constructions.{gives_statement}
@@ -35,7 +36,7 @@ use Rattle.template_runs_works.proofs.About.{Decided}
 use Rattle.template_runs_terms.proofs.Choices.{jumping, hops, two_way_jobs}
 use Rattle.template_runs_works.proofs.Laying.{from_piece, from_none, from_work, led, known_between, few_labels}
 use Rattle.template_runs_terms.proofs.Terms.{terms}
-use Rattle.template_runs_scopes.specs.Scopes.{scopes_in, all_scopes_in}
+use Rattle.template_runs_scopes.proofs.Positions.{Position, position, inner, past, past_all, one_inner, past_block, past_else}
 use Rattle.template_runs_scopes.proofs.KeptScopes.{IsTerm, AreTerms}
 use Rattle.template_runs_scopes.proofs.ScopesOfTerms.{scopes_kept}
 use Rattle.template_runs_scopes.specs.Contexts.{Within}
@@ -46,18 +47,18 @@ use Rattle.template_runs_statements.proofs.Sequences.{statement_jobs, listed, Ab
 
 -- ---- scopes that are begun
 
-abbrev pub Counts : SettingView → ℕ → ℕ → List Job → Type 0
-Counts s first last js = (p : Plan) → p.jobs ≡ [] → p.scopes ≡ first → (ps : List PieceView) (r : Plan) → Makes s p js ps r → r.scopes ≡ last
+abbrev pub Counts : SettingView → Position → Position → List Job → Type 0
+Counts s first last js = (p : Plan) → p.jobs ≡ [] → position p ≡ first → (ps : List PieceView) (r : Plan) → Makes s p js ps r → position r ≡ last
 
-pub count_terms : (s : SettingView) (c : ℕ) (js : List Job) → AreTerms js → Counts s c c js
+pub count_terms : (s : SettingView) (c : Position) (js : List Job) → AreTerms js → Counts s c c js
 count_terms s c js terms p none begun ps r m = (scopes_kept s p js ps r m (subst AreTerms (sym none) tt) terms).0 ∙ begun
 
-pub count_on : (s : SettingView) (a b c : ℕ) (js ks : List Job) → Counts s a b js → Counts s b c ks → Counts s a c (js ++ ks)
+pub count_on : (s : SettingView) (a b c : Position) (js ks : List Job) → Counts s a b js → Counts s b c ks → Counts s a c (js ++ ks)
 count_on s a b c js ks one other p none begun ps r m =
     let x = parted s p js ks ps r m in
     other x.between (jobs_none s p js x.front x.between x.first none) (one p none begun x.front x.between x.first) x.back r x.second
 
-pub kept_one : (s : SettingView) (p : Plan) (j : Job) (ps : List PieceView) (r : Plan) → IsTerm j → p.jobs ≡ [] → Makes s p (j ∷ []) ps r → r.scopes ≡ p.scopes
+pub kept_one : (s : SettingView) (p : Plan) (j : Job) (ps : List PieceView) (r : Plan) → IsTerm j → p.jobs ≡ [] → Makes s p (j ∷ []) ps r → position r ≡ position p
 kept_one s p j ps r is none m = (scopes_kept s p (j ∷ []) ps r m (subst AreTerms (sym none) tt) (is, tt)).0
 
 -- ---- blocks
@@ -65,9 +66,9 @@ kept_one s p j ps r is none m = (scopes_kept s p (j ∷ []) ps r m (subst AreTer
 pub record Enclosed (at : Place) (objects : List ℕ) (js : List Job) (p q : Plan) : Type 0 where
   pub jobs : q.jobs ≡ object_jobs act.Enter at objects (length p.names) ++ (js ++ object_jobs act.Leave at objects (length (p.names ++ locals objects)))
   pub names : q.names ≡ (p.names ++ locals objects) ++ locals objects
-  pub scopes : q.scopes ≡ p.scopes + 1
+  pub scopes : position q ≡ inner (position p)
 
-block_planned : (at : Place) (objects : List ℕ) (items : StatementTrees) (around : Surroundings) (p : Plan) → p.jobs ≡ [] → Enclosed at objects (statement_jobs items around) p (all_left at objects (all_statements items around (all_entered at objects (with_scope p))))
+pub block_planned : (at : Place) (objects : List ℕ) (items : StatementTrees) (around : Surroundings) (p : Plan) → p.jobs ≡ [] → Enclosed at objects (statement_jobs items around) p (all_left at objects (all_statements items around (all_entered at objects (with_scope p))))
 unfolding with_scope
 block_planned at objects items around p none =
     let first = all_entered at objects (with_scope p) in
@@ -80,42 +81,36 @@ block_planned at objects items around p none =
           ∙ ap (λ ns. (object_jobs act.Enter at objects (length p.names) ++ statement_jobs items around) ++ object_jobs act.Leave at objects (length ns)) (l.names ∙ e.names)
           ∙ append_assoc (object_jobs act.Enter at objects (length p.names)) (statement_jobs items around) (object_jobs act.Leave at objects (length (p.names ++ locals objects)));
       names = f.names ∙ ap (λ ns. ns ++ locals objects) (l.names ∙ e.names);
-      scopes = f.scopes ∙ l.scopes ∙ e.scopes;
+      scopes = f.scopes ∙ l.scopes ∙ e.scopes ∙ one_inner p;
     }
-
-pub next_scope : (c : ℕ) → c + 1 ≡ suc c
-next_scope c = omega arith
-
-pub one_more : (c a : ℕ) → suc c + a ≡ c + suc a
-one_more c a = omega arith
 
 -- ---- selections
 
-if_jobs : TermTree → StatementTree → Surroundings → ℕ → List Job
+unfoldable pub if_jobs : TermTree → StatementTree → Surroundings → ℕ → List Job
 if_jobs e body around l = jobs.Ready (Mark l) ∷ (jobs.Condition e (decided (record { yes = l + 1; no = l + 2 }) 0) ∷ (jobs.Ready (Mark (l + 1)) ∷ (jobs.Statement body around ∷ (jobs.Ready (Mark (l + 2)) ∷ []))))
 
-if_planned : (e : TermTree) (body : StatementTree) (around : Surroundings) (p : Plan) → p.jobs ≡ [] → (selection e body around p).jobs ≡ if_jobs e body around p.labels
+pub if_planned : (e : TermTree) (body : StatementTree) (around : Surroundings) (p : Plan) → p.jobs ≡ [] → (selection e body around p).jobs ≡ if_jobs e body around p.labels
 unfolding with_work with_labels if_jobs
 if_planned e body around p none =
     ap (λ js. ((((js ++ jobs.Ready (Mark p.labels) ∷ []) ++ jobs.Condition e (decided (record { yes = p.labels + 1; no = p.labels + 2 }) 0) ∷ []) ++ jobs.Ready (Mark (p.labels + 1)) ∷ []) ++ jobs.Statement body around ∷ []) ++ jobs.Ready (Mark (p.labels + 2)) ∷ []) none
 
-if_scopes : (e : TermTree) (body : StatementTree) (around : Surroundings) (p : Plan) → (selection e body around p).scopes ≡ p.scopes
+pub if_scopes : (e : TermTree) (body : StatementTree) (around : Surroundings) (p : Plan) → position (selection e body around p) ≡ position p
 unfolding with_work with_labels
 if_scopes e body around p = refl
 
-if_grows : (e : TermTree) (body : StatementTree) (around : Surroundings) (p : Plan) → Grows (with_labels 3 p) (selection e body around p)
+pub if_grows : (e : TermTree) (body : StatementTree) (around : Surroundings) (p : Plan) → Grows (with_labels 3 p) (selection e body around p)
 if_grows e body around p = let start : Grows (with_labels 3 p) (with_labels 3 p) = grows_not (with_labels 3 p) in search works depth 30
 
-else_planned : (s : SettingView) (e : TermTree) (body other : StatementTree) (around : Surroundings) (p : Plan) → p.jobs ≡ [] → (two_way_selection s e body other around p).jobs ≡ two_way_jobs s.at e (jobs.Statement body around) (jobs.Statement other around) 0 p.labels
+pub else_planned : (s : SettingView) (e : TermTree) (body other : StatementTree) (around : Surroundings) (p : Plan) → p.jobs ≡ [] → (two_way_selection s e body other around p).jobs ≡ two_way_jobs s.at e (jobs.Statement body around) (jobs.Statement other around) 0 p.labels
 unfolding with_work with_labels
 else_planned s e body other around p none =
     ap (λ js. (((((((js ++ jobs.Ready (Mark p.labels) ∷ []) ++ jobs.Condition e (decided (record { yes = p.labels + 1; no = p.labels + 2 }) 0) ∷ []) ++ jobs.Ready (Mark (p.labels + 1)) ∷ []) ++ jobs.Statement body around ∷ []) ++ jobs.Ready (jumping s.at (p.labels + 3)) ∷ []) ++ jobs.Ready (Mark (p.labels + 2)) ∷ []) ++ jobs.Statement other around ∷ []) ++ jobs.Ready (Mark (p.labels + 3)) ∷ []) none
 
-else_scopes : (s : SettingView) (e : TermTree) (body other : StatementTree) (around : Surroundings) (p : Plan) → (two_way_selection s e body other around p).scopes ≡ p.scopes
+pub else_scopes : (s : SettingView) (e : TermTree) (body other : StatementTree) (around : Surroundings) (p : Plan) → position (two_way_selection s e body other around p) ≡ position p
 unfolding with_work with_labels
 else_scopes s e body other around p = refl
 
-else_grows : (s : SettingView) (e : TermTree) (body other : StatementTree) (around : Surroundings) (p : Plan) → Grows (with_labels 4 p) (two_way_selection s e body other around p)
+pub else_grows : (s : SettingView) (e : TermTree) (body other : StatementTree) (around : Surroundings) (p : Plan) → Grows (with_labels 4 p) (two_way_selection s e body other around p)
 else_grows s e body other around p = let start : Grows (with_labels 4 p) (with_labels 4 p) = grows_not (with_labels 4 p) in search works depth 30
 
 pub below : (l k m : ℕ) → k < m → l + k < l + m
@@ -139,30 +134,30 @@ two_four = omega arith
 pub three_four : 3 < 4
 three_four = omega arith
 
-module _ (s : SettingView) (t : Templates) (fits : IsOfUnit t s) where
-  pub of_block : (objects : List ℕ) (items : StatementTrees) → AboutStatements s t items → AboutStatement s t (tree.Block objects items)
+module _ (s : SettingView) (t : Activation) (fits : IsOfUnit t s) (g : FunctionView) where
+  pub of_block : (objects : List ℕ) (items : StatementTrees) → AboutStatements s t g items → AboutStatement s t g (tree.Block objects items)
   of_block objects items about n around looping known c suits scopes =
       let j = jobs.Statement (tree.Block objects items) around in
-      let inner = in_scope around c in
-      let inside = about n inner looping (objects ++ known) (suc c) suits.1 scopes.1 in
-      let same : (p : Plan) → p.jobs ≡ [] → p.scopes ≡ c → Enclosed s.at objects (statement_jobs items inner) p (parts s j p) = λ p none begun. subst (λ k. Enclosed s.at objects (statement_jobs items (in_scope around k)) p (parts s j p)) begun (block_planned s.at objects items (in_scope around p.scopes) p none) in
-      gives_way s t n c (c + suc (all_scopes_in items)) (Within s t n around looping known) j (item.Statement (tree.Block objects items)) (of_statement t.unit true (tree.Block objects items)) refl (gives_statement n 0 (tree.Block objects items))
+      let within = in_scope around c.scopes in
+      let inside = about n within looping (objects ++ known) (inner c) suits.1 (scopes.0.1, scopes.1) in
+      let same : (p : Plan) → p.jobs ≡ [] → position p ≡ c → Enclosed s.at objects (statement_jobs items within) p (parts s j p) = λ p none begun. subst (λ k. Enclosed s.at objects (statement_jobs items (in_scope around k)) p (parts s j p)) (ap (λ (x : Position). x.scopes) begun) (block_planned s.at objects items (in_scope around p.scopes) p none) in
+      gives_way s t n c (past c (tree.Block objects items)) (Within s t n around looping known) j (item.Statement (tree.Block objects items)) (of_statement t.unit (of_entry t) (tree.Block objects items)) refl (gives_statement n 0 (tree.Block objects items))
       (λ p none begun ps r m known_last items_behind rest stands k f.
       let all = parts s j p in
       let x = same p none begun in
       let known_all = known_between s t (planless all) all.jobs ps r m known_last in
       let named = named_from t (planless all) p.names objects (locals objects) known_all (x.names ∙ append_assoc p.names (locals objects) (locals objects)) in
       let again = named_from t (planless all) (p.names ++ locals objects) objects [] known_all (x.names ∙ ap (λ ns. (p.names ++ locals objects) ++ ns) (sym (append-nil (locals objects)))) in
-      (enclosed s t fits n (suc c) (suc c + all_scopes_in items) objects (length p.names) (length (p.names ++ locals objects)) (Within s t n around looping known) (Within s t n inner looping (objects ++ known)) (statement_jobs items inner) (statements items)
-      (λ items k. in_block s t n around looping known objects c items suits.0 scopes.0 k) named again inside).from (planless all) refl (x.scopes ∙ ap (λ k. k + 1) begun ∙ next_scope c) ps r (subst (λ ks. Makes s (planless all) ks ps r) x.jobs m) known_last items_behind rest stands k f)
+      (enclosed s t fits n (inner c) (past_all (inner c) items) objects (length p.names) (length (p.names ++ locals objects)) (Within s t n around looping known) (Within s t n within looping (objects ++ known)) (statement_jobs items within) (statements items)
+      (λ items k. in_block s t n around looping known objects c.scopes items suits.0 scopes.0.0 k) named again inside).from (planless all) refl (x.scopes ∙ ap inner begun) ps r (subst (λ ks. Makes s (planless all) ks ps r) x.jobs m) known_last items_behind rest stands k f)
       (λ p none begun ps r m.
       let all = parts s j p in
       let x = same p none begun in
-      count_on s (suc c) (suc c) (c + suc (all_scopes_in items)) (object_jobs act.Enter s.at objects (length p.names)) (statement_jobs items inner ++ object_jobs act.Leave s.at objects (length (p.names ++ locals objects))) (count_terms s (suc c) _ (objects_are_terms act.Enter s.at objects (length p.names)))
-      (count_on s (suc c) (c + suc (all_scopes_in items)) (c + suc (all_scopes_in items)) (statement_jobs items inner) (object_jobs act.Leave s.at objects (length (p.names ++ locals objects))) (λ p none begun ps r m. inside.ends p none begun ps r m ∙ one_more c (all_scopes_in items)) (count_terms s (c + suc (all_scopes_in items)) _ (objects_are_terms act.Leave s.at objects (length (p.names ++ locals objects)))))
-      (planless all) refl (x.scopes ∙ ap (λ k. k + 1) begun ∙ next_scope c) ps r (subst (λ ks. Makes s (planless all) ks ps r) x.jobs m))
+      count_on s (inner c) (inner c) (past c (tree.Block objects items)) (object_jobs act.Enter s.at objects (length p.names)) (statement_jobs items within ++ object_jobs act.Leave s.at objects (length (p.names ++ locals objects))) (count_terms s (inner c) _ (objects_are_terms act.Enter s.at objects (length p.names)))
+      (count_on s (inner c) (past c (tree.Block objects items)) (past c (tree.Block objects items)) (statement_jobs items within) (object_jobs act.Leave s.at objects (length (p.names ++ locals objects))) (λ p none begun ps r m. inside.ends p none begun ps r m ∙ past_block c objects items) (count_terms s (past c (tree.Block objects items)) _ (objects_are_terms act.Leave s.at objects (length (p.names ++ locals objects)))))
+      (planless all) refl (x.scopes ∙ ap inner begun) ps r (subst (λ ks. Makes s (planless all) ks ps r) x.jobs m))
 
-  if_from : (n : ℕ) (e : TermTree) (body : StatementTree) (around : Surroundings) (c last l : ℕ) (K : List Item → Type 0) → Decided s t n e (decided (record { yes = l + 1; no = l + 2 }) 0) → Goes s t n c last K (jobs.Statement body around ∷ []) (item.Statement body ∷ []) → l + 3 ≤ 2 ^ 32 - 1 → (p : Plan) → p.jobs ≡ [] → p.scopes ≡ c → (ps : List PieceView) (r : Plan) → Makes s p (if_jobs e body around l) ps r → IsKnown t r
+  if_from : (n : ℕ) (e : TermTree) (body : StatementTree) (around : Surroundings) (c last : Position) (l : ℕ) (K : List Item → Type 0) → Decided s t n e (decided (record { yes = l + 1; no = l + 2 }) 0) → Goes s t n c last K (jobs.Statement body around ∷ []) (item.Statement body ∷ []) → l + 3 ≤ 2 ^ 32 - 1 → (p : Plan) → p.jobs ≡ [] → position p ≡ c → (ps : List PieceView) (r : Plan) → Makes s p (if_jobs e body around l) ps r → IsKnown t r
       → (items : List Item) (rest : List PieceView) → Stands t (ps ++ rest) → K items → Follows t n 0 items rest → Follows t n 0 (source.condition t.unit true e (item.Statement body ∷ []) [] ++ items) (ps ++ rest)
   unfolding if_jobs
   if_from n e body around c last l K decides goes few p none begun ps r m known items rest stands k f =
@@ -183,27 +178,27 @@ module _ (s : SettingView) (t : Templates) (fits : IsOfUnit t s) where
       let on_yes = goes.from pc none_c (kept_one s p (jobs.Condition e (decided (record { yes = l + 1; no = l + 2 }) 0)) fc pc tt none mc ∙ begun) fb pb mb (known_between s t pb _ _ r m4 known) items (Mark (l + 2) ∷ rest) at_body k (follows.by_mark n 0 (l + 2) items rest f) in
       follows.by_mark n 0 l _ _ (decides p none fc pc mc (known_between s t pc _ _ r m2 known) (item.Statement body ∷ []) [] items (Mark (l + 1) ∷ (fb ++ Mark (l + 2) ∷ rest)) (fb ++ Mark (l + 2) ∷ rest) rest at_c to_yes to_last on_yes f))))))) stands
 
-  if_ends : (n : ℕ) (e : TermTree) (body : StatementTree) (around : Surroundings) (c last l : ℕ) (K : List Item → Type 0) → Goes s t n c last K (jobs.Statement body around ∷ []) (item.Statement body ∷ []) → Counts s c last (if_jobs e body around l)
+  if_ends : (n : ℕ) (e : TermTree) (body : StatementTree) (around : Surroundings) (c last : Position) (l : ℕ) (K : List Item → Type 0) → Goes s t n c last K (jobs.Statement body around ∷ []) (item.Statement body ∷ []) → Counts s c last (if_jobs e body around l)
   unfolding if_jobs
   if_ends n e body around c last l K goes =
       count_on s c c last (jobs.Ready (Mark l) ∷ (jobs.Condition e (decided (record { yes = l + 1; no = l + 2 }) 0) ∷ (jobs.Ready (Mark (l + 1)) ∷ []))) (jobs.Statement body around ∷ (jobs.Ready (Mark (l + 2)) ∷ [])) (count_terms s c _ (tt, (tt, (tt, tt))))
       (count_on s c last last (jobs.Statement body around ∷ []) (jobs.Ready (Mark (l + 2)) ∷ []) goes.ends (count_terms s last _ (tt, tt)))
 
-  pub of_if : (e : TermTree) (body : StatementTree) → AboutStatement s t body → AboutStatement s t (tree.If e body)
+  pub of_if : (e : TermTree) (body : StatementTree) → AboutStatement s t g body → AboutStatement s t g (tree.If e body)
   of_if e body about n around looping known c suits scopes =
       let j = jobs.Statement (tree.If e body) around in
       let goes = about n around looping known c suits.1 scopes in
-      gives_way s t n c (c + scopes_in body) (Within s t n around looping known) j (item.Statement (tree.If e body)) (of_statement t.unit true (tree.If e body)) refl (gives_statement n 0 (tree.If e body))
+      gives_way s t n c (past c body) (Within s t n around looping known) j (item.Statement (tree.If e body)) (of_statement t.unit (of_entry t) (tree.If e body)) refl (gives_statement n 0 (tree.If e body))
       (λ p none begun ps r m known_last items rest stands k f.
       let all = selection e body around p in
       let few = few_labels s t p j 3 all.jobs ps r (if_grows e body around p) m known_last in
-      if_from n e body around c (c + scopes_in body) p.labels (Within s t n around looping known) ((terms s t fits n e).decided (decided (record { yes = p.labels + 1; no = p.labels + 2 }) 0) suits.0.0 suits.0.1) goes few (planless all) refl (if_scopes e body around p ∙ begun) ps r (subst (λ ks. Makes s (planless all) ks ps r) (if_planned e body around p none) m) known_last items rest stands k f)
+      if_from n e body around c (past c body) p.labels (Within s t n around looping known) ((terms s t fits n e).decided (decided (record { yes = p.labels + 1; no = p.labels + 2 }) 0) suits.0.0 suits.0.1) goes few (planless all) refl (if_scopes e body around p ∙ begun) ps r (subst (λ ks. Makes s (planless all) ks ps r) (if_planned e body around p none) m) known_last items rest stands k f)
       (λ p none begun ps r m.
       let all = selection e body around p in
-      if_ends n e body around c (c + scopes_in body) p.labels (Within s t n around looping known) goes (planless all) refl (if_scopes e body around p ∙ begun) ps r (subst (λ ks. Makes s (planless all) ks ps r) (if_planned e body around p none) m))
+      if_ends n e body around c (past c body) p.labels (Within s t n around looping known) goes (planless all) refl (if_scopes e body around p ∙ begun) ps r (subst (λ ks. Makes s (planless all) ks ps r) (if_planned e body around p none) m))
 
-  else_from : (n : ℕ) (e : TermTree) (body other : StatementTree) (around : Surroundings) (c middle last l : ℕ) (K L : List Item → Type 0) → ((items : List Item) → K items → L (item.Hop ∷ items)) → Decided s t n e (decided (record { yes = l + 1; no = l + 2 }) 0) → Goes s t n c middle L (jobs.Statement body around ∷ []) (item.Statement body ∷ []) → Goes s t n middle last K (jobs.Statement other around ∷ []) (item.Statement other ∷ []) → l + 4 ≤ 2 ^ 32 - 1
-      → (p : Plan) → p.jobs ≡ [] → p.scopes ≡ c → (ps : List PieceView) (r : Plan) → Makes s p (two_way_jobs s.at e (jobs.Statement body around) (jobs.Statement other around) 0 l) ps r → IsKnown t r
+  else_from : (n : ℕ) (e : TermTree) (body other : StatementTree) (around : Surroundings) (c middle last : Position) (l : ℕ) (K L : List Item → Type 0) → ((items : List Item) → K items → L (item.Hop ∷ items)) → Decided s t n e (decided (record { yes = l + 1; no = l + 2 }) 0) → Goes s t n c middle L (jobs.Statement body around ∷ []) (item.Statement body ∷ []) → Goes s t n middle last K (jobs.Statement other around ∷ []) (item.Statement other ∷ []) → l + 4 ≤ 2 ^ 32 - 1
+      → (p : Plan) → p.jobs ≡ [] → position p ≡ c → (ps : List PieceView) (r : Plan) → Makes s p (two_way_jobs s.at e (jobs.Statement body around) (jobs.Statement other around) 0 l) ps r → IsKnown t r
       → (items : List Item) (rest : List PieceView) → Stands t (ps ++ rest) → K items → Follows t n 0 items rest → Follows t n 0 (source.condition t.unit true e (item.Statement body ∷ (item.Hop ∷ [])) (item.Statement other ∷ []) ++ items) (ps ++ rest)
   else_from n e body other around c middle last l K L onwards decides one two few p none begun ps r m known items rest stands k f =
       let q = jumping s.at (l + 3) in
@@ -235,28 +230,25 @@ module _ (s : SettingView) (t : Templates) (fits : IsOfUnit t s) where
       follows.by_mark n 0 l _ _
       (decides p none fc pc mc (known_between s t pc _ _ r m2 known) held failed items (Mark (l + 1) ∷ (fa ++ q ∷ (Mark (l + 2) ∷ (fb ++ Mark (l + 3) ∷ rest)))) (fa ++ q ∷ (Mark (l + 2) ∷ (fb ++ Mark (l + 3) ∷ rest))) (fb ++ Mark (l + 3) ∷ rest) at_c to_yes to_no on_yes on_no)))))))))) stands
 
-  else_ends : (n : ℕ) (e : TermTree) (body other : StatementTree) (around : Surroundings) (c middle last l : ℕ) (K L : List Item → Type 0) → Goes s t n c middle L (jobs.Statement body around ∷ []) (item.Statement body ∷ []) → Goes s t n middle last K (jobs.Statement other around ∷ []) (item.Statement other ∷ []) → Counts s c last (two_way_jobs s.at e (jobs.Statement body around) (jobs.Statement other around) 0 l)
+  else_ends : (n : ℕ) (e : TermTree) (body other : StatementTree) (around : Surroundings) (c middle last : Position) (l : ℕ) (K L : List Item → Type 0) → Goes s t n c middle L (jobs.Statement body around ∷ []) (item.Statement body ∷ []) → Goes s t n middle last K (jobs.Statement other around ∷ []) (item.Statement other ∷ []) → Counts s c last (two_way_jobs s.at e (jobs.Statement body around) (jobs.Statement other around) 0 l)
   else_ends n e body other around c middle last l K L one two =
       count_on s c c last (jobs.Ready (Mark l) ∷ (jobs.Condition e (decided (record { yes = l + 1; no = l + 2 }) 0) ∷ (jobs.Ready (Mark (l + 1)) ∷ []))) _ (count_terms s c _ (tt, (tt, (tt, tt))))
       (count_on s c middle last (jobs.Statement body around ∷ []) _ one.ends
       (count_on s middle middle last (jobs.Ready (jumping s.at (l + 3)) ∷ (jobs.Ready (Mark (l + 2)) ∷ [])) _ (count_terms s middle _ (tt, (tt, tt)))
       (count_on s middle last last (jobs.Statement other around ∷ []) (jobs.Ready (Mark (l + 3)) ∷ []) two.ends (count_terms s last _ (tt, tt)))))
 
-  sums : (c a b : ℕ) → (c + a) + b ≡ c + (a + b)
-  sums c a b = omega arith
-
-  pub of_if_else : (e : TermTree) (body other : StatementTree) → AboutStatement s t body → AboutStatement s t other → AboutStatement s t (tree.IfElse e body other)
+  pub of_if_else : (e : TermTree) (body other : StatementTree) → AboutStatement s t g body → AboutStatement s t g other → AboutStatement s t g (tree.IfElse e body other)
   of_if_else e body other first second n around looping known c suits scopes =
       let j = jobs.Statement (tree.IfElse e body other) around in
-      let one = first n around looping known c suits.1 scopes.0 in
-      let two = second n around looping known (c + scopes_in body) suits.2 scopes.1 in
-      let last = (c + scopes_in body) + scopes_in other in
-      subst (λ k. Goes s t n c k (Within s t n around looping known) (j ∷ []) (item.Statement (tree.IfElse e body other) ∷ [])) (sums c (scopes_in body) (scopes_in other))
-      (gives_way s t n c last (Within s t n around looping known) j (item.Statement (tree.IfElse e body other)) (of_statement t.unit true (tree.IfElse e body other)) refl (gives_statement n 0 (tree.IfElse e body other))
+      let one = first n around looping known c suits.1 (scopes.0.0, scopes.1.0) in
+      let two = second n around looping known (past c body) suits.2 (scopes.0.1, scopes.1.1) in
+      let last = past (past c body) other in
+      subst (λ k. Goes s t n c k (Within s t n around looping known) (j ∷ []) (item.Statement (tree.IfElse e body other) ∷ [])) (past_else c e body other)
+      (gives_way s t n c last (Within s t n around looping known) j (item.Statement (tree.IfElse e body other)) (of_statement t.unit (of_entry t) (tree.IfElse e body other)) refl (gives_statement n 0 (tree.IfElse e body other))
       (λ p none begun ps r m known_last items rest stands k f.
       let all = two_way_selection s e body other around p in
       let few = few_labels s t p j 4 all.jobs ps r (else_grows s e body other around p) m known_last in
-      else_from n e body other around c (c + scopes_in body) last p.labels (Within s t n around looping known) (Within s t n around looping known) (λ items k. k) ((terms s t fits n e).decided (decided (record { yes = p.labels + 1; no = p.labels + 2 }) 0) suits.0.0 suits.0.1) one two few (planless all) refl (else_scopes s e body other around p ∙ begun) ps r (subst (λ ks. Makes s (planless all) ks ps r) (else_planned s e body other around p none) m) known_last items rest stands k f)
+      else_from n e body other around c (past c body) last p.labels (Within s t n around looping known) (Within s t n around looping known) (λ items k. k) ((terms s t fits n e).decided (decided (record { yes = p.labels + 1; no = p.labels + 2 }) 0) suits.0.0 suits.0.1) one two few (planless all) refl (else_scopes s e body other around p ∙ begun) ps r (subst (λ ks. Makes s (planless all) ks ps r) (else_planned s e body other around p none) m) known_last items rest stands k f)
       (λ p none begun ps r m.
       let all = two_way_selection s e body other around p in
-      else_ends n e body other around c (c + scopes_in body) last p.labels (Within s t n around looping known) (Within s t n around looping known) one two (planless all) refl (else_scopes s e body other around p ∙ begun) ps r (subst (λ ks. Makes s (planless all) ks ps r) (else_planned s e body other around p none) m)))
+      else_ends n e body other around c (past c body) last p.labels (Within s t n around looping known) (Within s t n around looping known) one two (planless all) refl (else_scopes s e body other around p ∙ begun) ps r (subst (λ ks. Makes s (planless all) ks ps r) (else_planned s e body other around p none) m)))

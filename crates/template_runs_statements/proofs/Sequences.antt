@@ -1,8 +1,9 @@
 -- Statements one after the other, and blocks.
-use Rattle.std.proofs.Common.{◌≡◌, ℕ, suc, ◌+◌, Bool, List, [], ◌∷◌, ◌++◌, refl, arith, sym, subst, ◌∙◌, append_assoc}
+use Rattle.std.proofs.Common.{◌≡◌, ℕ, List, [], ◌∷◌, ◌++◌, refl, sym, subst, ◌∙◌, append_assoc}
 use Rattle.std.proofs.lemmas.List.{append-nil}
 use Rattle.c_layout.specs.CheckedTrees as tree
 use Rattle.c_layout.specs.CheckedTrees.{StatementTree, StatementTrees}
+use Rattle.c_layout.specs.CheckedUnits.{FunctionView}
 use Rattle.flow_lower_tasks.specs.Acts as act
 use Rattle.flow_lower_tasks.specs.Plans.{Plan, with_work}
 use Rattle.flow_lower_tasks.specs.Settings.{SettingView}
@@ -14,14 +15,17 @@ use Rattle.ref_machine.specs.Items as item
 use Rattle.ref_machine.specs.Items.{Item}
 use Rattle.ref_machine.specs.Scopes.{open_scopes, behind_loop, behind_turn}
 use Rattle.ref_machine.specs.StatementItems.{statements}
-use Rattle.template_runs.specs.TemplateStates.{Templates}
+use Rattle.template_runs_follow.specs.Activations.{Activation}
 use Rattle.template_runs_follow.specs.Follows.{own}
 use Rattle.template_runs_works.specs.TemplateParts.{IsOfUnit}
 use Rattle.template_runs_works.proofs.Assignments.{nothing_done}
-use Rattle.template_runs_scopes.specs.Scopes.{scopes_in, all_scopes_in, HasScopes, AllHaveScopes}
-use Rattle.template_runs_scopes.specs.SuitedStatements.{SuitsIn, AllSuitIn}
+use Rattle.template_runs_scopes.specs.Scopes.{HasScopes, AllHaveScopes}
+use Rattle.template_runs_choices.specs.Choices.{HasChoices, AllHaveChoices}
+use Rattle.template_runs_scopes.specs.SuitedStatements.{Enclosure, SuitsIn, AllSuitIn}
 use Rattle.template_runs_scopes.specs.Contexts.{Context, Within}
+use Rattle.template_runs_scopes.proofs.Positions.{Position, position, past, past_all, none_past, past_both}
 use Rattle.template_runs_scopes.proofs.InScopes.{Goes, plainly, goes_on}
+use Rattle.template_runs_scopes.proofs.QuietItems.{IsQuiet, statements_quiet}
 use Rattle.template_runs_scopes.proofs.Objects.{object_jobs, objects_are_terms, NamedFrom, enters, leaves}
 
 -- ---- works
@@ -33,7 +37,7 @@ statement_jobs (tree.And first rest) around = jobs.Statement first around ∷ st
 pub record Listed (items : StatementTrees) (around : Surroundings) (p q : Plan) : Type 0 where
   pub jobs : q.jobs ≡ p.jobs ++ statement_jobs items around
   pub names : q.names ≡ p.names
-  pub scopes : q.scopes ≡ p.scopes
+  pub scopes : position q ≡ position p
 
 pub listed : (items : StatementTrees) (around : Surroundings) (p : Plan) → Listed items around p (all_statements items around p)
 unfolding with_work
@@ -44,53 +48,39 @@ listed (tree.And first rest) around p =
 
 -- ---- items before which nothing changes
 
-pub record IsQuiet (xs : List Item) : Type 0 where
-  pub scopes : (items : List Item) → open_scopes (xs ++ items) ≡ open_scopes items
-  pub after_loop : (items : List Item) → behind_loop (xs ++ items) ≡ behind_loop items
-  pub after_turn : (items : List Item) → behind_turn (xs ++ items) ≡ behind_turn items
-
-pub statements_quiet : (rest : StatementTrees) → IsQuiet (statements rest)
-statements_quiet tree.NoMore = record { scopes = λ items. refl; after_loop = λ items. refl; after_turn = λ items. refl }
-statements_quiet (tree.And first rest) = let x = statements_quiet rest in record { scopes = λ items. x.scopes items; after_loop = λ items. x.after_loop items; after_turn = λ items. x.after_turn items }
-
-pub quiet_within : (s : SettingView) (t : Templates) (n : ℕ) (around : Surroundings) (looping : Bool) (known : List ℕ) (xs items : List Item) → IsQuiet xs → Within s t n around looping known items → Within s t n around looping known (xs ++ items)
+pub quiet_within : (s : SettingView) (t : Activation) (n : ℕ) (around : Surroundings) (looping : Enclosure) (known : List ℕ) (xs items : List Item) → IsQuiet xs → Within s t n around looping known items → Within s t n around looping known (xs ++ items)
 quiet_within s t n around looping known xs items quiet k =
     subst (λ ys. Context s t n around looping known ys (behind_loop (xs ++ items)) (behind_turn (xs ++ items))) (sym (quiet.scopes items))
     (subst (λ ys. Context s t n around looping known (open_scopes items) ys (behind_turn (xs ++ items))) (sym (quiet.after_loop items))
     (subst (λ ys. Context s t n around looping known (open_scopes items) (behind_loop items) ys) (sym (quiet.after_turn items)) k))
 
+-- the scopes and the switches of a statement stand in the tree
+abbrev pub HasParts : SettingView → StatementTree → ℕ → Position → Type 0
+HasParts s i k c = HasScopes s i k c.scopes × HasChoices s i k c.scopes c.switches
+
+abbrev pub AllHaveParts : SettingView → StatementTrees → ℕ → Position → Type 0
+AllHaveParts s items k c = AllHaveScopes s items k c.scopes × AllHaveChoices s items k c.scopes c.switches
+
 -- what is proved of a statement
-abbrev pub AboutStatement : SettingView → Templates → StatementTree → Type 0
-AboutStatement s t i = (n : ℕ) (around : Surroundings) (looping : Bool) (known : List ℕ) (c : ℕ) → SuitsIn looping known i → HasScopes s i around.scope c → Goes s t n c (c + scopes_in i) (Within s t n around looping known) (jobs.Statement i around ∷ []) (item.Statement i ∷ [])
+abbrev pub AboutStatement : SettingView → Activation → FunctionView → StatementTree → Type 0
+AboutStatement s t g i = (n : ℕ) (around : Surroundings) (looping : Enclosure) (known : List ℕ) (c : Position) → SuitsIn t.unit g looping known i → HasParts s i around.scope c → Goes s t n c (past c i) (Within s t n around looping known) (jobs.Statement i around ∷ []) (item.Statement i ∷ [])
 
-abbrev pub AboutStatements : SettingView → Templates → StatementTrees → Type 0
-AboutStatements s t items = (n : ℕ) (around : Surroundings) (looping : Bool) (known : List ℕ) (c : ℕ) → AllSuitIn looping known items → AllHaveScopes s items around.scope c → Goes s t n c (c + all_scopes_in items) (Within s t n around looping known) (statement_jobs items around) (statements items)
+abbrev pub AboutStatements : SettingView → Activation → FunctionView → StatementTrees → Type 0
+AboutStatements s t g items = (n : ℕ) (around : Surroundings) (looping : Enclosure) (known : List ℕ) (c : Position) → AllSuitIn t.unit g looping known items → AllHaveParts s items around.scope c → Goes s t n c (past_all c items) (Within s t n around looping known) (statement_jobs items around) (statements items)
 
-plus_zero : (c : ℕ) → c ≡ c + 0
-plus_zero c = omega arith
+module _ (s : SettingView) (t : Activation) (g : FunctionView) where
+  pub of_none : AboutStatements s t g tree.NoMore
+  of_none n around looping known c suits scopes = subst (λ k. Goes s t n c k (Within s t n around looping known) [] []) (none_past c) (plainly s t n c (Within s t n around looping known) [] [] tt (nothing_done s t n 0))
 
-in_turn : (c a b : ℕ) → (c + a) + b ≡ c + (a + b)
-in_turn c a b = omega arith
-
-after_suc : (c a : ℕ) → suc c + a ≡ c + suc a
-after_suc c a = omega arith
-
-plus_one : (c : ℕ) → c + 1 ≡ suc c
-plus_one c = omega arith
-
-module _ (s : SettingView) (t : Templates) where
-  pub of_none : AboutStatements s t tree.NoMore
-  of_none n around looping known c suits scopes = subst (λ k. Goes s t n c k (Within s t n around looping known) [] []) (plus_zero c) (plainly s t n c (Within s t n around looping known) [] [] tt (nothing_done s t n 0))
-
-  pub of_more : (first : StatementTree) (rest : StatementTrees) → AboutStatement s t first → AboutStatements s t rest → AboutStatements s t (tree.And first rest)
+  pub of_more : (first : StatementTree) (rest : StatementTrees) → AboutStatement s t g first → AboutStatements s t g rest → AboutStatements s t g (tree.And first rest)
   of_more first rest one others n around looping known c suits scopes =
-      subst (λ k. Goes s t n c k (Within s t n around looping known) (jobs.Statement first around ∷ statement_jobs rest around) (item.Statement first ∷ statements rest)) (in_turn c (scopes_in first) (all_scopes_in rest))
-      (goes_on s t n c (c + scopes_in first) ((c + scopes_in first) + all_scopes_in rest) (Within s t n around looping known) (Within s t n around looping known) (jobs.Statement first around ∷ []) (statement_jobs rest around) (item.Statement first ∷ []) (statements rest)
-      (λ items k. quiet_within s t n around looping known (statements rest) items (statements_quiet rest) k) (one n around looping known c suits.0 scopes.0) (others n around looping known (c + scopes_in first) suits.1 scopes.1))
+      subst (λ k. Goes s t n c k (Within s t n around looping known) (jobs.Statement first around ∷ statement_jobs rest around) (item.Statement first ∷ statements rest)) (past_both c first rest)
+      (goes_on s t n c (past c first) (past_all (past c first) rest) (Within s t n around looping known) (Within s t n around looping known) (jobs.Statement first around ∷ []) (statement_jobs rest around) (item.Statement first ∷ []) (statements rest)
+      (λ items k. quiet_within s t n around looping known (statements rest) items (statements_quiet rest) k) (one n around looping known c suits.0 (scopes.0.0, scopes.1.0)) (others n around looping known (past c first) suits.1 (scopes.0.1, scopes.1.1)))
 
-module _ (s : SettingView) (t : Templates) (fits : IsOfUnit t s) where
+module _ (s : SettingView) (t : Activation) (fits : IsOfUnit t s) where
   -- objects are entered, then what comes inside, then they are left
-  pub enclosed : (n c last : ℕ) (objects : List ℕ) (first second : ℕ) (K L : List Item → Type 0) (js : List Job) (is : List Item) → ((items : List Item) → K items → L (item.Leaves objects ∷ items)) → NamedFrom t first objects → NamedFrom t second objects → Goes s t n c last L js is
+  pub enclosed : (n : ℕ) (c last : Position) (objects : List ℕ) (first second : ℕ) (K L : List Item → Type 0) (js : List Job) (is : List Item) → ((items : List Item) → K items → L (item.Leaves objects ∷ items)) → NamedFrom t first objects → NamedFrom t second objects → Goes s t n c last L js is
       → Goes s t n c last K (object_jobs act.Enter s.at objects first ++ (js ++ object_jobs act.Leave s.at objects second)) (item.Enters objects ∷ (is ++ item.Leaves objects ∷ []))
   enclosed n c last objects first second K L js is onwards named again inside =
       subst (λ at. Goes s t n c last K (object_jobs act.Enter at objects first ++ (js ++ object_jobs act.Leave at objects second)) (item.Enters objects ∷ (is ++ item.Leaves objects ∷ []))) (sym fits.place)

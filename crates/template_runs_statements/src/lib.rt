@@ -1,6 +1,2 @@
-//! Statements follow in the pieces to which they come.
+//! Statements in their pieces, each from its parts.
 #![tactic(auto)]
-
-mod theorems;
-
-pub use theorems::statements_follow;

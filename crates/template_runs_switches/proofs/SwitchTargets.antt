@@ -14,7 +14,7 @@ use Rattle.flow_lower_statements.specs.declared.switch_statements.CaseArm.{CaseA
 use Rattle.ref_machine.specs.Items.{Item, Select}
 use Rattle.ref_machine.specs.LabelSearch.{Sought, case, case_of}
 use Rattle.template_runs.specs.TemplateExits.{exit_taken}
-use Rattle.template_runs.specs.TemplateStates.{Templates}
+use Rattle.template_runs_follow.specs.Activations.{Activation}
 use Rattle.template_runs_follow.specs.Follows as follows
 use Rattle.template_runs_follow.specs.Follows.{SameSwitched, SameCase, Follows}
 use Rattle.template_runs_follow.proofs.Constructions.{gives_select}
@@ -25,7 +25,7 @@ use Rattle.template_runs_switches.proofs.ValueEdges.{has_edge}
 from_none : (i : ℕ) → i ≡ 0 + i
 from_none i = omega arith
 
-module _ (t : Templates) (n d : ℕ) (object : Option NamedObject) (base : Option ℕ) (cases : List CaseLabel) (arms : List CaseArm) (fallback : ℕ) (body : StatementTree) (items : List Item) (same : SameSwitched t object base) (targets : HasTargets t n d body items arms fallback) where
+module _ (t : Activation) (n d : ℕ) (object : Option NamedObject) (base : Option ℕ) (cases : List CaseLabel) (arms : List CaseArm) (fallback : ℕ) (body : StatementTree) (items : List Item) (same : SameSwitched t object base) (targets : HasTargets t n d body items arms fallback) where
   -- the edge of a value, and what lies behind it
   record IsChosen (value : ℤ) (exits : List ExitView) (l : Sought) : Type 0 where
     way : Way
@@ -48,6 +48,6 @@ module _ (t : Templates) (n d : ℕ) (object : Option NamedObject) (base : Optio
       (λ value. record { way = (choice value).way; label = (choice value).label; to = (choice value).target.to; there = (choice value).target.there; same = (choice value).same_case; lands = (choice value).target.lands; takes = (choice value).takes; leads = (choice value).target.leads })
       (λ value. (choice value).target.follows)
 
-pub switch_follows : (t : Templates) (n d : ℕ) (at : Place) (kind : IntType) (object : Option NamedObject) (base : Option ℕ) (cases : List CaseLabel) (arms : List CaseArm) (fallback : ℕ) (body : StatementTree) (items : List Item) (ps : List PieceView) → AreArms cases arms → SameSwitched t object base → HasTargets t n d body items arms fallback
+pub switch_follows : (t : Activation) (n d : ℕ) (at : Place) (kind : IntType) (object : Option NamedObject) (base : Option ℕ) (cases : List CaseLabel) (arms : List CaseArm) (fallback : ℕ) (body : StatementTree) (items : List Item) (ps : List PieceView) → AreArms cases arms → SameSwitched t object base → HasTargets t n d body items arms fallback
     → Follows t n (suc d) (Select at object cases body ∷ items) (End (record { at = at; does = Switch d kind }) (dispatch_exits arms cases base fallback) ∷ ps)
 switch_follows t n d at kind object base cases arms fallback body items ps are same targets = follows_by t n d object base cases arms fallback body items same targets at kind ps are

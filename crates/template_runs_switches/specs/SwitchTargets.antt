@@ -13,12 +13,12 @@ use Rattle.ref_machine.specs.BranchSteps.{landing}
 use Rattle.ref_machine.specs.Items.{Item, Select}
 use Rattle.ref_machine.specs.LabelSearch.{Sought, case, other, found}
 use Rattle.ref_machine.specs.Scopes.{leap_in}
-use Rattle.template_runs.specs.TemplateStates.{Templates}
+use Rattle.template_runs_follow.specs.Activations.{Activation}
 use Rattle.template_runs_follow.specs.Follows.{Leads, SameSwitched, Follows}
 use Rattle.template_runs_switches.specs.ValueEdges.{AreArms}
 
 -- a label of a switch and that of its edge: where the source goes on follows behind it
-pub record IsTarget (t : Templates) (n d : ℕ) (body : StatementTree) (items : List Item) (l : Sought) (label : ℕ) : Type 0 where
+pub record IsTarget (t : Activation) (n d : ℕ) (body : StatementTree) (items : List Item) (l : Sought) (label : ℕ) : Type 0 where
   pub to : List Item
   pub there : List PieceView
   pub lands : landing l (found t.unit l body items) items ≡ Some to
@@ -26,11 +26,11 @@ pub record IsTarget (t : Templates) (n d : ℕ) (body : StatementTree) (items : 
   pub follows : Follows t n d (leap_in items to) there
 
 -- each case has its target, and so have all other values
-pub record HasTargets (t : Templates) (n d : ℕ) (body : StatementTree) (items : List Item) (arms : List CaseArm) (fallback : ℕ) : Type 0 where
+pub record HasTargets (t : Activation) (n d : ℕ) (body : StatementTree) (items : List Item) (arms : List CaseArm) (fallback : ℕ) : Type 0 where
   pub cases : (i : ℕ) (a : CaseArm) → slice_get arms i ≡ Some a → IsTarget t n d body items (case i) a.to
   pub others : IsTarget t n d body items other fallback
 
 -- then the switch follows in the piece that dispatches
 abbrev pub SwitchesFollow : Type 0
-SwitchesFollow = (t : Templates) (n d : ℕ) (at : Place) (kind : IntType) (object : Option NamedObject) (base : Option ℕ) (cases : List CaseLabel) (arms : List CaseArm) (fallback : ℕ) (body : StatementTree) (items : List Item) (ps : List PieceView) → AreArms cases arms → SameSwitched t object base → HasTargets t n d body items arms fallback
+SwitchesFollow = (t : Activation) (n d : ℕ) (at : Place) (kind : IntType) (object : Option NamedObject) (base : Option ℕ) (cases : List CaseLabel) (arms : List CaseArm) (fallback : ℕ) (body : StatementTree) (items : List Item) (ps : List PieceView) → AreArms cases arms → SameSwitched t object base → HasTargets t n d body items arms fallback
     → Follows t n (suc d) (Select at object cases body ∷ items) (End (record { at = at; does = Switch d kind }) (dispatch_exits arms cases base fallback) ∷ ps)

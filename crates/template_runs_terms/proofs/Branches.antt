@@ -16,7 +16,7 @@ use Rattle.flow_lower_expressions.specs.declared.branched_values.Known.{Known}
 use Rattle.ref_machine.specs.Items as item
 use Rattle.ref_machine.specs.Items.{Item, Items, items_of, listed}
 use Rattle.ref_machine.specs.ConditionItems as source
-use Rattle.template_runs.specs.TemplateStates.{Templates}
+use Rattle.template_runs_follow.specs.Activations.{Activation}
 use Rattle.template_runs_follow.specs.Follows as follows
 use Rattle.template_runs_follow.specs.Follows.{own, Leads, IsEdge, Follows}
 use Rattle.template_runs_follow.proofs.Constructions.{gives_edges}
@@ -51,7 +51,7 @@ two_more l = omega arith
 itself : (l : ℕ) → l ≤ l
 itself l = omega arith
 
-module _ (s : SettingView) (t : Templates) (fits : IsOfUnit t s) (n : ℕ) where
+module _ (s : SettingView) (t : Activation) (fits : IsOfUnit t s) (n : ℕ) where
   -- ---- the right operand
 
   right_edges : (e : TermTree) (d l : ℕ) (items : List Item) (w there : List PieceView) → Leads t l there → Follows t n (suc d) items there

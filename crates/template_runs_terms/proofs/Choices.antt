@@ -12,7 +12,7 @@ use Rattle.flow_lower_expressions.specs.Branches as lowered
 use Rattle.ref_machine.specs.Items as item
 use Rattle.ref_machine.specs.Items.{Item}
 use Rattle.ref_machine.specs.ConditionItems as source
-use Rattle.template_runs.specs.TemplateStates.{Templates}
+use Rattle.template_runs_follow.specs.Activations.{Activation}
 use Rattle.template_runs_follow.specs.Follows as follows
 use Rattle.template_runs_follow.specs.Follows.{own, Leads, Follows}
 use Rattle.template_runs_follow.proofs.Constructions.{gives_hop}
@@ -54,7 +54,7 @@ third_less l = omega arith
 itself : (l : ℕ) → l ≤ l
 itself l = omega arith
 
-module _ (s : SettingView) (t : Templates) (fits : IsOfUnit t s) (n : ℕ) where
+module _ (s : SettingView) (t : Activation) (fits : IsOfUnit t s) (n : ℕ) where
   -- a jump of the function
   pub hops : (d l : ℕ) (items : List Item) (w there : List PieceView) → Leads t l there → Follows t n d items there → Follows t n d (item.Hop ∷ items) (jumping s.at l ∷ w)
   hops d l items w there to f = subst (λ at. Follows t n d (item.Hop ∷ items) (jumping at l ∷ w)) (sym fits.place) (gives_hop n d l items w there to f)

@@ -26,7 +26,7 @@ use Rattle.lib_models_effects.specs.Tests as tests
 use Rattle.ref_machine.specs.Items as item
 use Rattle.ref_machine.specs.Items.{NamedSide, NamedTest}
 use Rattle.ref_machine.specs.TermTests as source
-use Rattle.template_runs.specs.TemplateStates.{Templates}
+use Rattle.template_runs_follow.specs.Activations.{Activation}
 use Rattle.template_runs_follow.specs.Follows as follows
 use Rattle.template_runs_follow.specs.Follows.{Names, SameSide, SameTest}
 use Rattle.template_runs_works.specs.TemplateParts.{IsOfUnit, IsKnown}
@@ -49,7 +49,7 @@ turned_same Eq = refl
 turned_same Ne = refl
 
 -- a name that was given away is known behind it
-pub name_there : (t : Templates) (x : NameView) (p q : Plan) → Grows (with_name x p) q → IsKnown t q → Names t (length p.names) x
+pub name_there : (t : Activation) (x : NameView) (p q : Plan) → Grows (with_name x p) q → IsKnown t q → Names t (length p.names) x
 unfolding with_name
 name_there t x p q g known = known_name t (with_name x p) p.names x (known_before t (with_name x p) q g known) refl
 
@@ -57,7 +57,7 @@ pub keeps_jobs : (x : NameView) (p : Plan) → (with_name x p).jobs ≡ p.jobs
 unfolding with_name
 keeps_jobs x p = refl
 
-module _ (s : SettingView) (t : Templates) (fits : IsOfUnit t s) where
+module _ (s : SettingView) (t : Activation) (fits : IsOfUnit t s) where
   -- only names are given away, and where they are known both tests are the same
   pub record Same (x : Option NamedTest) (found : Tested) (p : Plan) : Type 0 where
     pub jobs : found.after.jobs ≡ p.jobs

@@ -27,7 +27,7 @@ use Rattle.ref_machine.specs.Items as item
 use Rattle.ref_machine.specs.Items.{Item, Items, items_of, listed}
 use Rattle.ref_machine.specs.ConditionItems as source
 use Rattle.ref_machine.specs.TermTests as source_tests
-use Rattle.template_runs.specs.TemplateStates.{Templates}
+use Rattle.template_runs_follow.specs.Activations.{Activation}
 use Rattle.template_runs_follow.specs.Follows as follows
 use Rattle.template_runs_follow.specs.Follows.{Leads, Follows}
 use Rattle.template_runs_follow.proofs.Constructions.{gives_choice}
@@ -89,11 +89,11 @@ fewer : (d k m : ℕ) → m ≤ k → Fits d k → Fits d m
 fewer d k m le enough = omega (arith, le, enough)
 
 -- the items of `&&` and `||`
-abbrev logical_items : Templates → LogicalOp → TermTree → TermTree → Bool → List Item → List Item → List Item
+abbrev logical_items : Activation → LogicalOp → TermTree → TermTree → Bool → List Item → List Item → List Item
 logical_items t And a b is_test held failed = source.condition t.unit is_test a (source.condition t.unit is_test b held failed) failed
 logical_items t Or a b is_test held failed = source.condition t.unit is_test a held (source.condition t.unit is_test b held failed)
 
-module _ (s : SettingView) (t : Templates) (fits : IsOfUnit t s) (n : ℕ) where
+module _ (s : SettingView) (t : Activation) (fits : IsOfUnit t s) (n : ℕ) where
   -- from the parts of a condition to the condition
   pub decided_by : (e : TermTree) (decision : Decision) → ((p : Plan) → p.jobs ≡ [] → DecidesFrom s t n (planless (parts s (jobs.Condition e decision) p)) (parts s (jobs.Condition e decision) p).jobs decision (source.condition t.unit decision.is_test e)) → Decided s t n e decision
   decided_by e decision inner p none ps r m known held failed items rest on_yes on_no stands to_yes to_no f g =

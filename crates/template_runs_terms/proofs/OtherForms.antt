@@ -1,5 +1,5 @@
 -- The forms that branch, assign or call, from what is proved of their parts.
-use Rattle.std.proofs.Common.{◌≡◌, ◌≤◌, ℕ, ℤ, suc, ◌+◌, ◌-◌, ◌^◌, Bool, true, false, cond, List, [], ◌∷◌, ◌++◌, Option, Some, None, refl, arith, ap, sym, subst, ◌∙◌, append_assoc}
+use Rattle.std.proofs.Common.{◌≡◌, ◌≤◌, ℕ, ℤ, suc, ◌+◌, ◌-◌, ◌^◌, Bool, true, false, cond, List, [], ◌∷◌, ◌++◌, length, Option, Some, None, slice_get, refl, arith, ap, sym, subst, ◌∙◌, append_assoc}
 use Rattle.cc_base.specs.declared.diagnostics.Place.{Place}
 use Rattle.cc_base.specs.declared.int_types.IntType.{IntType}
 use Rattle.cc_base.specs.declared.integer_operators.IntOp.{IntOp}
@@ -16,7 +16,7 @@ use Rattle.c_layout.specs.declared.checked_tree.checked_terms.StepTime.TheVarian
 use Rattle.flow_program.specs.declared.machine_instructions.Amount.TheVariants.{Temp, One}
 use Rattle.flow_program.specs.declared.machine_instructions.Scalar.TheVariants as scalar
 use Rattle.flow_lower_tasks.specs.Acts as act
-use Rattle.flow_lower_tasks.specs.Pieces.{Mark}
+use Rattle.flow_lower_tasks.specs.Pieces.{PieceView, Mark, Call}
 use Rattle.flow_lower_tasks.specs.Plans.{Plan, with_labels}
 use Rattle.flow_lower_tasks.specs.Settings.{SettingView}
 use Rattle.flow_lower_tasks.specs.TermKinds.{meaning, scalar_of, integer_type, term_type, lvalue_at, lvalue_type, step_operator, is_backward}
@@ -43,19 +43,19 @@ use Rattle.ref_machine.specs.TermItems.{arguments, argument_count}
 use Rattle.ref_machine.specs.TermItems as operands
 use Rattle.ref_machine.specs.ConditionItems as source
 use Rattle.ref_machine.specs.ConditionItems.{term_items}
-use Rattle.template_runs.specs.TemplateStates.{Templates}
 use Rattle.template_runs_acts.specs.Acts as acts
-use Rattle.template_runs_follow.specs.Follows.{at_place, Follows}
-use Rattle.template_runs_follow.proofs.Constructions.{gives_value, gives_unused, gives_drop}
+use Rattle.template_runs_follow.specs.Activations.{Activation}
+use Rattle.template_runs_follow.specs.Follows.{at_place, Follows, CallsThere, behind_own, pieces}
+use Rattle.template_runs_follow.proofs.Constructions.{gives_value, gives_unused, gives_drop, gives_own_call}
 use Rattle.template_runs_works.specs.Rooms.{room, room_of_place, room_of_all, larger, both_rooms}
-use Rattle.template_runs_works.specs.SuitedTerms.{Suits}
-use Rattle.template_runs_works.specs.TemplateParts.{IsOfUnit}
-use Rattle.template_runs_works.proofs.Runs.{Runs, RunsFrom, dropped, unfolds, two_jobs, three_jobs}
+use Rattle.template_runs_works.specs.SuitedTerms.{Suits, SuitAll, IsOwnCall}
+use Rattle.template_runs_works.specs.TemplateParts.{IsOfUnit, Stands}
+use Rattle.template_runs_works.proofs.Runs.{Runs, RunsFrom, then, piece_stands, dropped, unfolds, two_jobs, three_jobs}
 use Rattle.template_runs_works.proofs.About.{Fits, Valued, Addressed, Decided, Reads, About, AboutPlace, AboutAll, valued, done, argument_jobs}
 use Rattle.template_runs_works.proofs.Operators.{first_fits, second_fits, next_fits, one_fits, other_fits, one_operand}
 use Rattle.template_runs_works.proofs.Assignments.{conversion_jobs, one_more_job, converted_jobs, in_order, assigns, assigns_only, compound_jobs, compounds, compounds_only, compound_shifts, compound_shifts_only}
 use Rattle.template_runs_works.proofs.Steps.{step_jobs, steps, steps_only, steps_behind, pointer_steps, pointer_steps_only, pointer_steps_behind}
-use Rattle.template_runs_works.proofs.Arguments.{left, calls_of, sites}
+use Rattle.template_runs_works.proofs.Arguments.{argued_jobs, left, calls_of, sites}
 use Rattle.template_runs_works.proofs.LineCalls.{reading, line_jobs, value_read}
 use Rattle.template_runs_terms.proofs.Branches.{logical_jobs, logical_planned, logical_runs}
 use Rattle.template_runs_terms.proofs.Choices.{behind_arm, conditional_jobs, conditional_planned, conditional_runs}
@@ -127,14 +127,14 @@ line_function other e = absurd (no e)
     no : false ≡ true → ⊥
     no e = cc
 
-module _ (s : SettingView) (t : Templates) (fits : IsOfUnit t s) (n : ℕ) (at : Place) (ctype : Ty) (parens : ℕ) (constant : Option ℤ) where
+module _ (s : SettingView) (t : Activation) (fits : IsOfUnit t s) (n : ℕ) (at : Place) (ctype : Ty) (parens : ℕ) (constant : Option ℤ) where
   -- ---- branches
 
   pub of_not : (a : TermTree) → About s t n a → About s t n (Typed at ctype parens constant (tree.Not a))
   of_not a about =
       let e = Typed at ctype parens constant (tree.Not a) in
       let js : ℕ → List Job = λ d. jobs.Value a d ∷ (jobs.Ready (at_place at (act.Not d d (scalar_of (term_type a)))) ∷ []) in
-      let runs : (d : ℕ) → Suits true a → Fits d (room a) → Runs s t n (js d) (item.Value a ∷ (item.Do at op.Not ∷ [])) d (suc d) = λ d suits enough. one_operand s t n a d at op.Not _ (acts.negate d (scalar_of (term_type a))) (about.value d suits enough) in
+      let runs : (d : ℕ) → Suits t.unit true a → Fits d (room a) → Runs s t n (js d) (item.Value a ∷ (item.Do at op.Not ∷ [])) d (suc d) = λ d suits enough. one_operand s t n a d at op.Not _ (acts.negate d (scalar_of (term_type a))) (about.value d suits enough) in
       record {
         value = λ d suits enough. valued s t n e d (js d) (λ p none. two_jobs _ _ p none) (runs d suits enough);
         done = λ d suits enough. done s t n e d (js d) (λ p none. two_jobs _ _ p none) (dropped s t n (js d) _ d (runs d suits enough));
@@ -153,7 +153,7 @@ module _ (s : SettingView) (t : Templates) (fits : IsOfUnit t s) (n : ℕ) (at :
   pub of_logical : (sign : LogicalOp) (a b : TermTree) → About s t n a → About s t n b → About s t n (Typed at ctype parens constant (tree.Logical sign a b))
   of_logical sign a b first second =
       let e = Typed at ctype parens constant (tree.Logical sign a b) in
-      let runs : (d : ℕ) → Suits true a × Suits true b → Fits d (larger (room a) (room b)) → (l : ℕ) → l + 3 ≤ 2 ^ 32 - 1 → Runs s t n (logical_jobs sign a b d l) (source.logical sign a b) d (suc d) = λ d suits enough l few. logical_runs s t fits n sign a b d l (first.value d suits.0 (one_fits d (room a) (room b) enough)) (second.value d suits.1 (other_fits d (room a) (room b) enough)) few in
+      let runs : (d : ℕ) → Suits t.unit true a × Suits t.unit true b → Fits d (larger (room a) (room b)) → (l : ℕ) → l + 3 ≤ 2 ^ 32 - 1 → Runs s t n (logical_jobs sign a b d l) (source.logical sign a b) d (suc d) = λ d suits enough l few. logical_runs s t fits n sign a b d l (first.value d suits.0 (one_fits d (room a) (room b) enough)) (second.value d suits.1 (other_fits d (room a) (room b) enough)) few in
       record {
         value = λ d suits enough. unfolds s t n (jobs.Value e d) (item.Value e) (term_items t.unit true e) d (suc d) refl (gives_value n d e) (logical_from sign a b d true (source.logical sign a b) (suc d) (runs d suits enough) (jobs.Value e d) (λ p. refl));
         done = λ d suits enough. unfolds s t n (jobs.Unused e d) (item.Unused e) (term_items t.unit false e) d d refl (gives_unused n d e) (logical_from sign a b d false (source.logical sign a b ++ item.Drop ∷ []) d (λ l few. dropped s t n (logical_jobs sign a b d l) (source.logical sign a b) d (runs d suits enough l few)) (jobs.Unused e d) (λ p. refl));
@@ -173,7 +173,7 @@ module _ (s : SettingView) (t : Templates) (fits : IsOfUnit t s) (n : ℕ) (at :
   of_conditional c a b test first second =
       let e = Typed at ctype parens constant (tree.Conditional c a b) in
       let rest_fits : (d : ℕ) → Fits d (room e) → Fits d (larger (room a) (room b)) = λ d enough. other_fits d (room c) (larger (room a) (room b)) enough in
-      let decides : (d : ℕ) → Suits true c → Fits d (room e) → (targets : Targets) → Decided s t n c (branching.decided targets d) = λ d suits enough targets. test.decided (branching.decided targets d) suits (one_fits d (room c) (larger (room a) (room b)) enough) in
+      let decides : (d : ℕ) → Suits t.unit true c → Fits d (room e) → (targets : Targets) → Decided s t n c (branching.decided targets d) = λ d suits enough targets. test.decided (branching.decided targets d) suits (one_fits d (room c) (larger (room a) (room b)) enough) in
       record {
         value = λ d suits enough. unfolds s t n (jobs.Value e d) (item.Value e) (term_items t.unit true e) d (suc d) refl (gives_value n d e)
             (conditional_from c a b d true (λ l few. conditional_runs s t fits n c a b d true l (decides d suits.0 enough (record { yes = l + 1; no = l + 2 })) (first.value d suits.1 (one_fits d (room a) (room b) (rest_fits d enough))) (second.value d suits.2 (other_fits d (room a) (room b) (rest_fits d enough))) few) (jobs.Value e d) (λ p. refl));
@@ -311,8 +311,8 @@ module _ (s : SettingView) (t : Templates) (fits : IsOfUnit t s) (n : ℕ) (at :
       let e = Typed at ctype parens constant (tree.Library Fgets args target) in
       let items = arguments args ++ item.Do at (op.Library Fgets (argument_count args) target) ∷ [] in
       let call : LineCallView = record { at = at; arguments = args } in
-      let reads : Suits true e → Reads s t n args (room_of_all args) = λ suits. record { three = suits.2; few = itself (room_of_all args); runs = λ d enough. about d suits.0 enough } in
-      let value : (d : ℕ) → Suits true e → Fits d (room e) → Valued s t n e d = λ d suits enough. unfolds s t n (jobs.Value e d) (item.Value e) (term_items t.unit true e) d (suc d) refl (gives_value n d e)
+      let reads : Suits t.unit true e → Reads s t n args (room_of_all args) = λ suits. record { three = suits.2; few = itself (room_of_all args); runs = λ d enough. about d suits.0 enough } in
+      let value : (d : ℕ) → Suits t.unit true e → Fits d (room e) → Valued s t n e d = λ d suits enough. unfolds s t n (jobs.Value e d) (item.Value e) (term_items t.unit true e) d (suc d) refl (gives_value n d e)
       (line_from args target d items (suc d) (λ l p none few. value_read s t fits n at args target d l p none suits.2 enough (about d suits.0 enough) few) (jobs.Value e d) (λ p. refl)) in
       record {
         value = value;
@@ -330,5 +330,42 @@ module _ (s : SettingView) (t : Templates) (fits : IsOfUnit t s) (n : ℕ) (at :
       by true e = subst (λ f. About s t n (Typed at ctype parens constant (tree.Library f args target))) (sym (line_function function e)) (of_line_call args target about)
       by false e = of_other_call function args target e about
 
-  pub of_call : (function : ℕ) (args : TermTrees) (is_used : Bool) → About s t n (Typed at ctype parens constant (tree.Call function args is_used))
-  of_call function args is_used = plain s t fits n (Typed at ctype parens constant (tree.Call function args is_used)) refl refl (λ decision p. refl) (λ decision held failed. refl) (λ d suits enough. absurd suits) (λ d suits enough. absurd suits)
+  -- ---- calls of functions of the unit
+
+  abbrev own_piece : ℕ → ℕ → Bool → PieceView
+  own_piece function d is_used = Call (record { place = at; function = function; depth = d; used = is_used })
+
+  call_planned : (function : ℕ) (args : TermTrees) (is_used : Bool) (d : ℕ) (p : Plan) → p.jobs ≡ [] → (calls.own_call at function args is_used d p).jobs ≡ argument_jobs args d ++ jobs.Ready (own_piece function d is_used) ∷ []
+  call_planned function args is_used d p none = one_more_job (argument_jobs args d) (jobs.Ready (own_piece function d is_used)) (argued args d p) (argued_jobs args d [] p none)
+
+  calls_there : (function d : ℕ) (is_used : Bool) (rest : List PieceView) → Stands t (own_piece function d is_used ∷ rest) → CallsThere (pieces t) function
+  calls_there function d is_used rest stands = record {
+    at = length stands.front;
+    call = record { place = at; function = function; depth = d; used = is_used };
+    there = subst (λ xs. slice_get xs (length stands.front) ≡ Some (own_piece function d is_used)) (sym stands.all) (found_behind stands.front);
+    is = refl;
+  }
+    where
+      found_behind : (xs : List PieceView) → slice_get (xs ++ (own_piece function d is_used ∷ rest)) (length xs) ≡ Some (own_piece function d is_used)
+      found_behind [] = refl
+      found_behind (x ∷ xs) = found_behind xs
+
+  call_runs : (function : ℕ) (args : TermTrees) (is_used : Bool) → AboutAll s t n args → (d : ℕ) → SuitAll t.unit args → IsOwnCall t.unit function (argument_count args) is_used → Fits d (room_of_all args)
+      → Runs s t n (argument_jobs args d ++ jobs.Ready (own_piece function d is_used) ∷ []) (arguments args ++ item.Invoke at function (argument_count args) is_used ∷ []) d (behind_own is_used d)
+  call_runs function args is_used about d suits call enough =
+      let many = argument_count args in
+      then s t n (argument_jobs args d) (jobs.Ready (own_piece function d is_used) ∷ []) (arguments args) (item.Invoke at function many is_used ∷ []) d (d + many) (behind_own is_used d) (about d suits enough)
+      (piece_stands s t n (own_piece function d is_used) (item.Invoke at function many is_used ∷ []) (d + many) (behind_own is_used d)
+      (λ items rest stands f. subst (λ k. Follows t n (d + k) (item.Invoke at function k is_used ∷ items) (own_piece function d is_used ∷ rest)) call.many (gives_own_call n d function at is_used call.function items rest call.called (calls_there function d is_used rest stands) f)))
+
+  pub of_call : (function : ℕ) (args : TermTrees) (is_used : Bool) → AboutAll s t n args → About s t n (Typed at ctype parens constant (tree.Call function args is_used))
+  of_call function args is_used about =
+      let e = Typed at ctype parens constant (tree.Call function args is_used) in
+      let js = λ (d : ℕ). argument_jobs args d ++ jobs.Ready (own_piece function d is_used) ∷ [] in
+      let items = arguments args ++ item.Invoke at function (argument_count args) is_used ∷ [] in
+      plain s t fits n e refl refl (λ decision p. refl) (λ decision held failed. refl)
+      (λ d suits enough. valued s t n e d (js d) (λ p none. call_planned function args is_used d p none)
+      (subst (λ b. Runs s t n (js d) (cond b items items) d (suc d)) (sym suits.2)
+      (subst (λ b. Runs s t n (js d) items d (behind_own b d)) suits.2 (call_runs function args is_used about d suits.0 suits.1 enough))))
+      (λ d suits enough. done s t n e d (js d) (λ p none. call_planned function args is_used d p none)
+      (left s t n is_used (js d) items d (call_runs function args is_used about d suits.0 suits.1 enough)))

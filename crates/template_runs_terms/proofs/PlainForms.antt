@@ -33,9 +33,9 @@ use Rattle.ref_machine.specs.Operations.{Operation, size_of}
 use Rattle.ref_machine.specs.TermItems.{address_items, operating, order_of}
 use Rattle.ref_machine.specs.ConditionItems as source
 use Rattle.ref_machine.specs.ConditionItems.{term_items}
-use Rattle.template_runs.specs.TemplateStates.{Templates}
 use Rattle.template_runs_acts.specs.Acts as acts
 use Rattle.template_runs_acts.specs.Acts.{IsAct}
+use Rattle.template_runs_follow.specs.Activations.{Activation}
 use Rattle.template_runs_follow.specs.Follows.{Names, Follows, at_place}
 use Rattle.template_runs_follow.proofs.Constructions.{gives_address, gives_object, gives_literal}
 use Rattle.template_runs_works.specs.Rooms.{room, room_of_place, room_of_all}
@@ -62,10 +62,10 @@ pub read_from : (o : Option LineCallView) (wants : Bool) (x : ReadView) → read
 read_from None wants x e = absurd (some_none x None refl e)
 read_from (Some c) wants x e = ap Some (ap (λ (x : ReadView). x.call) (some_same (record { call = c; wants_line = wants }) x e))
 
-module _ (s : SettingView) (t : Templates) (fits : IsOfUnit t s) (n : ℕ) where
+module _ (s : SettingView) (t : Activation) (fits : IsOfUnit t s) (n : ℕ) where
   -- a term that is no call of a line and no comparison with one
   pub plain : (e : TermTree) → line_call e ≡ None → read_by e ≡ None → ((decision : Decision) (p : Plan) → lowered.condition s e decision p ≡ lowered.leaf_condition s e decision p) → ((decision : Decision) (held failed : List Item) → source.condition t.unit decision.is_test e held failed ≡ source.leaf t.unit decision.is_test e held failed)
-      → ((d : ℕ) → Suits true e → Fits d (room e) → Valued s t n e d) → ((d : ℕ) → Suits false e → Fits d (room e) → Done s t n e d) → About s t n e
+      → ((d : ℕ) → Suits t.unit true e → Fits d (room e) → Valued s t n e d) → ((d : ℕ) → Suits t.unit false e → Fits d (room e) → Done s t n e d) → About s t n e
   plain e no_call no_read works items value only = record {
     value = value;
     done = only;
@@ -75,8 +75,8 @@ module _ (s : SettingView) (t : Templates) (fits : IsOfUnit t s) (n : ℕ) where
 
   -- a term whose works are the same whether its value is used or not
   pub plainly : (e : TermTree) → line_call e ≡ None → read_by e ≡ None → ((decision : Decision) (p : Plan) → lowered.condition s e decision p ≡ lowered.leaf_condition s e decision p) → ((decision : Decision) (held failed : List Item) → source.condition t.unit decision.is_test e held failed ≡ source.leaf t.unit decision.is_test e held failed)
-      → (js : ℕ → List Job) → ((d : ℕ) (p : Plan) → p.jobs ≡ [] → (parts s (jobs.Value e d) p).jobs ≡ js d) → ((d : ℕ) (p : Plan) → parts s (jobs.Unused e d) p ≡ parts s (jobs.Value e d) p) → term_items t.unit false e ≡ term_items t.unit true e ++ item.Drop ∷ [] → (Suits false e → Suits true e)
-      → ((d : ℕ) → Suits true e → Fits d (room e) → Runs s t n (js d) (term_items t.unit true e) d (suc d)) → About s t n e
+      → (js : ℕ → List Job) → ((d : ℕ) (p : Plan) → p.jobs ≡ [] → (parts s (jobs.Value e d) p).jobs ≡ js d) → ((d : ℕ) (p : Plan) → parts s (jobs.Unused e d) p ≡ parts s (jobs.Value e d) p) → term_items t.unit false e ≡ term_items t.unit true e ++ item.Drop ∷ [] → (Suits t.unit false e → Suits t.unit true e)
+      → ((d : ℕ) → Suits t.unit true e → Fits d (room e) → Runs s t n (js d) (term_items t.unit true e) d (suc d)) → About s t n e
   plainly e no_call no_read works items js planned same dropping also runs = plain e no_call no_read works items
       (λ d suits enough. valued s t n e d (js d) (planned d) (runs d suits enough))
       (λ d suits enough. done s t n e d (js d) (λ p none. ap (λ (q : Plan). q.jobs) (same d p) ∙ planned d p none) (subst (λ xs. Runs s t n (js d) xs d d) (sym dropping) (dropped s t n (js d) (term_items t.unit true e) d (runs d (also suits) enough))))
@@ -179,7 +179,7 @@ module _ (s : SettingView) (t : Templates) (fits : IsOfUnit t s) (n : ℕ) where
 
     -- ---- comparisons of pointers
 
-    compared_runs : (sign : BinaryOp) (a b : TermTree) → About s t n a → About s t n b → (d : ℕ) → Suits true a × Suits true b → Fits d (room (Typed at ctype parens constant (tree.Compare sign a b)))
+    compared_runs : (sign : BinaryOp) (a b : TermTree) → About s t n a → About s t n b → (d : ℕ) → Suits t.unit true a × Suits t.unit true b → Fits d (room (Typed at ctype parens constant (tree.Compare sign a b)))
         → Runs s t n (jobs.Value a d ∷ (jobs.Value b (behind d 1) ∷ (jobs.Ready (at_place at (act.ComparePointers d (relation sign) d (behind d 1))) ∷ []))) (item.Value a ∷ (item.Value b ∷ (item.Do at (op.ComparePointers (relation sign)) ∷ []))) d (suc d)
     compared_runs sign a b first second d suits enough =
         let next = next_fits d (room a) (room b) enough in
@@ -193,7 +193,7 @@ module _ (s : SettingView) (t : Templates) (fits : IsOfUnit t s) (n : ℕ) where
         through a b c x y = omega (arith, x, y)
 
     -- a call on one of both sides
-    beside : (a b : TermTree) → About s t n a → About s t n b → Suits true a × Suits true b → (c : LineCallView) (k : ℕ) → room a ≤ k → room b ≤ k → line_call_beside a b ≡ Some c → Reads s t n c.arguments k
+    beside : (a b : TermTree) → About s t n a → About s t n b → Suits t.unit true a × Suits t.unit true b → (c : LineCallView) (k : ℕ) → room a ≤ k → room b ≤ k → line_call_beside a b ≡ Some c → Reads s t n c.arguments k
     beside a b first second suits c k le_a le_b e = by (is_null_constant b) (is_null_constant a) e
       where
         by : (right left : Bool) → cond right (line_call a) (cond left (line_call b) None) ≡ Some c → Reads s t n c.arguments k
@@ -216,7 +216,7 @@ module _ (s : SettingView) (t : Templates) (fits : IsOfUnit t s) (n : ℕ) where
     of_compare sign a b first second =
         let e = Typed at ctype parens constant (tree.Compare sign a b) in
         let js : ℕ → List Job = λ d. jobs.Value a d ∷ (jobs.Value b (behind d 1) ∷ (jobs.Ready (at_place at (act.ComparePointers d (relation sign) d (behind d 1))) ∷ [])) in
-        let value : (d : ℕ) → Suits true e → Fits d (room e) → Valued s t n e d = λ d suits enough. valued s t n e d (js d) (λ p none. three_jobs _ _ _ p none) (compared_runs sign a b first second d suits enough) in
+        let value : (d : ℕ) → Suits t.unit true e → Fits d (room e) → Valued s t n e d = λ d suits enough. valued s t n e d (js d) (λ p none. three_jobs _ _ _ p none) (compared_runs sign a b first second d suits enough) in
         record {
           value = value;
           done = λ d suits enough. done s t n e d (js d) (λ p none. three_jobs _ _ _ p none) (dropped s t n (js d) _ d (compared_runs sign a b first second d suits enough));
@@ -227,7 +227,7 @@ module _ (s : SettingView) (t : Templates) (fits : IsOfUnit t s) (n : ℕ) where
 
     -- ---- conversions
 
-    converted_runs : (a : TermTree) → About s t n a → (d : ℕ) → Suits true a → Fits d (room a) → Runs s t n (jobs.Value a d ∷ (jobs.Ready (at_place at (act.Convert d d (scalar_of (term_type a)) (scalar_of ctype))) ∷ [])) (item.Value a ∷ (item.Do at (op.Convert (scalar_of ctype)) ∷ [])) d (suc d)
+    converted_runs : (a : TermTree) → About s t n a → (d : ℕ) → Suits t.unit true a → Fits d (room a) → Runs s t n (jobs.Value a d ∷ (jobs.Ready (at_place at (act.Convert d d (scalar_of (term_type a)) (scalar_of ctype))) ∷ [])) (item.Value a ∷ (item.Do at (op.Convert (scalar_of ctype)) ∷ [])) d (suc d)
     converted_runs a about d suits enough = one_operand s t n a d at (op.Convert (scalar_of ctype)) _ (acts.convert d (scalar_of (term_type a)) (scalar_of ctype)) (about.value d suits enough)
 
     pub of_cast : (a : TermTree) → About s t n a → About s t n (Typed at ctype parens constant (tree.Convert Cast a))
@@ -238,7 +238,7 @@ module _ (s : SettingView) (t : Templates) (fits : IsOfUnit t s) (n : ℕ) where
     of_conversion a about =
         let e = Typed at ctype parens constant (tree.Convert Implicit a) in
         let js : ℕ → List Job = λ d. jobs.Value a d ∷ (jobs.Ready (at_place at (act.Convert d d (scalar_of (term_type a)) (scalar_of ctype))) ∷ []) in
-        let value : (d : ℕ) → Suits true e → Fits d (room e) → Valued s t n e d = λ d suits enough. valued s t n e d (js d) (λ p none. two_jobs _ _ p none) (converted_runs a about d suits enough) in
+        let value : (d : ℕ) → Suits t.unit true e → Fits d (room e) → Valued s t n e d = λ d suits enough. valued s t n e d (js d) (λ p none. two_jobs _ _ p none) (converted_runs a about d suits enough) in
         record {
           value = value;
           done = λ d suits enough. done s t n e d (js d) (λ p none. two_jobs _ _ p none) (dropped s t n (js d) _ d (converted_runs a about d suits enough));

@@ -4,14 +4,14 @@ use Rattle.c_layout.specs.CheckedTrees as tree
 use Rattle.c_layout.specs.CheckedTrees.{TermTree, TermTrees, Typed, LvalueTree, Designates}
 use Rattle.c_layout.specs.declared.checked_tree.checked_terms.ConversionKind.TheVariants.{Implicit, Cast}
 use Rattle.flow_lower_tasks.specs.Settings.{SettingView}
-use Rattle.template_runs.specs.TemplateStates.{Templates}
+use Rattle.template_runs_follow.specs.Activations.{Activation}
 use Rattle.template_runs_works.specs.TemplateParts.{IsOfUnit}
 use Rattle.template_runs_works.proofs.About.{About, AboutPlace, AboutAll}
 use Rattle.template_runs_works.proofs.Arguments.{about_none, about_more}
 use Rattle.template_runs_terms.proofs.PlainForms as plain
 use Rattle.template_runs_terms.proofs.OtherForms as other
 
-module _ (s : SettingView) (t : Templates) (fits : IsOfUnit t s) (n : ℕ) where
+module _ (s : SettingView) (t : Activation) (fits : IsOfUnit t s) (n : ℕ) where
   mutual
     pub terms : (e : TermTree) → About s t n e
     terms (Typed at ctype parens constant (tree.Number m)) = plain.of_number s t fits n at ctype parens constant m
@@ -40,7 +40,7 @@ module _ (s : SettingView) (t : Templates) (fits : IsOfUnit t s) (n : ℕ) where
     terms (Typed at ctype parens constant (tree.Step sign time kind l)) = other.of_step s t fits n at ctype parens constant sign time kind l (places l)
     terms (Typed at ctype parens constant (tree.StepPointer sign time size l)) = other.of_pointer_step s t fits n at ctype parens constant sign time size l (places l)
     terms (Typed at ctype parens constant (tree.Struct l)) = plain.of_struct s t fits n at ctype parens constant l (places l)
-    terms (Typed at ctype parens constant (tree.Call function args is_used)) = other.of_call s t fits n at ctype parens constant function args is_used
+    terms (Typed at ctype parens constant (tree.Call function args is_used)) = other.of_call s t fits n at ctype parens constant function args is_used (lists args)
     terms (Typed at ctype parens constant (tree.Library function args target)) = other.of_library s t fits n at ctype parens constant function args target (lists args)
 
     pub places : (l : LvalueTree) → AboutPlace s t n l

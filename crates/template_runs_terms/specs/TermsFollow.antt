@@ -9,7 +9,7 @@ use Rattle.flow_lower_tasks.specs.declared.pending_works.Decision.{Decision}
 use Rattle.flow_lower_works.specs.Derivations.{Makes}
 use Rattle.ref_machine.specs.Items.{Item, Value, Unused}
 use Rattle.ref_machine.specs.ConditionItems.{condition}
-use Rattle.template_runs.specs.TemplateStates.{Templates}
+use Rattle.template_runs_follow.specs.Activations.{Activation}
 use Rattle.template_runs_follow.specs.Follows.{Leads, Follows}
 use Rattle.template_runs_works.specs.Rooms.{room}
 use Rattle.template_runs_works.specs.SuitedTerms.{Suits}
@@ -17,16 +17,16 @@ use Rattle.template_runs_works.specs.TemplateParts.{IsOfUnit, IsKnown, Stands}
 
 -- where the works of a term come to pieces, its items follow in these
 abbrev pub TermsFollow : Type 0
-TermsFollow = (t : Templates) (s : SettingView) → IsOfUnit t s → (n d : ℕ) (e : TermTree) → Suits true e → d + room e ≤ 2 ^ 32 - 1 → (p : Plan) (ps : List PieceView) (r : Plan) → Makes s p (jobs.Value e d ∷ []) ps r → p.jobs ≡ [] → IsKnown t r
+TermsFollow = (t : Activation) (s : SettingView) → IsOfUnit t s → (n d : ℕ) (e : TermTree) → Suits t.unit true e → d + room e ≤ 2 ^ 32 - 1 → (p : Plan) (ps : List PieceView) (r : Plan) → Makes s p (jobs.Value e d ∷ []) ps r → p.jobs ≡ [] → IsKnown t r
     → (items : List Item) (rest : List PieceView) → Stands t (ps ++ rest) → Follows t n (suc d) items rest → Follows t n d (Value e ∷ items) (ps ++ rest)
 
 -- so do those of a term whose value is not used
 abbrev pub UnusedTermsFollow : Type 0
-UnusedTermsFollow = (t : Templates) (s : SettingView) → IsOfUnit t s → (n d : ℕ) (e : TermTree) → Suits false e → d + room e ≤ 2 ^ 32 - 1 → (p : Plan) (ps : List PieceView) (r : Plan) → Makes s p (jobs.Unused e d ∷ []) ps r → p.jobs ≡ [] → IsKnown t r
+UnusedTermsFollow = (t : Activation) (s : SettingView) → IsOfUnit t s → (n d : ℕ) (e : TermTree) → Suits t.unit false e → d + room e ≤ 2 ^ 32 - 1 → (p : Plan) (ps : List PieceView) (r : Plan) → Makes s p (jobs.Unused e d ∷ []) ps r → p.jobs ≡ [] → IsKnown t r
     → (items : List Item) (rest : List PieceView) → Stands t (ps ++ rest) → Follows t n d items rest → Follows t n d (Unused e ∷ items) (ps ++ rest)
 
 -- the items of a condition follow in its pieces, where those for each way follow behind the label of that way
 abbrev pub ConditionsFollow : Type 0
-ConditionsFollow = (t : Templates) (s : SettingView) → IsOfUnit t s → (n : ℕ) (e : TermTree) (decision : Decision) → Suits true e → decision.depth + room e ≤ 2 ^ 32 - 1 → (p : Plan) (ps : List PieceView) (r : Plan) → Makes s p (jobs.Condition e decision ∷ []) ps r → p.jobs ≡ [] → IsKnown t r
+ConditionsFollow = (t : Activation) (s : SettingView) → IsOfUnit t s → (n : ℕ) (e : TermTree) (decision : Decision) → Suits t.unit true e → decision.depth + room e ≤ 2 ^ 32 - 1 → (p : Plan) (ps : List PieceView) (r : Plan) → Makes s p (jobs.Condition e decision ∷ []) ps r → p.jobs ≡ [] → IsKnown t r
     → (held failed items : List Item) (rest on_yes on_no : List PieceView) → Stands t (ps ++ rest) → Leads t decision.targets.yes on_yes → Leads t decision.targets.no on_no → Follows t n decision.depth (held ++ items) on_yes → Follows t n decision.depth (failed ++ items) on_no
     → Follows t n decision.depth (condition t.unit decision.is_test e held failed ++ items) (ps ++ rest)

@@ -1,8 +1,8 @@
-//! Terms and conditions without calls of functions of the unit stand in their pieces as in the source.
+//! Terms and conditions stand in their pieces as in the source.
 ghost use Rattle.template_runs_terms.specs.TermsFollow.{ConditionsFollow, TermsFollow, UnusedTermsFollow};
 
 /// Where the works of a term come to pieces, its items follow in these, for any number of turns and whatever comes
-/// behind: operators, assignments and steps, `&&`, `||` and `?:`, calls of the library.
+/// behind: operators, assignments and steps, `&&`, `||` and `?:`, calls of the library and of functions of the unit.
 pub fn terms_follow()
     ensures { TermsFollow }
 {}

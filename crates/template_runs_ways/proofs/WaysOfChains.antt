@@ -9,7 +9,8 @@ use Rattle.template_runs_scopes.proofs.Ways.{with_none, without_on, all_in}
 use Rattle.template_runs_scopes.proofs.Contexts.{self_in, inwards_in}
 use Rattle.template_runs_ways.specs.Between as between
 use Rattle.template_runs_ways.specs.Between.{Between}
-use Rattle.template_runs_ways.specs.Chains.{Chain, outermost, inside, AreApart, IsWay}
+use Rattle.template_runs_scopes.specs.Chains.{Chain, outermost, inside, AreApart}
+use Rattle.template_runs_ways.specs.Chains.{IsWay}
 
 -- ---- lists of objects
 

@@ -14,7 +14,7 @@ use Rattle.ref_machine.specs.Items as item
 use Rattle.ref_machine.specs.Items.{Item}
 use Rattle.ref_machine.specs.TermItems.{address_items, arguments, argument_count}
 use Rattle.ref_machine.specs.ConditionItems.{term_items, condition}
-use Rattle.template_runs.specs.TemplateStates.{Templates}
+use Rattle.template_runs_follow.specs.Activations.{Activation}
 use Rattle.template_runs_follow.specs.Follows.{Leads, Follows}
 use Rattle.template_runs_follow.proofs.Constructions.{gives_value, gives_unused, gives_address}
 use Rattle.template_runs_works.specs.Rooms.{room, room_of_place, room_of_all}
@@ -31,7 +31,7 @@ abbrev pub argument_jobs : TermTrees → ℕ → List Job
 argument_jobs tree.End d = []
 argument_jobs (tree.More e rest) d = jobs.Value e d ∷ argument_jobs rest (behind d 1)
 
-module _ (s : SettingView) (t : Templates) (n : ℕ) where
+module _ (s : SettingView) (t : Activation) (n : ℕ) where
   abbrev pub Valued : TermTree → ℕ → Type 0
   Valued e d = Runs s t n (jobs.Value e d ∷ []) (item.Value e ∷ []) d (suc d)
 
@@ -59,16 +59,16 @@ module _ (s : SettingView) (t : Templates) (n : ℕ) where
     pub runs : (d : ℕ) → Fits d (room_of_all args) → Argued args d
 
   pub record About (e : TermTree) : Type 0 where
-    pub value : (d : ℕ) → Suits true e → Fits d (room e) → Valued e d
-    pub done : (d : ℕ) → Suits false e → Fits d (room e) → Done e d
-    pub decided : (decision : Decision) → Suits true e → Fits decision.depth (room e) → Decided e decision
-    pub reads : (c : LineCallView) → line_call e ≡ Some c → Suits true e → Reads c.arguments (room e)
+    pub value : (d : ℕ) → Suits t.unit true e → Fits d (room e) → Valued e d
+    pub done : (d : ℕ) → Suits t.unit false e → Fits d (room e) → Done e d
+    pub decided : (decision : Decision) → Suits t.unit true e → Fits decision.depth (room e) → Decided e decision
+    pub reads : (c : LineCallView) → line_call e ≡ Some c → Suits t.unit true e → Reads c.arguments (room e)
 
   abbrev pub AboutPlace : LvalueTree → Type 0
-  AboutPlace l = (d : ℕ) → SuitsAsPlace l → Fits d (room_of_place l) → Addressed l d
+  AboutPlace l = (d : ℕ) → SuitsAsPlace t.unit l → Fits d (room_of_place l) → Addressed l d
 
   abbrev pub AboutAll : TermTrees → Type 0
-  AboutAll args = (d : ℕ) → SuitAll args → Fits d (room_of_all args) → Argued args d
+  AboutAll args = (d : ℕ) → SuitAll t.unit args → Fits d (room_of_all args) → Argued args d
 
   -- ---- from the parts of a work to the work
 

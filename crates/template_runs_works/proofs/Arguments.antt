@@ -18,8 +18,8 @@ use Rattle.ref_machine.specs.Items as item
 use Rattle.ref_machine.specs.Items.{Item}
 use Rattle.ref_machine.specs.Operations as op
 use Rattle.ref_machine.specs.TermItems.{arguments, argument_count, left_if}
-use Rattle.template_runs.specs.TemplateStates.{Templates}
 use Rattle.template_runs_acts.specs.Acts.{temps_from, behind_call}
+use Rattle.template_runs_follow.specs.Activations.{Activation}
 use Rattle.template_runs_follow.specs.Follows.{at_place}
 use Rattle.template_runs_follow.proofs.Constructions.{gives_call}
 use Rattle.template_runs_works.specs.Rooms.{room, room_of_all}
@@ -68,7 +68,7 @@ few_arguments (tree.More e rest) = let le = few_arguments rest in more (room e) 
     more : (a m n : ℕ) → m ≤ n → m + 1 ≤ a + (suc n - a)
     more a m n le = omega (arith, le)
 
-module _ (s : SettingView) (t : Templates) (n : ℕ) where
+module _ (s : SettingView) (t : Activation) (n : ℕ) where
   pub about_none : AboutAll s t n tree.End
   about_none d suits enough = subst (λ k. Runs s t n [] [] d k) (sym (plus_zero d)) (nothing_done s t n d)
 

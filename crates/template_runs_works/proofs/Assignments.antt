@@ -19,9 +19,9 @@ use Rattle.ref_machine.specs.Items as item
 use Rattle.ref_machine.specs.Items.{Item}
 use Rattle.ref_machine.specs.Operations as op
 use Rattle.ref_machine.specs.Operations.{Operation}
-use Rattle.template_runs.specs.TemplateStates.{Templates}
 use Rattle.template_runs_acts.specs.Acts as acts
 use Rattle.template_runs_acts.specs.Acts.{IsAct, IsActBehind}
+use Rattle.template_runs_follow.specs.Activations.{Activation}
 use Rattle.template_runs_follow.specs.Follows.{at_place, Follows}
 use Rattle.template_runs_follow.proofs.Constructions.{gives_store, gives_again}
 use Rattle.template_runs_works.proofs.Runs.{Runs, then, does, piece_first, none_made}
@@ -74,7 +74,7 @@ compound_shift_jobs l a at here size back kept d x y = jobs.Address l d ∷ (job
 abbrev pub compound_shift_items : LvalueTree → TermTree → Place → Place → ℕ → Bool → List Item → List Item
 compound_shift_items l a at here size back is = item.Address l ∷ (item.Value a ∷ (item.Do here (op.LoadUnder scalar.Pointer) ∷ (item.Do at (op.Shift op.RightFirst size back) ∷ (item.Do here (op.Store scalar.Pointer) ∷ is))))
 
-module _ (s : SettingView) (t : Templates) (n : ℕ) where
+module _ (s : SettingView) (t : Activation) (n : ℕ) where
   -- nothing is done
   pub nothing_done : (d : ℕ) → Runs s t n [] [] d d
   nothing_done d = record { from = λ p none ps r m known items rest stands f. subst (λ xs. Follows t n d items (xs ++ rest)) (sym (none_made s p ps r m)) f }

@@ -3,8 +3,8 @@ use Rattle.std.proofs.Common.{◌≡◌, ◌≤◌, ℕ, ◌+◌, ◌==◌, Bool
 use Rattle.std.proofs.lemmas.Bool.{eq-eqb}
 use Rattle.flow_lower_tasks.specs.Pieces.{PieceView, Do, DoIfUsed, End, Mark, Call}
 use Rattle.flow_lower_debts.specs.Marks.{one, all_marked}
-use Rattle.template_runs.specs.TemplateStates.{Templates}
 use Rattle.template_runs.specs.TemplateExits.{behind_mark}
+use Rattle.template_runs_follow.specs.Activations.{Activation}
 use Rattle.template_runs_follow.specs.Follows.{Leads, pieces}
 use Rattle.template_runs_works.specs.TemplateParts.{Stands}
 
@@ -41,5 +41,5 @@ found l (Call c ∷ front) ps once = found l front ps (omega (arith, once))
 found l (Mark m ∷ front) ps once = behind_other l m front ps once (found l front ps)
 
 -- a label leads behind its mark
-pub leads : (t : Templates) (l : ℕ) (ps : List PieceView) → all_marked l (pieces t) ≤ 1 → Stands t (Mark l ∷ ps) → Leads t l ps
+pub leads : (t : Activation) (l : ℕ) (ps : List PieceView) → all_marked l (pieces t) ≤ 1 → Stands t (Mark l ∷ ps) → Leads t l ps
 leads t l ps once stands = subst (λ xs. behind_mark l xs ≡ Some ps) (sym stands.all) (found l stands.front ps (subst (λ xs. all_marked l xs ≤ 1) stands.all once))

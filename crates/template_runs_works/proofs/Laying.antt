@@ -12,7 +12,7 @@ use Rattle.flow_lower_growth.specs.Growth.{Grows}
 use Rattle.flow_lower_growth.proofs.Growth.{grows_on}
 use Rattle.flow_lower_growth.proofs.GrowingWorks.{grows, jobs_none, planless_grows}
 use Rattle.ref_machine.specs.Items.{Item}
-use Rattle.template_runs.specs.TemplateStates.{Templates}
+use Rattle.template_runs_follow.specs.Activations.{Activation}
 use Rattle.template_runs_follow.specs.Follows.{Follows, Leads}
 use Rattle.template_runs_works.specs.TemplateParts.{IsOfUnit, IsKnown, Stands}
 use Rattle.template_runs_works.proofs.Runs.{Runs, headed, none_made, known_before}
@@ -36,7 +36,7 @@ module _ (s : SettingView) (r : Plan) (rest : List PieceView) where
   pub from_last : (p : Plan) (j : Job) (ps : List PieceView) (G : List PieceView → Type 0) → Makes s p (j ∷ []) ps r → ((ps : List PieceView) → Makes s p (j ∷ []) ps r → G (ps ++ rest)) → G (ps ++ rest)
   from_last p j ps G m later = later ps m
 
-module _ (s : SettingView) (t : Templates) where
+module _ (s : SettingView) (t : Activation) where
   -- what was given away in between is known
   pub known_between : (between : Plan) (js : List Job) (back : List PieceView) (r : Plan) → Makes s between js back r → IsKnown t r → IsKnown t between
   known_between between js back r m known = known_before t between r (grows s between js back r m) known

@@ -16,7 +16,7 @@ use Rattle.ref_machine.specs.Items as item
 use Rattle.ref_machine.specs.Items.{Item, Items, listed}
 use Rattle.ref_machine.specs.Operations as op
 use Rattle.ref_machine.specs.TermItems.{arguments, argument_count}
-use Rattle.template_runs.specs.TemplateStates.{Templates}
+use Rattle.template_runs_follow.specs.Activations.{Activation}
 use Rattle.template_runs_follow.specs.Follows.{Leads, Follows}
 use Rattle.template_runs_follow.proofs.Constructions.{gives_read, gives_line}
 use Rattle.template_runs_works.specs.Rooms.{room_of_all}
@@ -55,7 +55,7 @@ line_jobs at args d p none =
     let q = jobs.Ready (reading at (Some d) d (behind d 1) (behind d 2) p.labels p.labels) in
     ap (λ js. (js ++ q ∷ []) ++ jobs.Ready (Mark p.labels) ∷ []) (argued_jobs args d [] (with_labels 1 p) none) ∙ append_assoc (argument_jobs args d) (q ∷ []) (jobs.Ready (Mark p.labels) ∷ [])
 
-module _ (s : SettingView) (t : Templates) (fits : IsOfUnit t s) (n : ℕ) where
+module _ (s : SettingView) (t : Activation) (fits : IsOfUnit t s) (n : ℕ) where
   -- the arguments stand, a line is read, and both ways lead to the label behind
   read_and_marked : (at : Place) (target : Option Ty) (d x y l : ℕ) → suc d ≡ x → suc (suc d) ≡ y → l + 1 ≤ 2 ^ 32 - 1
       → Runs s t n (jobs.Ready (reading at (Some d) d x y l l) ∷ (jobs.Ready (Mark l) ∷ [])) (item.Do at (op.Library Fgets 3 target) ∷ []) (suc (suc (suc d))) (suc d)

@@ -19,9 +19,9 @@ use Rattle.ref_machine.specs.Items.{Item}
 use Rattle.ref_machine.specs.Operations as op
 use Rattle.ref_machine.specs.Operations.{Operation, size_of}
 use Rattle.ref_machine.specs.TermItems.{operating, order_of}
-use Rattle.template_runs.specs.TemplateStates.{Templates}
 use Rattle.template_runs_acts.specs.Acts as acts
 use Rattle.template_runs_acts.specs.Acts.{IsAct}
+use Rattle.template_runs_follow.specs.Activations.{Activation}
 use Rattle.template_runs_follow.specs.Follows.{at_place}
 use Rattle.template_runs_works.specs.Rooms.{larger, both_rooms}
 use Rattle.template_runs_works.specs.TemplateParts.{IsOfUnit}
@@ -61,7 +61,7 @@ shift_is Void d size back e = subst (λ b. IsAct (op.Shift op.LeftFirst size bac
 pub copy_is : (ctype : Ty) (d : ℕ) → ctype ≡ Struct (struct_number ctype) → suc d ≡ behind d 1 → IsAct (op.Copy ctype) (act.Copy d (behind d 1) (struct_number ctype)) (suc (suc d)) (suc d)
 copy_is ctype d is e = subst (λ b. IsAct (op.Copy ctype) (act.Copy d b (struct_number ctype)) (suc (suc d)) (suc d)) e (subst (λ k. IsAct (op.Copy k) (act.Copy d (suc d) (struct_number ctype)) (suc (suc d)) (suc d)) (sym is) (acts.copy d (struct_number ctype)))
 
-module _ (s : SettingView) (t : Templates) (n : ℕ) where
+module _ (s : SettingView) (t : Activation) (n : ℕ) where
   -- one operand and an instruction
   pub one_operand : (a : TermTree) (d : ℕ) (at : Place) (operation : Operation) (does_it : Act) → IsAct operation does_it (suc d) (suc d) → Valued s t n a d → Runs s t n (jobs.Value a d ∷ (jobs.Ready (at_place at does_it) ∷ [])) (item.Value a ∷ (item.Do at operation ∷ [])) d (suc d)
   one_operand a d at operation does_it is first = then s t n (jobs.Value a d ∷ []) (jobs.Ready (at_place at does_it) ∷ []) (item.Value a ∷ []) (item.Do at operation ∷ []) d (suc d) (suc d) first (does s t n (suc d) (suc d) at operation does_it is)
@@ -88,5 +88,5 @@ module _ (s : SettingView) (t : Templates) (n : ℕ) where
       (then s t n (jobs.Address k x ∷ []) (jobs.Ready (at_place at does_it) ∷ []) (item.Address k ∷ []) (item.Do at operation ∷ []) (suc d) (suc (suc d)) (suc d) (moved_address s t n k d x e second) (does s t n (suc (suc d)) (suc d) at operation does_it is))
 
 -- sizes are those of the unit
-pub sizes_same : (t : Templates) (s : SettingView) → IsOfUnit t s → (ctype : Ty) → size_of_type s.structs s.pointer ctype ≡ size_of t.unit ctype
+pub sizes_same : (t : Activation) (s : SettingView) → IsOfUnit t s → (ctype : Ty) → size_of_type s.structs s.pointer ctype ≡ size_of t.unit ctype
 sizes_same t s fits ctype = subst (λ p. size_of_type s.structs p ctype ≡ size_of t.unit ctype) (sym fits.pointer) (ap (λ ss. size_of_type ss t.unit.model.pointer ctype) fits.structs)

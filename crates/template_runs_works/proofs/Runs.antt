@@ -18,8 +18,8 @@ use Rattle.flow_lower_growth.proofs.GrowingWorks.{grows, jobs_none}
 use Rattle.ref_machine.specs.Items as item
 use Rattle.ref_machine.specs.Items.{Item}
 use Rattle.ref_machine.specs.Operations.{Operation}
-use Rattle.template_runs.specs.TemplateStates.{Templates}
 use Rattle.template_runs_acts.specs.Acts.{IsAct}
+use Rattle.template_runs_follow.specs.Activations.{Activation}
 use Rattle.template_runs_follow.specs.Follows.{Names, Follows, at_place}
 use Rattle.template_runs_follow.proofs.Constructions.{gives_step, gives_drop}
 use Rattle.template_runs_works.specs.TemplateParts.{IsKnown, Stands}
@@ -41,7 +41,7 @@ kept_there xs ys i x e =
     let within : i < length (xs ++ ys) = omega (arith, inside, more) in
     slice_get-get_or (xs ++ ys) i x within ∙ ap Some (get_or_append_left xs ys x i inside ∙ get_or_from_slice_get xs i x x e)
 
-pub known_before : (t : Templates) (p r : Plan) → Grows p r → IsKnown t r → IsKnown t p
+pub known_before : (t : Activation) (p r : Plan) → Grows p r → IsKnown t r → IsKnown t p
 known_before t p r g known = record { names = λ base name e. known.names base name (subst (λ xs. slice_get xs base ≡ Some name) (sym g.names) (kept_there p.names g.more_names base name e)); labels = fewer p.labels r.labels g.labels known.labels }
   where
     fewer : (m n : ℕ) → m ≤ n → n ≤ 2 ^ 32 - 1 → m ≤ 2 ^ 32 - 1
@@ -54,15 +54,15 @@ last_there xs x =
     slice_get-get_or (xs ++ x ∷ []) (length xs) x within ∙ ap Some (get_or-append_seam xs x [] x)
 
 -- a name in a list of which all names are known
-pub known_name : (t : Templates) (p : Plan) (xs : List NameView) (x : NameView) → IsKnown t p → p.names ≡ xs ++ x ∷ [] → Names t (length xs) x
+pub known_name : (t : Activation) (p : Plan) (xs : List NameView) (x : NameView) → IsKnown t p → p.names ≡ xs ++ x ∷ [] → Names t (length xs) x
 known_name t p xs x known e = known.names (length xs) x (subst (λ ys. slice_get ys (length xs) ≡ Some x) (sym e) (last_there xs x))
 
 -- ---- places in the template
 
-pub stands_behind : (t : Templates) (xs ys : List PieceView) → Stands t (xs ++ ys) → Stands t ys
+pub stands_behind : (t : Activation) (xs ys : List PieceView) → Stands t (xs ++ ys) → Stands t ys
 stands_behind t xs ys stands = record { front = stands.front ++ xs; all = stands.all ∙ sym (append_assoc stands.front xs ys) }
 
-pub stands_after : (t : Templates) (x : PieceView) (ys : List PieceView) → Stands t (x ∷ ys) → Stands t ys
+pub stands_after : (t : Activation) (x : PieceView) (ys : List PieceView) → Stands t (x ∷ ys) → Stands t ys
 stands_after t x ys stands = stands_behind t (x ∷ []) ys stands
 
 -- ---- plans of some works
@@ -105,7 +105,7 @@ module _ (s : SettingView) where
       no : true ≡ false → ⊥
       no e = cc
 
-  module _ (t : Templates) (n : ℕ) where
+  module _ (t : Activation) (n : ℕ) where
     -- where works come to pieces, items follow in these, whatever comes behind
     abbrev pub RunsFrom : Plan → List Job → List Item → ℕ → ℕ → Type 0
     RunsFrom p js is d next = (ps : List PieceView) (r : Plan) → Makes s p js ps r → IsKnown t r → (items : List Item) (rest : List PieceView) → Stands t (ps ++ rest) → Follows t n next items rest → Follows t n d (is ++ items) (ps ++ rest)
@@ -146,6 +146,15 @@ module _ (s : SettingView) where
     -- one piece
     pub piece_first : (q : PieceView) (is : List Item) (d next : ℕ) → ((items : List Item) (rest : List PieceView) → Follows t n next items rest → Follows t n d (is ++ items) (q ∷ rest)) → Runs (jobs.Ready q ∷ []) is d next
     piece_first q is d next gives = record { from = λ p none ps r m known items rest stands f. let x = headed p q [] ps r m in subst (λ xs. Follows t n d (is ++ items) (xs ++ rest)) (sym (x.is ∙ ap (λ xs. q ∷ xs) (none_made p x.back r x.made))) (gives items rest f) }
+
+    -- one piece, of which is known where it stands
+    pub piece_stands : (q : PieceView) (is : List Item) (d next : ℕ) → ((items : List Item) (rest : List PieceView) → Stands t (q ∷ rest) → Follows t n next items rest → Follows t n d (is ++ items) (q ∷ rest)) → Runs (jobs.Ready q ∷ []) is d next
+    piece_stands q is d next gives = record {
+      from = λ p none ps r m known items rest stands f.
+          let x = headed p q [] ps r m in
+          let alone = x.is ∙ ap (λ xs. q ∷ xs) (none_made p x.back r x.made) in
+          subst (λ xs. Follows t n d (is ++ items) (xs ++ rest)) (sym alone) (gives items rest (subst (λ xs. Stands t (xs ++ rest)) alone stands) f);
+    }
 
     -- an instruction
     pub does : (d next : ℕ) (at : Place) (operation : Operation) (a : Act) → IsAct operation a d next → Runs (jobs.Ready (at_place at a) ∷ []) (item.Do at operation ∷ []) d next

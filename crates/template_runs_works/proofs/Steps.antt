@@ -14,8 +14,8 @@ use Rattle.flow_lower_tasks.specs.Works.{Job}
 use Rattle.ref_machine.specs.Items as item
 use Rattle.ref_machine.specs.Items.{Item}
 use Rattle.ref_machine.specs.Operations as op
-use Rattle.template_runs.specs.TemplateStates.{Templates}
 use Rattle.template_runs_acts.specs.Acts as acts
+use Rattle.template_runs_follow.specs.Activations.{Activation}
 use Rattle.template_runs_follow.specs.Follows.{at_place}
 use Rattle.template_runs_works.proofs.Runs.{Runs, then, does}
 use Rattle.template_runs_works.proofs.About.{Addressed}
@@ -39,7 +39,7 @@ step_items l at here own kind sign one_way other_way copied is =
 abbrev pub pointer_items : LvalueTree → Place → Place → ℕ → Bool → List Item → List Item → List Item
 pointer_items l at here size back copied is = item.Address l ∷ (item.Do here (op.LoadOver scalar.Pointer) ∷ (copied ++ (item.Do at (op.ShiftByOne size back) ∷ is)))
 
-module _ (s : SettingView) (t : Templates) (n : ℕ) where
+module _ (s : SettingView) (t : Activation) (n : ℕ) where
   -- the old value is loaded, and then what comes behind
   with_old : (l : LvalueTree) (d next : ℕ) (here : Place) (kind : declared.Scalar) (js : List Job) (is : List Item) → Addressed s t n l d → Runs s t n js is (suc (suc d)) next
       → Runs s t n (jobs.Address l d ∷ (jobs.Ready (at_place here (act.Load (suc d) d kind)) ∷ js)) (item.Address l ∷ (item.Do here (op.LoadOver kind) ∷ is)) d next

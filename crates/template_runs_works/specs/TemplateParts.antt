@@ -1,14 +1,18 @@
--- Where works stand in the template of the entry.
-use Rattle.std.specs.Prelude.{◌≡◌, ◌≤◌, ◌<◌, ℕ, ◌-◌, ◌^◌, List, ◌++◌, Some, slice_get}
+-- Where works stand in the template of the function that runs.
+use Rattle.std.specs.Prelude.{◌≡◌, ◌≤◌, ◌<◌, ℕ, ◌-◌, ◌^◌, true, false, List, [], ◌∷◌, ◌++◌, Some, slice_get}
+use Rattle.c_layout.specs.CheckedUnits.{FunctionView}
 use Rattle.flow_lower_tasks.specs.Pieces.{NameView, PieceView}
 use Rattle.flow_lower_tasks.specs.Plans.{Plan}
 use Rattle.flow_lower_tasks.specs.Settings.{SettingView}
+use Rattle.flow_lower_functions.specs.Functions.{numbers_from}
 use Rattle.flow_lower_debts.specs.Marks.{all_marked}
-use Rattle.template_runs.specs.TemplateStates.{Templates}
-use Rattle.template_runs_follow.specs.Follows.{Names, own, pieces}
+use Rattle.ref_machine.specs.CallSteps.{epilogue}
+use Rattle.ref_machine.specs.SourceStates.{Frame}
+use Rattle.template_runs_follow.specs.Activations.{Activation}
+use Rattle.template_runs_follow.specs.Follows.{Names, Leads, Follows, own, pieces}
 
 -- what a template is made from is of the unit, and each label is marked at most once
-pub record IsOfUnit (t : Templates) (s : SettingView) : Type 0 where
+pub record IsOfUnit (t : Activation) (s : SettingView) : Type 0 where
   pub structs : s.structs ≡ t.unit.structs
   pub pointer : s.pointer ≡ t.unit.model.pointer
   pub int : s.int_bytes ≡ t.unit.model.int
@@ -16,11 +20,17 @@ pub record IsOfUnit (t : Templates) (s : SettingView) : Type 0 where
   pub once : (l : ℕ) → l < 2 ^ 32 - 1 → all_marked l (pieces t) ≤ 1
 
 -- the names that were given away are those of the template, and labels are numbers of 32 bits
-pub record IsKnown (t : Templates) (p : Plan) : Type 0 where
+pub record IsKnown (t : Activation) (p : Plan) : Type 0 where
   pub names : (base : ℕ) (name : NameView) → slice_get p.names base ≡ Some name → Names t base name
   pub labels : p.labels ≤ 2 ^ 32 - 1
 
 -- these are the last pieces of the template
-pub record Stands (t : Templates) (ps : List PieceView) : Type 0 where
+pub record Stands (t : Activation) (ps : List PieceView) : Type 0 where
   pub front : List PieceView
   pub all : pieces t ≡ front ++ ps
+
+-- where a return leads: the run ends in the entry; a function that was called leaves its parameters and goes on behind its
+-- last label, where it gives its result
+pub data Ends (s : SettingView) (t : Activation) (f : FunctionView) : Type 0 where
+  stops : s.is_entry ≡ true → t.callers ≡ [] → Ends s t f
+  goes_back : s.is_entry ≡ false → s.parameters ≡ numbers_from 0 f.parameters → (caller : Frame) (callers : List Frame) → t.callers ≡ caller ∷ callers → (there : List PieceView) → Leads t s.end there → ((n : ℕ) → Follows t n 0 (epilogue f caller) there) → Ends s t f

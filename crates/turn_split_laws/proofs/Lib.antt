@@ -1,7 +1,7 @@
-mod SameOperations
-mod SameEdges
-mod SameStarts
-mod TurnedPrograms
+pub mod SameOperations
+pub mod SameEdges
+pub mod SameStarts
+pub mod TurnedPrograms
 mod TurnedMaps
 mod TurnedPairs
 mod TurnedAnalyses

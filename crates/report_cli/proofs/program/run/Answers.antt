@@ -1,12 +1,18 @@
-use Rattle.report_cli.proofs.Telling.{told_answers, failed_answers}
+use Rattle.report_cli.proofs.Clauses.{runs_told, fresh_told, verified_told, replay_told}
+use Rattle.report_cli.proofs.CompleteAnswers.{complete}
 use Rattle.report_cli.proofs.program.run.Goals as goal
 
-pub returns-in-Ok-put-clause-answer : goal.returns-in-Ok-put-clause-answer
-returns-in-Ok-put-clause-answer g c =
-    let whole = rw c.as_slice.ensures.value at c.in-Ok-put.ensures.ok in
-    told_answers _ _ _ _ c.in-Ok.answer.text.items c.in-Ok.ensures.called (record { whole = whole; once = c.put.ensures.calls })
+pub returns-clause-runs : goal.returns-clause-runs
+returns-clause-runs g c = runs_told _ _ _ _ c.answer_words.ensures.answer c.answers_hold_runs.ensures
 
-pub returns-in-Ok-clause-answer : goal.returns-in-Ok-clause-answer
-returns-in-Ok-clause-answer g c =
-    let front = rw c.as_slice.ensures.value at c.in-Err.ensures.prefix in
-    failed_answers _ _ _ c.in-Ok.answer.status c.in-Ok.answer.text.items c.in-Ok.ensures.called (record { front = front; once = c.put.ensures.calls; fault = c.in-Err.ensures.failed })
+pub returns-clause-gates : goal.returns-clause-gates
+returns-clause-gates g c = fresh_told _ _ _ _ c.answer_words.ensures.answer c.gates_hold_runs.ensures
+
+pub returns-clause-verifies : goal.returns-clause-verifies
+returns-clause-verifies g c = verified_told _ _ _ _ c.answer_words.ensures.answer c.verified_hold_runs.ensures
+
+pub returns-clause-replays : goal.returns-clause-replays
+returns-clause-replays g c = replay_told _ _ _ _ c.answer_words.ensures.answer c.replays_stand_in_reports.ensures
+
+pub returns-clause-complete : goal.returns-clause-complete
+returns-clause-complete g c = complete c.accepted_units_are_answered.ensures.reported c.accepted_units_are_answered.ensures.summed _ _ _ _ c.answer_words.ensures.answer

@@ -1,0 +1,64 @@
+-- What is written of an inductive map is accepted.
+use Rattle.std.proofs.Common.{◌≡◌, ◌&&◌, ◌+◌, ◌*◌, ◌^◌, ◌<◌, ◌≤◌, ℕ, true, List, Option, Some, None, length, arith, subst, sym}
+use Rattle.std.specs.Prelude.{ℤ, nat_lt, ◌==◌}
+use Rattle.std.specs.List.{list_all}
+use Rattle.std.proofs.lemmas.Bool.{and_parts, ltb-true}
+use Rattle.std.proofs.Math.Nat.{mul-le-mul_left}
+use Rattle.cc_base.specs.Standard.{standard_limits}
+use Rattle.cc_base.specs.InductiveMap.{IsOwn, row_at}
+use Rattle.flow_program.specs.WellFormed.{names_of, are_blocks, fits_edge, are_placed, all_values, is_initial_object, is_parameter, is_within, is_few, are_few, is_laid_out, is_well_formed}
+use Rattle.flow_program.specs.declared.programs.Flow.{Flow}
+use Rattle.interval_domain.specs.declared.intervals.Interval.{Interval}
+use Rattle.value_domain.specs.declared.row_cells.Cell.{Cell}
+use Rattle.store_domain_sound_programs.proofs.WellFormedPremises.{well_formed_good}
+use Rattle.abstract_steps_laws_programs.specs.RegularPrograms.{is_regular}
+use Rattle.abstract_steps_laws_programs.proofs.RegularPrograms.{regular_of}
+use Rattle.abstract_steps_laws_own_rows.specs.OwnLists.{ReachesTypes}
+use Rattle.cert_check_text.specs.LineWords.{Bytes}
+use Rattle.cert_check_edges.specs.MapFaults.{IsFirstFault}
+use Rattle.cert_check_reading.specs.OwnReading.{IsOwnRow}
+use Rattle.cert_check.specs.declared.verdicts.Verdict.TheVariants.{Yes}
+use Rattle.cert_check.specs.Verdicts.{cert_cells, cert_machine, IsVerdictOn}
+use Rattle.cert_check_round_trip.specs.ReadMaps.{IsSmall}
+use Rattle.cert_check_round_trip.proofs.MapWords.{read_back}
+use Rattle.cert_check_programs.specs.Certificates.{IsCertificate}
+use Rattle.cert_check_proved.proofs.AnalysedMaps.{inductive_closed}
+
+-- a row is no longer than a pool of two of them
+row_below : (blocks width pool : ℕ) → (blocks + 2) * width ≤ pool → width ≤ pool
+row_below blocks width pool h =
+    let a : width * 1 ≤ width * (blocks + 2) = mul-le-mul_left width (omega arith) in
+    let b : width * (blocks + 2) ≡ (blocks + 2) * width = grind arith in
+    omega (arith, a, b, h)
+
+few_blocks : (f : Flow) → is_well_formed standard_limits f ≡ true → length f.blocks.items < 2 ^ 31
+few_blocks f h =
+    let a = and_parts (nat_lt 0 (length f.blocks.items)) _ h in
+    let b = and_parts (are_blocks (names_of f) (length f.blocks.items) f.edges.items 0 0 f.blocks.items f.edges.items) _ a.1 in
+    let c = and_parts (list_all (λ e. fits_edge (names_of f) e.kind) f.edges.items) _ b.1 in
+    let d = and_parts (are_placed 0 f.bases.items) _ c.1 in
+    let e = and_parts (f.width == all_values f.bases.items + f.temps) _ d.1 in
+    let g = and_parts (list_all (is_initial_object f.bases.items) f.initial.items) _ e.1 in
+    let i = and_parts (list_all (is_parameter f.model f.bases.items) f.parameters.items) _ g.1 in
+    let j = and_parts (is_within standard_limits f) (are_few f && is_laid_out f) i.1 in
+    let k = and_parts (are_few f) (is_laid_out f) j.1 in
+    let l = and_parts (is_few (length f.blocks.items)) (is_few (length f.edges.items)) k.0 in
+    ltb-true (length f.blocks.items) (2 ^ 31) l.0
+
+module _ (flow : Flow) (list : List ℤ) (regular : is_regular flow list ≡ true) (reaches : ReachesTypes list) where
+  small : IsSmall flow
+  small =
+      let good = (regular_of flow list regular).well_formed in
+      let few = few_blocks flow good in
+      let width = row_below (length flow.blocks.items) flow.width standard_limits.pool (well_formed_good standard_limits flow good).pool in
+      record { blocks = omega (arith, few); width = omega (arith, width) }
+
+  own_row : (row : Option (List (Cell Interval))) → IsOwn (cert_machine flow) row → IsOwnRow flow row
+  own_row None own = tt
+  own_row (Some row) own = own
+
+  pub proved_accepted : (text : Bytes) → IsCertificate flow list text → IsVerdictOn flow text Yes
+  proved_accepted text c =
+      let closed = inductive_closed flow list regular reaches c.started c.rows c.inductive in
+      let back = read_back flow small c.rows closed.size (λ b. own_row (row_at c.rows b) (closed.own b)) in
+      subst (λ t. IsVerdictOn flow t Yes) (sym c.is_text) (back.whole, subst (λ rs. IsFirstFault cert_cells (cert_machine flow) rs None) (sym back.rows_are) (closed.entry, closed.edge))

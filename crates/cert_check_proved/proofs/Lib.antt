@@ -1,0 +1,3 @@
+pub mod WiderRows
+pub mod AnalysedMaps
+pub mod AcceptedTexts

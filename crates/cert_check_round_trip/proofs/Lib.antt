@@ -1,0 +1,4 @@
+pub mod LineEnds
+pub mod RowWords
+pub mod OwnCells
+pub mod MapWords

@@ -1,0 +1,2 @@
+pub mod ReadableRows
+pub mod ReadMaps

@@ -1,0 +1,6 @@
+//! The text of a map is read back as the map.
+#![tactic(auto)]
+
+mod theorems;
+
+pub use theorems::own_maps_are_read_back;

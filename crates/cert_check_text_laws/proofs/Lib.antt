@@ -1,0 +1,5 @@
+pub mod Words
+pub mod Numbers
+pub mod FewBases
+pub mod BaseWords
+pub mod CellWords

@@ -1,0 +1,2 @@
+pub mod NearRanges
+pub mod NearCells

@@ -1,0 +1,4 @@
+mod SameBlocks
+mod SameSystems
+mod SamePairs
+pub mod OneAnalysis

@@ -1,0 +1,5 @@
+pub mod LabelNumbers
+pub mod ScopeObjects
+pub mod RegularTerms
+pub mod RegularStatements
+pub mod RegularUnits

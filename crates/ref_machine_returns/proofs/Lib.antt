@@ -1,0 +1,12 @@
+mod Members
+mod Ends
+mod Fitting
+mod FittingConditions
+mod FittingTerms
+mod FittingStatements
+mod Labels
+mod Replies
+mod Jumps
+mod Calls
+mod Turns
+mod Runs

@@ -1,0 +1,4 @@
+pub mod StandingJumps
+pub mod EndedObjects
+pub mod Leavings
+pub mod ReturnedFunctions

@@ -1,0 +1,24 @@
+-- What is told of a certificate that is accepted holds what runs of the unit violate.
+use Rattle.std.proofs.Common.{List}
+use Rattle.cc_base.specs.Standard.{standard_limits}
+use Rattle.cc_base.specs.declared.diagnostics.Diag.{Diag}
+use Rattle.c_layout.specs.CheckedUnits.{unit_view}
+use Rattle.c_layout.specs.DeclarationTrees.{unit_tree}
+use Rattle.flow_program.specs.declared.programs.Flow.{Flow}
+use Rattle.cert_check_programs.specs.Certificates.{IsShown}
+use Rattle.cert_check_sound.specs.SoundCertificates.{HoldsPairsOfChecked}
+use Rattle.report_cli_texts.specs.Reports.{Bytes}
+use Rattle.template_runs_units.specs.UnitRuns.{UnitRunsAreProgramRuns}
+use Rattle.report_cli.specs.CertifiedRuns.{CertificatesHoldRuns}
+use Rattle.report_cli.proofs.FoundRuns.{program_of, violated_in}
+
+-- by a certificate of a program
+abbrev pub CheckedPairsAreHeld : Type 0
+CheckedPairsAreHeld = (flow : Flow) (text : Bytes) (found : List Diag) → IsShown flow text found → HoldsPairsOfChecked flow found
+
+pub certificates_hold : UnitRunsAreProgramRuns → CheckedPairsAreHeld → CertificatesHoldRuns
+certificates_hold runs held unit s text found answer v violated =
+    let p = answer.program in
+    let x = violated_in runs (unit_view p.checked) answer.flow (program_of s p.tree p.checked answer.flow p.typed p.regular p.lowered p.well_formed) v violated in
+    held answer.flow text found answer.answers (unit_view p.checked) (record { model = s.model; name = s.entry; tree = unit_tree p.tree; limits = standard_limits; checked = p.typed.checks; lowered = p.lowered.lowers; plain = p.plain }) v
+    (record { draws = x.draws; steps = x.steps; there = x.there })

@@ -1,0 +1,5 @@
+use Rattle.report_cli.proofs.AnsweredRuns.{answers_hold}
+use Rattle.report_cli.proofs.theorems.answers_hold_runs.Goals as goal
+
+pub returns : goal.returns
+returns c = λ seen command sink status is ok. answers_hold c.reports_hold_runs.ensures seen command sink status is ok

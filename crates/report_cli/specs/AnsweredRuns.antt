@@ -1,0 +1,31 @@
+-- The sentence: where `check` answers 0 or 1, what it has put holds each rule that a run of the unit violates.
+use Rattle.std.specs.Prelude.{◌≡◌, ◌⊎◌, ℕ, List}
+use Rattle.cc_base.specs.declared.diagnostics.Diag.{Diag}
+use Rattle.c_layout.specs.CheckedUnits.{unit_view}
+use Rattle.c_layout.specs.declared.data_model.Model.{Model}
+use Rattle.c_preproc.specs.Causes.{Seen}
+use Rattle.report_cli_words.specs.Requests.{CommandView}
+use Rattle.report_cli_words.specs.Requests as asked
+use Rattle.report_cli_texts.specs.Reports.{Bytes}
+use Rattle.report_cli_answers.specs.Outcomes.{Took, PutOnce, Answers}
+use Rattle.report_cli_answers.specs.Verdicts.{report_status, report_in, HasModel, FromFiles, IsReport, check_setting}
+use Rattle.report_cli.specs.FoundRuns.{HoldsRunsOf}
+
+-- the report of the unit, put whole and in one call, and that its diagnostics hold each rule that a run of the checked
+-- unit violates, at its place
+pub record TellsRuns (seen : Seen) (c : CommandView) (sink : Took) (status : ℕ) : Type 0 where
+  pub model : Model
+  pub has_model : HasModel seen.files c.model model
+  pub names : List Bytes
+  pub diags : List Diag
+  pub report : IsReport (FromFiles seen.files c.dirs model c.unit) (check_setting c model) names diags
+  pub by_status : status ≡ report_status diags
+  pub put : PutOnce sink (report_in c.format names c.unit diags)
+  pub holds : HoldsRunsOf (unit_view report.judged.checked) diags
+
+-- the unit was accepted
+abbrev pub IsAccepting : ℕ → Type 0
+IsAccepting status = (status ≡ 0) ⊎ (status ≡ 1)
+
+abbrev pub AnswersHoldRuns : Type 0
+AnswersHoldRuns = (seen : Seen) (c : CommandView) (sink : Took) (status : ℕ) → Answers seen (asked.Check c) sink status → IsAccepting status → TellsRuns seen c sink status

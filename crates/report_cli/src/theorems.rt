@@ -1,0 +1,76 @@
+//! Each rule that a run of a unit violates is told, at its place.
+ghost use Rattle.report_cli.specs.FoundRuns.{JudgedRunsAreFound, ReportsHoldRuns};
+ghost use Rattle.report_cli.specs.ReplayedRuns.{ReplaysAreTold};
+ghost use Rattle.report_cli.specs.CertifiedRuns.{CertificatesHoldRuns};
+ghost use Rattle.report_cli.specs.AnsweredRuns.{AnswersHoldRuns};
+ghost use Rattle.report_cli.specs.GatedRuns.{GatesHoldRuns};
+ghost use Rattle.report_cli.specs.VerifiedRuns.{VerifiedHoldRuns};
+ghost use Rattle.report_cli.specs.ToldReplays.{ReplaysStandInReports};
+
+use abstract_steps_sound_units::checked_runs_are_found;
+use cert_check_sound::accepted_certificates_hold_units;
+use report_cli_laws::one_parse;
+use template_runs_units::unit_runs_are_program_runs;
+
+/// Each rule that a run of an accepted unit violates at a place is among the pairs that are told of it, also where turns
+/// are unrolled: whatever comes from the outside, and after any number of turns, unless the run is stuck there.
+pub fn judged_runs_are_found()
+    ensures { JudgedRunsAreFound }
+{
+    unit_runs_are_program_runs();
+    checked_runs_are_found();
+}
+
+/// So it is among the diagnostics of the unit's report.
+pub fn reports_hold_runs()
+    ensures { ReportsHoldRuns }
+{
+    judged_runs_are_found();
+}
+
+/// And each pair that a replay of an accepted unit finds is among those that are told of it, unless the replay ends as
+/// `left`.
+pub fn replays_are_told()
+    ensures { ReplaysAreTold }
+{
+    one_parse();
+    judged_runs_are_found();
+}
+
+/// What is told of a certificate that is accepted for a unit holds each rule that a run of the unit violates at a place.
+pub fn certificates_hold_runs()
+    ensures { CertificatesHoldRuns }
+{
+    unit_runs_are_program_runs();
+    accepted_certificates_hold_units();
+}
+
+/// The sentence: where `check` answers 0 or 1, it has put the report of the unit whole and in one call, and its diagnostics
+/// hold each rule that a run of the checked unit violates, at its place: whatever comes from the outside, and after any
+/// number of turns, unless the run is stuck there.
+pub fn answers_hold_runs()
+    ensures { AnswersHoldRuns }
+{
+    reports_hold_runs();
+}
+
+/// So of `gate`: each such rule is told, or held by the baseline.
+pub fn gates_hold_runs()
+    ensures { GatesHoldRuns }
+{
+    reports_hold_runs();
+}
+
+/// And of `verify`, where it accepts the certificate.
+pub fn verified_hold_runs()
+    ensures { VerifiedHoldRuns }
+{
+    certificates_hold_runs();
+}
+
+/// What `replay` tells of a unit stands in each report that `check` has of it, unless the replay ends as `left`.
+pub fn replays_stand_in_reports()
+    ensures { ReplaysStandInReports }
+{
+    replays_are_told();
+}

@@ -1,0 +1,9 @@
+pub mod Baselines
+pub mod FurtherFiles
+pub mod Verdicts
+pub mod Answering
+pub mod Outcomes
+pub mod Choices
+pub mod Gates
+pub mod CertAnswers
+pub mod RunAnswers

@@ -1,0 +1,2 @@
+pub mod OneJudgement
+pub mod OneReport

@@ -1,0 +1,4 @@
+mod OutcomeKinds
+mod FileChoices
+mod OneLine
+mod WorkedAnswers

@@ -1,0 +1,4 @@
+pub mod OutcomeKinds
+pub mod FileChoices
+pub mod OneLine
+pub mod WorkedAnswers

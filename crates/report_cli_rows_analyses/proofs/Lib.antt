@@ -1,0 +1,3 @@
+pub mod WorkedProgram
+pub mod WorkedThresholds
+pub mod Lowering

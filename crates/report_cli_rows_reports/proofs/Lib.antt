@@ -1,0 +1,3 @@
+mod TextPlaces
+mod WorkedReport
+mod WorkedRuns

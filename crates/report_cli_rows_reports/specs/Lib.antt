@@ -1,0 +1,2 @@
+pub mod WorkedReports
+pub mod WorkedRuns

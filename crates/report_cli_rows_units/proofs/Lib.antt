@@ -1,0 +1,6 @@
+mod Cutting
+mod Expanding
+mod Parsing
+mod Checking
+pub mod Built
+pub mod WorkedValues

@@ -1,0 +1,4 @@
+pub mod WorkedPlaces
+pub mod WorkedTexts
+pub mod WorkedTrees
+pub mod WorkedUnits

@@ -1,0 +1,4 @@
+mod TreePlaces
+mod SameTerms
+mod SameStatements
+pub mod SameUnits

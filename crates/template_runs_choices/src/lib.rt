@@ -1,0 +1,2 @@
+//! Where the labels of switches stand.
+#![tactic(auto)]

@@ -1,0 +1,2 @@
+//! The labels and edges of switches, and where they lead.
+#![tactic(auto)]

@@ -1,5 +1,0 @@
-use Rattle.template_runs_follow.proofs.TurnsFollow.{runs_agree}
-use Rattle.template_runs_follow.proofs.theorems.runs_are_followed.Goals as goal
-
-pub returns : goal.returns
-returns c = λ t start draws turns. runs_agree t start draws turns

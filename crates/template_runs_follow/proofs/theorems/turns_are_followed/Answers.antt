@@ -1,5 +1,0 @@
-use Rattle.template_runs_follow.proofs.TurnsFollow.{follow}
-use Rattle.template_runs_follow.proofs.theorems.turns_are_followed.Goals as goal
-
-pub returns : goal.returns
-returns c = λ t n a b both. let x = follow t n a b both in (x.steps, x.both)

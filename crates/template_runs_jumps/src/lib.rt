@@ -1,0 +1,2 @@
+//! Jumps in their pieces: `break`, `continue`, `goto` and `return`.
+#![tactic(auto)]

@@ -1,0 +1,4 @@
+pub mod QuietLists
+pub mod QuietTerms
+pub mod QuietTurns
+pub mod Reached

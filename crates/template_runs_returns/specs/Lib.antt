@@ -1,0 +1,2 @@
+pub mod QuietTurns
+pub mod Returns

@@ -1,7 +1,0 @@
-use Rattle.std.proofs.Common.{refl}
-use Rattle.template_runs_statements.proofs.Statements.{about}
-use Rattle.template_runs_statements.proofs.theorems.statements_follow.Goals as goal
-
-pub returns : goal.returns
-returns c = λ t s fits f is_f is_entry i n around in_loop known suits p scopes ps r m none known_r items rest stands k follows.
-    (about s t fits f is_f is_entry i n around in_loop known p.scopes suits scopes).from p none refl ps r m known_r items rest stands k follows

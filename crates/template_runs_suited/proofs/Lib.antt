@@ -1,0 +1,3 @@
+mod FewerObjects
+mod SuitedStatements
+mod SuitedTerms

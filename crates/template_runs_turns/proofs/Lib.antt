@@ -1,0 +1,5 @@
+mod ValuesBelow
+mod StepsAlike
+mod TestsAlike
+pub mod CallsAlike
+pub mod TurnsFollow

@@ -1,0 +1,4 @@
+pub mod Stops
+pub mod WrongCalls
+pub mod WrongJumps
+pub mod WrongBranches
