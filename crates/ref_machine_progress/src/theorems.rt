@@ -7,8 +7,8 @@ use ref_machine_lives_turns::objects_live_where_named;
 use ref_machine_operations::{lines_have_steps, operations_have_steps, stores_have_steps};
 
 /// A turn from a state whose values have their kinds, and whose functions name just the objects that live where they
-/// stand, is stuck at most at a condition with a test, a switch on a named object, or where a number other than 0 is made
-/// a pointer.
+/// stand, is stuck at most at a condition with a test, a switch on a named object, or where a number other than 0 is
+/// made a pointer.
 pub fn turns_have_steps()
     ensures { TurnsHaveSteps }
 {
