@@ -1,4 +1,8 @@
 //! Sets of types of scalars, of which each integer type is told by its size and its sign.
+ghost use Rattle.std.specs.Prelude.{◌≡◌, true};
+ghost use Rattle.cc_base.specs.IntegerTypes.{is_size};
+ghost use Rattle.cert_check_types.specs.KindSets as spec;
+
 use c_layout::{Class, LibFn, Model};
 use cc_base::IntType;
 use flow_program::Scalar;
@@ -13,7 +17,9 @@ pub const NONE: Kinds = 0;
 pub const POINTER: Kinds = 256;
 
 /// The integers of a size, signed or not.
-fn integers_of(bytes: u8, signed: bool) -> Kinds {
+fn integers_of(bytes: u8, signed: bool) -> Kinds
+    ensures { result ≡ spec.integers_of bytes signed }
+{
     match (bytes, signed) {
         (1, true) => 1,
         (1, false) => 2,
@@ -27,12 +33,16 @@ fn integers_of(bytes: u8, signed: bool) -> Kinds {
 }
 
 /// An integer type.
-pub fn integers(kind: IntType) -> Kinds {
+pub fn integers(kind: IntType) -> Kinds
+    ensures { result ≡ spec.integers kind }
+{
     integers_of(kind.bytes, kind.signed)
 }
 
 /// The type of a scalar.
-pub fn scalars(scalar: Scalar) -> Kinds {
+pub fn scalars(scalar: Scalar) -> Kinds
+    ensures { result ≡ spec.scalars scalar }
+{
     match scalar {
         Scalar::Int(kind) => integers(kind),
         Scalar::Pointer => POINTER,
@@ -40,22 +50,30 @@ pub fn scalars(scalar: Scalar) -> Kinds {
 }
 
 /// The type of int.
-pub fn int(model: &Model) -> Kinds {
+pub fn int(model: &Model) -> Kinds
+    ensures { result ≡ spec.int model.now }
+{
     integers_of(model.int, true)
 }
 
 /// The type of the differences of pointers.
-pub fn differences(model: &Model) -> Kinds {
+pub fn differences(model: &Model) -> Kinds
+    ensures { result ≡ spec.differences model.now }
+{
     integers_of(model.pointer, true)
 }
 
 /// The type of sizes.
-fn sizes(model: &Model) -> Kinds {
+fn sizes(model: &Model) -> Kinds
+    ensures { result ≡ spec.sizes model.now }
+{
     integers_of(model.pointer, false)
 }
 
 /// The type of a class of leaves.
-pub fn leaves(model: &Model, class: Class, signed: bool) -> Kinds {
+pub fn leaves(model: &Model, class: Class, signed: bool) -> Kinds
+    ensures { result ≡ spec.leaves model.now class signed }
+{
     match class {
         Class::Char => integers_of(1, signed),
         Class::Short => integers_of(model.short, signed),
@@ -67,7 +85,9 @@ pub fn leaves(model: &Model, class: Class, signed: bool) -> Kinds {
 }
 
 /// The type of what a library function gives.
-pub fn results(model: &Model, name: LibFn) -> Kinds {
+pub fn results(model: &Model, name: LibFn) -> Kinds
+    ensures { result ≡ spec.results model.now name }
+{
     match name {
         LibFn::Malloc
         | LibFn::Calloc
@@ -85,40 +105,57 @@ pub fn results(model: &Model, name: LibFn) -> Kinds {
 }
 
 /// Whether pointers are among the types.
-pub fn has_pointers(kinds: Kinds) -> bool {
+pub fn has_pointers(kinds: Kinds) -> bool
+    ensures { result ≡ spec.has_pointers kinds }
+{
     kinds & POINTER != 0
 }
 
-/// The numbers of the integers of a size.
-fn range_of(bits: Kinds) -> (i128, i128) {
-    match bits {
-        1 => (-128, 127),
-        2 => (0, 255),
-        4 => (-32_768, 32_767),
-        8 => (0, 65_535),
-        16 => (-2_147_483_648, 2_147_483_647),
-        32 => (0, 4_294_967_295),
-        64 => (-9_223_372_036_854_775_808, 9_223_372_036_854_775_807),
-        _ => (0, 18_446_744_073_709_551_615),
+/// Whether the integers of a type are among the types.
+fn has_integers(kinds: Kinds, kind: IntType) -> bool
+    ensures { result ≡ spec.has_integers kinds kind }
+{
+    kinds & integers(kind) != 0
+}
+
+/// The least range with two.
+fn ranges_joined(x: Option<(i128, i128)>, y: (i128, i128)) -> Option<(i128, i128)>
+    ensures { result ≡ spec.ranges_joined x y }
+{
+    match x {
+        None => Some(y),
+        Some((least, greatest)) => Some((least.min(y.0), greatest.max(y.1))),
     }
 }
 
-/// The least range with another one and, where it is among the types, with the integers of a size.
-fn with_integers(range: Option<(i128, i128)>, kinds: Kinds, bits: Kinds) -> Option<(i128, i128)> {
-    if kinds & bits == 0 {
-        return range;
-    }
-    let more = range_of(bits);
-    match range {
-        None => Some(more),
-        Some((least, greatest)) => Some((least.min(more.0), greatest.max(more.1))),
+/// The least range with another one and, where they are among the types, with the integers of a size.
+fn with_integers(
+    range: Option<(i128, i128)>,
+    kinds: Kinds,
+    bytes: u8,
+    signed: bool,
+) -> Option<(i128, i128)>
+    requires { is_size bytes ≡ true }
+    ensures { result ≡ spec.with_integers kinds range (spec.sized bytes signed) }
+{
+    let kind = IntType {
+        bytes,
+        signed,
+        rank: 0,
+    };
+    if has_integers(kinds, kind) {
+        ranges_joined(range, (kind.least(), kind.greatest()))
+    } else {
+        range
     }
 }
 
 /// The least range with all integers among the types.
-pub fn numbers(kinds: Kinds) -> Option<(i128, i128)> {
-    let bytes = with_integers(with_integers(None, kinds, 1), kinds, 2);
-    let shorts = with_integers(with_integers(bytes, kinds, 4), kinds, 8);
-    let ints = with_integers(with_integers(shorts, kinds, 16), kinds, 32);
-    with_integers(with_integers(ints, kinds, 64), kinds, 128)
+pub fn numbers(kinds: Kinds) -> Option<(i128, i128)>
+    ensures { result ≡ spec.numbers kinds }
+{
+    let bytes = with_integers(with_integers(None, kinds, 1, true), kinds, 1, false);
+    let shorts = with_integers(with_integers(bytes, kinds, 2, true), kinds, 2, false);
+    let ints = with_integers(with_integers(shorts, kinds, 4, true), kinds, 4, false);
+    with_integers(with_integers(ints, kinds, 8, true), kinds, 8, false)
 }

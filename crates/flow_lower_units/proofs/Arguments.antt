@@ -1,5 +1,5 @@
 -- How many arguments a list has.
-use Rattle.std.proofs.Common.{◌≡◌, ℕ, suc, ◌+◌, List, [], ◌∷◌, length, map, refl, ap, arith, ◌∙◌}
+use Rattle.std.proofs.Common.{◌≡◌, suc, ◌+◌, List, [], ◌∷◌, length, map, refl, ap, arith, ◌∙◌}
 use Rattle.c_layout.specs.CheckedTrees.{term_trees, term_tree}
 use Rattle.c_layout.specs.declared.checked_tree.checked_terms.CheckedTerm.{CheckedTerm}
 use Rattle.flow_lower_units.specs.RegularTerms.{argument_count}

@@ -1,10 +1,9 @@
 -- Whether the labels of a function, and the case labels of each of its switches, have the numbers in which they stand in
 -- the text, and whether a switch has a default label where it says so.
-use Rattle.std.specs.Prelude.{ℕ, ◌+◌, ◌-◌, ◌^◌, ◌==◌, Bool, true, false, not, ◌&&◌, cond, nat_lt, List, length, Option, Some, None, option_map, option_and_then}
+use Rattle.std.specs.Prelude.{ℕ, ◌+◌, ◌-◌, ◌^◌, ◌==◌, Bool, true, false, not, ◌&&◌, cond, nat_lt, length, Option, Some, None, option_map, option_and_then}
 use Rattle.c_layout.specs.CheckedTrees as tree
 use Rattle.c_layout.specs.CheckedTrees.{StatementTree, StatementTrees, statement_trees}
 use Rattle.c_layout.specs.CheckedUnits.{FunctionView}
-use Rattle.c_layout.specs.declared.checked_tree.checked_statements.CaseLabel.{CaseLabel}
 use Rattle.flow_lower_units.specs.declared.label_numbers.Numbers.{Numbers}
 
 -- the number behind one that is met where it is due, as far as it has 32 bits

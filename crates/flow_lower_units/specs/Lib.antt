@@ -1,5 +1,7 @@
 pub mod LabelNumbers
-pub mod ScopeObjects
-pub mod RegularTerms
 pub mod RegularStatements
+pub mod RegularTerms
 pub mod RegularUnits
+pub mod ScopeObjects
+pub mod StatementGroups
+pub mod TermGroups

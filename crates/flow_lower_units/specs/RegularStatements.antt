@@ -1,6 +1,6 @@
 -- Whether a statement of a function has such terms, jumps only from where it may and to what is there, and switches on
 -- objects of their own types.
-use Rattle.std.specs.Prelude.{ℕ, Bool, true, false, ◌&&◌, nat_lt, List, slice_get, Option, Some, None}
+use Rattle.std.specs.Prelude.{Bool, true, false, ◌&&◌, nat_lt, slice_get, Option, Some, None}
 use Rattle.std.specs.List.{list_all}
 use Rattle.cc_base.specs.declared.int_types.IntType.{IntType}
 use Rattle.c_layout.specs.Types.{Ty, Int, Pointer, Array, Struct, Void, same_kind}

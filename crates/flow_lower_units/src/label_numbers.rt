@@ -29,21 +29,13 @@ fn behind_number(due: u32, number: u32) -> Option<u32>
 fn with_labels(met: Numbers, labels: u32) -> Numbers
     ensures { result ≡ spec.with_labels met labels }
 {
-    Numbers {
-        labels,
-        cases: met.cases,
-        has_default: met.has_default,
-    }
+    Numbers { labels, ..met }
 }
 
 fn with_cases(met: Numbers, cases: u32) -> Numbers
     ensures { result ≡ spec.with_cases met cases }
 {
-    Numbers {
-        labels: met.labels,
-        cases,
-        has_default: met.has_default,
-    }
+    Numbers { cases, ..met }
 }
 
 fn behind_label(label: u32, met: Numbers) -> Option<Numbers>
@@ -72,9 +64,8 @@ fn behind_default(met: Numbers) -> Option<Numbers>
         return None;
     }
     Some(Numbers {
-        labels: met.labels,
-        cases: met.cases,
         has_default: true,
+        ..met
     })
 }
 
@@ -82,9 +73,9 @@ fn in_switch(met: Numbers) -> Numbers
     ensures { result ≡ spec.in_switch met }
 {
     Numbers {
-        labels: met.labels,
         cases: 0,
         has_default: false,
+        ..met
     }
 }
 

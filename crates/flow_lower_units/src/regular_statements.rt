@@ -1,10 +1,11 @@
 //! Whether statements are such as typing makes them.
-ghost use Rattle.std.specs.Prelude.{◌≡◌, map, option_map};
+ghost use Rattle.std.specs.Prelude.{◌≡◌, ◌&&◌, map, option_map};
 ghost use Rattle.std.specs.List.{list_all};
 ghost use Rattle.c_layout.specs.Types.{view, same_kind};
 ghost use Rattle.c_layout.specs.CheckedTrees.{term_tree, lvalue_tree, store_tree, statement_tree, statement_trees};
 ghost use Rattle.c_layout.specs.CheckedUnits.{function_view, unit_view};
 ghost use Rattle.flow_lower_units.specs.RegularStatements as spec;
+ghost use Rattle.flow_lower_units.specs.StatementGroups.{is_simple, is_declaration, is_selection, is_loop, is_jump};
 
 use crate::regular_terms::{has_local, is_regular_place, is_regular_term, is_struct};
 use c_layout::{
@@ -90,20 +91,7 @@ fn is_plain(statement: &CheckedStatement) -> bool
         | CheckedStatement::Start(_, _, _)
         | CheckedStatement::StartCopy(_, _, _)
         | CheckedStatement::StartList(_, _, _) => true,
-        CheckedStatement::Block(_, _)
-        | CheckedStatement::If(_, _)
-        | CheckedStatement::IfElse(_, _, _)
-        | CheckedStatement::While(_, _)
-        | CheckedStatement::Do(_, _)
-        | CheckedStatement::For(_, _, _, _, _)
-        | CheckedStatement::Switch(_, _, _, _, _, _)
-        | CheckedStatement::Case(_, _)
-        | CheckedStatement::Default(_)
-        | CheckedStatement::Label(_, _)
-        | CheckedStatement::Goto(_)
-        | CheckedStatement::Break
-        | CheckedStatement::Continue
-        | CheckedStatement::Return(_, _) => false,
+        _ => false,
     }
 }
 
@@ -188,6 +176,131 @@ pub fn are_regular_statements(
     true
 }
 
+/// Whether a statement is a declaration, and such as typing makes it.
+fn is_regular_declaration(
+    unit: &Checked,
+    function: &Function,
+    breaks: bool,
+    loops: bool,
+    statement: &CheckedStatement,
+) -> bool
+    ensures { result ≡ (is_declaration (statement_tree statement.now) && spec.is_regular_statement (unit_view unit.now) (function_view function.now) breaks loops (statement_tree statement.now)) }
+{
+    match statement {
+        CheckedStatement::Forget(_, local) => has_local(function, *local),
+        CheckedStatement::Start(_, local, value) => {
+            has_local(function, *local) && is_regular_term(unit, function, true, 1, value)
+        }
+        CheckedStatement::StartCopy(_, local, source) => {
+            has_local(function, *local) && is_regular_source(unit, function, source)
+        }
+        CheckedStatement::StartList(_, local, stores) => {
+            has_local(function, *local) && are_regular_stores(unit, function, stores.as_slice())
+        }
+        _ => false,
+    }
+}
+
+/// Whether a statement is an expression, a block or behind a label, and such as typing makes it.
+#[cycle(statements)]
+fn is_regular_simple(
+    unit: &Checked,
+    function: &Function,
+    breaks: bool,
+    loops: bool,
+    statement: &CheckedStatement,
+) -> bool
+    ensures { result ≡ (is_simple (statement_tree statement.now) && spec.is_regular_statement (unit_view unit.now) (function_view function.now) breaks loops (statement_tree statement.now)) }
+{
+    match statement {
+        CheckedStatement::Nothing => true,
+        CheckedStatement::Value(term) => is_regular_term(unit, function, false, 0, term),
+        CheckedStatement::Block(_, items) => {
+            are_regular_statements(unit, function, breaks, loops, items.as_slice())
+        }
+        CheckedStatement::Case(_, body)
+        | CheckedStatement::Default(body)
+        | CheckedStatement::Label(_, body) => {
+            is_regular_statement(unit, function, breaks, loops, body)
+        }
+        _ => false,
+    }
+}
+
+/// Whether a statement is a selection, and such as typing makes it.
+#[cycle(statements)]
+fn is_regular_selection(
+    unit: &Checked,
+    function: &Function,
+    breaks: bool,
+    loops: bool,
+    statement: &CheckedStatement,
+) -> bool
+    ensures { result ≡ (is_selection (statement_tree statement.now) && spec.is_regular_statement (unit_view unit.now) (function_view function.now) breaks loops (statement_tree statement.now)) }
+{
+    match statement {
+        CheckedStatement::If(test, body) => {
+            is_regular_term(unit, function, true, 0, test)
+                && is_regular_statement(unit, function, breaks, loops, body)
+        }
+        CheckedStatement::IfElse(test, first, second) => {
+            is_regular_term(unit, function, true, 0, test)
+                && (is_regular_statement(unit, function, breaks, loops, first)
+                    && is_regular_statement(unit, function, breaks, loops, second))
+        }
+        CheckedStatement::Switch(_, value, _, _, _, body) => {
+            is_regular_switch(unit, function, value)
+                && is_regular_statement(unit, function, true, loops, body)
+        }
+        _ => false,
+    }
+}
+
+/// Whether a statement is a loop, and such as typing makes it.
+#[cycle(statements)]
+fn is_regular_loop(
+    unit: &Checked,
+    function: &Function,
+    breaks: bool,
+    loops: bool,
+    statement: &CheckedStatement,
+) -> bool
+    ensures { result ≡ (is_loop (statement_tree statement.now) && spec.is_regular_statement (unit_view unit.now) (function_view function.now) breaks loops (statement_tree statement.now)) }
+{
+    match statement {
+        CheckedStatement::While(test, body) | CheckedStatement::Do(body, test) => {
+            is_regular_term(unit, function, true, 0, test)
+                && is_regular_statement(unit, function, true, true, body)
+        }
+        CheckedStatement::For(_, first, test, step, body) => {
+            (are_plain(first.as_slice())
+                && (are_regular_statements(unit, function, false, false, first.as_slice())
+                    && are_regular_clauses(unit, function, test, step)))
+                && is_regular_statement(unit, function, true, true, body)
+        }
+        _ => false,
+    }
+}
+
+/// Whether a statement is a jump, and such as typing makes it.
+fn is_regular_jump(
+    unit: &Checked,
+    function: &Function,
+    breaks: bool,
+    loops: bool,
+    statement: &CheckedStatement,
+) -> bool
+    ensures { result ≡ (is_jump (statement_tree statement.now) && spec.is_regular_statement (unit_view unit.now) (function_view function.now) breaks loops (statement_tree statement.now)) }
+{
+    match statement {
+        CheckedStatement::Goto(label) => *label < function.labels,
+        CheckedStatement::Break => breaks,
+        CheckedStatement::Continue => loops,
+        CheckedStatement::Return(_, value) => is_regular_result(unit, function, value),
+        _ => false,
+    }
+}
+
 /// Whether a statement is such as typing makes it.
 #[cycle(statements)]
 fn is_regular_statement(
@@ -199,53 +312,9 @@ fn is_regular_statement(
 ) -> bool
     ensures { result ≡ spec.is_regular_statement (unit_view unit.now) (function_view function.now) breaks loops (statement_tree statement.now) }
 {
-    match statement {
-        CheckedStatement::Nothing => true,
-        CheckedStatement::Value(term) => is_regular_term(unit, function, false, 0, term),
-        CheckedStatement::Forget(_, local) => has_local(function, *local),
-        CheckedStatement::Start(_, local, value) => {
-            has_local(function, *local) && is_regular_term(unit, function, true, 1, value)
-        }
-        CheckedStatement::StartCopy(_, local, source) => {
-            has_local(function, *local) && is_regular_source(unit, function, source)
-        }
-        CheckedStatement::StartList(_, local, stores) => {
-            has_local(function, *local) && are_regular_stores(unit, function, stores.as_slice())
-        }
-        CheckedStatement::Block(_, items) => {
-            are_regular_statements(unit, function, breaks, loops, items.as_slice())
-        }
-        CheckedStatement::If(test, body) => {
-            is_regular_term(unit, function, true, 0, test)
-                && is_regular_statement(unit, function, breaks, loops, body)
-        }
-        CheckedStatement::IfElse(test, first, second) => {
-            is_regular_term(unit, function, true, 0, test)
-                && (is_regular_statement(unit, function, breaks, loops, first)
-                    && is_regular_statement(unit, function, breaks, loops, second))
-        }
-        CheckedStatement::While(test, body) | CheckedStatement::Do(body, test) => {
-            is_regular_term(unit, function, true, 0, test)
-                && is_regular_statement(unit, function, true, true, body)
-        }
-        CheckedStatement::For(_, first, test, step, body) => {
-            (are_plain(first.as_slice())
-                && (are_regular_statements(unit, function, false, false, first.as_slice())
-                    && are_regular_clauses(unit, function, test, step)))
-                && is_regular_statement(unit, function, true, true, body)
-        }
-        CheckedStatement::Switch(_, value, _, _, _, body) => {
-            is_regular_switch(unit, function, value)
-                && is_regular_statement(unit, function, true, loops, body)
-        }
-        CheckedStatement::Case(_, body)
-        | CheckedStatement::Default(body)
-        | CheckedStatement::Label(_, body) => {
-            is_regular_statement(unit, function, breaks, loops, body)
-        }
-        CheckedStatement::Goto(label) => *label < function.labels,
-        CheckedStatement::Break => breaks,
-        CheckedStatement::Continue => loops,
-        CheckedStatement::Return(_, value) => is_regular_result(unit, function, value),
-    }
+    is_regular_simple(unit, function, breaks, loops, statement)
+        || (is_regular_declaration(unit, function, breaks, loops, statement)
+            || (is_regular_selection(unit, function, breaks, loops, statement)
+                || (is_regular_loop(unit, function, breaks, loops, statement)
+                    || is_regular_jump(unit, function, breaks, loops, statement))))
 }

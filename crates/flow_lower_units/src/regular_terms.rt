@@ -1,10 +1,11 @@
 //! Whether terms are such as typing makes them.
-ghost use Rattle.std.specs.Prelude.{◌≡◌, ◌+◌, map, slice_get, true};
+ghost use Rattle.std.specs.Prelude.{◌≡◌, ◌+◌, ◌&&◌, map, slice_get, true};
 ghost use Rattle.c_layout.specs.Types.{view};
 ghost use Rattle.c_layout.specs.CheckedTrees.{term_tree, lvalue_tree, term_trees};
 ghost use Rattle.c_layout.specs.CheckedUnits.{function_view, unit_view};
 ghost use Rattle.flow_lower_expressions.specs.Calls as calls;
 ghost use Rattle.flow_lower_units.specs.RegularTerms as spec;
+ghost use Rattle.flow_lower_units.specs.TermGroups.{is_simple, is_operation, is_assignment, is_call};
 
 use c_layout::{
     CType, Checked, CheckedTerm, Function, LibFn, Lvalue, LvalueForm, ObjectRef, TermForm,
@@ -126,16 +127,16 @@ pub fn is_regular_place(unit: &Checked, function: &Function, depth: u32, at: &Lv
     }
 }
 
-/// Whether a term whose value is used or not, behind so many temporaries, is such as typing makes it.
+/// Whether a term has one operand at most and is no assignment, and is such as typing makes it.
 #[cycle(terms)]
-pub fn is_regular_term(
+fn is_regular_simple(
     unit: &Checked,
     function: &Function,
     used: bool,
     depth: u32,
     term: &CheckedTerm,
 ) -> bool
-    ensures { result ≡ spec.is_regular_term (unit_view unit.now) (function_view function.now) used depth (term_tree term.now) }
+    ensures { result ≡ (is_simple (term_tree term.now) && spec.is_regular_term (unit_view unit.now) (function_view function.now) used depth (term_tree term.now)) }
 {
     match &term.form {
         TermForm::Number(_) => true,
@@ -151,6 +152,22 @@ pub fn is_regular_term(
         TermForm::Discard(operand) => {
             !used && is_regular_term(unit, function, false, depth, operand)
         }
+        _ => false,
+    }
+}
+
+/// Whether a term is an operator with more operands than one, and such as typing makes it.
+#[cycle(terms)]
+fn is_regular_operation(
+    unit: &Checked,
+    function: &Function,
+    used: bool,
+    depth: u32,
+    term: &CheckedTerm,
+) -> bool
+    ensures { result ≡ (is_operation (term_tree term.now) && spec.is_regular_term (unit_view unit.now) (function_view function.now) used depth (term_tree term.now)) }
+{
+    match &term.form {
         TermForm::Integer(_, left, right)
         | TermForm::Compare(_, left, right)
         | TermForm::Difference(_, left, right)
@@ -171,6 +188,22 @@ pub fn is_regular_term(
             is_regular_term(unit, function, false, depth, first)
                 && is_regular_term(unit, function, used, depth, last)
         }
+        _ => false,
+    }
+}
+
+/// Whether a term is an assignment or a step, and such as typing makes it.
+#[cycle(terms)]
+fn is_regular_assignment(
+    unit: &Checked,
+    function: &Function,
+    used: bool,
+    depth: u32,
+    term: &CheckedTerm,
+) -> bool
+    ensures { result ≡ (is_assignment (term_tree term.now) && spec.is_regular_term (unit_view unit.now) (function_view function.now) used depth (term_tree term.now)) }
+{
+    match &term.form {
         TermForm::Assign(target, value) => {
             is_regular_place(unit, function, depth, target)
                 && (has_room(depth, 1) && is_regular_term(unit, function, true, depth + 1, value))
@@ -184,19 +217,49 @@ pub fn is_regular_term(
         TermForm::Step(_, _, _, at) | TermForm::StepPointer(_, _, _, at) => {
             has_room(depth, 2) && is_regular_place(unit, function, depth, at)
         }
+        _ => false,
+    }
+}
+
+/// Whether a term is a call, and such as typing makes it.
+#[cycle(terms)]
+fn is_regular_call(
+    unit: &Checked,
+    function: &Function,
+    used: bool,
+    depth: u32,
+    term: &CheckedTerm,
+) -> bool
+    ensures { result ≡ (is_call (term_tree term.now) && spec.is_regular_term (unit_view unit.now) (function_view function.now) used depth (term_tree term.now)) }
+{
+    match &term.form {
         TermForm::Call(number, arguments, is_used) => {
-            are_regular_terms(unit, function, depth, arguments.as_slice())
-                && is_callable(
-                    unit,
-                    used,
-                    *is_used,
-                    argument_count(arguments.as_slice()),
-                    *number,
-                )
+            let given = arguments.as_slice();
+            are_regular_terms(unit, function, depth, given)
+                && is_callable(unit, used, *is_used, argument_count(given), *number)
         }
         TermForm::Library(called, arguments, _) => {
-            are_regular_terms(unit, function, depth, arguments.as_slice())
-                && is_library_call(used, argument_count(arguments.as_slice()), *called)
+            let given = arguments.as_slice();
+            are_regular_terms(unit, function, depth, given)
+                && is_library_call(used, argument_count(given), *called)
         }
+        _ => false,
     }
+}
+
+/// Whether a term whose value is used or not, behind so many temporaries, is such as typing makes it.
+#[cycle(terms)]
+pub fn is_regular_term(
+    unit: &Checked,
+    function: &Function,
+    used: bool,
+    depth: u32,
+    term: &CheckedTerm,
+) -> bool
+    ensures { result ≡ spec.is_regular_term (unit_view unit.now) (function_view function.now) used depth (term_tree term.now) }
+{
+    is_regular_simple(unit, function, used, depth, term)
+        || (is_regular_operation(unit, function, used, depth, term)
+            || (is_regular_assignment(unit, function, used, depth, term)
+                || is_regular_call(unit, function, used, depth, term)))
 }

@@ -1,0 +1,3 @@
+pub mod CutSteps
+pub mod KindSteps
+pub mod KindRows

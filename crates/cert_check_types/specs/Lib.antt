@@ -1,0 +1,5 @@
+pub mod KindSets
+pub mod TypedTemps
+pub mod RowKinds
+pub mod CutCells
+pub mod CutRows

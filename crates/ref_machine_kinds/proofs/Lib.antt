@@ -1,0 +1,8 @@
+pub mod Leading
+pub mod Loops
+mod LeadingArguments
+pub mod LeadingConditions
+pub mod LeadingTerms
+pub mod LeadingStatements
+pub mod Labels
+mod Rows

@@ -1,0 +1,5 @@
+mod Replies
+mod Changes
+mod Calls
+mod Turns
+mod Runs

@@ -1,0 +1,10 @@
+pub mod Members
+pub mod Openings
+pub mod Sitting
+mod ReadLines
+mod SittingConditions
+pub mod SittingTerms
+pub mod SittingStatements
+pub mod SittingLoops
+pub mod Labels
+mod Rows

@@ -1,0 +1,4 @@
+pub mod Lives
+pub mod ScopedTerms
+pub mod ScopedStatements
+pub mod Livings

@@ -1,0 +1,7 @@
+mod Bodies
+mod Calls
+mod Replies
+mod Jumps
+mod Starts
+mod Turns
+mod Runs

@@ -1,0 +1,2 @@
+pub mod OpenSteps
+pub mod Progress
