@@ -1,0 +1,4 @@
+pub mod Marks
+pub mod ProperMemory
+pub mod MarkOperations
+pub mod MarkLaws
