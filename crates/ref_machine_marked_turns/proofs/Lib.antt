@@ -1,0 +1,9 @@
+mod Needed
+mod Replies
+mod Keeping
+mod Changes
+mod Calls
+mod Objects
+mod Conditions
+mod Switches
+mod Turns
