@@ -75,10 +75,16 @@ fresh_split [] instance (suc j) = inr refl
 fresh_split (it ∷ memory) instance zero = inr refl
 fresh_split (it ∷ memory) instance (suc j) = fresh_split memory instance j
 
-life_leaves : (o : Option Instance) (memory : Memory) (i j : ℕ) (now : Life) → slice_get memory i ≡ o → bytes_at (with_life o life memory i) j ≡ bytes_at memory j
+pub with_instance_grows : (w : World) (instance : Instance) → Grows w.memory (with_instance w instance).memory
+with_instance_grows w instance j = elim (fresh_split w.memory instance j) [
+  | inl h ↦ subst (λ bs. length bs ≤ length (bytes_at (w.memory ++ instance ∷ []) j)) (sym h.0) (omega arith)
+  | inr h ↦ subst (λ bs. length (bytes_at w.memory j) ≤ length bs) (sym h) (omega arith)
+]
+
+life_leaves : (o : Option Instance) (memory : Memory) (i j : ℕ) (now : Life) → slice_get memory i ≡ o → bytes_at (with_life o now memory i) j ≡ bytes_at memory j
 life_leaves None memory i j now is = refl
 life_leaves (Some it) memory i j now is = elim (set_split memory i j (record it { life = now })) [
-  | inl h ↦ subst (λ k. bytes_at (with_life (Some it) life memory i) k ≡ bytes_at memory k) (sym h.0) (ap bytes_of (set_here memory i it (record it { life = now }) is) ∙ sym (ap bytes_of is))
+  | inl h ↦ subst (λ k. bytes_at (with_life (Some it) now memory i) k ≡ bytes_at memory k) (sym h.0) (ap bytes_of (set_here memory i it (record it { life = now }) is) ∙ sym (ap bytes_of is))
   | inr h ↦ ap bytes_of h
 ]
 
@@ -125,18 +131,12 @@ module _ (m : Model) where
       ]
 
   pub with_instance_evolves : (w : World) (instance : Instance) → (IsProperMemory m w.memory → AreProperBytes m instance.bytes) → Evolves m w.memory (with_instance w instance).memory
-  with_instance_evolves w instance proper = evolves_each w.memory (w.memory ++ instance ∷ []) each grows
+  with_instance_evolves w instance proper = evolves_each w.memory (w.memory ++ instance ∷ []) each (with_instance_grows w instance)
     where
       each : IsProperMemory m w.memory → (j : ℕ) → AreProperBytes m (bytes_at (w.memory ++ instance ∷ []) j)
       each p j = elim (fresh_split w.memory instance j) [
         | inl h ↦ subst (AreProperBytes m) (sym h.1) (proper p)
         | inr h ↦ subst (AreProperBytes m) (sym h) (proper_bytes w.memory p j)
-      ]
-
-      grows : Grows w.memory (w.memory ++ instance ∷ [])
-      grows j = elim (fresh_split w.memory instance j) [
-        | inl h ↦ subst (λ bs. length bs ≤ length (bytes_at (w.memory ++ instance ∷ []) j)) (sym h.0) (omega arith)
-        | inr h ↦ subst (λ bs. length (bytes_at w.memory j) ≤ length bs) (sym h) (omega arith)
       ]
 
   pub set_life_evolves : (memory : Memory) (i : ℕ) (now : Life) → Evolves m memory (set_life memory i now)
