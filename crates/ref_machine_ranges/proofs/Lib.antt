@@ -1,0 +1,3 @@
+pub mod TypeRanges
+pub mod Results
+pub mod LoadedNumbers

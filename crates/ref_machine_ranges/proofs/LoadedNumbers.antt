@@ -1,0 +1,1 @@
+-- The numbers that bytes are as scalars of an integer type lie in it.
