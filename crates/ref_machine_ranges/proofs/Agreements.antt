@@ -126,3 +126,59 @@ module _ (m : Model) (names : ℕ → Option ℕ) (memory : Memory) where
   pub pointer_agrees : (o : NamedObject) (v : Scalar) → o.kind ≡ of.Pointer → Has m names memory (Loaded o) v → Agrees m names memory (null_test_of o Ne) v
   pointer_agrees o (integer n labels) is has = absurd (pointer_object m names memory o n is has)
   pointer_agrees o (pointer p) is has = null_agrees o Ne p (pointer p) has (differ_way p null (not (is_null p)) (ap not (equal_null p)))
+
+  -- where one of two pointers is null and the other one the value of an object
+  abbrev pub AreNullAnd : NamedObject → MachinePointer → MachinePointer → Type 0
+  AreNullAnd o p q = (IsPointer m names memory o p × (q ≡ null)) ⊎ ((p ≡ null) × IsPointer m names memory o q)
+
+  equal_given : (w after : World) (p q : MachinePointer) (result : Bool) (v : Scalar) → equality w p q result ≡ goes v after → v ≡ truth result
+  equal_given w after p q result v e = elim (cases_Bool (is_ended w.memory p || is_ended w.memory q)) [
+    | inl f ↦ (let g : ◌≡◌ {A = Reply Scalar} (stopped_by w rule.Nullref) (goes v after) = rw f at e in cc)
+    | inr f ↦ (let g : goes (truth result) w ≡ goes v after = rw f at e in cc)
+  ]
+
+  null_equal : (q : MachinePointer) → are_equal null q ≡ are_equal q null
+  null_equal null = refl
+  null_equal (into i offset lo hi) = refl
+
+  equality_agrees : (o : NamedObject) (p q : MachinePointer) → AreNullAnd o p q → Agrees m names memory (null_test_of o Eq) (truth (are_equal p q))
+  equality_agrees o p q (inl d) = null_agrees o Eq p (truth (are_equal p q)) d.0 (equal_way p null (not (is_false (truth (are_equal p q)))) (ap (are_equal p) (sym d.1) ∙ sym (truth_is (are_equal p q))))
+  equality_agrees o p q (inr d) = null_agrees o Eq q (truth (are_equal p q)) d.1 (equal_way q null (not (is_false (truth (are_equal p q)))) (sym (null_equal q) ∙ (ap (λ z. are_equal z q) (sym d.0) ∙ sym (truth_is (are_equal p q)))))
+
+  difference_agrees : (o : NamedObject) (p q : MachinePointer) → AreNullAnd o p q → Agrees m names memory (null_test_of o Ne) (truth (not (are_equal p q)))
+  difference_agrees o p q (inl d) = null_agrees o Ne p (truth (not (are_equal p q))) d.0 (differ_way p null (not (is_false (truth (not (are_equal p q))))) (ap (λ z. not (are_equal p z)) (sym d.1) ∙ sym (truth_is (not (are_equal p q)))))
+  difference_agrees o p q (inr d) = null_agrees o Ne q (truth (not (are_equal p q))) d.1 (differ_way q null (not (is_false (truth (not (are_equal p q))))) (ap not (sym (null_equal q)) ∙ (ap (λ z. not (are_equal z q)) (sym d.0) ∙ sym (truth_is (not (are_equal p q))))))
+
+  -- null shares no instance, so no order of it goes on
+  not_shared : (o : NamedObject) (p q : MachinePointer) → AreNullAnd o p q → share_instance p q ≡ false
+  not_shared o p q (inl d) = rw d.1 (with_null p)
+    where
+      with_null : (p : MachinePointer) → share_instance p null ≡ false
+      with_null null = refl
+      with_null (into i offset lo hi) = refl
+  not_shared o p q (inr d) = rw d.0 refl
+
+  never_compared : (w after : World) (p q : MachinePointer) (reply : Reply Scalar) (v : Scalar) → share_instance p q ≡ false → compared w p q reply ≡ goes v after → ⊥
+  never_compared w after p q reply v apart e = elim (cases_Bool (is_ended w.memory p || is_ended w.memory q)) [
+    | inl f ↦ (let g : ◌≡◌ {A = Reply Scalar} (stopped_by w rule.Nullref) (goes v after) = rw f at e in cc)
+    | inr f ↦ (let g : ◌≡◌ {A = Reply Scalar} (stopped_by w rule.Ptrobj) (goes v after) = rw (f, apart) at e in cc)
+  ]
+
+  -- the truth value of a comparison of a pointer object and null
+  pub compared_null : (o : NamedObject) (rel : Rel) (p q : MachinePointer) (w after : World) (v : Scalar) → AreNullAnd o p q → pointers_compared rel p q w ≡ goes v after → Agrees m names memory (null_test_of o rel) v
+  compared_null o Eq p q w after v are e = subst (Agrees m names memory (null_test_of o Eq)) (sym (equal_given w after p q (are_equal p q) v e)) (equality_agrees o p q are)
+  compared_null o Ne p q w after v are e = subst (Agrees m names memory (null_test_of o Ne)) (sym (equal_given w after p q (not (are_equal p q)) v e)) (difference_agrees o p q are)
+  compared_null o Lt p q w after v are e = absurd (never_compared w after p q _ v (not_shared o p q are) e)
+  compared_null o Le p q w after v are e = absurd (never_compared w after p q _ v (not_shared o p q are) e)
+  compared_null o Gt p q w after v are e = absurd (never_compared w after p q _ v (not_shared o p q are) e)
+  compared_null o Ge p q w after v are e = absurd (never_compared w after p q _ v (not_shared o p q are) e)
+
+  -- so where their marks say so
+  pub are_null_and : (o : NamedObject) (left right : Mark) (p q : MachinePointer) → AreWithNull o left right → Has m names memory left (pointer p) → Has m names memory right (pointer q) → AreNullAnd o p q
+  are_null_and o left right p q (inl d) one two = inl (subst (λ k. Has m names memory k (pointer p)) d.0 one, subst (λ k. Has m names memory k (pointer q)) d.1 two)
+  are_null_and o left right p q (inr d) one two = inr (subst (λ k. Has m names memory k (pointer p)) d.0 one, subst (λ k. Has m names memory k (pointer q)) d.1 two)
+
+  -- and both are pointers
+  pub null_integer : (o : NamedObject) (left right : Mark) (n : ℤ) (labels : Labels) → o.kind ≡ of.Pointer → AreWithNull o left right → (Has m names memory left (integer n labels) → ⊥) × (Has m names memory right (integer n labels) → ⊥)
+  null_integer o left right n labels is (inl d) = (λ h. pointer_object m names memory o n is (subst (λ k. Has m names memory k (integer n labels)) d.0 h), λ h. subst (λ k. Has m names memory k (integer n labels)) d.1 h)
+  null_integer o left right n labels is (inr d) = (λ h. subst (λ k. Has m names memory k (integer n labels)) d.0 h, λ h. pointer_object m names memory o n is (subst (λ k. Has m names memory k (integer n labels)) d.1 h))
