@@ -150,9 +150,16 @@ module _ (u : UnitView) where
 
   -- ---- conditions
 
+  -- a comparison whose truth value agrees with a test
+  abbrev pub ComparisonTerm : TermTree → NamedTest → Type 0
+  ComparisonTerm (Typed at t parens fixed (tree.Integer sign a b)) test = (rel : Rel) × (left : Mark) × (right : Mark) × (meaning sign ≡ meant.Truth rel) × Operand a left × Quiet b right × ComparesAs u.model rel left right test
+  ComparisonTerm (Typed at t parens fixed (tree.Compare sign a b)) test = (o : NamedObject) × (left : Mark) × (right : Mark) × (o.kind ≡ of.Pointer) × Operand a left × Quiet b right × AreWithNull o left right × (test ≡ null_test_of o (relation sign))
+  ComparisonTerm e test = ⊥
+
+  -- a comparison is a test, and so is another value that decides one
   abbrev pub TestTerm : TermTree → NamedTest → Type 0
-  TestTerm (Typed at t parens fixed (tree.Integer sign a b)) test = (rel : Rel) × (left : Mark) × (right : Mark) × (meaning sign ≡ meant.Truth rel) × Operand a left × Quiet b right × ComparesAs u.model rel left right test
-  TestTerm (Typed at t parens fixed (tree.Compare sign a b)) test = (o : NamedObject) × (left : Mark) × (right : Mark) × (o.kind ≡ of.Pointer) × Operand a left × Quiet b right × AreWithNull o left right × (test ≡ null_test_of o (relation sign))
+  TestTerm (Typed at t parens fixed (tree.Integer sign a b)) test = ComparisonTerm (Typed at t parens fixed (tree.Integer sign a b)) test
+  TestTerm (Typed at t parens fixed (tree.Compare sign a b)) test = ComparisonTerm (Typed at t parens fixed (tree.Compare sign a b)) test
   TestTerm e test = (mark : Mark) × Operand e mark × Decides u mark test
 
   -- a test, if a condition is one, is decided by the condition's value
