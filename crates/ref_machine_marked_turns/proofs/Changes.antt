@@ -12,8 +12,9 @@ use Rattle.ref_machine_marks.specs.Marks.{Mark, AreStable, AreFree, Has, AreMark
 use Rattle.ref_machine_marks.specs.ProperMemory.{Evolves}
 use Rattle.ref_machine_marked.specs.MarkedItems.{AtRest, Does}
 use Rattle.ref_machine_marked.specs.MarkedStates.{HaveRoom, Runs}
+use Rattle.ref_machine_memory.proofs.Evolving.{evolves_same}
+use Rattle.ref_machine_marked.proofs.Leading.{Through, does_from, through_does}
 use Rattle.ref_machine_marked_turns.proofs.Keeping.{stables_kept, frees_kept, room_kept, statics_kept, wait_kept}
-use Rattle.ref_machine_marked_turns.proofs.Needed.{Through, does_from, through_does, evolves_same}
 
 -- the function that runs has such items to do, and one item more before the others
 abbrev pub RunsBy : UnitView → List Item → State → Type 0

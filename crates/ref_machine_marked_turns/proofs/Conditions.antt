@@ -1,31 +1,30 @@
 -- Conditions choose by their value, and a test that it decides agrees with memory.
-use Rattle.std.proofs.Common.{◌≡◌, ℤ, Bool, true, false, not, cond, List, [], ◌∷◌, ◌++◌, Option, Some, None, refl, ap, sym, subst, ◌∙◌}
-use Rattle.std.specs.Ordering.{int_eq}
+use Rattle.std.proofs.Common.{◌≡◌, Bool, true, false, not, cond, List, [], ◌∷◌, ◌++◌, Some, None, refl, ap, sym, subst, ◌∙◌}
 use Rattle.cc_base.specs.declared.diagnostics.Place.{Place}
 use Rattle.c_layout.specs.CheckedUnits.{UnitView}
-use Rattle.lib_models_memory.specs.Instances.{Memory}
-use Rattle.lib_models_memory.specs.Labels.{Labels}
 use Rattle.lib_models_memory.specs.Scalars.{Scalar, integer, pointer, is_false}
 use Rattle.lib_models_effects.specs.Worlds.{World, Reply, behind, with_memory}
 use Rattle.lib_models_effects.specs.LibraryCalls.{fgets}
 use Rattle.lib_models_effects.specs.Tests.{TestedSide, object, SideTest, test_holds, after_test, passing}
 use Rattle.ref_machine.specs.Items as item
-use Rattle.ref_machine.specs.Items.{NamedSide, NamedTest, Item, Items, listed}
+use Rattle.ref_machine.specs.Items.{NamedSide, NamedTest, Items, listed}
 use Rattle.ref_machine.specs.SourceStates.{State, with_world, first_do, if_some}
 use Rattle.ref_machine.specs.ObjectSteps.{on}
 use Rattle.ref_machine.specs.BranchSteps.{in_world, with_side, relation_on, testing, choose_by, choose, read_line}
 use Rattle.ref_machine_kinds.specs.KindedItems.{called_by}
-use Rattle.ref_machine_marks.specs.Marks.{Mark, Ranged, Exactly, Pointing, AreStable, IsSide, Agrees, Has, AreMarked}
+use Rattle.ref_machine_marks.specs.Marks.{Mark, Ranged, Exactly, Pointing, IsSide, Agrees, Has, AreMarked}
 use Rattle.ref_machine_marks.specs.ProperMemory.{Evolves}
 use Rattle.ref_machine_marks.specs.MarkLaws.{Comes, LinesKeepMarks}
 use Rattle.ref_machine_marked.specs.ExactTerms.{is_true}
 use Rattle.ref_machine_marked.specs.MarkedItems.{may_hold, may_fail, AllDo}
 use Rattle.ref_machine_marked.specs.MarkedStates.{Runs}
 use Rattle.ref_machine_marked_turns.specs.KeptMarks.{RunsOn}
+use Rattle.ref_machine_memory.proofs.Objects.{after_test_evolves}
+use Rattle.ref_machine_marked.proofs.Leading.{listed_does}
+use Rattle.ref_machine_tests.proofs.DecidedTests.{decided}
 use Rattle.ref_machine_marked_turns.proofs.Replies.{comes_behind}
 use Rattle.ref_machine_marked_turns.proofs.Keeping.{stables_kept, room_kept, Newest, newest}
-use Rattle.ref_machine_marked_turns.proofs.Changes.{RunsBy, RunsAt, revalued, renewed}
-use Rattle.ref_machine_marked_turns.proofs.Needed.{listed_does, test_evolves, decides_agrees}
+use Rattle.ref_machine_marked_turns.proofs.Changes.{RunsAt, revalued, renewed}
 
 -- ---- the way of a number that is known
 
@@ -100,12 +99,12 @@ module _ (u : UnitView) (at : Place) (held failed : Items) (s : State) where
     rest_state = record s { values = n.others ++ r.rest }
 
     chosen_tested : (left right : TestedSide) → IsSide u.model s.names s.world.memory test.left left → IsSide u.model s.names s.world.memory test.right right → (b : Bool) → test_holds u.model s.world.memory (test_on u s test b left right) ≡ true → Comes (RunsOn u) (choose_by u (Some test) b held failed rest_state)
-    chosen_tested left right is_left is_right true holds = subst (λ reply. Comes (RunsOn u) (behind reply (λ s w. on (first_do (listed held) s)))) (sym (passes u rest_state test true left right is_left is_right holds)) (on_way held (behind_test u s (test_on u s test true left right)) (test_evolves u.model test.common (test_on u s test true left right) s.world.memory) r.goes.does.1.5)
-    chosen_tested left right is_left is_right false holds = subst (λ reply. Comes (RunsOn u) (behind reply (λ s w. on (first_do (listed failed) s)))) (sym (passes u rest_state test false left right is_left is_right holds)) (on_way failed (behind_test u s (test_on u s test false left right)) (test_evolves u.model test.common (test_on u s test false left right) s.world.memory) r.goes.does.1.6)
+    chosen_tested left right is_left is_right true holds = subst (λ reply. Comes (RunsOn u) (behind reply (λ s w. on (first_do (listed held) s)))) (sym (passes u rest_state test true left right is_left is_right holds)) (on_way held (behind_test u s (test_on u s test true left right)) (after_test_evolves u.model test.common (test_on u s test true left right) s.world.memory) r.goes.does.1.5)
+    chosen_tested left right is_left is_right false holds = subst (λ reply. Comes (RunsOn u) (behind reply (λ s w. on (first_do (listed failed) s)))) (sym (passes u rest_state test false left right is_left is_right holds)) (on_way failed (behind_test u s (test_on u s test false left right)) (after_test_evolves u.model test.common (test_on u s test false left right) s.world.memory) r.goes.does.1.6)
 
     chosen_by : Comes (RunsOn u) (choose_by u (Some test) (not (is_false n.value)) held failed rest_state)
     chosen_by =
-        let a : Agrees u.model s.names s.world.memory test n.value = decides_agrees u s.names s.world.memory r.goes.does.1.0 test n.value r.proper r.goes.does.1.3 n.has in
+        let a : Agrees u.model s.names s.world.memory test n.value = decided u s.names s.world.memory r.goes.does.1.0 test n.value r.proper r.goes.does.1.3 n.has in
         chosen_tested a.left a.right a.is_left a.is_right (not (is_false n.value)) a.holds
 
   pub chosen_by_test : (test : NamedTest) → RunsAt u (item.Choose at (Some test) held failed) s → Comes (RunsOn u) (choose u (Some test) held failed s s.values)

@@ -1,4 +1,3 @@
-mod Needed
 mod Replies
 mod Keeping
 mod Changes

@@ -1,19 +1,21 @@
 -- Steps on objects that are named where they live, and have their sizes.
-use Rattle.std.proofs.Common.{◌≡◌, ◌≤◌, ℕ, ◌+◌, ◌==◌, Bool, true, false, not, ◌&&◌, ◌||◌, List, [], ◌∷◌, length, Option, Some, None, is_some, refl, ap, sym, subst, ◌∙◌, arith}
+use Rattle.std.proofs.Common.{◌≡◌, ◌≤◌, ℕ, zero, suc, ◌==◌, Bool, true, false, not, ◌&&◌, ◌||◌, List, [], ◌∷◌, length, Option, Some, None, is_some, refl, ap, sym, subst, ◌∙◌, arith}
 use Rattle.std.proofs.lemmas.Bool.{eq-eqb, eqb-true}
 use Rattle.std.specs.List.{slice_get}
 use Rattle.c_layout.specs.Types.{Ty}
 use Rattle.c_layout.specs.CheckedUnits.{FunctionView, UnitView}
+use Rattle.c_layout.specs.declared.data_model.Model.{Model}
+use Rattle.c_layout.specs.declared.leaf_lists.Leaf.{Leaf}
 use Rattle.c_layout.specs.declared.checked_tree.checked_terms.ObjectRef.{ObjectRef}
 use Rattle.c_layout.specs.declared.checked_tree.checked_terms.ObjectRef.TheVariants.{Static, Local}
 use Rattle.cc_base.specs.declared.diagnostics.Place.{Place}
 use Rattle.flow_lower_functions.specs.Functions.{local_type}
 use Rattle.lib_models_memory.specs.Bytes.{into}
-use Rattle.lib_models_memory.specs.Instances.{Memory, bytes_at}
+use Rattle.lib_models_memory.specs.Instances.{automatic, Memory, bytes_at}
 use Rattle.lib_models_memory.specs.Scalars.{pointer}
 use Rattle.lib_models_effects.specs.LibraryChecks.{most_size}
 use Rattle.lib_models_effects.specs.NumberedTables.{put_at, clear_at}
-use Rattle.lib_models_effects.specs.ObjectEffects.{next_instance, entered, left}
+use Rattle.lib_models_effects.specs.ObjectEffects.{blank_bytes, fresh, next_instance, entered, left}
 use Rattle.lib_models_effects.specs.Worlds.{World}
 use Rattle.ref_machine.specs.Items as item
 use Rattle.ref_machine.specs.Items.{Item, Change, Forget, Clear, Spell}
@@ -34,10 +36,12 @@ use Rattle.ref_machine_marked.specs.MarkedStatements.{MarkedUnit}
 use Rattle.ref_machine_marked.specs.MarkedItems.{PointsInto, any, whole, Writes, Does}
 use Rattle.ref_machine_marked.specs.MarkedStates.{HaveRoom, Runs}
 use Rattle.ref_machine_marked_turns.specs.KeptMarks.{RunsOn}
+use Rattle.ref_machine_memory.proofs.Evolving.{bytes_of_fresh}
+use Rattle.ref_machine_memory.proofs.Objects.{entered_evolves, left_evolves, forgotten_evolves, cleared_evolves, spelled_evolves}
+use Rattle.ref_machine_marked.proofs.Leading.{does_from}
 use Rattle.ref_machine_marked_turns.proofs.Replies.{comes_at}
 use Rattle.ref_machine_marked_turns.proofs.Keeping.{apart, none_some, same_some, room_kept}
 use Rattle.ref_machine_marked_turns.proofs.Changes.{RunsBy, RunsAt, pushing, evolved, renamed, passed}
-use Rattle.ref_machine_marked_turns.proofs.Needed.{does_from, entered_evolves, entered_size, left_evolves, forgotten_evolves, cleared_evolves, spelled_evolves}
 
 -- ---- what items enter and leave
 
@@ -82,6 +86,14 @@ module _ (u : UnitView) (f : FunctionView) (names : ℕ → Option ℕ) (n : ℕ
       by : (b : Bool) → elim b [ true ↦ None | false ↦ names m ] ≡ Some i → size_of u (local_type f m) ≤ length (bytes_at after i)
       by true e = absurd (none_some i e)
       by false e = room_kept u before after grows f names room m i e
+
+-- so many bytes are made
+blank_size : (m : Model) (leaves : List Leaf) (at n : ℕ) → length (blank_bytes m leaves at n) ≡ n
+blank_size m leaves at zero = refl
+blank_size m leaves at (suc n) = ap suc (blank_size m leaves (suc at) n)
+
+entered_size : (m : Model) (leaves : List Leaf) (size : ℕ) (w : World) → length (bytes_at (entered m leaves size w).memory (next_instance w)) ≡ size
+entered_size m leaves size w = ap length (bytes_of_fresh w.memory (fresh automatic (blank_bytes m leaves 0 size))) ∙ blank_size m leaves 0 size
 
 -- ---- an object that is there
 

@@ -17,9 +17,9 @@ use Rattle.ref_machine.specs.Items.{Item}
 use Rattle.ref_machine.specs.Scopes.{leap_in, behind_loop}
 use Rattle.ref_machine.specs.LabelSearch as sought
 use Rattle.ref_machine.specs.LabelSearch.{Sought, found, case_of}
-use Rattle.ref_machine.specs.SourceStates.{State, with_world, instance_of, if_some}
+use Rattle.ref_machine.specs.SourceStates.{State, with_world, if_some}
 use Rattle.ref_machine.specs.ObjectSteps.{on}
-use Rattle.ref_machine.specs.BranchSteps.{in_world, matching, landing, land, on_case, select_label, select}
+use Rattle.ref_machine.specs.BranchSteps.{in_world, matching, landing, land, select_label, select}
 use Rattle.ref_machine_kinds.specs.KindedTerms.{IsThere}
 use Rattle.ref_machine_kinds.specs.KindedStatements.{HasCases}
 use Rattle.ref_machine_kinds.specs.KindedItems.{called_by}
@@ -27,12 +27,17 @@ use Rattle.ref_machine_marks.specs.Marks.{Mark, Ranged, Has, AreMarked}
 use Rattle.ref_machine_marks.specs.MarkLaws.{Comes}
 use Rattle.ref_machine_marks.specs.ProperMemory.{Evolves}
 use Rattle.ref_machine_marked.specs.MarkedItems.{Selects, Does}
-use Rattle.ref_machine_marked.specs.MarkedStates.{Runs}
 use Rattle.ref_machine_marked_turns.specs.KeptMarks.{RunsOn}
+use Rattle.ref_machine_memory.proofs.Evolving.{evolves_same}
+use Rattle.ref_machine_memory.proofs.Objects.{relabelled_evolves}
+use Rattle.ref_machine_kinds.proofs.LeadingConditions.{IfSome}
+use Rattle.ref_machine_marked.proofs.Leading.{does_from}
+use Rattle.ref_machine_marked.proofs.Loops.{does_behind_loop}
+use Rattle.ref_machine_marked.proofs.Labels.{found_does}
+use Rattle.ref_machine_tests.proofs.MatchedCases.{IsMatched, matched}
 use Rattle.ref_machine_marked_turns.proofs.Replies.{comes_at}
 use Rattle.ref_machine_marked_turns.proofs.Keeping.{room_kept, Newest, newest}
 use Rattle.ref_machine_marked_turns.proofs.Changes.{RunsAt, renewed, leapt}
-use Rattle.ref_machine_marked_turns.proofs.Needed.{does_from, evolves_same, relabelled_evolves, IsMatched, matched, does_behind_loop, IfSome, found_does}
 
 -- ---- labels
 
@@ -130,18 +135,18 @@ module _ (u : UnitView) (at : Place) (labels : List CaseLabel) (statement : Stat
     abbrev unlabelled : ℕ → IntType → World
     unlabelled i kind = with_memory s.world (object_relabelled u.model (λ s. no_labels) i (of.Int kind) s.world.memory)
 
-    passes_case : (v : Scalar) (m : IsMatched u s.names s.world.memory o v) → matching u rest_state o o.kind m.number ≡ on (with_world rest_state (unlabelled m.instance m.kind))
+    passes_case : (v : Scalar) (m : IsMatched u.model s.names s.world.memory o v) → matching u rest_state o o.kind m.number ≡ on (with_world rest_state (unlabelled m.instance m.kind))
     passes_case v m =
         ap (λ kind. matching u rest_state o kind m.number) m.is_kind
         ∙ ap (λ found. if_some rest_state found (λ i. in_world rest_state (pass_case u.model i m.kind m.number s.world))) m.named
         ∙ ap (λ b. in_world rest_state (passing b (unlabelled m.instance m.kind))) m.same
 
-    selected_by : (v : Scalar) (m : IsMatched u s.names s.world.memory o v) (l : Sought) → IsCase (length labels) l → Comes (RunsOn u) (select_label u (Some o) statement l m.number rest_state)
+    selected_by : (v : Scalar) (m : IsMatched u.model s.names s.world.memory o v) (l : Sought) → IsCase (length labels) l → Comes (RunsOn u) (select_label u (Some o) statement l m.number rest_state)
     selected_by v m (sought.label n) is = absurd is
     selected_by v m sought.other is = landing_runs u at (Some o) labels statement s r others are s.world (evolves_same u.model s.world.memory) sought.other is
     selected_by v m (sought.case n) is = subst (λ reply. Comes (RunsOn u) (behind reply (λ s w. land u statement (sought.case n) s))) (sym (passes_case v m)) (landing_runs u at (Some o) labels statement s r others are (unlabelled m.instance m.kind) (relabelled_evolves u.model (λ s. no_labels) m.instance (of.Int m.kind) s.world.memory) (sought.case n) is)
 
-    selected_value : (v : Scalar) → IsMatched u s.names s.world.memory o v → Comes (RunsOn u) (select u (Some o) labels statement s (v ∷ (others ++ r.rest)))
+    selected_value : (v : Scalar) → IsMatched u.model s.names s.world.memory o v → Comes (RunsOn u) (select u (Some o) labels statement s (v ∷ (others ++ r.rest)))
     selected_value v m = subst (λ v. Comes (RunsOn u) (select u (Some o) labels statement s (v ∷ (others ++ r.rest)))) (sym m.is) (selected_by v m (case_of labels 0 m.number) (valued_case u at (Some o) labels statement s r m.number))
 
   pub selected_on : (o : NamedObject) → RunsAt u (item.Select at (Some o) labels statement) s → Comes (RunsOn u) (select u (Some o) labels statement s s.values)

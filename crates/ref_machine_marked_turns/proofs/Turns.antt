@@ -7,9 +7,9 @@ use Rattle.flow_lower_tasks.specs.TermKinds.{scalar_of}
 use Rattle.flow_lower_functions.specs.Functions.{local_type}
 use Rattle.flow_program.specs.declared.machine_instructions.Scalar as declared
 use Rattle.lib_models_memory.specs.Instances.{Memory}
-use Rattle.lib_models_memory.specs.Scalars.{Scalar, integer}
+use Rattle.lib_models_memory.specs.Scalars.{Scalar}
 use Rattle.lib_models_effects.specs.IntegerEffects.{truth}
-use Rattle.lib_models_effects.specs.Worlds.{World, Reply, goes, stops, unviolated}
+use Rattle.lib_models_effects.specs.Worlds.{Reply, goes, stops, unviolated}
 use Rattle.lib_models_effects.specs.Accesses.{store}
 use Rattle.ref_machine.specs.Operations as op
 use Rattle.ref_machine.specs.Operations.{Operation, perform, pushing}
@@ -20,13 +20,13 @@ use Rattle.ref_machine.specs.ConditionItems.{term_items}
 use Rattle.ref_machine.specs.StatementItems.{of_statement, while_turn, do_turn, for_turn}
 use Rattle.ref_machine.specs.Scopes.{all_of, open_scopes, jump, behind_loop, behind_turn}
 use Rattle.ref_machine.specs.LabelSearch.{from_label}
-use Rattle.ref_machine.specs.SourceStates.{Frame, State, function_at, result_object}
-use Rattle.ref_machine.specs.CallSteps.{behind_body, invoke, bind_value, bind_parameter, leave_function, end_body}
-use Rattle.ref_machine.specs.SourceSteps.{is_entry, operate, again, go_to, act, return_to, turn_by, turn}
+use Rattle.ref_machine.specs.SourceStates.{Frame, State, function_at}
+use Rattle.ref_machine.specs.CallSteps.{behind_body, bind_value, bind_parameter, leave_function, end_body}
+use Rattle.ref_machine.specs.SourceSteps.{is_entry, operate, again, go_to, act, return_to, turn_by}
 use Rattle.ref_machine_returns.specs.StandingJumps.{UnitJumpsStand}
 use Rattle.ref_machine_kinds.specs.KindedItems.{called_by}
-use Rattle.ref_machine_lives.specs.Lives.{lives, with_those}
-use Rattle.ref_machine_lives.specs.Livings.{Sits, Living, IsLiving}
+use Rattle.ref_machine_lives.specs.Lives.{lives}
+use Rattle.ref_machine_lives.specs.Livings.{Sits, Living}
 use Rattle.ref_machine_marks.specs.Marks.{Mark, Ranged, Exactly, Pointing, Naming, Null, Loaded, Converted, Tested, mark_of, Has}
 use Rattle.ref_machine_marks.specs.MarkOperations as stores
 use Rattle.ref_machine_marks.specs.ProperMemory.{Evolves}
@@ -36,15 +36,20 @@ use Rattle.ref_machine_marked.specs.MarkedStatements.{MarkedUnit}
 use Rattle.ref_machine_marked.specs.MarkedItems.{left_marks, Does}
 use Rattle.ref_machine_marked.specs.MarkedStates.{Runs}
 use Rattle.ref_machine_marked_turns.specs.KeptMarks.{RunsOn, TurnsKeepMarks}
+use Rattle.ref_machine_marked.proofs.Leading.{Through, does_from}
+use Rattle.ref_machine_marked.proofs.LeadingTerms.{value_leads, unused_leads, address_leads}
+use Rattle.ref_machine_marked.proofs.LeadingStatements.{while_through, do_through, for_through, statement_through}
+use Rattle.ref_machine_marked.proofs.Loops.{does_behind_loop, does_behind_turn}
+use Rattle.ref_machine_marked.proofs.Labels.{label_does}
+use Rattle.ref_machine_marked.proofs.Calls.{behind_does}
 use Rattle.ref_machine_marked_turns.proofs.Replies.{comes_behind, comes_at}
 use Rattle.ref_machine_marked_turns.proofs.Keeping.{room_kept, stables_kept, Newest, newest, Found, found_at}
 use Rattle.ref_machine_marked_turns.proofs.Changes as changes
 use Rattle.ref_machine_marked_turns.proofs.Changes.{RunsBy, RunsAt, renewed, revalued, instead_of, expanded, passed, resting, jumped}
-use Rattle.ref_machine_marked_turns.proofs.Calls.{behind_does, back, begun}
+use Rattle.ref_machine_marked_turns.proofs.Calls.{back, begun}
 use Rattle.ref_machine_marked_turns.proofs.Objects.{pointing, pointing_to_literal, pointing_to_outcome, changing, entering, leaving, leaving_outcome}
 use Rattle.ref_machine_marked_turns.proofs.Conditions.{chosen, chosen_by_test, line_chosen}
 use Rattle.ref_machine_marked_turns.proofs.Switches.{such_some, selected, selected_on}
-use Rattle.ref_machine_marked_turns.proofs.Needed.{Through, does_from, value_through, unused_through, address_through, statement_through, while_through, do_through, for_through, does_behind_loop, does_behind_turn, IfSome, label_does}
 
 -- the laws of operations
 pub record Laws : Type 0 where
@@ -127,20 +132,20 @@ module _ (u : UnitView) where
     ending : (s : State) → RunsAt u item.EndBody s → Comes (RunsOn u) (end_body u s)
     ending s r =
         let f : FunctionView = r.goes.function in
-        comes_at (RunsOn u) s (function_at u s.function) f _ r.goes.is (ended (item.EndBody ∷ s.control) s r (behind_body f [] s.frames) r.goes.does.1.0 (behind_does u f (marked.functions s.function f r.goes.is) [] (λ called rest. refl) s.frames))
+        comes_at (RunsOn u) s (function_at u s.function) f _ r.goes.is (ended (item.EndBody ∷ s.control) s r (behind_body f [] s.frames) r.goes.does.1.0 (behind_does u f [] (marked.functions s.function f r.goes.is) (λ called rest. refl) s.frames))
 
     returning : (s : State) → RunsAt u item.LeaveFunction s → Comes (RunsOn u) (leave_function u s)
     returning s r =
         let f : FunctionView = r.goes.function in
         let others : List Item = behind_body f (item.Hop ∷ []) s.frames in
-        comes_at (RunsOn u) s (function_at u s.function) f _ r.goes.is (ended (item.LeaveFunction ∷ s.control) s r (item.Leaves (all_of (open_scopes s.control)) ∷ others) r.goes.does.1.0 ([], (tt, refl), behind_does u f (marked.functions s.function f r.goes.is) (item.Hop ∷ []) (λ called rest. ([], refl, refl)) s.frames))
+        comes_at (RunsOn u) s (function_at u s.function) f _ r.goes.is (ended (item.LeaveFunction ∷ s.control) s r (item.Leaves (all_of (open_scopes s.control)) ∷ others) r.goes.does.1.0 ([], (tt, refl), behind_does u f (item.Hop ∷ []) (marked.functions s.function f r.goes.is) (λ called rest. ([], refl, refl)) s.frames))
 
     -- ---- turns
 
     acts : (i : Item) (s : State) → Before u i s → Comes (RunsOn u) (act u i s).reply
-    acts (item.Value e) s b = let r = b.runs in expanded u (item.Value e) s r (term_items u true e) (value_through u r.goes.function (called_by s.frames) e s.control r.marks r.goes.does.0 r.goes.does.1)
-    acts (item.Unused e) s b = let r = b.runs in expanded u (item.Unused e) s r (term_items u false e) (subst (λ ks. Through u r.goes.function (called_by s.frames) (term_items u false e) s.control r.marks ks) (sym r.goes.does.1.2) (unused_through u r.goes.function (called_by s.frames) e s.control r.marks r.goes.does.1.0 r.goes.does.1.1))
-    acts (item.Address l) s b = let r = b.runs in expanded u (item.Address l) s r (address_items u l) (address_through u r.goes.function (called_by s.frames) l s.control r.marks r.goes.does.0 r.goes.does.1)
+    acts (item.Value e) s b = let r = b.runs in expanded u (item.Value e) s r (term_items u true e) (value_leads u r.goes.function (called_by s.frames) e r.marks r.goes.does.0 r.goes.does.1 s.control)
+    acts (item.Unused e) s b = let r = b.runs in expanded u (item.Unused e) s r (term_items u false e) (subst (λ ks. Through u r.goes.function (called_by s.frames) (term_items u false e) s.control r.marks ks) (sym r.goes.does.1.2) (unused_leads u r.goes.function (called_by s.frames) e r.marks r.goes.does.1.0 r.goes.does.1.1 s.control))
+    acts (item.Address l) s b = let r = b.runs in expanded u (item.Address l) s r (address_items u l) (address_leads u r.goes.function (called_by s.frames) l r.marks r.goes.does.0 r.goes.does.1 s.control)
     acts (item.Do at operation) s b = operating laws.operations at operation s b.runs
     acts (item.Truth holds) s b = let r = b.runs in changes.pushing u (item.Truth holds) s r r.goes.does.1.0 (truth holds) (constant_has u s holds r.goes.does.1.0 r.goes.does.1.1) r.goes.does.1.2
     acts item.Again s b = again_runs s b.runs
