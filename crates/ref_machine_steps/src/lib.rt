@@ -1,0 +1,2 @@
+//! A run of a marked and scoped unit of the source is never stuck.
+#![tactic(auto)]
