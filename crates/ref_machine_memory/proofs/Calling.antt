@@ -1,5 +1,5 @@
 -- All calls of the library: memory stays proper, and so are the values that are given.
-use Rattle.std.proofs.Common.{◌≡◌, ◌≤◌, ◌<◌, ℕ, zero, suc, ℤ, pos, negsuc, unsigned_abs, int_le, Bool, true, false, not, ◌&&◌, List, [], ◌∷◌, ◌++◌, Option, Some, None, refl, ◌∙◌, arith}
+use Rattle.std.proofs.Common.{◌≡◌, ◌<◌, ℕ, zero, suc, ℤ, pos, negsuc, unsigned_abs, int_le, true, false, not, ◌&&◌, List, [], ◌∷◌, ◌++◌, Option, refl, ◌∙◌, arith}
 use Rattle.std.specs.Prelude.{◌≤ℤ◌, ◌-ℤ◌, int_lt}
 use Rattle.std.proofs.lemmas.Bool.{and_parts}
 use Rattle.std.proofs.lemmas.Int.{ints}
@@ -13,14 +13,14 @@ use Rattle.lib_models_memory.specs.Labels.{Labels, no_labels}
 use Rattle.lib_models_memory.specs.Bytes.{MachinePointer, Content, number}
 use Rattle.lib_models_memory.specs.Instances.{Memory}
 use Rattle.lib_models_memory.specs.Scalars.{Scalar, integer, pointer}
-use Rattle.lib_models_effects.specs.Worlds.{World, Reply, goes, stops, behind, drawn, Left, Ended}
+use Rattle.lib_models_effects.specs.Worlds.{World, Reply, goes, stops, drawn, Left}
 use Rattle.lib_models_effects.specs.Characters.{lies_in}
 use Rattle.lib_models_effects.specs.CharacterCalls.{answer}
 use Rattle.lib_models_effects.specs.LibraryChecks.{Reach, size_of, with_size, reached, string_length, fitting, writable}
 use Rattle.lib_models_effects.specs.AllocationCalls.{malloc, calloc, realloc, free}
-use Rattle.lib_models_effects.specs.MemoryCalls.{memcpy, memmove, memset, with_contents}
+use Rattle.lib_models_effects.specs.MemoryCalls.{memcpy, memmove, memset}
 use Rattle.lib_models_effects.specs.StringCalls.{strlen, strcpy, strncpy, strcat, strcmp}
-use Rattle.lib_models_effects.specs.LibraryCalls.{getchar, and_character, line_of, line_read, if_read, line_into, fgets, putchar, puts, strings_in, and_reach, all_scanned, most_int, printf, character_call, with_result, library}
+use Rattle.lib_models_effects.specs.LibraryCalls.{getchar, and_character, line_of, line_read, if_read, line_into, fgets, putchar, puts, strings_in, all_scanned, most_int, printf, character_call, with_result, library}
 use Rattle.ref_machine_operations.specs.Kinds.{Address, IsOf}
 use Rattle.ref_machine_marks.specs.Marks.{Pointing, mark_of, Has, IsBounded}
 use Rattle.ref_machine_marks.specs.ProperMemory.{IsProper, Evolves}

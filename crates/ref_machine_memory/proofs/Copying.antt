@@ -1,13 +1,12 @@
 -- Copies and fills of memory: it stays proper, and the first argument is given.
-use Rattle.std.proofs.Common.{◌≡◌, ◌<◌, ℕ, suc, ℤ, pos, negsuc, Bool, true, false, ◌&&◌, ◌||◌, List, [], ◌∷◌, arith, mod-lt}
+use Rattle.std.proofs.Common.{◌<◌, ℕ, ℤ, pos, negsuc, Bool, true, false, ◌&&◌, ◌||◌, List, [], ◌∷◌, arith, mod-lt}
 use Rattle.std.specs.Prelude.{replicate, nat_lt}
 use Rattle.c_layout.specs.declared.data_model.Model.{Model}
-use Rattle.lib_models_memory.specs.Labels.{Labels}
 use Rattle.lib_models_memory.specs.Bytes.{MachinePointer, Content, number, Byte}
 use Rattle.lib_models_memory.specs.Instances.{Memory, bytes_at}
 use Rattle.lib_models_memory.specs.Scalars.{Scalar, integer, pointer}
 use Rattle.lib_models_effects.specs.Worlds.{World, Reply, goes, stops, Left}
-use Rattle.lib_models_effects.specs.ScalarBytes.{bits_in, replaced, refilled, region}
+use Rattle.lib_models_effects.specs.ScalarBytes.{bits_in, replaced, refilled}
 use Rattle.lib_models_effects.specs.StructCopies.{overlap}
 use Rattle.lib_models_effects.specs.Touches.{is_allocated, storage_at}
 use Rattle.lib_models_effects.specs.LibraryChecks.{Reach, size_of, with_size, reached, bytes_from, fitting, writable}

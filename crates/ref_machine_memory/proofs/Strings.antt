@@ -1,12 +1,12 @@
 -- Functions on strings: memory stays proper, and the first argument is given.
-use Rattle.std.proofs.Common.{◌≡◌, ◌+◌, ◌-◌, ℕ, Bool, List, [], ◌∷◌, ◌++◌, take, refl, arith}
+use Rattle.std.proofs.Common.{◌≡◌, ◌+◌, ◌-◌, ℕ, List, [], ◌∷◌, take, refl, arith}
 use Rattle.std.specs.Prelude.{◌==◌, min, replicate}
 use Rattle.c_layout.specs.declared.data_model.Model.{Model}
 use Rattle.lib_models_memory.specs.Labels.{no_labels}
 use Rattle.lib_models_memory.specs.Bytes.{MachinePointer, Content, number}
 use Rattle.lib_models_memory.specs.Instances.{Memory}
 use Rattle.lib_models_memory.specs.Scalars.{Scalar, integer, pointer}
-use Rattle.lib_models_effects.specs.Worlds.{World, Reply, goes, stops, behind, Left}
+use Rattle.lib_models_effects.specs.Worlds.{World, goes, stops, Left}
 use Rattle.lib_models_effects.specs.ScalarBytes.{contents}
 use Rattle.lib_models_effects.specs.StructCopies.{overlap}
 use Rattle.lib_models_effects.specs.LibraryChecks.{Reach, size_of, with_size, reached, bytes_from, string_length, length_within, fitting, writable}
