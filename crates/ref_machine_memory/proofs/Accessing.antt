@@ -1,5 +1,5 @@
 -- Loads, stores and copies of structs: what they do to memory, and that what they give is proper.
-use Rattle.std.proofs.Common.{◌≡◌, ◌≤◌, ◌+◌, ℕ, zero, suc, Bool, true, false, cond, not, ◌&&◌, List, [], ◌∷◌, length, Option, Some, None, refl, ap, sym, subst, arith}
+use Rattle.std.proofs.Common.{◌≡◌, ◌≤◌, ◌+◌, ℕ, suc, Bool, true, false, cond, not, ◌&&◌, List, [], ◌∷◌, length, Option, Some, None, refl, subst, arith}
 use Rattle.std.specs.Prelude.{nat_le}
 use Rattle.std.proofs.lemmas.Bool.{and_parts, leb-true}
 use Rattle.cc_base.specs.declared.int_types.IntType.{IntType}
@@ -13,15 +13,14 @@ use Rattle.flow_program.specs.declared.machine_instructions.Scalar.TheVariants a
 use Rattle.lib_models_memory.specs.Bytes.{MachinePointer, null, into, Content, indeterminate, number, part, Byte}
 use Rattle.lib_models_memory.specs.Instances.{Life, live, ended, freed, Memory, life_at, bytes_at}
 use Rattle.lib_models_memory.specs.Numbers.{Labelled}
-use Rattle.lib_models_memory.specs.Scalars.{Scalar, integer, pointer}
+use Rattle.lib_models_memory.specs.Scalars.{Scalar, pointer}
 use Rattle.lib_models_memory.specs.ScalarSizes.{class_bytes, same_class}
-use Rattle.lib_models_effects.specs.Worlds.{World, Reply, goes, stops, behind, Left, Stuck, stopped_by}
+use Rattle.lib_models_effects.specs.Worlds.{World, Reply, goes, stops, Left, Stuck, stopped_by}
 use Rattle.lib_models_effects.specs.Operands.{is_of_kind, as_pointer}
 use Rattle.lib_models_effects.specs.ScalarBytes.{scalar_bytes, tagged_from, replaced, refilled, region, contents}
 use Rattle.lib_models_effects.specs.Touches.{Spot, is_literal, is_allocated, storage_at, touched_live, touched_by, touched}
-use Rattle.lib_models_effects.specs.Accesses.{class_in, is_zero, are_zeros, are_parts, pointer_of_parts, pointer_by, pointer_in, pointer_scalar, numbers_in, integer_in, scalar_in, given, read_blank, has_blank, read_contents, is_seen_as, bytes_seen, load_at, load_through, load, stored_bytes, stored, may_store, store_at, store_through, store}
+use Rattle.lib_models_effects.specs.Accesses.{class_in, are_zeros, are_parts, pointer_in, pointer_scalar, numbers_in, integer_in, scalar_in, given, read_blank, has_blank, read_contents, is_seen_as, bytes_seen, load_at, load_through, load, stored_bytes, stored, may_store, store_at, store_through, store}
 use Rattle.lib_models_effects.specs.StructCopies.{copied, copy_made, may_copy, copy_at, copy_between, copy_struct}
-use Rattle.lib_models_effects.specs.LibraryChecks.{most_size}
 use Rattle.ref_machine_marks.specs.Marks.{IsBounded}
 use Rattle.ref_machine_marks.specs.ProperMemory.{IsProperMemory, Evolves}
 use Rattle.ref_machine_memory.specs.GoingWorlds.{WhenGoing, IsProperScalar, IsProperResult, Keeps, Gives}

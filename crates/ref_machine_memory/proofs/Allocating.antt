@@ -1,6 +1,6 @@
 -- Allocations: what they do to memory, and that the pointers that they give are bounded.
-use Rattle.std.proofs.Common.{◌≡◌, ◌≤◌, ◌-◌, ◌*◌, ℕ, zero, suc, ℤ, pos, Bool, true, false, not, ◌&&◌, List, [], ◌∷◌, ◌++◌, length, take, Option, None, refl, ap, sym, subst, arith, length-append}
-use Rattle.std.specs.Prelude.{nat_le, replicate, min}
+use Rattle.std.proofs.Common.{◌≡◌, ◌≤◌, ◌-◌, ◌*◌, ℕ, zero, suc, pos, Bool, true, false, not, ◌&&◌, List, [], ◌∷◌, length, take, Option, None, refl, ap, arith, length-append}
+use Rattle.std.specs.Prelude.{nat_le, replicate}
 use Rattle.std.specs.Ordering.{int_eq}
 use Rattle.std.proofs.lemmas.Bool.{and_parts, leb-true}
 use Rattle.std.proofs.lemmas.List.{length-take}
@@ -8,15 +8,15 @@ use Rattle.cc_base.specs.declared.diagnostics.Rule.TheVariants as rule
 use Rattle.c_layout.specs.declared.data_model.Model.{Model}
 use Rattle.lib_models_memory.specs.Labels.{no_labels}
 use Rattle.lib_models_memory.specs.Bytes.{MachinePointer, null, into, Content, indeterminate, number, Byte}
-use Rattle.lib_models_memory.specs.Instances.{allocated, Life, live, ended, freed, Memory, bytes_at, life_at}
+use Rattle.lib_models_memory.specs.Instances.{allocated, Life, live, ended, freed, Memory, life_at}
 use Rattle.lib_models_memory.specs.Scalars.{Scalar, integer, pointer}
-use Rattle.lib_models_effects.specs.Worlds.{World, Reply, goes, behind, done, drawn}
+use Rattle.lib_models_effects.specs.Worlds.{World, Reply, behind, done, drawn}
 use Rattle.lib_models_effects.specs.ObjectEffects.{fresh, with_instance}
 use Rattle.lib_models_effects.specs.LibraryChecks.{size_of, with_size, most_size}
 use Rattle.lib_models_effects.specs.AllocationCalls.{untyped, asked_for, allocated_with, if_given, allocate, malloc_bytes, malloc, calloc_bytes, calloc, is_start, freeable_by, freeable, given_back, free, resized, old_bytes, moved_to, realloc_bytes, realloc}
 use Rattle.ref_machine_marks.specs.ProperMemory.{IsProper, IsProperMemory, Evolves}
 use Rattle.ref_machine_memory.specs.GoingWorlds.{WhenGoing, IsProperScalar, Keeps, Develops, Gives}
-use Rattle.ref_machine_memory.proofs.Replies.{when_behind, when_kept, when_unless, drawn_keeps}
+use Rattle.ref_machine_memory.proofs.Replies.{when_kept, when_unless, drawn_keeps}
 use Rattle.ref_machine_memory.proofs.ProperBytes.{AreProperBytes, IsProperByte, each_taken, each_both, each_same}
 use Rattle.ref_machine_memory.proofs.Evolving.{proper_bytes, grows_further, evolves_same, with_instance_grows, with_instance_evolves, set_life_evolves}
 

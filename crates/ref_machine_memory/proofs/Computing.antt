@@ -1,5 +1,5 @@
 -- Operators, which keep memory, and the pointers that they give.
-use Rattle.std.proofs.Common.{◌≡◌, ◌≤◌, ◌+◌, ℕ, ℤ, pos, negsuc, ◌+ℤ◌, unsigned_abs, int_le, Bool, true, false, cond, not, ◌&&◌, ◌||◌, List, [], ◌∷◌, Option, Some, None, refl, subst, arith}
+use Rattle.std.proofs.Common.{◌≡◌, ◌≤◌, ℕ, ℤ, pos, negsuc, ◌+ℤ◌, unsigned_abs, int_le, Bool, true, false, not, ◌&&◌, ◌||◌, List, Option, Some, None, refl, subst, arith}
 use Rattle.std.specs.Prelude.{◌≤ℤ◌}
 use Rattle.std.specs.Ordering.{int_eq}
 use Rattle.std.proofs.lemmas.Bool.{and_parts}
@@ -18,12 +18,12 @@ use Rattle.lib_models_memory.specs.Labels.{Labels, is_unlabelled}
 use Rattle.lib_models_memory.specs.Bytes.{MachinePointer, null, into}
 use Rattle.lib_models_memory.specs.Instances.{Memory}
 use Rattle.lib_models_memory.specs.Scalars.{Scalar, integer, pointer}
-use Rattle.lib_models_effects.specs.Worlds.{World, Reply, goes, stops, behind, unless, noted, stopped_by, Stuck}
+use Rattle.lib_models_effects.specs.Worlds.{World, Reply, goes, stops, unless, noted, stopped_by, Stuck}
 use Rattle.lib_models_effects.specs.Operands.{as_pointer}
 use Rattle.lib_models_effects.specs.IntegerEffects.{truth, computed, binary, unary, compare_numbers, negation, pointer_from, convert}
 use Rattle.lib_models_effects.specs.LibraryChecks.{most_size}
-use Rattle.lib_models_effects.specs.PointerEffects.{narrowed_by, at_part, narrow_pointer, narrow, distance_of, is_ended, moved_into, moved, shift_pointer, shift, share_instance, compared, difference, equality, ordered, pointers_compared, compare}
-use Rattle.lib_models_effects.specs.Touches.{Spot, touched}
+use Rattle.lib_models_effects.specs.PointerEffects.{narrowed_by, at_part, narrow_pointer, narrow, distance_of, is_ended, moved_into, moved, shift_pointer, shift, share_instance, compared, difference, equality, pointers_compared, compare}
+use Rattle.lib_models_effects.specs.Touches.{touched}
 use Rattle.ref_machine_marks.specs.Marks.{IsBounded}
 use Rattle.ref_machine_memory.specs.GoingWorlds.{WhenGoing, IsProperScalar, Keeps}
 use Rattle.ref_machine_memory.proofs.Replies.{when_behind, when_where, when_either, when_unless, when_number, when_pointer}

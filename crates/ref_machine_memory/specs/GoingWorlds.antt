@@ -38,3 +38,11 @@ Develops m before r = WhenGoing (λ x w. Evolves m before w.memory) r
 -- so it does, and what is given is proper
 abbrev pub Gives : Model → Memory → Reply Scalar → Type 0
 Gives m before r = WhenGoing (λ v w. IsProperScalar m v × Evolves m before w.memory) r
+
+-- a number is given, and memory is as before
+abbrev pub IsNumeral : Scalar → Type 0
+IsNumeral (integer n labels) = Unit {0}
+IsNumeral (pointer p) = ⊥
+
+abbrev pub Tells : Memory → Reply Scalar → Type 0
+Tells before r = WhenGoing (λ v w. IsNumeral v × (w.memory ≡ before)) r
