@@ -1,0 +1,3 @@
+pub mod StableMarks
+mod Keeping
+mod Accessing
