@@ -26,9 +26,9 @@ use Rattle.ref_machine_marks.specs.MarkOperations.{number_of_truth, IsKind, IsSc
 use Rattle.ref_machine_marked.specs.ExactTerms.{is_true, Results, ExactTerm, NullTerm}
 use Rattle.ref_machine_marked.specs.MarkedTerms.{SideTerm, Quiet}
 use Rattle.ref_machine_marked.specs.MarkedItems.{quietly, named, Effect}
-use Rattle.ref_machine_marked.proofs.ExactOperands.{Right, both_right, both_failed, either_right, either_held, first_arm, second_arm}
-use Rattle.ref_machine_marked.proofs.Leading.{Through, Leads, leads_to}
-use Rattle.ref_machine_marked.proofs.LeadingConditions.{exact_choice_through, exact_condition_through}
+use Rattle.ref_machine_marked_items.proofs.ExactOperands.{Right, both_right, both_failed, either_right, either_held, first_arm, second_arm}
+use Rattle.ref_machine_marked_items.proofs.Leading.{Through, Leads, leads_to}
+use Rattle.ref_machine_marked_items.proofs.LeadingConditions.{exact_choice_through, exact_condition_through}
 
 -- ---- types
 

@@ -26,8 +26,8 @@ use Rattle.ref_machine_marked.specs.MarkedTerms.{term_mark, MarkedTerm, MarkedCo
 use Rattle.ref_machine_marked.specs.MarkedStatements.{MarkedIf, MarkedStep, SelectsBy, MarkedStore, MarkedStores, MarkedReturn, MarkedStatement, MarkedStatements}
 use Rattle.ref_machine_marked.specs.MarkedItems as items
 use Rattle.ref_machine_marked.specs.MarkedItems.{Evaluates, by_type, quietly, PointsInto, Stands, Turns, Selects, SelectsFrom}
-use Rattle.ref_machine_marked.proofs.Leading.{Through, Leads, through_both, leads_both}
-use Rattle.ref_machine_marked.proofs.LeadingConditions.{condition_through}
+use Rattle.ref_machine_marked_items.proofs.Leading.{Through, Leads, through_both, leads_both}
+use Rattle.ref_machine_marked_items.proofs.LeadingConditions.{condition_through}
 
 module _ (u : UnitView) (f : FunctionView) (called : Option Bool) where
   nothing_small : 0 ≤ most_size u.model

@@ -39,11 +39,11 @@ use Rattle.ref_machine_marked.specs.ExactTerms.{ExactTerm}
 use Rattle.ref_machine_marked.specs.MarkedTerms.{term_mark, lvalue_mark, IsInteger, IsTruth, IsScalarType, argument_marks, CallsFunction, CallsLibrary, Combines, Compounds, StepsIn, AddsTo, Subtracts, StoredTerm, ComparisonTerm, HasTests, MarkedTerm, MarkedPlace, MarkedTerms}
 use Rattle.ref_machine_marked.specs.MarkedItems.{Evaluates, by_type, quietly, Locates, NamesObject, left_marks, parameter_marks, Effect}
 use Rattle.ref_machine_marked.specs.MarkedItems as items
-use Rattle.ref_machine_marked.proofs.TypeMarks.{stable_type, zero_converts, pointer_order, kind_is}
-use Rattle.ref_machine_marked.proofs.Leading.{with_value, stable_above, Through, Leads, all_through, leads_both, leads_to, leads_if_used, valued}
-use Rattle.ref_machine_marked.proofs.LeadingArguments.{stacked, arguments_lead, stacked_reverse, stacked_parameters, parameters_counted, marks_counted}
-use Rattle.ref_machine_marked.proofs.LeadingConditions.{operand_evaluates, condition_through}
-use Rattle.ref_machine_marked.proofs.QuietTerms.{quiet_leads}
+use Rattle.ref_machine_marked_items.proofs.TypeMarks.{stable_type, zero_converts, pointer_order, kind_is}
+use Rattle.ref_machine_marked_items.proofs.Leading.{with_value, stable_above, Through, Leads, all_through, leads_both, leads_to, leads_if_used, valued}
+use Rattle.ref_machine_marked_items.proofs.LeadingArguments.{stacked, arguments_lead, stacked_reverse, stacked_parameters, parameters_counted, marks_counted}
+use Rattle.ref_machine_marked_items.proofs.LeadingConditions.{operand_evaluates, condition_through}
+use Rattle.ref_machine_marked_items.proofs.QuietTerms.{quiet_leads}
 
 -- ---- types
 

@@ -19,7 +19,7 @@ use Rattle.ref_machine_marks.specs.Marks.{Mark, Ranged, Exactly, Pointing, Namin
 use Rattle.ref_machine_marks.specs.MarkOperations.{AreOfKinds}
 use Rattle.ref_machine_marked.specs.ExactTerms.{ExactTerm}
 use Rattle.ref_machine_marked.specs.MarkedTerms.{argument_marks, CallsLibrary, MarkedTerm, MarkedTerms}
-use Rattle.ref_machine_marked.proofs.ExactConditions.{no_line}
+use Rattle.ref_machine_marked_items.proofs.ExactConditions.{no_line}
 
 -- a call that reads a line takes a pointer, a number and a pointer
 pub record ReadsLine (u : UnitView) (args : TermTrees) : Type 0 where

@@ -16,11 +16,11 @@ use Rattle.ref_machine_marks.specs.Marks.{Mark, Exactly, Ranged, Pointing, Teste
 use Rattle.ref_machine_marked.specs.ExactTerms.{is_true, ExactTerm}
 use Rattle.ref_machine_marked.specs.MarkedTerms.{term_mark, Decides, Operand, TestTerm, HasTest, HasTests, MarkedTerm}
 use Rattle.ref_machine_marked.specs.MarkedItems.{Evaluates, by_type, quietly, as_stored, as_test, may_hold, may_fail}
-use Rattle.ref_machine_marked.proofs.Leading.{Through, all_through, through_both}
-use Rattle.ref_machine_marked.proofs.LeadingArguments.{stacked, arguments_lead, stacked_reverse}
-use Rattle.ref_machine_marked.proofs.LineReads.{ReadsLine, LineRead, line_read}
-use Rattle.ref_machine_marked.proofs.ExactOperands.{negation_is, Right, right_is, both_right, both_failed, either_right, either_held, first_arm, second_arm}
-use Rattle.ref_machine_marked.proofs.ExactConditions.{nothing_read, no_test}
+use Rattle.ref_machine_marked_items.proofs.Leading.{Through, all_through, through_both}
+use Rattle.ref_machine_marked_items.proofs.LeadingArguments.{stacked, arguments_lead, stacked_reverse}
+use Rattle.ref_machine_marked_items.proofs.LineReads.{ReadsLine, LineRead, line_read}
+use Rattle.ref_machine_marked_items.proofs.ExactOperands.{negation_is, Right, right_is, both_right, both_failed, either_right, either_held, first_arm, second_arm}
+use Rattle.ref_machine_marked_items.proofs.ExactConditions.{nothing_read, no_test}
 
 -- ---- truth values
 
