@@ -1,5 +1,5 @@
 -- Worked rows: conditions, switches and declarations that are marked, and some that are not.
-use Rattle.std.proofs.Common.{◌≡◌, ◌<◌, ℕ, ℤ, pos, Bool, true, false, List, [], ◌∷◌, Option, Some, None, inl, inr, refl, sym, subst, arith}
+use Rattle.std.proofs.Common.{◌≡◌, ◌<◌, ℕ, pos, true, false, [], Some, None, inl, inr, refl, sym, subst, arith}
 use Rattle.cc_base.specs.declared.diagnostics.Place.{Place}
 use Rattle.cc_base.specs.declared.int_types.IntType.{IntType}
 use Rattle.cc_base.specs.declared.integer_operators.Rel.TheVariants.{Lt, Ne}
@@ -17,7 +17,7 @@ use Rattle.flow_program.specs.declared.machine_instructions.Scalar.TheVariants a
 use Rattle.ref_machine.specs.Items as side
 use Rattle.ref_machine.specs.Items.{NamedTest}
 use Rattle.ref_machine.specs.TermTests.{test_if}
-use Rattle.ref_machine_marks.specs.Marks.{Mark, Ranged, Exactly, Loaded, Converted}
+use Rattle.ref_machine_marks.specs.Marks.{Exactly, Loaded, Converted}
 use Rattle.ref_machine_marks.specs.MarkOperations.{IsKind, IsWider, HasTruths, ConvertsTo}
 use Rattle.ref_machine_marked.specs.MarkedTerms.{MarkedTerm, MarkedCondition, ComparisonTerm, TestTerm}
 use Rattle.ref_machine_marked.specs.MarkedStatements.{Matches, SelectsBy, MarkedStatement}

@@ -3,7 +3,7 @@ use Rattle.std.proofs.Common.{◌≡◌, ◌<◌, ◌≤◌, ℕ, zero, suc, ◌
 use Rattle.std.specs.List.{slice_get}
 use Rattle.c_layout.specs.CheckedTrees.{statement_trees}
 use Rattle.c_layout.specs.CheckedUnits.{UnitView, FunctionView}
-use Rattle.flow_lower_tasks.specs.TermKinds.{is_void, scalar_of}
+use Rattle.flow_lower_tasks.specs.TermKinds.{is_void}
 use Rattle.flow_lower_functions.specs.Functions.{numbers_from, local_type}
 use Rattle.lib_models_effects.specs.LibraryChecks.{most_size}
 use Rattle.ref_machine.specs.Items as item

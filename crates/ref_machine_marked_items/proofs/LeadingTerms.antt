@@ -3,7 +3,6 @@ use Rattle.std.proofs.Common.{◌≡◌, ◌≤◌, ℕ, ◌+◌, ℤ, pos, Bool
 use Rattle.cc_base.specs.IntegerTypes.{in_type}
 use Rattle.cc_base.specs.declared.diagnostics.Place.{Place}
 use Rattle.cc_base.specs.declared.int_types.IntType.{IntType}
-use Rattle.cc_base.specs.declared.integer_operators.IntOp.{IntOp}
 use Rattle.cc_base.specs.declared.integer_operators.UnOp.{UnOp}
 use Rattle.cc_base.specs.declared.integer_operators.UnOp.TheVariants.{Neg, Compl}
 use Rattle.c_layout.specs.Types.{Ty, Int, same_kind}
@@ -17,7 +16,7 @@ use Rattle.c_layout.specs.declared.syntax_tree.expressions.LogicalOp.TheVariants
 use Rattle.c_layout.specs.declared.syntax_tree.expressions.StepOp.{StepOp}
 use Rattle.flow_lower_conditions.specs.declared.branch_tests.NamedObject.{NamedObject}
 use Rattle.flow_program.specs.declared.machine_instructions.Scalar.TheVariants as of
-use Rattle.flow_lower_tasks.specs.TermKinds.{meaning, relation, step_operator, is_backward, scalar_of, integer_type, is_void, term_at, term_type, lvalue_at, lvalue_type}
+use Rattle.flow_lower_tasks.specs.TermKinds.{meaning, relation, step_operator, is_backward, scalar_of, integer_type, is_void, term_type, lvalue_at, lvalue_type}
 use Rattle.flow_lower_tasks.specs.declared.term_kinds.OperatorMeaning.{OperatorMeaning}
 use Rattle.flow_lower_tasks.specs.declared.term_kinds.OperatorMeaning.TheVariants as meant
 use Rattle.flow_lower_expressions.specs.Assignments.{keeps_old, number_operator}
@@ -29,17 +28,16 @@ use Rattle.ref_machine.specs.Items as item
 use Rattle.ref_machine.specs.Items.{Item, NamedTest}
 use Rattle.ref_machine.specs.TermItems.{address_items, if_used, left_if, operating, order_of, integer_kind, converted, assignment, compound, compound_shift, kept, store_step, step, pointer_step, arguments, argument_count, library_items}
 use Rattle.ref_machine.specs.ConditionItems.{choice_of, truth_of, logical, arm, conditional, term_items}
-use Rattle.ref_machine_operations.specs.TakenKinds.{result_kind}
 use Rattle.ref_machine_kinds.specs.KindedTerms.{HasObject}
 use Rattle.ref_machine_kinds.proofs.Loops.{apart}
-use Rattle.ref_machine_marks.specs.Marks.{Mark, Ranged, Exactly, Pointing, Naming, Loaded, Tested, mark_of_type, is_stable, AreStable}
+use Rattle.ref_machine_marks.specs.Marks.{Mark, Ranged, Exactly, Pointing, Naming, Loaded, Tested, mark_of_type, AreStable}
 use Rattle.ref_machine_marks.specs.MarkOperations as marks
-use Rattle.ref_machine_marks.specs.MarkOperations.{IsKind, IsScalar, HasTruths, CountsAs, null_test_of, with_given, MarkOperates, number_of_truth}
+use Rattle.ref_machine_marks.specs.MarkOperations.{IsKind, HasTruths, CountsAs, null_test_of, with_given, MarkOperates, number_of_truth}
 use Rattle.ref_machine_marked.specs.ExactTerms.{ExactTerm}
-use Rattle.ref_machine_marked.specs.MarkedTerms.{term_mark, lvalue_mark, IsInteger, IsTruth, IsScalarType, argument_marks, CallsFunction, CallsLibrary, Combines, Compounds, StepsIn, AddsTo, Subtracts, StoredTerm, ComparisonTerm, HasTests, MarkedTerm, MarkedPlace, MarkedTerms}
+use Rattle.ref_machine_marked.specs.MarkedTerms.{term_mark, lvalue_mark, IsInteger, IsTruth, IsScalarType, argument_marks, CallsFunction, CallsLibrary, Combines, Compounds, StepsIn, AddsTo, StoredTerm, ComparisonTerm, HasTests, MarkedTerm, MarkedPlace, MarkedTerms}
 use Rattle.ref_machine_marked.specs.MarkedItems.{Evaluates, by_type, quietly, Locates, NamesObject, left_marks, parameter_marks, Effect}
 use Rattle.ref_machine_marked.specs.MarkedItems as items
-use Rattle.ref_machine_marked_items.proofs.TypeMarks.{stable_type, zero_converts, pointer_order, kind_is}
+use Rattle.ref_machine_marked_items.proofs.TypeMarks.{zero_converts, pointer_order, kind_is}
 use Rattle.ref_machine_marked_items.proofs.Leading.{with_value, stable_above, Through, Leads, all_through, leads_both, leads_to, leads_if_used, valued}
 use Rattle.ref_machine_marked_items.proofs.LeadingArguments.{stacked, arguments_lead, stacked_reverse, stacked_parameters, parameters_counted, marks_counted}
 use Rattle.ref_machine_marked_items.proofs.LeadingConditions.{operand_evaluates, condition_through}
