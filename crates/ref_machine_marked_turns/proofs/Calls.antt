@@ -16,9 +16,9 @@ use Rattle.ref_machine_marks.specs.Marks.{Mark, mark_of_type, AreFree, AreMarked
 use Rattle.ref_machine_marked.specs.MarkedStatements.{MarkedUnit}
 use Rattle.ref_machine_marked.specs.MarkedItems.{left_marks, parameter_marks, Invokes}
 use Rattle.ref_machine_marked.specs.MarkedStates.{Goes, Wait, caller, Runs}
-use Rattle.ref_machine_marked.proofs.TypeMarks.{free_type}
-use Rattle.ref_machine_marked.proofs.Leading.{does_from}
-use Rattle.ref_machine_marked.proofs.Calls.{parameters_free, prologue_does}
+use Rattle.ref_machine_marked_items.proofs.TypeMarks.{free_type}
+use Rattle.ref_machine_marked_items.proofs.Leading.{does_from}
+use Rattle.ref_machine_marked_items.proofs.Calls.{parameters_free, prologue_does}
 use Rattle.ref_machine_marked_turns.proofs.Keeping.{frees_kept, none_some, Parts, parts, both_marked}
 use Rattle.ref_machine_marked_turns.proofs.Changes.{RunsAt}
 

@@ -13,7 +13,7 @@ use Rattle.ref_machine_marks.specs.ProperMemory.{Evolves}
 use Rattle.ref_machine_marked.specs.MarkedItems.{AtRest, Does}
 use Rattle.ref_machine_marked.specs.MarkedStates.{HaveRoom, Runs}
 use Rattle.ref_machine_memory.proofs.Evolving.{evolves_same}
-use Rattle.ref_machine_marked.proofs.Leading.{Through, does_from, through_does}
+use Rattle.ref_machine_marked_items.proofs.Leading.{Through, does_from, through_does}
 use Rattle.ref_machine_marked_turns.proofs.Keeping.{stables_kept, frees_kept, room_kept, statics_kept, wait_kept}
 
 -- the function that runs has such items to do, and one item more before the others

@@ -20,7 +20,7 @@ use Rattle.ref_machine_marked.specs.MarkedItems.{may_hold, may_fail, AllDo}
 use Rattle.ref_machine_marked.specs.MarkedStates.{Runs}
 use Rattle.ref_machine_marked_turns.specs.KeptMarks.{RunsOn}
 use Rattle.ref_machine_memory.proofs.Objects.{after_test_evolves}
-use Rattle.ref_machine_marked.proofs.Leading.{listed_does}
+use Rattle.ref_machine_marked_items.proofs.Leading.{listed_does}
 use Rattle.ref_machine_tests.proofs.DecidedTests.{decided}
 use Rattle.ref_machine_marked_turns.proofs.Replies.{comes_behind}
 use Rattle.ref_machine_marked_turns.proofs.Keeping.{stables_kept, room_kept, Newest, newest}

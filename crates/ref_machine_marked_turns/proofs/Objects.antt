@@ -38,7 +38,7 @@ use Rattle.ref_machine_marked.specs.MarkedStates.{HaveRoom, Runs}
 use Rattle.ref_machine_marked_turns.specs.KeptMarks.{RunsOn}
 use Rattle.ref_machine_memory.proofs.Evolving.{bytes_of_fresh}
 use Rattle.ref_machine_memory.proofs.Objects.{entered_evolves, left_evolves, forgotten_evolves, cleared_evolves, spelled_evolves}
-use Rattle.ref_machine_marked.proofs.Leading.{does_from}
+use Rattle.ref_machine_marked_items.proofs.Leading.{does_from}
 use Rattle.ref_machine_marked_turns.proofs.Replies.{comes_at}
 use Rattle.ref_machine_marked_turns.proofs.Keeping.{apart, none_some, same_some, room_kept}
 use Rattle.ref_machine_marked_turns.proofs.Changes.{RunsBy, RunsAt, pushing, evolved, renamed, passed}

@@ -31,9 +31,9 @@ use Rattle.ref_machine_marked_turns.specs.KeptMarks.{RunsOn}
 use Rattle.ref_machine_memory.proofs.Evolving.{evolves_same}
 use Rattle.ref_machine_memory.proofs.Objects.{relabelled_evolves}
 use Rattle.ref_machine_kinds.proofs.LeadingConditions.{IfSome}
-use Rattle.ref_machine_marked.proofs.Leading.{does_from}
-use Rattle.ref_machine_marked.proofs.Loops.{does_behind_loop}
-use Rattle.ref_machine_marked.proofs.Labels.{found_does}
+use Rattle.ref_machine_marked_items.proofs.Leading.{does_from}
+use Rattle.ref_machine_marked_items.proofs.Loops.{does_behind_loop}
+use Rattle.ref_machine_marked_items.proofs.Labels.{found_does}
 use Rattle.ref_machine_tests.proofs.MatchedCases.{IsMatched, matched}
 use Rattle.ref_machine_marked_turns.proofs.Replies.{comes_at}
 use Rattle.ref_machine_marked_turns.proofs.Keeping.{room_kept, Newest, newest}

@@ -36,12 +36,12 @@ use Rattle.ref_machine_marked.specs.MarkedStatements.{MarkedUnit}
 use Rattle.ref_machine_marked.specs.MarkedItems.{left_marks, Does}
 use Rattle.ref_machine_marked.specs.MarkedStates.{Runs}
 use Rattle.ref_machine_marked_turns.specs.KeptMarks.{RunsOn, TurnsKeepMarks}
-use Rattle.ref_machine_marked.proofs.Leading.{Through, does_from}
-use Rattle.ref_machine_marked.proofs.LeadingTerms.{value_leads, unused_leads, address_leads}
-use Rattle.ref_machine_marked.proofs.LeadingStatements.{while_through, do_through, for_through, statement_through}
-use Rattle.ref_machine_marked.proofs.Loops.{does_behind_loop, does_behind_turn}
-use Rattle.ref_machine_marked.proofs.Labels.{label_does}
-use Rattle.ref_machine_marked.proofs.Calls.{behind_does}
+use Rattle.ref_machine_marked_items.proofs.Leading.{Through, does_from}
+use Rattle.ref_machine_marked_items.proofs.LeadingTerms.{value_leads, unused_leads, address_leads}
+use Rattle.ref_machine_marked_items.proofs.LeadingStatements.{while_through, do_through, for_through, statement_through}
+use Rattle.ref_machine_marked_items.proofs.Loops.{does_behind_loop, does_behind_turn}
+use Rattle.ref_machine_marked_items.proofs.Labels.{label_does}
+use Rattle.ref_machine_marked_items.proofs.Calls.{behind_does}
 use Rattle.ref_machine_marked_turns.proofs.Replies.{comes_behind, comes_at}
 use Rattle.ref_machine_marked_turns.proofs.Keeping.{room_kept, stables_kept, Newest, newest, Found, found_at}
 use Rattle.ref_machine_marked_turns.proofs.Changes as changes

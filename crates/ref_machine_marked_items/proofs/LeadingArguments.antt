@@ -8,7 +8,7 @@ use Rattle.ref_machine.specs.TermItems.{arguments, argument_count}
 use Rattle.ref_machine_marks.specs.Marks.{Mark, AreStable}
 use Rattle.ref_machine_marked.specs.MarkedTerms.{term_mark, argument_marks, HaveParameters, MarkedTerms}
 use Rattle.ref_machine_marked.specs.MarkedItems.{by_type, parameter_marks}
-use Rattle.ref_machine_marked.proofs.Leading.{Leads, stable_above}
+use Rattle.ref_machine_marked_items.proofs.Leading.{Leads, stable_above}
 
 abbrev pub stacked : TermTrees → List Mark → List Mark
 stacked tree.End ks = ks

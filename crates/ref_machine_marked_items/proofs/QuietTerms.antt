@@ -1,5 +1,5 @@
 -- The items of terms that read memory and do not change it lead to what is known of their values.
-use Rattle.std.proofs.Common.{◌≡◌, ℤ, pos, Bool, true, false, List, [], ◌∷◌, ◌++◌, Option, Some, inl, inr, refl, ap, sym, subst, ◌∙◌}
+use Rattle.std.proofs.Common.{◌≡◌, ℤ, pos, Bool, true, false, List, [], ◌∷◌, Option, inl, inr, refl, ap, sym, subst, ◌∙◌}
 use Rattle.cc_base.specs.IntegerTypes.{wrap_into}
 use Rattle.cc_base.specs.declared.diagnostics.Place.{Place}
 use Rattle.cc_base.specs.declared.int_types.IntType.{IntType}
@@ -19,16 +19,16 @@ use Rattle.ref_machine.specs.Operations.{Operation}
 use Rattle.ref_machine.specs.Items as item
 use Rattle.ref_machine.specs.Items.{Item}
 use Rattle.ref_machine.specs.TermItems.{operating}
-use Rattle.ref_machine.specs.ConditionItems.{condition, choice_of, truth_of, logical, conditional, term_items}
+use Rattle.ref_machine.specs.ConditionItems.{choice_of, truth_of, term_items}
 use Rattle.ref_machine_marks.specs.Marks.{Mark, Exactly, Naming, Null, Loaded}
 use Rattle.ref_machine_marks.specs.MarkOperations as marks
 use Rattle.ref_machine_marks.specs.MarkOperations.{number_of_truth, IsKind, IsScalar, ConvertsTo, MarkOperates}
 use Rattle.ref_machine_marked.specs.ExactTerms.{is_true, Results, ExactTerm, NullTerm}
 use Rattle.ref_machine_marked.specs.MarkedTerms.{SideTerm, Quiet}
 use Rattle.ref_machine_marked.specs.MarkedItems.{quietly, named, Effect}
-use Rattle.ref_machine_marked.proofs.ExactOperands.{Right, both_right, both_failed, either_right, either_held, first_arm, second_arm}
-use Rattle.ref_machine_marked.proofs.Leading.{Through, Leads, leads_to}
-use Rattle.ref_machine_marked.proofs.LeadingConditions.{exact_choice_through, exact_condition_through}
+use Rattle.ref_machine_marked_items.proofs.ExactOperands.{Right, both_right, both_failed, either_right, either_held, first_arm, second_arm}
+use Rattle.ref_machine_marked_items.proofs.Leading.{Through, Leads, leads_to}
+use Rattle.ref_machine_marked_items.proofs.LeadingConditions.{exact_choice_through, exact_condition_through}
 
 -- ---- types
 

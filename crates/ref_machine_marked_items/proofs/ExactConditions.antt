@@ -1,5 +1,5 @@
 -- Terms that are computed without memory name no object and read no line, so as conditions they are no tests.
-use Rattle.std.proofs.Common.{◌≡◌, ℤ, pos, Bool, true, false, Option, Some, None, refl, ap, subst, sym, ◌∙◌}
+use Rattle.std.proofs.Common.{◌≡◌, ℤ, Bool, true, false, Option, Some, None, refl, ap, ◌∙◌}
 use Rattle.cc_base.specs.declared.integer_operators.Rel.{Rel}
 use Rattle.cc_base.specs.declared.int_types.IntType.{IntType}
 use Rattle.c_layout.specs.CheckedTrees as tree
@@ -7,7 +7,6 @@ use Rattle.c_layout.specs.CheckedTrees.{TermTree, Typed}
 use Rattle.c_layout.specs.CheckedUnits.{UnitView}
 use Rattle.c_layout.specs.declared.checked_tree.checked_terms.ConversionKind.TheVariants.{Implicit}
 use Rattle.c_layout.specs.declared.data_model.Model.{Model}
-use Rattle.flow_lower_conditions.specs.declared.branch_tests.NamedObject.{NamedObject}
 use Rattle.flow_lower_conditions.specs.Conditions.{line_call_in, line_call, read_test, read_by}
 use Rattle.flow_lower_conditions.specs.Tests.{named_by, named, or_else, named_or_assigned, constant_of}
 use Rattle.flow_lower_tasks.specs.TermKinds.{meaning, integer_type, term_type, term_form, peeled, loaded, assigned}

@@ -9,7 +9,7 @@ use Rattle.ref_machine.specs.TermItems.{if_used}
 use Rattle.ref_machine_marks.specs.Marks.{Mark, AreStable}
 use Rattle.ref_machine_marked.specs.MarkedTerms.{term_mark, MarkedTerm}
 use Rattle.ref_machine_marked.specs.MarkedItems.{by_type, Effect, AllDo, Does}
-use Rattle.ref_machine_marked.proofs.TypeMarks.{stable_type}
+use Rattle.ref_machine_marked_items.proofs.TypeMarks.{stable_type}
 
 -- the marks of the values where one more was to be used or not
 abbrev pub with_value : Bool → Mark → List Mark → List Mark

@@ -14,10 +14,10 @@ use Rattle.ref_machine_kinds.specs.KindedItems.{Encloses}
 use Rattle.ref_machine_kinds.proofs.Loops.{encloses_more, no_loop, in_loop, in_switch}
 use Rattle.ref_machine_marked.specs.MarkedStatements.{MarkedStatement, MarkedStatements, MarkedFunction}
 use Rattle.ref_machine_marked.specs.MarkedItems.{left_marks, Turns, Does}
-use Rattle.ref_machine_marked.proofs.Leading.{through_does}
+use Rattle.ref_machine_marked_items.proofs.Leading.{through_does}
 use Rattle.ref_machine_kinds.proofs.LeadingConditions.{IfSome}
 use Rattle.ref_machine_kinds.proofs.LeadingStatements.{listed_statements}
-use Rattle.ref_machine_marked.proofs.LeadingStatements.{standing, statements_through, turning, test_through, test_encloses, step_through, step_encloses}
+use Rattle.ref_machine_marked_items.proofs.LeadingStatements.{standing, statements_through, turning, test_through, test_encloses, step_through, step_encloses}
 
 -- ---- one of two
 

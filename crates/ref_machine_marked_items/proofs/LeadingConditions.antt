@@ -1,5 +1,5 @@
 -- The items of conditions lead to what both of the ways behind them lead to, or that way which is gone.
-use Rattle.std.proofs.Common.{◌≡◌, ℤ, Bool, true, false, not, List, [], ◌∷◌, ◌++◌, reverse, Option, Some, None, inl, inr, refl, ap, sym, subst, ◌∙◌}
+use Rattle.std.proofs.Common.{◌≡◌, ℤ, Bool, true, false, not, List, [], ◌∷◌, ◌++◌, reverse, Option, Some, None, inl, inr, refl, ap, ◌∙◌}
 use Rattle.cc_base.specs.declared.diagnostics.Place.{Place}
 use Rattle.c_layout.specs.CheckedTrees as tree
 use Rattle.c_layout.specs.CheckedTrees.{TermTree, TermTrees, Typed}
@@ -15,12 +15,12 @@ use Rattle.ref_machine.specs.ConditionItems.{line_items, leaf_by, leaf, conditio
 use Rattle.ref_machine_marks.specs.Marks.{Mark, Exactly, Ranged, Pointing, Tested, AreStable}
 use Rattle.ref_machine_marked.specs.ExactTerms.{is_true, ExactTerm}
 use Rattle.ref_machine_marked.specs.MarkedTerms.{term_mark, Decides, Operand, TestTerm, HasTest, HasTests, MarkedTerm}
-use Rattle.ref_machine_marked.specs.MarkedItems.{Evaluates, by_type, quietly, as_stored, as_test, may_hold, may_fail}
-use Rattle.ref_machine_marked.proofs.Leading.{Through, all_through, through_both}
-use Rattle.ref_machine_marked.proofs.LeadingArguments.{stacked, arguments_lead, stacked_reverse}
-use Rattle.ref_machine_marked.proofs.LineReads.{ReadsLine, LineRead, line_read}
-use Rattle.ref_machine_marked.proofs.ExactOperands.{negation_is, Right, right_is, both_right, both_failed, either_right, either_held, first_arm, second_arm}
-use Rattle.ref_machine_marked.proofs.ExactConditions.{nothing_read, no_test}
+use Rattle.ref_machine_marked.specs.MarkedItems.{Evaluates, by_type, quietly, as_stored, as_test}
+use Rattle.ref_machine_marked_items.proofs.Leading.{Through, all_through, through_both}
+use Rattle.ref_machine_marked_items.proofs.LeadingArguments.{stacked, arguments_lead, stacked_reverse}
+use Rattle.ref_machine_marked_items.proofs.LineReads.{ReadsLine, LineRead, line_read}
+use Rattle.ref_machine_marked_items.proofs.ExactOperands.{negation_is, Right, right_is, both_right, both_failed, either_right, either_held, first_arm, second_arm}
+use Rattle.ref_machine_marked_items.proofs.ExactConditions.{nothing_read, no_test}
 
 -- ---- truth values
 

@@ -1,5 +1,5 @@
 -- A condition that reads a line takes a pointer, a number and a pointer.
-use Rattle.std.proofs.Common.{◌≡◌, ◌⊎◌, pos, Bool, true, false, cond, List, [], ◌∷◌, Option, Some, None, inl, inr, refl, ap, sym, subst, ◌∙◌}
+use Rattle.std.proofs.Common.{◌≡◌, pos, Bool, true, false, cond, List, [], ◌∷◌, Option, Some, None, inl, inr, refl, ap, sym, subst, ◌∙◌}
 use Rattle.cc_base.specs.declared.diagnostics.Place.{Place}
 use Rattle.cc_base.specs.declared.int_types.IntType.{IntType}
 use Rattle.c_layout.specs.CheckedTrees as tree
@@ -11,15 +11,14 @@ use Rattle.c_layout.specs.declared.library_functions.LibFn.{LibFn}
 use Rattle.c_layout.specs.declared.library_functions.LibFn.TheVariants.{Fgets}
 use Rattle.c_layout.specs.declared.syntax_tree.expressions.BinaryOp.{BinaryOp}
 use Rattle.c_layout.specs.declared.syntax_tree.expressions.BinaryOp.TheVariants.{Equal, NotEqual}
-use Rattle.flow_lower_tasks.specs.TermKinds.{peeled, is_null_constant}
+use Rattle.flow_lower_tasks.specs.TermKinds.{is_null_constant}
 use Rattle.flow_lower_conditions.specs.Conditions.{LineCallView, line_call_of, line_call_in, line_call, line_call_beside, ReadView, read_test, compared_read, read_by}
 use Rattle.ref_machine_kinds.proofs.LeadingConditions.{IfSome}
 use Rattle.ref_machine_operations.specs.Kinds.{Kind, Number, Address}
-use Rattle.ref_machine_marks.specs.Marks.{Mark, Ranged, Exactly, Pointing, Naming, Null, Loaded, Converted, Tested}
+use Rattle.ref_machine_marks.specs.Marks.{Mark, Ranged, Pointing}
 use Rattle.ref_machine_marks.specs.MarkOperations.{AreOfKinds}
-use Rattle.ref_machine_marked.specs.ExactTerms.{ExactTerm}
 use Rattle.ref_machine_marked.specs.MarkedTerms.{argument_marks, CallsLibrary, MarkedTerm, MarkedTerms}
-use Rattle.ref_machine_marked.proofs.ExactConditions.{no_line}
+use Rattle.ref_machine_marked_items.proofs.ExactConditions.{no_line}
 
 -- a call that reads a line takes a pointer, a number and a pointer
 pub record ReadsLine (u : UnitView) (args : TermTrees) : Type 0 where

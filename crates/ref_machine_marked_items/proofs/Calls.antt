@@ -3,7 +3,7 @@ use Rattle.std.proofs.Common.{◌≡◌, ◌<◌, ◌≤◌, ℕ, zero, suc, ◌
 use Rattle.std.specs.List.{slice_get}
 use Rattle.c_layout.specs.CheckedTrees.{statement_trees}
 use Rattle.c_layout.specs.CheckedUnits.{UnitView, FunctionView}
-use Rattle.flow_lower_tasks.specs.TermKinds.{is_void, scalar_of}
+use Rattle.flow_lower_tasks.specs.TermKinds.{is_void}
 use Rattle.flow_lower_functions.specs.Functions.{numbers_from, local_type}
 use Rattle.lib_models_effects.specs.LibraryChecks.{most_size}
 use Rattle.ref_machine.specs.Items as item
@@ -19,9 +19,9 @@ use Rattle.ref_machine_marked.specs.MarkedTerms.{local_mark}
 use Rattle.ref_machine_marked.specs.MarkedStatements.{MarkedFunction}
 use Rattle.ref_machine_marked.specs.MarkedItems as items
 use Rattle.ref_machine_marked.specs.MarkedItems.{left_marks, parameter_marks, Does}
-use Rattle.ref_machine_marked.proofs.TypeMarks.{stable_type, free_type}
-use Rattle.ref_machine_marked.proofs.Leading.{Through, Leads, through_both, through_does}
-use Rattle.ref_machine_marked.proofs.Labels.{body_does}
+use Rattle.ref_machine_marked_items.proofs.TypeMarks.{stable_type, free_type}
+use Rattle.ref_machine_marked_items.proofs.Leading.{Through, Leads, through_both, through_does}
+use Rattle.ref_machine_marked_items.proofs.Labels.{body_does}
 
 none_less : {A : Type 0} (n : ℕ) → zero ≡ suc n → A
 none_less n e = let no : ⊥ = omega arith in absurd no

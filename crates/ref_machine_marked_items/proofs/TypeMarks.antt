@@ -10,7 +10,7 @@ use Rattle.flow_program.specs.declared.machine_instructions.Scalar as declared
 use Rattle.flow_program.specs.declared.machine_instructions.Scalar.TheVariants as of
 use Rattle.ref_machine.specs.Operations.{LeftFirst}
 use Rattle.ref_machine.specs.TermItems.{order_of}
-use Rattle.ref_machine_marks.specs.Marks.{Mark, Ranged, Exactly, Pointing, Null, mark_of, mark_of_type, is_stable, is_free}
+use Rattle.ref_machine_marks.specs.Marks.{Ranged, Exactly, Pointing, mark_of, mark_of_type, is_stable, is_free}
 use Rattle.ref_machine_marks.specs.MarkOperations.{ConvertsTo}
 
 no_pointer : (kind : IntType) → Ranged kind ≡ Pointing → ⊥

@@ -2,7 +2,7 @@
 use Rattle.std.proofs.Common.{◌≡◌, ◌≤◌, ℕ, Bool, true, false, List, [], ◌∷◌, ◌++◌, Option, Some, None, inl, refl, ap, sym, arith}
 use Rattle.cc_base.specs.declared.diagnostics.Place.{Place}
 use Rattle.c_layout.specs.CheckedTrees as tree
-use Rattle.c_layout.specs.CheckedTrees.{TermTree, StatementTree, StatementTrees, statement_trees, StoreTree, StoreValue, StoreCopy, StoreText}
+use Rattle.c_layout.specs.CheckedTrees.{TermTree, StatementTree, StatementTrees, StoreTree, StoreValue, StoreCopy, StoreText}
 use Rattle.c_layout.specs.CheckedUnits.{UnitView, FunctionView}
 use Rattle.c_layout.specs.declared.checked_tree.checked_statements.CaseLabel.{CaseLabel}
 use Rattle.c_layout.specs.declared.checked_tree.checked_terms.ObjectRef.TheVariants.{Local}
@@ -13,21 +13,20 @@ use Rattle.lib_models_effects.specs.LibraryChecks.{most_size}
 use Rattle.ref_machine.specs.Operations as op
 use Rattle.ref_machine.specs.Items as item
 use Rattle.ref_machine.specs.Items.{Item}
-use Rattle.ref_machine.specs.StatementItems.{statements, start_scalar, stored, all_stored, while_turn, do_test, do_turn, clause, for_step, for_body, for_turn, returned, of_statement, list_statements}
+use Rattle.ref_machine.specs.StatementItems.{statements, start_scalar, stored, all_stored, while_turn, do_test, do_turn, clause, for_step, for_body, for_turn, returned, of_statement}
 use Rattle.ref_machine_returns.specs.StandingJumps.{JumpsStand, AllJumpsStand}
 use Rattle.ref_machine_kinds.specs.KindedTerms.{HasObject}
 use Rattle.ref_machine_kinds.specs.KindedItems.{ends_loop, Encloses}
 use Rattle.ref_machine_kinds.specs.KindedStatements.{HasCases}
-use Rattle.ref_machine_kinds.proofs.LeadingStatements.{listed_statements}
 use Rattle.ref_machine_kinds.proofs.Loops.{loop_ends_more, encloses_more, no_loop, in_loop, in_switch}
 use Rattle.ref_machine_marks.specs.Marks.{Mark, Ranged, Pointing, mark_of_type}
 use Rattle.ref_machine_marks.specs.MarkOperations as marks
-use Rattle.ref_machine_marked.specs.MarkedTerms.{term_mark, MarkedTerm, MarkedCondition, IsScalarType}
+use Rattle.ref_machine_marked.specs.MarkedTerms.{term_mark, MarkedTerm, IsScalarType}
 use Rattle.ref_machine_marked.specs.MarkedStatements.{MarkedIf, MarkedStep, SelectsBy, MarkedStore, MarkedStores, MarkedReturn, MarkedStatement, MarkedStatements}
 use Rattle.ref_machine_marked.specs.MarkedItems as items
 use Rattle.ref_machine_marked.specs.MarkedItems.{Evaluates, by_type, quietly, PointsInto, Stands, Turns, Selects, SelectsFrom}
-use Rattle.ref_machine_marked.proofs.Leading.{Through, Leads, through_both, leads_both}
-use Rattle.ref_machine_marked.proofs.LeadingConditions.{condition_through}
+use Rattle.ref_machine_marked_items.proofs.Leading.{Through, Leads, through_both, leads_both}
+use Rattle.ref_machine_marked_items.proofs.LeadingConditions.{condition_through}
 
 module _ (u : UnitView) (f : FunctionView) (called : Option Bool) where
   nothing_small : 0 ≤ most_size u.model

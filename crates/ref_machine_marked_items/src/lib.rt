@@ -1,0 +1,2 @@
+//! The items of terms, conditions, statements and calls do to marks what is known of them, and so do those behind labels.
+#![tactic(auto)]
