@@ -24,7 +24,7 @@ use Rattle.lib_models_effects.specs.LibraryCalls.{getchar, and_character, line_o
 use Rattle.ref_machine_operations.specs.Kinds.{Address, IsOf}
 use Rattle.ref_machine_marks.specs.Marks.{Pointing, mark_of, Has, IsBounded}
 use Rattle.ref_machine_marks.specs.ProperMemory.{IsProper, Evolves}
-use Rattle.ref_machine_memory.specs.GoingWorlds.{WhenGoing, IsProperScalar, AreProperScalars, IsProperResult, IsNumeral, Keeps, Tells, Gives}
+use Rattle.ref_machine_memory.specs.GoingWorlds.{WhenGoing, IsProperScalar, AreProperScalars, IsProperResult, IsNumeral, Keeps, Tells, Gives, Same, Told, Developed, Given}
 use Rattle.ref_machine_memory.proofs.Replies.{when_more, when_behind, when_kept, when_either, when_unless, IsDrawn, drawn_when, drawn_keeps}
 use Rattle.ref_machine_memory.proofs.ProperBytes.{AreProperContents, each_both}
 use Rattle.ref_machine_memory.proofs.Evolving.{evolves_same, evolves_kept, evolves_further}
@@ -34,14 +34,6 @@ use Rattle.ref_machine_memory.proofs.Copying.{copy_call_gives, memset_gives, wit
 use Rattle.ref_machine_memory.proofs.Strings.{strlen_tells, strcmp_tells, strcpy_gives, strncpy_gives, strcat_gives}
 
 -- ---- output, and characters
-
--- whatever is given, memory is as before
-abbrev Same : {A : Type 0} → Memory → A → World → Type 0
-Same before x w = w.memory ≡ before
-
--- a number is given too
-abbrev Told : Memory → Scalar → World → Type 0
-Told before v w = IsNumeral v × (w.memory ≡ before)
 
 pub getchar_tells : (m : Model) (w : World) → Tells w.memory (getchar m w)
 getchar_tells m w = when_kept Told w.memory (drawn w (negsuc 0) (pos 255)) _ (drawn_keeps w (negsuc 0) (pos 255)) (λ c w. (tt, refl))
@@ -111,10 +103,6 @@ character_small (negsuc k) within =
     absurd (omega (arith, ints, h))
 
 module _ (m : Model) where
-  -- a value is proper, and memory evolves
-  abbrev GivesScalar : Memory → Scalar → World → Type 0
-  GivesScalar before v w = IsProperScalar m v × Evolves m before w.memory
-
   -- characters that are read, by which memory is as before
   abbrev GivesContents : Memory → List Content → World → Type 0
   GivesContents before cs w = AreProperContents m cs × (w.memory ≡ before)
@@ -126,22 +114,22 @@ module _ (m : Model) where
   ended_proper : (cs : List Content) → AreProperContents m cs → AreProperContents m (cs ++ number 0 no_labels ∷ [])
   ended_proper cs are = each_both (IsProper m) cs (number 0 no_labels ∷ []) are (omega arith, tt)
 
-  line_read_gives : (p : MachinePointer) (size : ℕ) (to : Reach) (k : ℤ) (w : World) → IsBounded m p → WhenGoing (GivesScalar w.memory) (line_read m p size to k w)
-  line_read_gives p size to k w is = when_behind (GivesContents w.memory) (GivesScalar w.memory) (line_of m (unsigned_abs k) w) _ (line_gives (unsigned_abs k) w) (λ cs after are. (is, evolves_further m w.memory after.memory _ (evolves_kept m w.memory after.memory are.1) (with_contents_evolves m after to (cs ++ number 0 no_labels ∷ []) (λ _. ended_proper cs are.0))))
+  line_read_gives : (p : MachinePointer) (size : ℕ) (to : Reach) (k : ℤ) (w : World) → IsBounded m p → Gives m w.memory (line_read m p size to k w)
+  line_read_gives p size to k w is = when_behind (GivesContents w.memory) (Given m w.memory) (line_of m (unsigned_abs k) w) _ (line_gives (unsigned_abs k) w) (λ cs after are. (is, evolves_further m w.memory after.memory _ (evolves_kept m w.memory after.memory are.1) (with_contents_evolves m after to (cs ++ number 0 no_labels ∷ []) (λ _. ended_proper cs are.0))))
 
-  if_read_gives : (p : MachinePointer) (size : ℕ) (to : Reach) (n : ℤ) (w : World) → IsBounded m p → WhenGoing (GivesScalar w.memory) (if_read m p size to n w)
+  if_read_gives : (p : MachinePointer) (size : ℕ) (to : Reach) (n : ℤ) (w : World) → IsBounded m p → Gives m w.memory (if_read m p size to n w)
   if_read_gives p size to (pos zero) w is = (tt, evolves_same m w.memory)
-  if_read_gives p size to (pos (suc n)) w is = when_kept GivesScalar w.memory (drawn w (pos 0) (pos size -ℤ pos 1)) (line_read m p size to) (drawn_keeps w (pos 0) (pos size -ℤ pos 1)) (λ k w. line_read_gives p size to k w is)
-  if_read_gives p size to (negsuc n) w is = when_kept GivesScalar w.memory (drawn w (pos 0) (pos size -ℤ pos 1)) (line_read m p size to) (drawn_keeps w (pos 0) (pos size -ℤ pos 1)) (λ k w. line_read_gives p size to k w is)
+  if_read_gives p size to (pos (suc n)) w is = when_kept (Given m) w.memory (drawn w (pos 0) (pos size -ℤ pos 1)) (line_read m p size to) (drawn_keeps w (pos 0) (pos size -ℤ pos 1)) (λ k w. line_read_gives p size to k w is)
+  if_read_gives p size to (negsuc n) w is = when_kept (Given m) w.memory (drawn w (pos 0) (pos size -ℤ pos 1)) (line_read m p size to) (drawn_keeps w (pos 0) (pos size -ℤ pos 1)) (λ k w. line_read_gives p size to k w is)
 
-  line_into_gives : (p : MachinePointer) (size : ℕ) (to : Reach) (w : World) → IsBounded m p → WhenGoing (GivesScalar w.memory) (line_into m p size to w)
+  line_into_gives : (p : MachinePointer) (size : ℕ) (to : Reach) (w : World) → IsBounded m p → Gives m w.memory (line_into m p size to w)
   line_into_gives p size to w is =
-      when_kept GivesScalar w.memory (fitting size to w) _ (fitting_keeps size to w) (λ _ w.
-      when_kept GivesScalar w.memory (writable size to w) _ (writable_keeps size to w) (λ _ w.
-      when_kept GivesScalar w.memory (drawn w (pos 0) (pos 1)) (if_read m p size to) (drawn_keeps w (pos 0) (pos 1)) (λ n w. if_read_gives p size to n w is)))
+      when_kept (Given m) w.memory (fitting size to w) _ (fitting_keeps size to w) (λ _ w.
+      when_kept (Given m) w.memory (writable size to w) _ (writable_keeps size to w) (λ _ w.
+      when_kept (Given m) w.memory (drawn w (pos 0) (pos 1)) (if_read m p size to) (drawn_keeps w (pos 0) (pos 1)) (λ n w. if_read_gives p size to n w is)))
 
   fgets_pointer : (p stream : MachinePointer) (n : ℤ) (labels : Labels) (w : World) → IsBounded m p → Gives m w.memory (fgets m (pointer p ∷ (integer n labels ∷ (pointer stream ∷ []))) w)
-  fgets_pointer p stream n labels w is = when_kept GivesScalar w.memory (reached p (with_size w labels)) _ (reached_keeps p (with_size w labels)) (λ to w. when_either (GivesScalar w.memory) (int_lt n (pos 1)) (stops Left w) (line_into m p (size_of n) to w) tt (line_into_gives p (size_of n) to w is))
+  fgets_pointer p stream n labels w is = when_kept (Given m) w.memory (reached p (with_size w labels)) _ (reached_keeps p (with_size w labels)) (λ to w. when_either (Given m w.memory) (int_lt n (pos 1)) (stops Left w) (line_into m p (size_of n) to w) tt (line_into_gives p (size_of n) to w is))
 
   pub fgets_gives : (vs : List Scalar) (w : World) → AreProperScalars m vs → Gives m w.memory (fgets m vs w)
   fgets_gives [] w are = tt
@@ -159,23 +147,20 @@ module _ (m : Model) where
   GivesResult before v w = IsProperResult m v × Evolves m before w.memory
 
   result_gives : (before : Memory) (r : Reply Scalar) → Gives m before r → WhenGoing (GivesResult before) (with_result r)
-  result_gives before r h = when_behind (GivesScalar before) (GivesResult before) r _ h (λ v w is. is)
+  result_gives before r h = when_behind (Given m before) (GivesResult before) r _ h (λ v w is. is)
 
   told_gives : (before : Memory) (r : Reply Scalar) → Tells before r → WhenGoing (GivesResult before) (with_result r)
-  told_gives before r h = result_gives before r (when_more (Told before) (GivesScalar before) r (λ v after is. (numeral_proper v is.0, evolves_kept m before after.memory is.1)) h)
+  told_gives before r h = result_gives before r (when_more (Told before) (Given m before) r (λ v after is. (numeral_proper v is.0, evolves_kept m before after.memory is.1)) h)
     where
       numeral_proper : (v : Scalar) → IsNumeral v → IsProperScalar m v
       numeral_proper (integer n labels) is = tt
       numeral_proper (pointer p) is = absurd is
 
-  abbrev Evolving : Memory → Unit {0} → World → Type 0
-  Evolving before x w = Evolves m before w.memory
-
   pub library_gives : (wanted : Option ℕ) (function : LibFn) (vs : List Scalar) (w : World) → AreProperScalars m vs → WhenGoing (λ v after. IsProperResult m v × Evolves m w.memory after.memory) (library m wanted function vs w)
   library_gives wanted f.Malloc vs w proper = result_gives w.memory (malloc m wanted vs w) (malloc_gives m wanted vs w)
   library_gives wanted f.Calloc vs w proper = result_gives w.memory (calloc m wanted vs w) (calloc_gives m wanted vs w)
   library_gives wanted f.Realloc vs w proper = result_gives w.memory (realloc m wanted vs w) (realloc_gives m wanted vs w)
-  library_gives wanted f.Free vs w proper = when_behind (Evolving w.memory) (GivesResult w.memory) (free vs w) _ (free_develops m vs w) (λ _ after is. (tt, is))
+  library_gives wanted f.Free vs w proper = when_behind (Developed m w.memory) (GivesResult w.memory) (free vs w) _ (free_develops m vs w) (λ _ after is. (tt, is))
   library_gives wanted f.Memcpy vs w proper = result_gives w.memory (memcpy vs w) (copy_call_gives m true vs w proper)
   library_gives wanted f.Memmove vs w proper = result_gives w.memory (memmove vs w) (copy_call_gives m false vs w proper)
   library_gives wanted f.Memset vs w proper = result_gives w.memory (memset vs w) (memset_gives m vs w proper)

@@ -9,7 +9,7 @@ use Rattle.lib_models_effects.specs.Worlds.{World, Reply, goes, stops, behind, u
 use Rattle.lib_models_effects.specs.Operands.{with_number, with_pointer}
 use Rattle.ref_machine_operations.specs.GoingReplies.{NotStuck}
 use Rattle.ref_machine_marks.specs.MarkLaws.{Comes}
-use Rattle.ref_machine_memory.specs.GoingWorlds.{WhenGoing, Keeps}
+use Rattle.ref_machine_memory.specs.GoingWorlds.{WhenGoing, Keeps, Same}
 
 -- where it is not stuck either
 pub comes_when : {A : Type 0} (P : A → World → Type 0) (r : Reply A) → NotStuck r → WhenGoing P r → Comes P r
@@ -72,4 +72,4 @@ pub drawn_when : (w : World) (least most : ℤ) → WhenGoing (IsDrawn w.memory 
 drawn_when w least most = draws_when w least most w.draws
 
 pub drawn_keeps : (w : World) (least most : ℤ) → Keeps w.memory (drawn w least most)
-drawn_keeps w least most = when_more (IsDrawn w.memory least most) (λ x after. after.memory ≡ w.memory) (drawn w least most) (λ x after is. is.same) (drawn_when w least most)
+drawn_keeps w least most = when_more (IsDrawn w.memory least most) (Same w.memory) (drawn w least most) (λ x after is. is.same) (drawn_when w least most)
