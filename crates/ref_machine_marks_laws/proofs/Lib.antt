@@ -1,3 +1,5 @@
 pub mod StableMarks
 mod Keeping
 mod Accessing
+mod Computing
+mod GivenNumbers

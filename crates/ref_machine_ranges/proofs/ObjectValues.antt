@@ -35,7 +35,7 @@ proper_region m memory i offset size proper k c e =
     let p : IsProper m r.0.content = proper i (offset + k) r.0 s.1 in
     subst (IsProper m) r.2 p
 
-region_long : (bytes : List Byte) (offset size : ℕ) → length (contents (region bytes offset size)) ≤ size
+pub region_long : (bytes : List Byte) (offset size : ℕ) → length (contents (region bytes offset size)) ≤ size
 region_long bytes offset size = let e = length-map (region bytes offset size) (λ b. b.content) in let f = length-take size (drop offset bytes) in omega arith
 
 -- ---- scalars of a kind

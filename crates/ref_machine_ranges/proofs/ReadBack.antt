@@ -50,7 +50,7 @@ number_by_sign : (signed : Bool) (kind : IntType) (u : ℕ) (ns : List Labelled)
 number_by_sign true kind u ns e p l s h = sym (rw (e, l, s) (wrapped_signed (2 ^ (8 * kind.bytes)) (2 ^ (8 * kind.bytes - 1)) u (pos u) (halves (8 * kind.bytes) (omega arith)) (pow_pos (8 * kind.bytes - 1)) h (inl refl)))
 number_by_sign false kind u ns e p l s h = sym (rw (e, s) (wrapped_unsigned (2 ^ (8 * kind.bytes)) u (pos u) h (inl refl)))
 
-bits_below : (size : ℕ) (n : ℤ) → bits_in size n < 2 ^ (8 * size)
+pub bits_below : (size : ℕ) (n : ℤ) → bits_in size n < 2 ^ (8 * size)
 bits_below size n = let r = rem_range n (2 ^ (8 * size)) (pow_pos (8 * size)) in omega (arith, ints)
 
 -- the labels of the number are those of its bytes
