@@ -1,5 +1,5 @@
 -- The numbers that calls of the library give.
-use Rattle.std.proofs.Common.{◌≡◌, ◌≤◌, ◌<◌, ◌-◌, ℕ, zero, suc, Bool, true, false, not, cond, ◌&&◌, Option, Some, None, List, [], ◌∷◌, length, arith, refl, sym, subst, ap, ◌∙◌, inl, inr}
+use Rattle.std.proofs.Common.{◌≡◌, ◌≤◌, ◌<◌, ◌+◌, ℕ, zero, suc, Bool, true, false, not, cond, ◌&&◌, Option, Some, None, List, [], ◌∷◌, length, arith, refl, sym, subst, ap, ◌∙◌, inl, inr}
 use Rattle.std.specs.Prelude.{ℤ, pos, negsuc, ◌≤ℤ◌, ◌+ℤ◌, ◌-ℤ◌, int_le, nat_lt}
 use Rattle.std.proofs.lemmas.Bool.{cases_Bool, and_parts, cond_both}
 use Rattle.std.proofs.lemmas.Int.{ints}
@@ -134,7 +134,7 @@ compare_between p q w =
     when_behind Anything IsOrder (reached p w) _ (any_going (reached p w)) (λ a w _.
     when_behind Anything IsOrder (reached q w) _ (any_going (reached q w)) (λ b w _.
     when_behind Anything IsOrder (string_length a w) _ (any_going (string_length a w)) (λ m w _.
-    when_behind Anything IsOrder (string_length b w) _ (any_going (string_length b w)) (λ n w _. (order_low _ _, order_high _ _)))))
+    when_behind Anything IsOrder (string_length b w) _ (any_going (string_length b w)) (λ n w _. (order_low (contents (bytes_from w a (m + 1))) (contents (bytes_from w b (n + 1))), order_high (contents (bytes_from w a (m + 1))) (contents (bytes_from w b (n + 1))))))))
 
 strcmp_between : (vs : List Scalar) (w : World) → WhenGoing IsOrder (strcmp vs w)
 strcmp_between [] w = tt
@@ -184,10 +184,10 @@ truth_between true w = (omega (arith, ints), omega (arith, ints))
 truth_between false w = (omega (arith, ints), omega (arith, ints))
 
 upper_between : (c : ℤ) (labels : Labels) (w : World) → negsuc 0 ≤ℤ c → c ≤ℤ pos 255 → IsBetween (negsuc 0) (pos 255) (answer f.Toupper c labels) w
-upper_between c labels w lo hi = cond_both (is_lower c) (c -ℤ pos 32) c (λ n. (negsuc 0 ≤ℤ n) × (n ≤ℤ pos 255)) (λ e. let p = and_parts (int_le (pos 97) c) (int_le c (pos 122)) e in let a = le_from _ _ p.0 in (omega (arith, ints, a), omega (arith, ints, hi))) (λ _. (lo, hi))
+upper_between c labels w lo hi = cond_both (is_lower c) (c -ℤ pos 32) c (λ n. (negsuc 0 ≤ℤ n) × (n ≤ℤ pos 255)) (λ e. let p = and_parts (int_le (pos 97) c) (int_le c (pos 122)) e in let a : pos 97 ≤ℤ c = le_from (pos 97) c p.0 in (omega (arith, ints, a), omega (arith, ints, hi))) (λ _. (lo, hi))
 
 lower_between : (c : ℤ) (labels : Labels) (w : World) → negsuc 0 ≤ℤ c → c ≤ℤ pos 255 → IsBetween (negsuc 0) (pos 255) (answer f.Tolower c labels) w
-lower_between c labels w lo hi = cond_both (is_upper c) (c +ℤ pos 32) c (λ n. (negsuc 0 ≤ℤ n) × (n ≤ℤ pos 255)) (λ e. let p = and_parts (int_le (pos 65) c) (int_le c (pos 90)) e in let a = le_from _ _ p.1 in (omega (arith, ints, lo), omega (arith, ints, a))) (λ _. (lo, hi))
+lower_between c labels w lo hi = cond_both (is_upper c) (c +ℤ pos 32) c (λ n. (negsuc 0 ≤ℤ n) × (n ≤ℤ pos 255)) (λ e. let p = and_parts (int_le (pos 65) c) (int_le c (pos 90)) e in let a : c ≤ℤ pos 90 = le_from c (pos 90) p.1 in (omega (arith, ints, lo), omega (arith, ints, a))) (λ _. (lo, hi))
 
 -- ---- all functions
 

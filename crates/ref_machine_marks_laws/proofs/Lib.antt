@@ -3,3 +3,4 @@ mod Keeping
 mod Accessing
 mod Computing
 mod GivenNumbers
+mod Calling
