@@ -1,9 +1,7 @@
 -- Calls of the library, on arguments of their marks.
 use Rattle.std.proofs.Common.{◌≡◌, ℕ, suc, Bool, true, false, cond, Option, Some, None, List, [], ◌∷◌, ◌++◌, length, take, drop, reverse, append_assoc, refl, sym, subst, ap, ◌∙◌}
-use Rattle.std.specs.Prelude.{ℤ, ◌≤ℤ◌}
-use Rattle.std.proofs.Math.Seq.{take-length, drop-length, take-append_seam, drop-append_seam}
+use Rattle.std.proofs.Math.Seq.{take-append_seam, drop-append_seam}
 use Rattle.std.proofs.lemmas.List.{append-nil, length-reverse, reverse-append, reverse-reverse}
-use Rattle.cc_base.specs.IntegerTypes.{in_type}
 use Rattle.c_layout.specs.Types.{Ty}
 use Rattle.c_layout.specs.CheckedUnits.{UnitView}
 use Rattle.c_layout.specs.declared.library_functions.LibFn.{LibFn}
@@ -13,12 +11,12 @@ use Rattle.lib_models_memory.specs.Scalars.{Scalar, integer, pointer}
 use Rattle.lib_models_effects.specs.Worlds.{World, Reply, goes, stops}
 use Rattle.lib_models_effects.specs.LibraryCalls.{library}
 use Rattle.ref_machine.specs.Operations as op
-use Rattle.ref_machine.specs.Operations.{newest, pushing_result, target_size, call_library, perform}
+use Rattle.ref_machine.specs.Operations.{pushing_result, target_size, perform}
 use Rattle.ref_machine_operations.specs.GoingReplies.{IfGoes, NotStuck}
 use Rattle.ref_machine_operations.specs.Kinds.{Kind, Number, Address, IsOf, AreOf}
 use Rattle.ref_machine_operations.specs.TakenKinds.{Accepts, result_kind, with_result, Calls}
 use Rattle.ref_machine_operations.specs.OperationLaws.{OperationsHaveSteps, OperationsKeepKinds}
-use Rattle.ref_machine_marks.specs.Marks.{Mark, Ranged, Exactly, Pointing, Naming, Null, Loaded, Converted, Tested, AreStable, Has, AreMarked}
+use Rattle.ref_machine_marks.specs.Marks.{Mark, Ranged, Pointing, AreStable, Has, AreMarked}
 use Rattle.ref_machine_marks.specs.ProperMemory.{Evolves}
 use Rattle.ref_machine_marks.specs.MarkOperations.{AreOfKinds, least_given, greatest_given, IsGiven, with_given, MarkCalls}
 use Rattle.ref_machine_marks.specs.MarkLaws.{Comes, Leaves}

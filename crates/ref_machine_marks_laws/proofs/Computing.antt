@@ -3,7 +3,6 @@ use Rattle.std.proofs.Common.{◌≡◌, ◌⊎◌, ◌≤◌, ℕ, suc, Bool, t
 use Rattle.std.specs.Prelude.{ℤ, pos, negsuc, ◌≤ℤ◌, ◌-ℤ◌, int_div}
 use Rattle.std.specs.Ordering.{int_eq}
 use Rattle.std.proofs.Math.Nat.{div-le_self}
-use Rattle.std.proofs.lemmas.Bool.{cases_Bool}
 use Rattle.std.proofs.lemmas.Int.{ints}
 use Rattle.cc_base.specs.IntegerTypes.{in_type, wrap_into}
 use Rattle.cc_base.specs.MachineArithmetic.{binary_result, unary_result, holds}
@@ -21,28 +20,28 @@ use Rattle.flow_program.specs.declared.machine_instructions.Scalar.TheVariants a
 use Rattle.lib_models_memory.specs.Labels.{Labels, no_labels}
 use Rattle.lib_models_memory.specs.Bytes.{MachinePointer, null, into}
 use Rattle.lib_models_memory.specs.Scalars.{Scalar, integer, pointer, is_false}
-use Rattle.lib_models_effects.specs.Worlds.{World, Reply, goes, stops, stopped_by, violating, unless}
+use Rattle.lib_models_effects.specs.Worlds.{World, Reply, goes, stops, unless}
 use Rattle.lib_models_effects.specs.LibraryChecks.{most_size}
-use Rattle.lib_models_effects.specs.IntegerEffects.{truth, plain_one, computed, why_none, binary, unary, compare_numbers, negation, as_integer, convert}
-use Rattle.lib_models_effects.specs.PointerEffects.{narrow, shift, offset_of, elements_between, is_ended, share_instance, are_equal, compared, equality, pointers_compared, difference, compare}
+use Rattle.lib_models_effects.specs.IntegerEffects.{truth, plain_one, computed, binary, unary, compare_numbers, negation, convert}
+use Rattle.lib_models_effects.specs.PointerEffects.{narrow, shift, offset_of, elements_between, is_ended, share_instance, are_equal, pointers_compared, difference, compare}
 use Rattle.ref_machine.specs.Items.{NamedTest}
 use Rattle.ref_machine.specs.Operations as op
-use Rattle.ref_machine.specs.Operations.{Order, LeftFirst, RightFirst, perform}
+use Rattle.ref_machine.specs.Operations.{Order, LeftFirst, perform}
 use Rattle.ref_machine_operations.specs.GoingReplies.{NotStuck}
 use Rattle.ref_machine_operations.specs.Kinds.{Number, Address, IsOf}
 use Rattle.ref_machine_operations.specs.OperationLaws.{OperationsHaveSteps, OperationsKeepKinds}
-use Rattle.ref_machine_marks.specs.Marks.{Mark, Ranged, Exactly, Pointing, Naming, Null, Loaded, Converted, Tested, IsBounded, IsConverted, Has, AreMarked}
+use Rattle.ref_machine_marks.specs.Marks.{Mark, Ranged, Exactly, Pointing, Null, Loaded, Tested, IsBounded, Has, AreMarked}
 use Rattle.ref_machine_marks.specs.ProperMemory.{IsProperMemory}
-use Rattle.ref_machine_marks.specs.MarkOperations.{IsKind, IsScalar, HasTruths, Replaces, IsConstant, number_of_truth, CountsAs, operands, Computes, ranged, exact, ComputesOne, Negates, any, ComparesAs, Compares, tested, AreWithNull, null_test_of, ComparesPointers, ConvertsTo, pointer_and_count}
+use Rattle.ref_machine_marks.specs.MarkOperations.{IsKind, IsScalar, HasTruths, Replaces, IsConstant, number_of_truth, operands, Computes, ranged, exact, ComputesOne, Negates, any, ComparesAs, Compares, tested, AreWithNull, null_test_of, ComparesPointers, ConvertsTo, pointer_and_count}
 use Rattle.ref_machine_marks.specs.MarkLaws.{Comes, Leaves}
 use Rattle.ref_machine_memory.specs.GoingWorlds.{WhenGoing, IsProperScalar}
-use Rattle.ref_machine_memory.proofs.Computing.{binary_keeps, unary_keeps, compare_numbers_keeps, negation_keeps, convert_keeps, difference_keeps, compare_keeps, narrow_gives, shift_gives}
+use Rattle.ref_machine_memory.proofs.Computing.{binary_keeps, unary_keeps, difference_keeps, compare_keeps, narrow_gives, shift_gives}
 use Rattle.ref_machine_memory.proofs.Calling.{pointing_proper}
 use Rattle.ref_machine_ranges.proofs.TypeRanges.{between_ends, truth_in, one_in, wrapped_in}
 use Rattle.ref_machine_ranges.proofs.Results.{binary_in, unary_in}
 use Rattle.ref_machine_ranges.proofs.ObjectValues.{integer_object, pointer_object}
 use Rattle.ref_machine_ranges.proofs.Agreements.{side_integer, compared_numbers, compared_null, are_null_and, null_integer}
-use Rattle.ref_machine_marks_laws.proofs.Keeping.{given_when, unpushed, kind_given, Makes, makes, one_made, two_made, replacing, pushed_made}
+use Rattle.ref_machine_marks_laws.proofs.Keeping.{unpushed, kind_given, Makes, makes, one_made, two_made, replacing, pushed_made}
 
 -- ---- what is given
 

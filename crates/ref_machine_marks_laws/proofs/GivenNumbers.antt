@@ -1,7 +1,7 @@
 -- The numbers that calls of the library give.
-use Rattle.std.proofs.Common.{◌≡◌, ◌≤◌, ◌<◌, ◌+◌, ℕ, zero, suc, Bool, true, false, not, cond, ◌&&◌, Option, Some, None, List, [], ◌∷◌, length, arith, refl, sym, subst, ap, ◌∙◌, inl, inr}
+use Rattle.std.proofs.Common.{◌≡◌, ◌≤◌, ◌+◌, ℕ, zero, suc, Bool, true, false, not, Option, Some, None, List, [], ◌∷◌, length, arith, refl, sym, ◌∙◌}
 use Rattle.std.specs.Prelude.{ℤ, pos, negsuc, ◌≤ℤ◌, ◌+ℤ◌, ◌-ℤ◌, int_le, nat_lt}
-use Rattle.std.proofs.lemmas.Bool.{cases_Bool, and_parts, cond_both}
+use Rattle.std.proofs.lemmas.Bool.{and_parts, cond_both}
 use Rattle.std.proofs.lemmas.Int.{ints}
 use Rattle.cc_base.specs.declared.diagnostics.Rule.TheVariants as rule
 use Rattle.c_layout.specs.declared.data_model.Model.{Model}
@@ -16,12 +16,12 @@ use Rattle.lib_models_effects.specs.ScalarBytes.{contents}
 use Rattle.lib_models_effects.specs.IntegerEffects.{truth}
 use Rattle.lib_models_effects.specs.LibraryChecks.{most_size, Reach, reached_by, reached, bytes_from, Scanned, ends, unended, broken, one_further, scanned, measured, string_length}
 use Rattle.lib_models_effects.specs.Characters.{lies_in, is_lower, is_upper}
-use Rattle.lib_models_effects.specs.CharacterCalls.{answer, on_character}
+use Rattle.lib_models_effects.specs.CharacterCalls.{answer}
 use Rattle.lib_models_effects.specs.AllocationCalls.{malloc, calloc, realloc, free}
 use Rattle.lib_models_effects.specs.MemoryCalls.{memcpy, memmove, memset}
-use Rattle.lib_models_effects.specs.StringCalls.{plain, strlen, strcpy, strncpy, strcat, character_of, order_of, order_in, compare_strings, strcmp}
+use Rattle.lib_models_effects.specs.StringCalls.{plain, strlen, strcpy, strncpy, strcat, character_of, order_in, compare_strings, strcmp}
 use Rattle.lib_models_effects.specs.LibraryCalls.{getchar, fgets, putchar, puts, strings_in, all_scanned, most_int, printf, character_call, with_result, library}
-use Rattle.ref_machine_operations.specs.Kinds.{Kind, Number, Address}
+use Rattle.ref_machine_operations.specs.Kinds.{Number, Address}
 use Rattle.ref_machine_operations.specs.TakenKinds.{result_kind}
 use Rattle.ref_machine_marks.specs.Marks.{IsBounded}
 use Rattle.ref_machine_marks.specs.MarkOperations.{least_given, greatest_given}

@@ -1,5 +1,5 @@
 -- Operations on values of the marks that they take, and lines that are read.
-use Rattle.std.proofs.Common.{◌≡◌, ℕ, Option, List, [], ◌∷◌, ◌++◌, refl}
+use Rattle.std.proofs.Common.{ℕ, Option, List, [], ◌∷◌, ◌++◌}
 use Rattle.cc_base.specs.declared.int_types.IntType.{IntType}
 use Rattle.c_layout.specs.CheckedUnits.{UnitView}
 use Rattle.lib_models_memory.specs.Scalars.{Scalar, integer, pointer}
