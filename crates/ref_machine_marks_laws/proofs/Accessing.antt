@@ -117,9 +117,9 @@ module _ (steps : OperationsHaveSteps) (keeps : OperationsKeepKinds) (u : UnitVi
       changes u names w Pointing r
       (unpushed [] r (steps u (op.Copy t) (Address ∷ (Address ∷ [])) (Address ∷ []) [] (pointer q ∷ (pointer p ∷ [])) w refl ([], refl, refl) (tt, (tt, tt))))
       (λ v after e.
-          let given = given_when (λ v after. IsProperScalar u.model v × Evolves u.model w.memory after.memory) r v after (copy_gives u.model (leaves u t) (size_of u t) (pointer p) (pointer q) w one) e in
-          let is : IsOf Address v = kind_given Address [] [] r v after (keeps u (op.Copy t) (Address ∷ (Address ∷ [])) (Address ∷ []) [] (pointer q ∷ (pointer p ∷ [])) w ([], refl, refl) (tt, (tt, tt))) e in
-          (pointing_proper u.model names after.memory v is given.0, given.1))
+      let given = given_when (λ v after. IsProperScalar u.model v × Evolves u.model w.memory after.memory) r v after (copy_gives u.model (leaves u t) (size_of u t) (pointer p) (pointer q) w one) e in
+      let is : IsOf Address v = kind_given Address [] [] r v after (keeps u (op.Copy t) (Address ∷ (Address ∷ [])) (Address ∷ []) [] (pointer q ∷ (pointer p ∷ [])) w ([], refl, refl) (tt, (tt, tt))) e in
+      (pointing_proper u.model names after.memory v is given.0, given.1))
 
   -- ---- operations
 

@@ -49,7 +49,6 @@ module _ (u : UnitView) (names : ℕ → Option ℕ) (memory : Memory) where
   proper_arguments (Pointing ∷ marks) ks (pointer p ∷ vs) of are = (are.0, proper_arguments marks of.0 vs of.2 are.1)
   proper_arguments (k ∷ marks) ks (v ∷ vs) of are = absurd of
 
-
 -- ---- kinds of values
 
 as_many_kinds : (marks : List Mark) (ks : List Kind) → AreOfKinds marks ks → length ks ≡ length marks
