@@ -1,12 +1,11 @@
 -- Loads, stores and copies of structs, on values of their marks.
-use Rattle.std.proofs.Common.{◌≡◌, ℕ, true, Option, List, [], ◌∷◌, ◌++◌, refl, sym, subst, ap, ◌∙◌}
+use Rattle.std.proofs.Common.{◌≡◌, ℕ, true, Option, List, [], ◌∷◌, ◌++◌, refl, sym, subst}
 use Rattle.c_layout.specs.Types.{Ty}
 use Rattle.c_layout.specs.CheckedUnits.{UnitView}
 use Rattle.flow_lower_conditions.specs.declared.branch_tests.NamedObject.{NamedObject}
 use Rattle.flow_program.specs.declared.machine_instructions.Scalar as declared
 use Rattle.flow_program.specs.declared.machine_instructions.Scalar.TheVariants as of
 use Rattle.lib_models_memory.specs.Bytes.{MachinePointer}
-use Rattle.lib_models_memory.specs.Instances.{Memory}
 use Rattle.lib_models_memory.specs.Scalars.{Scalar, integer, pointer}
 use Rattle.lib_models_effects.specs.Worlds.{World, Reply, goes, stops, behind}
 use Rattle.lib_models_effects.specs.Accesses.{load, store}
@@ -17,13 +16,13 @@ use Rattle.ref_machine.specs.Operations.{size_of, leaves, load_over, load_under,
 use Rattle.ref_machine_operations.specs.GoingReplies.{NotStuck}
 use Rattle.ref_machine_operations.specs.Kinds.{Address, kind_of, IsOf}
 use Rattle.ref_machine_operations.specs.OperationLaws.{OperationsHaveSteps, OperationsKeepKinds}
-use Rattle.ref_machine_marks.specs.Marks.{Mark, Ranged, Pointing, Naming, Loaded, mark_of, is_stable, AreStable, IsWhole, Has, AreMarked}
+use Rattle.ref_machine_marks.specs.Marks.{Mark, Pointing, Naming, Loaded, mark_of, is_stable, AreStable, Has, AreMarked}
 use Rattle.ref_machine_marks.specs.ProperMemory.{IsProperMemory, Evolves}
 use Rattle.ref_machine_marks.specs.MarkOperations.{IsScalar, Replaces, Rewrites, Loads, any, named, Stores}
 use Rattle.ref_machine_marks.specs.MarkLaws.{Comes, Leaves}
 use Rattle.ref_machine_memory.specs.GoingWorlds.{IsProperScalar}
 use Rattle.ref_machine_memory.proofs.Accessing.{load_keeps, load_gives, store_gives, copy_gives}
-use Rattle.ref_machine_memory.proofs.Calling.{proper_of_type, proper_pointing, pointing_proper}
+use Rattle.ref_machine_memory.proofs.Calling.{proper_of_type, pointing_proper}
 use Rattle.ref_machine_ranges.proofs.ObjectValues.{integer_read, pointer_read, loads_number}
 use Rattle.ref_machine_ranges.proofs.WholeObjects.{loaded_whole, stored_whole, store_given}
 use Rattle.ref_machine_marks_laws.proofs.StableMarks.{has_stable, are_stable}
@@ -118,9 +117,9 @@ module _ (steps : OperationsHaveSteps) (keeps : OperationsKeepKinds) (u : UnitVi
       changes u names w Pointing r
       (unpushed [] r (steps u (op.Copy t) (Address ∷ (Address ∷ [])) (Address ∷ []) [] (pointer q ∷ (pointer p ∷ [])) w refl ([], refl, refl) (tt, (tt, tt))))
       (λ v after e.
-          let given = given_when (λ v after. IsProperScalar u.model v × Evolves u.model w.memory after.memory) r v after (copy_gives u.model (leaves u t) (size_of u t) (pointer p) (pointer q) w one) e in
-          let is : IsOf Address v = kind_given Address [] [] r v after (keeps u (op.Copy t) (Address ∷ (Address ∷ [])) (Address ∷ []) [] (pointer q ∷ (pointer p ∷ [])) w ([], refl, refl) (tt, (tt, tt))) e in
-          (pointing_proper u.model names after.memory v is given.0, given.1))
+      let given = given_when (λ v after. IsProperScalar u.model v × Evolves u.model w.memory after.memory) r v after (copy_gives u.model (leaves u t) (size_of u t) (pointer p) (pointer q) w one) e in
+      let is : IsOf Address v = kind_given Address [] [] r v after (keeps u (op.Copy t) (Address ∷ (Address ∷ [])) (Address ∷ []) [] (pointer q ∷ (pointer p ∷ [])) w ([], refl, refl) (tt, (tt, tt))) e in
+      (pointing_proper u.model names after.memory v is given.0, given.1))
 
   -- ---- operations
 

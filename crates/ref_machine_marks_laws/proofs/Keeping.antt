@@ -1,12 +1,11 @@
 -- Effects on the newest values, which give one of a mark in their place and keep memory or change it.
-use Rattle.std.proofs.Common.{◌≡◌, ℕ, Option, List, [], ◌∷◌, ◌++◌, refl, sym, subst, ap, ◌∙◌}
+use Rattle.std.proofs.Common.{◌≡◌, ℕ, Option, List, [], ◌∷◌, ◌++◌, refl, sym, subst}
 use Rattle.c_layout.specs.CheckedUnits.{UnitView}
-use Rattle.lib_models_memory.specs.Instances.{Memory}
-use Rattle.lib_models_memory.specs.Scalars.{Scalar, integer, pointer}
+use Rattle.lib_models_memory.specs.Scalars.{Scalar}
 use Rattle.lib_models_effects.specs.Worlds.{World, Reply, goes, stops}
 use Rattle.ref_machine.specs.Operations.{Order, LeftFirst, RightFirst, pushing, on_one, on_two}
 use Rattle.ref_machine_operations.specs.GoingReplies.{IfGoes, NotStuck}
-use Rattle.ref_machine_operations.specs.Kinds.{Kind, Number, Address, IsOf, AreOf}
+use Rattle.ref_machine_operations.specs.Kinds.{Kind, IsOf, AreOf}
 use Rattle.ref_machine_marks.specs.Marks.{Mark, AreStable, Has, AreMarked}
 use Rattle.ref_machine_marks.specs.ProperMemory.{Evolves}
 use Rattle.ref_machine_marks.specs.MarkOperations.{Replaces, Rewrites, operands}

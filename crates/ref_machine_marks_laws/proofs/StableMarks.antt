@@ -1,5 +1,5 @@
 -- Marks that hold as memory evolves, and marks of parts of values.
-use Rattle.std.proofs.Common.{◌≡◌, ◌≤◌, ℕ, true, Option, List, [], ◌∷◌, ◌++◌, length, reverse, arith, refl, sym, subst, ap, ◌∙◌}
+use Rattle.std.proofs.Common.{◌≡◌, ℕ, true, Option, List, [], ◌∷◌, ◌++◌, length, reverse, arith, refl, sym, subst, ap}
 use Rattle.std.proofs.lemmas.List.{reverse-append}
 use Rattle.c_layout.specs.declared.data_model.Model.{Model}
 use Rattle.c_layout.specs.declared.checked_tree.checked_terms.ObjectRef.{ObjectRef}

@@ -1,5 +1,5 @@
 -- The truth values of comparisons, and values alone, agree with tests.
-use Rattle.std.proofs.Common.{◌≡◌, ◌⊎◌, ℕ, Bool, true, false, not, cond, ◌||◌, Option, Some, None, subst, sym, refl, ap, ◌∙◌, inl, inr}
+use Rattle.std.proofs.Common.{◌≡◌, ◌⊎◌, ℕ, Bool, true, false, not, ◌||◌, Option, Some, subst, sym, refl, ap, ◌∙◌, inl, inr}
 use Rattle.std.specs.Prelude.{ℤ, pos}
 use Rattle.std.specs.Ordering.{int_eq}
 use Rattle.std.proofs.lemmas.Bool.{cases_Bool}
@@ -8,7 +8,6 @@ use Rattle.cc_base.specs.MachineArithmetic.{holds}
 use Rattle.cc_base.specs.declared.int_types.IntType.{IntType}
 use Rattle.cc_base.specs.declared.integer_operators.Rel.{Rel}
 use Rattle.cc_base.specs.declared.integer_operators.Rel.TheVariants.{Lt, Le, Gt, Ge, Eq, Ne}
-use Rattle.cc_base.specs.declared.diagnostics.Rule.{Rule}
 use Rattle.cc_base.specs.declared.diagnostics.Rule.TheVariants as rule
 use Rattle.c_layout.specs.declared.data_model.Model.{Model}
 use Rattle.flow_lower_conditions.specs.declared.branch_tests.NamedObject.{NamedObject}
@@ -17,14 +16,14 @@ use Rattle.lib_models_memory.specs.Labels.{Labels, no_labels}
 use Rattle.lib_models_memory.specs.Bytes.{MachinePointer, null, into}
 use Rattle.lib_models_memory.specs.Instances.{Memory}
 use Rattle.lib_models_memory.specs.Scalars.{Scalar, integer, pointer, is_false, is_null}
-use Rattle.lib_models_effects.specs.Worlds.{World, Reply, goes, stops, stopped_by, unless}
+use Rattle.lib_models_effects.specs.Worlds.{World, Reply, goes, stopped_by}
 use Rattle.lib_models_effects.specs.IntegerEffects.{truth}
-use Rattle.lib_models_effects.specs.PointerEffects.{are_equal, is_ended, share_instance, equality, ordered, compared, pointers_compared}
-use Rattle.lib_models_effects.specs.Tests.{turned, TestedSide, object, constant, nothing, side_scalar, sides_hold, pointers_hold, test_holds}
+use Rattle.lib_models_effects.specs.PointerEffects.{are_equal, is_ended, share_instance, equality, compared, pointers_compared}
+use Rattle.lib_models_effects.specs.Tests.{TestedSide, object, constant, nothing, side_scalar, pointers_hold}
 use Rattle.ref_machine.specs.BranchSteps.{relation_on}
 use Rattle.ref_machine.specs.Items as side
 use Rattle.ref_machine.specs.Items.{NamedSide, NamedTest}
-use Rattle.ref_machine_marks.specs.Marks.{Mark, Ranged, Exactly, Pointing, Naming, Null, Loaded, Converted, Tested, IsNumber, IsPointer, IsConverted, IsSide, Agrees, Has}
+use Rattle.ref_machine_marks.specs.Marks.{Mark, Exactly, Loaded, Converted, IsNumber, IsPointer, IsConverted, IsSide, Agrees, Has}
 use Rattle.ref_machine_marks.specs.ProperMemory.{IsProperMemory}
 use Rattle.ref_machine_marks.specs.MarkOperations.{IsKind, IsWider, IsSideOf, ComparesAs, AreWithNull, null_test_of}
 use Rattle.ref_machine_ranges.proofs.TypeRanges.{wrapped_own, of_wider, zero_in}

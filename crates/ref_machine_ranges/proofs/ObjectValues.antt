@@ -1,19 +1,18 @@
 -- The values of named objects in proper memory, and of loads from it.
-use Rattle.std.proofs.Common.{◌≡◌, ℕ, ◌+◌, ◌≤◌, true, Option, Some, None, List, length, take, drop, map, arith, subst, sym, refl, ap, ◌∙◌}
-use Rattle.std.specs.Prelude.{ℤ, slice_get}
+use Rattle.std.proofs.Common.{◌≡◌, ℕ, ◌+◌, ◌≤◌, true, Option, Some, None, List, length, drop, arith, subst, sym, refl, ap, ◌∙◌}
+use Rattle.std.specs.Prelude.{ℤ}
 use Rattle.std.proofs.lemmas.List.{length-take, length-map}
 use Rattle.cc_base.specs.IntegerTypes.{in_type}
 use Rattle.cc_base.specs.declared.int_types.IntType.{IntType}
 use Rattle.c_layout.specs.declared.data_model.Model.{Model}
 use Rattle.flow_lower_conditions.specs.declared.branch_tests.NamedObject.{NamedObject}
-use Rattle.flow_program.specs.declared.machine_instructions.Scalar as declared
 use Rattle.flow_program.specs.declared.machine_instructions.Scalar.TheVariants as of
 use Rattle.lib_models_memory.specs.Labels.{Labels}
 use Rattle.lib_models_memory.specs.Bytes.{MachinePointer, Content, Byte}
 use Rattle.lib_models_memory.specs.Instances.{Memory, bytes_at}
 use Rattle.lib_models_memory.specs.Numbers.{Labelled}
 use Rattle.lib_models_memory.specs.ScalarSizes.{class_bytes}
-use Rattle.lib_models_memory.specs.Scalars.{Scalar, integer, pointer}
+use Rattle.lib_models_memory.specs.Scalars.{integer, pointer}
 use Rattle.lib_models_effects.specs.Worlds.{World, goes}
 use Rattle.lib_models_effects.specs.ScalarBytes.{region, contents}
 use Rattle.lib_models_effects.specs.Accesses.{class_in, numbers_in, integer_in, pointer_in, pointer_scalar, scalar_in, load}
@@ -21,7 +20,7 @@ use Rattle.lib_models_effects.specs.Tests.{object, object_bytes, side_scalar}
 use Rattle.store_domain_sound.proofs.Slices.{get_map}
 use Rattle.store_domain_sound.proofs.Reading.{region_at}
 use Rattle.store_domain_sound.proofs.MachineLoads.{HasRead, load_goes}
-use Rattle.ref_machine_marks.specs.Marks.{IsNumber, IsPointer, IsValue}
+use Rattle.ref_machine_marks.specs.Marks.{IsNumber, IsPointer}
 use Rattle.ref_machine_marks.specs.ProperMemory.{IsProper, IsProperMemory}
 use Rattle.ref_machine_marks.specs.MarkOperations.{IsKind}
 use Rattle.ref_machine_ranges.proofs.LoadedNumbers.{AreProper, loaded_in}
@@ -35,7 +34,7 @@ proper_region m memory i offset size proper k c e =
     let p : IsProper m r.0.content = proper i (offset + k) r.0 s.1 in
     subst (IsProper m) r.2 p
 
-region_long : (bytes : List Byte) (offset size : ℕ) → length (contents (region bytes offset size)) ≤ size
+pub region_long : (bytes : List Byte) (offset size : ℕ) → length (contents (region bytes offset size)) ≤ size
 region_long bytes offset size = let e = length-map (region bytes offset size) (λ b. b.content) in let f = length-take size (drop offset bytes) in omega arith
 
 -- ---- scalars of a kind

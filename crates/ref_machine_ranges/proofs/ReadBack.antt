@@ -1,20 +1,18 @@
 -- A scalar of a type that is stored in bytes is read back.
-use Rattle.std.proofs.Common.{◌≡◌, ℕ, zero, suc, ◌+◌, ◌-◌, ◌*◌, ◌/◌, ◌%◌, ◌^◌, ◌<◌, Bool, true, false, cond, ◌==◌, Option, Some, None, List, [], ◌∷◌, length, arith, subst, sym, refl, ap, ◌∙◌, inl, inr}
-use Rattle.std.specs.Prelude.{ℤ, pos, unsigned_abs}
-use Rattle.std.specs.Int.{int_rem_euclid}
+use Rattle.std.proofs.Common.{◌≡◌, ℕ, zero, suc, ◌+◌, ◌-◌, ◌*◌, ◌/◌, ◌%◌, ◌^◌, ◌<◌, Bool, true, false, ◌==◌, Some, List, [], ◌∷◌, length, arith, sym, refl, ap, ◌∙◌, inl}
+use Rattle.std.specs.Prelude.{ℤ, pos}
 use Rattle.std.proofs.lemmas.Nat.{pow-add, pow_pos}
 use Rattle.std.proofs.lemmas.Int.{ints}
-use Rattle.cc_base.specs.IntegerTypes.{is_size, in_type, wrap_into, modulus}
+use Rattle.cc_base.specs.IntegerTypes.{is_size, in_type, wrap_into}
 use Rattle.cc_base.specs.declared.int_types.IntType.{IntType}
-use Rattle.c_layout.specs.declared.data_model.Model.{Model}
 use Rattle.flow_program.specs.declared.machine_instructions.Scalar.TheVariants as of
 use Rattle.interval_domain.specs.IntervalNumbers.{rem_range}
 use Rattle.lib_models_memory.specs.Labels.{Labels}
-use Rattle.lib_models_memory.specs.Bytes.{MachinePointer, null, into, Content, number, part}
+use Rattle.lib_models_memory.specs.Bytes.{MachinePointer, null, into, number}
 use Rattle.lib_models_memory.specs.Numbers.{Labelled, unsigned_of, number_of}
-use Rattle.lib_models_memory.specs.Scalars.{Scalar, integer, pointer}
+use Rattle.lib_models_memory.specs.Scalars.{integer, pointer}
 use Rattle.lib_models_effects.specs.ScalarBytes.{number_bytes, parts_from, pointer_bytes, bits_in}
-use Rattle.lib_models_effects.specs.Accesses.{numbers_in, and_number, joined_labels, integer_in, same_place, same_pointer, is_part, are_parts, are_zeros, pointer_of_parts, pointer_by, pointer_in, pointer_scalar, scalar_in}
+use Rattle.lib_models_effects.specs.Accesses.{numbers_in, joined_labels, integer_in, same_pointer, are_parts, are_zeros, scalar_in}
 use Rattle.store_domain_sound.proofs.Fresh.{wrap_bits}
 use Rattle.store_domain_sound.proofs.Rereading.{wrapped_signed, wrapped_unsigned, halves}
 use Rattle.ref_machine_ranges.proofs.TypeRanges.{wrapped_own}
@@ -50,7 +48,7 @@ number_by_sign : (signed : Bool) (kind : IntType) (u : ℕ) (ns : List Labelled)
 number_by_sign true kind u ns e p l s h = sym (rw (e, l, s) (wrapped_signed (2 ^ (8 * kind.bytes)) (2 ^ (8 * kind.bytes - 1)) u (pos u) (halves (8 * kind.bytes) (omega arith)) (pow_pos (8 * kind.bytes - 1)) h (inl refl)))
 number_by_sign false kind u ns e p l s h = sym (rw (e, s) (wrapped_unsigned (2 ^ (8 * kind.bytes)) u (pos u) h (inl refl)))
 
-bits_below : (size : ℕ) (n : ℤ) → bits_in size n < 2 ^ (8 * size)
+pub bits_below : (size : ℕ) (n : ℤ) → bits_in size n < 2 ^ (8 * size)
 bits_below size n = let r = rem_range n (2 ^ (8 * size)) (pow_pos (8 * size)) in omega (arith, ints)
 
 -- the labels of the number are those of its bytes

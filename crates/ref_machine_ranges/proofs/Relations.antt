@@ -1,6 +1,6 @@
 -- Relations that hold or do not, the opposite ones, and those with their sides exchanged.
-use Rattle.std.proofs.Common.{◌≡◌, Bool, true, false, not, cond, arith, subst, sym, refl, ap, ◌∙◌, inl, inr}
-use Rattle.std.specs.Prelude.{ℤ, pos, int_le, int_lt}
+use Rattle.std.proofs.Common.{◌≡◌, Bool, true, false, not, arith, refl, ap}
+use Rattle.std.specs.Prelude.{ℤ}
 use Rattle.std.specs.Ordering.{int_eq}
 use Rattle.std.proofs.lemmas.Int.{ints}
 use Rattle.cc_base.specs.MachineArithmetic.{holds}

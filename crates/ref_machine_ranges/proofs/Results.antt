@@ -1,7 +1,6 @@
 -- What operators give for numbers of their type lies in it.
-use Rattle.std.proofs.Common.{◌≡◌, true, Some}
-use Rattle.std.specs.Prelude.{ℤ, ◌≤ℤ◌}
-use Rattle.std.proofs.Common.{arith}
+use Rattle.std.proofs.Common.{◌≡◌, true, Some, arith}
+use Rattle.std.specs.Prelude.{ℤ}
 use Rattle.std.proofs.lemmas.Int.{ints}
 use Rattle.cc_base.specs.IntegerTypes.{is_size, in_type}
 use Rattle.cc_base.specs.MachineArithmetic.{binary_result, unary_result}
@@ -9,7 +8,7 @@ use Rattle.cc_base.specs.declared.int_types.IntType.{IntType}
 use Rattle.cc_base.specs.declared.integer_operators.IntOp.{IntOp}
 use Rattle.cc_base.specs.declared.integer_operators.UnOp.{UnOp}
 use Rattle.interval_domain.specs.declared.intervals.Interval.{Interval}
-use Rattle.interval_domain.specs.Spans.{between_or_empty, interval_bounds, Stands}
+use Rattle.interval_domain.specs.Spans.{between_or_empty, Stands}
 use Rattle.interval_domain.specs.Arithmetic.{interval_arith, interval_unary}
 use Rattle.interval_domain.specs.IntervalNumbers.{interval_bounding, interval_ranges}
 use Rattle.interval_domain_laws.specs.Kit.{in_type_between}

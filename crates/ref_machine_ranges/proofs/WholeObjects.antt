@@ -1,18 +1,17 @@
 -- What is loaded and stored through the pointer to a whole object that has its bytes.
-use Rattle.std.proofs.Common.{◌≡◌, ℕ, zero, suc, ◌+◌, ◌<◌, ◌≤◌, Bool, true, false, not, cond, ◌&&◌, ◌==◌, Option, Some, None, List, [], ◌∷◌, ◌++◌, length, take, drop, arith, subst, sym, refl, ap, ◌∙◌, inl, inr}
-use Rattle.std.specs.Prelude.{slice_get, set}
+use Rattle.std.proofs.Common.{◌≡◌, ℕ, suc, ◌<◌, ◌≤◌, Bool, true, not, ◌&&◌, ◌==◌, Option, Some, List, [], ◌∷◌, ◌++◌, length, take, arith, subst, sym, refl, ap, ◌∙◌, inl, inr}
+use Rattle.std.specs.Prelude.{slice_get}
 use Rattle.std.proofs.lemmas.Bool.{cases_Bool, cond_both}
 use Rattle.std.proofs.lemmas.Option.{slice_get_within}
 use Rattle.c_layout.specs.declared.data_model.Model.{Model}
 use Rattle.c_layout.specs.declared.leaf_lists.Class.{Class}
 use Rattle.c_layout.specs.declared.leaf_lists.Class.TheVariants.{Char, Pointer}
-use Rattle.c_layout.specs.declared.checked_tree.checked_terms.ObjectRef.{ObjectRef}
 use Rattle.flow_lower_conditions.specs.declared.branch_tests.NamedObject.{NamedObject}
 use Rattle.flow_program.specs.declared.machine_instructions.Scalar as declared
 use Rattle.flow_program.specs.declared.machine_instructions.Scalar.TheVariants as of
 use Rattle.lib_models_memory.specs.Labels.{Labels}
 use Rattle.lib_models_memory.specs.Bytes.{MachinePointer, null, into, Content, Byte}
-use Rattle.lib_models_memory.specs.Instances.{Memory, Instance, live, bytes_of, bytes_at}
+use Rattle.lib_models_memory.specs.Instances.{Memory, Instance, bytes_of, bytes_at}
 use Rattle.lib_models_memory.specs.ScalarSizes.{same_class, class_bytes}
 use Rattle.lib_models_memory.specs.Scalars.{Scalar, integer, pointer}
 use Rattle.lib_models_effects.specs.Worlds.{World, Reply, goes, stops, Left, Stuck}
@@ -20,14 +19,14 @@ use Rattle.lib_models_effects.specs.Operands.{is_of_kind}
 use Rattle.lib_models_effects.specs.ScalarBytes.{scalar_bytes, filled, tagged_from, replaced, refilled, region, contents}
 use Rattle.lib_models_effects.specs.Touches.{Spot, touched, is_allocated, storage_at, set_bytes}
 use Rattle.lib_models_effects.specs.Accesses.{class_in, scalar_in, stored_bytes, stored, may_store, store_at, store_through, store, load}
-use Rattle.lib_models_effects.specs.Tests.{TestedSide, object, side_scalar, scalar_size}
+use Rattle.lib_models_effects.specs.Tests.{object, side_scalar, scalar_size}
 use Rattle.ref_machine.specs.SourceStates.{instance_of}
 use Rattle.store_domain_sound.proofs.Slices.{get_set_same}
 use Rattle.store_domain_sound.proofs.Reading.{behind_goes, touched_goes}
 use Rattle.store_domain_sound.proofs.MachineLoads.{HasRead, load_goes}
 use Rattle.store_domain_sound.proofs.MachineStores.{scalar_length, set_is, instance_in, store_spot}
-use Rattle.ref_machine_marks.specs.Marks.{IsWhole, IsNumber, IsPointer, IsValue, Has, mark_of}
-use Rattle.ref_machine_marks.specs.MarkOperations.{IsKind, IsScalar}
+use Rattle.ref_machine_marks.specs.Marks.{IsWhole, IsValue, Has, mark_of}
+use Rattle.ref_machine_marks.specs.MarkOperations.{IsScalar}
 use Rattle.ref_machine_ranges.proofs.ReadBack.{number_back, pointer_back}
 
 -- ---- the first bytes of an object
