@@ -21,7 +21,7 @@ use Rattle.ref_machine_returns.specs.StandingJumps.{JumpsStand}
 use Rattle.ref_machine_marks.specs.Marks.{Mark, Ranged, Exactly, Pointing, Naming, Tested, mark_of_type, AreStable, AreFree}
 use Rattle.ref_machine_marks.specs.MarkOperations.{IsConstant, number_of_truth, IsScalar, MarkOperates}
 use Rattle.ref_machine_marked.specs.ExactTerms.{is_true}
-use Rattle.ref_machine_marked.specs.MarkedTerms.{term_mark, local_mark, Decides, MarkedTerm, MarkedPlace, StoredTerm, Quiet, ComparisonTerm, IsScalarType}
+use Rattle.ref_machine_marked.specs.MarkedTerms.{term_mark, local_mark, Decides, MarkedTerm, MarkedPlace, StoredTerm, Quiet, ComparisonTerm}
 use Rattle.ref_machine_marked.specs.MarkedStatements.{MarkedIf, MarkedStep, MarkedStatement, Matches, AreBytes}
 
 -- ---- terms

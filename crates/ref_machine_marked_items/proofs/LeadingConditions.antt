@@ -11,7 +11,7 @@ use Rattle.ref_machine.specs.Items as item
 use Rattle.ref_machine.specs.Items.{NamedTest, Item, items_of}
 use Rattle.ref_machine.specs.TermItems.{arguments}
 use Rattle.ref_machine.specs.TermTests.{test_if}
-use Rattle.ref_machine.specs.ConditionItems.{line_items, leaf_by, leaf, condition, choice_of}
+use Rattle.ref_machine.specs.ConditionItems.{line_items, leaf_by, condition, choice_of}
 use Rattle.ref_machine_marks.specs.Marks.{Mark, Exactly, Ranged, Pointing, Tested, AreStable}
 use Rattle.ref_machine_marked.specs.ExactTerms.{is_true, ExactTerm}
 use Rattle.ref_machine_marked.specs.MarkedTerms.{term_mark, Decides, Operand, TestTerm, HasTest, HasTests, MarkedTerm}
@@ -66,9 +66,6 @@ module _ (u : UnitView) (f : FunctionView) (called : Option Bool) where
   leaf_by_through is_test e (Some r) held failed rest ks after marked tested read stable one other = line_through r r.wants_line held failed rest ks after read stable one other
   leaf_by_through is_test e None held failed rest ks after marked tested read stable one other = value_through e (test_if u is_test e) held failed rest ks after marked tested stable one other
 
-  leaf_through : (is_test : Bool) (e : TermTree) (held failed rest : List Item) (ks after : List Mark) → MarkedTerm u true e → HasTest u e (test_if u is_test e) → AreStable ks → Through u f called held rest ks after → Through u f called failed rest ks after → Through u f called (leaf u is_test e held failed) rest ks after
-  leaf_through is_test e held failed rest ks after marked tested stable one other = leaf_by_through is_test e (read_by e) held failed rest ks after marked tested (line_read u e marked) stable one other
-
   -- ---- conditions
 
   pub condition_through : (is_test : Bool) (e : TermTree) (held failed rest : List Item) (ks after : List Mark) → MarkedTerm u true e → HasTests u is_test e → AreStable ks → Through u f called held rest ks after → Through u f called failed rest ks after → Through u f called (condition u is_test e held failed) rest ks after
@@ -76,7 +73,7 @@ module _ (u : UnitView) (f : FunctionView) (called : Option Bool) where
   condition_through is_test (Typed at t parens fixed (tree.Logical Or a b)) held failed rest ks after marked tested stable one other = condition_through is_test a held (condition u is_test b held failed) rest ks after marked.0 tested.0 stable one (condition_through is_test b held failed rest ks after marked.1 tested.1 stable one other)
   condition_through is_test (Typed at t parens fixed (tree.Not a)) held failed rest ks after marked tested stable one other = condition_through is_test a failed held rest ks after marked.0 tested stable other one
   condition_through is_test (Typed at t parens fixed (tree.Conditional c a b)) held failed rest ks after marked tested stable one other = condition_through true c (condition u false a held failed) (condition u false b held failed) rest ks after marked.0 tested.0 stable (condition_through false a held failed rest ks after marked.2 tested.1 stable one other) (condition_through false b held failed rest ks after marked.3 tested.2 stable one other)
-  condition_through is_test e held failed rest ks after marked tested stable one other = leaf_through is_test e held failed rest ks after marked tested stable one other
+  condition_through is_test e held failed rest ks after marked tested stable one other = leaf_by_through is_test e (read_by e) held failed rest ks after marked tested (line_read u e marked) stable one other
 
   -- ---- conditions that are known
 
@@ -91,13 +88,10 @@ module _ (u : UnitView) (f : FunctionView) (called : Option Bool) where
   exact_leaf_by_through is_test e (Some r) n held failed rest ks after is exact one other = let no : ⊥ = cc in absurd no
   exact_leaf_by_through is_test e None n held failed rest ks after is exact one other = exactly_through e (test_if u is_test e) n held failed rest ks after (no_test u.model u is_test e n exact) exact one other
 
-  exact_leaf_through : (is_test : Bool) (e : TermTree) (n : ℤ) (held failed rest : List Item) (ks after : List Mark) → ExactTerm u.model e n → (is_true n ≡ true → Through u f called held rest ks after) → (is_true n ≡ false → Through u f called failed rest ks after) → Through u f called (leaf u is_test e held failed) rest ks after
-  exact_leaf_through is_test e n held failed rest ks after exact one other = exact_leaf_by_through is_test e (read_by e) n held failed rest ks after (nothing_read u.model e n exact) exact one other
-
   -- only the way that is gone has to lead anywhere
   pub exact_condition_through : (is_test : Bool) (e : TermTree) (n : ℤ) (held failed rest : List Item) (ks after : List Mark) → ExactTerm u.model e n → (is_true n ≡ true → Through u f called held rest ks after) → (is_true n ≡ false → Through u f called failed rest ks after) → Through u f called (condition u is_test e held failed) rest ks after
   exact_condition_through is_test (Typed at t parens fixed (tree.Logical And a b)) n held failed rest ks after exact one other = exact_condition_through is_test a exact.0 (condition u is_test b held failed) failed rest ks after exact.1 (λ yes. let r : Right u.model exact.0 n b = both_right u.model exact.0 n b exact.2 yes in exact_condition_through is_test b r.0 held failed rest ks after r.1 (λ h. one (right_is u.model exact.0 n b r ∙ h)) (λ h. other (right_is u.model exact.0 n b r ∙ h))) (λ no. other (ap is_true (both_failed u.model exact.0 n b exact.2 no)))
   exact_condition_through is_test (Typed at t parens fixed (tree.Logical Or a b)) n held failed rest ks after exact one other = exact_condition_through is_test a exact.0 held (condition u is_test b held failed) rest ks after exact.1 (λ yes. one (ap is_true (either_held u.model exact.0 n b exact.2 yes))) (λ no. let r : Right u.model exact.0 n b = either_right u.model exact.0 n b exact.2 no in exact_condition_through is_test b r.0 held failed rest ks after r.1 (λ h. one (right_is u.model exact.0 n b r ∙ h)) (λ h. other (right_is u.model exact.0 n b r ∙ h)))
   exact_condition_through is_test (Typed at t parens fixed (tree.Not a)) n held failed rest ks after exact one other = exact_condition_through is_test a exact.0 failed held rest ks after exact.1 (λ yes. other (negation_is exact.0 n exact.2 ∙ ap not yes)) (λ no. one (negation_is exact.0 n exact.2 ∙ ap not no))
   exact_condition_through is_test (Typed at t parens fixed (tree.Conditional c a b)) n held failed rest ks after exact one other = exact_condition_through true c exact.0 (condition u false a held failed) (condition u false b held failed) rest ks after exact.1 (λ yes. exact_condition_through false a n held failed rest ks after (first_arm u.model exact.0 n a b exact.2 yes) one other) (λ no. exact_condition_through false b n held failed rest ks after (second_arm u.model exact.0 n a b exact.2 no) one other)
-  exact_condition_through is_test e n held failed rest ks after exact one other = exact_leaf_through is_test e n held failed rest ks after exact one other
+  exact_condition_through is_test e n held failed rest ks after exact one other = exact_leaf_by_through is_test e (read_by e) n held failed rest ks after (nothing_read u.model e n exact) exact one other

@@ -45,17 +45,11 @@ use Rattle.ref_machine_marked_items.proofs.QuietTerms.{quiet_leads}
 
 -- ---- types
 
-integer_mark : (t : Ty) (kind : IntType) → t ≡ Int kind → mark_of_type t ≡ Ranged kind
-integer_mark t kind is = ap mark_of_type is
-
-integer_is : (t : Ty) (kind : IntType) → t ≡ Int kind → integer_type t ≡ kind
-integer_is t kind is = ap integer_type is
-
 own_kind : (u : UnitView) (t : Ty) (kind : IntType) → IsInteger u t kind → IsKind u.model (integer_type t)
-own_kind u t kind is = subst (IsKind u.model) (sym (integer_is t kind is.0)) is.1
+own_kind u t kind is = subst (IsKind u.model) (sym (ap integer_type is.0)) is.1
 
 own_mark : (t : Ty) (kind : IntType) → t ≡ Int kind → mark_of_type t ≡ Ranged (integer_type t)
-own_mark t kind is = integer_mark t kind is ∙ ap Ranged (sym (integer_is t kind is))
+own_mark t kind is = ap mark_of_type is ∙ ap Ranged (sym (ap integer_type is))
 
 -- a term that assigns is not computed without memory
 not_exact : (u : UnitView) (e : TermTree) (k : Mark) (n : ℤ) → StoredTerm u e k → ExactTerm u.model e n → ⊥

@@ -11,3 +11,4 @@ pub mod LeadingTerms
 pub mod LeadingStatements
 pub mod Labels
 pub mod Calls
+pub mod Expanding
