@@ -1,5 +1,5 @@
 -- Loads, stores and copies of structs: what they do to memory, and that what they give is proper.
-use Rattle.std.proofs.Common.{◌≡◌, ◌≤◌, ◌+◌, ℕ, zero, suc, Bool, true, false, cond, not, ◌&&◌, List, [], ◌∷◌, length, Option, Some, None, refl, ap, sym, subst, arith}
+use Rattle.std.proofs.Common.{◌≡◌, ◌≤◌, ◌+◌, ℕ, suc, Bool, true, false, cond, not, ◌&&◌, List, [], ◌∷◌, length, Option, Some, None, refl, subst, arith}
 use Rattle.std.specs.Prelude.{nat_le}
 use Rattle.std.proofs.lemmas.Bool.{and_parts, leb-true}
 use Rattle.cc_base.specs.declared.int_types.IntType.{IntType}
@@ -13,18 +13,17 @@ use Rattle.flow_program.specs.declared.machine_instructions.Scalar.TheVariants a
 use Rattle.lib_models_memory.specs.Bytes.{MachinePointer, null, into, Content, indeterminate, number, part, Byte}
 use Rattle.lib_models_memory.specs.Instances.{Life, live, ended, freed, Memory, life_at, bytes_at}
 use Rattle.lib_models_memory.specs.Numbers.{Labelled}
-use Rattle.lib_models_memory.specs.Scalars.{Scalar, integer, pointer}
+use Rattle.lib_models_memory.specs.Scalars.{Scalar, pointer}
 use Rattle.lib_models_memory.specs.ScalarSizes.{class_bytes, same_class}
-use Rattle.lib_models_effects.specs.Worlds.{World, Reply, goes, stops, behind, Left, Stuck, stopped_by}
+use Rattle.lib_models_effects.specs.Worlds.{World, Reply, goes, stops, Left, Stuck, stopped_by}
 use Rattle.lib_models_effects.specs.Operands.{is_of_kind, as_pointer}
 use Rattle.lib_models_effects.specs.ScalarBytes.{scalar_bytes, tagged_from, replaced, refilled, region, contents}
 use Rattle.lib_models_effects.specs.Touches.{Spot, is_literal, is_allocated, storage_at, touched_live, touched_by, touched}
-use Rattle.lib_models_effects.specs.Accesses.{class_in, is_zero, are_zeros, are_parts, pointer_of_parts, pointer_by, pointer_in, pointer_scalar, numbers_in, integer_in, scalar_in, given, read_blank, has_blank, read_contents, is_seen_as, bytes_seen, load_at, load_through, load, stored_bytes, stored, may_store, store_at, store_through, store}
+use Rattle.lib_models_effects.specs.Accesses.{class_in, are_zeros, are_parts, pointer_in, pointer_scalar, numbers_in, integer_in, scalar_in, given, read_blank, has_blank, read_contents, is_seen_as, bytes_seen, load_at, load_through, load, stored_bytes, stored, may_store, store_at, store_through, store}
 use Rattle.lib_models_effects.specs.StructCopies.{copied, copy_made, may_copy, copy_at, copy_between, copy_struct}
-use Rattle.lib_models_effects.specs.LibraryChecks.{most_size}
 use Rattle.ref_machine_marks.specs.Marks.{IsBounded}
 use Rattle.ref_machine_marks.specs.ProperMemory.{IsProperMemory, Evolves}
-use Rattle.ref_machine_memory.specs.GoingWorlds.{WhenGoing, IsProperScalar, IsProperResult, Keeps, Gives}
+use Rattle.ref_machine_memory.specs.GoingWorlds.{WhenGoing, IsProperScalar, IsProperResult, Keeps, Gives, Same, Read, Given, Reads}
 use Rattle.ref_machine_memory.proofs.Replies.{when_more, when_behind, when_kept, when_either, when_where, when_pointer}
 use Rattle.ref_machine_memory.proofs.ProperBytes.{AreProperBytes, AreProperContents, contents_proper, region_proper, scalar_bytes_proper, tagged_proper, replaced_proper, refilled_proper, replaced_long, refilled_long}
 use Rattle.ref_machine_memory.proofs.Evolving.{proper_bytes, set_bytes_evolves}
@@ -62,7 +61,7 @@ touched_within most w (into i offset lo hi) size writes small = by_touched most 
 
 pub touched_keeps : (w : World) (p : MachinePointer) (size : ℕ) (writes : Bool) → Keeps w.memory (touched w p size writes)
 touched_keeps w null size writes = tt
-touched_keeps w (into i offset lo hi) size writes = when_more (IsTouched w.memory hi size) (λ spot after. after.memory ≡ w.memory) (touched w (into i offset lo hi) size writes) (λ spot after is. is.same) (touched_within hi w (into i offset lo hi) size writes (omega arith))
+touched_keeps w (into i offset lo hi) size writes = when_more (IsTouched w.memory hi size) (Same w.memory) (touched w (into i offset lo hi) size writes) (λ spot after is. is.same) (touched_within hi w (into i offset lo hi) size writes (omega arith))
 
 module _ (m : Model) where
   -- ---- what contents are as a scalar
@@ -118,16 +117,12 @@ module _ (m : Model) where
     load_loaded at w = when_pointer (IsLoaded w.memory) at w (load_through m kind) (λ p is. when_kept IsLoaded w.memory (touched w p (class_bytes m (class_in kind)) false) (load_at m kind) (touched_keeps w p (class_bytes m (class_in kind)) false) (λ spot w. spot_loaded spot w))
 
     pub load_keeps : (at : Scalar) (w : World) → Keeps w.memory (load m kind at w)
-    load_keeps at w = when_more (IsLoaded w.memory) (λ v after. after.memory ≡ w.memory) (load m kind at w) (λ v after is. is.same) (load_loaded at w)
+    load_keeps at w = when_more (IsLoaded w.memory) (Same w.memory) (load m kind at w) (λ v after is. is.same) (load_loaded at w)
 
-    pub load_gives : (at : Scalar) (w : World) → IsProperMemory m w.memory → WhenGoing (λ v after. IsProperScalar m v × (after.memory ≡ w.memory)) (load m kind at w)
-    load_gives at w proper = when_more (IsLoaded w.memory) (λ v after. IsProperScalar m v × (after.memory ≡ w.memory)) (load m kind at w) (λ v after is. (is.proper proper, is.same)) (load_loaded at w)
+    pub load_gives : (at : Scalar) (w : World) → IsProperMemory m w.memory → Reads m w.memory (load m kind at w)
+    load_gives at w proper = when_more (IsLoaded w.memory) (Read m w.memory) (load m kind at w) (λ v after is. (is.proper proper, is.same)) (load_loaded at w)
 
   -- ---- stores
-
-  -- a value is proper, and memory evolves
-  abbrev GivesScalar : Memory → Scalar → World → Type 0
-  GivesScalar before v w = IsProperScalar m v × Evolves m before w.memory
 
   which_proper : (b : Bool) (class : Class) (bytes : List Byte) (offset : ℕ) (cs : List Content) → AreProperBytes m bytes → AreProperContents m cs → AreProperBytes m (cond b (replaced bytes offset (tagged_from class 0 cs)) (refilled bytes offset cs))
   which_proper true class bytes offset cs are new = replaced_proper m bytes offset (tagged_from class 0 cs) are (tagged_proper m class 0 cs new)
@@ -144,14 +139,14 @@ module _ (m : Model) where
       let typed : Bool = allocated && not (same_class class Char) in
       set_bytes_evolves m w.memory spot.instance (stored_bytes allocated class bytes spot.offset cs) (λ p. which_proper typed class bytes spot.offset cs (proper_bytes m w.memory p spot.instance) new) (which_long typed class bytes spot.offset cs)
 
-  spot_stored : (class : Class) (v : Scalar) → IsProperScalar m v → (spot : Spot) (w : World) → WhenGoing (GivesScalar w.memory) (store_at m class v spot w)
-  spot_stored class v is spot w = when_either (GivesScalar w.memory) (may_store m w class spot) (goes v (stored w class spot (scalar_bytes (class_bytes m class) v))) (stops Left w) (is, stored_evolves w class spot (scalar_bytes (class_bytes m class) v) (scalar_bytes_proper m (class_bytes m class) v is)) tt
+  spot_stored : (class : Class) (v : Scalar) → IsProperScalar m v → (spot : Spot) (w : World) → Gives m w.memory (store_at m class v spot w)
+  spot_stored class v is spot w = when_either (Given m w.memory) (may_store m w class spot) (goes v (stored w class spot (scalar_bytes (class_bytes m class) v))) (stops Left w) (is, stored_evolves w class spot (scalar_bytes (class_bytes m class) v) (scalar_bytes_proper m (class_bytes m class) v is)) tt
 
-  through_stored : (kind : declared.Scalar) (v : Scalar) → IsProperScalar m v → (p : MachinePointer) (w : World) → WhenGoing (GivesScalar w.memory) (store_through m kind v p w)
-  through_stored kind v is p w = when_kept GivesScalar w.memory (touched w p (class_bytes m (class_in kind)) true) (store_at m (class_in kind) v) (touched_keeps w p (class_bytes m (class_in kind)) true) (λ spot w. spot_stored (class_in kind) v is spot w)
+  through_stored : (kind : declared.Scalar) (v : Scalar) → IsProperScalar m v → (p : MachinePointer) (w : World) → Gives m w.memory (store_through m kind v p w)
+  through_stored kind v is p w = when_kept (Given m) w.memory (touched w p (class_bytes m (class_in kind)) true) (store_at m (class_in kind) v) (touched_keeps w p (class_bytes m (class_in kind)) true) (λ spot w. spot_stored (class_in kind) v is spot w)
 
   pub store_gives : (kind : declared.Scalar) (at v : Scalar) (w : World) → IsProperScalar m v → Gives m w.memory (store m kind at v w)
-  store_gives kind at v w proper = when_pointer (GivesScalar w.memory) at w _ (λ p is. when_either (GivesScalar w.memory) (is_of_kind kind v) (store_through m kind v p w) (stops Stuck w) (through_stored kind v proper p w) tt)
+  store_gives kind at v w proper = when_pointer (Given m w.memory) at w _ (λ p is. when_either (Given m w.memory) (is_of_kind kind v) (store_through m kind v p w) (stops Stuck w) (through_stored kind v proper p w) tt)
 
   -- ---- copies
 
@@ -185,11 +180,11 @@ module _ (m : Model) where
   between_copied : (leaves : List Leaf) (size : ℕ) (p q : MachinePointer) (w : World) → IsBounded m p → WhenGoing (GivesPointer w.memory) (copy_between m leaves size p q w)
   between_copied leaves size p q w is = when_kept GivesPointer w.memory (touched w q size false) _ (touched_keeps w q size false) (λ from w. when_kept GivesPointer w.memory (touched w p size true) (copy_at m leaves size p from) (touched_keeps w p size true) (λ to w. spots_copied leaves size p is from to w))
 
-  pub as_pointer_gives : (before : Memory) (r : Reply MachinePointer) → WhenGoing (GivesPointer before) r → WhenGoing (GivesScalar before) (as_pointer r)
-  as_pointer_gives before r h = when_behind (GivesPointer before) (GivesScalar before) r _ h (λ p w is. is)
+  pub as_pointer_gives : (before : Memory) (r : Reply MachinePointer) → WhenGoing (GivesPointer before) r → Gives m before (as_pointer r)
+  as_pointer_gives before r h = when_behind (GivesPointer before) (Given m before) r _ h (λ p w is. is)
 
-  bounded_of : (v : Scalar) (p : MachinePointer) → v ≡ pointer p → IsProperScalar m v → IsBounded m p
+  pub bounded_of : (v : Scalar) (p : MachinePointer) → v ≡ pointer p → IsProperScalar m v → IsBounded m p
   bounded_of v p is proper = subst (IsProperScalar m) is proper
 
   pub copy_gives : (leaves : List Leaf) (size : ℕ) (to from : Scalar) (w : World) → IsProperScalar m to → Gives m w.memory (copy_struct m leaves size to from w)
-  copy_gives leaves size to from w proper = when_pointer (GivesScalar w.memory) to w _ (λ p is. when_pointer (GivesScalar w.memory) from w _ (λ q _. as_pointer_gives w.memory (copy_between m leaves size p q w) (between_copied leaves size p q w (bounded_of to p is proper))))
+  copy_gives leaves size to from w proper = when_pointer (Given m w.memory) to w _ (λ p is. when_pointer (Given m w.memory) from w _ (λ q _. as_pointer_gives w.memory (copy_between m leaves size p q w) (between_copied leaves size p q w (bounded_of to p is proper))))

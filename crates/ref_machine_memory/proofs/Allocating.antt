@@ -1,6 +1,6 @@
 -- Allocations: what they do to memory, and that the pointers that they give are bounded.
-use Rattle.std.proofs.Common.{◌≡◌, ◌≤◌, ◌-◌, ◌*◌, ℕ, zero, suc, ℤ, pos, Bool, true, false, not, ◌&&◌, List, [], ◌∷◌, ◌++◌, length, take, Option, None, refl, ap, sym, subst, arith, length-append}
-use Rattle.std.specs.Prelude.{nat_le, replicate, min}
+use Rattle.std.proofs.Common.{◌≡◌, ◌≤◌, ◌-◌, ◌*◌, ℕ, zero, suc, pos, Bool, true, false, not, ◌&&◌, List, [], ◌∷◌, length, take, Option, None, refl, ap, arith, length-append}
+use Rattle.std.specs.Prelude.{nat_le, replicate}
 use Rattle.std.specs.Ordering.{int_eq}
 use Rattle.std.proofs.lemmas.Bool.{and_parts, leb-true}
 use Rattle.std.proofs.lemmas.List.{length-take}
@@ -8,15 +8,15 @@ use Rattle.cc_base.specs.declared.diagnostics.Rule.TheVariants as rule
 use Rattle.c_layout.specs.declared.data_model.Model.{Model}
 use Rattle.lib_models_memory.specs.Labels.{no_labels}
 use Rattle.lib_models_memory.specs.Bytes.{MachinePointer, null, into, Content, indeterminate, number, Byte}
-use Rattle.lib_models_memory.specs.Instances.{allocated, Life, live, ended, freed, Memory, bytes_at, life_at}
+use Rattle.lib_models_memory.specs.Instances.{allocated, Life, live, ended, freed, Memory, life_at}
 use Rattle.lib_models_memory.specs.Scalars.{Scalar, integer, pointer}
-use Rattle.lib_models_effects.specs.Worlds.{World, Reply, goes, behind, done, drawn}
+use Rattle.lib_models_effects.specs.Worlds.{World, Reply, behind, done, drawn}
 use Rattle.lib_models_effects.specs.ObjectEffects.{fresh, with_instance}
 use Rattle.lib_models_effects.specs.LibraryChecks.{size_of, with_size, most_size}
 use Rattle.lib_models_effects.specs.AllocationCalls.{untyped, asked_for, allocated_with, if_given, allocate, malloc_bytes, malloc, calloc_bytes, calloc, is_start, freeable_by, freeable, given_back, free, resized, old_bytes, moved_to, realloc_bytes, realloc}
 use Rattle.ref_machine_marks.specs.ProperMemory.{IsProper, IsProperMemory, Evolves}
-use Rattle.ref_machine_memory.specs.GoingWorlds.{WhenGoing, IsProperScalar, Keeps, Develops, Gives}
-use Rattle.ref_machine_memory.proofs.Replies.{when_behind, when_kept, when_unless, drawn_keeps}
+use Rattle.ref_machine_memory.specs.GoingWorlds.{Keeps, Develops, Gives, Same, Developed, Given}
+use Rattle.ref_machine_memory.proofs.Replies.{when_kept, when_unless, drawn_keeps}
 use Rattle.ref_machine_memory.proofs.ProperBytes.{AreProperBytes, IsProperByte, each_taken, each_both, each_same}
 use Rattle.ref_machine_memory.proofs.Evolving.{proper_bytes, grows_further, evolves_same, with_instance_grows, with_instance_evolves, set_life_evolves}
 
@@ -33,7 +33,7 @@ resized_long bytes size = let e = untyped_long indeterminate (size - length byte
 -- ---- what may be freed
 
 freeable_by_keeps : (w : World) (life : Life) (i offset : ℕ) (r : Reply (Unit {0})) → Keeps w.memory r → Keeps w.memory (freeable_by w life i offset r)
-freeable_by_keeps w live i offset r h = when_unless (λ x after. after.memory ≡ w.memory) w (not (is_start w.memory i offset)) rule.Xfree r h
+freeable_by_keeps w live i offset r h = when_unless (Same w.memory) w (not (is_start w.memory i offset)) rule.Xfree r h
 freeable_by_keeps w ended i offset r h = tt
 freeable_by_keeps w freed i offset r h = tt
 
@@ -42,29 +42,22 @@ freeable_keeps null w = refl
 freeable_keeps (into i offset lo hi) w = freeable_by_keeps w (life_at w.memory i) i offset (done w) refl
 
 module _ (m : Model) where
-  -- a value is proper, and memory evolves
-  abbrev GivesScalar : Memory → Scalar → World → Type 0
-  GivesScalar before v w = IsProperScalar m v × Evolves m before w.memory
-
-  abbrev Evolving : Memory → Unit {0} → World → Type 0
-  Evolving before x w = Evolves m before w.memory
-
   untyped_proper : (c : Content) (size : ℕ) → IsProper m c → AreProperBytes m (untyped c size)
   untyped_proper c size is = each_same (IsProperByte m) size (record { content = c; tag = None }) is
 
   -- ---- an instance is made
 
-  with_bytes_gives : (bytes : List Byte) (w : World) → (IsProperMemory m w.memory → AreProperBytes m bytes) → length bytes ≤ most_size m → WhenGoing (GivesScalar w.memory) (allocated_with bytes w)
+  with_bytes_gives : (bytes : List Byte) (w : World) → (IsProperMemory m w.memory → AreProperBytes m bytes) → length bytes ≤ most_size m → Gives m w.memory (allocated_with bytes w)
   with_bytes_gives bytes w are small = (record { below = omega arith; end = small }, with_instance_evolves m w (fresh allocated bytes) are)
 
-  if_given_gives : (b : Bool) (made : World → Reply Scalar) (w : World) → (b ≡ true → WhenGoing (GivesScalar w.memory) (made w)) → WhenGoing (GivesScalar w.memory) (if_given b made w)
+  if_given_gives : (b : Bool) (made : World → Reply Scalar) (w : World) → (b ≡ true → Gives m w.memory (made w)) → Gives m w.memory (if_given b made w)
   if_given_gives true made w h = h refl
   if_given_gives false made w h = (tt, evolves_same m w.memory)
 
-  allocate_gives : (size : ℕ) (made : World → Reply Scalar) (w : World) → ((w : World) → size ≤ most_size m → WhenGoing (GivesScalar w.memory) (made w)) → WhenGoing (GivesScalar w.memory) (allocate m size made w)
-  allocate_gives size made w h = when_kept GivesScalar w.memory (drawn w (pos 0) (pos 1)) _ (drawn_keeps w (pos 0) (pos 1)) (λ answer after. if_given_gives (int_eq answer (pos 1) && nat_le size (most_size m)) made after (λ e. h after (leb-true size (most_size m) (and_parts (int_eq answer (pos 1)) (nat_le size (most_size m)) e).1)))
+  allocate_gives : (size : ℕ) (made : World → Reply Scalar) (w : World) → ((w : World) → size ≤ most_size m → Gives m w.memory (made w)) → Gives m w.memory (allocate m size made w)
+  allocate_gives size made w h = when_kept (Given m) w.memory (drawn w (pos 0) (pos 1)) _ (drawn_keeps w (pos 0) (pos 1)) (λ answer after. if_given_gives (int_eq answer (pos 1) && nat_le size (most_size m)) made after (λ e. h after (leb-true size (most_size m) (and_parts (int_eq answer (pos 1)) (nat_le size (most_size m)) e).1)))
 
-  untyped_gives : (c : Content) (size : ℕ) (w : World) → IsProper m c → size ≤ most_size m → WhenGoing (GivesScalar w.memory) (allocated_with (untyped c size) w)
+  untyped_gives : (c : Content) (size : ℕ) (w : World) → IsProper m c → size ≤ most_size m → Gives m w.memory (allocated_with (untyped c size) w)
   untyped_gives c size w is small = let e = untyped_long c size in with_bytes_gives (untyped c size) w (λ _. untyped_proper c size is) (omega (arith, e, small))
 
   malloc_bytes_gives : (wanted : Option ℕ) (size : ℕ) (w : World) → Gives m w.memory (malloc_bytes m wanted size w)
@@ -94,7 +87,7 @@ module _ (m : Model) where
   given_back_evolves (into i offset lo hi) w = set_life_evolves m w.memory i freed
 
   free_pointer : (p : MachinePointer) (w : World) → Develops m w.memory (behind (freeable p w) (λ _ w. done (given_back p w)))
-  free_pointer p w = when_kept Evolving w.memory (freeable p w) _ (freeable_keeps p w) (λ _ after. given_back_evolves p after)
+  free_pointer p w = when_kept (Developed m) w.memory (freeable p w) _ (freeable_keeps p w) (λ _ after. given_back_evolves p after)
 
   pub free_develops : (vs : List Scalar) (w : World) → Develops m w.memory (free vs w)
   free_develops [] w = tt
@@ -111,7 +104,7 @@ module _ (m : Model) where
   resized_proper : (bytes : List Byte) (size : ℕ) → AreProperBytes m bytes → AreProperBytes m (resized bytes size)
   resized_proper bytes size are = each_both (IsProperByte m) (take size bytes) (untyped indeterminate (size - length bytes)) (each_taken (IsProperByte m) size bytes are) (untyped_proper indeterminate (size - length bytes) tt)
 
-  moved_gives : (size : ℕ) (p : MachinePointer) (w : World) → size ≤ most_size m → WhenGoing (GivesScalar w.memory) (moved_to size p w)
+  moved_gives : (size : ℕ) (p : MachinePointer) (w : World) → size ≤ most_size m → Gives m w.memory (moved_to size p w)
   moved_gives size p w small =
       let bytes : List Byte = resized (old_bytes w.memory p) size in
       let e : length bytes ≡ size = resized_long (old_bytes w.memory p) size in
@@ -124,7 +117,7 @@ module _ (m : Model) where
       }
 
   realloc_bytes_gives : (wanted : Option ℕ) (p : MachinePointer) (size : ℕ) (w : World) → Gives m w.memory (realloc_bytes m wanted p size w)
-  realloc_bytes_gives wanted p size w = when_kept GivesScalar w.memory (freeable p (asked_for wanted size w)) _ (freeable_keeps p (asked_for wanted size w)) (λ _ after. allocate_gives size (moved_to size p) after (λ now small. moved_gives size p now small))
+  realloc_bytes_gives wanted p size w = when_kept (Given m) w.memory (freeable p (asked_for wanted size w)) _ (freeable_keeps p (asked_for wanted size w)) (λ _ after. allocate_gives size (moved_to size p) after (λ now small. moved_gives size p now small))
 
   pub realloc_gives : (wanted : Option ℕ) (vs : List Scalar) (w : World) → Gives m w.memory (realloc m wanted vs w)
   realloc_gives wanted [] w = tt

@@ -1,5 +1,5 @@
 -- Operators, which keep memory, and the pointers that they give.
-use Rattle.std.proofs.Common.{◌≡◌, ◌≤◌, ◌+◌, ℕ, ℤ, pos, negsuc, ◌+ℤ◌, unsigned_abs, int_le, Bool, true, false, cond, not, ◌&&◌, ◌||◌, List, [], ◌∷◌, Option, Some, None, refl, subst, arith}
+use Rattle.std.proofs.Common.{◌≡◌, ◌≤◌, ℕ, ℤ, pos, negsuc, ◌+ℤ◌, unsigned_abs, int_le, Bool, true, false, not, ◌&&◌, ◌||◌, List, Option, Some, None, refl, arith}
 use Rattle.std.specs.Prelude.{◌≤ℤ◌}
 use Rattle.std.specs.Ordering.{int_eq}
 use Rattle.std.proofs.lemmas.Bool.{and_parts}
@@ -18,20 +18,16 @@ use Rattle.lib_models_memory.specs.Labels.{Labels, is_unlabelled}
 use Rattle.lib_models_memory.specs.Bytes.{MachinePointer, null, into}
 use Rattle.lib_models_memory.specs.Instances.{Memory}
 use Rattle.lib_models_memory.specs.Scalars.{Scalar, integer, pointer}
-use Rattle.lib_models_effects.specs.Worlds.{World, Reply, goes, stops, behind, unless, noted, stopped_by, Stuck}
+use Rattle.lib_models_effects.specs.Worlds.{World, Reply, goes, stops, unless, noted, stopped_by, Stuck}
 use Rattle.lib_models_effects.specs.Operands.{as_pointer}
 use Rattle.lib_models_effects.specs.IntegerEffects.{truth, computed, binary, unary, compare_numbers, negation, pointer_from, convert}
 use Rattle.lib_models_effects.specs.LibraryChecks.{most_size}
-use Rattle.lib_models_effects.specs.PointerEffects.{narrowed_by, at_part, narrow_pointer, narrow, distance_of, is_ended, moved_into, moved, shift_pointer, shift, share_instance, compared, difference, equality, ordered, pointers_compared, compare}
-use Rattle.lib_models_effects.specs.Touches.{Spot, touched}
+use Rattle.lib_models_effects.specs.PointerEffects.{narrowed_by, at_part, narrow_pointer, narrow, distance_of, is_ended, moved_into, moved, shift_pointer, shift, share_instance, compared, difference, equality, pointers_compared, compare}
+use Rattle.lib_models_effects.specs.Touches.{touched}
 use Rattle.ref_machine_marks.specs.Marks.{IsBounded}
-use Rattle.ref_machine_memory.specs.GoingWorlds.{WhenGoing, IsProperScalar, Keeps}
+use Rattle.ref_machine_memory.specs.GoingWorlds.{WhenGoing, IsProperScalar, Keeps, Same, Read, Reads}
 use Rattle.ref_machine_memory.proofs.Replies.{when_behind, when_where, when_either, when_unless, when_number, when_pointer}
-use Rattle.ref_machine_memory.proofs.Accessing.{IsTouched, EndsWithin, touched_within}
-
--- whatever is given, memory is as before
-abbrev Same : {A : Type 0} → Memory → A → World → Type 0
-Same before x w = w.memory ≡ before
+use Rattle.ref_machine_memory.proofs.Accessing.{IsTouched, EndsWithin, touched_within, bounded_of}
 
 -- ---- numbers
 
@@ -85,27 +81,21 @@ compare_keeps rel left right w = when_pointer (Same w.memory) left w _ (λ p _. 
 
 module _ (m : Model) where
   -- memory is as before
-  abbrev GivesPointer : Memory → MachinePointer → World → Type 0
-  GivesPointer before p w = IsBounded m p × (w.memory ≡ before)
+  abbrev ReadPointer : Memory → MachinePointer → World → Type 0
+  ReadPointer before p w = IsBounded m p × (w.memory ≡ before)
 
-  abbrev GivesScalar : Memory → Scalar → World → Type 0
-  GivesScalar before v w = IsProperScalar m v × (w.memory ≡ before)
-
-  as_scalar : (before : Memory) (r : Reply MachinePointer) → WhenGoing (GivesPointer before) r → WhenGoing (GivesScalar before) (as_pointer r)
-  as_scalar before r h = when_behind (GivesPointer before) (GivesScalar before) r _ h (λ p w is. is)
-
-  bounded_of : (v : Scalar) (p : MachinePointer) → v ≡ pointer p → IsProperScalar m v → IsBounded m p
-  bounded_of v p is proper = subst (IsProperScalar m) is proper
+  as_scalar : (before : Memory) (r : Reply MachinePointer) → WhenGoing (ReadPointer before) r → Reads m before (as_pointer r)
+  as_scalar before r h = when_behind (ReadPointer before) (Read m before) r _ h (λ p w is. is)
 
   part_ends : (p : MachinePointer) (offset : ℕ) → IsBounded m p → EndsWithin (most_size m) (at_part p offset)
   part_ends null offset is = tt
   part_ends (into i o lo hi) offset is = is.end
 
-  narrowed : (offset size : ℕ) (p : MachinePointer) (w : World) → IsBounded m p → WhenGoing (GivesPointer w.memory) (narrow_pointer offset size p w)
-  narrowed offset size p w is = when_behind (IsTouched w.memory (most_size m) size) (GivesPointer w.memory) (touched w (at_part p offset) size false) (narrowed_by size) (touched_within (most_size m) w (at_part p offset) size false (part_ends p offset is)) (λ spot after t. (let h = t.within in record { below = omega (arith, h); end = h }, t.same))
+  narrowed : (offset size : ℕ) (p : MachinePointer) (w : World) → IsBounded m p → WhenGoing (ReadPointer w.memory) (narrow_pointer offset size p w)
+  narrowed offset size p w is = when_behind (IsTouched w.memory (most_size m) size) (ReadPointer w.memory) (touched w (at_part p offset) size false) (narrowed_by size) (touched_within (most_size m) w (at_part p offset) size false (part_ends p offset is)) (λ spot after t. (let h = t.within in record { below = omega (arith, h); end = h }, t.same))
 
-  pub narrow_gives : (at : Scalar) (offset size : ℕ) (w : World) → IsProperScalar m at → WhenGoing (λ v after. IsProperScalar m v × (after.memory ≡ w.memory)) (narrow at offset size w)
-  narrow_gives at offset size w proper = when_pointer (GivesScalar w.memory) at w _ (λ p is. as_scalar w.memory (narrow_pointer offset size p w) (narrowed offset size p w (bounded_of at p is proper)))
+  pub narrow_gives : (at : Scalar) (offset size : ℕ) (w : World) → IsProperScalar m at → Reads m w.memory (narrow at offset size w)
+  narrow_gives at offset size w proper = when_pointer (Read m w.memory) at w _ (λ p is. as_scalar w.memory (narrow_pointer offset size p w) (narrowed offset size p w (bounded_of m at p is proper)))
 
   small_offset : (n : ℤ) (lo hi most : ℕ) → int_le (pos lo) n && int_le n (pos hi) ≡ true → hi ≤ most → unsigned_abs n ≤ most
   small_offset (pos k) lo hi most within small =
@@ -117,14 +107,14 @@ module _ (m : Model) where
       let h : pos lo ≤ℤ negsuc k = grind (arith, ints) in
       absurd (omega (arith, ints, h))
 
-  moved_gives : (w : World) (p : MachinePointer) (by : ℤ) → IsBounded m p → WhenGoing (GivesPointer w.memory) (moved w p by)
+  moved_gives : (w : World) (p : MachinePointer) (by : ℤ) → IsBounded m p → WhenGoing (ReadPointer w.memory) (moved w p by)
   moved_gives w null by is = tt
-  moved_gives w (into i offset lo hi) by is = when_unless (GivesPointer w.memory) w (is_ended w.memory (into i offset lo hi)) rule.Nullref (moved_into w i (pos offset +ℤ by) lo hi) (when_where (GivesPointer w.memory) (int_le (pos lo) (pos offset +ℤ by) && int_le (pos offset +ℤ by) (pos hi)) (goes (into i (unsigned_abs (pos offset +ℤ by)) lo hi) w) (stopped_by w rule.Invptr) (λ within. (record { below = small_offset (pos offset +ℤ by) lo hi (most_size m) within is.end; end = is.end }, refl)) (λ _. tt))
+  moved_gives w (into i offset lo hi) by is = when_unless (ReadPointer w.memory) w (is_ended w.memory (into i offset lo hi)) rule.Nullref (moved_into w i (pos offset +ℤ by) lo hi) (when_where (ReadPointer w.memory) (int_le (pos lo) (pos offset +ℤ by) && int_le (pos offset +ℤ by) (pos hi)) (goes (into i (unsigned_abs (pos offset +ℤ by)) lo hi) w) (stopped_by w rule.Invptr) (λ within. (record { below = small_offset (pos offset +ℤ by) lo hi (most_size m) within is.end; end = is.end }, refl)) (λ _. tt))
 
-  pub shift_gives : (at by : Scalar) (size : ℕ) (back : Bool) (w : World) → IsProperScalar m at → WhenGoing (λ v after. IsProperScalar m v × (after.memory ≡ w.memory)) (shift at by size back w)
-  shift_gives at by size back w proper = when_pointer (GivesScalar w.memory) at w _ (λ p is. when_number (GivesScalar w.memory) by w _ (λ n labels _. as_scalar w.memory (shift_pointer size back p n labels w) (moved_gives (noted w (not (is_unlabelled labels)) rule.Taintsink) p (distance_of back n size) (bounded_of at p is proper))))
+  pub shift_gives : (at by : Scalar) (size : ℕ) (back : Bool) (w : World) → IsProperScalar m at → Reads m w.memory (shift at by size back w)
+  shift_gives at by size back w proper = when_pointer (Read m w.memory) at w _ (λ p is. when_number (Read m w.memory) by w _ (λ n labels _. as_scalar w.memory (shift_pointer size back p n labels w) (moved_gives (noted w (not (is_unlabelled labels)) rule.Taintsink) p (distance_of back n size) (bounded_of m at p is proper))))
 
-  pub convert_gives : (kind : declared.Scalar) (v : Scalar) (w : World) → IsProperScalar m v → WhenGoing (λ v after. IsProperScalar m v × (after.memory ≡ w.memory)) (convert kind v w)
-  convert_gives (of.Int kind) v w proper = when_number (GivesScalar w.memory) v w _ (λ n labels _. (tt, refl))
-  convert_gives of.Pointer (integer n labels) w proper = when_either (GivesScalar w.memory) (int_eq n (pos 0)) (goes (pointer null) w) (stops Stuck w) (tt, refl) tt
+  pub convert_gives : (kind : declared.Scalar) (v : Scalar) (w : World) → IsProperScalar m v → Reads m w.memory (convert kind v w)
+  convert_gives (of.Int kind) v w proper = when_number (Read m w.memory) v w _ (λ n labels _. (tt, refl))
+  convert_gives of.Pointer (integer n labels) w proper = when_either (Read m w.memory) (int_eq n (pos 0)) (goes (pointer null) w) (stops Stuck w) (tt, refl) tt
   convert_gives of.Pointer (pointer p) w proper = (proper, refl)

@@ -1,13 +1,13 @@
 -- Lists of bytes and contents all of which are proper, and their lengths.
-use Rattle.std.proofs.Common.{◌≡◌, ◌≤◌, ◌<◌, ℕ, zero, suc, ◌+◌, ◌/◌, ◌%◌, ℤ, Bool, true, false, List, [], ◌∷◌, ◌++◌, length, map, take, drop, Option, Some, refl, ap, subst, arith, length-append, length-drop}
-use Rattle.std.specs.Prelude.{slice_get, replicate, min}
+use Rattle.std.proofs.Common.{◌≡◌, ◌≤◌, ℕ, zero, suc, ◌+◌, ◌/◌, List, [], ◌∷◌, ◌++◌, length, take, drop, Some, refl, ap, subst, arith, length-append, length-drop}
+use Rattle.std.specs.Prelude.{slice_get, replicate}
 use Rattle.std.proofs.lemmas.List.{length-take}
 use Rattle.std.proofs.lemmas.Option.{same_Some}
 use Rattle.c_layout.specs.declared.data_model.Model.{Model}
 use Rattle.c_layout.specs.declared.leaf_lists.Class.{Class}
 use Rattle.c_layout.specs.declared.leaf_lists.Leaf.{Leaf}
 use Rattle.lib_models_memory.specs.Labels.{Labels, no_labels}
-use Rattle.lib_models_memory.specs.Bytes.{MachinePointer, null, into, Content, indeterminate, number, part, Byte}
+use Rattle.lib_models_memory.specs.Bytes.{MachinePointer, null, into, Content, Byte}
 use Rattle.lib_models_memory.specs.Scalars.{Scalar, integer, pointer}
 use Rattle.lib_models_effects.specs.ObjectEffects.{blank_bytes, all_of}
 use Rattle.lib_models_effects.specs.ScalarBytes.{number_bytes, parts_from, pointer_bytes, bits_in, scalar_bytes, filled, tagged_from, replaced, refilled, region, contents}

@@ -1,18 +1,15 @@
 -- Replies in turn, with what holds of what they give and of the world behind them.
-use Rattle.std.proofs.Common.{◌≡◌, ℕ, ℤ, int_le, Bool, true, false, cond, ◌&&◌, List, [], ◌∷◌, refl, subst, sym, ◌∙◌}
+use Rattle.std.proofs.Common.{◌≡◌, ℤ, int_le, Bool, true, false, cond, ◌&&◌, List, [], ◌∷◌, refl, subst}
 use Rattle.cc_base.specs.declared.diagnostics.Rule.{Rule}
-use Rattle.c_layout.specs.declared.data_model.Model.{Model}
 use Rattle.lib_models_memory.specs.Labels.{Labels}
 use Rattle.lib_models_memory.specs.Bytes.{MachinePointer}
 use Rattle.lib_models_memory.specs.Instances.{Memory}
 use Rattle.lib_models_memory.specs.Scalars.{Scalar, integer, pointer}
 use Rattle.lib_models_effects.specs.Worlds.{World, Reply, goes, stops, behind, unless, stopped_by, drawn_in, drawn_from, drawn}
-use Rattle.lib_models_effects.specs.Operands.{with_number, with_pointer, as_pointer}
+use Rattle.lib_models_effects.specs.Operands.{with_number, with_pointer}
 use Rattle.ref_machine_operations.specs.GoingReplies.{NotStuck}
-use Rattle.ref_machine_marks.specs.Marks.{IsBounded}
-use Rattle.ref_machine_marks.specs.ProperMemory.{Evolves}
 use Rattle.ref_machine_marks.specs.MarkLaws.{Comes}
-use Rattle.ref_machine_memory.specs.GoingWorlds.{WhenGoing, IsProperScalar, Keeps, Develops}
+use Rattle.ref_machine_memory.specs.GoingWorlds.{WhenGoing, Keeps, Same}
 
 -- where it is not stuck either
 pub comes_when : {A : Type 0} (P : A → World → Type 0) (r : Reply A) → NotStuck r → WhenGoing P r → Comes P r
@@ -75,4 +72,4 @@ pub drawn_when : (w : World) (least most : ℤ) → WhenGoing (IsDrawn w.memory 
 drawn_when w least most = draws_when w least most w.draws
 
 pub drawn_keeps : (w : World) (least most : ℤ) → Keeps w.memory (drawn w least most)
-drawn_keeps w least most = when_more (IsDrawn w.memory least most) (λ x after. after.memory ≡ w.memory) (drawn w least most) (λ x after is. is.same) (drawn_when w least most)
+drawn_keeps w least most = when_more (IsDrawn w.memory least most) (Same w.memory) (drawn w least most) (λ x after is. is.same) (drawn_when w least most)

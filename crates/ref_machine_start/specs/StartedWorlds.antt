@@ -1,10 +1,8 @@
 -- The world in which a run begins.
-use Rattle.std.specs.Prelude.{◌≡◌, ◌≤◌, ◌+◌, ℕ, ℤ, List, length, Some, slice_get}
-use Rattle.c_layout.specs.CheckedUnits.{LocalView, FunctionView, UnitView}
-use Rattle.lib_models_memory.specs.Instances.{bytes_at}
+use Rattle.std.specs.Prelude.{◌≡◌, Some}
+use Rattle.c_layout.specs.CheckedUnits.{FunctionView, UnitView}
 use Rattle.lib_models_effects.specs.Worlds.{World}
 use Rattle.lib_models_effects.specs.UnitStarts.{entry_parameters}
-use Rattle.ref_machine.specs.Operations.{size_of}
 use Rattle.ref_machine.specs.SourceRuns.{name_parameters}
 use Rattle.ref_machine.specs.SourceStates.{function_at}
 use Rattle.ref_machine_marks.specs.ProperMemory.{IsProperMemory}
