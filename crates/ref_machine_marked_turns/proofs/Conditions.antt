@@ -136,9 +136,6 @@ module _ (u : UnitView) (lines : LinesKeepMarks) (at : Place) (none some : Items
       let stream : Newest u.model s.names s.world.memory Pointing (Ranged r.goes.does.1.0 ∷ (Pointing ∷ below)) r.own = newest u.model s.names s.world.memory Pointing (Ranged r.goes.does.1.0 ∷ (Pointing ∷ below)) r.marks r.own r.goes.does.1.2 r.are in
       let count : Newest u.model s.names s.world.memory (Ranged r.goes.does.1.0) (Pointing ∷ below) stream.others = newest u.model s.names s.world.memory (Ranged r.goes.does.1.0) (Pointing ∷ below) _ stream.others refl stream.are in
       let text : Newest u.model s.names s.world.memory Pointing below count.others = newest u.model s.names s.world.memory Pointing below _ count.others refl count.are in
-      let all : s.values ≡ stream.value ∷ (count.value ∷ (text.value ∷ (text.others ++ r.rest))) =
-            r.values ∙ ap (λ vs. vs ++ r.rest) (stream.is ∙ ap (λ vs. stream.value ∷ vs) (count.is ∙ ap (λ vs. count.value ∷ vs) text.is)) in
-      subst (λ vs. Comes (RunsOn u) (read_line u none some s vs)) (sym all)
-        (comes_behind (RunsOn u) (λ v w. Has u.model s.names w.memory Pointing v × Evolves u.model s.world.memory w.memory) (fgets u.model (text.value ∷ (count.value ∷ (stream.value ∷ []))) s.world) _
-          (lines u s.names r.goes.does.1.0 text.value count.value stream.value s.world r.proper text.has count.has stream.has)
-          (λ v w read. line_by text.others w text.are read.1 (is_false v)))
+      let all : s.values ≡ stream.value ∷ (count.value ∷ (text.value ∷ (text.others ++ r.rest))) = r.values ∙ ap (λ vs. vs ++ r.rest) (stream.is ∙ ap (λ vs. stream.value ∷ vs) (count.is ∙ ap (λ vs. count.value ∷ vs) text.is)) in
+      let given : Comes (λ v w. Has u.model s.names w.memory Pointing v × Evolves u.model s.world.memory w.memory) (fgets u.model (text.value ∷ (count.value ∷ (stream.value ∷ []))) s.world) = lines u s.names r.goes.does.1.0 text.value count.value stream.value s.world r.proper text.has count.has stream.has in
+      subst (λ vs. Comes (RunsOn u) (read_line u none some s vs)) (sym all) (comes_behind (RunsOn u) (λ v w. Has u.model s.names w.memory Pointing v × Evolves u.model s.world.memory w.memory) (fgets u.model (text.value ∷ (count.value ∷ (stream.value ∷ []))) s.world) _ given (λ v w read. line_by text.others w text.are read.1 (is_false v)))

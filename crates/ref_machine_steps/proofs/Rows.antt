@@ -106,9 +106,10 @@ truths : HasTruths int_kind
 truths = record { zero = refl; one = refl }
 
 less_is : MarkedCondition right true less
-less_is =
-    ( ((tt, int_is, refl), (int_kind, refl, refl), (int_kind, int_kind, refl, refl, (int_kind, refl, truths)))
-    , (Lt, Loaded n_named, Exactly (pos 5), refl, inl (inl (tt, int_is, refl)), inr (inl (pos 5, refl, refl)), record { common = int_kind; kind = int_is; is = refl; sides = inl ((refl, refl), refl, refl) }) )
+less_is = (
+  ((tt, int_is, refl), (int_kind, refl, refl), (int_kind, int_kind, refl, refl, (int_kind, refl, truths))),
+  (Lt, Loaded n_named, Exactly (pos 5), refl, inl (inl (tt, int_is, refl)), inr (inl (pos 5, refl, refl)), record { common = int_kind; kind = int_is; is = refl; sides = inl ((refl, refl), refl, refl) }),
+)
 
 int_locals : (k : ℕ) → IsScalarType right (local_type testing k)
 int_locals zero = int_is
