@@ -1,0 +1,7 @@
+pub mod LookedTypes
+pub mod LookedTests
+pub mod LookedTerms
+pub mod LookedStatements
+pub mod LookedUnits
+pub mod LookedScopes
+pub mod LookLaws
