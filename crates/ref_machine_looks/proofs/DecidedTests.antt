@@ -2,6 +2,7 @@
 use Rattle.std.proofs.Common.{◌≡◌, ◌⊎◌, inl, inr, ℕ, ◌==◌, ℤ, pos, Bool, true, false, ◌&&◌, ◌||◌, Option, Some, None, refl, ap, sym, subst, ◌∙◌}
 use Rattle.std.specs.Ordering.{int_eq}
 use Rattle.std.proofs.lemmas.Bool.{eqb-true}
+use Rattle.std.proofs.lemmas.Bool.Decides.{Decides-int_eq}
 use Rattle.cc_base.specs.IntegerTypes.{wrap_into}
 use Rattle.cc_base.specs.declared.int_types.IntType.{IntType}
 use Rattle.cc_base.specs.declared.integer_operators.Rel.{Rel}
@@ -40,7 +41,7 @@ object_is o p h =
     ap (λ r. made r o.kind) (reference_is o.object p.object x.0) ∙ ap (λ k. made p.object k) (scalar_is o.kind p.kind x.1)
 
 pub number_is : (m n : ℤ) → int_eq m n ≡ true → m ≡ n
-number_is m n h = ?
+number_is m n h = (Decides-int_eq m n).0 h
 
 side_is : (x y : NamedSide) → same_side x y ≡ true → x ≡ y
 side_is (side.named o) (side.named p) h = ap side.named (object_is o p h)

@@ -1,3 +1,5 @@
 pub mod Truths
 pub mod SameTypes
 pub mod DecidedTests
+pub mod ExactNumbers
+pub mod LookedOperands

@@ -18,6 +18,10 @@ pub is_false : (a : Bool) → not a ≡ true → a ≡ false
 is_false true e = never e
 is_false false e = refl
 
+pub implied : (a b : Bool) → (not a || b) ≡ true → a ≡ true → b ≡ true
+implied true b e is = e
+implied false b e is = never is
+
 -- ---- what is said of two parts and more
 
 pub both : {A B : Type 0} (a b : Bool) → (a ≡ true → A) → (b ≡ true → B) → (a && b) ≡ true → A × B
