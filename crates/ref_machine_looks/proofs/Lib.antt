@@ -3,3 +3,4 @@ pub mod SameTypes
 pub mod DecidedTests
 pub mod ExactNumbers
 pub mod LookedOperands
+pub mod LookedTerms
