@@ -4,3 +4,4 @@ pub mod DecidedTests
 pub mod ExactNumbers
 pub mod LookedOperands
 pub mod LookedTerms
+pub mod FoundLabels
