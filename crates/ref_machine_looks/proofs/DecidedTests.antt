@@ -1,5 +1,5 @@
 -- What looks at tests say.
-use Rattle.std.proofs.Common.{◌≡◌, ◌⊎◌, inl, inr, ℕ, ◌==◌, ℤ, pos, Bool, true, false, ◌&&◌, ◌||◌, Option, Some, None, refl, ap, sym, subst, ◌∙◌}
+use Rattle.std.proofs.Common.{◌≡◌, inl, inr, ℤ, Bool, true, ◌&&◌, ◌||◌, Option, Some, None, refl, ap, sym, ◌∙◌}
 use Rattle.std.specs.Ordering.{int_eq}
 use Rattle.std.proofs.lemmas.Bool.{eqb-true}
 use Rattle.std.proofs.lemmas.Bool.Decides.{Decides-int_eq}
@@ -22,7 +22,7 @@ use Rattle.ref_machine_marks.specs.Marks.{Mark, Ranged, Exactly, Pointing, Namin
 use Rattle.ref_machine_marks.specs.MarkOperations.{IsSideOf, ComparesAs, AreWithNull, null_test_of, ConvertsTo}
 use Rattle.ref_machine_marked.specs.MarkedTerms.{DecidesAlone, Decides}
 use Rattle.ref_machine_looks.specs.LookedTypes.{is_kind, is_wider, is_pointer, same_scalar}
-use Rattle.ref_machine_looks.specs.LookedTests.{same_reference, same_object, same_side, same_relation, same_common, same_test, converted_number, converted_pointer, converted_object, converted_mark, is_side_of, compares_in, is_null_test, with_loaded, are_with_null, zero_test_in, decides_number, decides_alone, decides_converted, decides}
+use Rattle.ref_machine_looks.specs.LookedTests.{same_reference, same_object, same_side, same_relation, same_common, same_test, converted_number, converted_pointer, converted_mark, is_side_of, compares_in, is_null_test, with_loaded, are_with_null, zero_test_in, decides_number, decides_alone, decides_converted, decides}
 use Rattle.ref_machine_looks.proofs.Truths.{never, no_some, some_is, both_true, both, three, four, one_of}
 use Rattle.ref_machine_looks.proofs.SameTypes.{kind_is, kind_there, wider, scalar_is, pointer_is}
 

@@ -1,5 +1,5 @@
 -- Terms that a look has the numbers of, and null pointer constants.
-use Rattle.std.proofs.Common.{◌≡◌, ◌⊎◌, inl, inr, ℤ, pos, Bool, true, false, ◌||◌, cond, Option, Some, None, option_map, refl, ap, sym, subst, ◌∙◌}
+use Rattle.std.proofs.Common.{◌≡◌, ◌⊎◌, inl, inr, ℤ, pos, Bool, true, false, ◌||◌, cond, Option, Some, None, option_map, refl, sym, subst}
 use Rattle.std.specs.Option.{option_and_then}
 use Rattle.cc_base.specs.IntegerTypes.{wrap_into}
 use Rattle.cc_base.specs.MachineArithmetic.{unary_result}

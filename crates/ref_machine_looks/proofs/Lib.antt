@@ -5,3 +5,6 @@ pub mod ExactNumbers
 pub mod LookedOperands
 pub mod LookedTerms
 pub mod FoundLabels
+pub mod LookedStatements
+pub mod LookedUnits
+pub mod LookedScopes

@@ -7,7 +7,6 @@ use Rattle.c_layout.specs.CheckedTrees.{TermTree, Typed, Designates}
 use Rattle.c_layout.specs.CheckedUnits.{UnitView}
 use Rattle.c_layout.specs.declared.checked_tree.checked_terms.ObjectRef.{ObjectRef}
 use Rattle.c_layout.specs.declared.checked_tree.checked_terms.ObjectRef.TheVariants as ref
-use Rattle.c_layout.specs.declared.data_model.Model.{Model}
 use Rattle.c_layout.specs.declared.syntax_tree.expressions.LogicalOp.TheVariants.{And, Or}
 use Rattle.flow_lower_tasks.specs.TermKinds.{meaning, relation, scalar_of}
 use Rattle.flow_lower_tasks.specs.declared.term_kinds.OperatorMeaning.{OperatorMeaning}
@@ -17,7 +16,7 @@ use Rattle.flow_program.specs.declared.machine_instructions.Scalar.TheVariants a
 use Rattle.ref_machine.specs.Items.{NamedTest}
 use Rattle.ref_machine.specs.TermTests.{test_if}
 use Rattle.ref_machine_kinds.specs.KindedTerms.{HasObject}
-use Rattle.ref_machine_marks.specs.Marks.{Mark, Exactly, Null, Loaded}
+use Rattle.ref_machine_marks.specs.Marks.{Mark, Exactly, Null}
 use Rattle.ref_machine_marks.specs.MarkOperations.{ComparesAs, AreWithNull, null_test_of, ConvertsTo}
 use Rattle.ref_machine_marked.specs.MarkedTerms.{IsScalarType, Decides, SideTerm, StoredTerm, Quiet, Operand, TestTerm, HasTest, HasTests}
 use Rattle.ref_machine_looks.specs.LookedTypes.{is_scalar_type}

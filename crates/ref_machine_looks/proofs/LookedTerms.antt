@@ -1,8 +1,8 @@
 -- Terms that pass the look have operands of the marks that their operators take.
-use Rattle.std.proofs.Common.{◌≡◌, ◌⊎◌, ℕ, ◌+◌, ◌==◌, pos, Bool, true, false, not, ◌&&◌, ◌||◌, List, [], ◌∷◌, Option, Some, None, slice_get, refl, ap, sym}
+use Rattle.std.proofs.Common.{◌≡◌, ℕ, ◌+◌, pos, Bool, true, false, not, ◌&&◌, ◌||◌, List, [], ◌∷◌, Option, Some, None, slice_get, refl, ap}
 use Rattle.std.proofs.lemmas.Bool.{eqb-true}
 use Rattle.cc_base.specs.IntegerTypes.{in_type}
-use Rattle.c_layout.specs.Types.{Ty, same_type}
+use Rattle.c_layout.specs.Types.{Ty}
 use Rattle.c_layout.specs.CheckedTrees as tree
 use Rattle.c_layout.specs.CheckedTrees.{TermTree, TermTrees, Typed, LvalueTree, Designates}
 use Rattle.c_layout.specs.CheckedUnits.{FunctionView, UnitView}
@@ -19,11 +19,11 @@ use Rattle.ref_machine.specs.SourceStates.{function_at}
 use Rattle.ref_machine_operations.specs.Kinds.{Kind, Number, Address, kind_of}
 use Rattle.ref_machine_operations.specs.TakenKinds.{Accepts, result_kind}
 use Rattle.ref_machine_kinds.specs.KindedTerms.{argument_kinds}
-use Rattle.ref_machine_marks.specs.Marks.{Mark, mark_of}
+use Rattle.ref_machine_marks.specs.Marks.{mark_of}
 use Rattle.ref_machine_marks.specs.MarkOperations.{AreOfKinds, least_given, greatest_given, IsGiven}
 use Rattle.ref_machine_marked.specs.MarkedTerms.{argument_marks, HaveParameters, CallsFunction, CallsLibrary, MarkedTerm, MarkedPlace, MarkedTerms, MarkedCondition}
-use Rattle.ref_machine_looks.specs.LookedTypes.{is_kind, is_scalar_type, is_address, same_mark, is_integer, has_number, is_such, is_truth, subtracts, combines, adds_to, steps_in, compounds, converts}
-use Rattle.ref_machine_looks.specs.LookedTerms.{is_exact_zero, has_tests, have_parameters, calls, same_kinds, begins_with_address, accepts, is_given, calls_library, is_marked_term, is_marked_place, are_marked_terms, is_marked_condition}
+use Rattle.ref_machine_looks.specs.LookedTypes.{same_mark}
+use Rattle.ref_machine_looks.specs.LookedTerms.{has_tests, have_parameters, calls, same_kinds, begins_with_address, accepts, is_given, calls_library, is_marked_term, is_marked_place, are_marked_terms, is_marked_condition}
 use Rattle.ref_machine_looks.proofs.Truths.{never, there, implied, is_false, both_true, both, three, four, five, six, one_of}
 use Rattle.ref_machine_looks.proofs.SameTypes.{type_is, mark_is, address_is, scalar_type, number, integer, integer_there, truth, subtracted, combined, added, stepped, compounded, converted}
 use Rattle.ref_machine_looks.proofs.ExactNumbers.{zero_is}

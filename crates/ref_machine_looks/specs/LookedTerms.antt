@@ -5,7 +5,7 @@ use Rattle.cc_base.specs.IntegerTypes.{in_type, wrap_into}
 use Rattle.cc_base.specs.MachineArithmetic.{binary_result, unary_result, holds}
 use Rattle.cc_base.specs.declared.int_types.IntType.{IntType}
 use Rattle.cc_base.specs.declared.integer_operators.UnOp.TheVariants.{Neg, Compl}
-use Rattle.c_layout.specs.Types.{Ty, Int, Pointer, Array, Struct, Void, same_type}
+use Rattle.c_layout.specs.Types.{Ty, Int, same_type}
 use Rattle.c_layout.specs.CheckedTrees as tree
 use Rattle.c_layout.specs.CheckedTrees.{TermTree, TermTrees, Typed, LvalueTree, Designates}
 use Rattle.c_layout.specs.CheckedUnits.{FunctionView, UnitView}

@@ -1,5 +1,5 @@
 -- Looks at tests: whether what is known of the operands of a condition decides its test.
-use Rattle.std.specs.Prelude.{ℕ, ◌==◌, ℤ, pos, Bool, true, false, ◌&&◌, ◌||◌, Option, Some, None}
+use Rattle.std.specs.Prelude.{◌==◌, pos, Bool, true, false, ◌&&◌, ◌||◌, Option, Some, None}
 use Rattle.std.specs.Ordering.{int_eq}
 use Rattle.cc_base.specs.IntegerTypes.{wrap_into}
 use Rattle.cc_base.specs.declared.int_types.IntType.{IntType}
@@ -18,7 +18,7 @@ use Rattle.flow_program.specs.declared.machine_instructions.Scalar.TheVariants a
 use Rattle.lib_models_effects.specs.Tests.{turned}
 use Rattle.ref_machine.specs.Items as side
 use Rattle.ref_machine.specs.Items.{NamedSide, NamedTest}
-use Rattle.ref_machine_marks.specs.Marks.{Mark, Ranged, Exactly, Pointing, Naming, Null, Loaded, Converted, Tested}
+use Rattle.ref_machine_marks.specs.Marks.{Mark, Exactly, Null, Loaded, Converted}
 use Rattle.ref_machine_marks.specs.MarkOperations.{null_test_of}
 use Rattle.ref_machine_looks.specs.LookedTypes.{is_kind, is_wider, is_pointer, same_scalar}
 

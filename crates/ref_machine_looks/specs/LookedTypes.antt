@@ -1,5 +1,5 @@
 -- Looks at types: whether integer types are those of the data model, and whether two types give values of one mark.
-use Rattle.std.specs.Prelude.{ℕ, ◌==◌, ℤ, pos, negsuc, Bool, true, false, ◌&&◌, ◌||◌}
+use Rattle.std.specs.Prelude.{◌==◌, ℤ, pos, negsuc, Bool, true, false, ◌&&◌, ◌||◌}
 use Rattle.cc_base.specs.IntegerTypes.{is_size, least_of, greatest_of, in_type}
 use Rattle.cc_base.specs.declared.int_types.IntType.{IntType}
 use Rattle.cc_base.specs.declared.integer_operators.IntOp.{IntOp}

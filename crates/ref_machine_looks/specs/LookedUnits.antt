@@ -1,5 +1,5 @@
 -- A look at a unit whose labels, names and jumps were looked at: whether its functions and objects are marked.
-use Rattle.std.specs.Prelude.{ℕ, zero, suc, ◌+◌, Bool, true, false, ◌&&◌, ◌||◌, nat_le, length, is_some}
+use Rattle.std.specs.Prelude.{ℕ, zero, suc, ◌+◌, Bool, true, ◌&&◌, ◌||◌, nat_le, length, is_some}
 use Rattle.std.specs.List.{list_all}
 use Rattle.c_layout.specs.Types.{Ty}
 use Rattle.c_layout.specs.CheckedTrees.{statement_trees}
