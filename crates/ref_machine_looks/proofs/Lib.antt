@@ -4,7 +4,3 @@ pub mod DecidedTests
 pub mod ExactNumbers
 pub mod LookedOperands
 pub mod LookedTerms
-pub mod FoundLabels
-pub mod LookedStatements
-pub mod LookedUnits
-pub mod LookedScopes

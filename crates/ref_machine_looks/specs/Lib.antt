@@ -1,7 +1,4 @@
 pub mod LookedTypes
 pub mod LookedTests
 pub mod LookedTerms
-pub mod LookedStatements
-pub mod LookedUnits
-pub mod LookedScopes
-pub mod LookLaws
+pub mod TermLaws

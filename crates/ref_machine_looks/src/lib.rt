@@ -1,6 +1,6 @@
-//! A look at a unit that computes, and what it says of a unit that passes it.
+//! Looks at terms and conditions that compute, and what they say of terms that pass them.
 #![tactic(auto)]
 
 mod theorems;
 
-pub use theorems::{looks_mark, looks_scope};
+pub use theorems::{looks_mark_conditions, looks_mark_terms};

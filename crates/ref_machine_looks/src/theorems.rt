@@ -1,12 +1,12 @@
-//! A unit that passes the looks has terms with operands of their marks, and names only what lives.
-ghost use Rattle.ref_machine_looks.specs.LookLaws.{LooksMark, LooksScope};
+//! A term that passes the look has operands of their marks.
+ghost use Rattle.ref_machine_looks.specs.TermLaws.{LooksMarkTerms, LooksMarkConditions};
 
-/// A unit that passes the look at its terms is marked.
-pub fn looks_mark()
-    ensures { LooksMark }
+/// A term that passes the look is marked.
+pub fn looks_mark_terms()
+    ensures { LooksMarkTerms }
 {}
 
-/// A unit that passes the look at its scopes is scoped.
-pub fn looks_scope()
-    ensures { LooksScope }
+/// A condition that passes the look is marked, and its tests are decided.
+pub fn looks_mark_conditions()
+    ensures { LooksMarkConditions }
 {}
