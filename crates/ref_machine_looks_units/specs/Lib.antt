@@ -1,0 +1,4 @@
+pub mod LookedStatements
+pub mod LookedUnits
+pub mod LookedScopes
+pub mod LookLaws
