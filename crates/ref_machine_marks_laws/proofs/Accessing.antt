@@ -28,7 +28,7 @@ use Rattle.ref_machine_ranges.proofs.WholeObjects.{loaded_whole, stored_whole, s
 use Rattle.ref_machine_marks_laws.proofs.StableMarks.{has_stable, are_stable}
 use Rattle.ref_machine_marks_laws.proofs.Keeping.{given_when, unpushed, kind_given, Makes, Changes, makes, changes, pushed_made, one_made, two_changed, replacing, rewriting}
 
-pub stable_type : (kind : declared.Scalar) → is_stable (mark_of kind) ≡ true
+stable_type : (kind : declared.Scalar) → is_stable (mark_of kind) ≡ true
 stable_type (of.Int kind) = refl
 stable_type of.Pointer = refl
 

@@ -153,7 +153,7 @@ module _ (steps : OperationsHaveSteps) (keeps : OperationsKeepKinds) (u : UnitVi
     proper : AreProperScalars u.model (reverse first)
     proper = proper_arguments u names w.memory marks ks (reverse first) of in_order
 
-    pub arguments_called : (below : List Mark) (result : Mark) (others rest : List Scalar) → AreStable below → AreMarked u.model names w.memory below others → (gives function ≡ true → IsGiven u.model function (result_kind function) result) → Comes (Leaves u names w.memory (with_given function result below) rest) (perform u (op.Library function count target) ((first ++ others) ++ rest) w)
+    arguments_called : (below : List Mark) (result : Mark) (others rest : List Scalar) → AreStable below → AreMarked u.model names w.memory below others → (gives function ≡ true → IsGiven u.model function (result_kind function) result) → Comes (Leaves u names w.memory (with_given function result below) rest) (perform u (op.Library function count target) ((first ++ others) ++ rest) w)
     arguments_called below result others rest stable others_are is =
         subst (λ vs. Comes (Leaves u names w.memory (with_given function result below) rest) (perform u (op.Library function count target) vs w)) (sym (append_assoc first others rest))
         (subst (Comes (Leaves u names w.memory (with_given function result below) rest)) (sym (taken_from first (others ++ rest) many))

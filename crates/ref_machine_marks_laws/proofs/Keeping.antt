@@ -16,11 +16,6 @@ use Rattle.ref_machine_marks_laws.proofs.StableMarks.{are_stable}
 
 -- ---- replies
 
--- it holds where it holds of each value that is given
-pub when_given : {A : Type 0} (P : A → World → Type 0) (r : Reply A) → ((x : A) (w : World) → r ≡ goes x w → P x w) → WhenGoing P r
-when_given P (goes x w) h = h x w refl
-when_given P (stops why w) h = tt
-
 pub given_when : {A : Type 0} (P : A → World → Type 0) (r : Reply A) (x : A) (w : World) → WhenGoing P r → r ≡ goes x w → P x w
 given_when P r x w h e = subst (WhenGoing P) e h
 
@@ -62,7 +57,7 @@ module _ (u : UnitView) (names : ℕ → Option ℕ) (w : World) where
   }
   pushed_made g below own rest (stops why after) are made = made
 
-  pub pushed_changed : (g : Mark) (below : List Mark) (own rest : List Scalar) (r : Reply Scalar) → AreStable below → AreMarked u.model names w.memory below own → Changes g r → Comes (Leaves u names w.memory (g ∷ below) rest) (pushing (own ++ rest) r)
+  pushed_changed : (g : Mark) (below : List Mark) (own rest : List Scalar) (r : Reply Scalar) → AreStable below → AreMarked u.model names w.memory below own → Changes g r → Comes (Leaves u names w.memory (g ∷ below) rest) (pushing (own ++ rest) r)
   pushed_changed g below own rest (goes v after) stable are changed = record {
     own = v ∷ own;
     is = refl;

@@ -62,7 +62,7 @@ module _ (m : Model) (names : ℕ → Option ℕ) where
         let p : AreParts ks others vs = parts_are ks others vs are.1 in
         record { first = v ∷ p.first; rest = p.rest; is = ap (λ vs. v ∷ vs) p.is; are = (are.0, p.are); others_are = p.others_are }
 
-    pub both_marked : (marks others : List Mark) (vs more : List Scalar) → AreMarked m names memory marks vs → AreMarked m names memory others more → AreMarked m names memory (marks ++ others) (vs ++ more)
+    both_marked : (marks others : List Mark) (vs more : List Scalar) → AreMarked m names memory marks vs → AreMarked m names memory others more → AreMarked m names memory (marks ++ others) (vs ++ more)
     both_marked [] others [] more are other = other
     both_marked [] others (v ∷ vs) more are other = absurd are
     both_marked (k ∷ ks) others [] more are other = absurd are

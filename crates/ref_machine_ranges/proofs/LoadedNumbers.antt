@@ -67,13 +67,13 @@ number_by_sign false kind ns e p h i =
     in_type_between kind (number_of false ns) (rw e (omega (arith, ints))) (rw e (omega (arith, ints, u, i)))
 
 -- bytes below 256, no more than the type has
-pub number_in_type : (kind : IntType) (ns : List Labelled) → is_size kind.bytes ≡ true → length ns ≤ kind.bytes → ((k : ℕ) (n : Labelled) → slice_get ns k ≡ Some n → n.number < 256) → in_type kind (number_of kind.signed ns) ≡ true
+number_in_type : (kind : IntType) (ns : List Labelled) → is_size kind.bytes ≡ true → length ns ≤ kind.bytes → ((k : ℕ) (n : Labelled) → slice_get ns k ≡ Some n → n.number < 256) → in_type kind (number_of kind.signed ns) ≡ true
 number_in_type kind ns h l each = number_by_sign kind.signed kind ns refl (size_some kind.bytes h) l (unsigned_below ns each)
 
 -- ---- scalars
 
 -- where contents are an integer, they are these numbers
-pub integer_is : (kind : IntType) (o : Option (List Labelled)) (v : Scalar) → integer_in kind o ≡ Some v → (ns : List Labelled) × (o ≡ Some ns) × (labels : Labels) × (v ≡ integer (number_of kind.signed ns) labels)
+integer_is : (kind : IntType) (o : Option (List Labelled)) (v : Scalar) → integer_in kind o ≡ Some v → (ns : List Labelled) × (o ≡ Some ns) × (labels : Labels) × (v ≡ integer (number_of kind.signed ns) labels)
 integer_is kind None v e = cc
 integer_is kind (Some ns) v e = (ns, refl, joined_labels ns, cc)
 

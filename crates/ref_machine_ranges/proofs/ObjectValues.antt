@@ -27,7 +27,7 @@ use Rattle.ref_machine_ranges.proofs.LoadedNumbers.{AreProper, loaded_in}
 
 -- ---- contents of memory
 
-pub proper_region : (m : Model) (memory : Memory) (i offset size : ℕ) → IsProperMemory m memory → AreProper m (contents (region (bytes_at memory i) offset size))
+proper_region : (m : Model) (memory : Memory) (i offset size : ℕ) → IsProperMemory m memory → AreProper m (contents (region (bytes_at memory i) offset size))
 proper_region m memory i offset size proper k c e =
     let r = get_map (λ b. b.content) (region (bytes_at memory i) offset size) k c e in
     let s = region_at (bytes_at memory i) offset size k (offset + k) r.0 r.1 refl in

@@ -49,7 +49,7 @@ bytes_set memory i it bytes e = ap (λ m. bytes_at m i) (set_is memory i it byte
 
 -- ---- sizes
 
-pub size_is : (m : Model) (kind : declared.Scalar) → IsScalar m kind → scalar_size m kind ≡ class_bytes m (class_in kind)
+size_is : (m : Model) (kind : declared.Scalar) → IsScalar m kind → scalar_size m kind ≡ class_bytes m (class_in kind)
 size_is m (of.Int kind) is = sym is.bytes
 size_is m of.Pointer is = refl
 
@@ -71,7 +71,7 @@ module _ (m : Model) (names : ℕ → Option ℕ) where
   -- ---- values
 
   -- a scalar of the object's bytes is its value
-  pub value_of : (o : NamedObject) (memory : Memory) (v : Scalar) (i : ℕ) → instance_of names o.object ≡ Some i → side_scalar m memory (object i o.kind) ≡ Some v → IsValue m names memory o v
+  value_of : (o : NamedObject) (memory : Memory) (v : Scalar) (i : ℕ) → instance_of names o.object ≡ Some i → side_scalar m memory (object i o.kind) ≡ Some v → IsValue m names memory o v
   value_of o memory (integer n labels) i named is = record { instance = i; labels = labels; named = named; is = is }
   value_of o memory (pointer p) i named is = record { instance = i; named = named; is = is }
 
