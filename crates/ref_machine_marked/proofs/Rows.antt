@@ -85,9 +85,10 @@ abbrev less : TermTree → TermTree
 less a = term int (tree.Integer Less a (number 5))
 
 less_is : MarkedCondition unit true (less value)
-less_is =
-    ( ((tt, int_is, refl), (int_kind, refl, refl), (int_kind, int_kind, refl, refl, (int_kind, refl, truths)))
-    , (Lt, Loaded x_named, Exactly (pos 5), refl, inl (inl (tt, int_is, refl)), inr (inl (pos 5, refl, refl)), record { common = int_kind; kind = int_is; is = refl; sides = inl ((refl, refl), refl, refl) }) )
+less_is = (
+  ((tt, int_is, refl), (int_kind, refl, refl), (int_kind, int_kind, refl, refl, (int_kind, refl, truths))),
+  (Lt, Loaded x_named, Exactly (pos 5), refl, inl (inl (tt, int_is, refl)), inr (inl (pos 5, refl, refl)), record { common = int_kind; kind = int_is; is = refl; sides = inl ((refl, refl), refl, refl) }),
+)
 
 -- ---- `x` alone is a test and no comparison
 
@@ -112,9 +113,10 @@ assigned_is : MarkedTerm unit true assigned
 assigned_is = (tt, (char_is, inl ((int_kind, refl, refl), refl)), char_is, refl, refl)
 
 assigned_less_is : MarkedCondition unit true (less (converted int assigned))
-assigned_less_is =
-    ( ((int_is, inl (assigned_is, refl)), (int_kind, refl, refl), (int_kind, int_kind, refl, refl, (int_kind, refl, truths)))
-    , (Lt, Converted c_named int_kind, Exactly (pos 5), refl, inr (int_is, (Loaded c_named, refl, (char_kind, refl, refl))), inr (inl (pos 5, refl, refl)), record { common = int_kind; kind = int_is; is = refl; sides = inl ((refl, refl), refl, refl) }) )
+assigned_less_is = (
+  ((int_is, inl (assigned_is, refl)), (int_kind, refl, refl), (int_kind, int_kind, refl, refl, (int_kind, refl, truths))),
+  (Lt, Converted c_named int_kind, Exactly (pos 5), refl, inr (int_is, (Loaded c_named, refl, (char_kind, refl, refl))), inr (inl (pos 5, refl, refl)), record { common = int_kind; kind = int_is; is = refl; sides = inl ((refl, refl), refl, refl) }),
+)
 
 -- ---- `switch (c);` and `int *p = 0;`
 
