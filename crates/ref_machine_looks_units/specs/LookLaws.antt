@@ -3,8 +3,8 @@ use Rattle.std.specs.Prelude.{◌≡◌, true}
 use Rattle.c_layout.specs.CheckedUnits.{UnitView}
 use Rattle.ref_machine_lives.specs.ScopedStatements.{ScopedUnit}
 use Rattle.ref_machine_marked.specs.MarkedStatements.{MarkedUnit}
-use Rattle.ref_machine_looks_units.specs.LookedUnits.{is_marked}
-use Rattle.ref_machine_looks_units.specs.LookedScopes.{is_scoped}
+use Rattle.ref_machine_looks.specs.LookedUnits.{is_marked}
+use Rattle.ref_machine_looks.specs.LookedScopes.{is_scoped}
 
 -- a unit that passes the look is marked
 abbrev pub LooksMark : Type 0
