@@ -1,0 +1,2 @@
+pub mod FittingNumbers
+pub mod Groups
