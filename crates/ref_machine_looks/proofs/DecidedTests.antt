@@ -134,9 +134,9 @@ compared m rel left right test h = by test.common refl h
           kind = kind_there m common x.0;
           is = is;
           sides = one_of straight crossed
-            (three (is_side_of common left test.left) (is_side_of common right test.right) (same_relation test.rel rel) (side_of common left test.left) (side_of common right test.right) (relation_is test.rel rel))
-            (three (is_side_of common left test.right) (is_side_of common right test.left) (same_relation test.rel (turned rel)) (side_of common left test.right) (side_of common right test.left) (relation_is test.rel (turned rel)))
-            x.1;
+              (three (is_side_of common left test.left) (is_side_of common right test.right) (same_relation test.rel rel) (side_of common left test.left) (side_of common right test.right) (relation_is test.rel rel))
+              (three (is_side_of common left test.right) (is_side_of common right test.left) (same_relation test.rel (turned rel)) (side_of common left test.right) (side_of common right test.left) (relation_is test.rel (turned rel)))
+              x.1;
         }
 
 -- a pointer object is compared with null

@@ -140,14 +140,10 @@ module _ (f : FunctionView) where
     statement alive list (tree.While c body) same h = both (is_scoped_term list c) (is_scoped_statement f list body) (term alive list same c) (λ x. statement alive list body same x) h
     statement alive list (tree.Do body c) same h = both (is_scoped_term list c) (is_scoped_statement f list body) (term alive list same c) (λ x. statement alive list body same x) h
     statement alive list (tree.For objects first c step body) same h =
-        let within = with_scope alive list objects same in
-        five (are_new objects list) (are_scoped_statements f (objects ++ list) first) (is_scoped_if (objects ++ list) c) (is_scoped_if (objects ++ list) step) (is_scoped_statement f (objects ++ list) body)
-          (new alive list objects same)
-          (λ x. statements (with_those objects alive) (objects ++ list) first within x)
-          (if_scoped (with_those objects alive) (objects ++ list) within c)
-          (if_scoped (with_those objects alive) (objects ++ list) within step)
-          (λ x. statement (with_those objects alive) (objects ++ list) body within x)
-          h
+        let inner : Lives = with_those objects alive in
+        let longer : List ℕ = objects ++ list in
+        let within : IsList inner longer = with_scope alive list objects same in
+        five (are_new objects list) (are_scoped_statements f longer first) (is_scoped_if longer c) (is_scoped_if longer step) (is_scoped_statement f longer body) (new alive list objects same) (λ x. statements inner longer first within x) (if_scoped inner longer within c) (if_scoped inner longer within step) (λ x. statement inner longer body within x) h
     statement alive list (tree.Switch at e labels has_default enumerators body) same h = both (is_scoped_term list e) (is_scoped_statement f list body) (term alive list same e) (λ x. statement alive list body same x) h
     statement alive list (tree.Case n body) same h = statement alive list body same h
     statement alive list (tree.Default body) same h = statement alive list body same h

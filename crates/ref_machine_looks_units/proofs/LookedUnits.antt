@@ -16,6 +16,7 @@ use Rattle.flow_lower_units.specs.LabelNumbers.{is_numbered}
 use Rattle.flow_lower_units.specs.ScopeObjects.{has_own_objects}
 use Rattle.flow_lower_units.specs.RegularStatements.{are_regular_statements}
 use Rattle.flow_lower_units.specs.RegularUnits.{is_regular_function, is_regular_unit}
+use Rattle.flow_lower_units_jumps.specs.RegularJumps.{RegularJumpsStand}
 use Rattle.flow_lower_units_laws.specs.LabelsOnce.{IsLabelledOnce}
 use Rattle.flow_lower_units_laws.proofs.CountedLabels.{labels_once}
 use Rattle.lib_models_effects.specs.LibraryChecks.{most_size}
@@ -28,7 +29,7 @@ use Rattle.ref_machine_marked.specs.MarkedStatements.{MarkedFunction, IsProperVa
 use Rattle.ref_machine_looks.specs.LookedTypes.{is_scalar_type}
 use Rattle.ref_machine_looks.specs.LookedStatements.{are_bytes, are_marked_statements}
 use Rattle.ref_machine_looks.specs.LookedUnits.{is_small, is_small_local, are_scalars, is_marked_function, is_proper_value, is_proper_store, is_marked_static, is_marked_literal, is_entered, are_marked_objects, has_entry}
-use Rattle.ref_machine_looks_units.specs.LookLaws.{LooksMark}
+use Rattle.ref_machine_looks_units.specs.LookLaws.{LooksMark, LooksStand}
 use Rattle.ref_machine_looks.proofs.Truths.{never, there, both_true, both, three, five, all_at}
 use Rattle.ref_machine_looks.proofs.SameTypes.{scalar_type, integer_there}
 use Rattle.ref_machine_looks_units.proofs.LookedStatements.{bytes_are, statements}
@@ -75,16 +76,12 @@ module _ (u : UnitView) where
 
   function : (f : FunctionView) → is_regular_function u f ≡ true → is_marked_function u f ≡ true → MarkedFunction u f
   function f is h =
-      let r = three (is_numbered f) (has_own_objects f) (are_regular_statements u f false false (statement_trees f.body)) (λ e. labels_once f e) (λ e. e) (λ e. e) is in
-      let once : IsLabelledOnce f = r.0 in
-      let labels = λ (l : ℕ) (less : l < f.labels). label_there u f l r.2 (some (all_labels_in l (statement_trees f.body)) (below l f.labels) (once.labels l) (below_yes l f.labels less)) in
-      let x = five (are_marked_statements u f (statement_trees f.body)) (are_scalars u f f.parameters) (is_void f.returns || is_scalar_type u f.returns) (is_small u f.returns) (list_all (is_small_local u) f.locals)
-            (statements u f labels false false (statement_trees f.body) r.2 once.switches)
-            (scalars f f.parameters)
-            (unless (is_void f.returns) (is_scalar_type u f.returns))
-            (λ e. e)
-            (λ e. e)
-            h in
+      let regular = three (is_numbered f) (has_own_objects f) (are_regular_statements u f false false (statement_trees f.body)) (labels_once f) (λ e. e) (λ e. e) is in
+      let once : IsLabelledOnce f = regular.0 in
+      let found = λ (l : ℕ) (less : l < f.labels). label_there u f l regular.2 (some (all_labels_in l (statement_trees f.body)) (below l f.labels) (once.labels l) (below_yes l f.labels less)) in
+      let body = statements u f found false false (statement_trees f.body) regular.2 once.switches in
+      let result = unless (is_void f.returns) (is_scalar_type u f.returns) in
+      let x = five (are_marked_statements u f (statement_trees f.body)) (are_scalars u f f.parameters) (is_void f.returns || is_scalar_type u f.returns) (is_small u f.returns) (list_all (is_small_local u) f.locals) body (scalars f f.parameters) result (λ e. e) (λ e. e) h in
       record { body = x.0; parameters = x.1; returns = λ e. scalar_type u f.returns (x.2 e); small = small_locals f x.3 x.4 }
 
   -- ---- objects of static storage
@@ -119,6 +116,9 @@ module _ (u : UnitView) where
   integers (l ∷ ls) h = both (is_entered u l) (list_all (is_entered u) ls) (entered l) (λ y. integers ls y) h
 
 -- ---- units
+
+pub looks_stand : RegularJumpsStand → LooksStand
+looks_stand stand u h g f is = stand u f (all_at (is_regular_function u) u.functions g f (both_true (is_regular_unit u) (list_all (is_marked_function u) u.functions && (are_marked_objects u && has_entry u)) h).0 is)
 
 pub looks_mark : LooksMark
 looks_mark u h =

@@ -1,6 +1,7 @@
 -- What the looks at a unit say.
 use Rattle.std.specs.Prelude.{◌≡◌, true}
 use Rattle.c_layout.specs.CheckedUnits.{UnitView}
+use Rattle.ref_machine_returns.specs.StandingJumps.{UnitJumpsStand}
 use Rattle.ref_machine_lives.specs.ScopedStatements.{ScopedUnit}
 use Rattle.ref_machine_marked.specs.MarkedStatements.{MarkedUnit}
 use Rattle.ref_machine_looks.specs.LookedUnits.{is_marked}
@@ -13,3 +14,7 @@ LooksMark = (u : UnitView) → is_marked u ≡ true → MarkedUnit u
 -- and scoped
 abbrev pub LooksScope : Type 0
 LooksScope = (u : UnitView) → is_scoped u ≡ true → ScopedUnit u
+
+-- and the jumps of a unit that passes the first look have their loops and switches
+abbrev pub LooksStand : Type 0
+LooksStand = (u : UnitView) → is_marked u ≡ true → UnitJumpsStand u

@@ -3,4 +3,4 @@
 
 mod theorems;
 
-pub use theorems::{looks_mark, looks_scope};
+pub use theorems::{looks_mark, looks_scope, looks_stand};
