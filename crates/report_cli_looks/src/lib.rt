@@ -4,7 +4,6 @@
 
 mod exact_numbers;
 mod known_operands;
-mod look_at;
 mod look_calls;
 mod look_numbers;
 mod look_operators;
@@ -16,5 +15,6 @@ mod look_terms;
 mod look_tests;
 mod look_types;
 mod look_units;
+mod unit_looks;
 
-pub use look_at::look_at;
+pub use unit_looks::look_at;
