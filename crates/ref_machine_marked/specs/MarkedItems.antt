@@ -21,18 +21,18 @@ use Rattle.ref_machine_returns.specs.StandingJumps.{JumpsStand}
 use Rattle.ref_machine_marks.specs.Marks.{Mark, Ranged, Exactly, Pointing, Naming, Tested, mark_of_type, AreStable, AreFree}
 use Rattle.ref_machine_marks.specs.MarkOperations.{IsConstant, number_of_truth, IsScalar, MarkOperates}
 use Rattle.ref_machine_marked.specs.ExactTerms.{is_true}
-use Rattle.ref_machine_marked.specs.MarkedTerms.{term_mark, local_mark, Decides, MarkedTerm, MarkedPlace, StoredTerm, Quiet, TestTerm, IsScalarType}
+use Rattle.ref_machine_marked.specs.MarkedTerms.{term_mark, local_mark, Decides, MarkedTerm, MarkedPlace, StoredTerm, Quiet, ComparisonTerm}
 use Rattle.ref_machine_marked.specs.MarkedStatements.{MarkedIf, MarkedStep, MarkedStatement, Matches, AreBytes}
 
 -- ---- terms
 
 -- what the value of a term is known by: its type; or, as memory is read and not changed, its number or an object; or the
--- object that it is assigned to; or the test that it decides
+-- object that it is assigned to; or the test that it is
 pub data Evaluates (u : UnitView) (e : TermTree) (before after : List Mark) : Type 0 where
   by_type : MarkedTerm u true e → AreStable before → after ≡ term_mark e ∷ before → Evaluates u e before after
   quietly : (mark : Mark) → Quiet u e mark → after ≡ mark ∷ before → Evaluates u e before after
   as_stored : (mark : Mark) → StoredTerm u e mark → MarkedTerm u true e → AreStable before → after ≡ mark ∷ before → Evaluates u e before after
-  as_test : (test : NamedTest) → TestTerm u e test → MarkedTerm u true e → AreStable before → after ≡ Tested test ∷ before → Evaluates u e before after
+  as_test : (test : NamedTest) → ComparisonTerm u e test → MarkedTerm u true e → AreStable before → after ≡ Tested test ∷ before → Evaluates u e before after
 
 abbrev pub NamesObject : LvalueTree → ObjectRef → Type 0
 NamesObject (Designates at t parens (tree.Object p)) o = p ≡ o

@@ -1,12 +1,11 @@
 -- Statements, functions and units whose terms have operands of their marks, whose labels are there, and whose objects have
 -- sizes that memory may have.
-use Rattle.std.specs.Prelude.{◌≡◌, ◌<◌, ◌≤◌, ℕ, ◌+◌, Bool, true, false, List, [], ◌∷◌, length, Option, Some, None, slice_get}
+use Rattle.std.specs.Prelude.{◌≡◌, ◌<◌, ◌≤◌, ℕ, ◌+◌, true, false, List, [], ◌∷◌, length, Option, Some, None, slice_get}
 use Rattle.cc_base.specs.declared.int_types.IntType.{IntType}
-use Rattle.c_layout.specs.Types.{Ty, Int}
+use Rattle.c_layout.specs.Types.{Int}
 use Rattle.c_layout.specs.CheckedTrees as tree
 use Rattle.c_layout.specs.CheckedTrees.{TermTree, StatementTree, StatementTrees, statement_trees, StoreTree, StoreValue, StoreCopy, StoreText}
 use Rattle.c_layout.specs.CheckedUnits.{FunctionView, LocalView, StaticView, StaticStoreView, SetValue, SetText, LiteralView, UnitView}
-use Rattle.c_layout.specs.declared.checked_tree.checked_statements.CaseLabel.{CaseLabel}
 use Rattle.c_layout.specs.declared.checked_tree.checked_units.StaticValue.{StaticValue}
 use Rattle.c_layout.specs.declared.checked_tree.checked_units.StaticValue.TheVariants as static_value
 use Rattle.flow_lower_conditions.specs.declared.branch_tests.NamedObject.{NamedObject}

@@ -1,5 +1,5 @@
 -- Terms and lvalues whose operands have the marks that their operators take.
-use Rattle.std.specs.Prelude.{◌≡◌, ◌⊎◌, ◌≤◌, ℕ, ◌+◌, ℤ, pos, negsuc, Bool, true, false, List, [], ◌∷◌, ◌++◌, Option, Some, None, slice_get}
+use Rattle.std.specs.Prelude.{◌≡◌, ◌⊎◌, ℕ, ◌+◌, ℤ, pos, negsuc, Bool, true, false, List, [], ◌∷◌, Option, Some, None, slice_get}
 use Rattle.cc_base.specs.IntegerTypes.{in_type}
 use Rattle.cc_base.specs.declared.int_types.IntType.{IntType}
 use Rattle.cc_base.specs.declared.integer_operators.IntOp.{IntOp}
@@ -7,9 +7,8 @@ use Rattle.cc_base.specs.declared.integer_operators.Rel.{Rel}
 use Rattle.cc_base.specs.declared.integer_operators.Rel.TheVariants.{Ne}
 use Rattle.c_layout.specs.Types.{Ty, Int}
 use Rattle.c_layout.specs.CheckedTrees as tree
-use Rattle.c_layout.specs.CheckedTrees.{TermTree, TermTrees, FormTree, Typed, LvalueTree, Designates}
+use Rattle.c_layout.specs.CheckedTrees.{TermTree, TermTrees, Typed, LvalueTree, Designates}
 use Rattle.c_layout.specs.CheckedUnits.{FunctionView, UnitView}
-use Rattle.c_layout.specs.declared.checked_tree.checked_terms.ObjectRef.{ObjectRef}
 use Rattle.c_layout.specs.declared.library_functions.LibFn.{LibFn}
 use Rattle.c_layout.specs.declared.syntax_tree.expressions.LogicalOp.TheVariants.{And, Or}
 use Rattle.flow_lower_conditions.specs.declared.branch_tests.NamedObject.{NamedObject}
@@ -150,9 +149,16 @@ module _ (u : UnitView) where
 
   -- ---- conditions
 
+  -- a comparison whose truth value agrees with a test
+  abbrev pub ComparisonTerm : TermTree → NamedTest → Type 0
+  ComparisonTerm (Typed at t parens fixed (tree.Integer sign a b)) test = (rel : Rel) × (left : Mark) × (right : Mark) × (meaning sign ≡ meant.Truth rel) × Operand a left × Quiet b right × ComparesAs u.model rel left right test
+  ComparisonTerm (Typed at t parens fixed (tree.Compare sign a b)) test = (o : NamedObject) × (left : Mark) × (right : Mark) × (o.kind ≡ of.Pointer) × Operand a left × Quiet b right × AreWithNull o left right × (test ≡ null_test_of o (relation sign))
+  ComparisonTerm e test = ⊥
+
+  -- a comparison is a test, and so is another value that decides one
   abbrev pub TestTerm : TermTree → NamedTest → Type 0
-  TestTerm (Typed at t parens fixed (tree.Integer sign a b)) test = (rel : Rel) × (left : Mark) × (right : Mark) × (meaning sign ≡ meant.Truth rel) × Operand a left × Quiet b right × ComparesAs u.model rel left right test
-  TestTerm (Typed at t parens fixed (tree.Compare sign a b)) test = (o : NamedObject) × (left : Mark) × (right : Mark) × (o.kind ≡ of.Pointer) × Operand a left × Quiet b right × AreWithNull o left right × (test ≡ null_test_of o (relation sign))
+  TestTerm (Typed at t parens fixed (tree.Integer sign a b)) test = ComparisonTerm (Typed at t parens fixed (tree.Integer sign a b)) test
+  TestTerm (Typed at t parens fixed (tree.Compare sign a b)) test = ComparisonTerm (Typed at t parens fixed (tree.Compare sign a b)) test
   TestTerm e test = (mark : Mark) × Operand e mark × Decides u mark test
 
   -- a test, if a condition is one, is decided by the condition's value

@@ -1,5 +1,5 @@
 -- What an operation does to the marks of the values that are pending, the newest one first.
-use Rattle.std.specs.Prelude.{◌≡◌, ◌⊎◌, ℕ, ℤ, pos, negsuc, Bool, true, false, cond, List, [], ◌∷◌, ◌++◌, length, reverse, map, Some, None}
+use Rattle.std.specs.Prelude.{◌≡◌, ◌⊎◌, ℕ, ℤ, pos, negsuc, Bool, true, cond, List, [], ◌∷◌, ◌++◌, length, reverse, Some, None}
 use Rattle.std.specs.Ordering.{int_eq}
 use Rattle.cc_base.specs.IntegerTypes.{is_size, least_of, greatest_of, in_type, wrap_into}
 use Rattle.cc_base.specs.MachineArithmetic.{binary_result, unary_result, holds}

@@ -1,5 +1,5 @@
 -- What is known of the values that are pending.
-use Rattle.std.specs.Prelude.{◌≡◌, ◌≤◌, ℕ, ℤ, pos, Bool, true, false, not, List, [], ◌∷◌, length, Option, Some}
+use Rattle.std.specs.Prelude.{◌≡◌, ◌≤◌, ℕ, ℤ, Bool, true, false, not, List, [], ◌∷◌, length, Option, Some}
 use Rattle.cc_base.specs.IntegerTypes.{in_type, wrap_into}
 use Rattle.cc_base.specs.declared.int_types.IntType.{IntType}
 use Rattle.c_layout.specs.Types.{Ty}
@@ -14,7 +14,7 @@ use Rattle.lib_models_memory.specs.Bytes.{MachinePointer, null, into}
 use Rattle.lib_models_memory.specs.Instances.{Memory, bytes_at}
 use Rattle.lib_models_memory.specs.Scalars.{Scalar, integer, pointer, is_false}
 use Rattle.lib_models_effects.specs.LibraryChecks.{most_size}
-use Rattle.lib_models_effects.specs.Tests.{TestedSide, object, constant, nothing, SideTest, side_scalar, test_holds}
+use Rattle.lib_models_effects.specs.Tests.{TestedSide, object, constant, nothing, side_scalar, test_holds}
 use Rattle.ref_machine.specs.BranchSteps.{relation_on}
 use Rattle.ref_machine.specs.Items as item
 use Rattle.ref_machine.specs.Items.{NamedSide, NamedTest}

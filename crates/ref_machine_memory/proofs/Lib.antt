@@ -1,0 +1,11 @@
+pub mod Replies
+pub mod ProperBytes
+pub mod Evolving
+pub mod Objects
+pub mod Accessing
+pub mod Computing
+pub mod Checking
+pub mod Allocating
+pub mod Copying
+pub mod Strings
+pub mod Calling

@@ -1,0 +1,3 @@
+pub mod StaticInstances
+pub mod Parameters
+pub mod Started

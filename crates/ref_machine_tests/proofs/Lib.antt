@@ -1,0 +1,2 @@
+pub mod DecidedTests
+pub mod MatchedCases

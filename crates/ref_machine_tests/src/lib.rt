@@ -1,0 +1,2 @@
+//! Values that decide a test or select a case agree with memory.
+#![tactic(auto)]
