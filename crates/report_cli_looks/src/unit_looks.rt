@@ -7,20 +7,21 @@ ghost use Rattle.ref_machine_looks.specs.LookedUnits as units;
 
 use crate::look_units::{is_marked, is_scoped};
 use c_layout::Checked;
-use std::alloc::{AllocError, Global};
+use cc_base::Memory;
+use std::alloc::Global;
 
 /// Goes on where the terms of a unit have operands of their marks, and what it names lives where it
 /// stands: no run of such a unit is stuck. Another unit would come to want of memory.
-pub fn look_at(alloc: Global, unit: &Checked) -> Result<(), AllocError>
+pub fn look_at(alloc: Global, unit: &Checked) -> Result<(), Memory>
     requires { is_model unit.now.model ≡ true }
     ensures marked { IfOk result (λ made. units.is_marked (unit_view unit.now) ≡ true) }
     ensures scoped { IfOk result (λ made. scopes.is_scoped (unit_view unit.now) ≡ true) }
 {
     if !is_marked(alloc, unit)? {
-        return Err(AllocError);
+        return Err(Memory);
     }
     if !is_scoped(alloc, unit)? {
-        return Err(AllocError);
+        return Err(Memory);
     }
     Ok(())
 }
