@@ -168,7 +168,12 @@ pub fn exact(model: &Model, term: &CheckedTerm) -> Option<i128>
         TermForm::Conditional(c, a, b) => {
             chosen(exact(model, c), exact(model, a), exact(model, b))
         }
-        _ => None,
+        TermForm::Load(_) | TermForm::AddressOf(_) | TermForm::Decay(_) => None,
+        TermForm::Discard(_) | TermForm::Shift(_, _, _, _) | TermForm::Difference(_, _, _) => None,
+        TermForm::Compare(_, _, _) | TermForm::Comma(_, _) | TermForm::Assign(_, _) => None,
+        TermForm::Compound(_, _, _, _) | TermForm::CompoundShift(_, _, _, _) => None,
+        TermForm::Step(_, _, _, _) | TermForm::StepPointer(_, _, _, _) => None,
+        TermForm::Struct(_) | TermForm::Call(_, _, _) | TermForm::Library(_, _, _) => None,
     }
 }
 
@@ -190,6 +195,15 @@ pub fn is_null(model: &Model, term: &CheckedTerm) -> bool
         TermForm::Convert(_, operand) => {
             is_address(&term.ctype) && (is_null(model, operand) || is_exact_zero(model, operand))
         }
-        _ => false,
+        TermForm::Number(_) | TermForm::Sizeof(_, None, _) => false,
+        TermForm::Sizeof(_, Some(_), _) | TermForm::Load(_) | TermForm::AddressOf(_) => false,
+        TermForm::Decay(_) | TermForm::Discard(_) | TermForm::Plus(_) | TermForm::Minus(_) => false,
+        TermForm::Complement(_) | TermForm::Not(_) | TermForm::Integer(_, _, _) => false,
+        TermForm::Shift(_, _, _, _) | TermForm::Difference(_, _, _) => false,
+        TermForm::Compare(_, _, _) | TermForm::Logical(_, _, _) => false,
+        TermForm::Conditional(_, _, _) | TermForm::Comma(_, _) | TermForm::Assign(_, _) => false,
+        TermForm::Compound(_, _, _, _) | TermForm::CompoundShift(_, _, _, _) => false,
+        TermForm::Step(_, _, _, _) | TermForm::StepPointer(_, _, _, _) => false,
+        TermForm::Struct(_) | TermForm::Call(_, _, _) | TermForm::Library(_, _, _) => false,
     }
 }

@@ -65,7 +65,8 @@ fn side_from(unit: &Checked, at: &Lvalue) -> Option<Known>
 {
     match &at.form {
         LvalueForm::Object(object) => loaded_if_scalar(unit, *object, &at.ctype),
-        _ => None,
+        LvalueForm::Literal(_) | LvalueForm::Target(_) | LvalueForm::Member(_, _) => None,
+        LvalueForm::Copied(_, _) | LvalueForm::Then(_, _) => None,
     }
 }
 
@@ -135,7 +136,16 @@ pub fn side(unit: &Checked, term: &CheckedTerm) -> Option<Known>
     match &term.form {
         TermForm::Load(at) => side_from(unit, at),
         TermForm::Convert(_, operand) => converted_to(unit, &term.ctype, side(unit, operand)),
-        _ => None,
+        TermForm::Number(_) | TermForm::Sizeof(_, None, _) => None,
+        TermForm::Sizeof(_, Some(_), _) | TermForm::AddressOf(_) | TermForm::Decay(_) => None,
+        TermForm::Discard(_) | TermForm::Plus(_) | TermForm::Minus(_) => None,
+        TermForm::Complement(_) | TermForm::Not(_) | TermForm::Integer(_, _, _) => None,
+        TermForm::Shift(_, _, _, _) | TermForm::Difference(_, _, _) => None,
+        TermForm::Compare(_, _, _) | TermForm::Logical(_, _, _) => None,
+        TermForm::Conditional(_, _, _) | TermForm::Comma(_, _) | TermForm::Assign(_, _) => None,
+        TermForm::Compound(_, _, _, _) | TermForm::CompoundShift(_, _, _, _) => None,
+        TermForm::Step(_, _, _, _) | TermForm::StepPointer(_, _, _, _) => None,
+        TermForm::Struct(_) | TermForm::Call(_, _, _) | TermForm::Library(_, _, _) => None,
     }
 }
 
@@ -144,7 +154,8 @@ fn stored_to(at: &Lvalue) -> Option<Known>
 {
     match &at.form {
         LvalueForm::Object(object) => Some(loaded_from(*object, &at.ctype)),
-        _ => None,
+        LvalueForm::Literal(_) | LvalueForm::Target(_) | LvalueForm::Member(_, _) => None,
+        LvalueForm::Copied(_, _) | LvalueForm::Then(_, _) => None,
     }
 }
 
@@ -155,7 +166,16 @@ fn stored(unit: &Checked, term: &CheckedTerm) -> Option<Known>
     match &term.form {
         TermForm::Assign(target, _) => stored_to(target),
         TermForm::Convert(_, operand) => converted_to(unit, &term.ctype, stored(unit, operand)),
-        _ => None,
+        TermForm::Number(_) | TermForm::Sizeof(_, None, _) => None,
+        TermForm::Sizeof(_, Some(_), _) | TermForm::Load(_) | TermForm::AddressOf(_) => None,
+        TermForm::Decay(_) | TermForm::Discard(_) | TermForm::Plus(_) | TermForm::Minus(_) => None,
+        TermForm::Complement(_) | TermForm::Not(_) | TermForm::Integer(_, _, _) => None,
+        TermForm::Shift(_, _, _, _) | TermForm::Difference(_, _, _) => None,
+        TermForm::Compare(_, _, _) | TermForm::Logical(_, _, _) => None,
+        TermForm::Conditional(_, _, _) | TermForm::Comma(_, _) => None,
+        TermForm::Compound(_, _, _, _) | TermForm::CompoundShift(_, _, _, _) => None,
+        TermForm::Step(_, _, _, _) | TermForm::StepPointer(_, _, _, _) => None,
+        TermForm::Struct(_) | TermForm::Call(_, _, _) | TermForm::Library(_, _, _) => None,
     }
 }
 

@@ -86,8 +86,8 @@ fn takes_none(terms: &[CheckedTerm]) -> bool
     ensures { result ≡ spec.same_kinds (kinded.argument_kinds (term_trees (map term_tree terms.now))) [] }
 {
     match terms {
+        [_, ..] => false,
         [] => true,
-        _ => false,
     }
 }
 
@@ -95,8 +95,8 @@ fn takes_one(terms: &[CheckedTerm], kind: Kind7) -> bool
     ensures { result ≡ spec.same_kinds (kinded.argument_kinds (term_trees (map term_tree terms.now))) (kind_view kind ∷ []) }
 {
     match terms {
-        [term] => is_of(kind, term),
-        _ => false,
+        [term, rest @ ..] => is_of(kind, term) && takes_none(rest),
+        [] => false,
     }
 }
 
@@ -104,8 +104,8 @@ fn takes_two(terms: &[CheckedTerm], first: Kind7, second: Kind7) -> bool
     ensures { result ≡ spec.same_kinds (kinded.argument_kinds (term_trees (map term_tree terms.now))) (kind_view first ∷ (kind_view second ∷ [])) }
 {
     match terms {
-        [a, b] => is_of(first, a) && is_of(second, b),
-        _ => false,
+        [term, rest @ ..] => is_of(first, term) && takes_one(rest, second),
+        [] => false,
     }
 }
 
@@ -113,8 +113,8 @@ fn takes_three(terms: &[CheckedTerm], first: Kind7, second: Kind7, third: Kind7)
     ensures { result ≡ spec.same_kinds (kinded.argument_kinds (term_trees (map term_tree terms.now))) (kind_view first ∷ (kind_view second ∷ (kind_view third ∷ []))) }
 {
     match terms {
-        [a, b, c] => is_of(first, a) && (is_of(second, b) && is_of(third, c)),
-        _ => false,
+        [term, rest @ ..] => is_of(first, term) && takes_two(rest, second, third),
+        [] => false,
     }
 }
 

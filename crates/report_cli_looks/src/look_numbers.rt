@@ -1,6 +1,6 @@
 //! What operators give, where the mathematical result is a number that some integer type has.
-ghost use Rattle.std.specs.Prelude.{◌≡◌, ◌+ℤ◌, ◌-ℤ◌, ◌*ℤ◌, ◌^◌, cond, pos, int_div, int_rem, Some, None, true};
-ghost use Rattle.cc_base.specs.IntegerTypes.{is_size, wrap_into};
+ghost use Rattle.std.specs.Prelude.{◌≡◌, ◌<◌, ◌+ℤ◌, ◌-ℤ◌, ◌*ℤ◌, ◌^◌, cond, pos, int_div, int_rem, Some, None, true};
+ghost use Rattle.cc_base.specs.IntegerTypes.{is_size, least_of, greatest_of, wrap_into};
 ghost use Rattle.cc_base.specs.MachineArithmetic as math;
 ghost use Rattle.cc_base.specs.declared.integer_operators.IntOp.TheVariants as sign_of;
 ghost use Rattle.flow_program.specs.WellFormed as program;
@@ -268,21 +268,35 @@ pub fn negated_in(kind: IntType, n: i128) -> Option<i128>
     }
 }
 
+fn number_if(n: i128) -> Option<i128>
+    ensures { result ≡ cond (program.is_number n) (Some n) None }
+{
+    if is_number(n) { Some(n) } else { None }
+}
+
 #[tactic(auto, using(crate::proofs::FittingNumbers::too_large))]
+fn difference(a: i128, b: i128) -> Option<i128>
+    ensures { result ≡ cond (program.is_number (a -ℤ b)) (Some (a -ℤ b)) None }
+{
+    match a.checked_sub(b) {
+        Some(n) => number_if(n),
+        None => None,
+    }
+}
+
+/// The number that has all bits of a type.
+fn all_bits(kind: IntType) -> i128
+    requires { is_size kind.bytes ≡ true }
+    ensures { result ≡ least_of kind +ℤ greatest_of kind }
+{
+    kind.least() + kind.greatest()
+}
+
 fn complement(kind: IntType, n: i128) -> Option<i128>
     requires { is_size kind.bytes ≡ true }
     ensures { result ≡ cond (program.is_number (spec.complement_of kind n)) (Some (spec.complement_of kind n)) None }
 {
-    match (kind.least() + kind.greatest()).checked_sub(n) {
-        Some(found) => {
-            if is_number(found) {
-                Some(found)
-            } else {
-                None
-            }
-        }
-        None => None,
-    }
+    difference(all_bits(kind), n)
 }
 
 /// The number whose bits are those that another one has not.

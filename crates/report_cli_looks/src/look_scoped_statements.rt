@@ -258,6 +258,7 @@ fn is_scoped_statement(
 // ---- functions
 
 /// The parameters of a function.
+#[tactic(auto, using(flow_lower_functions::proofs::Numbers::next_number, flow_lower_functions::proofs::Numbers::no_number))]
 fn parameters_of(alloc: Global, function: &Function) -> Result<Vec<u32>, AllocError>
     ensures { IfOk result (λ v. v.items ≡ kept_objects (function_view function.now) true) }
 {

@@ -375,7 +375,24 @@ fn is_decided(unit: &Checked, term: &CheckedTerm, test: NamedTest7) -> bool
             quiet(unit, right),
             test,
         ),
-        _ => decides(unit, operand(unit, term), test),
+        TermForm::Number(_) => decides(unit, operand(unit, term), test),
+        TermForm::Sizeof(_, None, _) => decides(unit, operand(unit, term), test),
+        TermForm::Sizeof(_, Some(_), _) => decides(unit, operand(unit, term), test),
+        TermForm::Load(_) | TermForm::AddressOf(_) => decides(unit, operand(unit, term), test),
+        TermForm::Decay(_) | TermForm::Convert(_, _) => decides(unit, operand(unit, term), test),
+        TermForm::Discard(_) | TermForm::Plus(_) => decides(unit, operand(unit, term), test),
+        TermForm::Minus(_) | TermForm::Complement(_) => decides(unit, operand(unit, term), test),
+        TermForm::Not(_) | TermForm::Shift(_, _, _, _) => decides(unit, operand(unit, term), test),
+        TermForm::Difference(_, _, _) => decides(unit, operand(unit, term), test),
+        TermForm::Logical(_, _, _) => decides(unit, operand(unit, term), test),
+        TermForm::Conditional(_, _, _) => decides(unit, operand(unit, term), test),
+        TermForm::Comma(_, _) | TermForm::Assign(_, _) => decides(unit, operand(unit, term), test),
+        TermForm::Compound(_, _, _, _) => decides(unit, operand(unit, term), test),
+        TermForm::CompoundShift(_, _, _, _) => decides(unit, operand(unit, term), test),
+        TermForm::Step(_, _, _, _) => decides(unit, operand(unit, term), test),
+        TermForm::StepPointer(_, _, _, _) => decides(unit, operand(unit, term), test),
+        TermForm::Struct(_) | TermForm::Call(_, _, _) => decides(unit, operand(unit, term), test),
+        TermForm::Library(_, _, _) => decides(unit, operand(unit, term), test),
     }
 }
 
@@ -404,8 +421,10 @@ pub fn has_tests(unit: &Checked, is_test: bool, term: &CheckedTerm) -> bool
     ensures { result ≡ terms.has_tests (unit_view unit.now) is_test (term_tree term.now) }
 {
     match &term.form {
-        TermForm::Logical(LogicalOp::And, left, right)
-        | TermForm::Logical(LogicalOp::Or, left, right) => {
+        TermForm::Logical(LogicalOp::And, left, right) => {
+            has_tests(unit, is_test, left) && has_tests(unit, is_test, right)
+        }
+        TermForm::Logical(LogicalOp::Or, left, right) => {
             has_tests(unit, is_test, left) && has_tests(unit, is_test, right)
         }
         TermForm::Not(operand) => has_tests(unit, is_test, operand),
@@ -413,6 +432,19 @@ pub fn has_tests(unit: &Checked, is_test: bool, term: &CheckedTerm) -> bool
             has_tests(unit, true, test)
                 && (has_tests(unit, false, first) && has_tests(unit, false, second))
         }
-        _ => has_test(unit, is_test, term),
+        TermForm::Number(_) | TermForm::Sizeof(_, None, _) => has_test(unit, is_test, term),
+        TermForm::Sizeof(_, Some(_), _) | TermForm::Load(_) => has_test(unit, is_test, term),
+        TermForm::AddressOf(_) | TermForm::Decay(_) => has_test(unit, is_test, term),
+        TermForm::Convert(_, _) | TermForm::Discard(_) => has_test(unit, is_test, term),
+        TermForm::Plus(_) | TermForm::Minus(_) => has_test(unit, is_test, term),
+        TermForm::Complement(_) | TermForm::Integer(_, _, _) => has_test(unit, is_test, term),
+        TermForm::Shift(_, _, _, _) => has_test(unit, is_test, term),
+        TermForm::Difference(_, _, _) | TermForm::Compare(_, _, _) => has_test(unit, is_test, term),
+        TermForm::Comma(_, _) | TermForm::Assign(_, _) => has_test(unit, is_test, term),
+        TermForm::Compound(_, _, _, _) => has_test(unit, is_test, term),
+        TermForm::CompoundShift(_, _, _, _) => has_test(unit, is_test, term),
+        TermForm::Step(_, _, _, _) => has_test(unit, is_test, term),
+        TermForm::StepPointer(_, _, _, _) | TermForm::Struct(_) => has_test(unit, is_test, term),
+        TermForm::Call(_, _, _) | TermForm::Library(_, _, _) => has_test(unit, is_test, term),
     }
 }
