@@ -1,2 +1,3 @@
 pub mod FittingNumbers
 pub mod Groups
+pub mod ArgumentKinds

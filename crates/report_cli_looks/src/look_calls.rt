@@ -82,6 +82,7 @@ fn is_of(kind: Kind7, term: &CheckedTerm) -> bool
     }
 }
 
+#[tactic(auto, using(crate::proofs::ArgumentKinds::none_taken))]
 fn takes_none(terms: &[CheckedTerm]) -> bool
     ensures { result ≡ spec.same_kinds (kinded.argument_kinds (term_trees (map term_tree terms.now))) [] }
 {

@@ -169,7 +169,10 @@ fn is_scoped_selection(
             is_scoped_branch(alloc, function, alive, test, body)
         }
         CheckedStatement::IfElse(test, first, second) => {
-            if !is_scoped_branch(alloc, function, alive, test, first)? {
+            if !is_scoped_term(alive, test) {
+                return Ok(false);
+            }
+            if !is_scoped_statement(alloc, function, alive, first)? {
                 return Ok(false);
             }
             is_scoped_statement(alloc, function, alive, second)
@@ -194,7 +197,10 @@ fn is_scoped_turn(
     if !are_scoped_statements(alloc, function, alive, first)? {
         return Ok(false);
     }
-    if !is_scoped_if(alive, test) || !is_scoped_if(alive, step) {
+    if !is_scoped_if(alive, test) {
+        return Ok(false);
+    }
+    if !is_scoped_if(alive, step) {
         return Ok(false);
     }
     is_scoped_statement(alloc, function, alive, body)
@@ -235,6 +241,14 @@ fn is_scoped_other(function: &Function, alive: &[u32], statement: &CheckedStatem
 
 /// Whether a statement names only what lives.
 #[cycle(statements)]
+#[tactic(
+    auto,
+    using(
+        crate::proofs::Groups::in_one,
+        crate::proofs::Groups::in_group,
+        crate::proofs::Groups::other_group
+    )
+)]
 fn is_scoped_statement(
     alloc: Global,
     function: &Function,

@@ -117,16 +117,16 @@ fn is_marked_simple(unit: &Checked, used: bool, term: &CheckedTerm) -> bool
     }
 }
 
-/// Whether two operands, whose values are used, are marked.
+/// Whether two operands, whose values are used, are marked, and fit.
 #[cycle(terms)]
-fn are_marked_operands(unit: &Checked, left: &CheckedTerm, right: &CheckedTerm) -> bool
+fn are_marked_operands(unit: &Checked, left: &CheckedTerm, right: &CheckedTerm, fit: bool) -> bool
     requires { is_model unit.now.model ≡ true }
-    ensures { result ≡ (spec.is_marked_term (unit_view unit.now) true (term_tree left.now) && spec.is_marked_term (unit_view unit.now) true (term_tree right.now)) }
+    ensures { result ≡ (spec.is_marked_term (unit_view unit.now) true (term_tree left.now) && (spec.is_marked_term (unit_view unit.now) true (term_tree right.now) && fit)) }
 {
-    is_marked_term(unit, true, left) && is_marked_term(unit, true, right)
+    is_marked_term(unit, true, left) && (is_marked_term(unit, true, right) && fit)
 }
 
-/// Whether `?:` has a condition that decides its tests, and operands of their marks.
+/// Whether `?:` has a condition that decides its tests, and operands that are marked and fit.
 #[cycle(terms)]
 fn is_marked_choice(
     unit: &Checked,
@@ -134,12 +134,14 @@ fn is_marked_choice(
     test: &CheckedTerm,
     first: &CheckedTerm,
     second: &CheckedTerm,
+    fit: bool,
 ) -> bool
     requires { is_model unit.now.model ≡ true }
-    ensures { result ≡ ((spec.is_marked_term (unit_view unit.now) true (term_tree test.now) && spec.has_tests (unit_view unit.now) true (term_tree test.now)) && (spec.is_marked_term (unit_view unit.now) used (term_tree first.now) && spec.is_marked_term (unit_view unit.now) used (term_tree second.now))) }
+    ensures { result ≡ (spec.is_marked_term (unit_view unit.now) true (term_tree test.now) && (spec.has_tests (unit_view unit.now) true (term_tree test.now) && (spec.is_marked_term (unit_view unit.now) used (term_tree first.now) && (spec.is_marked_term (unit_view unit.now) used (term_tree second.now) && fit)))) }
 {
-    (is_marked_term(unit, true, test) && has_tests(unit, true, test))
-        && (is_marked_term(unit, used, first) && is_marked_term(unit, used, second))
+    is_marked_term(unit, true, test)
+        && (has_tests(unit, true, test)
+            && (is_marked_term(unit, used, first) && (is_marked_term(unit, used, second) && fit)))
 }
 
 /// Whether a term is an operator with more operands than one, and has operands of their marks.
@@ -151,24 +153,24 @@ fn is_marked_operation(unit: &Checked, used: bool, term: &CheckedTerm) -> bool
     let t = &term.ctype;
     match &term.form {
         TermForm::Integer(op, a, b) => {
-            are_marked_operands(unit, a, b)
-                && combines(unit, meaning(*op), &a.ctype, &b.ctype, t)
+            let fit = combines(unit, meaning(*op), &a.ctype, &b.ctype, t);
+            are_marked_operands(unit, a, b, fit)
         }
         TermForm::Shift(_, _, a, b) => {
-            are_marked_operands(unit, a, b) && (adds_to(&a.ctype, &b.ctype) && is_address(t))
+            are_marked_operands(unit, a, b, adds_to(&a.ctype, &b.ctype) && is_address(t))
         }
         TermForm::Difference(_, a, b) => {
-            are_marked_operands(unit, a, b)
-                && (is_address(&a.ctype) && (is_address(&b.ctype) && has_differences(unit, t)))
+            let fit = is_address(&b.ctype) && has_differences(unit, t);
+            are_marked_operands(unit, a, b, is_address(&a.ctype) && fit)
         }
         TermForm::Compare(_, a, b) => {
-            are_marked_operands(unit, a, b)
-                && (is_address(&a.ctype) && (is_address(&b.ctype) && is_truth(t)))
+            let fit = is_address(&b.ctype) && is_truth(t);
+            are_marked_operands(unit, a, b, is_address(&a.ctype) && fit)
         }
-        TermForm::Logical(_, a, b) => are_marked_operands(unit, a, b) && is_truth(t),
+        TermForm::Logical(_, a, b) => are_marked_operands(unit, a, b, is_truth(t)),
         TermForm::Conditional(c, a, b) => {
-            is_marked_choice(unit, used, c, a, b)
-                && (have_same_mark(&a.ctype, t) && have_same_mark(&b.ctype, t))
+            let fit = have_same_mark(&a.ctype, t) && have_same_mark(&b.ctype, t);
+            is_marked_choice(unit, used, c, a, b, fit)
         }
         TermForm::Comma(a, b) => {
             is_marked_term(unit, false, a)
@@ -178,13 +180,13 @@ fn is_marked_operation(unit: &Checked, used: bool, term: &CheckedTerm) -> bool
     }
 }
 
-/// Whether an lvalue and a value that is stored there are marked.
+/// Whether an lvalue and a value that is stored there are marked, and fit.
 #[cycle(terms)]
-fn are_marked_sides(unit: &Checked, target: &Lvalue, value: &CheckedTerm) -> bool
+fn are_marked_sides(unit: &Checked, target: &Lvalue, value: &CheckedTerm, fit: bool) -> bool
     requires { is_model unit.now.model ≡ true }
-    ensures { result ≡ (spec.is_marked_place (unit_view unit.now) (lvalue_tree target.now) && spec.is_marked_term (unit_view unit.now) true (term_tree value.now)) }
+    ensures { result ≡ (spec.is_marked_place (unit_view unit.now) (lvalue_tree target.now) && (spec.is_marked_term (unit_view unit.now) true (term_tree value.now) && fit)) }
 {
-    is_marked_place(unit, target) && is_marked_term(unit, true, value)
+    is_marked_place(unit, target) && (is_marked_term(unit, true, value) && fit)
 }
 
 /// Whether a term is an assignment or a step, and has operands of their marks.
@@ -196,18 +198,17 @@ fn is_marked_assignment(unit: &Checked, used: bool, term: &CheckedTerm) -> bool
     let t = &term.ctype;
     match &term.form {
         TermForm::Assign(l, a) => {
-            are_marked_sides(unit, l, a)
-                && (is_scalar_type(unit, &l.ctype)
-                    && (have_same_mark(&a.ctype, &l.ctype) && have_same_mark(&l.ctype, t)))
+            let fit = have_same_mark(&a.ctype, &l.ctype) && have_same_mark(&l.ctype, t);
+            are_marked_sides(unit, l, a, is_scalar_type(unit, &l.ctype) && fit)
         }
         TermForm::Compound(op, kind, l, a) => {
             let sign = number_operator(meaning(*op));
-            are_marked_sides(unit, l, a)
-                && compounds(unit, sign, integer_type(kind), &l.ctype, &a.ctype, t)
+            let fit = compounds(unit, sign, integer_type(kind), &l.ctype, &a.ctype, t);
+            are_marked_sides(unit, l, a, fit)
         }
         TermForm::CompoundShift(_, _, l, a) => {
-            are_marked_sides(unit, l, a)
-                && (is_integer(&a.ctype) && (is_address(&l.ctype) && is_address(t)))
+            let fit = is_address(&l.ctype) && is_address(t);
+            are_marked_sides(unit, l, a, is_integer(&a.ctype) && fit)
         }
         TermForm::Step(_, _, kind, l) => {
             is_marked_place(unit, l) && steps_in(unit, integer_type(kind), &l.ctype, t)
