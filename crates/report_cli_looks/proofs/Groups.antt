@@ -53,3 +53,41 @@ other_group false false false false true a b c = absurd (no b)
   where
     no : true ≡ false → ⊥
     no e = cc
+
+-- five parts, of which two were told together, and then two
+pub first_fails : (a b c d e : Bool) → (a && b) ≡ false → (a && (b && (c && (d && e)))) ≡ false
+first_fails false b c d e h = refl
+first_fails true false c d e h = refl
+first_fails true true c d e h = absurd (no h)
+  where
+    no : true ≡ false → ⊥
+    no e = cc
+
+pub next_fails : (a b c d e : Bool) → (a && b) ≡ true → (c && d) ≡ false → (a && (b && (c && (d && e)))) ≡ false
+next_fails false b c d e h g = refl
+next_fails true false c d e h g = refl
+next_fails true true false d e h g = refl
+next_fails true true true false e h g = refl
+next_fails true true true true e h g = absurd (no g)
+  where
+    no : true ≡ false → ⊥
+    no e = cc
+
+pub four_hold : (a b c d e : Bool) → (a && b) ≡ true → (c && d) ≡ true → (a && (b && (c && (d && e)))) ≡ e
+four_hold true true true true e h g = refl
+four_hold false b c d e h g = absurd (no h)
+  where
+    no : false ≡ true → ⊥
+    no e = cc
+four_hold true false c d e h g = absurd (no h)
+  where
+    no : false ≡ true → ⊥
+    no e = cc
+four_hold true true false d e h g = absurd (no g)
+  where
+    no : false ≡ true → ⊥
+    no e = cc
+four_hold true true true false e h g = absurd (no g)
+  where
+    no : false ≡ true → ⊥
+    no e = cc

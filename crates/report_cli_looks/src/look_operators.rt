@@ -1,13 +1,15 @@
 //! Whether the types of operands are those of their operators and results.
 ghost use Rattle.std.specs.Prelude.{◌≡◌, ◌&&◌, true};
 ghost use Rattle.c_layout.specs.CheckedUnits.{unit_view};
-ghost use Rattle.c_layout.specs.Types.{view, same_kind};
+ghost use Rattle.c_layout.specs.Models.{is_model};
+ghost use Rattle.c_layout.specs.Types.{view, same_kind, same_type};
 ghost use Rattle.flow_lower_expressions.specs.Assignments as assignments;
 ghost use Rattle.flow_lower_tasks.specs.declared.term_kinds.OperatorMeaning.TheVariants as meant;
 ghost use Rattle.ref_machine_looks.specs.LookedTypes as spec;
 
 use crate::look_types::{
-    is_address, is_integer, is_kind, is_model_integer, is_same_kind, is_truth,
+    has_differences, have_same_mark, is_address, is_integer, is_kind, is_model_integer,
+    is_same_kind, is_scalar_type, is_truth,
 };
 use c_layout::{CType, Checked};
 use cc_base::{IntOp, IntType};
@@ -77,7 +79,7 @@ pub fn combines(unit: &Checked, how: OperatorMeaning, a: &CType, b: &CType, t: &
 }
 
 /// A pointer and an integer.
-pub fn adds_to(a: &CType, b: &CType) -> bool
+fn adds_to(a: &CType, b: &CType) -> bool
     ensures { result ≡ spec.adds_to (view a.now) (view b.now) }
 {
     (is_address(a) && is_integer(b)) || (is_integer(a) && is_address(b))
@@ -114,4 +116,63 @@ pub fn converts(new: Scalar, old: Scalar) -> bool
         (Scalar::Pointer, Scalar::Int(_)) => false,
         (Scalar::Pointer, Scalar::Pointer) => true,
     }
+}
+
+// ---- terms
+
+/// A pointer that is moved.
+pub fn moves(a: &CType, b: &CType, t: &CType) -> bool
+    ensures { result ≡ (spec.adds_to (view a.now) (view b.now) && spec.is_address (view t.now)) }
+{
+    adds_to(a, b) && is_address(t)
+}
+
+/// The difference of two pointers.
+pub fn subtracts(unit: &Checked, a: &CType, b: &CType, t: &CType) -> bool
+    requires { is_model unit.now.model ≡ true }
+    ensures { result ≡ (spec.is_address (view a.now) && (spec.is_address (view b.now) && spec.subtracts (unit_view unit.now) (view t.now))) }
+{
+    is_address(a) && (is_address(b) && has_differences(unit, t))
+}
+
+/// A comparison of two pointers.
+pub fn compares(a: &CType, b: &CType, t: &CType) -> bool
+    ensures { result ≡ (spec.is_address (view a.now) && (spec.is_address (view b.now) && spec.is_truth (view t.now))) }
+{
+    is_address(a) && (is_address(b) && is_truth(t))
+}
+
+/// The operands of `?:`.
+pub fn chooses(a: &CType, b: &CType, t: &CType) -> bool
+    ensures { result ≡ (spec.same_mark (view a.now) (view t.now) && spec.same_mark (view b.now) (view t.now)) }
+{
+    have_same_mark(a, t) && have_same_mark(b, t)
+}
+
+/// An assignment to an lvalue.
+pub fn assigns(unit: &Checked, l: &CType, a: &CType, t: &CType) -> bool
+    ensures { result ≡ (spec.is_scalar_type (unit_view unit.now) (view l.now) && (spec.same_mark (view a.now) (view l.now) && spec.same_mark (view l.now) (view t.now))) }
+{
+    is_scalar_type(unit, l) && (have_same_mark(a, l) && have_same_mark(l, t))
+}
+
+/// A pointer in an lvalue that is moved.
+pub fn moves_in(l: &CType, a: &CType, t: &CType) -> bool
+    ensures { result ≡ (spec.is_integer (view a.now) && (spec.is_address (view l.now) && spec.is_address (view t.now))) }
+{
+    is_integer(a) && (is_address(l) && is_address(t))
+}
+
+/// The value of an lvalue.
+pub fn loads(unit: &Checked, l: &CType, t: &CType) -> bool
+    ensures { result ≡ (spec.is_scalar_type (unit_view unit.now) (view l.now) && spec.same_mark (view l.now) (view t.now)) }
+{
+    is_scalar_type(unit, l) && have_same_mark(l, t)
+}
+
+/// A unary operator that computes a number.
+pub fn computes_in(unit: &Checked, a: &CType, t: &CType) -> bool
+    ensures { result ≡ (same_type (view a.now) (view t.now) && spec.is_such (λ kind. spec.is_kind (unit_view unit.now).model kind) (view t.now)) }
+{
+    a.is_same(t) && is_model_integer(unit, t)
 }

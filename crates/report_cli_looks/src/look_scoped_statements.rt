@@ -44,6 +44,17 @@ fn is_scoped_return(function: &Function, alive: &[u32], value: &Option<CheckedTe
     }
 }
 
+/// Whether the condition and the step of a `for` name only what lives.
+fn are_scoped_clauses(
+    alive: &[u32],
+    test: &Option<CheckedTerm>,
+    step: &Option<CheckedTerm>,
+) -> bool
+    ensures { result ≡ (spec.is_scoped_if alive.now (option_map term_tree test.now) && spec.is_scoped_if alive.now (option_map term_tree step.now)) }
+{
+    is_scoped_if(alive, test) && is_scoped_if(alive, step)
+}
+
 /// Whether statements name only what lives.
 #[cycle(statements)]
 fn are_scoped_statements(
@@ -137,23 +148,6 @@ fn is_scoped_simple(
     }
 }
 
-/// Whether a condition and a statement behind it name only what lives.
-#[cycle(statements)]
-fn is_scoped_branch(
-    alloc: Global,
-    function: &Function,
-    alive: &[u32],
-    test: &CheckedTerm,
-    body: &CheckedStatement,
-) -> Result<bool, AllocError>
-    ensures { IfOk result (λ b. b ≡ (spec.is_scoped_term alive.now (term_tree test.now) && spec.is_scoped_statement (function_view function.now) alive.now (statement_tree body.now))) }
-{
-    if !is_scoped_term(alive, test) {
-        return Ok(false);
-    }
-    is_scoped_statement(alloc, function, alive, body)
-}
-
 /// Whether a statement is a selection, and names only what lives.
 #[cycle(statements)]
 fn is_scoped_selection(
@@ -166,7 +160,10 @@ fn is_scoped_selection(
 {
     match statement {
         CheckedStatement::If(test, body) | CheckedStatement::Switch(_, test, _, _, _, body) => {
-            is_scoped_branch(alloc, function, alive, test, body)
+            if !is_scoped_term(alive, test) {
+                return Ok(false);
+            }
+            is_scoped_statement(alloc, function, alive, body)
         }
         CheckedStatement::IfElse(test, first, second) => {
             if !is_scoped_term(alive, test) {
@@ -181,33 +178,16 @@ fn is_scoped_selection(
     }
 }
 
-/// Whether the clauses of a `for` and its body name only what lives.
-#[cycle(statements)]
-fn is_scoped_turn(
-    alloc: Global,
-    function: &Function,
-    alive: &[u32],
-    first: &[CheckedStatement],
-    test: &Option<CheckedTerm>,
-    step: &Option<CheckedTerm>,
-    body: &CheckedStatement,
-) -> Result<bool, AllocError>
-    ensures { IfOk result (λ b. b ≡ (spec.are_scoped_statements (function_view function.now) alive.now (statement_trees (map statement_tree first.now)) && (spec.is_scoped_if alive.now (option_map term_tree test.now) && (spec.is_scoped_if alive.now (option_map term_tree step.now) && spec.is_scoped_statement (function_view function.now) alive.now (statement_tree body.now))))) }
-{
-    if !are_scoped_statements(alloc, function, alive, first)? {
-        return Ok(false);
-    }
-    if !is_scoped_if(alive, test) {
-        return Ok(false);
-    }
-    if !is_scoped_if(alive, step) {
-        return Ok(false);
-    }
-    is_scoped_statement(alloc, function, alive, body)
-}
-
 /// Whether a statement is a loop, and names only what lives.
 #[cycle(statements)]
+#[tactic(
+    auto,
+    using(
+        crate::proofs::Groups::first_fails,
+        crate::proofs::Groups::next_fails,
+        crate::proofs::Groups::four_hold
+    )
+)]
 fn is_scoped_loop(
     alloc: Global,
     function: &Function,
@@ -218,15 +198,21 @@ fn is_scoped_loop(
 {
     match statement {
         CheckedStatement::While(test, body) | CheckedStatement::Do(body, test) => {
-            is_scoped_branch(alloc, function, alive, test, body)
-        }
-        CheckedStatement::For(objects, first, test, step, body) => {
-            if !are_new(objects.as_slice(), alive) {
+            if !is_scoped_term(alive, test) {
                 return Ok(false);
             }
-            let inner = with_objects(alloc, objects.as_slice(), alive)?;
-            let lives = inner.as_slice();
-            is_scoped_turn(alloc, function, lives, first.as_slice(), test, step, body)
+            is_scoped_statement(alloc, function, alive, body)
+        }
+        CheckedStatement::For(objects, first, test, step, body) => {
+            let opened = objects.as_slice();
+            if !is_scoped_block(alloc, function, alive, opened, first.as_slice())? {
+                return Ok(false);
+            }
+            let inner = with_objects(alloc, opened, alive)?;
+            if !are_scoped_clauses(inner.as_slice(), test, step) {
+                return Ok(false);
+            }
+            is_scoped_statement(alloc, function, inner.as_slice(), body)
         }
         _ => Ok(false),
     }

@@ -1,24 +1,21 @@
 //! Whether terms have operands of their marks.
-ghost use Rattle.std.specs.Prelude.{◌≡◌, ◌&&◌, ◌||◌, map, is_some, slice_get, true};
+ghost use Rattle.std.specs.Prelude.{◌≡◌, ◌&&◌, map, is_some, slice_get, true};
 ghost use Rattle.c_layout.specs.CheckedTrees.{term_tree, lvalue_tree, term_trees};
 ghost use Rattle.c_layout.specs.CheckedUnits.{unit_view};
 ghost use Rattle.c_layout.specs.Models.{is_model};
-ghost use Rattle.c_layout.specs.Types.{view, same_type};
-ghost use Rattle.flow_lower_tasks.specs.TermKinds.{scalar_of, term_type};
 ghost use Rattle.flow_lower_units.specs.TermGroups.{is_simple, is_operation, is_assignment, is_call};
 ghost use Rattle.ref_machine_looks.specs.LookedTerms as spec;
-ghost use Rattle.ref_machine_looks.specs.LookedTypes as types;
 
 use crate::exact_numbers::is_exact_zero;
 use crate::known_operands::has_object;
 use crate::look_calls::{calls, calls_library};
-use crate::look_operators::{adds_to, combines, compounds, converts, number_operator, steps_in};
-use crate::look_tests::has_tests;
-use crate::look_types::{
-    has_differences, has_number, have_same_mark, is_address, is_integer, is_model_integer,
-    is_scalar_type, is_truth,
+use crate::look_operators::{
+    assigns, chooses, combines, compares, compounds, computes_in, converts, loads, moves, moves_in,
+    number_operator, steps_in, subtracts,
 };
-use c_layout::{CType, Checked, CheckedTerm, Lvalue, LvalueForm, TermForm};
+use crate::look_tests::has_tests;
+use crate::look_types::{has_number, have_same_mark, is_address, is_scalar_type, is_truth};
+use c_layout::{Checked, CheckedTerm, Lvalue, LvalueForm, TermForm};
 use flow_lower_tasks::{integer_type, meaning, scalar};
 
 fn has_literal(unit: &Checked, number: u32) -> bool
@@ -66,82 +63,39 @@ fn are_marked_terms(unit: &Checked, terms: &[CheckedTerm]) -> bool
     true
 }
 
-/// Whether an operand of a unary operator that computes a number is marked, and of the result's type.
-#[cycle(terms)]
-fn is_marked_operand(unit: &Checked, operand: &CheckedTerm, t: &CType) -> bool
-    requires { is_model unit.now.model ≡ true }
-    ensures { result ≡ (spec.is_marked_term (unit_view unit.now) true (term_tree operand.now) && (same_type (term_type (term_tree operand.now)) (view t.now) && types.is_such (λ kind. types.is_kind (unit_view unit.now).model kind) (view t.now))) }
-{
-    is_marked_term(unit, true, operand)
-        && (operand.ctype.is_same(t) && is_model_integer(unit, t))
-}
-
-/// Whether an operand is marked and is converted to a type, or is null.
-#[cycle(terms)]
-fn is_marked_conversion(unit: &Checked, operand: &CheckedTerm, t: &CType) -> bool
-    requires { is_model unit.now.model ≡ true }
-    ensures { result ≡ (types.is_scalar_type (unit_view unit.now) (view t.now) && ((spec.is_marked_term (unit_view unit.now) true (term_tree operand.now) && types.converts (scalar_of (view t.now)) (scalar_of (term_type (term_tree operand.now)))) || (types.is_address (view t.now) && spec.is_exact_zero (unit_view unit.now).model (term_tree operand.now)))) }
-{
-    is_scalar_type(unit, t)
-        && ((is_marked_term(unit, true, operand) && converts(scalar(t), scalar(&operand.ctype)))
-            || (is_address(t) && is_exact_zero(&unit.model, operand)))
-}
-
 /// Whether a term has one operand at most and is no assignment, and has operands of their marks.
 #[cycle(terms)]
 fn is_marked_simple(unit: &Checked, used: bool, term: &CheckedTerm) -> bool
     requires { is_model unit.now.model ≡ true }
     ensures { result ≡ (is_simple (term_tree term.now) && spec.is_marked_term (unit_view unit.now) used (term_tree term.now)) }
 {
+    let t = &term.ctype;
     match &term.form {
-        TermForm::Number(n) => has_number(*n, &term.ctype),
-        TermForm::Sizeof(size, None, _) => has_number(i128::from(*size), &term.ctype),
-        TermForm::Sizeof(size, Some(_), _) => has_number(i128::from(*size), &term.ctype),
+        TermForm::Number(n) => has_number(*n, t),
+        TermForm::Sizeof(size, None, _) => has_number(i128::from(*size), t),
+        TermForm::Sizeof(size, Some(_), _) => has_number(i128::from(*size), t),
         TermForm::Load(at) => {
-            is_marked_place(unit, at)
-                && (is_scalar_type(unit, &at.ctype) && have_same_mark(&at.ctype, &term.ctype))
+            is_marked_place(unit, at) && loads(unit, &at.ctype, t)
         }
         TermForm::AddressOf(at) | TermForm::Decay(at) | TermForm::Struct(at) => {
-            is_marked_place(unit, at) && is_address(&term.ctype)
+            is_marked_place(unit, at) && is_address(t)
         }
-        TermForm::Convert(_, operand) => is_marked_conversion(unit, operand, &term.ctype),
+        TermForm::Convert(_, operand) => {
+            is_scalar_type(unit, t)
+                && ((is_marked_term(unit, true, operand)
+                    && converts(scalar(t), scalar(&operand.ctype)))
+                    || (is_address(t) && is_exact_zero(&unit.model, operand)))
+        }
         TermForm::Discard(operand) => is_marked_term(unit, false, operand) && !used,
         TermForm::Plus(operand) => {
-            is_marked_term(unit, true, operand) && have_same_mark(&operand.ctype, &term.ctype)
+            is_marked_term(unit, true, operand) && have_same_mark(&operand.ctype, t)
         }
         TermForm::Minus(operand) | TermForm::Complement(operand) => {
-            is_marked_operand(unit, operand, &term.ctype)
+            is_marked_term(unit, true, operand) && computes_in(unit, &operand.ctype, t)
         }
-        TermForm::Not(operand) => is_marked_term(unit, true, operand) && is_truth(&term.ctype),
+        TermForm::Not(operand) => is_marked_term(unit, true, operand) && is_truth(t),
         _ => false,
     }
-}
-
-/// Whether two operands, whose values are used, are marked, and fit.
-#[cycle(terms)]
-fn are_marked_operands(unit: &Checked, left: &CheckedTerm, right: &CheckedTerm, fit: bool) -> bool
-    requires { is_model unit.now.model ≡ true }
-    ensures { result ≡ (spec.is_marked_term (unit_view unit.now) true (term_tree left.now) && (spec.is_marked_term (unit_view unit.now) true (term_tree right.now) && fit)) }
-{
-    is_marked_term(unit, true, left) && (is_marked_term(unit, true, right) && fit)
-}
-
-/// Whether `?:` has a condition that decides its tests, and operands that are marked and fit.
-#[cycle(terms)]
-fn is_marked_choice(
-    unit: &Checked,
-    used: bool,
-    test: &CheckedTerm,
-    first: &CheckedTerm,
-    second: &CheckedTerm,
-    fit: bool,
-) -> bool
-    requires { is_model unit.now.model ≡ true }
-    ensures { result ≡ (spec.is_marked_term (unit_view unit.now) true (term_tree test.now) && (spec.has_tests (unit_view unit.now) true (term_tree test.now) && (spec.is_marked_term (unit_view unit.now) used (term_tree first.now) && (spec.is_marked_term (unit_view unit.now) used (term_tree second.now) && fit)))) }
-{
-    is_marked_term(unit, true, test)
-        && (has_tests(unit, true, test)
-            && (is_marked_term(unit, used, first) && (is_marked_term(unit, used, second) && fit)))
 }
 
 /// Whether a term is an operator with more operands than one, and has operands of their marks.
@@ -153,24 +107,30 @@ fn is_marked_operation(unit: &Checked, used: bool, term: &CheckedTerm) -> bool
     let t = &term.ctype;
     match &term.form {
         TermForm::Integer(op, a, b) => {
-            let fit = combines(unit, meaning(*op), &a.ctype, &b.ctype, t);
-            are_marked_operands(unit, a, b, fit)
+            is_marked_term(unit, true, a)
+                && (is_marked_term(unit, true, b)
+                    && combines(unit, meaning(*op), &a.ctype, &b.ctype, t))
         }
         TermForm::Shift(_, _, a, b) => {
-            are_marked_operands(unit, a, b, adds_to(&a.ctype, &b.ctype) && is_address(t))
+            is_marked_term(unit, true, a)
+                && (is_marked_term(unit, true, b) && moves(&a.ctype, &b.ctype, t))
         }
         TermForm::Difference(_, a, b) => {
-            let fit = is_address(&b.ctype) && has_differences(unit, t);
-            are_marked_operands(unit, a, b, is_address(&a.ctype) && fit)
+            is_marked_term(unit, true, a)
+                && (is_marked_term(unit, true, b) && subtracts(unit, &a.ctype, &b.ctype, t))
         }
         TermForm::Compare(_, a, b) => {
-            let fit = is_address(&b.ctype) && is_truth(t);
-            are_marked_operands(unit, a, b, is_address(&a.ctype) && fit)
+            is_marked_term(unit, true, a)
+                && (is_marked_term(unit, true, b) && compares(&a.ctype, &b.ctype, t))
         }
-        TermForm::Logical(_, a, b) => are_marked_operands(unit, a, b, is_truth(t)),
+        TermForm::Logical(_, a, b) => {
+            is_marked_term(unit, true, a) && (is_marked_term(unit, true, b) && is_truth(t))
+        }
         TermForm::Conditional(c, a, b) => {
-            let fit = have_same_mark(&a.ctype, t) && have_same_mark(&b.ctype, t);
-            is_marked_choice(unit, used, c, a, b, fit)
+            is_marked_term(unit, true, c)
+                && (has_tests(unit, true, c)
+                    && (is_marked_term(unit, used, a)
+                        && (is_marked_term(unit, used, b) && chooses(&a.ctype, &b.ctype, t))))
         }
         TermForm::Comma(a, b) => {
             is_marked_term(unit, false, a)
@@ -178,15 +138,6 @@ fn is_marked_operation(unit: &Checked, used: bool, term: &CheckedTerm) -> bool
         }
         _ => false,
     }
-}
-
-/// Whether an lvalue and a value that is stored there are marked, and fit.
-#[cycle(terms)]
-fn are_marked_sides(unit: &Checked, target: &Lvalue, value: &CheckedTerm, fit: bool) -> bool
-    requires { is_model unit.now.model ≡ true }
-    ensures { result ≡ (spec.is_marked_place (unit_view unit.now) (lvalue_tree target.now) && (spec.is_marked_term (unit_view unit.now) true (term_tree value.now) && fit)) }
-{
-    is_marked_place(unit, target) && (is_marked_term(unit, true, value) && fit)
 }
 
 /// Whether a term is an assignment or a step, and has operands of their marks.
@@ -198,17 +149,18 @@ fn is_marked_assignment(unit: &Checked, used: bool, term: &CheckedTerm) -> bool
     let t = &term.ctype;
     match &term.form {
         TermForm::Assign(l, a) => {
-            let fit = have_same_mark(&a.ctype, &l.ctype) && have_same_mark(&l.ctype, t);
-            are_marked_sides(unit, l, a, is_scalar_type(unit, &l.ctype) && fit)
+            is_marked_place(unit, l)
+                && (is_marked_term(unit, true, a) && assigns(unit, &l.ctype, &a.ctype, t))
         }
         TermForm::Compound(op, kind, l, a) => {
             let sign = number_operator(meaning(*op));
-            let fit = compounds(unit, sign, integer_type(kind), &l.ctype, &a.ctype, t);
-            are_marked_sides(unit, l, a, fit)
+            is_marked_place(unit, l)
+                && (is_marked_term(unit, true, a)
+                    && compounds(unit, sign, integer_type(kind), &l.ctype, &a.ctype, t))
         }
         TermForm::CompoundShift(_, _, l, a) => {
-            let fit = is_address(&l.ctype) && is_address(t);
-            are_marked_sides(unit, l, a, is_integer(&a.ctype) && fit)
+            is_marked_place(unit, l)
+                && (is_marked_term(unit, true, a) && moves_in(&l.ctype, &a.ctype, t))
         }
         TermForm::Step(_, _, kind, l) => {
             is_marked_place(unit, l) && steps_in(unit, integer_type(kind), &l.ctype, t)
