@@ -110,20 +110,8 @@ fn logical(op: LogicalOp, a: Option<i128>, b: Option<i128>) -> Option<i128>
     ensures { result ≡ spec.logical op a b }
 {
     match (op, a) {
-        (LogicalOp::And, Some(n)) => {
-            if is_true(n) {
-                truth_of(b)
-            } else {
-                Some(0)
-            }
-        }
-        (LogicalOp::Or, Some(n)) => {
-            if is_true(n) {
-                Some(1)
-            } else {
-                truth_of(b)
-            }
-        }
+        (LogicalOp::And, Some(n)) => { if is_true(n) { truth_of(b) } else { Some(0) } }
+        (LogicalOp::Or, Some(n)) => { if is_true(n) { Some(1) } else { truth_of(b) } }
         (LogicalOp::And, None) => None,
         (LogicalOp::Or, None) => None,
     }
@@ -134,13 +122,7 @@ fn chosen(test: Option<i128>, first: Option<i128>, second: Option<i128>) -> Opti
     ensures { result ≡ spec.chosen test first second }
 {
     match test {
-        Some(n) => {
-            if is_true(n) {
-                first
-            } else {
-                second
-            }
-        }
+        Some(n) => { if is_true(n) { first } else { second } }
         None => None,
     }
 }

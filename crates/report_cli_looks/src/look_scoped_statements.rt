@@ -45,11 +45,7 @@ fn is_scoped_return(function: &Function, alive: &[u32], value: &Option<CheckedTe
 }
 
 /// Whether the condition and the step of a `for` name only what lives.
-fn are_scoped_clauses(
-    alive: &[u32],
-    test: &Option<CheckedTerm>,
-    step: &Option<CheckedTerm>,
-) -> bool
+fn are_scoped_clauses(alive: &[u32], test: &Option<CheckedTerm>, step: &Option<CheckedTerm>) -> bool
     ensures { result ≡ (spec.is_scoped_if alive.now (option_map term_tree test.now) && spec.is_scoped_if alive.now (option_map term_tree step.now)) }
 {
     is_scoped_if(alive, test) && is_scoped_if(alive, step)
@@ -74,11 +70,7 @@ fn are_scoped_statements(
 }
 
 /// Whether a statement is a declaration, and names only what lives.
-fn is_scoped_declaration(
-    function: &Function,
-    alive: &[u32],
-    statement: &CheckedStatement,
-) -> bool
+fn is_scoped_declaration(function: &Function, alive: &[u32], statement: &CheckedStatement) -> bool
     ensures { result ≡ (is_declaration (statement_tree statement.now) && spec.is_scoped_statement (function_view function.now) alive.now (statement_tree statement.now)) }
 {
     match statement {
@@ -180,14 +172,7 @@ fn is_scoped_selection(
 
 /// Whether a statement is a loop, and names only what lives.
 #[cycle(statements)]
-#[tactic(
-    auto,
-    using(
-        crate::proofs::Groups::first_fails,
-        crate::proofs::Groups::next_fails,
-        crate::proofs::Groups::four_hold
-    )
-)]
+#[tactic(auto, using(crate::proofs::Groups::first_fails, crate::proofs::Groups::next_fails, crate::proofs::Groups::four_hold))]
 fn is_scoped_loop(
     alloc: Global,
     function: &Function,
@@ -227,14 +212,7 @@ fn is_scoped_other(function: &Function, alive: &[u32], statement: &CheckedStatem
 
 /// Whether a statement names only what lives.
 #[cycle(statements)]
-#[tactic(
-    auto,
-    using(
-        crate::proofs::Groups::in_one,
-        crate::proofs::Groups::in_group,
-        crate::proofs::Groups::other_group
-    )
-)]
+#[tactic(auto, using(crate::proofs::Groups::in_one, crate::proofs::Groups::in_group, crate::proofs::Groups::other_group))]
 fn is_scoped_statement(
     alloc: Global,
     function: &Function,
@@ -286,11 +264,7 @@ fn own_objects(alloc: Global, function: &Function) -> Result<Vec<u32>, AllocErro
     }
 }
 
-fn is_scoped_body(
-    alloc: Global,
-    function: &Function,
-    alive: &[u32],
-) -> Result<bool, AllocError>
+fn is_scoped_body(alloc: Global, function: &Function, alive: &[u32]) -> Result<bool, AllocError>
     ensures { IfOk result (λ b. b ≡ spec.is_scoped_body (function_view function.now) alive.now) }
 {
     is_scoped_block(
@@ -318,10 +292,7 @@ fn is_scoped_function(alloc: Global, function: &Function) -> Result<bool, AllocE
 }
 
 /// Whether functions name only what lives.
-pub fn are_scoped_functions(
-    alloc: Global,
-    functions: &[Function],
-) -> Result<bool, AllocError>
+pub fn are_scoped_functions(alloc: Global, functions: &[Function]) -> Result<bool, AllocError>
     ensures { IfOk result (λ b. b ≡ list_all spec.is_scoped_function (map function_view functions.now)) }
 {
     for at in 0..functions.len() {

@@ -35,11 +35,7 @@ pub fn are_new(objects: &[u32], alive: &[u32]) -> bool
 }
 
 /// What lives where some objects have begun to.
-pub fn with_objects(
-    alloc: Global,
-    objects: &[u32],
-    alive: &[u32],
-) -> Result<Vec<u32>, AllocError>
+pub fn with_objects(alloc: Global, objects: &[u32], alive: &[u32]) -> Result<Vec<u32>, AllocError>
     ensures { IfOk result (λ v. v.items ≡ objects.now ++ alive.now) }
 {
     let mut all = Vec::new(alloc);

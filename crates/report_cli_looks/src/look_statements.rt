@@ -162,11 +162,7 @@ fn is_marked_return(unit: &Checked, function: &Function, value: &Option<CheckedT
 
 /// Whether statements have terms with operands of their marks.
 #[cycle(statements)]
-pub fn are_marked_statements(
-    unit: &Checked,
-    function: &Function,
-    list: &[CheckedStatement],
-) -> bool
+pub fn are_marked_statements(unit: &Checked, function: &Function, list: &[CheckedStatement]) -> bool
     requires { is_model unit.now.model ≡ true }
     ensures { result ≡ spec.are_marked_statements (unit_view unit.now) (function_view function.now) (statement_trees (map statement_tree list.now)) }
 {
@@ -179,11 +175,7 @@ pub fn are_marked_statements(
 }
 
 /// Whether a statement is a declaration, and has such terms.
-fn is_marked_declaration(
-    unit: &Checked,
-    function: &Function,
-    statement: &CheckedStatement,
-) -> bool
+fn is_marked_declaration(unit: &Checked, function: &Function, statement: &CheckedStatement) -> bool
     requires { is_model unit.now.model ≡ true }
     ensures { result ≡ (is_declaration (statement_tree statement.now) && spec.is_marked_statement (unit_view unit.now) (function_view function.now) (statement_tree statement.now)) }
 {

@@ -74,9 +74,7 @@ fn is_marked_simple(unit: &Checked, used: bool, term: &CheckedTerm) -> bool
         TermForm::Number(n) => has_number(*n, t),
         TermForm::Sizeof(size, None, _) => has_number(i128::from(*size), t),
         TermForm::Sizeof(size, Some(_), _) => has_number(i128::from(*size), t),
-        TermForm::Load(at) => {
-            is_marked_place(unit, at) && loads(unit, &at.ctype, t)
-        }
+        TermForm::Load(at) => { is_marked_place(unit, at) && loads(unit, &at.ctype, t) }
         TermForm::AddressOf(at) | TermForm::Decay(at) | TermForm::Struct(at) => {
             is_marked_place(unit, at) && is_address(t)
         }
@@ -186,8 +184,7 @@ fn is_marked_call(unit: &Checked, used: bool, term: &CheckedTerm) -> bool
         }
         TermForm::Library(called, terms, _) => {
             let given = terms.as_slice();
-            are_marked_terms(unit, given)
-                && calls_library(unit, used, &term.ctype, *called, given)
+            are_marked_terms(unit, given) && calls_library(unit, used, &term.ctype, *called, given)
         }
         _ => false,
     }

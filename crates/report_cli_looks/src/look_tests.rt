@@ -248,12 +248,7 @@ fn are_with_null(rel: Rel, left: Known, right: Known, test: NamedTest7) -> bool
     }
 }
 
-fn compares_with_null(
-    rel: Rel,
-    left: Option<Known>,
-    right: Option<Known>,
-    test: NamedTest7,
-) -> bool
+fn compares_with_null(rel: Rel, left: Option<Known>, right: Option<Known>, test: NamedTest7) -> bool
     ensures { result ≡ spec.compares_with_null rel (option_map known_view left) (option_map known_view right) (test_view test) }
 {
     match (left, right) {
@@ -317,8 +312,7 @@ fn decides_converted(
     match kind {
         Scalar::Int(kind) => {
             is_kind(&unit.model, wide)
-                && (is_wider(kind, wide)
-                    && decides_number(unit, object, kind, test, test.common))
+                && (is_wider(kind, wide) && decides_number(unit, object, kind, test, test.common))
         }
         Scalar::Pointer => false,
     }
