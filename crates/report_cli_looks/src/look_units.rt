@@ -183,18 +183,26 @@ fn are_marked_objects(unit: &Checked) -> Result<bool, AllocError>
 // ---- the entry
 
 /// Whether parameters take numbers from the outside, so many of them.
+#[tactic(
+    auto,
+    using(
+        crate::proofs::EnteredParameters::next_entered,
+        crate::proofs::EnteredParameters::none_entered,
+        crate::proofs::EnteredParameters::none_asked
+    )
+)]
 fn are_entered(unit: &Checked, locals: &[LocalObject], count: usize) -> bool
     ensures { result ≡ list_all (spec.is_entered (unit_view unit.now)) (take count (map local_view locals.now)) }
 {
-    for at in 0..locals.len() {
-        if at >= count {
-            return true;
-        }
-        if !is_model_integer(unit, &locals[at].ctype) {
-            return false;
-        }
+    if count == 0 {
+        return true;
     }
-    true
+    match locals {
+        [first, rest @ ..] => {
+            is_model_integer(unit, &first.ctype) && are_entered(unit, rest, count - 1)
+        }
+        [] => true,
+    }
 }
 
 fn has_entry(unit: &Checked) -> bool
