@@ -13,6 +13,7 @@ use Rattle.c_layout.specs.declared.data_model.Model.{Model}
 use Rattle.c_layout.specs.declared.checked_tree.checked_terms.ObjectRef.{ObjectRef}
 use Rattle.c_layout.specs.declared.checked_tree.checked_terms.ObjectRef.TheVariants as ref
 use Rattle.flow_lower_conditions.specs.declared.branch_tests.NamedObject.{NamedObject}
+use Rattle.flow_program.specs.WellFormed.{is_number}
 use Rattle.flow_program.specs.declared.machine_instructions.Scalar.{Scalar}
 use Rattle.flow_program.specs.declared.machine_instructions.Scalar.TheVariants as of
 use Rattle.lib_models_effects.specs.Tests.{turned}
@@ -111,7 +112,7 @@ side_of common (Converted o kind) (side.named p) h = both (same_object p o) (sam
 side_of common (Converted o kind) (side.number k) h = never h
 side_of common (Converted o kind) side.nothing h = never h
 side_of common (Exactly n) (side.named p) h = never h
-side_of common (Exactly n) (side.number k) h = number_is n (wrap_into common k) h
+side_of common (Exactly n) (side.number k) h = number_is n (wrap_into common k) (both_true (is_number k) (int_eq n (wrap_into common k)) h).1
 side_of common (Exactly n) side.nothing h = never h
 side_of common (Ranged kind) s h = never h
 side_of common Pointing s h = never h

@@ -1,10 +1,8 @@
 -- Terms that a look has the numbers of, and null pointer constants.
-use Rattle.std.proofs.Common.{◌≡◌, ◌⊎◌, inl, inr, ℤ, pos, Bool, true, false, ◌||◌, cond, Option, Some, None, option_map, refl, sym, subst}
+use Rattle.std.proofs.Common.{◌≡◌, ◌⊎◌, inl, inr, ℤ, pos, Bool, true, false, ◌&&◌, ◌||◌, cond, Option, Some, None, option_map, refl, sym, subst}
 use Rattle.std.specs.Option.{option_and_then}
-use Rattle.cc_base.specs.IntegerTypes.{wrap_into}
-use Rattle.cc_base.specs.MachineArithmetic.{unary_result}
+use Rattle.cc_base.specs.IntegerTypes.{is_size, wrap_into}
 use Rattle.cc_base.specs.declared.int_types.IntType.{IntType}
-use Rattle.cc_base.specs.declared.integer_operators.UnOp.TheVariants.{Neg, Compl}
 use Rattle.c_layout.specs.Types.{Ty, Int, Pointer, Array, Struct, Void}
 use Rattle.c_layout.specs.CheckedTrees as tree
 use Rattle.c_layout.specs.CheckedTrees.{TermTree, Typed}
@@ -13,11 +11,14 @@ use Rattle.c_layout.specs.declared.syntax_tree.expressions.LogicalOp.TheVariants
 use Rattle.flow_lower_tasks.specs.TermKinds.{meaning, is_zero, integer_type, scalar_of}
 use Rattle.flow_lower_tasks.specs.declared.term_kinds.OperatorMeaning.{OperatorMeaning}
 use Rattle.flow_lower_tasks.specs.declared.term_kinds.OperatorMeaning.TheVariants as meant
+use Rattle.flow_program.specs.WellFormed.{is_number}
 use Rattle.ref_machine_marks.specs.MarkOperations.{IsKind, number_of_truth}
 use Rattle.ref_machine_marked.specs.ExactTerms.{is_true, Results, ExactTerm, NullTerm}
+use Rattle.ref_machine_looks.specs.LookedNumbers.{combined, negated_in, complement_in}
 use Rattle.ref_machine_looks.specs.LookedTypes.{is_kind, is_address}
 use Rattle.ref_machine_looks.specs.LookedTerms.{converted_in, negation, result, results, truth_of, logical, chosen, exact, is_exact_zero, is_null}
-use Rattle.ref_machine_looks.proofs.Truths.{never, no_some, some_is, if_true, both, one_of}
+use Rattle.ref_machine_looks.proofs.Truths.{never, no_some, some_is, if_true, both_true, both, one_of}
+use Rattle.ref_machine_looks.proofs.CombinedNumbers.{combination, negated, complemented}
 use Rattle.ref_machine_looks.proofs.SameTypes.{kind_there, pointer_is}
 use Rattle.ref_machine_looks.proofs.DecidedTests.{number_is}
 
@@ -32,7 +33,7 @@ followed A f None n at h = no_some n h
 followed A f (Some k) n at h = (k, at k refl, h)
 
 converted : (m : Model) (A : ℤ → Type 0) (t : Ty) (o : Option ℤ) (n : ℤ) → ((k : ℤ) → o ≡ Some k → A k) → converted_in m t o ≡ Some n → (kind : IntType) × (k : ℤ) × (t ≡ Int kind) × IsKind m kind × A k × (n ≡ wrap_into kind k)
-converted m A (Int kind) (Some k) n at h = if_true (is_kind m kind) (Some (wrap_into kind k)) n (λ is e. (kind, k, refl, kind_there m kind is, at k refl, sym (some_is (wrap_into kind k) n e))) h
+converted m A (Int kind) (Some k) n at h = if_true (is_kind m kind && is_number k) (Some (wrap_into kind k)) n (λ is e. (kind, k, refl, kind_there m kind (both_true (is_kind m kind) (is_number k) is).0, at k refl, sym (some_is (wrap_into kind k) n e))) h
 converted m A (Int kind) None n at h = no_some n h
 converted m A (Pointer t) o n at h = no_some n h
 converted m A (Array t l) o n at h = no_some n h
@@ -42,7 +43,7 @@ converted m A Void o n at h = no_some n h
 -- ---- two operands
 
 resulted : (how : OperatorMeaning) (kind : IntType) (a b n : ℤ) → result how kind a b ≡ Some n → Results how kind a b n
-resulted (meant.Number sign) kind a b n h = h
+resulted (meant.Number sign) kind a b n h = if_true (is_size kind.bytes) (combined sign kind a b) n (λ size e. combination sign kind a b n e) h
 resulted (meant.Truth rel) kind a b n h = sym (some_is _ n h)
 
 computed : (A B : ℤ → Type 0) (how : OperatorMeaning) (kind : IntType) (o p : Option ℤ) (n : ℤ) → ((k : ℤ) → o ≡ Some k → A k) → ((l : ℤ) → p ≡ Some l → B l) → results how kind o p ≡ Some n → (k : ℤ) × (l : ℤ) × A k × B l × Results how kind k l n
@@ -93,8 +94,8 @@ module _ (m : Model) where
   exact_is (Typed at t parens fixed (tree.Sizeof size operand is_pointer)) n h = sym (some_is (pos size) n h)
   exact_is (Typed at t parens fixed (tree.Convert sort a)) n h = converted m (ExactTerm m a) t (exact m a) n (λ k e. exact_is a k e) h
   exact_is (Typed at t parens fixed (tree.Plus a)) n h = exact_is a n h
-  exact_is (Typed at t parens fixed (tree.Minus a)) n h = followed (ExactTerm m a) (λ k. unary_result Neg (integer_type t) k) (exact m a) n (λ k e. exact_is a k e) h
-  exact_is (Typed at t parens fixed (tree.Complement a)) n h = followed (ExactTerm m a) (λ k. unary_result Compl (integer_type t) k) (exact m a) n (λ k e. exact_is a k e) h
+  exact_is (Typed at t parens fixed (tree.Minus a)) n h = let x = followed (ExactTerm m a) (λ k. negated_in (integer_type t) k) (exact m a) n (λ k e. exact_is a k e) h in (x.0, x.1, negated (integer_type t) x.0 n x.2)
+  exact_is (Typed at t parens fixed (tree.Complement a)) n h = let x = followed (ExactTerm m a) (λ k. complement_in (integer_type t) k) (exact m a) n (λ k e. exact_is a k e) h in (x.0, x.1, complemented (integer_type t) x.0 n x.2)
   exact_is (Typed at t parens fixed (tree.Not a)) n h = mapped (ExactTerm m a) negation (exact m a) n (λ k e. exact_is a k e) h
   exact_is (Typed at t parens fixed (tree.Integer sign a b)) n h = computed (ExactTerm m a) (ExactTerm m b) (meaning sign) (integer_type t) (exact m a) (exact m b) n (λ k e. exact_is a k e) (λ k e. exact_is b k e) h
   exact_is (Typed at t parens fixed (tree.Logical And a b)) n h = both_hold (ExactTerm m a) (ExactTerm m b) (exact m b) n (λ k e. exact_is b k e) (exact m a) (λ k e. exact_is a k e) h

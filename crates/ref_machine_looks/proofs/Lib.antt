@@ -1,6 +1,7 @@
 pub mod Truths
 pub mod SameTypes
 pub mod DecidedTests
+pub mod CombinedNumbers
 pub mod ExactNumbers
 pub mod LookedOperands
 pub mod LookedTerms

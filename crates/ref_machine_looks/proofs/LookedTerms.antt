@@ -1,7 +1,6 @@
 -- Terms that pass the look have operands of the marks that their operators take.
 use Rattle.std.proofs.Common.{◌≡◌, ℕ, ◌+◌, pos, Bool, true, false, not, ◌&&◌, ◌||◌, List, [], ◌∷◌, Option, Some, None, slice_get, refl, ap}
 use Rattle.std.proofs.lemmas.Bool.{eqb-true}
-use Rattle.cc_base.specs.IntegerTypes.{in_type}
 use Rattle.c_layout.specs.Types.{Ty}
 use Rattle.c_layout.specs.CheckedTrees as tree
 use Rattle.c_layout.specs.CheckedTrees.{TermTree, TermTrees, Typed, LvalueTree, Designates}
@@ -23,9 +22,10 @@ use Rattle.ref_machine_marks.specs.Marks.{mark_of}
 use Rattle.ref_machine_marks.specs.MarkOperations.{AreOfKinds, least_given, greatest_given, IsGiven}
 use Rattle.ref_machine_marked.specs.MarkedTerms.{argument_marks, HaveParameters, CallsFunction, CallsLibrary, MarkedTerm, MarkedPlace, MarkedTerms, MarkedCondition}
 use Rattle.ref_machine_looks.specs.LookedTypes.{same_mark}
+use Rattle.ref_machine_looks.specs.LookedNumbers.{has}
 use Rattle.ref_machine_looks.specs.LookedTerms.{has_tests, have_parameters, calls, same_kinds, begins_with_address, accepts, is_given, calls_library, is_marked_term, is_marked_place, are_marked_terms, is_marked_condition}
 use Rattle.ref_machine_looks.proofs.Truths.{never, there, implied, is_false, both_true, both, three, four, five, six, one_of}
-use Rattle.ref_machine_looks.proofs.SameTypes.{type_is, mark_is, address_is, scalar_type, number, integer, integer_there, truth, subtracted, combined, added, stepped, compounded, converted}
+use Rattle.ref_machine_looks.proofs.SameTypes.{number_there, type_is, mark_is, address_is, scalar_type, number, integer, integer_there, truth, subtracted, combined, added, stepped, compounded, converted}
 use Rattle.ref_machine_looks.proofs.ExactNumbers.{zero_is}
 use Rattle.ref_machine_looks.proofs.LookedOperands.{object_there, tests}
 
@@ -95,7 +95,7 @@ accepted character ks h = kinds_are ks _ h
 given : (m : Model) (function : LibFn) (kind : Kind) (a : Scalar) → is_given m function kind a ≡ true → IsGiven m function kind (mark_of a)
 given m function Address of.Pointer h = refl
 given m function Address (of.Int kind) h = never h
-given m function Number (of.Int kind) h = both_true (in_type kind (least_given function)) (in_type kind (greatest_given m function)) h
+given m function Number (of.Int kind) h = both (has kind (least_given function)) (has kind (greatest_given m function)) (number_there kind (least_given function)) (number_there kind (greatest_given m function)) h
 given m function Number of.Pointer h = never h
 
 library : (u : UnitView) (used : Bool) (t : Ty) (function : LibFn) (args : TermTrees) → calls_library u used t function args ≡ true → CallsLibrary u used t function args

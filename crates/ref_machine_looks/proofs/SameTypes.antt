@@ -19,6 +19,7 @@ use Rattle.lib_models_effects.specs.LibraryChecks.{most_size}
 use Rattle.ref_machine_marks.specs.Marks.{Pointing, mark_of, mark_of_type}
 use Rattle.ref_machine_marks.specs.MarkOperations.{IsKind, IsScalar, IsWider, HasTruths, CountsAs, ConvertsTo}
 use Rattle.ref_machine_marked.specs.MarkedTerms.{IsScalarType, IsInteger, IsTruth, Combines, AddsTo, Subtracts, StepsIn, Compounds}
+use Rattle.ref_machine_looks.specs.LookedNumbers.{has}
 use Rattle.ref_machine_looks.specs.LookedTypes.{is_kind, is_wider, has_truths, counts_as, is_scalar, is_pointer, same_scalar, is_scalar_type, is_address, same_mark, is_such, is_integer, has_number, is_truth, subtracts, combines, adds_to, steps_in, compounds, converts}
 use Rattle.ref_machine_looks.proofs.Truths.{never, both_true, both, three, one_of}
 
@@ -74,11 +75,14 @@ address_is t h = ap mark_of (pointer_is (scalar_of t) h)
 pub kind_there : (m : Model) (kind : IntType) → is_kind m kind ≡ true → IsKind m kind
 kind_there m kind h = let x = both_true (is_size kind.bytes) (class_bytes m (class_of kind) == kind.bytes) h in record { size = x.0; bytes = eqb-true (class_bytes m (class_of kind)) kind.bytes x.1 }
 
+pub number_there : (kind : IntType) (n : ℤ) → has kind n ≡ true → in_type kind n ≡ true
+number_there kind n h = (both_true (is_size kind.bytes) (in_type kind n) h).1
+
 pub wider : (narrow wide : IntType) → is_wider narrow wide ≡ true → IsWider narrow wide
-wider narrow wide h = let x = both_true (in_type wide (least_of narrow)) (in_type wide (greatest_of narrow)) h in record { least = x.0; greatest = x.1 }
+wider narrow wide h = let x = three (is_size narrow.bytes) (has wide (least_of narrow)) (has wide (greatest_of narrow)) (λ size. size) (number_there wide (least_of narrow)) (number_there wide (greatest_of narrow)) h in record { least = x.1; greatest = x.2 }
 
 truths : (kind : IntType) → has_truths kind ≡ true → HasTruths kind
-truths kind h = let x = both_true (in_type kind (pos 0)) (in_type kind (pos 1)) h in record { zero = x.0; one = x.1 }
+truths kind h = let x = both (has kind (pos 0)) (has kind (pos 1)) (number_there kind (pos 0)) (number_there kind (pos 1)) h in record { zero = x.0; one = x.1 }
 
 counted : (sign : IntOp) (kind count : IntType) → counts_as sign kind count ≡ true → CountsAs sign kind count
 counted Shl kind count h = tt
@@ -112,7 +116,7 @@ pub integer : (t : Ty) → is_integer t ≡ true → (kind : IntType) × (t ≡ 
 integer t h = let x = such (λ kind. true) t h in (x.0, x.1)
 
 pub number : (n : ℤ) (t : Ty) → has_number n t ≡ true → (kind : IntType) × (t ≡ Int kind) × (in_type kind n ≡ true)
-number n t h = such (λ kind. in_type kind n) t h
+number n t h = let x = such (λ kind. has kind n) t h in (x.0, x.1, number_there x.0 n x.2)
 
 pub integer_there : (u : UnitView) (t : Ty) → is_such (λ kind. is_kind u.model kind) t ≡ true → (kind : IntType) × IsInteger u t kind
 integer_there u t h = let x = such (λ kind. is_kind u.model kind) t h in (x.0, (x.1, kind_there u.model x.0 x.2))
@@ -122,8 +126,8 @@ truth t h = let x = such has_truths t h in (x.0, x.1, truths x.0 x.2)
 
 pub subtracted : (u : UnitView) (t : Ty) → subtracts u t ≡ true → Subtracts u t
 subtracted u t h =
-    let x = such (λ kind. in_type kind (pos (most_size u.model)) && in_type kind (negsuc (most_size u.model))) t h in
-    let y = both_true (in_type x.0 (pos (most_size u.model))) (in_type x.0 (negsuc (most_size u.model))) x.2 in
+    let x = such (λ kind. has kind (pos (most_size u.model)) && has kind (negsuc (most_size u.model))) t h in
+    let y = both (has x.0 (pos (most_size u.model))) (has x.0 (negsuc (most_size u.model))) (number_there x.0 (pos (most_size u.model))) (number_there x.0 (negsuc (most_size u.model))) x.2 in
     (x.0, x.1, y.0, y.1)
 
 -- ---- operators

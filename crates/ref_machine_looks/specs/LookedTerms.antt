@@ -1,10 +1,9 @@
 -- Looks at terms: the numbers that constants are, the marks of operands, and whether operators have operands of their marks.
 use Rattle.std.specs.Prelude.{ℕ, ◌+◌, ◌==◌, ℤ, pos, Bool, true, false, not, ◌&&◌, ◌||◌, cond, List, [], ◌∷◌, Option, Some, None, option_map, option_and_then, is_some, slice_get}
 use Rattle.std.specs.Ordering.{int_eq}
-use Rattle.cc_base.specs.IntegerTypes.{in_type, wrap_into}
-use Rattle.cc_base.specs.MachineArithmetic.{binary_result, unary_result, holds}
+use Rattle.cc_base.specs.IntegerTypes.{wrap_into}
+use Rattle.cc_base.specs.MachineArithmetic.{holds}
 use Rattle.cc_base.specs.declared.int_types.IntType.{IntType}
-use Rattle.cc_base.specs.declared.integer_operators.UnOp.TheVariants.{Neg, Compl}
 use Rattle.c_layout.specs.Types.{Ty, Int, same_type}
 use Rattle.c_layout.specs.CheckedTrees as tree
 use Rattle.c_layout.specs.CheckedTrees.{TermTree, TermTrees, Typed, LvalueTree, Designates}
@@ -22,6 +21,7 @@ use Rattle.flow_lower_functions.specs.Functions.{local_type}
 use Rattle.flow_lower_tasks.specs.TermKinds.{meaning, relation, is_void, is_zero, scalar_of, integer_type, term_type, lvalue_type}
 use Rattle.flow_lower_tasks.specs.declared.term_kinds.OperatorMeaning.{OperatorMeaning}
 use Rattle.flow_lower_tasks.specs.declared.term_kinds.OperatorMeaning.TheVariants as meant
+use Rattle.flow_program.specs.WellFormed.{is_number}
 use Rattle.flow_program.specs.declared.machine_instructions.Scalar.{Scalar}
 use Rattle.flow_program.specs.declared.machine_instructions.Scalar.TheVariants as of
 use Rattle.ref_machine.specs.Items.{NamedTest}
@@ -33,20 +33,21 @@ use Rattle.ref_machine_kinds.specs.KindedTerms.{argument_kinds}
 use Rattle.ref_machine_marks.specs.Marks.{Mark, Exactly, Null, Loaded}
 use Rattle.ref_machine_marks.specs.MarkOperations.{number_of_truth, least_given, greatest_given}
 use Rattle.ref_machine_marked.specs.ExactTerms.{is_true}
+use Rattle.ref_machine_looks.specs.LookedNumbers.{has, combined_in, negated_in, complement_in}
 use Rattle.ref_machine_looks.specs.LookedTypes.{is_kind, is_scalar_type, is_address, same_mark, is_integer, has_number, is_such, is_truth, subtracts, combines, adds_to, steps_in, compounds, converts}
 use Rattle.ref_machine_looks.specs.LookedTests.{converted_mark, compares, compares_with_null, decides}
 
 -- ---- numbers
 
 abbrev pub converted_in : Model → Ty → Option ℤ → Option ℤ
-converted_in m (Int kind) (Some n) = cond (is_kind m kind) (Some (wrap_into kind n)) None
+converted_in m (Int kind) (Some n) = cond (is_kind m kind && is_number n) (Some (wrap_into kind n)) None
 converted_in m t n = None
 
 abbrev pub negation : ℤ → ℤ
 negation n = number_of_truth (int_eq n (pos 0))
 
 abbrev pub result : OperatorMeaning → IntType → ℤ → ℤ → Option ℤ
-result (meant.Number sign) kind a b = binary_result sign kind a b
+result (meant.Number sign) kind a b = combined_in sign kind a b
 result (meant.Truth rel) kind a b = Some (number_of_truth (holds rel a b))
 
 abbrev pub results : OperatorMeaning → IntType → Option ℤ → Option ℤ → Option ℤ
@@ -73,8 +74,8 @@ exact m (Typed at t parens fixed (tree.SizeofType size is_pointer)) = Some (pos 
 exact m (Typed at t parens fixed (tree.Sizeof size operand is_pointer)) = Some (pos size)
 exact m (Typed at t parens fixed (tree.Convert sort a)) = converted_in m t (exact m a)
 exact m (Typed at t parens fixed (tree.Plus a)) = exact m a
-exact m (Typed at t parens fixed (tree.Minus a)) = option_and_then (λ k. unary_result Neg (integer_type t) k) (exact m a)
-exact m (Typed at t parens fixed (tree.Complement a)) = option_and_then (λ k. unary_result Compl (integer_type t) k) (exact m a)
+exact m (Typed at t parens fixed (tree.Minus a)) = option_and_then (λ k. negated_in (integer_type t) k) (exact m a)
+exact m (Typed at t parens fixed (tree.Complement a)) = option_and_then (λ k. complement_in (integer_type t) k) (exact m a)
 exact m (Typed at t parens fixed (tree.Not a)) = option_map negation (exact m a)
 exact m (Typed at t parens fixed (tree.Integer sign a b)) = results (meaning sign) (integer_type t) (exact m a) (exact m b)
 exact m (Typed at t parens fixed (tree.Logical sign a b)) = logical sign (exact m a) (exact m b)
@@ -196,7 +197,7 @@ accepts character ks = same_kinds ks (Number ∷ [])
 
 abbrev pub is_given : Model → LibFn → Kind → Scalar → Bool
 is_given m function Address of.Pointer = true
-is_given m function Number (of.Int kind) = in_type kind (least_given function) && in_type kind (greatest_given m function)
+is_given m function Number (of.Int kind) = has kind (least_given function) && has kind (greatest_given m function)
 is_given m function kind scalar = false
 
 abbrev pub calls_library : UnitView → Bool → Ty → LibFn → TermTrees → Bool

@@ -1,7 +1,6 @@
 -- Looks at tests: whether what is known of the operands of a condition decides its test.
 use Rattle.std.specs.Prelude.{◌==◌, pos, Bool, true, false, ◌&&◌, ◌||◌, Option, Some, None}
 use Rattle.std.specs.Ordering.{int_eq}
-use Rattle.cc_base.specs.IntegerTypes.{wrap_into}
 use Rattle.cc_base.specs.declared.int_types.IntType.{IntType}
 use Rattle.cc_base.specs.declared.integer_operators.Rel.{Rel}
 use Rattle.cc_base.specs.declared.integer_operators.Rel.TheVariants.{Lt, Le, Gt, Ge, Eq, Ne}
@@ -20,6 +19,7 @@ use Rattle.ref_machine.specs.Items as side
 use Rattle.ref_machine.specs.Items.{NamedSide, NamedTest}
 use Rattle.ref_machine_marks.specs.Marks.{Mark, Exactly, Null, Loaded, Converted}
 use Rattle.ref_machine_marks.specs.MarkOperations.{null_test_of}
+use Rattle.ref_machine_looks.specs.LookedNumbers.{wraps_to}
 use Rattle.ref_machine_looks.specs.LookedTypes.{is_kind, is_wider, is_pointer, same_scalar}
 
 -- ---- tests that are the same
@@ -79,7 +79,7 @@ converted_mark to mark = None
 abbrev pub is_side_of : IntType → Mark → NamedSide → Bool
 is_side_of common (Loaded o) (side.named p) = same_object p o && same_scalar o.kind (of.Int common)
 is_side_of common (Converted o kind) (side.named p) = same_object p o && same_kind kind common
-is_side_of common (Exactly n) (side.number k) = int_eq n (wrap_into common k)
+is_side_of common (Exactly n) (side.number k) = wraps_to common k n
 is_side_of common mark s = false
 
 abbrev pub compares_in : Model → Rel → Mark → Mark → NamedTest → Option IntType → Bool

@@ -1,6 +1,6 @@
 -- Looks at types: whether integer types are those of the data model, and whether two types give values of one mark.
 use Rattle.std.specs.Prelude.{◌==◌, ℤ, pos, negsuc, Bool, true, false, ◌&&◌, ◌||◌}
-use Rattle.cc_base.specs.IntegerTypes.{is_size, least_of, greatest_of, in_type}
+use Rattle.cc_base.specs.IntegerTypes.{is_size, least_of, greatest_of}
 use Rattle.cc_base.specs.declared.int_types.IntType.{IntType}
 use Rattle.cc_base.specs.declared.integer_operators.IntOp.{IntOp}
 use Rattle.cc_base.specs.declared.integer_operators.IntOp.TheVariants.{Shl, Shr}
@@ -15,6 +15,7 @@ use Rattle.flow_program.specs.declared.machine_instructions.Scalar.{Scalar}
 use Rattle.flow_program.specs.declared.machine_instructions.Scalar.TheVariants as of
 use Rattle.lib_models_memory.specs.ScalarSizes.{class_bytes}
 use Rattle.lib_models_effects.specs.LibraryChecks.{most_size}
+use Rattle.ref_machine_looks.specs.LookedNumbers.{has}
 
 -- ---- integer types
 
@@ -24,10 +25,10 @@ is_kind m kind = is_size kind.bytes && class_bytes m (class_of kind) == kind.byt
 
 -- whether a type has all numbers of another one
 abbrev pub is_wider : IntType → IntType → Bool
-is_wider narrow wide = in_type wide (least_of narrow) && in_type wide (greatest_of narrow)
+is_wider narrow wide = is_size narrow.bytes && (has wide (least_of narrow) && has wide (greatest_of narrow))
 
 abbrev pub has_truths : IntType → Bool
-has_truths kind = in_type kind (pos 0) && in_type kind (pos 1)
+has_truths kind = has kind (pos 0) && has kind (pos 1)
 
 -- the count of a shift may have another type than what is shifted
 abbrev pub counts_as : IntOp → IntType → IntType → Bool
@@ -75,14 +76,14 @@ abbrev pub is_integer : Ty → Bool
 is_integer t = is_such (λ kind. true) t
 
 abbrev pub has_number : ℤ → Ty → Bool
-has_number n t = is_such (λ kind. in_type kind n) t
+has_number n t = is_such (λ kind. has kind n) t
 
 abbrev pub is_truth : Ty → Bool
 is_truth t = is_such has_truths t
 
 -- the type of a difference of pointers
 abbrev pub subtracts : UnitView → Ty → Bool
-subtracts u t = is_such (λ kind. in_type kind (pos (most_size u.model)) && in_type kind (negsuc (most_size u.model))) t
+subtracts u t = is_such (λ kind. has kind (pos (most_size u.model)) && has kind (negsuc (most_size u.model))) t
 
 -- ---- the operands of operators and their results
 

@@ -13,7 +13,7 @@ use Rattle.ref_machine.specs.SourceStates.{function_at}
 use Rattle.ref_machine_lives.specs.Lives.{Lives, with_those, kept_objects, kept, AreDistinct, AreNew}
 use Rattle.ref_machine_lives.specs.ScopedTerms.{IsThere, ScopedPlace, ScopedTerm, ScopedArguments, ScopedIf}
 use Rattle.ref_machine_lives.specs.ScopedStatements.{ScopedStore, ScopedStores, ScopedReturn, ScopedStatement, ScopedStatements, ScopedFunction}
-use Rattle.ref_machine_looks_units.specs.LookedScopes.{lives_in, is_scoped_term, is_scoped_place, are_scoped_terms, is_scoped_if, are_distinct, are_apart, are_new, is_scoped_store, is_scoped_return, is_scoped_statement, are_scoped_statements, is_scoped_body, is_scoped_function}
+use Rattle.ref_machine_looks.specs.LookedScopes.{lives_in, is_scoped_term, is_scoped_place, are_scoped_terms, is_scoped_if, are_distinct, are_apart, are_new, is_scoped_store, is_scoped_return, is_scoped_statement, are_scoped_statements, is_scoped_body, is_scoped_function}
 use Rattle.ref_machine_looks_units.specs.LookLaws.{LooksScope}
 use Rattle.ref_machine_looks.proofs.Truths.{never, there, is_false, either_true, both_true, both, three, five, all_at}
 

@@ -28,7 +28,7 @@ use Rattle.ref_machine_marked.specs.MarkedStatements.{MarkedIf, MarkedStep, Matc
 use Rattle.ref_machine_looks.specs.LookedTypes.{is_kind, is_wider, is_scalar_type, is_integer}
 use Rattle.ref_machine_looks.specs.LookedTests.{same_object}
 use Rattle.ref_machine_looks.specs.LookedTerms.{is_marked_term, is_marked_place, is_marked_condition, side}
-use Rattle.ref_machine_looks_units.specs.LookedStatements.{is_marked_if, is_marked_step, is_of_kind, is_within, matches, selects_by, is_byte, are_bytes, is_marked_store, is_marked_return, is_marked_statement, are_marked_statements}
+use Rattle.ref_machine_looks.specs.LookedStatements.{is_marked_if, is_marked_step, is_of_kind, is_within, matches, selects_by, is_byte, are_bytes, is_marked_store, is_marked_return, is_marked_statement, are_marked_statements}
 use Rattle.ref_machine_looks.proofs.Truths.{never, is_false, both_true, both, three, four}
 use Rattle.ref_machine_looks.proofs.SameTypes.{kind_there, wider, scalar_type, integer}
 use Rattle.ref_machine_looks.proofs.DecidedTests.{object_is}

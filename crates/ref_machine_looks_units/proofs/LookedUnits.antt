@@ -27,8 +27,8 @@ use Rattle.ref_machine_marks.specs.MarkOperations.{IsKind}
 use Rattle.ref_machine_marked.specs.MarkedTerms.{IsScalarType}
 use Rattle.ref_machine_marked.specs.MarkedStatements.{MarkedFunction, IsProperValue, IsProperStore, AreProperStores, MarkedStatic, MarkedLiteral, AreIntegers}
 use Rattle.ref_machine_looks.specs.LookedTypes.{is_scalar_type}
-use Rattle.ref_machine_looks_units.specs.LookedStatements.{are_bytes, are_marked_statements}
-use Rattle.ref_machine_looks_units.specs.LookedUnits.{is_small, is_small_local, are_scalars, is_marked_function, is_proper_value, is_proper_store, is_marked_static, is_marked_literal, is_entered, are_marked_objects, has_entry}
+use Rattle.ref_machine_looks.specs.LookedStatements.{are_bytes, are_marked_statements}
+use Rattle.ref_machine_looks.specs.LookedUnits.{is_small, is_small_local, are_scalars, is_marked_function, is_proper_value, is_proper_store, is_marked_static, is_marked_literal, is_entered, are_marked_objects, has_entry}
 use Rattle.ref_machine_looks_units.specs.LookLaws.{LooksMark, LooksStand}
 use Rattle.ref_machine_looks.proofs.Truths.{never, there, both_true, both, three, five, all_at}
 use Rattle.ref_machine_looks.proofs.SameTypes.{scalar_type, integer_there}

@@ -8,8 +8,8 @@ use Rattle.c_layout.specs.CheckedUnits.{FunctionView, LocalView, StaticStoreView
 use Rattle.c_layout.specs.declared.checked_tree.checked_statements.CaseLabel.{CaseLabel}
 use Rattle.c_layout.specs.declared.checked_tree.checked_units.StaticBase.TheVariants.{Object}
 use Rattle.c_layout.specs.declared.checked_tree.checked_units.StaticValue.TheVariants.{Address}
-use Rattle.ref_machine_looks_units.specs.LookedUnits.{is_marked}
-use Rattle.ref_machine_looks_units.specs.LookedScopes.{is_scoped}
+use Rattle.ref_machine_looks.specs.LookedUnits.{is_marked}
+use Rattle.ref_machine_looks.specs.LookedScopes.{is_scoped}
 use Rattle.ref_machine_looks_units.proofs.TermRows.{lp64, int, char, pointer, typed, number, object, value}
 
 module _ (at : Place) where

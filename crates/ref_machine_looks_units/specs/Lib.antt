@@ -1,4 +1,1 @@
-pub mod LookedStatements
-pub mod LookedUnits
-pub mod LookedScopes
 pub mod LookLaws

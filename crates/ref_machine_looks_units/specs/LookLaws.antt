@@ -4,8 +4,8 @@ use Rattle.c_layout.specs.CheckedUnits.{UnitView}
 use Rattle.ref_machine_returns.specs.StandingJumps.{UnitJumpsStand}
 use Rattle.ref_machine_lives.specs.ScopedStatements.{ScopedUnit}
 use Rattle.ref_machine_marked.specs.MarkedStatements.{MarkedUnit}
-use Rattle.ref_machine_looks_units.specs.LookedUnits.{is_marked}
-use Rattle.ref_machine_looks_units.specs.LookedScopes.{is_scoped}
+use Rattle.ref_machine_looks.specs.LookedUnits.{is_marked}
+use Rattle.ref_machine_looks.specs.LookedScopes.{is_scoped}
 
 -- a unit that passes the look is marked
 abbrev pub LooksMark : Type 0

@@ -22,6 +22,7 @@ use Rattle.ref_machine.specs.SourceRuns.{SourceRun, Run, found_in, why_of}
 use Rattle.template_runs_units.specs.UnitRuns.{IsProgramOf, AgreeUnlessStuck, UnitRunsAreProgramRuns}
 use Rattle.abstract_steps_sound_units.specs.CheckedUnits.{FindsPairsOfChecked, FindsTurnedPairsOfChecked}
 use Rattle.report_cli_units.specs.Judging.{SettingView, IsTyped, IsLowered, IsTurned}
+use Rattle.report_cli.specs.DefinedRuns.{IsNeverStuck, LookedRunsAreDefined}
 use Rattle.report_cli.specs.FoundRuns.{IsViolatedBy, JudgedRunsAreFound, ReportsHoldRuns}
 
 -- by an analysis of a program
@@ -55,13 +56,13 @@ pub record ViolatesIn (program : Flow) (u : UnitView) (v : Violation) : Type 0 w
   pub steps : ℕ
   pub there : Contains (states.found_in (flow_steps (flow_view program) steps (flow_begin u (flow_view program) draws))) v
 
-pub violated_in : UnitRunsAreProgramRuns → (u : UnitView) (program : Flow) → IsProgramOf u standard_limits program → (v : Violation) → IsViolatedBy u v → ViolatesIn program u v
-violated_in runs u program is v violated =
+pub violated_in : UnitRunsAreProgramRuns → (u : UnitView) (program : Flow) → IsProgramOf u standard_limits program → IsNeverStuck u → (v : Violation) → IsViolatedBy u v → ViolatesIn program u v
+violated_in runs u program is never v violated =
     let x = runs u standard_limits program is violated.draws violated.turns in
     record {
       draws = violated.draws;
       steps = x.0;
-      there = seen_by (Run u violated.draws violated.turns) (flow_steps (flow_view program) x.0 (flow_begin u (flow_view program) violated.draws)) v x.1 violated.not_stuck violated.there;
+      there = seen_by (Run u violated.draws violated.turns) (flow_steps (flow_view program) x.0 (flow_begin u (flow_view program) violated.draws)) v x.1 (never violated.draws violated.turns) violated.there;
     }
 
 -- the analysis is of the program, or of the one with turns unrolled
@@ -70,11 +71,11 @@ finds_pairs : CheckedRunsAreFound → FindsTurnedPairsOfChecked → (turns : Opt
 finds_pairs once turned None flow unrolled list found is good analysis u of v there = once flow list found (subst (λ f. IsAnalysis f list found) is analysis) u of v there
 finds_pairs once turned (Some turns) flow unrolled list found is good analysis u of v there = turned turns standard_limits flow unrolled list found good is analysis u of v there
 
-pub judged_runs : UnitRunsAreProgramRuns → CheckedRunsAreFound → FindsTurnedPairsOfChecked → JudgedRunsAreFound
-judged_runs runs once turned unit s j judged v violated =
+pub judged_runs : UnitRunsAreProgramRuns → CheckedRunsAreFound → FindsTurnedPairsOfChecked → LookedRunsAreDefined → JudgedRunsAreFound
+judged_runs runs once turned defined unit s j judged v violated =
     let f = judged.found in
     let finds = finds_pairs once turned s.turns judged.flow judged.analysed f.list f.runs judged.turned judged.made f.by_runs in
-    let x = violated_in runs (unit_view judged.checked) judged.flow (program_of s judged.tree judged.checked judged.flow judged.typed judged.regular judged.lowered judged.made) v violated in
+    let x = violated_in runs (unit_view judged.checked) judged.flow (program_of s judged.tree judged.checked judged.flow judged.typed judged.regular judged.lowered judged.made) (defined (unit_view judged.checked) judged.marked judged.scoped) v violated in
     let there =
     finds (unit_view judged.checked) (record { model = s.model; name = s.entry; tree = unit_tree judged.tree; limits = standard_limits; checked = judged.typed.checks; lowered = judged.lowered.lowers; plain = judged.plain }) v
     (record { draws = x.draws; steps = x.steps; there = x.there }) in

@@ -1,4 +1,5 @@
 //! Each rule that a run of a unit violates is told, at its place.
+ghost use Rattle.report_cli.specs.DefinedRuns.{LookedRunsAreDefined, JudgedRunsAreDefined};
 ghost use Rattle.report_cli.specs.FoundRuns.{JudgedRunsAreFound, ReportsHoldRuns};
 ghost use Rattle.report_cli.specs.ReplayedRuns.{ReplaysAreTold};
 ghost use Rattle.report_cli.specs.CertifiedRuns.{CertificatesHoldRuns};
@@ -9,16 +10,36 @@ ghost use Rattle.report_cli.specs.ToldReplays.{ReplaysStandInReports};
 
 use abstract_steps_sound_units::checked_runs_are_found;
 use cert_check_sound::accepted_certificates_hold_units;
+use ref_machine_looks_units::{looks_mark, looks_scope, looks_stand};
+use ref_machine_steps::runs_are_never_stuck;
 use report_cli_laws::one_parse;
 use template_runs_units::unit_runs_are_program_runs;
 
+/// Each step of a run of a unit that passes the looks is defined.
+pub fn looked_runs_are_defined()
+    ensures { LookedRunsAreDefined }
+{
+    runs_are_never_stuck();
+    looks_mark();
+    looks_scope();
+    looks_stand();
+}
+
+/// And so of an accepted unit: no run of it is ever stuck.
+pub fn judged_runs_are_defined()
+    ensures { JudgedRunsAreDefined }
+{
+    looked_runs_are_defined();
+}
+
 /// Each rule that a run of an accepted unit violates at a place is among the pairs that are told of it, also where turns
-/// are unrolled: whatever comes from the outside, and after any number of turns, unless the run is stuck there.
+/// are unrolled: whatever comes from the outside, and after any number of turns.
 pub fn judged_runs_are_found()
     ensures { JudgedRunsAreFound }
 {
     unit_runs_are_program_runs();
     checked_runs_are_found();
+    looked_runs_are_defined();
 }
 
 /// So it is among the diagnostics of the unit's report.
@@ -28,8 +49,7 @@ pub fn reports_hold_runs()
     judged_runs_are_found();
 }
 
-/// And each pair that a replay of an accepted unit finds is among those that are told of it, unless the replay ends as
-/// `left`.
+/// And each pair that a replay of an accepted unit finds is among those that are told of it.
 pub fn replays_are_told()
     ensures { ReplaysAreTold }
 {
@@ -43,11 +63,12 @@ pub fn certificates_hold_runs()
 {
     unit_runs_are_program_runs();
     accepted_certificates_hold_units();
+    looked_runs_are_defined();
 }
 
 /// The sentence: where `check` answers 0 or 1, it has put the report of the unit whole and in one call, and its diagnostics
 /// hold each rule that a run of the checked unit violates, at its place: whatever comes from the outside, and after any
-/// number of turns, unless the run is stuck there.
+/// number of turns.
 pub fn answers_hold_runs()
     ensures { AnswersHoldRuns }
 {
@@ -68,7 +89,7 @@ pub fn verified_hold_runs()
     certificates_hold_runs();
 }
 
-/// What `replay` tells of a unit stands in each report that `check` has of it, unless the replay ends as `left`.
+/// What `replay` tells of a unit stands in each report that `check` has of it.
 pub fn replays_stand_in_reports()
     ensures { ReplaysStandInReports }
 {

@@ -13,6 +13,8 @@ use Rattle.c_types.specs.UnitChecks.{check}
 use Rattle.flow_lower.specs.Lowerings.{IsLowering}
 use Rattle.flow_lower_objects.specs.PlainObjects.{has_plain_objects}
 use Rattle.flow_lower_units.specs.RegularUnits.{is_regular_unit}
+use Rattle.ref_machine_looks.specs.LookedScopes.{is_scoped}
+use Rattle.ref_machine_looks.specs.LookedUnits.{is_marked}
 use Rattle.flow_program.specs.declared.programs.Flow.{Flow}
 use Rattle.flow_program_views.specs.ProgramViews.{FlowView, flow_view}
 use Rattle.report_cli_texts.specs.Reports.{Bytes, report_of}
@@ -55,6 +57,12 @@ plain = refl
 regular : is_regular_unit checked_unit ≡ true
 regular = refl
 
+marked : is_marked checked_unit ≡ true
+marked = refl
+
+scoped : is_scoped checked_unit ≡ true
+scoped = refl
+
 module _ (some : Flow) (parsed_to : IsParsedTo) (checked_to : IsCheckedTo) (larger : Map) (flow : Flow) (worked : IsWorkedProgram flow larger) where
   parsed : IsParsed expanded (tree some.blocks)
   parsed = subst (λ (es : List ExternalTree). IsUnit lp64 (tokens_with (codes "0")) es) (sym (tree_is some.blocks)) parsed_to.there
@@ -94,6 +102,8 @@ module _ (some : Flow) (parsed_to : IsParsedTo) (checked_to : IsCheckedTo) (larg
     typed = typed;
     plain = ap (λ (u : UnitView). has_plain_objects u) (unit_is some.blocks) ∙ plain;
     regular = ap (λ (u : UnitView). is_regular_unit u) (unit_is some.blocks) ∙ regular;
+    marked = ap (λ (u : UnitView). is_marked u) (unit_is some.blocks) ∙ marked;
+    scoped = ap (λ (u : UnitView). is_scoped u) (unit_is some.blocks) ∙ scoped;
     flow = flow;
     lowered = lowered;
     made = worked.well_formed;

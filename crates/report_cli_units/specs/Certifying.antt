@@ -15,6 +15,8 @@ use Rattle.flow_program.specs.StructNumbers.{flow_numbers}
 use Rattle.flow_program.specs.WellFormed.{is_well_formed}
 use Rattle.flow_lower_objects.specs.PlainObjects.{has_plain_objects}
 use Rattle.flow_lower_units.specs.RegularUnits.{is_regular_unit}
+use Rattle.ref_machine_looks.specs.LookedScopes.{is_scoped}
+use Rattle.ref_machine_looks.specs.LookedUnits.{is_marked}
 use Rattle.cert_check.specs.declared.verdicts.CertFault.{CertFault}
 use Rattle.cert_check.specs.declared.verdicts.CertFault.TheVariants.{Form, Start, Edge}
 use Rattle.cert_check.specs.declared.verdicts.Verdict.TheVariants as verdict
@@ -31,7 +33,8 @@ cert_reason (Form n) = codes "Form " ++ decimal n
 cert_reason Start = codes "Start"
 cert_reason (Edge e) = codes "Edge " ++ decimal e
 
--- the program of a unit whose objects are plain and whose functions are regular; it is well formed
+-- the program of a unit whose objects are plain, whose functions are regular, and which passes the looks behind which no run of
+-- it is stuck; it is well formed
 pub record IsProgram (unit : Unit7) (s : SettingView) (flow : Flow) : Type 0 where
   pub tree : Tree7
   pub parsed : IsParsed unit tree
@@ -39,6 +42,8 @@ pub record IsProgram (unit : Unit7) (s : SettingView) (flow : Flow) : Type 0 whe
   pub typed : IsTyped s tree checked
   pub plain : has_plain_objects (unit_view checked) ≡ true
   pub regular : is_regular_unit (unit_view checked) ≡ true
+  pub marked : is_marked (unit_view checked) ≡ true
+  pub scoped : is_scoped (unit_view checked) ≡ true
   pub lowered : IsLowered checked flow
   pub well_formed : is_well_formed standard_limits flow ≡ true
 

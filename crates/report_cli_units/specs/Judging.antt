@@ -24,6 +24,8 @@ use Rattle.flow_program.specs.ThresholdNumbers.{limits_of}
 use Rattle.flow_program.specs.StructNumbers.{flow_numbers}
 use Rattle.flow_lower_objects.specs.PlainObjects.{has_plain_objects}
 use Rattle.flow_lower_units.specs.RegularUnits.{is_regular_unit}
+use Rattle.ref_machine_looks.specs.LookedScopes.{is_scoped}
+use Rattle.ref_machine_looks.specs.LookedUnits.{is_marked}
 use Rattle.flow_lower.specs.Lowerings as lowering
 use Rattle.flow_lower.specs.Lowerings.{IsLowering}
 use Rattle.flow_analysis.specs.Analyses.{IsAnalysis}
@@ -100,8 +102,8 @@ cells_from n (b ∷ bs) = cells_from (capped (n + base_cells b)) bs
 abbrev pub cell_count : Flow → ℕ
 cell_count flow = cells_from 0 flow.bases.items
 
--- an accepted unit: its checked unit, whose objects are plain and whose functions are regular, its well-formed program, the
--- program that is analysed, and what is found
+-- an accepted unit: its checked unit, whose objects are plain, whose functions are regular, and which passes the looks behind
+-- which no run of it is stuck, its well-formed program, the program that is analysed, and what is found
 pub record IsJudged (unit : Unit7) (s : SettingView) (j : Judgement) : Type 0 where
   pub tree : Tree7
   pub parsed : IsParsed unit tree
@@ -109,6 +111,8 @@ pub record IsJudged (unit : Unit7) (s : SettingView) (j : Judgement) : Type 0 wh
   pub typed : IsTyped s tree checked
   pub plain : has_plain_objects (unit_view checked) ≡ true
   pub regular : is_regular_unit (unit_view checked) ≡ true
+  pub marked : is_marked (unit_view checked) ≡ true
+  pub scoped : is_scoped (unit_view checked) ≡ true
   pub flow : Flow
   pub lowered : IsLowered checked flow
   pub made : is_well_formed standard_limits flow ≡ true

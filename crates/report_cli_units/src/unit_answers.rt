@@ -18,6 +18,7 @@ use flow_analysis::analyse;
 use flow_lower::lower;
 use flow_lower_counts::capped_sum;
 use flow_program::Flow;
+use report_cli_looks::look_at;
 use std::alloc::{AllocError, Global};
 use syntax_rules::syntactic;
 use turn_split::split;
@@ -162,7 +163,7 @@ fn turned(
     }
 }
 
-/// Parses, checks, lowers and analyses a unit.
+/// Parses, checks, lowers, looks at and analyses a unit.
 pub fn judge_unit(alloc: Global, unit: &Unit7, setting: Setting) -> Result<Judged, Stop>
     requires { is_model setting.model.now ≡ true }
     ensures judged { IfOk result (λ j. IsJudged unit.now (setting_view setting.entry) (judgement j)) }
@@ -171,6 +172,7 @@ pub fn judge_unit(alloc: Global, unit: &Unit7, setting: Setting) -> Result<Judge
     let tree = parsed(alloc, unit, setting)?;
     let checked = typed(alloc, unit, &tree, setting)?;
     let flow = lowered(alloc, unit, &tree, &checked, setting)?;
+    look_at(alloc, &checked)?;
     match setting.turns {
         None => Ok(judge_program(alloc, &checked, &flow, &flow)?),
         Some(turns) => {

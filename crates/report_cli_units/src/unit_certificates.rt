@@ -10,9 +10,10 @@ use c_layout::Unit7;
 use cc_base::{Memory, Stop};
 use cert_check_programs::{Verified, prove_program, verify_program};
 use flow_program::Flow;
+use report_cli_looks::look_at;
 use std::alloc::Global;
 
-/// Parses, checks and lowers a unit.
+/// Parses, checks, lowers and looks at a unit.
 fn program_of(alloc: Global, unit: &Unit7, setting: Setting) -> Result<Flow, Stop>
     requires { is_model setting.model.now ≡ true }
     ensures program { IfOk result (IsProgram unit.now (setting_view setting.entry)) }
@@ -22,6 +23,7 @@ fn program_of(alloc: Global, unit: &Unit7, setting: Setting) -> Result<Flow, Sto
     let tree = parsed(alloc, unit, setting)?;
     let checked = typed(alloc, unit, &tree, setting)?;
     let flow = lowered(alloc, unit, &tree, &checked, setting)?;
+    look_at(alloc, &checked)?;
     Ok(flow)
 }
 

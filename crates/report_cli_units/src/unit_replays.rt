@@ -10,6 +10,7 @@ use crate::unit_answers::{Setting, lowered, parsed, typed};
 use c_layout::{Checked, Tree7, Unit7};
 use cc_base::{Memory, Place, Stop};
 use replay_run::{Outcome, ReplayStop, replay};
+use report_cli_looks::look_at;
 use std::alloc::Global;
 
 /// What one run of a unit comes to.
@@ -66,7 +67,7 @@ fn run(
     }
 }
 
-/// Parses, checks and lowers a unit, and takes its run over these draws, of so many steps at most, from 0 to
+/// Parses, checks, lowers and looks at a unit, and takes its run over these draws, of so many steps at most, from 0 to
 /// 1,000,000.
 pub fn replay_unit(
     alloc: Global,
@@ -83,6 +84,7 @@ pub fn replay_unit(
     let tree = parsed(alloc, unit, setting)?;
     let checked = typed(alloc, unit, &tree, setting)?;
     let place = entry_place(alloc, unit, &tree, &checked, setting)?;
+    look_at(alloc, &checked)?;
     let replayed = run(alloc, &checked, place, draws, steps)?;
     Ok(replayed)
 }

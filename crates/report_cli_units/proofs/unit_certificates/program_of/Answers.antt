@@ -8,6 +8,8 @@ returns-clause-program c = record {
   typed = c.in_ok-checked.ensures.typed;
   plain = c.in_ok-flow.ensures.plain;
   regular = c.in_ok-flow.ensures.regular;
+  marked = c.in_ok-look_at.ensures.marked;
+  scoped = c.in_ok-look_at.ensures.scoped;
   lowered = c.in_ok-flow.ensures.lowered;
   well_formed = c.in_ok-flow.ensures.well_formed;
 }

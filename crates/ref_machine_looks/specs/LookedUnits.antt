@@ -14,7 +14,7 @@ use Rattle.lib_models_effects.specs.UnitStarts.{entry_parameters}
 use Rattle.ref_machine.specs.Operations.{size_of}
 use Rattle.ref_machine.specs.SourceStates.{function_at}
 use Rattle.ref_machine_looks.specs.LookedTypes.{is_kind, is_scalar_type, is_such}
-use Rattle.ref_machine_looks_units.specs.LookedStatements.{are_bytes, are_marked_statements}
+use Rattle.ref_machine_looks.specs.LookedStatements.{are_bytes, are_marked_statements}
 
 -- ---- functions
 

@@ -1,0 +1,4 @@
+pub mod FittingNumbers
+pub mod EnteredParameters
+pub mod Groups
+pub mod ArgumentKinds
