@@ -8,8 +8,8 @@ use Rattle.flow_program_machine.specs.FlowSteps.{flow_steps}
 use Rattle.flow_program_machine.specs.FlowStarts.{flow_begin}
 use Rattle.lib_models_effects.specs.Worlds.{World, Stuck, Violation}
 use Rattle.ref_machine.specs.SourceRuns.{stopped, Run}
-use Rattle.ref_machine_looks_units.specs.LookedUnits.{is_marked}
-use Rattle.ref_machine_looks_units.specs.LookedScopes.{is_scoped}
+use Rattle.ref_machine_looks.specs.LookedUnits.{is_marked}
+use Rattle.ref_machine_looks.specs.LookedScopes.{is_scoped}
 use Rattle.template_runs_units.specs.UnitRuns.{IsProgramOf, Agree}
 
 -- a unit that passes both looks
