@@ -1,0 +1,4 @@
+pub mod SingleNumbers
+pub mod SingleValues
+pub mod SingleRows
+pub mod SingleSteps
