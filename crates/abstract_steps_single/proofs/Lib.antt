@@ -1,0 +1,3 @@
+pub mod ExactIntervals
+pub mod NearTells
+pub mod PutTells
