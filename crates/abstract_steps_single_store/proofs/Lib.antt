@@ -1,3 +1,5 @@
 pub mod OneTurn
 pub mod OneBase
 pub mod OneTouch
+pub mod OneLeaf
+pub mod OneLoad
