@@ -3,3 +3,4 @@ pub mod OneBase
 pub mod OneTouch
 pub mod OneLeaf
 pub mod OneLoad
+pub mod HeldReads
