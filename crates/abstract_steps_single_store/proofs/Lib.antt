@@ -1,0 +1,6 @@
+pub mod OneTurn
+pub mod OneBase
+pub mod OneTouch
+pub mod OneLeaf
+pub mod OneLoad
+pub mod HeldReads
