@@ -48,7 +48,7 @@ is_le : (a b : ℤ) → a ≤ℤ b → int_le a b ≡ true
 is_le a b h = grind (arith, ints)
 
 -- one number within bounds is left by them
-met_one : (a lo hi : ℤ) → lo ≤ℤ a → a ≤ℤ hi → range_met (Some (a, a)) lo hi ≡ Some (a, a)
+pub met_one : (a lo hi : ℤ) → lo ≤ℤ a → a ≤ℤ hi → range_met (Some (a, a)) lo hi ≡ Some (a, a)
 met_one a lo hi f g =
     let low : int_max a lo ≡ a = omega (arith, ints, clamps, f) in
     let high : int_min a hi ≡ a = omega (arith, ints, clamps, g) in
@@ -56,7 +56,7 @@ met_one a lo hi f g =
     (λ e. λ i. Some (low i, high i)) (λ e. absurd (grind (arith, ints, clamps, f, g, e)))
 
 -- and a number outside is taken away
-met_none : (a lo hi : ℤ) → (int_le lo a && int_le a hi) ≡ false → range_met (Some (a, a)) lo hi ≡ None
+pub met_none : (a lo hi : ℤ) → (int_le lo a && int_le a hi) ≡ false → range_met (Some (a, a)) lo hi ≡ None
 met_none a lo hi f = cond_both (int_le (int_max a lo) (int_min a hi)) (Some (int_max a lo, int_min a hi)) None (λ r. r ≡ None)
     (λ e. let g = le_is (int_max a lo) (int_min a hi) e in
     let h = and_from (int_le lo a) (int_le a hi) (is_le lo a (omega (arith, ints, clamps, g))) (is_le a hi (omega (arith, ints, clamps, g))) in

@@ -84,3 +84,26 @@ behind_violated v before rules h r e = behind_there before rules r (h r e)
 
 pub same_violated : (v w : Violations) (rules : List Rule) → v ≡ w → AreViolated w rules → AreViolated v rules
 same_violated v w rules e h = subst (λ z. AreViolated z rules) (sym e) h
+
+-- the rules on pointers
+abbrev pub pointing : Bool → Bool → Bool → Bool → Violations
+pointing null outside sink apart = record no_violations { nullref = null; invptr = outside; taintsink = sink; ptrobj = apart }
+
+pub pointing_violated : (a b c d : Bool) (rules : List Rule) → (a ≡ true → Contains rules Nullref) → (b ≡ true → Contains rules Invptr) → (c ≡ true → Contains rules Taintsink) → (d ≡ true → Contains rules Ptrobj) → AreViolated (pointing a b c d) rules
+pointing_violated a b c d rules f g h k = let e = none_at_all rules in each_violated (pointing a b c d) rules (record {
+  accfree = e.accfree;
+  chrsgnext = e.chrsgnext;
+  dblfree = e.dblfree;
+  diverr = e.diverr;
+  insufmem = e.insufmem;
+  intoflow = e.intoflow;
+  invptr = g;
+  libptr = e.libptr;
+  nonnullcs = e.nonnullcs;
+  nullref = f;
+  ptrobj = k;
+  strmod = e.strmod;
+  taintsink = h;
+  uninitref = e.uninitref;
+  xfree = e.xfree;
+})

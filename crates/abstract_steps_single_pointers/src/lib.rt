@@ -1,0 +1,2 @@
+//! Where the rows of the analysis tell exactly what a state is, so do those behind instructions on pointers, and what they admit is violated.
+#![tactic(auto)]
