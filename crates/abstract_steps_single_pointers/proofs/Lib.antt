@@ -1,3 +1,4 @@
 pub mod Objects
 pub mod PointersTold
 pub mod Addresses
+pub mod Moves
