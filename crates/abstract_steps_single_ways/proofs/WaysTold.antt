@@ -1,6 +1,7 @@
 -- Jumps, branches and switches are told, where tests and cases are.
 use Rattle.std.proofs.Common.{◌≡◌, ℕ, ◌<◌, Bool, true, false, not, cond, ◌||◌, ◌&&◌, Option, Some, None, List, [], ◌∷◌, length, take, drop, arith, subst, sym, refl, ap, ap₂, ◌∙◌, inl, inr}
-use Rattle.std.specs.Prelude.{ℤ, pos, slice_get, int_le}
+use Rattle.std.specs.Prelude.{ℤ, pos, slice_get, int_le, nat_lt}
+use Rattle.std.specs.List.{list_all}
 use Rattle.std.specs.Ordering.{int_eq}
 use Rattle.std.proofs.lemmas.Int.{ints}
 use Rattle.std.proofs.lemmas.Bool.{cases_Bool, and_parts, or_cases, or_left, or_right, ltb-true, true≢false}
@@ -10,7 +11,7 @@ use Rattle.cc_base.specs.NumberRanges.{Range}
 use Rattle.cc_base.specs.IntegerDomains.{IntegersOf, BoundLaws}
 use Rattle.cc_base.specs.IntegerLaws.{SoundLaws}
 use Rattle.cc_base.specs.declared.limit_table.Limits.{Limits}
-use Rattle.flow_program.specs.WellFormed.{names_of, On, leads, are_led, fits_edge, fits_taken, has_temp, is_number, fits_test, is_well_formed}
+use Rattle.flow_program.specs.WellFormed.{names_of, On, Once, TwoWays, ByCases, leads, are_led, are_blocks, fits_edge, fits_taken, has_temp, is_number, fits_test, is_well_formed}
 use Rattle.flow_program.specs.declared.flow_edges.CaseTest.{CaseTest}
 use Rattle.flow_program.specs.declared.flow_edges.Edge.{Edge}
 use Rattle.flow_program.specs.declared.flow_edges.EdgeKind.{EdgeKind}
@@ -33,17 +34,19 @@ use Rattle.lib_models_effects.specs.Worlds.{World, Stuck, Reply, goes, stops, be
 use Rattle.flow_lower_tasks.specs.Acts.{act}
 use Rattle.flow_lower_tasks.specs.Pieces.{way}
 use Rattle.flow_program_views.specs.ProgramViews.{FlowView, EdgeView, flow_view}
+use Rattle.flow_program_views.specs.ProgramViews.{edge as edge_view}
 use Rattle.flow_program_machine.specs.FlowStates.{Standing, if_some, stuck_at}
 use Rattle.flow_program_machine.specs.FlowEdges.{same_truth, is_among, is_taken, edge_taken, edges_of, testing, matching, with_put, on_way, at_block, along}
 use Rattle.flow_program_machine.specs.FlowSteps.{block_of, on_edge, switching, act_step}
 use Rattle.store_domain_meaning.specs.ValueMeaning.{Naming}
 use Rattle.store_domain_meaning.specs.Coverage.{state_of}
 use Rattle.store_domain_sound_programs.specs.Premises.{HasPremises}
+use Rattle.store_domain_sound_programs.proofs.ShapedBases.{all_at}
 use Rattle.abstract_steps_sound.specs.SoundSteps.{IsReached, StandsBehind, IsStoodFor}
 use Rattle.abstract_steps_sound.proofs.Admitted.{none_admitted, same_admitted}
 use Rattle.abstract_steps_covered.proofs.Blocks.{IsBlock, block_facts}
 use Rattle.abstract_steps_sound_edges.specs.EdgeSteps.{TestIsSound, CaseIsSound, KindIsSound, TestsAreSound}
-use Rattle.abstract_steps_sound_edges.proofs.EdgeSteps.{is_near, edge_fits}
+use Rattle.abstract_steps_sound_edges.proofs.EdgeSteps.{is_near}
 use Rattle.abstract_steps_sound_edges.proofs.TakenEdges.{FitsLead, body_led, HasLast, has_last, IsTakenEdge, taken_edge}
 use Rattle.abstract_steps_single.specs.ExactNumbers.{truth_of, ExactLaws}
 use Rattle.abstract_steps_single.specs.SingleValues.{TellsNumber, TellsScalar}
@@ -77,6 +80,39 @@ same_self z = grind (arith, ints)
 
 other_is : (z : ℤ) (la : Labels) (labels : List ℤ) → is_other_than (Some (z, z)) labels ≡ not (is_among (integer z la) labels)
 other_is z la labels = ap₂ (λ a b. not a || not b) (same_self z) (among_is z la labels)
+
+lead_jump : (k : EdgeKind) → FitsLead Once k → FitsWay op.Jump k
+lead_jump kind.Jump h = tt
+lead_jump (kind.When truth test kept) h = absurd h
+lead_jump (kind.Case test) h = absurd h
+lead_jump (kind.Other values) h = absurd h
+lead_jump kind.NoLine h = absurd h
+lead_jump kind.Line h = absurd h
+
+lead_branch : (u : ℕ) (scalar : _) (k : EdgeKind) → FitsLead TwoWays k → FitsWay (op.Branch u scalar) k
+lead_branch u scalar kind.Jump h = absurd h
+lead_branch u scalar (kind.When truth test kept) h = tt
+lead_branch u scalar (kind.Case test) h = absurd h
+lead_branch u scalar (kind.Other values) h = absurd h
+lead_branch u scalar kind.NoLine h = absurd h
+lead_branch u scalar kind.Line h = absurd h
+
+lead_switch : (u : ℕ) (type : _) (k : EdgeKind) → FitsLead ByCases k → FitsWay (op.Switch u type) k
+lead_switch u type kind.Jump h = absurd h
+lead_switch u type (kind.When truth test kept) h = absurd h
+lead_switch u type (kind.Case test) h = tt
+lead_switch u type (kind.Other values) h = tt
+lead_switch u type kind.NoLine h = absurd h
+lead_switch u type kind.Line h = absurd h
+
+-- a jump is always taken
+jump_off : {A : Type 0} (k : EdgeKind) → FitsWay op.Jump k → (v : Scalar) → is_taken v (way k) ≡ false → (o : Option A) → o ≡ None
+jump_off kind.Jump fit v h o = absurd (true≢false h)
+jump_off (kind.When truth test kept) fit v h o = absurd fit
+jump_off (kind.Case test) fit v h o = absurd fit
+jump_off (kind.Other values) fit v h o = absurd fit
+jump_off kind.NoLine fit v h o = absurd fit
+jump_off kind.Line fit v h o = absurd fit
 
 defined_first : {A B : Type 0} (reply : Reply A) (f : A → World → Reply B) → IsDefined (behind reply f) → IsDefined reply
 defined_first reply f d = λ w e. d w (ap (λ z. behind z f) e)
@@ -224,3 +260,104 @@ module _ {I : Type 0} {l : LatticeOf I} {n : IntegersOf I} {stands : I → ℤ �
     jump_way from (kind.Other values) fit = absurd fit
     jump_way from kind.NoLine fit = absurd fit
     jump_way from kind.Line fit = absurd fit
+
+    -- ---- the edge that is taken, and the others
+
+    module _ (limits : Limits) (good : is_well_formed limits flow ≡ true) (apart : WaysAreApart flow) (sound : TestsAreSound l n stands flow) (tests : TestsAreTold l n stands flow) (i : Instruction) (last : last_instruction flow s.block ≡ Some i) where
+      holder : HasLast flow s.block i
+      holder = has_last flow s.block i (slice_get flow.blocks.items s.block) refl last
+
+      facts : IsBlock flow s.block holder.holder
+      facts = block_facts flow limits good s.block holder.holder holder.block_is
+
+      edge_fits : (number : ℕ) (e : Edge) → slice_get flow.edges.items number ≡ Some e → fits_edge (names_of flow) e.kind ≡ true
+      edge_fits number e at =
+          let a = and_parts (nat_lt 0 (length flow.blocks.items)) _ good in
+          let b = and_parts (are_blocks (names_of flow) (length flow.blocks.items) flow.edges.items 0 0 flow.blocks.items flow.edges.items) _ a.1 in
+          let d = and_parts (list_all (λ (e : Edge). fits_edge (names_of flow) e.kind) flow.edges.items) _ b.1 in
+          all_at (λ (z : Edge). fits_edge (names_of flow) z.kind) flow.edges.items number e d.0 at
+
+      decides : (o : Operation) → i.operation ≡ o → (b : ℕ) → b ≡ s.block → deciding_temp flow b ≡ deciding_of (Some (record i { operation = o }))
+      decides o same b e = ap (deciding_temp flow) e ∙ (ap deciding_of last ∙ ap (λ z. deciding_of (Some (record i { operation = z }))) same)
+
+      module _ (o : Operation) (same : i.operation ≡ o) (off : leads o ≡ On → ⊥) (to_way : (k : EdgeKind) → FitsLead (leads o) k → FitsWay o k) (v : Scalar)
+          (way_on : (number : ℕ) (e : Edge) → slice_get flow.edges.items number ≡ Some e → e.from ≡ s.block → FitsWay o e.kind → is_taken v (way e.kind) ≡ true → IsDefined (on_way f s (way e.kind)) → IsTold l n flow (follow l n flow row e.from e.kind) no_violations (on_way f s (way e.kind)))
+          (way_off : (e : Edge) → e.from ≡ s.block → FitsWay o e.kind → is_taken v (way e.kind) ≡ false → follow l n flow row e.from e.kind ≡ None) where
+        others : (number other : ℕ) (it e : Edge) → slice_get flow.edges.items number ≡ Some it → it.from ≡ s.block → is_taken v (way it.kind) ≡ true → slice_get flow.edges.items other ≡ Some e → e.from ≡ s.block → FitsWay o e.kind → (other ≡ number → ⊥) → edge l n flow row other ≡ None
+        unfolding edge
+        others number other it e is leaves taken at from fit ne = ap (follow_if l n flow row) at ∙ elim (cases_Bool (is_taken v (way e.kind))) [
+          | inr g ↦ way_off e from fit g
+          | inl g ↦ absurd (apart.apart number other it e v is at (leaves ∙ sym from) ne taken g)
+        ]
+
+        by_reply : (e : EdgeView) (y : IsTakenEdge flow s.block v e (leads o)) (reply : Reply Standing) → IsTold l n flow (follow l n flow row y.it.from y.it.kind) no_violations reply → (u : Standing) (w : World) → behind reply (λ t w. goes (at_block y.it.to t) w) ≡ goes u w → EdgeTells l n stands flow row o s.block (record u { world = w })
+        unfolding edge
+        by_reply e y (stops why w) h u z k = cc
+        by_reply e y (goes t w) h u z k =
+            let a : at_block y.it.to t ≡ u = cc in
+            let b : w ≡ z = cc in
+            let tb = h.goes_on t w refl in
+            let now : EdgeTells l n stands flow row o s.block (record (at_block y.it.to t) { world = w }) = record {
+              number = y.number;
+              taken = y.it;
+              is = y.is;
+              leaves = y.leaves;
+              enters = refl;
+              behind = record { row = tb.row; is = ap (follow_if l n flow row) y.is ∙ tb.is; tells = tb.tells };
+              others = λ other e at from fit ne. others y.number other y.it e y.is y.leaves (subst (λ z. is_taken v z.taken ≡ true) (sym y.same) y.taken) at from fit ne;
+            } in
+            subst (λ y. EdgeTells l n stands flow row o s.block (record y { world = z })) a (subst (λ z. EdgeTells l n stands flow row o s.block (record (at_block y.it.to t) { world = z })) b now)
+
+        by_edge : (e : Option EdgeView) → edge_taken v (edges_of f (block_of f s.block)) ≡ e → IsDefined (along f s e) → (u : Standing) (w : World) → along f s e ≡ goes u w → EdgeTells l n stands flow row o s.block (record u { world = w })
+        by_edge None k d u w g = cc
+        by_edge (Some e) k d u w g =
+            let own : List Edge = take holder.holder.edges (drop holder.holder.first_edge flow.edges.items) in
+            let led = subst (λ z. are_led (leads z) own ≡ true) same (body_led holder.holder.instructions.items own holder.at i facts.body holder.is (λ g. off (ap leads (sym same) ∙ g))) in
+            let y = taken_edge flow s.block holder.holder v e (leads o) holder.block_is facts led k in
+            let taken = subst (λ z. is_taken v z.taken ≡ true) (sym y.same) y.taken in
+            let def : IsDefined (along f s (Some (edge_view y.it))) = subst (λ z. IsDefined (along f s (Some z))) (sym y.same) d in
+            by_reply e y (on_way f s (way y.it.kind)) (way_on y.number y.it y.is y.leaves (to_way y.it.kind y.fits) taken (defined_first (on_way f s (way y.it.kind)) _ def)) u w (ap (λ z. along f s (Some z)) y.same ∙ g)
+
+        edge_tells : IsDefined (on_edge f s v) → (u : Standing) (w : World) → on_edge f s v ≡ goes u w → EdgeTells l n stands flow row o s.block (record u { world = w })
+        edge_tells d u w g = by_edge (edge_taken v (edges_of f (block_of f s.block))) refl d u w g
+
+      -- ---- the instructions
+
+      branch_told : (u : ℕ) (scalar : _) → i.operation ≡ op.Branch u scalar → IsDefined (act_step f (act (op.Branch u scalar)) s) → WayIsTold l n stands flow row (op.Branch u scalar) s
+      branch_told u scalar same d = record { goes_on = λ y w g. by_temp (s.temps u) refl y w g }
+        where
+          by_temp : (v : Option Scalar) → s.temps u ≡ v → (y : Standing) (w : World) → if_some s (s.temps u) (on_edge f s) ≡ goes y w → EdgeTells l n stands flow row (op.Branch u scalar) s.block (record y { world = w })
+          by_temp None e y w g = let h : stuck_at s ≡ goes y w = ap (λ z. if_some s z (on_edge f s)) (sym e) ∙ g in cc
+          by_temp (Some v) e y w g =
+              edge_tells (op.Branch u scalar) same (λ z. cc) (lead_branch u scalar) v
+              (λ number it at from fit taken def. branch_way it.from u v e (decides (op.Branch u scalar) same it.from from) scalar it.kind fit (sound number it at) (tests number it at) (edge_fits number it at) taken def)
+              (λ it from fit taken. branch_off it.from u v e (decides (op.Branch u scalar) same it.from from) scalar it.kind fit taken)
+              (subst (λ z. IsDefined (if_some s z (on_edge f s))) e d) y w (ap (λ z. if_some s z (on_edge f s)) (sym e) ∙ g)
+
+      switch_told : (u : ℕ) (type : _) → i.operation ≡ op.Switch u type → IsDefined (act_step f (act (op.Switch u type)) s) → WayIsTold l n stands flow row (op.Switch u type) s
+      switch_told u type same d = record { goes_on = λ y w g. by_temp (s.temps u) refl y w g }
+        where
+          by_temp : (v : Option Scalar) → s.temps u ≡ v → (y : Standing) (w : World) → if_some s (s.temps u) (switching f s) ≡ goes y w → EdgeTells l n stands flow row (op.Switch u type) s.block (record y { world = w })
+          by_temp None e y w g = let h : stuck_at s ≡ goes y w = ap (λ z. if_some s z (switching f s)) (sym e) ∙ g in cc
+          by_temp (Some (pointer at)) e y w g = let h : stuck_at s ≡ goes y w = ap (λ z. if_some s z (switching f s)) (sym e) ∙ g in cc
+          by_temp (Some (integer z la)) e y w g =
+              edge_tells (op.Switch u type) same (λ z. cc) (lead_switch u type) (integer z la)
+              (λ number it at from fit taken def. switch_way it.from u z la e (decides (op.Switch u type) same it.from from) type it.kind fit (tests number it at) taken def)
+              (λ it from fit taken. switch_off it.from u z la e (decides (op.Switch u type) same it.from from) type it.kind fit taken)
+              (subst (λ y. IsDefined (if_some s y (switching f s))) e d) y w (ap (λ y. if_some s y (switching f s)) (sym e) ∙ g)
+
+      jump_told : i.operation ≡ op.Jump → IsDefined (act_step f (act op.Jump) s) → WayIsTold l n stands flow row op.Jump s
+      jump_told same d = record {
+        goes_on = edge_tells op.Jump same (λ z. cc) lead_jump (integer (pos 0) no_labels)
+            (λ number it at from fit taken def. jump_way it.from it.kind fit)
+            (λ it from fit taken. jump_off it.kind fit (integer (pos 0) no_labels) taken (follow l n flow row it.from it.kind)) d;
+      }
+
+      by_operation : (o : Operation) → i.operation ≡ o → IsWay o → IsDefined (act_step f (act o) s) → WayIsTold l n stands flow row o s
+      by_operation op.Jump e h d = jump_told e d
+      by_operation (op.Branch u scalar) e h d = branch_told u scalar e d
+      by_operation (op.Switch u type) e h d = switch_told u type e d
+      by_operation o e h d = absurd h
+
+      pub way_told : IsWay i.operation → IsDefined (act_step f (act i.operation) s) → WayIsTold l n stands flow row i.operation s
+      way_told h d = by_operation i.operation refl h d
