@@ -2,3 +2,4 @@ pub mod Objects
 pub mod PointersTold
 pub mod Addresses
 pub mod Moves
+pub mod SoleBases
