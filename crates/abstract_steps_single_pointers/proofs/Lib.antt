@@ -3,3 +3,4 @@ pub mod PointersTold
 pub mod Addresses
 pub mod Moves
 pub mod SoleBases
+pub mod Comparisons
