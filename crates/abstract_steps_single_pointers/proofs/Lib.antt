@@ -4,3 +4,5 @@ pub mod Addresses
 pub mod Moves
 pub mod SoleBases
 pub mod Comparisons
+pub mod Parts
+pub mod PointerSteps
