@@ -1,1 +1,2 @@
 pub mod WaysTold
+pub mod PointerTests

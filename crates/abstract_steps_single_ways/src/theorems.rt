@@ -4,6 +4,7 @@ ghost use Rattle.cc_base.specs.declared.limit_table.Limits.{Limits};
 ghost use Rattle.flow_program.specs.declared.programs.Flow.{Flow};
 ghost use Rattle.abstract_steps_single.specs.ExactNumbers.{ExactLaws};
 ghost use Rattle.abstract_steps_single_ways.specs.WayLaws.{WaysAreTold};
+ghost use Rattle.abstract_steps_single_ways.specs.TestLaws.{PointerTestsAreTold};
 
 use cc_base::IntDomain;
 
@@ -11,4 +12,9 @@ use cc_base::IntDomain;
 /// there is none, where the tests and the cases of the program's edges are told.
 pub fn ways_are_told<I: IntDomain>()
     ensures { (flow : Flow) (limits : Limits) → SoundLaws I.lattice I.numbers I.stands → ExactLaws I.numbers → WaysAreTold I.lattice I.numbers I.stands flow limits }
+{}
+
+/// Tests of pointers other than of an object against a null constant.
+pub fn pointer_tests_are_told<I: IntDomain>()
+    ensures { (flow : Flow) → PointerTestsAreTold I.lattice I.numbers I.stands flow }
 {}
