@@ -1,10 +1,9 @@
 -- Intervals of one number give exactly what the machine gives.
-use Rattle.std.proofs.Common.{◌≡◌, Bool, true, false, not, cond, ◌&&◌, Option, Some, None, arith, subst, sym, refl, ap, ap₂, ◌∙◌}
+use Rattle.std.proofs.Common.{◌≡◌, Bool, true, false, not, ◌&&◌, Option, Some, None, arith, subst, sym, refl, ap, ap₂, ◌∙◌}
 use Rattle.std.specs.Prelude.{ℤ, ◌≤ℤ◌, int_le, int_lt}
 use Rattle.std.specs.Ordering.{int_eq}
 use Rattle.std.proofs.lemmas.Int.{ints}
 use Rattle.std.proofs.lemmas.Bool.{and_from, and_parts}
-use lib.Signed.{≤ℤ_refl}
 use Rattle.cc_base.specs.IntegerTypes.{is_size, in_type, wrap_into}
 use Rattle.cc_base.specs.MachineArithmetic.{binary_result, unary_result, holds}
 use Rattle.cc_base.specs.Truths.{tri_of}
@@ -15,7 +14,6 @@ use Rattle.cc_base.specs.declared.integer_operators.UnOp.{UnOp}
 use Rattle.cc_base.specs.declared.integer_operators.UnOp.TheVariants.{Neg, Compl}
 use Rattle.cc_base.specs.declared.integer_operators.Rel.{Rel}
 use Rattle.cc_base.specs.declared.integer_operators.Rel.TheVariants.{Lt, Le, Gt, Ge, Eq, Ne}
-use Rattle.interval_domain.specs.declared.spans.Span.{Span}
 use Rattle.interval_domain.specs.declared.intervals.Interval.{Interval}
 use Rattle.interval_domain.specs.declared.intervals.Interval.TheVariants.{Bottom, Of}
 use Rattle.interval_domain.specs.Spans.{same_spans, interval_bounds, Stands}

@@ -1,11 +1,11 @@
 -- Operators on two single numbers: the labels of results, and faults that are admitted are violated.
-use Rattle.std.proofs.Common.{◌≡◌, ◌*◌, ◌^◌, Bool, true, false, cond, not, ◌||◌, ◌&&◌, Option, Some, None, List, [], ◌∷◌, ◌++◌, arith, subst, sym, refl, ap, ap₂, ◌∙◌, inl, inr}
+use Rattle.std.proofs.Common.{◌≡◌, ◌*◌, ◌^◌, Bool, true, false, not, ◌||◌, ◌&&◌, Some, None, List, arith, subst, sym, refl, ap, ap₂, ◌∙◌, inl, inr}
 use Rattle.std.specs.Prelude.{ℤ, pos, negsuc, neg_ℤ, ◌+ℤ◌, ◌-ℤ◌, ◌*ℤ◌, ◌≤ℤ◌, ◌<ℤ◌, unsigned_abs, int_le, int_lt}
 use Rattle.std.specs.Int.{int_min, int_max}
 use Rattle.std.specs.List.{Contains}
 use Rattle.std.specs.Ordering.{int_eq}
 use Rattle.std.proofs.lemmas.Int.{ints, clamps}
-use Rattle.std.proofs.lemmas.Bool.{cases_Bool, cond_both, and_parts, and_from, or_cases, true≢false}
+use Rattle.std.proofs.lemmas.Bool.{cases_Bool, cond_both, and_parts, and_from, true≢false}
 use Rattle.std.proofs.lemmas.List.Elements.{Contains-append_left, Contains-append_right}
 use Rattle.cc_base.specs.NumberRanges.{Range, range_met}
 use Rattle.cc_base.specs.IntegerTypes.{least_of, greatest_of, in_type}
@@ -17,13 +17,13 @@ use Rattle.cc_base.specs.declared.integer_operators.IntOp.{IntOp}
 use Rattle.cc_base.specs.declared.integer_operators.IntOp.TheVariants.{Add, Sub, Mul, Div, Rem, And, Or, Xor, Shl, Shr}
 use Rattle.cc_base.specs.declared.integer_operators.UnOp.{UnOp}
 use Rattle.cc_base.specs.declared.integer_operators.UnOp.TheVariants.{Neg, Compl}
-use Rattle.value_domain.specs.ValueTables.{corners_leave, scaled_leave, ranges_leave, negated_leave}
+use Rattle.value_domain.specs.ValueTables.{corners_leave, scaled_leave, negated_leave}
 use Rattle.value_domain.specs.ValueTables as table
 use Rattle.abstract_steps_checks.specs.IntegerChecks.{has_number, divides_least, division_violations, overflow_violations, ranges_violate}
 use Rattle.abstract_steps_checks.specs.ViolationSets.{no_violations}
 use Rattle.abstract_steps_checks.specs.declared.violation_sets.Violations.{Violations}
 use Rattle.lib_models_effects.specs.IntegerEffects.{result_of, is_outside, fault_if, division_faults, shift_faults, overflow_faults, binary_faults, unary_math}
-use Rattle.abstract_steps_single.proofs.Violated.{AreViolated, EachViolated, never, each_violated, none_at_all, none_violated, one_there}
+use Rattle.abstract_steps_single.proofs.Violated.{AreViolated, each_violated, none_at_all, none_violated, one_there}
 
 or_self : (b : Bool) → (b || b) ≡ b
 or_self true = refl
@@ -61,7 +61,6 @@ met_none a lo hi f = cond_both (int_le (int_max a lo) (int_min a hi)) (Some (int
     (λ e. let g = le_is (int_max a lo) (int_min a hi) e in
     let h = and_from (int_le lo a) (int_le a hi) (is_le lo a (omega (arith, ints, clamps, g))) (is_le a hi (omega (arith, ints, clamps, g))) in
     absurd (true≢false (sym h ∙ f))) (λ e. refl)
-
 
 count_below : (k : IntType) (b : ℤ) → is_count k b ≡ true → (pos 0 ≤ℤ b) × (b ≤ℤ (pos (8 * k.bytes) -ℤ pos 1))
 count_below k b h =

@@ -1,6 +1,6 @@
 -- The near part of a value tells what the value tells, where it is near.
-use Rattle.std.proofs.Common.{◌≡◌, ℕ, ◌^◌, ◌≤◌, Bool, true, false, not, cond, ◌||◌, Option, Some, None, List, length, arith, subst, sym, refl, ap, ◌∙◌}
-use Rattle.std.specs.Prelude.{ℤ, pos, neg_ℤ, ◌-ℤ◌, ◌≤ℤ◌, int_lt}
+use Rattle.std.proofs.Common.{◌≡◌, ℕ, ◌≤◌, Bool, true, false, Option, Some, length, arith, ap, ◌∙◌}
+use Rattle.std.specs.Prelude.{ℤ, pos, ◌-ℤ◌}
 use Rattle.std.proofs.lemmas.Int.{ints}
 use Rattle.cc_base.specs.Lattices.{LatticeOf}
 use Rattle.cc_base.specs.IntegerDomains.{IntegersOf, BoundLaws}
@@ -8,14 +8,13 @@ use Rattle.pointer_domain.specs.declared.pointer_sets.Pointers.{Pointers}
 use Rattle.value_domain.specs.declared.values.Value.{Value}
 use Rattle.store_domain.specs.AccessWindows.{last_offset}
 use Rattle.store_domain.specs.NearValues.{is_near, near_number, near_pointer, near_value}
-use Rattle.lib_models_memory.specs.Labels.{Labels}
 use Rattle.lib_models_memory.specs.Bytes.{MachinePointer, null, into}
 use Rattle.lib_models_memory.specs.Instances.{Memory, Life, live, ended, freed, bytes_at, life_at}
 use Rattle.lib_models_memory.specs.Scalars.{Scalar, integer, pointer}
 use Rattle.store_domain_meaning.specs.SoundMemory.{IsWithin, IsPointerIn, IsScalarIn}
 use Rattle.abstract_steps_sound.proofs.NearScalars.{IsNearNumber, IsNearScalar, near_distance, near_offset}
 use Rattle.abstract_steps_single.specs.SingleNumbers.{IsOne, IsNone}
-use Rattle.abstract_steps_single.specs.SingleValues.{IsNowhere, IsIntoOne, TellsByLife, TellsPointer, TellsNumber, TellsPointing, TellsScalar}
+use Rattle.abstract_steps_single.specs.SingleValues.{IsNowhere, IsIntoOne, TellsByLife, TellsPointer, TellsScalar}
 
 is_near_one : (z : ℤ) → IsNearNumber z → is_near (Some (z, z)) ≡ true
 is_near_one z w = let f = w.from in let g = w.to in grind (arith, ints)

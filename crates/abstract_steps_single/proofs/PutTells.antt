@@ -1,5 +1,5 @@
 -- A row with a value in a temporary tells the state with the scalar there that the value tells.
-use Rattle.std.proofs.Common.{◌≡◌, ℕ, ◌<◌, Some, Option, List, length, arith, sym, subst, ap, ◌∙◌}
+use Rattle.std.proofs.Common.{◌≡◌, ℕ, ◌<◌, Some, Option, List, length, arith, sym, subst, ap}
 use Rattle.std.specs.Prelude.{slice_get, ℤ}
 use Rattle.std.specs.Option.{unwrap_or}
 use Rattle.std.proofs.lemmas.Option.{slice_get_within}
@@ -16,7 +16,6 @@ use Rattle.store_domain.specs.RowPositions.{leaf_position, cell_at, value_in, va
 use Rattle.abstract_steps_checks.specs.Temporaries.{temp_position, temp_value, put_temp}
 use Rattle.lib_models_memory.specs.Scalars.{Scalar}
 use Rattle.lib_models_memory.specs.Instances.{Memory}
-use Rattle.lib_models_effects.specs.NumberedTables.{put_at}
 use Rattle.store_domain_meaning.specs.SoundMemory.{IsScalarIn, IsMemoryOf}
 use Rattle.store_domain_meaning.specs.ValueMeaning.{Naming}
 use Rattle.store_domain_meaning.specs.RowMeaning.{MachineState}

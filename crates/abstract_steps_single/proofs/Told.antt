@@ -1,5 +1,5 @@
 -- Replies of the machine that are told.
-use Rattle.std.proofs.Common.{◌≡◌, ℕ, suc, ◌<◌, Bool, true, false, cond, Option, Some, None, List, length, subst, sym, refl}
+use Rattle.std.proofs.Common.{◌≡◌, ℕ, suc, ◌<◌, Option, Some, None, List, subst, sym, refl}
 use Rattle.std.specs.Prelude.{ℤ}
 use Rattle.cc_base.specs.Lattices.{LatticeOf}
 use Rattle.cc_base.specs.IntegerDomains.{IntegersOf, BoundLaws}
@@ -12,7 +12,7 @@ use Rattle.lib_models_memory.specs.Labels.{Labels}
 use Rattle.lib_models_memory.specs.Bytes.{MachinePointer}
 use Rattle.lib_models_memory.specs.Scalars.{Scalar, integer, pointer}
 use Rattle.lib_models_effects.specs.NumberedTables.{put_at}
-use Rattle.lib_models_effects.specs.Worlds.{World, Why, Stuck, Reply, goes, stops}
+use Rattle.lib_models_effects.specs.Worlds.{World, Why, Reply, goes, stops}
 use Rattle.lib_models_effects.specs.Operands.{with_number, with_pointer}
 use Rattle.flow_program_machine.specs.FlowStates.{Standing, if_some}
 use Rattle.flow_program_machine.specs.FlowActs.{giving}

@@ -1,6 +1,6 @@
 -- Instructions on integers are told.
-use Rattle.std.proofs.Common.{◌≡◌, ℕ, ◌<◌, ◌^◌, ◌-◌, Bool, true, false, not, cond, ◌||◌, ◌&&◌, Option, Some, None, List, [], ◌++◌, arith, subst, sym, refl, ap, ap₂, ◌∙◌, ◌*◌, inl, inr}
-use Rattle.std.specs.Prelude.{ℤ, pos, negsuc, ◌≤ℤ◌, int_le, is_none}
+use Rattle.std.proofs.Common.{◌≡◌, ℕ, ◌<◌, ◌^◌, ◌-◌, Bool, true, false, not, cond, ◌||◌, ◌&&◌, Option, Some, None, List, ◌++◌, arith, subst, sym, refl, ap, ap₂, ◌∙◌, ◌*◌, inl, inr}
+use Rattle.std.specs.Prelude.{ℤ, pos, negsuc, ◌≤ℤ◌, int_le}
 use Rattle.std.specs.Ordering.{int_eq}
 use Rattle.std.proofs.lemmas.Int.{ints}
 use Rattle.std.proofs.lemmas.Bool.{cases_Bool, and_parts, or_left, or_right, ltb-true, true≢false, lt-ltb}
@@ -18,7 +18,7 @@ use Rattle.cc_base.specs.declared.integer_operators.IntOp.TheVariants.{Add, Sub,
 use Rattle.cc_base.specs.declared.integer_operators.Rel.{Rel}
 use Rattle.cc_base.specs.declared.integer_operators.Rel.TheVariants.{Ne}
 use Rattle.cc_base.specs.declared.integer_operators.Tri.{Tri}
-use Rattle.cc_base.specs.declared.integer_operators.Tri.TheVariants.{Yes, No, Both, Never}
+use Rattle.cc_base.specs.declared.integer_operators.Tri.TheVariants.{Yes, Never}
 use Rattle.cc_base.specs.declared.integer_operators.UnOp.{UnOp}
 use Rattle.cc_base.specs.declared.integer_operators.UnOp.TheVariants.{Neg, Compl}
 use Rattle.interval_domain.specs.IntervalNumbers.{by_size}
@@ -43,7 +43,6 @@ use Rattle.value_domain.specs.ValueTables.{number_value, pointer_value, truth_va
 use Rattle.value_domain_laws.proofs.EqualityStands.{has_some}
 use Rattle.store_domain.specs.ByteWrites.{null_pointer}
 use Rattle.store_domain.specs.LiveBases.{most_bases, only_base}
-use Rattle.store_domain.specs.NearValues.{near_value}
 use Rattle.abstract_steps_checks.specs.IntegerChecks.{unary_violations, binary_violations, ranges_violate, overflow_violations}
 use Rattle.abstract_steps_checks.specs.Temporaries.{temp_value, amount_value, put_temp}
 use Rattle.abstract_steps_checks.specs.ViolationSets.{no_violations}
@@ -57,7 +56,7 @@ use Rattle.lib_models_memory.specs.Labels.{Labels, no_labels, operated_labels, n
 use Rattle.lib_models_memory.specs.Bytes.{MachinePointer, null, into}
 use Rattle.lib_models_memory.specs.Instances.{Memory, Life, live, ended, freed, life_at}
 use Rattle.lib_models_memory.specs.Scalars.{Scalar, integer, pointer, is_false}
-use Rattle.lib_models_effects.specs.Worlds.{Stuck, World, Reply, goes, stops, violating}
+use Rattle.lib_models_effects.specs.Worlds.{Stuck, Reply, goes, stops, violating}
 use Rattle.lib_models_effects.specs.IntegerEffects.{truth, plain_one, is_outside, result_of, binary_faults, why_none, computed, binary_numbers, unary_math, overflow_faults, unary_number, pointer_from, convert}
 use Rattle.flow_lower_tasks.specs.Acts.{act}
 use Rattle.flow_program_views.specs.ProgramViews.{flow_view}
@@ -78,14 +77,14 @@ use Rattle.abstract_steps_sound.proofs.TypeRanges.{type_near}
 use Rattle.abstract_steps_sound.proofs.ResultRows.{truth_near}
 use Rattle.abstract_steps_single.specs.SingleNumbers.{IsOne, IsNone}
 use Rattle.abstract_steps_single.specs.ExactNumbers.{FitsRight, truth_of, IsResult, ExactLaws}
-use Rattle.abstract_steps_single.specs.SingleValues.{IsNowhere, IsIntoOne, TellsByLife, TellsPointer, TellsNumber, TellsPointing, TellsScalar}
+use Rattle.abstract_steps_single.specs.SingleValues.{TellsByLife, TellsPointer, TellsNumber, TellsPointing, TellsScalar}
 use Rattle.abstract_steps_single.specs.SingleRows.{TellsState}
 use Rattle.abstract_steps_single.specs.SingleSteps.{IsDefined, IsTold, StepIsTold}
-use Rattle.abstract_steps_single.specs.SingleLaws.{FitsRightScalar, FitsAmount, HasRight}
+use Rattle.abstract_steps_single.specs.SingleLaws.{FitsAmount, HasRight}
 use Rattle.abstract_steps_single.proofs.NearTells.{near_one}
 use Rattle.abstract_steps_single.proofs.PutTells.{IsToldResult}
 use Rattle.abstract_steps_single.proofs.Violated.{AreViolated, none_violated, behind_violated}
-use Rattle.abstract_steps_single.proofs.Told.{stop_told, if_some_told, number_told, pointer_told, result_told}
+use Rattle.abstract_steps_single.proofs.Told.{stop_told, if_some_told, number_told, result_told}
 use Rattle.abstract_steps_single.proofs.Faults.{and_self, left_is, negation_is, faults_violated, unary_violated}
 
 same_negated : (o : UnOp) (s : Labels) (k : IntType) (leaves : Bool) → as_set (negated_labels o s k leaves) ≡ set.negated_labels o (as_set s) k leaves

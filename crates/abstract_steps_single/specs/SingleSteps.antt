@@ -1,6 +1,6 @@
 -- When the analysis's step on an instruction is exact: where the run goes on, the row behind tells the state behind; where it
 -- stops there is no row; and each rule that the step admits is violated.
-use Rattle.std.specs.Prelude.{◌≡◌, ℕ, true, List, Option, Some, None}
+use Rattle.std.specs.Prelude.{◌≡◌, true, List, Option, Some, None}
 use Rattle.std.specs.List.{Contains}
 use Rattle.cc_base.specs.Lattices.{LatticeOf}
 use Rattle.cc_base.specs.IntegerDomains.{IntegersOf}

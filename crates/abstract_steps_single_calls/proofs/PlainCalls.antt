@@ -1,15 +1,15 @@
 -- Calls that end the program, or give a number for one without the outside, are told.
-use Rattle.std.proofs.Common.{◌≡◌, ℕ, Bool, true, false, cond, not, ◌&&◌, ◌||◌, Option, Some, None, List, [], ◌∷◌, ◌++◌, arith, subst, sym, refl, ap, ap₂, ◌∙◌, inl, inr}
-use Rattle.std.specs.Prelude.{slice_get, ℤ, pos, negsuc, ◌+ℤ◌, ◌-ℤ◌, ◌≤ℤ◌, unsigned_abs, int_le, int_lt}
+use Rattle.std.proofs.Common.{◌≡◌, ℕ, Bool, true, false, cond, not, ◌&&◌, Option, Some, None, List, [], ◌∷◌, ◌++◌, arith, subst, sym, refl, ap, ◌∙◌}
+use Rattle.std.specs.Prelude.{ℤ, pos, negsuc, ◌+ℤ◌, ◌-ℤ◌, ◌≤ℤ◌, unsigned_abs, int_le}
 use Rattle.std.specs.Int.{int_rem_euclid, w128, saturate_signed}
 use Rattle.std.specs.List.{list_all, Contains}
 use Rattle.std.specs.Ordering.{int_eq}
 use Rattle.std.proofs.lemmas.Int.{ints}
-use Rattle.std.proofs.lemmas.Bool.{cases_Bool, and_parts, ltb-true, true≢false}
+use Rattle.std.proofs.lemmas.Bool.{and_parts, ltb-true}
 use Rattle.cc_base.specs.Lattices.{LatticeOf}
 use Rattle.cc_base.specs.IntegerDomains.{IntegersOf, BoundLaws, between_or_least}
 use Rattle.cc_base.specs.IntegerTypes.{wrap_into}
-use Rattle.cc_base.specs.NumberRanges.{Range, range_met}
+use Rattle.cc_base.specs.NumberRanges.{range_met}
 use Rattle.cc_base.specs.declared.int_types.IntType.{IntType}
 use Rattle.cc_base.specs.declared.diagnostics.Rule.{Rule}
 use Rattle.cc_base.specs.declared.diagnostics.Rule.TheVariants.{Chrsgnext}
@@ -27,11 +27,9 @@ use Rattle.value_domain.specs.declared.values.Value.{Value}
 use Rattle.value_domain.specs.declared.row_cells.Cell.{Cell}
 use Rattle.store_domain.specs.ScalarTypes.{kind_of}
 use Rattle.abstract_steps_checks.specs.IntegerChecks.{character_violations, is_no_character}
-use Rattle.abstract_steps_checks.specs.Temporaries.{temp_value}
 use Rattle.abstract_steps_checks.specs.ViolationSets.{no_violations}
 use Rattle.abstract_steps_checks.specs.declared.violation_sets.Violations.{Violations}
 use Rattle.abstract_steps_library.specs.Arguments.{argument_value, value_of_argument}
-use Rattle.abstract_steps_library.specs.Calls.{Call}
 use Rattle.abstract_steps_library.specs.Characters as characters
 use Rattle.abstract_steps_library.specs.Characters.{plan_character, plan_in}
 use Rattle.abstract_steps_library.specs.Effects.{apply, put_result}
@@ -50,7 +48,7 @@ use Rattle.lib_models_effects.specs.Characters.{lies_in, is_lower, is_upper, has
 use Rattle.lib_models_effects.specs.IntegerEffects.{truth}
 use Rattle.lib_models_effects.specs.LibraryCalls.{with_result, putchar, character_call, library}
 use Rattle.lib_models_effects.specs.ScalarBytes.{bits_in}
-use Rattle.lib_models_effects.specs.Worlds.{World, Reply, goes, stops, stopped_by, violating, Ended, Violated}
+use Rattle.lib_models_effects.specs.Worlds.{Reply, goes, stops, stopped_by, violating, Ended, Violated}
 use Rattle.flow_lower_tasks.specs.Acts.{act}
 use Rattle.flow_program_views.specs.ProgramViews.{flow_view}
 use Rattle.flow_program_machine.specs.FlowStates.{Standing, values_of}
@@ -72,7 +70,7 @@ use Rattle.abstract_steps_single.specs.SingleLaws.{IsPlainFunction, IsPlainCall}
 use Rattle.abstract_steps_single.proofs.Faults.{met_one, met_none}
 use Rattle.abstract_steps_single.proofs.PutTells.{IsToldResult}
 use Rattle.abstract_steps_single.proofs.Told.{stop_told, if_some_told, result_told}
-use Rattle.abstract_steps_single.proofs.ValueSteps.{tells_number, number_put}
+use Rattle.abstract_steps_single.proofs.ValueSteps.{tells_number}
 use Rattle.abstract_steps_single.proofs.Violated.{AreViolated, none_violated, none_at_all, each_violated, one_there, behind_there}
 
 -- ---- the number of an unsigned character

@@ -1,5 +1,5 @@
 -- Pointers to named objects are told.
-use Rattle.std.proofs.Common.{◌≡◌, ℕ, ◌<◌, ◌≤◌, true, ◌&&◌, Option, Some, None, List, length, arith, subst, sym, refl, ap, ◌∙◌}
+use Rattle.std.proofs.Common.{◌≡◌, ℕ, ◌<◌, ◌≤◌, true, ◌&&◌, Option, Some, None, List, arith, subst, sym, refl, ap}
 use Rattle.std.specs.Prelude.{ℤ, pos, ◌-ℤ◌, slice_get}
 use Rattle.std.proofs.lemmas.Int.{ints}
 use Rattle.std.proofs.lemmas.Bool.{and_parts, leb-true, ltb-true, true≢false}
@@ -16,7 +16,7 @@ use Rattle.abstract_steps_values.specs.ResultTemps.{put_pointer}
 use Rattle.abstract_steps_instructions.specs.Steps.{operate}
 use Rattle.abstract_steps_instructions.specs.StepViolations.{operation_violations}
 use Rattle.lib_models_memory.specs.Bytes.{into}
-use Rattle.lib_models_memory.specs.Instances.{Life, live, ended, freed, bytes_at, life_at}
+use Rattle.lib_models_memory.specs.Instances.{Life, live, ended, freed, life_at}
 use Rattle.lib_models_memory.specs.Scalars.{pointer}
 use Rattle.lib_models_effects.specs.Worlds.{goes}
 use Rattle.flow_lower_tasks.specs.Acts.{act}

@@ -1,26 +1,25 @@
 -- Differences and relations of pointers are told.
-use Rattle.std.proofs.Common.{◌≡◌, ℕ, suc, ◌*◌, ◌/◌, ◌<◌, ◌≤◌, Bool, true, false, cond, not, ◌||◌, ◌&&◌, Option, Some, None, List, [], ◌∷◌, length, arith, subst, sym, refl, ap, ap₂, ◌∙◌, inl, inr}
-use Rattle.std.specs.Prelude.{ℤ, pos, negsuc, ◌+ℤ◌, ◌-ℤ◌, ◌≤ℤ◌, int_div, int_le, slice_get, ◌==◌, nat_lt}
+use Rattle.std.proofs.Common.{◌≡◌, ℕ, suc, ◌*◌, ◌/◌, ◌<◌, ◌≤◌, Bool, true, false, cond, not, ◌||◌, ◌&&◌, Option, Some, None, List, length, arith, subst, sym, refl, ap, ap₂, ◌∙◌, inl, inr}
+use Rattle.std.specs.Prelude.{ℤ, pos, negsuc, ◌+ℤ◌, ◌-ℤ◌, ◌≤ℤ◌, int_div, int_le, ◌==◌, nat_lt}
 use Rattle.std.specs.Ordering.{int_eq}
 use Rattle.std.proofs.lemmas.Int.{ints}
-use Rattle.std.proofs.lemmas.Bool.{cases_Bool, cases_eq, and_parts, and_from, eqb-true, eqb-false, eq-eqb, ne_eqb, ltb-true, or_right, or_parts, true≢false}
+use Rattle.std.proofs.lemmas.Bool.{cases_eq, and_parts, and_from, eq-eqb, ne_eqb, ltb-true, true≢false}
 use Rattle.std.proofs.Math.Nat.{mul-le-mul_left}
 use Rattle.std.proofs.lemmas.Nat.{div_below}
 use Rattle.std.proofs.lemmas.Bool.Decides.{Decides-int_eq}
 use Rattle.cc_base.specs.Lattices.{LatticeOf}
-use Rattle.cc_base.specs.IntegerTypes.{least_of, greatest_of, in_type}
+use Rattle.cc_base.specs.IntegerTypes.{least_of, greatest_of}
 use Rattle.cc_base.specs.IntegerDomains.{IntegersOf, BoundLaws, of_range}
 use Rattle.cc_base.specs.MachineArithmetic.{holds}
-use Rattle.cc_base.specs.NumberRanges.{Range, range_sum, range_difference, range_over, range_met, ranges_meet, ranges_same_one}
+use Rattle.cc_base.specs.NumberRanges.{range_sum, range_difference, range_over, range_met, ranges_meet, ranges_same_one}
 use Rattle.cc_base.specs.Truths.{tri_of}
 use Rattle.cc_base.specs.declared.diagnostics.Rule.TheVariants as rule
 use Rattle.cc_base.specs.declared.integer_operators.Rel.{Rel}
 use Rattle.cc_base.specs.declared.integer_operators.Rel.TheVariants.{Lt, Le, Gt, Ge, Eq, Ne}
 use Rattle.cc_base.specs.declared.integer_operators.Tri.{Tri}
-use Rattle.cc_base.specs.declared.integer_operators.Tri.TheVariants.{Yes, No, Both, Never}
+use Rattle.cc_base.specs.declared.integer_operators.Tri.TheVariants.{Never}
 use Rattle.c_layout.specs.declared.data_model.Model.{Model}
 use Rattle.c_layout.specs.declared.leaf_lists.Class.TheVariants as class
-use Rattle.c_layout.specs.declared.shapes.BaseInfo.{BaseInfo}
 use Rattle.c_layout.specs.declared.shapes.BaseKind.{BaseKind}
 use Rattle.c_layout.specs.declared.shapes.BaseKind.TheVariants.{Static, Automatic, Literal, Newest, Older}
 use Rattle.flow_program.specs.BaseShapes.{is_extent}
@@ -29,16 +28,15 @@ use Rattle.flow_program.specs.declared.machine_instructions.Operation.TheVariant
 use Rattle.flow_program.specs.declared.programs.Flow.{Flow}
 use Rattle.pointer_domain.specs.BaseFacts.{within_has}
 use Rattle.pointer_domain.specs.BaseLattice.{bases_order}
-use Rattle.pointer_domain.specs.BaseSets.{no_base, bases_has, bases_empty, bases_within, bases_count, bases_meet}
+use Rattle.pointer_domain.specs.BaseSets.{no_base, bases_empty, bases_within, bases_count, bases_meet}
 use Rattle.pointer_domain.specs.PointerTables.{is_any, same_one_base, pointers_equal, pointers_compare, offsets}
 use Rattle.pointer_domain.specs.declared.base_sets.Bases.{Bases}
 use Rattle.pointer_domain.specs.declared.pointer_sets.Pointers.{Pointers}
 use Rattle.value_domain.specs.declared.row_cells.Cell.{Cell}
-use Rattle.value_domain.specs.declared.values.Value.{Value}
 use Rattle.value_domain.specs.LabelSets as set
 use Rattle.value_domain.specs.ValueTables.{truth_value}
 use Rattle.value_domain_laws.proofs.Bases.{empty_within}
-use Rattle.store_domain.specs.LiveBases.{most_bases, only_base, is_single_kind, single_bases}
+use Rattle.store_domain.specs.LiveBases.{only_base, is_single_kind, single_bases}
 use Rattle.store_domain.specs.ScalarTypes.{kind_of}
 use Rattle.abstract_steps_checks.specs.PointerChecks.{are_alike, check_same_instance}
 use Rattle.abstract_steps_checks.specs.Temporaries.{temp_value, put_temp}
@@ -53,7 +51,7 @@ use Rattle.lib_models_memory.specs.Instances.{Life, live, ended, freed, bytes_at
 use Rattle.lib_models_memory.specs.Scalars.{Scalar, integer, pointer}
 use Rattle.lib_models_effects.specs.IntegerEffects.{truth}
 use Rattle.lib_models_effects.specs.PointerEffects as effect
-use Rattle.lib_models_effects.specs.PointerEffects.{is_ended_life, is_ended, offset_of, is_into, share_instance, compared, elements_between, pointer_difference, are_equal, pointers_compared}
+use Rattle.lib_models_effects.specs.PointerEffects.{is_ended_life, is_ended, offset_of, share_instance, compared, elements_between, pointer_difference, are_equal, pointers_compared}
 use Rattle.lib_models_effects.specs.Touches.{is_allocated}
 use Rattle.lib_models_effects.specs.Worlds.{Reply, goes, unless, stopped_by}
 use Rattle.flow_lower_tasks.specs.Acts.{act}
@@ -316,7 +314,7 @@ module _ {I : Type 0} {l : LatticeOf I} {n : IntegersOf I} {stands : I → ℤ �
             let sets : y.bases ≡ only_base h.base = k.bases ∙ ap only_base (sym b) in
             let within : bases_within (only_base h.base) (only_base h.base) ≡ true = bases_order.reflexive (only_base h.base) in
             let one : same_one_base x y single ≡ true = and_from _ _ (eq-eqb (bases_count x.bases) 1 (ap bases_count h.bases ∙ sole_count h.base h.few))
-                (and_from _ _ (ap₂ bases_within h.bases sets ∙ within) (and_from _ _ (ap₂ bases_within sets h.bases ∙ within) (ap (λ z. bases_within z single) h.bases ∙ in_single x i o1 lo1 hi1 h))) in
+            (and_from _ _ (ap₂ bases_within h.bases sets ∙ within) (and_from _ _ (ap₂ bases_within sets h.bases ∙ within) (ap (λ z. bases_within z single) h.bases ∙ in_single x i o1 lo1 hi1 h))) in
             let meets = ap₂ bases_meet h.bases sets ∙ (sole_meets h.base h.few (only_base h.base) ∙ only_has h.base h.few) in
             let nulls = ap₂ ◌||◌ h.null k.null in
             let must_is : must ≡ (o1 == o2) = λ i. one i && (not (nulls i) && one_is i) in

@@ -1,13 +1,13 @@
 -- Pointers that are moved are told.
-use Rattle.std.proofs.Common.{◌≡◌, ℕ, zero, suc, ◌<◌, ◌≤◌, Bool, true, false, cond, not, ◌||◌, ◌&&◌, Option, Some, None, List, [], ◌∷◌, ◌++◌, arith, subst, sym, refl, ap, ap₂, ◌∙◌, inl, inr}
+use Rattle.std.proofs.Common.{◌≡◌, ℕ, zero, suc, ◌<◌, ◌≤◌, Bool, true, false, cond, not, ◌||◌, ◌&&◌, Option, Some, None, List, [], ◌∷◌, ◌++◌, arith, subst, sym, refl, ap, ap₂, ◌∙◌}
 use Rattle.std.specs.Prelude.{ℤ, pos, negsuc, neg_ℤ, ◌+ℤ◌, ◌-ℤ◌, ◌*ℤ◌, ◌≤ℤ◌, ◌<ℤ◌, unsigned_abs, int_le, int_lt}
 use Rattle.std.specs.List.{Contains}
 use Rattle.std.proofs.lemmas.Int.{ints}
-use Rattle.std.proofs.lemmas.Bool.{cases_Bool, and_parts, and_from, ltb-true, true≢false}
-use Rattle.std.proofs.lemmas.List.Elements.{Contains-append_left, Contains-append_right}
+use Rattle.std.proofs.lemmas.Bool.{and_parts, ltb-true, true≢false}
+use Rattle.std.proofs.lemmas.List.Elements.{Contains-append_left}
 use Rattle.cc_base.specs.Lattices.{LatticeOf}
 use Rattle.cc_base.specs.NumberRanges.{Range, range_sum, range_times, range_met, range_difference, upper_or}
-use Rattle.cc_base.specs.IntegerDomains.{IntegersOf, BoundLaws, of_range, between_or_least}
+use Rattle.cc_base.specs.IntegerDomains.{IntegersOf, BoundLaws, of_range}
 use Rattle.cc_base.specs.declared.diagnostics.Rule.{Rule}
 use Rattle.cc_base.specs.declared.diagnostics.Rule.TheVariants as rule
 use Rattle.flow_program.specs.BaseShapes.{is_extent}
@@ -24,20 +24,18 @@ use Rattle.value_domain.specs.LabelSets as set
 use Rattle.value_domain.specs.declared.label_sets.Labels as declared
 use Rattle.value_domain.specs.declared.values.Value.{Value}
 use Rattle.value_domain.specs.declared.row_cells.Cell.{Cell}
-use Rattle.store_domain.specs.LiveBases.{only_base}
-use Rattle.store_domain.specs.NearValues.{is_near, near_part, part_near, near_number}
 use Rattle.store_domain.specs.RowPositions.{value_at}
 use Rattle.abstract_steps_checks.specs.PointerChecks.{moves_outside, shift_violations}
 use Rattle.abstract_steps_checks.specs.Touches.{leaves_bounds_at}
 use Rattle.abstract_steps_checks.specs.Temporaries.{temp_value, amount_value}
 use Rattle.abstract_steps_checks.specs.declared.violation_sets.Violations.{Violations}
-use Rattle.abstract_steps_values.specs.PointerSteps.{is_short, backwards_by, signed_amount, put_moved, shift_by, shift_step}
+use Rattle.abstract_steps_values.specs.PointerSteps.{is_short, signed_amount, put_moved, shift_by, shift_step}
 use Rattle.abstract_steps_values.specs.ResultTemps.{put_pointer}
 use Rattle.abstract_steps_instructions.specs.Steps.{operate}
 use Rattle.abstract_steps_instructions.specs.StepViolations.{operation_violations}
 use Rattle.lib_models_memory.specs.Labels.{Labels, is_unlabelled}
 use Rattle.lib_models_memory.specs.Bytes.{MachinePointer, null, into}
-use Rattle.lib_models_memory.specs.Instances.{Life, live, ended, freed, bytes_at, life_at}
+use Rattle.lib_models_memory.specs.Instances.{Life, live, ended, freed, life_at}
 use Rattle.lib_models_memory.specs.Scalars.{Scalar, integer, pointer}
 use Rattle.lib_models_effects.specs.IntegerEffects.{plain_one}
 use Rattle.lib_models_effects.specs.Operands.{as_pointer}
@@ -57,14 +55,13 @@ use Rattle.abstract_steps_sound.specs.SoundSteps.{IsReached}
 use Rattle.abstract_steps_sound.proofs.MoveSteps.{abs_is, near_has}
 use Rattle.abstract_steps_sound.proofs.NearScalars.{IsNearNumber}
 use Rattle.abstract_steps_single.specs.SingleNumbers.{IsOne}
-use Rattle.abstract_steps_single.specs.SingleValues.{IsNowhere, IsIntoOne, TellsByLife, TellsPointer, TellsNumber, TellsScalar}
+use Rattle.abstract_steps_single.specs.SingleValues.{IsNowhere, IsIntoOne, TellsByLife, TellsPointer, TellsScalar}
 use Rattle.abstract_steps_single.specs.SingleRows.{TellsState}
 use Rattle.abstract_steps_single.specs.SingleSteps.{IsDefined, IsTold, StepIsTold}
 use Rattle.abstract_steps_single.proofs.Faults.{met_one, met_none}
 use Rattle.abstract_steps_single.proofs.NearTells.{near_one}
 use Rattle.abstract_steps_single.proofs.Told.{if_some_told, number_told, pointer_told}
-use Rattle.abstract_steps_single.proofs.ValueSteps.{only_has}
-use Rattle.abstract_steps_single.proofs.Violated.{AreViolated, pointing_violated, never, one_there, behind_there}
+use Rattle.abstract_steps_single.proofs.Violated.{pointing_violated, never, one_there, behind_there}
 use Rattle.abstract_steps_single_store.proofs.OneBase.{not_empty}
 use Rattle.abstract_steps_single_store.proofs.OneTouch.{one_range}
 use Rattle.abstract_steps_single_pointers.proofs.Addresses.{live_tells}

@@ -1,11 +1,11 @@
 -- Pointers to parts of what is pointed to are told.
-use Rattle.std.proofs.Common.{◌≡◌, ℕ, ◌+◌, ◌^◌, ◌≤◌, ◌<◌, Bool, true, false, cond, not, ◌||◌, ◌&&◌, Option, Some, None, List, length, arith, subst, sym, refl, ap, ap₂, ◌∙◌}
-use Rattle.std.specs.Prelude.{ℤ, pos, ◌+ℤ◌, ◌-ℤ◌, ◌≤ℤ◌, int_le, int_lt, nat_le, is_none, slice_get}
+use Rattle.std.proofs.Common.{◌≡◌, ℕ, ◌+◌, ◌≤◌, ◌<◌, Bool, true, false, cond, not, ◌||◌, ◌&&◌, Some, None, List, length, arith, subst, sym, refl, ap, ap₂, ◌∙◌}
+use Rattle.std.specs.Prelude.{ℤ, pos, ◌+ℤ◌, ◌-ℤ◌, ◌≤ℤ◌, int_le, int_lt, nat_le, is_none}
 use Rattle.std.proofs.lemmas.Int.{ints}
-use Rattle.std.proofs.lemmas.Bool.{cases_Bool, and_parts, leb-true, ltb-true, true≢false}
+use Rattle.std.proofs.lemmas.Bool.{and_parts, leb-true, ltb-true}
 use Rattle.std.proofs.lemmas.Bool.Decides.{nat_tests}
 use Rattle.cc_base.specs.Lattices.{LatticeOf}
-use Rattle.cc_base.specs.NumberRanges.{Range, range_sum, range_met, upper_or}
+use Rattle.cc_base.specs.NumberRanges.{range_sum, range_met, upper_or}
 use Rattle.cc_base.specs.IntegerDomains.{IntegersOf, BoundLaws, of_range}
 use Rattle.cc_base.specs.declared.diagnostics.Rule.TheVariants as rule
 use Rattle.c_layout.specs.declared.shapes.BaseInfo.{BaseInfo}
@@ -19,11 +19,10 @@ use Rattle.pointer_domain.specs.PointerTables.{the_end, length_above, part_start
 use Rattle.pointer_domain.specs.declared.base_sets.Bases.{Bases}
 use Rattle.pointer_domain.specs.declared.pointer_sets.Pointers.{Pointers}
 use Rattle.value_domain.specs.declared.row_cells.Cell.{Cell}
-use Rattle.store_domain.specs.AccessWindows.{last_offset}
-use Rattle.store_domain.specs.LiveBases.{only_base, live_of, any_freed}
+use Rattle.store_domain.specs.LiveBases.{only_base, live_of}
 use Rattle.store_domain.specs.NearValues.{near_pointer}
 use Rattle.abstract_steps_checks.specs.Temporaries.{temp_value}
-use Rattle.abstract_steps_checks.specs.Touches.{leaves_bounds, leaves_bounds_at, span_of, is_nowhere, into_bases, places_within, touched_inside, touched_rest, touch, touch_violations}
+use Rattle.abstract_steps_checks.specs.Touches.{leaves_bounds, leaves_bounds_at, span_of, is_nowhere, into_bases, places_within, touched_inside, touch, touch_violations}
 use Rattle.abstract_steps_checks.specs.declared.violation_sets.Violations.{Violations}
 use Rattle.abstract_steps_values.specs.PointerSteps.{is_short, narrow_touched, narrow_step}
 use Rattle.abstract_steps_values.specs.ResultTemps.{put_pointer}
@@ -32,7 +31,7 @@ use Rattle.abstract_steps_instructions.specs.StepViolations.{operation_violation
 use Rattle.lib_models_memory.specs.Bytes.{MachinePointer, null, into}
 use Rattle.lib_models_memory.specs.Instances.{Life, live, ended, freed, bytes_at, life_at}
 use Rattle.lib_models_memory.specs.Scalars.{pointer}
-use Rattle.lib_models_effects.specs.Touches.{touched_live, touched_by}
+use Rattle.lib_models_effects.specs.Touches.{touched_by}
 use Rattle.lib_models_effects.specs.PointerEffects.{narrowed_by, narrow_pointer}
 use Rattle.lib_models_effects.specs.Operands.{as_pointer}
 use Rattle.lib_models_effects.specs.Worlds.{behind, goes, stopped_by}
@@ -47,7 +46,7 @@ use Rattle.store_domain_meaning.specs.Coverage.{state_of}
 use Rattle.store_domain_sound.proofs.Slices.{get_there}
 use Rattle.store_domain_sound_programs.specs.Premises.{HasPremises}
 use Rattle.abstract_steps_sound.specs.SoundSteps.{IsReached}
-use Rattle.abstract_steps_sound.proofs.NearScalars.{IsNearNumber, near_offset, near_distance}
+use Rattle.abstract_steps_sound.proofs.NearScalars.{near_offset, near_distance}
 use Rattle.abstract_steps_single.specs.SingleNumbers.{IsOne}
 use Rattle.abstract_steps_single.specs.SingleValues.{IsNowhere, IsIntoOne, TellsByLife, TellsPointer, TellsScalar}
 use Rattle.abstract_steps_single.specs.SingleRows.{TellsState, IsPlainProgram}

@@ -1,5 +1,5 @@
 -- Instructions on pointers without memory are told.
-use Rattle.std.proofs.Common.{◌≡◌, ℕ, true, List, sym}
+use Rattle.std.proofs.Common.{◌≡◌, true, List, sym}
 use Rattle.std.specs.Prelude.{ℤ}
 use Rattle.std.proofs.lemmas.Bool.{true≢false}
 use Rattle.cc_base.specs.Lattices.{LatticeOf}

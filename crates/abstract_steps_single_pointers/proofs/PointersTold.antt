@@ -1,5 +1,5 @@
 -- Pointers that are given, and runs that stop at rules on pointers, are told.
-use Rattle.std.proofs.Common.{◌≡◌, ℕ, ◌<◌, Bool, true, false, cond, not, ◌||◌, Option, Some, None, List, [], ◌∷◌, ◌++◌, arith, subst, sym, refl, ap, ◌∙◌}
+use Rattle.std.proofs.Common.{◌≡◌, ℕ, ◌<◌, true, false, Option, None, List, [], ◌∷◌, ◌++◌, refl, ◌∙◌}
 use Rattle.std.specs.Prelude.{ℤ}
 use Rattle.std.specs.List.{Contains}
 use Rattle.cc_base.specs.Lattices.{LatticeOf}
@@ -7,15 +7,14 @@ use Rattle.cc_base.specs.IntegerDomains.{IntegersOf, BoundLaws}
 use Rattle.cc_base.specs.declared.diagnostics.Rule.{Rule}
 use Rattle.flow_program.specs.declared.programs.Flow.{Flow}
 use Rattle.pointer_domain.specs.BaseSets.{bases_empty}
-use Rattle.pointer_domain.specs.PointerTables.{is_any}
 use Rattle.pointer_domain.specs.declared.pointer_sets.Pointers.{Pointers}
 use Rattle.value_domain.specs.declared.row_cells.Cell.{Cell}
 use Rattle.value_domain.specs.ValueTables.{pointer_value}
 use Rattle.abstract_steps_checks.specs.declared.violation_sets.Violations.{Violations}
 use Rattle.abstract_steps_values.specs.ResultTemps.{put_pointer}
 use Rattle.lib_models_memory.specs.Bytes.{MachinePointer}
-use Rattle.lib_models_memory.specs.Scalars.{Scalar, pointer}
-use Rattle.lib_models_effects.specs.Worlds.{World, Why, Violated, Reply, goes, stops, violating, stopped_by}
+use Rattle.lib_models_memory.specs.Scalars.{pointer}
+use Rattle.lib_models_effects.specs.Worlds.{World, Violated, goes, violating, stopped_by}
 use Rattle.flow_program_machine.specs.FlowStates.{Standing}
 use Rattle.flow_program_machine.specs.FlowActs.{giving}
 use Rattle.store_domain_meaning.specs.ValueMeaning.{Naming}

@@ -1,19 +1,18 @@
 -- Sets of one base: how many bases they have, and which they share.
-use Rattle.std.proofs.Common.{◌≡◌, ℕ, zero, suc, ◌+◌, ◌*◌, ◌/◌, ◌%◌, ◌^◌, ◌<◌, Bool, true, false, cond, not, ◌&&◌, ◌||◌, Some, List, arith, subst, sym, refl, ap, ap₂, ◌∙◌, inl, inr}
-use Rattle.std.specs.Prelude.{slice_get, ◌==◌, nat_lt, bit_and, bit_or, count_ones}
+use Rattle.std.proofs.Common.{◌≡◌, ℕ, zero, suc, ◌*◌, ◌/◌, ◌%◌, ◌^◌, ◌<◌, Bool, true, false, cond, not, ◌||◌, Some, List, arith, subst, sym, refl, ap, ◌∙◌}
+use Rattle.std.specs.Prelude.{slice_get, ◌==◌, nat_lt, bit_or, count_ones}
 use Rattle.std.specs.Int.{bit_at}
-use Rattle.std.proofs.lemmas.Bool.{cases_Bool, and_parts, and_from, eqb-true, eq-eqb, lt-ltb, or_right, true≢false}
+use Rattle.std.proofs.lemmas.Bool.{and_parts, and_from, eq-eqb, lt-ltb}
 use Rattle.std.proofs.lemmas.Nat.Bits.{and_pow, bit_at-lt}
 use Rattle.std.proofs.lemmas.Nat.{and_comm, ones_le_self, pow_pos}
 use Rattle.std.proofs.Math.Nat.{pow-suc}
 use lib.Count.{ones_step}
-use Rattle.std.proofs.lemmas.Option.{slice_get_within}
 use Rattle.c_layout.specs.declared.shapes.BaseInfo.{BaseInfo}
 use Rattle.pointer_domain.specs.declared.base_sets.Bases.{Bases}
-use Rattle.pointer_domain.specs.BaseSets.{no_base, word_of, with_word, bases_has, bases_with, bases_union, bases_within, bases_meet, bases_count, word_meets, word_within}
+use Rattle.pointer_domain.specs.BaseSets.{no_base, word_of, with_word, bases_has, bases_within, bases_meet, bases_count, word_meets, word_within}
 use Rattle.store_domain_sound.proofs.Sets.{if_keeps, if_adds, none_has, only_is}
 use Rattle.store_domain_sound.proofs.Walks.{walk_meets}
-use Rattle.store_domain.specs.LiveBases.{most_bases, is_single_kind, only_base, has_base, with_base_if, add_single, single_bases}
+use Rattle.store_domain.specs.LiveBases.{most_bases, is_single_kind, only_base, has_base, add_single, single_bases}
 use Rattle.value_domain_laws.proofs.BaseChanges.{no_word_is, bit_of, or_below}
 
 -- ---- powers of two

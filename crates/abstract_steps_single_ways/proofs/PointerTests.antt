@@ -1,6 +1,5 @@
 -- Tests of pointers that refine nothing are told: they leave the row and memory as they were.
 use Rattle.std.proofs.Common.{◌≡◌, Bool, true, false, Option, Some, None, List, subst, sym, refl, ap}
-use Rattle.std.specs.Prelude.{ℤ}
 use Rattle.cc_base.specs.Lattices.{LatticeOf}
 use Rattle.cc_base.specs.IntegerDomains.{IntegersOf}
 use Rattle.cc_base.specs.declared.int_types.IntType.{IntType}

@@ -1,13 +1,11 @@
 -- Jumps, branches and switches are told, where tests and cases are.
-use Rattle.std.proofs.Common.{◌≡◌, ℕ, ◌<◌, Bool, true, false, not, cond, ◌||◌, ◌&&◌, Option, Some, None, List, [], ◌∷◌, length, take, drop, arith, subst, sym, refl, ap, ap₂, ◌∙◌, inl, inr}
-use Rattle.std.specs.Prelude.{ℤ, pos, slice_get, int_le, nat_lt}
+use Rattle.std.proofs.Common.{◌≡◌, ℕ, Bool, true, false, not, ◌||◌, Option, Some, None, List, [], ◌∷◌, length, take, drop, arith, subst, sym, refl, ap, ap₂, ◌∙◌, inl, inr}
+use Rattle.std.specs.Prelude.{ℤ, pos, slice_get, nat_lt}
 use Rattle.std.specs.List.{list_all}
 use Rattle.std.specs.Ordering.{int_eq}
 use Rattle.std.proofs.lemmas.Int.{ints}
-use Rattle.std.proofs.lemmas.Bool.{cases_Bool, and_parts, or_cases, or_left, or_right, ltb-true, true≢false}
-use Rattle.std.proofs.lemmas.Bool.Decides.{Decides-int_eq}
+use Rattle.std.proofs.lemmas.Bool.{cases_Bool, and_parts, ltb-true, true≢false}
 use Rattle.cc_base.specs.Lattices.{LatticeOf}
-use Rattle.cc_base.specs.NumberRanges.{Range}
 use Rattle.cc_base.specs.IntegerDomains.{IntegersOf, BoundLaws}
 use Rattle.cc_base.specs.IntegerLaws.{SoundLaws}
 use Rattle.cc_base.specs.declared.limit_table.Limits.{Limits}
@@ -22,7 +20,7 @@ use Rattle.flow_program.specs.declared.machine_instructions.Operation.{Operation
 use Rattle.flow_program.specs.declared.machine_instructions.Operation.TheVariants as op
 use Rattle.flow_program.specs.declared.programs.Flow.{Flow}
 use Rattle.value_domain.specs.LabelSets as set
-use Rattle.value_domain.specs.ValueTables.{number_value, value_truth}
+use Rattle.value_domain.specs.ValueTables.{number_value}
 use Rattle.value_domain.specs.declared.values.Value.{Value}
 use Rattle.value_domain.specs.declared.row_cells.Cell.{Cell}
 use Rattle.abstract_steps.specs.Edges.{last_instruction, deciding_of, deciding_temp, truth_can_be, includes, has_label, is_other_than, can_be, put_kept, refine_if, kept_behind, behind_test, branch_edge, switched, refine_named_case, refine_object, case_edge, follow, follow_if, edge}
@@ -30,7 +28,7 @@ use Rattle.abstract_steps_checks.specs.Temporaries.{temp_value, put_temp}
 use Rattle.abstract_steps_checks.specs.ViolationSets.{no_violations}
 use Rattle.lib_models_memory.specs.Labels.{Labels, no_labels}
 use Rattle.lib_models_memory.specs.Scalars.{Scalar, integer, pointer, is_false}
-use Rattle.lib_models_effects.specs.Worlds.{World, Stuck, Reply, goes, stops, behind}
+use Rattle.lib_models_effects.specs.Worlds.{World, Reply, goes, stops, behind}
 use Rattle.flow_lower_tasks.specs.Acts.{act}
 use Rattle.flow_lower_tasks.specs.Pieces.{way}
 use Rattle.flow_program_views.specs.ProgramViews.{FlowView, EdgeView, flow_view}
@@ -45,11 +43,10 @@ use Rattle.store_domain_sound_programs.proofs.ShapedBases.{all_at}
 use Rattle.abstract_steps_sound.specs.SoundSteps.{IsReached, StandsBehind, IsStoodFor}
 use Rattle.abstract_steps_sound.proofs.Admitted.{none_admitted, same_admitted}
 use Rattle.abstract_steps_covered.proofs.Blocks.{IsBlock, block_facts}
-use Rattle.abstract_steps_sound_edges.specs.EdgeSteps.{TestIsSound, CaseIsSound, KindIsSound, TestsAreSound}
+use Rattle.abstract_steps_sound_edges.specs.EdgeSteps.{TestIsSound, KindIsSound, TestsAreSound}
 use Rattle.abstract_steps_sound_edges.proofs.EdgeSteps.{is_near}
 use Rattle.abstract_steps_sound_edges.proofs.TakenEdges.{FitsLead, body_led, HasLast, has_last, IsTakenEdge, taken_edge}
 use Rattle.abstract_steps_single.specs.ExactNumbers.{truth_of, ExactLaws}
-use Rattle.abstract_steps_single.specs.SingleValues.{TellsNumber, TellsScalar}
 use Rattle.abstract_steps_single.specs.SingleRows.{TellsState}
 use Rattle.abstract_steps_single.specs.SingleSteps.{IsDefined, TellsBehind, IsTold}
 use Rattle.abstract_steps_single.proofs.PutTells.{put_tells}
