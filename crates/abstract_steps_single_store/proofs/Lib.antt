@@ -4,3 +4,4 @@ pub mod OneTouch
 pub mod OneLeaf
 pub mod OneLoad
 pub mod HeldReads
+pub mod Touching

@@ -21,7 +21,7 @@ use Rattle.store_domain_sound.proofs.Selected.{place_selected, single_in}
 use Rattle.store_domain_sound.proofs.Walks.{walk_meets}
 use Rattle.abstract_steps_sound_copied_leaves.specs.StructLeaves.{IsStruct}
 
-same_size : (m : Model) (c : Class) → table.class_bytes m c ≡ class_bytes m c
+pub same_size : (m : Model) (c : Class) → table.class_bytes m c ≡ class_bytes m c
 same_size m Char = refl
 same_size m Short = refl
 same_size m Int = refl
