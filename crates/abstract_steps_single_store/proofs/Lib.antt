@@ -5,3 +5,4 @@ pub mod OneLeaf
 pub mod OneLoad
 pub mod HeldReads
 pub mod Touching
+pub mod ToldLoads
