@@ -6,3 +6,4 @@ pub mod OneLoad
 pub mod HeldReads
 pub mod Touching
 pub mod ToldLoads
+pub mod Moves
