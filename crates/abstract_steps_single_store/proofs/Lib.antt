@@ -7,3 +7,4 @@ pub mod HeldReads
 pub mod Touching
 pub mod ToldLoads
 pub mod Moves
+pub mod OneInstance
