@@ -8,3 +8,4 @@ pub mod Touching
 pub mod ToldLoads
 pub mod Moves
 pub mod OneInstance
+pub mod OneStore
