@@ -9,3 +9,6 @@ pub mod ToldLoads
 pub mod Moves
 pub mod OneInstance
 pub mod OneStore
+pub mod Written
+pub mod StoredRows
+pub mod ToldStores

@@ -95,7 +95,7 @@ module _ {I : Type 0} (l : LatticeOf I) (n : IntegersOf I) (m : Model) (bases : 
 
   own_is : store_own l n m base write row ≡ stored_row
   unfolding store_own store_class_cell
-  own_is = let e = leaves_are in rw (object, e) refl
+  own_is = let e = leaves_are in rw (e, object) refl
 
   others_are : leaf.class ≡ Char → (t : List (Cell I)) → store_other_bytes l n m base write t ≡ t
   unfolding store_other_bytes store_other_leaves store_other_leaf_at
@@ -105,7 +105,7 @@ module _ {I : Type 0} (l : LatticeOf I) (n : IntegersOf I) (m : Model) (bases : 
 
   base_sets : (c : Bool) → same_class leaf.class Char ≡ c → (x : ℕ) → (base.first + base_cells base ≤ x → x < base.first + base_values base → ⊥) → cell_at (store_base l n m base write row) x ≡ cell_at stored_row x
   unfolding store_base store_character store_wider
-  base_sets false e x far = let own = own_is in rw (e, object, own) refl
+  base_sets false e x far = let own = own_is in rw (e, own, object) refl
   base_sets true e x far =
       let own = own_is in
       let same = others_are (same_class_is leaf.class Char e) stored_row in
@@ -127,7 +127,6 @@ module _ {I : Type 0} (l : LatticeOf I) (n : IntegersOf I) (m : Model) (bases : 
       walk_meets (λ z. z ≡ true) (has_place_or m (only_base b) access) (λ k i s g. or_left _ _ g) 0 bases false b b base at (omega arith) (λ t. or_right _ _ (and_from _ _ (has_own b small) place))
 
   reached_are : reached_of l n bases row (only_base b) ≡ only_base b
-  unfolding reached_of
   reached_are = ap (writable_of bases) (live_is bases b base at small l n row object) ∙ (writable_is bases b base at small ∙ rw writable refl)
 
   pub store_sets : (p : Pointers I) → p.bases ≡ only_base b → window_of n p (class_bytes m leaf.class) ≡ Some (window_between leaf.offset leaf.offset) → is_nothing n leaf.class v ≡ false → SetsCell (store l n m bases p leaf.class leaf.signed v row)
