@@ -12,3 +12,4 @@ pub mod OneStore
 pub mod Written
 pub mod StoredRows
 pub mod ToldStores
+pub mod ToldForgets
