@@ -1,15 +1,6 @@
-pub mod OneTurn
-pub mod OneBase
-pub mod OneTouch
-pub mod OneLeaf
-pub mod OneLoad
-pub mod HeldReads
 pub mod Touching
 pub mod ToldLoads
 pub mod Moves
-pub mod OneInstance
-pub mod OneStore
-pub mod Written
 pub mod StoredRows
 pub mod ToldStores
 pub mod ToldForgets

@@ -43,8 +43,8 @@ use Rattle.abstract_steps_single.specs.SingleRows.{HoldsScalar, TellsLeaf, Tells
 use Rattle.abstract_steps_single.specs.SingleValues.{TellsScalar}
 use Rattle.abstract_steps_single.proofs.NearTells.{near_scalar_tells}
 use Rattle.abstract_steps_single_store.proofs.Moves.{scalar_moves, held_moves, holds_moves, IsChange, change_tells}
-use Rattle.abstract_steps_single_store.proofs.OneLeaf.{same_size, owned, place_is}
-use Rattle.abstract_steps_single_store.proofs.Written.{IsWritten, left_number, number_written, pointer_written}
+use Rattle.abstract_steps_single_places.proofs.OneLeaf.{same_size, owned, place_is}
+use Rattle.abstract_steps_single_places.proofs.Written.{IsWritten, left_number, number_written, pointer_written}
 
 -- a scalar in a leaf: a number is of the leaf's type
 abbrev pub left_in : Flow → Leaf → Scalar → Scalar

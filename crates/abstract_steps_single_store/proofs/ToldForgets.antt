@@ -47,9 +47,9 @@ use Rattle.abstract_steps_single.proofs.Told.{if_some_told}
 use Rattle.abstract_steps_single.proofs.Violated.{none_violated}
 use Rattle.abstract_steps_single_store.specs.StoreLaws.{IsForgotten}
 use Rattle.abstract_steps_single_store.specs.TypedAccesses.{HasObjects}
-use Rattle.abstract_steps_single_store.proofs.HeldReads.{inside}
+use Rattle.abstract_steps_single_places.proofs.HeldReads.{inside}
 use Rattle.abstract_steps_single_store.proofs.Moves.{IsChange, change_tells}
-use Rattle.abstract_steps_single_store.proofs.OneLeaf.{owned, place_is}
+use Rattle.abstract_steps_single_places.proofs.OneLeaf.{owned, place_is}
 
 module _ {I : Type 0} {l : LatticeOf I} {n : IntegersOf I} {stands : I → ℤ → Type 0} (q : BoundLaws l n stands) (flow : Flow) (p : HasPremises flow) (objects : HasObjects flow) (plain : IsPlainProgram flow) (naming : Naming) (row : List (Cell I)) (s : Standing) (r : IsReached l n stands flow naming row s) (t : TellsState l n flow row (state_of s)) where
   module _ (b i : ℕ) (info : BaseInfo) (at : slice_get flow.bases.items b ≡ Some info) (entered : s.bases b ≡ Some i) (declared : info.shape.heap ≡ false) (kind : info.kind ≡ Older → ⊥) where

@@ -71,11 +71,11 @@ use Rattle.abstract_steps_single.proofs.Told.{stop_told, if_some_told, pointer_t
 use Rattle.abstract_steps_single.proofs.ValueSteps.{number_put, nothing_put, pointer_put, tells_number, tells_pointer}
 use Rattle.abstract_steps_single.proofs.Violated.{AreViolated, none_violated, one_there, behind_there, same_violated}
 use Rattle.abstract_steps_single_store.specs.TypedAccesses.{HasObjects, IsAtLeaf, PointsToKind, IsTyped, IsTypedLoad}
-use Rattle.abstract_steps_single_store.proofs.HeldReads.{held_reply, load_held}
-use Rattle.abstract_steps_single_store.proofs.OneBase.{none_freed}
-use Rattle.abstract_steps_single_store.proofs.OneLeaf.{same_size}
-use Rattle.abstract_steps_single_store.proofs.OneLoad.{read_as, ReadsCell, load_reads}
-use Rattle.abstract_steps_single_store.proofs.OneTouch.{touching, TouchesNothing, TouchesOne, nowhere, outside, inside}
+use Rattle.abstract_steps_single_places.proofs.HeldReads.{held_reply, load_held}
+use Rattle.abstract_steps_single_places.proofs.OneBase.{none_freed}
+use Rattle.abstract_steps_single_places.proofs.OneLeaf.{same_size}
+use Rattle.abstract_steps_single_places.proofs.OneLoad.{read_as, ReadsCell, load_reads}
+use Rattle.abstract_steps_single_places.proofs.OneTouch.{touching, TouchesNothing, TouchesOne, nowhere, outside, inside}
 use Rattle.abstract_steps_single_store.proofs.Touching.{union_violated, touching_violated, reading_violated}
 
 past_end : (a b c d : ℕ) → (nat_le a b && nat_le c d) ≡ false → a ≤ b → d < c

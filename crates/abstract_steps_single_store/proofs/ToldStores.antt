@@ -83,13 +83,13 @@ use Rattle.abstract_steps_single.specs.SingleValues.{IsNowhere, IsIntoOne, Tells
 use Rattle.abstract_steps_single.proofs.Told.{stop_told, if_some_told, result_told}
 use Rattle.abstract_steps_single.proofs.Violated.{AreViolated, none_violated, one_there, behind_there, same_violated}
 use Rattle.abstract_steps_single_store.specs.TypedAccesses.{HasObjects, IsAtLeaf, PointsToKind, IsTyped, IsTypedStore}
-use Rattle.abstract_steps_single_store.proofs.HeldReads.{seen}
-use Rattle.abstract_steps_single_store.proofs.OneBase.{not_empty}
-use Rattle.abstract_steps_single_store.proofs.OneLeaf.{same_size, owned}
-use Rattle.abstract_steps_single_store.proofs.OneStore.{SetsCell, store_sets}
+use Rattle.abstract_steps_single_places.proofs.HeldReads.{seen}
+use Rattle.abstract_steps_single_places.proofs.OneBase.{not_empty}
+use Rattle.abstract_steps_single_places.proofs.OneLeaf.{same_size, owned}
+use Rattle.abstract_steps_single_places.proofs.OneStore.{SetsCell, store_sets}
 use Rattle.abstract_steps_single_store.proofs.StoredRows.{FitsLeaf, stored_state}
-use Rattle.abstract_steps_single_store.proofs.Written.{IsWritten}
-use Rattle.abstract_steps_single_store.proofs.OneTouch.{touching, TouchesNothing, TouchesOne, nowhere, outside, literal, inside}
+use Rattle.abstract_steps_single_places.proofs.Written.{IsWritten}
+use Rattle.abstract_steps_single_places.proofs.OneTouch.{touching, TouchesNothing, TouchesOne, nowhere, outside, literal, inside}
 use Rattle.abstract_steps_single_store.proofs.Touching.{touching_violated}
 
 literal_kind : (kind : BaseKind) → is_literal (storage_for kind) ≡ is_literal_kind kind

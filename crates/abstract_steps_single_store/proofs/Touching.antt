@@ -7,7 +7,7 @@ use Rattle.cc_base.specs.declared.diagnostics.Rule.TheVariants.{Accfree, Boolasg
 use Rattle.abstract_steps_checks.specs.ViolationSets.{no_violations, violations_union, violates}
 use Rattle.abstract_steps_checks.specs.declared.violation_sets.Violations.{Violations}
 use Rattle.abstract_steps_single.proofs.Violated.{AreViolated, EachViolated, each_violated, never}
-use Rattle.abstract_steps_single_store.proofs.OneTouch.{touching}
+use Rattle.abstract_steps_single_places.proofs.OneTouch.{touching}
 
 union_is : (s t : Violations) (r : Rule) → violates (violations_union s t) r ≡ (violates s r || violates t r)
 union_is s t Accfree = refl

@@ -16,7 +16,7 @@ use Rattle.value_domain_laws.proofs.EqualityStands.{has_some}
 use Rattle.store_domain.specs.LiveBases.{most_bases, is_literal_kind, only_base, has_base, with_base_if, is_writable_in, add_writable, writable_of, may_be_live, is_live_in, add_live, live_of, is_freed_or, any_freed}
 use Rattle.abstract_steps_checks.specs.Touches.{is_literal_or, any_literal}
 use Rattle.store_domain_sound.proofs.Sets.{only_is}
-use Rattle.abstract_steps_single_store.proofs.OneTurn.{walk_idle, walk_once}
+use Rattle.abstract_steps_single_places.proofs.OneTurn.{walk_idle, walk_once}
 
 abbrev pub AreObjects : List BaseInfo → Type 0
 AreObjects bases = (b : ℕ) (base : BaseInfo) → slice_get bases b ≡ Some base → base.shape.heap ≡ false

@@ -21,9 +21,9 @@ use Rattle.store_domain.specs.LiveBases.{most_bases, only_base, has_base, may_be
 use Rattle.store_domain.specs.Loads.{labels_of, load_leaves, read_leaf, load_class_cell, load_other_leaves, read_other_leaf, load_padding, load_other_bytes, is_text, determinate_if, load_own, load_others, load_character, load_base, read_base, load_bases, loaded, load_within, load}
 use Rattle.store_domain_sound.proofs.Classes.{same_class_is}
 use Rattle.abstract_steps_sound_copied_leaves.specs.StructLeaves.{IsStruct}
-use Rattle.abstract_steps_single_store.proofs.OneTurn.{walk_idle, walk_once}
-use Rattle.abstract_steps_single_store.proofs.OneBase.{has_own, has_no_other}
-use Rattle.abstract_steps_single_store.proofs.OneLeaf.{own_selected, other_unselected, none_other, no_padding}
+use Rattle.abstract_steps_single_places.proofs.OneTurn.{walk_idle, walk_once}
+use Rattle.abstract_steps_single_places.proofs.OneBase.{has_own, has_no_other}
+use Rattle.abstract_steps_single_places.proofs.OneLeaf.{own_selected, other_unselected, none_other, no_padding}
 
 signs_agree : (p s : Bool) → (p || same_sign s s) ≡ true
 signs_agree true s = refl

@@ -24,7 +24,7 @@ use Rattle.abstract_steps_checks.specs.declared.touches.Touched.{Touched}
 use Rattle.abstract_steps_checks.specs.declared.violation_sets.Violations.{Violations}
 use Rattle.abstract_steps_single.specs.SingleNumbers.{IsOne}
 use Rattle.abstract_steps_single.specs.SingleValues.{IsNowhere, IsIntoOne}
-use Rattle.abstract_steps_single_store.proofs.OneBase.{AreObjects, not_empty, writable_is, literal_is, live_is, none_writable, none_literal, none_live, none_freed}
+use Rattle.abstract_steps_single_places.proofs.OneBase.{AreObjects, not_empty, writable_is, literal_is, live_is, none_writable, none_literal, none_live, none_freed}
 
 -- ---- single numbers
 

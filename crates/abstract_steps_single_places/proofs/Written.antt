@@ -20,7 +20,7 @@ use Rattle.store_domain_meaning.specs.Matching.{Matched, number_in}
 use Rattle.store_domain_sound.proofs.Classes.{class_above}
 use Rattle.store_domain_sound.proofs.Fresh.{converted_back}
 use Rattle.abstract_steps_single.specs.SingleRows.{HoldsNumber, HoldsPointing}
-use Rattle.abstract_steps_single_store.proofs.OneLeaf.{same_size}
+use Rattle.abstract_steps_single_places.proofs.OneLeaf.{same_size}
 
 -- memory in which so many bytes from an offset on are these contents, seen as those of a class
 pub record IsWritten (old new : Memory) (i offset : ℕ) (class : Class) (size : ℕ) (cs : List Content) : Type 0 where

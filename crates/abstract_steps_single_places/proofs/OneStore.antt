@@ -37,10 +37,10 @@ use Rattle.store_domain_sound.proofs.Only.{Only, only_same, only_put, only_more,
 use Rattle.store_domain_sound.proofs.StoreRows.{Fits, zero_is}
 use Rattle.store_domain_sound.proofs.Walks.{walk_meets}
 use Rattle.abstract_steps_sound_copied_leaves.specs.StructLeaves.{IsStruct}
-use Rattle.abstract_steps_single_store.proofs.OneTurn.{walk_idle, walk_once}
-use Rattle.abstract_steps_single_store.proofs.OneBase.{has_own, has_no_other, live_is, writable_is}
-use Rattle.abstract_steps_single_store.proofs.OneInstance.{one_instance}
-use Rattle.abstract_steps_single_store.proofs.OneLeaf.{own_selected, other_unselected, none_other}
+use Rattle.abstract_steps_single_places.proofs.OneTurn.{walk_idle, walk_once}
+use Rattle.abstract_steps_single_places.proofs.OneBase.{has_own, has_no_other, live_is, writable_is}
+use Rattle.abstract_steps_single_places.proofs.OneInstance.{one_instance}
+use Rattle.abstract_steps_single_places.proofs.OneLeaf.{own_selected, other_unselected, none_other}
 
 -- ---- first zeros stand apart
 

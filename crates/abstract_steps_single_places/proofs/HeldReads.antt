@@ -35,7 +35,7 @@ use Rattle.store_domain_sound.proofs.Slices.{get_map, get_there}
 use Rattle.abstract_steps_sound_copied_leaves.specs.StructLeaves.{IsStruct}
 use Rattle.abstract_steps_sound_copied_leaves.proofs.Structs.{owned_at}
 use Rattle.abstract_steps_single.specs.SingleRows.{AreAll, HoldsNumber, HoldsPointer, HoldsPointing, HoldsScalar}
-use Rattle.abstract_steps_single_store.proofs.OneLeaf.{owned}
+use Rattle.abstract_steps_single_places.proofs.OneLeaf.{owned}
 
 -- ---- contents by their numbers
 
