@@ -1,7 +1,7 @@
 -- A store through pointers into one base at one offset sets the cell of the leaf there.
-use Rattle.std.proofs.Common.{◌≡◌, ℕ, suc, ◌+◌, ◌-◌, ◌^◌, ◌<◌, ◌≤◌, Bool, true, false, cond, not, ◌&&◌, ◌||◌, Option, Some, None, List, length, arith, subst, sym, refl, ap, ◌∙◌, inl, inr}
+use Rattle.std.proofs.Common.{◌≡◌, ℕ, ◌+◌, ◌-◌, ◌<◌, ◌≤◌, Bool, true, false, not, Option, Some, None, List, length, arith, refl, ap, ◌∙◌}
 use Rattle.std.specs.Prelude.{slice_get, pos, ◌==◌}
-use Rattle.std.proofs.lemmas.Bool.{cases_Bool, cases_eq, and_from, eq-eqb, or_left, or_right, ne_eqb}
+use Rattle.std.proofs.lemmas.Bool.{and_from, eq-eqb, or_left, or_right, ne_eqb}
 use Rattle.std.proofs.lemmas.Option.{slice_get_within}
 use Rattle.cc_base.specs.Lattices.{LatticeOf}
 use Rattle.cc_base.specs.IntegerDomains.{IntegersOf}
@@ -11,7 +11,6 @@ use Rattle.c_layout.specs.declared.data_model.Model.{Model}
 use Rattle.c_layout.specs.declared.leaf_lists.Class.TheVariants.{Char}
 use Rattle.c_layout.specs.declared.leaf_lists.Leaf.{Leaf}
 use Rattle.c_layout.specs.declared.shapes.BaseInfo.{BaseInfo}
-use Rattle.c_layout.specs.declared.shapes.ZeroPart.{ZeroPart}
 use Rattle.flow_program.specs.WellFormed.{base_cells, base_values}
 use Rattle.pointer_domain.specs.declared.pointer_sets.Pointers.{Pointers}
 use Rattle.value_domain.specs.declared.values.Value as values
@@ -28,8 +27,8 @@ use Rattle.store_domain.specs.AccessWindows.{window_of, window_between}
 use Rattle.store_domain.specs.CellReads.{as_stored}
 use Rattle.store_domain.specs.FirstZeroWrites.{zero_target, put_at, put_target, put_part, put_character}
 use Rattle.store_domain.specs.LeafSelection.{is_selected, selected_count}
-use Rattle.store_domain.specs.LiveBases.{most_bases, only_base, is_literal_kind, live_of, writable_of, is_one_instance}
-use Rattle.store_domain.specs.Stores.{has_place_or, has_place, has_own_place, any_place, is_nothing, stored_value, cell_value, store_leaf_at, store_leaf, store_leaves, store_class_cell, store_other_leaf_at, store_other_leaf, store_other_leaves, store_other_bytes, store_own, store_character, store_wider, store_base, store_if, store_to, store_all, write_to, can_store, store_access, reached_of, store_within, store}
+use Rattle.store_domain.specs.LiveBases.{most_bases, only_base, is_literal_kind, writable_of}
+use Rattle.store_domain.specs.Stores.{has_place_or, has_place, has_own_place, any_place, is_nothing, stored_value, cell_value, store_leaf_at, store_leaf, store_leaves, store_class_cell, store_other_leaf_at, store_other_leaf, store_other_leaves, store_other_bytes, store_own, store_character, store_wider, store_base, store_if, store_to, store_all, write_to, can_store, store_access, reached_of, store}
 use Rattle.lib_models_effects.specs.Touches.{is_allocated}
 use Rattle.store_domain_meaning.specs.SoundMemory.{storage_for}
 use Rattle.store_domain_sound.proofs.Classes.{same_class_is, count_none}

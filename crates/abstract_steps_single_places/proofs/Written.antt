@@ -1,9 +1,8 @@
 -- Bytes of a leaf into which a scalar was stored.
-use Rattle.std.proofs.Common.{◌≡◌, ℕ, zero, suc, ◌+◌, ◌*◌, ◌/◌, ◌%◌, ◌<◌, ◌≤◌, false, true, Some, List, [], ◌∷◌, length, arith, subst, sym, refl, ap, ◌∙◌}
+use Rattle.std.proofs.Common.{◌≡◌, ℕ, zero, suc, ◌+◌, ◌/◌, ◌%◌, ◌<◌, ◌≤◌, false, true, Some, List, [], ◌∷◌, length, arith, subst, sym, refl, ap, ◌∙◌}
 use Rattle.std.specs.Prelude.{slice_get, ℤ}
 use Rattle.std.proofs.lemmas.Option.{same_Some}
 use Rattle.cc_base.specs.IntegerTypes.{wrap_into}
-use Rattle.c_layout.specs.declared.data_model.Model.{Model}
 use Rattle.c_layout.specs.declared.leaf_lists.Class.{Class}
 use Rattle.c_layout.specs.declared.leaf_lists.Leaf.{Leaf}
 use Rattle.flow_program.specs.declared.programs.Flow.{Flow}
@@ -12,10 +11,10 @@ use Rattle.store_domain.specs.ScalarTypes as table
 use Rattle.lib_models_memory.specs.Bytes.{MachinePointer, null, into, Content, number, part}
 use Rattle.lib_models_memory.specs.Instances.{Memory, byte_at, life_at}
 use Rattle.lib_models_memory.specs.Labels.{Labels, no_labels}
-use Rattle.lib_models_memory.specs.Numbers.{Labelled, number_of}
+use Rattle.lib_models_memory.specs.Numbers.{Labelled}
 use Rattle.lib_models_memory.specs.ScalarSizes.{class_bytes, is_pointer}
 use Rattle.lib_models_memory.specs.Scalars.{integer, pointer}
-use Rattle.lib_models_effects.specs.ScalarBytes.{number_bytes, parts_from, bits_in, pointer_bytes, scalar_bytes}
+use Rattle.lib_models_effects.specs.ScalarBytes.{number_bytes, parts_from, bits_in, scalar_bytes}
 use Rattle.store_domain_meaning.specs.Matching.{Matched, number_in}
 use Rattle.store_domain_sound.proofs.Classes.{class_above}
 use Rattle.store_domain_sound.proofs.Fresh.{converted_back}

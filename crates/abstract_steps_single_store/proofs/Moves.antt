@@ -1,6 +1,6 @@
 -- A row tells the state behind where the cells of one object tell its bytes, and all else is as it was.
-use Rattle.std.proofs.Common.{◌≡◌, ℕ, ◌+◌, ◌<◌, ◌≤◌, Option, Some, None, List, length, arith, subst, sym, refl, ap, ◌∙◌, inl, inr}
-use Rattle.std.specs.Prelude.{slice_get, ℤ}
+use Rattle.std.proofs.Common.{◌≡◌, ℕ, ◌+◌, ◌<◌, ◌≤◌, Option, Some, None, List, arith, subst, sym, ap, ◌∙◌, inl, inr}
+use Rattle.std.specs.Prelude.{slice_get}
 use Rattle.std.proofs.lemmas.Bool.{cases_eq}
 use Rattle.std.proofs.lemmas.Option.{same_Some, slice_get_within}
 use Rattle.cc_base.specs.Lattices.{LatticeOf}
@@ -14,7 +14,7 @@ use Rattle.value_domain.specs.declared.values.Value.{Value}
 use Rattle.value_domain.specs.declared.row_cells.Cell.{Cell}
 use Rattle.store_domain.specs.RowPositions.{leaf_position, cell_at, value_at}
 use Rattle.abstract_steps_checks.specs.Temporaries.{temp_position, temp_value}
-use Rattle.lib_models_memory.specs.Bytes.{MachinePointer, null, into, Content}
+use Rattle.lib_models_memory.specs.Bytes.{null, into, Content}
 use Rattle.lib_models_memory.specs.Instances.{Memory, byte_at, life_at}
 use Rattle.lib_models_memory.specs.ScalarSizes.{class_bytes}
 use Rattle.lib_models_memory.specs.Scalars.{Scalar, integer, pointer}
@@ -24,8 +24,8 @@ use Rattle.store_domain_meaning.specs.RowMeaning.{MachineState}
 use Rattle.store_domain_sound.proofs.StoreRows.{leaf_is}
 use Rattle.store_domain_sound.proofs.StoreValues.{same_value}
 use Rattle.store_domain_sound_programs.specs.Premises.{HasPremises}
-use Rattle.abstract_steps_single.specs.SingleRows.{IsPlainProgram, HoldsScalar, TellsLeaf, TellsState}
-use Rattle.abstract_steps_single.specs.SingleValues.{TellsByLife, TellsPointer, TellsScalar, TellsHeld}
+use Rattle.abstract_steps_single.specs.SingleRows.{HoldsScalar, TellsLeaf, TellsState}
+use Rattle.abstract_steps_single.specs.SingleValues.{TellsByLife, TellsScalar, TellsHeld}
 
 -- ---- scalars
 

@@ -1,5 +1,5 @@
 -- The row behind a store tells the state behind it.
-use Rattle.std.proofs.Common.{◌≡◌, ℕ, ◌+◌, ◌-◌, ◌<◌, ◌≤◌, true, false, Option, Some, None, List, length, arith, subst, sym, refl, ap, ◌∙◌, inl, inr}
+use Rattle.std.proofs.Common.{◌≡◌, ℕ, ◌+◌, ◌-◌, ◌<◌, ◌≤◌, true, false, Some, List, length, arith, subst, sym, refl, ap, ◌∙◌, inl, inr}
 use Rattle.std.specs.Prelude.{slice_get, ℤ}
 use Rattle.std.specs.Option.{unwrap_or}
 use Rattle.std.proofs.lemmas.Int.{ints}
@@ -22,7 +22,7 @@ use Rattle.store_domain.specs.NearValues.{near_value}
 use Rattle.store_domain.specs.RowPositions.{leaf_position, cell_at, value_in, value_at, put_value}
 use Rattle.store_domain.specs.ScalarTypes.{kind_of}
 use Rattle.store_domain.specs.Stores.{stored_value}
-use Rattle.lib_models_memory.specs.Instances.{Memory, bytes_at, byte_at}
+use Rattle.lib_models_memory.specs.Instances.{Memory, bytes_at}
 use Rattle.lib_models_memory.specs.ScalarSizes.{class_bytes, is_pointer}
 use Rattle.lib_models_memory.specs.Scalars.{Scalar, integer, pointer}
 use Rattle.lib_models_effects.specs.ScalarBytes.{scalar_bytes}
@@ -42,7 +42,7 @@ use Rattle.abstract_steps_single.specs.ExactNumbers.{ExactLaws}
 use Rattle.abstract_steps_single.specs.SingleRows.{HoldsScalar, TellsLeaf, TellsState}
 use Rattle.abstract_steps_single.specs.SingleValues.{TellsScalar}
 use Rattle.abstract_steps_single.proofs.NearTells.{near_scalar_tells}
-use Rattle.abstract_steps_single_store.proofs.Moves.{scalar_moves, held_moves, holds_moves, IsChange, change_tells}
+use Rattle.abstract_steps_single_store.proofs.Moves.{scalar_moves, held_moves, holds_moves, change_tells}
 use Rattle.abstract_steps_single_places.proofs.OneLeaf.{same_size, owned, place_is}
 use Rattle.abstract_steps_single_places.proofs.Written.{IsWritten, left_number, number_written, pointer_written}
 

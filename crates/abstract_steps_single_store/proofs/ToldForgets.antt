@@ -1,5 +1,5 @@
 -- Objects that become indeterminate are told.
-use Rattle.std.proofs.Common.{◌≡◌, ℕ, suc, ◌+◌, ◌<◌, true, false, Option, Some, None, List, length, arith, subst, sym, refl, ap, ◌∙◌}
+use Rattle.std.proofs.Common.{◌≡◌, ℕ, suc, ◌+◌, ◌<◌, true, false, Some, None, List, arith, subst, sym, refl, ap, ◌∙◌}
 use Rattle.std.specs.Prelude.{slice_get, ℤ}
 use Rattle.std.proofs.lemmas.Option.{same_Some, slice_get_within}
 use Rattle.cc_base.specs.Lattices.{LatticeOf}
@@ -17,7 +17,7 @@ use Rattle.store_domain.specs.RowPositions.{leaf_position, value_at}
 use Rattle.abstract_steps_checks.specs.ViolationSets.{no_violations}
 use Rattle.abstract_steps_instructions.specs.Steps.{operate}
 use Rattle.abstract_steps_instructions.specs.StepViolations.{operation_violations}
-use Rattle.lib_models_memory.specs.Bytes.{Content, indeterminate, Byte}
+use Rattle.lib_models_memory.specs.Bytes.{Content, indeterminate}
 use Rattle.lib_models_memory.specs.Instances.{Memory, bytes_of, bytes_at, byte_at}
 use Rattle.lib_models_memory.specs.ScalarSizes.{class_bytes}
 use Rattle.lib_models_memory.specs.Tags.{tag_of}
@@ -48,7 +48,7 @@ use Rattle.abstract_steps_single.proofs.Violated.{none_violated}
 use Rattle.abstract_steps_single_store.specs.StoreLaws.{IsForgotten}
 use Rattle.abstract_steps_single_store.specs.TypedAccesses.{HasObjects}
 use Rattle.abstract_steps_single_places.proofs.HeldReads.{inside}
-use Rattle.abstract_steps_single_store.proofs.Moves.{IsChange, change_tells}
+use Rattle.abstract_steps_single_store.proofs.Moves.{change_tells}
 use Rattle.abstract_steps_single_places.proofs.OneLeaf.{owned, place_is}
 
 module _ {I : Type 0} {l : LatticeOf I} {n : IntegersOf I} {stands : I → ℤ → Type 0} (q : BoundLaws l n stands) (flow : Flow) (p : HasPremises flow) (objects : HasObjects flow) (plain : IsPlainProgram flow) (naming : Naming) (row : List (Cell I)) (s : Standing) (r : IsReached l n stands flow naming row s) (t : TellsState l n flow row (state_of s)) where

@@ -1,14 +1,13 @@
 -- Loads are told.
-use Rattle.std.proofs.Common.{◌≡◌, ℕ, ◌+◌, ◌-◌, ◌^◌, ◌<◌, ◌≤◌, Bool, true, false, not, cond, ◌||◌, ◌&&◌, Option, Some, None, List, [], ◌∷◌, ◌++◌, length, arith, subst, sym, refl, ap, ◌∙◌, inl, inr}
+use Rattle.std.proofs.Common.{◌≡◌, ℕ, ◌+◌, ◌-◌, ◌^◌, ◌<◌, ◌≤◌, Bool, true, false, not, ◌||◌, ◌&&◌, Option, Some, None, List, [], ◌∷◌, ◌++◌, arith, subst, sym, refl, ap, ◌∙◌, inl, inr}
 use Rattle.std.specs.Prelude.{ℤ, slice_get, nat_le}
 use Rattle.std.specs.List.{Contains}
 use Rattle.std.proofs.lemmas.Bool.{cases_Bool, and_parts, ltb-true, leb-true, le-leb, true≢false}
 use Rattle.std.proofs.lemmas.Bool.Decides.{nat_tests}
-use Rattle.cc_base.specs.Lattices.{LatticeOf, OrderLaws}
+use Rattle.cc_base.specs.Lattices.{LatticeOf}
 use Rattle.cc_base.specs.IntegerDomains.{IntegersOf, BoundLaws}
 use Rattle.cc_base.specs.declared.diagnostics.Rule.{Rule}
 use Rattle.cc_base.specs.declared.diagnostics.Rule.TheVariants as rule
-use Rattle.cc_base.specs.declared.int_types.IntType.{IntType}
 use Rattle.c_layout.specs.declared.leaf_lists.Class.{Class}
 use Rattle.c_layout.specs.declared.leaf_lists.Class.TheVariants.{Char}
 use Rattle.c_layout.specs.declared.shapes.BaseInfo.{BaseInfo}
@@ -27,7 +26,7 @@ use Rattle.store_domain.specs.Loads.{labels_of, load}
 use Rattle.store_domain.specs.RowPositions.{leaf_position, value_at}
 use Rattle.store_domain.specs.LiveBases.{any_freed}
 use Rattle.store_domain.specs.ScalarTypes as table
-use Rattle.abstract_steps_checks.specs.Temporaries.{put_temp, temp_value}
+use Rattle.abstract_steps_checks.specs.Temporaries.{temp_value}
 use Rattle.abstract_steps_checks.specs.Touches.{touch}
 use Rattle.abstract_steps_checks.specs.ViolationSets.{no_violations, violations_union}
 use Rattle.abstract_steps_checks.specs.declared.touches.Touched.{Touched}
@@ -38,14 +37,13 @@ use Rattle.abstract_steps_instructions.specs.MemorySteps.{blank_or_freed, put_re
 use Rattle.abstract_steps_instructions.specs.Steps.{operate}
 use Rattle.abstract_steps_instructions.specs.StepViolations.{operation_violations}
 use Rattle.lib_models_memory.specs.Bytes.{MachinePointer, null, into}
-use Rattle.lib_models_memory.specs.Instances.{Life, live, ended, freed, life_at, bytes_at}
-use Rattle.lib_models_memory.specs.Labels.{Labels}
+use Rattle.lib_models_memory.specs.Instances.{Life, live, ended, freed, life_at}
 use Rattle.lib_models_memory.specs.ScalarSizes.{class_bytes, is_pointer, same_class}
 use Rattle.lib_models_memory.specs.Scalars.{Scalar, integer, pointer}
 use Rattle.lib_models_effects.specs.Accesses.{class_in, is_unsigned, points_into_freed, read_blank, given, load_at}
 use Rattle.lib_models_effects.specs.Accesses as effect
 use Rattle.lib_models_effects.specs.Touches.{Spot, touched, touched_by}
-use Rattle.lib_models_effects.specs.Worlds.{World, Reply, goes, stops, behind, noted, stopped_by, Left}
+use Rattle.lib_models_effects.specs.Worlds.{World, Reply, goes, behind, noted, stopped_by}
 use Rattle.flow_lower_tasks.specs.Acts.{act}
 use Rattle.flow_program_views.specs.ProgramViews.{flow_view}
 use Rattle.flow_program_machine.specs.FlowStates.{Standing}
@@ -66,8 +64,8 @@ use Rattle.abstract_steps_sound_memory.proofs.MachineReplies.{load_went}
 use Rattle.abstract_steps_sound_memory.proofs.ScalarClasses.{class_pair}
 use Rattle.abstract_steps_single.specs.SingleRows.{HoldsScalar, TellsLeaf, TellsState, IsPlainProgram}
 use Rattle.abstract_steps_single.specs.SingleSteps.{IsDefined, IsTold, StepIsTold}
-use Rattle.abstract_steps_single.specs.SingleValues.{IsNowhere, IsIntoOne, IsBlank, TellsByLife, TellsPointer, TellsNumber, TellsPointing, TellsScalar, TellsHeld}
-use Rattle.abstract_steps_single.proofs.Told.{stop_told, if_some_told, pointer_told, result_told}
+use Rattle.abstract_steps_single.specs.SingleValues.{IsNowhere, IsIntoOne, IsBlank, TellsByLife, TellsPointer, TellsScalar, TellsHeld}
+use Rattle.abstract_steps_single.proofs.Told.{stop_told, if_some_told, result_told}
 use Rattle.abstract_steps_single.proofs.ValueSteps.{number_put, nothing_put, pointer_put, tells_number, tells_pointer}
 use Rattle.abstract_steps_single.proofs.Violated.{AreViolated, none_violated, one_there, behind_there, same_violated}
 use Rattle.abstract_steps_single_store.specs.TypedAccesses.{HasObjects, IsAtLeaf, PointsToKind, IsTyped, IsTypedLoad}

@@ -1,6 +1,6 @@
 -- Stores are told.
-use Rattle.std.proofs.Common.{◌≡◌, ℕ, zero, suc, ◌+◌, ◌-◌, ◌^◌, ◌<◌, ◌≤◌, Bool, true, false, not, cond, ◌||◌, ◌&&◌, Option, Some, None, List, [], ◌∷◌, ◌++◌, length, arith, subst, sym, refl, ap, ◌∙◌, inl, inr}
-use Rattle.std.specs.Prelude.{ℤ, slice_get, nat_le, is_none}
+use Rattle.std.proofs.Common.{◌≡◌, ℕ, zero, suc, ◌+◌, ◌-◌, ◌^◌, ◌<◌, ◌≤◌, Bool, true, false, not, ◌||◌, ◌&&◌, Option, Some, None, List, [], ◌∷◌, ◌++◌, length, arith, subst, sym, refl, ap, ◌∙◌, inl, inr}
+use Rattle.std.specs.Prelude.{ℤ, slice_get, nat_le}
 use Rattle.std.specs.List.{Contains}
 use Rattle.std.proofs.lemmas.Bool.{cases_Bool, and_parts, and_from, ltb-true, leb-true, le-leb, or_right, true≢false}
 use Rattle.std.proofs.lemmas.Bool.Decides.{nat_tests}
@@ -46,7 +46,7 @@ use Rattle.store_domain_meaning.specs.Matching.{Fits as MatchFits}
 use Rattle.lib_models_memory.specs.Instances.{Life, live, ended, freed, Memory, bytes_of, byte_at, life_at}
 use Rattle.lib_models_memory.specs.ScalarSizes.{class_bytes, is_pointer, same_class}
 use Rattle.lib_models_memory.specs.Scalars.{Scalar, integer, pointer}
-use Rattle.lib_models_effects.specs.Accesses.{class_in, is_seen_as, bytes_seen, may_store, stored, store_at, store_through}
+use Rattle.lib_models_effects.specs.Accesses.{class_in, may_store, stored, store_at, store_through}
 use Rattle.lib_models_effects.specs.Accesses as effect
 use Rattle.lib_models_effects.specs.Operands.{is_of_kind}
 use Rattle.lib_models_effects.specs.ScalarBytes.{scalar_bytes}
@@ -58,7 +58,7 @@ use Rattle.flow_program_machine.specs.FlowSteps.{act_step}
 use Rattle.flow_program_machine.specs.FlowStates.{Standing, if_some, next}
 use Rattle.flow_program_machine.specs.FlowActs.{keeping, storing}
 use Rattle.store_domain_meaning.specs.Coverage.{state_of}
-use Rattle.store_domain_meaning.specs.SoundMemory.{IsPointerIn, IsWithin, IsScalarIn, IsInstanceOf, storage_for}
+use Rattle.store_domain_meaning.specs.SoundMemory.{IsPointerIn, IsWithin, IsInstanceOf, storage_for}
 use Rattle.store_domain_meaning.specs.RowMeaning.{StandsFor}
 use Rattle.store_domain_meaning.specs.ValueMeaning.{Naming, StandsScalar}
 use Rattle.store_domain_sound.specs.Scalars.{signed_in}

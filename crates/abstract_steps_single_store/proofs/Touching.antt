@@ -1,12 +1,12 @@
 -- What touches of one pointer violate.
-use Rattle.std.proofs.Common.{◌≡◌, Bool, true, false, ◌||◌, List, [], ◌∷◌, ◌++◌, subst, sym, refl, ◌∙◌, inl, inr}
+use Rattle.std.proofs.Common.{◌≡◌, Bool, true, ◌||◌, List, sym, refl, ◌∙◌, inl, inr}
 use Rattle.std.specs.List.{Contains}
 use Rattle.std.proofs.lemmas.Bool.{or_cases}
 use Rattle.cc_base.specs.declared.diagnostics.Rule.{Rule}
 use Rattle.cc_base.specs.declared.diagnostics.Rule.TheVariants.{Accfree, Boolasgn, Chrsgnext, Dblfree, Diverr, Insufmem, Intoflow, Invptr, Libptr, Nonnullcs, Nullref, Ptrobj, Sizeofptr, Strmod, Swtchdflt, Taintsink, Uninitref, Xfree}
 use Rattle.abstract_steps_checks.specs.ViolationSets.{no_violations, violations_union, violates}
 use Rattle.abstract_steps_checks.specs.declared.violation_sets.Violations.{Violations}
-use Rattle.abstract_steps_single.proofs.Violated.{AreViolated, EachViolated, each_violated, never}
+use Rattle.abstract_steps_single.proofs.Violated.{AreViolated, each_violated, never}
 use Rattle.abstract_steps_single_places.proofs.OneTouch.{touching}
 
 union_is : (s t : Violations) (r : Rule) → violates (violations_union s t) r ≡ (violates s r || violates t r)

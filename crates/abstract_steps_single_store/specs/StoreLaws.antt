@@ -1,5 +1,5 @@
 -- The laws of rows that tell the state: instructions on memory.
-use Rattle.std.specs.Prelude.{◌≡◌, ℕ, ℤ, true, List}
+use Rattle.std.specs.Prelude.{◌≡◌, ℤ, true, List}
 use Rattle.cc_base.specs.Lattices.{LatticeOf}
 use Rattle.cc_base.specs.IntegerDomains.{IntegersOf}
 use Rattle.flow_program.specs.WellFormed.{names_of, fits_operation}
