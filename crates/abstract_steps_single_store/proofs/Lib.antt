@@ -4,3 +4,4 @@ pub mod Moves
 pub mod StoredRows
 pub mod ToldStores
 pub mod ToldForgets
+pub mod ToldClears

@@ -3,4 +3,4 @@
 
 mod theorems;
 
-pub use theorems::{forgets_are_told, loads_are_told, stores_are_told};
+pub use theorems::{clears_are_told, forgets_are_told, loads_are_told, stores_are_told};

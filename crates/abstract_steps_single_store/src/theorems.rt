@@ -3,7 +3,7 @@
 ghost use Rattle.cc_base.specs.IntegerLaws.{SoundLaws};
 ghost use Rattle.flow_program.specs.declared.programs.Flow.{Flow};
 ghost use Rattle.abstract_steps_single.specs.ExactNumbers.{ExactLaws};
-ghost use Rattle.abstract_steps_single_store.specs.StoreLaws.{LoadsAreTold, StoresAreTold, ForgetsAreTold};
+ghost use Rattle.abstract_steps_single_store.specs.StoreLaws.{LoadsAreTold, StoresAreTold, ForgetsAreTold, ClearsAreTold};
 
 use cc_base::IntDomain;
 
@@ -20,4 +20,9 @@ pub fn stores_are_told<I: IntDomain>()
 /// Objects whose contents are forgotten.
 pub fn forgets_are_told<I: IntDomain>()
     ensures { (flow : Flow) → ForgetsAreTold I.lattice I.numbers I.stands flow }
+{}
+
+/// Objects whose bytes become 0.
+pub fn clears_are_told<I: IntDomain>()
+    ensures { (flow : Flow) → ClearsAreTold I.lattice I.numbers I.stands flow }
 {}
