@@ -7,3 +7,4 @@ pub mod OneInstance
 pub mod OneStore
 pub mod HeldReads
 pub mod Written
+pub mod Touching

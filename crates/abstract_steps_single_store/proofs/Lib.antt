@@ -1,4 +1,3 @@
-pub mod Touching
 pub mod ToldLoads
 pub mod Moves
 pub mod StoredRows

@@ -74,7 +74,7 @@ use Rattle.abstract_steps_single_places.proofs.OneBase.{none_freed}
 use Rattle.abstract_steps_single_places.proofs.OneLeaf.{same_size}
 use Rattle.abstract_steps_single_places.proofs.OneLoad.{read_as, ReadsCell, load_reads}
 use Rattle.abstract_steps_single_places.proofs.OneTouch.{touching, TouchesNothing, TouchesOne, nowhere, outside, inside}
-use Rattle.abstract_steps_single_store.proofs.Touching.{union_violated, touching_violated, reading_violated}
+use Rattle.abstract_steps_single_places.proofs.Touching.{union_violated, touching_violated, reading_violated}
 
 past_end : (a b c d : ℕ) → (nat_le a b && nat_le c d) ≡ false → a ≤ b → d < c
 past_end a b c d h k = grind (arith, nat_tests)

@@ -90,7 +90,7 @@ use Rattle.abstract_steps_single_places.proofs.OneStore.{SetsCell, store_sets}
 use Rattle.abstract_steps_single_store.proofs.StoredRows.{FitsLeaf, stored_state}
 use Rattle.abstract_steps_single_places.proofs.Written.{IsWritten}
 use Rattle.abstract_steps_single_places.proofs.OneTouch.{touching, TouchesNothing, TouchesOne, nowhere, outside, literal, inside}
-use Rattle.abstract_steps_single_store.proofs.Touching.{touching_violated}
+use Rattle.abstract_steps_single_places.proofs.Touching.{touching_violated}
 
 literal_kind : (kind : BaseKind) → is_literal (storage_for kind) ≡ is_literal_kind kind
 literal_kind Static = refl
