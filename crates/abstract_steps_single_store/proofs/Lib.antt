@@ -1,6 +1,6 @@
-pub mod OneTurn
-pub mod OneBase
-pub mod OneTouch
-pub mod OneLeaf
-pub mod OneLoad
-pub mod HeldReads
+pub mod ToldLoads
+pub mod Moves
+pub mod StoredRows
+pub mod ToldStores
+pub mod ToldForgets
+pub mod ToldClears

@@ -1,6 +1,6 @@
 -- The leaf at one offset, where each leaf is one place and no byte is of two leaves.
-use Rattle.std.proofs.Common.{◌≡◌, ℕ, suc, ◌+◌, ◌-◌, ◌*◌, ◌/◌, ◌%◌, ◌<◌, ◌≤◌, Bool, true, false, cond, not, ◌&&◌, ◌||◌, Some, None, List, length, arith, subst, sym, refl, ap, ◌∙◌, inl, inr}
-use Rattle.std.specs.Prelude.{slice_get, nat_le, nat_lt, ◌==◌, min}
+use Rattle.std.proofs.Common.{◌≡◌, ℕ, suc, ◌+◌, ◌-◌, ◌*◌, ◌/◌, ◌%◌, ◌<◌, ◌≤◌, true, false, not, ◌||◌, Some, List, arith, subst, sym, refl, ap, ◌∙◌, inl, inr}
+use Rattle.std.specs.Prelude.{slice_get, nat_le, nat_lt, ◌==◌}
 use Rattle.std.proofs.lemmas.Bool.{cases_Bool, cases_lt, and_parts, and_from, leb-true, ltb-true, lt-ltb, le-ltb, le-leb, lt-leb, ne_eqb, or_left, cond-true, cond-false, or_from, true≢false}
 use Rattle.std.proofs.lemmas.Nat.{div-add-mod', div_below}
 use Rattle.std.proofs.lemmas.Option.{same_Some}
@@ -16,12 +16,12 @@ use Rattle.store_domain.specs.RowPositions.{capped}
 use Rattle.store_domain.specs.LeafSelection.{has_place_in, is_selected, is_overlapped, is_other, turn_bytes, bytes_behind, bytes_below, covered_more, covered_bytes, window_end, meets_padding}
 use Rattle.lib_models_memory.specs.ScalarSizes.{class_bytes}
 use Rattle.store_domain_meaning.specs.Places.{IsPlaceOf, OwnedByLeaf}
-use Rattle.store_domain_sound.proofs.Classes.{class_above, same_class_is, is_same_class}
+use Rattle.store_domain_sound.proofs.Classes.{class_above, is_same_class}
 use Rattle.store_domain_sound.proofs.Selected.{place_selected, single_in}
 use Rattle.store_domain_sound.proofs.Walks.{walk_meets}
 use Rattle.abstract_steps_sound_copied_leaves.specs.StructLeaves.{IsStruct}
 
-same_size : (m : Model) (c : Class) → table.class_bytes m c ≡ class_bytes m c
+pub same_size : (m : Model) (c : Class) → table.class_bytes m c ≡ class_bytes m c
 same_size m Char = refl
 same_size m Short = refl
 same_size m Int = refl

@@ -1,41 +1,40 @@
 -- What the machine reads where a leaf holds a scalar, or is indeterminate.
-use Rattle.std.proofs.Common.{◌≡◌, ℕ, zero, suc, ◌+◌, ◌-◌, ◌<◌, ◌≤◌, Bool, true, false, cond, ◌&&◌, ◌||◌, Option, Some, None, List, [], ◌∷◌, length, arith, subst, sym, refl, ap, ◌∙◌, inl, inr}
-use Rattle.std.specs.Prelude.{slice_get, ℤ, ◌==◌}
+use Rattle.std.proofs.Common.{◌≡◌, ℕ, suc, ◌+◌, ◌-◌, ◌<◌, ◌≤◌, Bool, true, false, cond, ◌||◌, Option, Some, None, List, [], ◌∷◌, length, arith, subst, sym, refl, ap, ◌∙◌}
+use Rattle.std.specs.Prelude.{slice_get, ℤ}
 use Rattle.std.proofs.lemmas.Bool.{and_from, eq-eqb, true≢false, or_right}
 use Rattle.std.proofs.lemmas.List.{length-map}
 use Rattle.std.proofs.lemmas.Option.{same_Some, slice_get_within}
 use Rattle.cc_base.specs.declared.int_types.IntType.{IntType}
 use Rattle.cc_base.specs.declared.diagnostics.Rule.TheVariants as rule
 use Rattle.c_layout.specs.declared.leaf_lists.Class.{Class}
-use Rattle.c_layout.specs.declared.leaf_lists.Class.TheVariants.{Char}
 use Rattle.c_layout.specs.declared.leaf_lists.Leaf.{Leaf}
 use Rattle.c_layout.specs.declared.shapes.BaseInfo.{BaseInfo}
 use Rattle.flow_program.specs.declared.machine_instructions.Scalar as declared
 use Rattle.flow_program.specs.declared.machine_instructions.Scalar.TheVariants as of
 use Rattle.flow_program.specs.declared.programs.Flow.{Flow}
 use Rattle.lib_models_memory.specs.Bytes.{MachinePointer, null, into, Content, indeterminate, number, part, Byte}
-use Rattle.lib_models_memory.specs.Instances.{Memory, Instance, live, bytes_of, bytes_at, byte_at, life_at}
+use Rattle.lib_models_memory.specs.Instances.{Instance, live, bytes_of, bytes_at, byte_at, life_at}
 use Rattle.lib_models_memory.specs.Labels.{Labels, no_labels, labels_join}
-use Rattle.lib_models_memory.specs.Numbers.{Labelled, number_of}
-use Rattle.lib_models_memory.specs.ScalarSizes.{class_bytes, is_pointer, same_class}
+use Rattle.lib_models_memory.specs.Numbers.{Labelled}
+use Rattle.lib_models_memory.specs.ScalarSizes.{class_bytes, is_pointer}
 use Rattle.lib_models_memory.specs.Scalars.{Scalar, integer, pointer}
 use Rattle.lib_models_memory.specs.Tags.{tag_of, fits_tag, fit_from}
-use Rattle.lib_models_effects.specs.Accesses.{class_in, is_blank, has_blank, and_number, numbers_in, joined_labels, same_pointer, is_part, are_parts, is_zero, are_zeros, pointer_by, pointer_in, pointer_scalar, scalar_in, points_into_freed, given, read_blank, read_contents, is_seen_as, bytes_seen, load_at}
+use Rattle.lib_models_effects.specs.Accesses.{class_in, is_blank, has_blank, numbers_in, joined_labels, same_pointer, is_part, are_parts, are_zeros, pointer_by, pointer_in, pointer_scalar, given, read_blank, read_contents, is_seen_as, bytes_seen, load_at}
 use Rattle.lib_models_effects.specs.ScalarBytes.{region, contents}
 use Rattle.lib_models_effects.specs.Touches.{Spot, is_allocated, storage_at}
-use Rattle.lib_models_effects.specs.Worlds.{World, Reply, goes, stops, noted, Left}
-use Rattle.store_domain_meaning.specs.Matching.{Matched, Holds, number_in}
+use Rattle.lib_models_effects.specs.Worlds.{World, Reply, stops, Left}
+use Rattle.store_domain_meaning.specs.Matching.{Matched, number_in}
 use Rattle.store_domain_meaning.specs.SoundMemory.{IsMemoryOf, IsInstanceOf}
 use Rattle.store_domain_meaning.specs.ValueMeaning.{Naming}
 use Rattle.store_domain_sound.specs.Scalars.{signed_in}
 use Rattle.store_domain_sound.proofs.Classes.{class_above, is_same_class, integer_class}
 use Rattle.store_domain_sound.proofs.LoadSound.{instance_there}
 use Rattle.store_domain_sound.proofs.Reading.{region_at, region_length}
-use Rattle.store_domain_sound.proofs.Slices.{get_map, get_there}
+use Rattle.store_domain_sound.proofs.Slices.{get_map}
 use Rattle.abstract_steps_sound_copied_leaves.specs.StructLeaves.{IsStruct}
 use Rattle.abstract_steps_sound_copied_leaves.proofs.Structs.{owned_at}
-use Rattle.abstract_steps_single.specs.SingleRows.{AreAll, HoldsNumber, HoldsPointer, HoldsPointing, HoldsScalar}
-use Rattle.abstract_steps_single_store.proofs.OneLeaf.{owned}
+use Rattle.abstract_steps_single.specs.SingleRows.{AreAll, HoldsNumber, HoldsPointing, HoldsScalar}
+use Rattle.abstract_steps_single_places.proofs.OneLeaf.{owned}
 
 -- ---- contents by their numbers
 

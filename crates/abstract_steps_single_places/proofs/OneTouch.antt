@@ -1,30 +1,27 @@
 -- The touch of bytes through a value that tells one pointer.
-use Rattle.std.proofs.Common.{◌≡◌, ℕ, ◌+◌, ◌<◌, ◌≤◌, ◌^◌, ◌-◌, Bool, true, false, cond, not, ◌&&◌, ◌||◌, Option, Some, None, List, length, arith, subst, sym, refl, ap, ◌∙◌, inl, inr}
-use Rattle.std.specs.Prelude.{slice_get, ℤ, pos, neg_ℤ, ◌-ℤ◌, ◌+ℤ◌, ◌≤ℤ◌, negsuc, int_le, int_lt, is_none}
+use Rattle.std.proofs.Common.{◌≡◌, ℕ, ◌+◌, ◌<◌, ◌≤◌, ◌^◌, ◌-◌, Bool, true, false, ◌&&◌, ◌||◌, Option, Some, None, List, arith, subst, refl, ap, ◌∙◌, inl, inr}
+use Rattle.std.specs.Prelude.{slice_get, ℤ, pos, neg_ℤ, ◌-ℤ◌, ◌+ℤ◌, ◌≤ℤ◌, negsuc, int_le, int_lt}
 use Rattle.std.proofs.lemmas.Int.{ints, clamps}
 use Rattle.std.proofs.lemmas.Bool.{cases_Bool, or_right}
 use Rattle.std.specs.Int.{w128, saturate_signed, int_min, int_max}
-use Rattle.std.proofs.lemmas.Bool.Decides.{nat_tests}
 use Rattle.cc_base.specs.Lattices.{LatticeOf}
-use Rattle.cc_base.specs.NumberRanges.{Range, range_between, range_met}
-use Rattle.cc_base.specs.IntegerDomains.{IntegersOf, BoundLaws, between_or_least, of_range}
+use Rattle.cc_base.specs.NumberRanges.{range_between, range_met}
+use Rattle.cc_base.specs.IntegerDomains.{IntegersOf, BoundLaws, of_range}
 use Rattle.c_layout.specs.declared.shapes.BaseInfo.{BaseInfo}
 use Rattle.pointer_domain.specs.BaseSets.{no_base, bases_empty}
-use Rattle.pointer_domain.specs.declared.base_sets.Bases.{Bases}
 use Rattle.pointer_domain.specs.PointerLattice.{no_pointer}
 use Rattle.pointer_domain.specs.declared.pointer_sets.Pointers.{Pointers}
 use Rattle.value_domain.specs.declared.row_cells.Cell.{Cell}
 use Rattle.store_domain.specs.NearValues.{is_near, near_number, near_pointer}
-use Rattle.store_domain.specs.LiveBases.{most_bases, is_literal_kind, only_base, live_of, writable_of}
-use Rattle.store_domain.specs.AccessWindows.{last_offset, window_between, window_of_range, window_within, added_ranges, last_place, access_range, window_of}
-use Rattle.pointer_domain.specs.PointerTables.{length_above}
-use Rattle.abstract_steps_checks.specs.Touches.{leaves_bounds, leaves_bounds_at, places_within, is_nowhere, into_bases, kept_of, touched_inside, any_literal, touch_violations, touch}
+use Rattle.store_domain.specs.LiveBases.{is_literal_kind, only_base, live_of}
+use Rattle.store_domain.specs.AccessWindows.{last_offset, window_between, window_within, added_ranges, last_place, window_of}
+use Rattle.abstract_steps_checks.specs.Touches.{leaves_bounds, places_within, is_nowhere, into_bases, kept_of, touched_inside, any_literal, touch_violations, touch}
 use Rattle.abstract_steps_checks.specs.ViolationSets.{no_violations}
 use Rattle.abstract_steps_checks.specs.declared.touches.Touched.{Touched}
 use Rattle.abstract_steps_checks.specs.declared.violation_sets.Violations.{Violations}
 use Rattle.abstract_steps_single.specs.SingleNumbers.{IsOne}
 use Rattle.abstract_steps_single.specs.SingleValues.{IsNowhere, IsIntoOne}
-use Rattle.abstract_steps_single_store.proofs.OneBase.{AreObjects, not_empty, writable_is, literal_is, live_is, none_writable, none_literal, none_live, none_freed}
+use Rattle.abstract_steps_single_places.proofs.OneBase.{AreObjects, not_empty, writable_is, literal_is, live_is, none_literal, none_live, none_freed}
 
 -- ---- single numbers
 

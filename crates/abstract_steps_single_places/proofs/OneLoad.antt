@@ -1,7 +1,7 @@
 -- A load through pointers into one base at one offset gets what the cell of the leaf there is.
-use Rattle.std.proofs.Common.{◌≡◌, ℕ, ◌<◌, ◌+◌, Bool, true, false, cond, not, ◌&&◌, ◌||◌, Option, Some, None, List, arith, subst, sym, refl, ap, ◌∙◌, inl, inr}
+use Rattle.std.proofs.Common.{◌≡◌, ℕ, ◌<◌, Bool, true, false, not, ◌&&◌, ◌||◌, Option, Some, None, List, arith, refl, ap, ◌∙◌}
 use Rattle.std.specs.Prelude.{slice_get}
-use Rattle.std.proofs.lemmas.Bool.{cases_Bool, and_parts}
+use Rattle.std.proofs.lemmas.Bool.{and_parts}
 use Rattle.cc_base.specs.Lattices.{LatticeOf}
 use Rattle.cc_base.specs.IntegerDomains.{IntegersOf}
 use Rattle.c_layout.specs.declared.data_model.Model.{Model}
@@ -17,13 +17,13 @@ use Rattle.store_domain.specs.ClassNumbers.{same_class, is_pointer}
 use Rattle.store_domain.specs.RowPositions.{leaf_position, value_at}
 use Rattle.store_domain.specs.AccessWindows.{window_of, window_between}
 use Rattle.store_domain.specs.CellReads.{same_sign, as_read}
-use Rattle.store_domain.specs.LiveBases.{most_bases, only_base, has_base, may_be_live}
-use Rattle.store_domain.specs.Loads.{labels_of, load_leaves, read_leaf, load_class_cell, load_other_leaves, read_other_leaf, load_padding, load_other_bytes, is_text, determinate_if, load_own, load_others, load_character, load_base, read_base, load_bases, loaded, load_within, load}
+use Rattle.store_domain.specs.LiveBases.{most_bases, only_base}
+use Rattle.store_domain.specs.Loads.{labels_of, load_leaves, read_leaf, load_class_cell, load_other_leaves, read_other_leaf, load_padding, load_other_bytes, is_text, load_own, load_others, load_character, load_base, read_base, load_bases, loaded, load}
 use Rattle.store_domain_sound.proofs.Classes.{same_class_is}
 use Rattle.abstract_steps_sound_copied_leaves.specs.StructLeaves.{IsStruct}
-use Rattle.abstract_steps_single_store.proofs.OneTurn.{walk_idle, walk_once}
-use Rattle.abstract_steps_single_store.proofs.OneBase.{has_own, has_no_other}
-use Rattle.abstract_steps_single_store.proofs.OneLeaf.{own_selected, other_unselected, none_other, no_padding}
+use Rattle.abstract_steps_single_places.proofs.OneTurn.{walk_idle, walk_once}
+use Rattle.abstract_steps_single_places.proofs.OneBase.{has_own, has_no_other}
+use Rattle.abstract_steps_single_places.proofs.OneLeaf.{own_selected, other_unselected, none_other, no_padding}
 
 signs_agree : (p s : Bool) → (p || same_sign s s) ≡ true
 signs_agree true s = refl

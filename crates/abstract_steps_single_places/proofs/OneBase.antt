@@ -1,22 +1,22 @@
 -- Sets of one base, and of none, in a program of objects alone.
-use Rattle.std.proofs.Common.{◌≡◌, ℕ, ◌<◌, ◌≤◌, Bool, true, false, cond, not, ◌&&◌, ◌||◌, Some, List, length, arith, subst, sym, refl, ap, ◌∙◌, inl, inr}
+use Rattle.std.proofs.Common.{◌≡◌, ℕ, ◌<◌, Bool, true, false, cond, not, ◌&&◌, ◌||◌, Some, List, arith, refl, ap, ◌∙◌, inl, inr}
 use Rattle.std.specs.Prelude.{slice_get, nat_lt}
-use Rattle.std.proofs.lemmas.Bool.{cases_Bool, cases_eq, and_from, and_parts, lt-ltb, ltb-true, true≢false}
+use Rattle.std.proofs.lemmas.Bool.{cases_Bool, and_from, and_parts, lt-ltb, ltb-true}
 use Rattle.cc_base.specs.Lattices.{LatticeOf}
 use Rattle.cc_base.specs.IntegerDomains.{IntegersOf}
 use Rattle.c_layout.specs.declared.shapes.BaseInfo.{BaseInfo}
 use Rattle.pointer_domain.specs.declared.base_sets.Bases.{Bases}
-use Rattle.pointer_domain.specs.BaseSets.{no_base, bases_has, bases_union, bases_empty}
+use Rattle.pointer_domain.specs.BaseSets.{no_base, bases_has, bases_empty}
 use Rattle.pointer_domain.specs.BaseFacts.{union_within, with_has_same}
 use Rattle.value_domain.specs.declared.row_cells.Cell.{Cell}
 use Rattle.store_domain.specs.RowPositions.{state_at, state_position}
 use Rattle.value_domain_laws.proofs.BaseChanges.{has_none}
 use Rattle.value_domain_laws.proofs.Bases.{empty_within}
 use Rattle.value_domain_laws.proofs.EqualityStands.{has_some}
-use Rattle.store_domain.specs.LiveBases.{most_bases, is_literal_kind, only_base, has_base, with_base_if, is_writable_in, add_writable, writable_of, may_be_live, is_live_in, add_live, live_of, is_freed_or, any_freed}
+use Rattle.store_domain.specs.LiveBases.{most_bases, is_literal_kind, only_base, has_base, with_base_if, add_writable, writable_of, may_be_live, add_live, live_of, is_freed_or, any_freed}
 use Rattle.abstract_steps_checks.specs.Touches.{is_literal_or, any_literal}
 use Rattle.store_domain_sound.proofs.Sets.{only_is}
-use Rattle.abstract_steps_single_store.proofs.OneTurn.{walk_idle, walk_once}
+use Rattle.abstract_steps_single_places.proofs.OneTurn.{walk_idle, walk_once}
 
 abbrev pub AreObjects : List BaseInfo → Type 0
 AreObjects bases = (b : ℕ) (base : BaseInfo) → slice_get bases b ≡ Some base → base.shape.heap ≡ false
