@@ -1,0 +1,2 @@
+pub mod WaysTold
+pub mod PointerTests
