@@ -1,2 +1,3 @@
 pub mod WaysTold
 pub mod PointerTests
+pub mod NullTests
