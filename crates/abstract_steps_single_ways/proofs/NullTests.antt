@@ -84,7 +84,8 @@ head_part y j cs x h = cond_gives (are_parts y 0 (part y j ∷ cs)) y x h
 -- ---- what the value is refined to
 
 module _ {I : Type 0} {l : LatticeOf I} {n : IntegersOf I} {stands : I → ℤ → Type 0} (q : BoundLaws l n stands) where
-  near_of : (x : I) (z : ℤ) → IsOne n (near_number l n x) z → IsNearNumber z
+  -- a number that is one alone in what is near is near itself
+  pub near_of : (x : I) (z : ℤ) → IsOne n (near_number l n x) z → IsNearNumber z
   near_of x z h = elim (cases_Bool (is_near (n.bounds x))) [
     | inl e ↦ (let g : IsOne n x z = rw e at h in by_range (n.bounds x) g e)
     | inr e ↦ (let g : IsOne n (near_part l n x) z = rw e at h in by_bounds (n.bounds (near_part l n x)) g (part_near q x))
