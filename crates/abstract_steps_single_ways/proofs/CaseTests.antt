@@ -106,17 +106,17 @@ module _ {I : Type 0} {l : LatticeOf I} {n : IntegersOf I} {stands : I → ℤ �
         set_relabels flow.model (λ z. no_labels) i (of.Int kind) memory it.0 it.1 (omega (arith, total, same, bytes, class))
 
     module _ (la : Labels) (scalar : side_scalar flow.model memory (object i (of.Int kind)) ≡ Some (integer value la)) where
-      held : IsNumberHeld q flow p naming row r.long (state_of s) r.stands_for st b i (of.Int kind) t en value
+      held : IsNumberHeld q flow p naming row r.long (state_of s) r.stands_for.lives.named st b i (of.Int kind) t en value
       held =
           let has = object_has o q flow p naming s.temps s.bases row r.long memory r.stands_for b i (of.Int kind) t en value la scalar in
           let is : side_value l n flow row (side.Object b (of.Int kind)) ≡ v = ap (λ z. value_of_object l n row (position_of z)) t.is in
-          number_held q flow p naming row r.long (state_of s) r.stands_for st b i (of.Int kind) t en value (subst (λ z. stands z.num value) is has.number)
+          number_held q flow p naming row r.long (state_of s) r.stands_for.lives.named st b i (of.Int kind) t en value (subst (λ z. stands z.num value) is has.number)
 
       one : IsOne n x value
       one = met_one q v.num value held.tells.number
 
       case_tells : TellsState l n flow case_row (record { memory = after; temps = s.temps; entered = s.bases })
-      case_tells = relabelled_tells q flow p naming row r.long (state_of s) r.stands_for st b i (of.Int kind) t en after (λ z. no_labels) relabelling value held x set.no_labels one refl
+      case_tells = relabelled_tells q flow p naming row r.long (state_of s) r.stands_for.lives.named st b i (of.Int kind) t en after (λ z. no_labels) relabelling value held x set.no_labels one refl
 
     case_told : IsDefined (in_world s (pass_case flow.model i kind value s.world)) → IsTold l n flow (refine_case l n flow b value row) no_violations (in_world s (pass_case flow.model i kind value s.world))
     unfolding refine_case refine_value put_case

@@ -26,7 +26,7 @@ use Rattle.lib_models_memory.specs.Scalars.{Scalar, integer, pointer}
 use Rattle.lib_models_effects.specs.Tests.{relabelled}
 use Rattle.store_domain_meaning.specs.Matching.{Matched, number_in}
 use Rattle.store_domain_meaning.specs.Places.{IsPlaceOf}
-use Rattle.store_domain_meaning.specs.RowMeaning.{MachineState, StandsFor}
+use Rattle.store_domain_meaning.specs.RowMeaning.{MachineState}
 use Rattle.store_domain_meaning.specs.SeenLabels.{as_set}
 use Rattle.store_domain_meaning.specs.ValueMeaning.{Naming}
 use Rattle.store_domain_sound.proofs.Only.{cell_put}
@@ -85,7 +85,7 @@ module _ {old new : Memory} {i : ℕ} {g : Labels → Labels} (w : IsRelabelling
 
 -- ---- the object
 
-module _ {I : Type 0} {l : LatticeOf I} {n : IntegersOf I} {stands : I → ℤ → Type 0} (q : BoundLaws l n stands) (flow : Flow) (p : HasPremises flow) (naming : Naming) (row : List (Cell I)) (long : length row ≡ flow.width) (state : MachineState) (s : StandsFor l n stands flow naming row state) (st : TellsState l n flow row state)
+module _ {I : Type 0} {l : LatticeOf I} {n : IntegersOf I} {stands : I → ℤ → Type 0} (q : BoundLaws l n stands) (flow : Flow) (p : HasPremises flow) (naming : Naming) (row : List (Cell I)) (long : length row ≡ flow.width) (state : MachineState) (names : (d j : ℕ) → state.entered d ≡ Some j → naming j ≡ Some d) (st : TellsState l n flow row state)
     (b i : ℕ) (kind : _) (t : IsScalarObject flow b kind) (en : state.entered b ≡ Some i) where
   abbrev place : ℕ
   place = leaf_position t.info 0
@@ -200,5 +200,5 @@ module _ {I : Type 0} {l : LatticeOf I} {n : IntegersOf I} {stands : I → ℤ �
       lives = w.rewrite.alike.lives;
       others = w.rewrite.others;
       outside = outside;
-      apart = λ d j e ne f. ne (same_Some d b (sym (s.lives.named d j e) ∙ (ap naming f ∙ s.lives.named b i en)));
+      apart = λ d j e ne f. ne (same_Some d b (sym (names d j e) ∙ (ap naming f ∙ names b i en)));
     }) own
