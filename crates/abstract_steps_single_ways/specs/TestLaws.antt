@@ -13,10 +13,11 @@ module _ {I : Type 0} (l : LatticeOf I) (n : IntegersOf I) (stands : I → ℤ �
   abbrev pub PointerTestsAreTold : Type 0
   PointerTestsAreTold = (test : Test) → IsPointerTest test → TestIsTold l n stands flow (Some test)
 
-  -- not proved yet: tests that refine an object, and cases
+  -- a test of an object that is one pointer against a null constant
   abbrev pub NullTestsAreTold : Type 0
   NullTestsAreTold = HasPremises flow → (test : Test) → IsNullTest flow test → TestIsTold l n stands flow (Some test)
 
+  -- not proved yet
   abbrev pub IntegerTestsAreTold : Type 0
   IntegerTestsAreTold = HasPremises flow → (test : Test) → IsIntegerTest flow test → TestIsTold l n stands flow (Some test)
 

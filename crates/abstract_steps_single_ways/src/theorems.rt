@@ -4,7 +4,7 @@ ghost use Rattle.cc_base.specs.declared.limit_table.Limits.{Limits};
 ghost use Rattle.flow_program.specs.declared.programs.Flow.{Flow};
 ghost use Rattle.abstract_steps_single.specs.ExactNumbers.{ExactLaws};
 ghost use Rattle.abstract_steps_single_ways.specs.WayLaws.{WaysAreTold};
-ghost use Rattle.abstract_steps_single_ways.specs.TestLaws.{PointerTestsAreTold};
+ghost use Rattle.abstract_steps_single_ways.specs.TestLaws.{PointerTestsAreTold, NullTestsAreTold, CasesAreTold};
 
 use cc_base::IntDomain;
 
@@ -17,4 +17,14 @@ pub fn ways_are_told<I: IntDomain>()
 /// Tests of pointers other than of an object against a null constant.
 pub fn pointer_tests_are_told<I: IntDomain>()
     ensures { (flow : Flow) → PointerTestsAreTold I.lattice I.numbers I.stands flow }
+{}
+
+/// Tests of an object that is one pointer against a null constant.
+pub fn null_tests_are_told<I: IntDomain>()
+    ensures { (flow : Flow) → NullTestsAreTold I.lattice I.numbers I.stands flow }
+{}
+
+/// Cases of a switch on an object that is one integer.
+pub fn cases_are_told<I: IntDomain>()
+    ensures { (flow : Flow) → CasesAreTold I.lattice I.numbers I.stands flow }
 {}
