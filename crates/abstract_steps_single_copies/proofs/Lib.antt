@@ -1,2 +1,3 @@
 pub mod SpelledRows
+pub mod CharacterLeaves
 pub mod ToldSpells

@@ -1,13 +1,11 @@
 -- Texts that are spelled are told.
-use Rattle.std.proofs.Common.{◌≡◌, ℕ, zero, suc, ◌+◌, ◌-◌, ◌^◌, ◌<◌, ◌≤◌, Bool, true, false, cond, not, ◌&&◌, ◌==◌, Option, Some, List, [], ◌∷◌, length, arith, subst, sym, refl, ap, ◌∙◌}
-use Rattle.std.specs.Prelude.{slice_get, ℤ, pos, ◌-ℤ◌, nat_le}
+use Rattle.std.proofs.Common.{◌≡◌, ℕ, zero, suc, ◌+◌, ◌-◌, ◌^◌, ◌<◌, ◌≤◌, Bool, true, false, cond, not, ◌&&◌, ◌==◌, Option, Some, List, length, arith, subst, sym, refl, ap, ◌∙◌}
+use Rattle.std.specs.Prelude.{slice_get, ℤ}
 use Rattle.std.specs.List.{list_all}
-use Rattle.std.proofs.lemmas.Int.{ints}
-use Rattle.std.proofs.lemmas.Bool.{and_parts, and_from, cond_both, leb-true, ltb-true, true≢false, ne_eqb}
+use Rattle.std.proofs.lemmas.Bool.{and_parts, and_from, leb-true, ltb-true, true≢false, ne_eqb}
 use Rattle.std.proofs.lemmas.Option.{same_Some}
 use Rattle.cc_base.specs.Lattices.{LatticeOf}
 use Rattle.cc_base.specs.IntegerDomains.{IntegersOf, BoundLaws}
-use Rattle.c_layout.specs.declared.leaf_lists.Class.{Class}
 use Rattle.c_layout.specs.declared.leaf_lists.Class.TheVariants.{Char}
 use Rattle.c_layout.specs.declared.leaf_lists.Leaf.{Leaf}
 use Rattle.c_layout.specs.declared.shapes.BaseInfo.{BaseInfo}
@@ -22,16 +20,14 @@ use Rattle.store_domain.specs.LeafSelection.{has_place_in, is_selected}
 use Rattle.store_domain.specs.NearValues.{near_value}
 use Rattle.store_domain.specs.ObjectLives.{at_base}
 use Rattle.store_domain.specs.RowPositions.{leaf_position, value_at}
-use Rattle.store_domain.specs.Spelling.{written_count, character, character_number, written_window, is_spelled, one_character, spell_object, spell}
+use Rattle.store_domain.specs.Spelling.{written_count, character, written_window, is_spelled, one_character, spell_object, spell}
 use Rattle.abstract_steps_checks.specs.ViolationSets.{no_violations}
 use Rattle.abstract_steps_instructions.specs.Steps.{operate}
 use Rattle.abstract_steps_instructions.specs.StepViolations.{operation_violations}
 use Rattle.lib_models_memory.specs.Bytes.{number, Byte}
 use Rattle.lib_models_memory.specs.Instances.{Memory, Instance, bytes_of, bytes_at, byte_at, live, life_at}
 use Rattle.lib_models_memory.specs.Labels.{no_labels}
-use Rattle.lib_models_memory.specs.Numbers.{Labelled}
-use Rattle.lib_models_memory.specs.ScalarSizes.{class_bytes, is_pointer}
-use Rattle.lib_models_memory.specs.Scalars.{integer}
+use Rattle.lib_models_memory.specs.ScalarSizes.{class_bytes}
 use Rattle.lib_models_memory.specs.Tags.{tag_of}
 use Rattle.lib_models_effects.specs.ObjectEffects.{spelled}
 use Rattle.lib_models_effects.specs.ScalarBytes.{refilled}
@@ -54,15 +50,13 @@ use Rattle.store_domain_sound.proofs.StoreRows.{Fits}
 use Rattle.store_domain_sound_programs.specs.Premises.{HasPremises}
 use Rattle.store_domain_sound_regions.proofs.ContentRegions.{IsWritten, contents_written}
 use Rattle.abstract_steps_sound.specs.SoundSteps.{IsReached}
-use Rattle.abstract_steps_sound.proofs.NearScalars.{IsNearNumber}
 use Rattle.abstract_steps_sound_copied_leaves.proofs.Structs.{owned_at}
 use Rattle.abstract_steps_sound_objects.proofs.WholeObjects.{some_kind}
 use Rattle.abstract_steps_sound_spelling.specs.SpellSteps.{SpellsBytes}
-use Rattle.abstract_steps_sound_spelling.proofs.Texts.{contents, contents_long, content_is, byte_small, one_number}
+use Rattle.abstract_steps_sound_spelling.proofs.Texts.{contents, contents_long, content_is}
 use Rattle.abstract_steps_sound_spelling.proofs.SpelledZeros.{ends_inside}
 use Rattle.abstract_steps_single.specs.SingleRows.{IsPlainProgram, TellsLeaf, TellsState}
 use Rattle.abstract_steps_single.specs.SingleSteps.{IsDefined, TellsBehind, StepIsTold}
-use Rattle.abstract_steps_single.proofs.NearTells.{near_one}
 use Rattle.abstract_steps_single.proofs.Told.{if_some_told}
 use Rattle.abstract_steps_single.proofs.Violated.{none_violated}
 use Rattle.abstract_steps_single_places.proofs.HeldReads.{inside}
@@ -70,13 +64,8 @@ use Rattle.abstract_steps_single_places.proofs.OneLeaf.{owned, place_is}
 use Rattle.abstract_steps_single_store.specs.TypedAccesses.{HasObjects}
 use Rattle.abstract_steps_single_store.proofs.Moves.{held_moves, holds_moves, change_tells}
 use Rattle.abstract_steps_single_copies.specs.CopyLaws.{IsSpelled}
+use Rattle.abstract_steps_single_copies.proofs.CharacterLeaves.{tag_of_character, character_leaf}
 use Rattle.abstract_steps_single_copies.proofs.SpelledRows.{spelled_within, spelled_value}
-
--- a tag of a byte of a class is that of a character for characters alone
-tag_of_character : (class : Class) (k : ℕ) → tag_of class k ≡ tag_of Char 0 → (class ≡ Char) × (k ≡ 0)
-tag_of_character class k e =
-    let f = same_Some (record { class = class; at = k }) (record { class = Char; at = 0 }) e in
-    (ap (λ z. z.class) f, ap (λ z. z.at) f)
 
 some_of : (k : ℕ) → not (k == 0) ≡ true → 0 < k
 some_of zero h = cc
@@ -178,9 +167,6 @@ module _ {I : Type 0} {l : LatticeOf I} {n : IntegersOf I} {stands : I → ℤ �
       abbrev byte : ℕ
       byte = character text (leaf.offset - offset)
 
-      abbrev one : Labelled
-      one = record { number = byte; labels = no_labels }
-
       tag_there : (x : Byte) → byte_at old i leaf.offset ≡ Some x → 0 < class_bytes flow.model leaf.class → x.tag ≡ tag_of leaf.class 0
       unfolding byte_at
       tag_there x f above = known.tags declared leaf.offset x (sym (ap (λ z. slice_get (bytes_of z) leaf.offset) it.1) ∙ f)
@@ -205,37 +191,8 @@ module _ {I : Type 0} {l : LatticeOf I} {n : IntegersOf I} {stands : I → ℤ �
             fits = (refl, refl);
           }
 
-      own_each : IsIn → (k : ℕ) (m : Labelled) → slice_get (one ∷ []) k ≡ Some m → Matched new i (leaf.offset + k) leaf.class k (number m.number m.labels)
-      own_each w zero m g =
-          let same = same_Some one m g in
-          let place : leaf.offset ≡ leaf.offset + 0 = omega arith in
-          subst (λ z. Matched new i (leaf.offset + 0) leaf.class 0 (number z.number z.labels)) same (subst (λ z. Matched new i z leaf.class 0 (number byte no_labels)) place (own_byte w))
-      own_each w (suc k) m g = cc
-
-      number_near : (signed : Bool) → IsNearNumber (character_number byte signed)
-      number_near signed =
-          let small = byte_small text (leaf.offset - offset) h.bytes in
-          cond_both (signed && nat_le 128 byte) (pos byte -ℤ pos 256) (pos byte) IsNearNumber
-          (λ g. record { from = omega (arith, ints); to = omega (arith, ints, small) })
-          (λ g. record { from = omega (arith, ints); to = omega (arith, ints, small) })
-
       spelled_leaf : IsIn → TellsLeaf l n flow behind (near_value l n (one_character l n leaf offset text)) i leaf.offset leaf
-      unfolding one_character
-      spelled_leaf w = record {
-        held = Some (integer (character_number byte leaf.signed) no_labels);
-        holds = record {
-          integral = ap is_pointer w.class;
-          numbers = one ∷ [];
-          bytes = record { size = sym (ap (class_bytes flow.model) w.class); each = λ k m small g. own_each w k m g };
-          is = one_number leaf.signed byte (one ∷ []) refl (λ y g. sym (ap (λ z. z.number) (same_Some one y g)));
-          same = λ k m g. one_labels k m g;
-        };
-        tells = record { number = near_one q (n.one (character_number byte leaf.signed)) (character_number byte leaf.signed) (number_near leaf.signed) (q.one_bounds (character_number byte leaf.signed)); labels_are = refl; apart = record { bases = refl; null = refl; ended = refl }; determinate = refl };
-      }
-        where
-          one_labels : (k : ℕ) (m : Labelled) → slice_get (one ∷ []) k ≡ Some m → m.labels ≡ no_labels
-          one_labels zero m g = sym (ap (λ z. z.labels) (same_Some one m g))
-          one_labels (suc k) m g = cc
+      spelled_leaf w = character_leaf q flow behind i leaf offset text h.bytes w.class (own_byte w)
 
       unspelled_leaf : is_spelled leaf offset count ≡ false → TellsLeaf l n flow behind (value_at l n row (leaf_position info j)) i leaf.offset leaf
       unspelled_leaf none =
