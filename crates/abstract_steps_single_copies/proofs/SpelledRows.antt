@@ -53,7 +53,6 @@ module _ {I : Type 0} (l : LatticeOf I) (n : IntegersOf I) (flow : Flow) (base :
   spelled_within = layers_within base (spell_leaves l n base offset count text) (λ row. row) (spell_zero base offset (first_zero_of n room text)) leaves_only (only_same _ _) zeros_only
 
   module _ (row : List (Cell I)) (long : base.first + base_values base ≤ length row) (j : ℕ) (leaf : Leaf) (among : slice_get base.shape.cells j ≡ Some leaf) (one : leaf.count ≡ 1) where
-
     turn_is : (r : List (Cell I)) → length r ≡ length row → (before : values.Value I) → value_at l n r (leaf_position base j) ≡ before → (spelled : Bool) → is_spelled leaf offset count ≡ spelled → value_at l n (spell_leaf l n base offset count text leaf j r) (leaf_position base j) ≡ cond spelled (near_value l n (one_character l n leaf offset text)) before
     unfolding spell_leaf_at spell_cell value_at
     turn_is r same before e true f =
@@ -71,5 +70,5 @@ module _ {I : Type 0} (l : LatticeOf I) (n : IntegersOf I) (flow : Flow) (base :
         let rest : List (Cell I) = walk (spell_leaf l n base offset count text) 0 base.shape.cells row in
         same_value l n rest (spell_zero base offset (first_zero_of n room text) rest) (leaf_position base j) (zeros_only.keeps rest (leaf_position base j) (λ g h. omega (arith, g, here, top)))
         ∙ value_turn l n (λ v. v ≡ value_at l n row (leaf_position base j)) (λ v. v ≡ cond spelled (near_value l n (one_character l n leaf offset text)) (value_at l n row (leaf_position base j))) (leaf_position base j) (spell_leaf l n base offset count text leaf j) row rest
-            (leaf_turn base fits (spell_leaf l n base offset count text) leaf_only j leaf among row)
-            (λ r same e. turn_is r same (value_at l n row (leaf_position base j)) e spelled f) refl
+        (leaf_turn base fits (spell_leaf l n base offset count text) leaf_only j leaf among row)
+        (λ r same e. turn_is r same (value_at l n row (leaf_position base j)) e spelled f) refl

@@ -35,10 +35,38 @@ union_violated s t rules a b r h = elim (or_cases (violates s r) (violates t r) 
 
 pub touching_violated : (nullref invptr strmod : Bool) (rules : List Rule) → (nullref ≡ true → Contains rules Nullref) → (invptr ≡ true → Contains rules Invptr) → (strmod ≡ true → Contains rules Strmod) → AreViolated (touching nullref invptr strmod) rules
 touching_violated nullref invptr strmod rules a b c = each_violated (touching nullref invptr strmod) rules (record {
-  accfree = never; chrsgnext = never; dblfree = never; diverr = never; insufmem = never; intoflow = never; invptr = b; libptr = never; nonnullcs = never; nullref = a; ptrobj = never; strmod = c; taintsink = never; uninitref = never; xfree = never;
+  accfree = never;
+  chrsgnext = never;
+  dblfree = never;
+  diverr = never;
+  insufmem = never;
+  intoflow = never;
+  invptr = b;
+  libptr = never;
+  nonnullcs = never;
+  nullref = a;
+  ptrobj = never;
+  strmod = c;
+  taintsink = never;
+  uninitref = never;
+  xfree = never;
 })
 
 pub reading_violated : (uninitref accfree : Bool) (rules : List Rule) → (uninitref ≡ true → Contains rules Uninitref) → (accfree ≡ true → Contains rules Accfree) → AreViolated (record no_violations { uninitref = uninitref; accfree = accfree }) rules
 reading_violated uninitref accfree rules a b = each_violated (record no_violations { uninitref = uninitref; accfree = accfree }) rules (record {
-  accfree = b; chrsgnext = never; dblfree = never; diverr = never; insufmem = never; intoflow = never; invptr = never; libptr = never; nonnullcs = never; nullref = never; ptrobj = never; strmod = never; taintsink = never; uninitref = a; xfree = never;
+  accfree = b;
+  chrsgnext = never;
+  dblfree = never;
+  diverr = never;
+  insufmem = never;
+  intoflow = never;
+  invptr = never;
+  libptr = never;
+  nonnullcs = never;
+  nullref = never;
+  ptrobj = never;
+  strmod = never;
+  taintsink = never;
+  uninitref = a;
+  xfree = never;
 })

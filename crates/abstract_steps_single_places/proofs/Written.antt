@@ -69,7 +69,7 @@ module _ (flow : Flow) (old new : Memory) (i : ℕ) (leaf : Leaf) where
         numbers = ns;
         bytes = record { size = long; each = λ k m small e. w.inside k (number_in m) (labelled_at (class_bytes flow.model leaf.class) (bits_in (class_bytes flow.model leaf.class) z) labels k m e).0 };
         is = sym (converted_back ns (kind_of flow.model leaf.class leaf.signed) z labels (omega (arith, above, same)) (long ∙ sym same)
-        (λ k y e. subst (λ b. slice_get (number_bytes b (bits_in b z) labels) k ≡ Some (number_in y)) (sym same) (labelled_at (class_bytes flow.model leaf.class) (bits_in (class_bytes flow.model leaf.class) z) labels k y e).0));
+            (λ k y e. subst (λ b. slice_get (number_bytes b (bits_in b z) labels) k ≡ Some (number_in y)) (sym same) (labelled_at (class_bytes flow.model leaf.class) (bits_in (class_bytes flow.model leaf.class) z) labels k y e).0));
         same = λ k m e. (labelled_at (class_bytes flow.model leaf.class) (bits_in (class_bytes flow.model leaf.class) z) labels k m e).1;
       }
 

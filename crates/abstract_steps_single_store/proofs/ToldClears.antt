@@ -148,10 +148,13 @@ module _ {I : Type 0} {l : LatticeOf I} {n : IntegersOf I} {stands : I → ℤ �
       holds = record {
         integral = c;
         numbers = zeros (class_bytes flow.model leaf.class);
-        bytes = record { size = zeros_length (class_bytes flow.model leaf.class); each = λ k m small g.
-            let z = zeros_at (class_bytes flow.model leaf.class) k m g in
-            let long = zeros_length (class_bytes flow.model leaf.class) in
-            subst (λ y. Matched zeroed i (leaf.offset + k) leaf.class k (number y.number y.labels)) (sym z) (leaf_bytes q flow p objects plain naming row s r t b i info at entered declared kind (number 0 no_labels) j leaf e k (omega (arith, small, long))) };
+        bytes = record {
+          size = zeros_length (class_bytes flow.model leaf.class);
+          each = λ k m small g.
+              let z = zeros_at (class_bytes flow.model leaf.class) k m g in
+              let long = zeros_length (class_bytes flow.model leaf.class) in
+              subst (λ y. Matched zeroed i (leaf.offset + k) leaf.class k (number y.number y.labels)) (sym z) (leaf_bytes q flow p objects plain naming row s r t b i info at entered declared kind (number 0 no_labels) j leaf e k (omega (arith, small, long)));
+        };
         is = zeros_number leaf.signed (class_bytes flow.model leaf.class);
         same = λ k m g. ap (λ y. y.labels) (zeros_at (class_bytes flow.model leaf.class) k m g);
       };
@@ -167,8 +170,8 @@ module _ {I : Type 0} {l : LatticeOf I} {n : IntegersOf I} {stands : I → ℤ �
           outside = λ x far. outside flow p b info at declared l n row r.long x far;
           apart = λ d j f ne same. ne (same_Some d b (sym (r.stands_for.lives.named d j f) ∙ (ap naming same ∙ r.stands_for.lives.named b i entered)));
         }) (λ j leaf offset e place.
-          subst (λ x. TellsLeaf l n flow (record { memory = zeroed; temps = s.temps; entered = s.bases }) (value_at l n (clear_object l n info row) (leaf_position info j)) i x leaf) (sym (place_is flow.model info.shape.cells info.size (objects b info at) single j offset leaf e place))
-          (subst (λ z. TellsLeaf l n flow (record { memory = zeroed; temps = s.temps; entered = s.bases }) z i leaf.offset leaf) (sym (leaf_zero flow p b info at declared l n row r.long j leaf e)) (cleared_leaf j leaf e (is_pointer leaf.class) refl)))
+        subst (λ x. TellsLeaf l n flow (record { memory = zeroed; temps = s.temps; entered = s.bases }) (value_at l n (clear_object l n info row) (leaf_position info j)) i x leaf) (sym (place_is flow.model info.shape.cells info.size (objects b info at) single j offset leaf e place))
+        (subst (λ z. TellsLeaf l n flow (record { memory = zeroed; temps = s.temps; entered = s.bases }) z i leaf.offset leaf) (sym (leaf_zero flow p b info at declared l n row r.long j leaf e)) (cleared_leaf j leaf e (is_pointer leaf.class) refl)))
 
   clear_told : (b : ℕ) → fits_operation (names_of flow) (op.Clear b) ≡ true → IsDefined (act_step (flow_view flow) (act (op.Clear b)) s) → StepIsTold l n flow row (op.Clear b) s
   unfolding operate clear operation_violations
