@@ -189,7 +189,9 @@ fn value_fits(value: StaticValue, sizes: &[u64]) -> bool
     ensures { result ≡ spec.value_fits sizes.now value }
 {
     match value {
-        StaticValue::Address(base, offset, _, high) => reaches_no_further(sizes, base, offset, high),
+        StaticValue::Address(base, offset, _, high) => reaches_no_further(
+            sizes, base, offset, high,
+        ),
         StaticValue::Number(_, _) => true,
         StaticValue::Null => true,
     }

@@ -183,14 +183,7 @@ fn are_marked_objects(unit: &Checked) -> Result<bool, AllocError>
 // ---- the entry
 
 /// Whether parameters take numbers from the outside, so many of them.
-#[tactic(
-    auto,
-    using(
-        crate::proofs::EnteredParameters::next_entered,
-        crate::proofs::EnteredParameters::none_entered,
-        crate::proofs::EnteredParameters::none_asked
-    )
-)]
+#[tactic(auto, using(crate::proofs::EnteredParameters::next_entered, crate::proofs::EnteredParameters::none_entered, crate::proofs::EnteredParameters::none_asked))]
 fn are_entered(unit: &Checked, locals: &[LocalObject], count: usize) -> bool
     ensures { result ≡ list_all (spec.is_entered (unit_view unit.now)) (take count (map local_view locals.now)) }
 {
