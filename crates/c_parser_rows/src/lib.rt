@@ -1,4 +1,4 @@
-//! Rows of the grammar over units of given tokens, as tests.
+//! Rows of the grammar over units of given tokens, and over whole texts, which are preprocessed first, as tests.
 #![tactic(auto)]
 
 #[cfg(test)]
@@ -11,3 +11,5 @@ mod grouping_rows;
 mod outlines;
 #[cfg(test)]
 mod standard_rows;
+#[cfg(test)]
+mod text_rows;

@@ -1,5 +1,6 @@
 -- The check of a unit (6.9): its external declarations are typed in reading order, each in the state that the one before
--- it leaves; the first part that is refused refuses the unit, and then its entry and its calls may.
+-- it leaves; the first part that is refused refuses the unit, then the first initializer that goes past an array of which
+-- the length became known behind it, and then its entry and its calls may.
 use Rattle.std.specs.Prelude.{ℕ, List, [], ◌∷◌, ◌++◌, Ok, Err}
 use Rattle.c_layout.specs.DeclarationTrees.{ExternalTree, Declared, Defined}
 use Rattle.c_layout.specs.CheckedUnits.{FunctionView, UnitView}
@@ -9,7 +10,7 @@ use Rattle.c_types_scopes.specs.Answers.{after}
 use Rattle.c_types_scopes.specs.States.{State, first_state}
 use Rattle.c_types.specs.Streams.{with_stream}
 use Rattle.c_types.specs.UnitDefinitions.{with_externals}
-use Rattle.c_types_objects.specs.UnitObjects.{with_completed, with_bounded}
+use Rattle.c_types_objects.specs.UnitObjects.{finished_objects}
 use Rattle.c_types.specs.UnitEntries.{judged}
 use Rattle.c_types_file_scope.specs.ExternalDeclarations.{external_declaration}
 use Rattle.c_types.specs.FunctionDefinitions.{function_definition}
@@ -30,7 +31,7 @@ externals s made [] = Ok (made, s)
 externals s made (e ∷ es) = after (external s made e) (λ more t. externals t more es)
 
 abbrev pub finished : List FunctionView → State → Ruled (List FunctionView × State)
-finished made s = Ok (made, with_bounded (with_completed s))
+finished made s = after (finished_objects s) (functions_kept made)
 
 -- the functions of a unit; what it defines is known before it is typed
 abbrev pub typed_unit : State → List ExternalTree → Ruled (List FunctionView × State)

@@ -28,6 +28,7 @@ use Rattle.c_types_declarations.specs.FunctionHeads as heads
 use Rattle.c_types_declarations.specs.FunctionHeads.{HeadView}
 use Rattle.c_types_objects.specs.Changes.{changed_at}
 use Rattle.c_types_objects.specs.LocalObjects.{PartsView, typed_local}
+use Rattle.c_types_objects.specs.UnitObjects.{finished_objects}
 use Rattle.c_types_statement_rules.specs.BodyFlow.{no_flow}
 use Rattle.c_types_statement_rules.specs.Points.{Point, point}
 use Rattle.c_types_statement_rules.specs.StatementNodes.{no_parts}
@@ -324,8 +325,12 @@ externals_room (e ∷ es) s made all = further es (checks.external s made e) (λ
 unit_room : (s : State) (es : List ExternalTree) → AreFunctions (checks.typed_unit s es)
 unit_room s es = of_externals (checks.externals (with_externals es (with_stream s)) [] es) (externals_room es (with_externals es (with_stream s)) [] tt)
   where
+    of_objects : (made : List FunctionView) → All made → (r : Ruled (Unit {0} × State)) → AreFunctions (after r (checks.functions_kept made))
+    of_objects made h (Ok p) = h
+    of_objects made h (Err f) = tt
+
     of_externals : (r : Ruled (List FunctionView × State)) → AreFunctions r → AreFunctions (after r checks.finished)
-    of_externals (Ok p) h = h
+    of_externals (Ok p) h = of_objects p.0 h (finished_objects p.1)
     of_externals (Err f) h = tt
 
 -- ---- entries

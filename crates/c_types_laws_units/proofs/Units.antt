@@ -379,13 +379,17 @@ begins : (m : Model) (es : List ExternalTree) → Keeps (first_state m) (begun m
 begins m es = keeps_twice (first_state m) (with_stream (first_state m)) (begun m es) (stream_keeps (first_state m)) (definitions_keep es (with_stream (first_state m)))
 
 parts_done : (m : Model) (es : List ExternalTree) (r : Ruled (List FunctionView × State)) → Leads Keeps (begun m es) r → IsDone m (after r checks.finished)
-parts_done m es (Ok p) g = λ few n o is.
-    let long = finished_long p.1 in
-    let all = keeps_twice (first_state m) (begun m es) p.1 (begins m es) g in
-    let x = all.1 (omega (arith, few, long)) (first_good m) in
-    let made : Model → List StructView → Known = λ a b. record { numbers = a; structs = b } in
-    let same : p.1.known ≡ made m p.1.types.structs = ap (λ z. made z p.1.known.structs) x.1.extends.numbers ∙ ap (made m) x.0.settled in
-    finished_placed (made m p.1.types.structs) p.1 (λ j v at. subst (λ z. IsPlacedObject z v) same (x.0.placed j v at)) n o is
+parts_done m es (Ok p) g = of_bounds (ends.first_past (ends.object_sizes (ends.with_completed p.1)) (ends.with_bounded (ends.with_completed p.1)).statics)
+  where
+    of_bounds : (past : Option Place) → IsDone m (after (ends.judged_bounds past (ends.with_bounded (ends.with_completed p.1))) (checks.functions_kept p.0))
+    of_bounds (Some at) = tt
+    of_bounds None = λ few n o is.
+        let long = finished_long p.1 in
+        let all = keeps_twice (first_state m) (begun m es) p.1 (begins m es) g in
+        let x = all.1 (omega (arith, few, long)) (first_good m) in
+        let made : Model → List StructView → Known = λ a b. record { numbers = a; structs = b } in
+        let same : p.1.known ≡ made m p.1.types.structs = ap (λ z. made z p.1.known.structs) x.1.extends.numbers ∙ ap (made m) x.0.settled in
+        finished_placed (made m p.1.types.structs) p.1 (λ j v at. subst (λ z. IsPlacedObject z v) same (x.0.placed j v at)) n o is
 parts_done m es (Err f) g = tt
 
 unit_done : (m : Model) (es : List ExternalTree) → IsDone m (checks.typed_unit (first_state m) es)

@@ -1,5 +1,6 @@
 -- What becomes of the objects of static storage at the end of a unit (6.9.2p2).
-use Rattle.std.specs.Prelude.{ℕ, ◌==◌, cond, List, map, slice_get, Option, Some, None}
+use Rattle.std.specs.Prelude.{ℕ, Bool, true, false, ◌&&◌, ◌==◌, cond, nat_le, List, [], ◌∷◌, map, slice_get, Option, Some, None, Ok}
+use Rattle.cc_base.specs.declared.diagnostics.Place.{Place}
 use Rattle.c_layout.specs.Types.{Ty, Int, Pointer, Array, Struct, Void}
 use Rattle.c_layout.specs.CheckedUnits.{StaticView, StaticStoreView, SetValue, SetText}
 use Rattle.c_layout.specs.declared.checked_tree.checked_units.StaticValue.{StaticValue}
@@ -7,6 +8,7 @@ use Rattle.c_layout.specs.declared.checked_tree.checked_units.StaticValue.TheVar
 use Rattle.c_layout.specs.declared.checked_tree.checked_units.StaticBase.{StaticBase}
 use Rattle.c_layout.specs.declared.checked_tree.checked_units.StaticBase.TheVariants as base
 use Rattle.c_types_scopes.specs.Known.{Known, size_of}
+use Rattle.c_types_scopes.specs.Refusals.{Ruled, constant_needed}
 use Rattle.c_types_scopes.specs.States.{State}
 
 -- ---- lengths that are not known
@@ -66,3 +68,39 @@ bounded_object sizes o = record o { stores = map (bounded_store sizes) o.stores 
 
 abbrev pub with_bounded : State → State
 with_bounded s = with_statics s (map (bounded_object (object_sizes s)) s.statics)
+
+-- ---- addresses past their objects
+
+-- whether an address lies in its object, or just behind it, and so do all that it may reach
+abbrev pub reaches_no_further : List ℕ → StaticBase → ℕ → ℕ → Bool
+reaches_no_further sizes (base.Object number) offset high = nat_le offset high && nat_le high (or_0 (slice_get sizes number))
+reaches_no_further sizes (base.Literal number) offset high = true
+
+abbrev pub value_fits : List ℕ → StaticValue → Bool
+value_fits sizes (value.Number n kind) = true
+value_fits sizes value.Null = true
+value_fits sizes (value.Address b offset low high) = reaches_no_further sizes b offset high
+
+abbrev pub store_fits : List ℕ → StaticStoreView → Bool
+store_fits sizes (SetValue offset v) = value_fits sizes v
+store_fits sizes (SetText offset room text) = true
+
+unfoldable pub stores_fit : List ℕ → List StaticStoreView → Bool
+stores_fit sizes [] = true
+stores_fit sizes (s ∷ ss) = cond (store_fits sizes s) (stores_fit sizes ss) false
+
+-- the name of the first object whose initializer goes past an array of which the length became known behind it
+unfoldable pub first_past : List ℕ → List StaticView → Option Place
+first_past sizes [] = None
+first_past sizes (o ∷ os) = cond (stores_fit sizes o.stores) (first_past sizes os) (Some o.at)
+
+abbrev pub judged_bounds : Option Place → State → Ruled (Unit {0} × State)
+judged_bounds None s = Ok (tt, s)
+judged_bounds (Some at) s = constant_needed at
+
+abbrev pub judged_objects : State → State → Ruled (Unit {0} × State)
+judged_objects before s = judged_bounds (first_past (object_sizes before) s.statics) s
+
+-- the objects at the end of a unit
+abbrev pub finished_objects : State → Ruled (Unit {0} × State)
+finished_objects s = judged_objects (with_completed s) (with_bounded (with_completed s))

@@ -2,14 +2,15 @@
 ghost use Rattle.std.specs.Prelude.{◌≡◌, IfOk, map, slice_get};
 ghost use Rattle.c_layout.specs.Types.{view};
 ghost use Rattle.c_layout.specs.CheckedUnits.{static_view, static_store_view};
+ghost use Rattle.c_types_scopes.specs.Answers.{Leads};
 ghost use Rattle.c_types_scopes.specs.Known.{known};
 ghost use Rattle.c_types_scopes.specs.States.{state};
 ghost use Rattle.c_types_objects.specs.Changes.{changed};
 ghost use Rattle.c_types_objects.specs.UnitObjects as spec;
 
 use c_layout::{CType, StaticBase, StaticObject, StaticStore, StaticValue};
-use c_types_scopes::Context;
-use cc_base::Memory;
+use c_types_scopes::{Context, constant_needed};
+use cc_base::{Memory, Place, Stop};
 
 /// The length of an array that has so many elements, or none in the whole unit.
 fn completed_count(count: u64) -> u64
@@ -173,12 +174,86 @@ fn bound_objects(cx: &mut Context, sizes: &[u64])
     }
 }
 
+/// Whether an address lies in its object, or just behind it, and so do all that it may reach.
+fn reaches_no_further(sizes: &[u64], base: StaticBase, offset: u64, high: u64) -> bool
+    ensures { result ≡ spec.reaches_no_further sizes.now base offset high }
+{
+    match base {
+        StaticBase::Object(number) => offset <= high && high <= or_0(size_at(sizes, number)),
+        StaticBase::Literal(_) => true,
+    }
+}
+
+/// Whether a static value is no address past its object.
+fn value_fits(value: StaticValue, sizes: &[u64]) -> bool
+    ensures { result ≡ spec.value_fits sizes.now value }
+{
+    match value {
+        StaticValue::Address(base, offset, _, high) => reaches_no_further(
+            sizes, base, offset, high,
+        ),
+        StaticValue::Number(_, _) => true,
+        StaticValue::Null => true,
+    }
+}
+
+/// Whether a store has no address past its object.
+fn store_fits(store: &StaticStore, sizes: &[u64]) -> bool
+    ensures { result ≡ spec.store_fits sizes.now (static_store_view store.now) }
+{
+    match store {
+        StaticStore::Value(_, value) => value_fits(*value, sizes),
+        StaticStore::Spell(_, _, _) => true,
+    }
+}
+
+/// Whether no store has an address past its object.
+#[tactic(auto, unfolding(crate::specs::UnitObjects::stores_fit))]
+fn stores_fit(stores: &[StaticStore], sizes: &[u64]) -> bool
+    ensures { result ≡ spec.stores_fit sizes.now (map static_store_view stores.now) }
+{
+    for at in 0..stores.len() {
+        if !store_fits(&stores[at], sizes) {
+            return false;
+        }
+    }
+    true
+}
+
+/// Whether no address in an object's initializer goes past its object.
+fn object_fits(object: &StaticObject, sizes: &[u64]) -> bool
+    ensures { result ≡ spec.stores_fit sizes.now (static_view object.now).stores }
+{
+    stores_fit(object.stores.as_slice(), sizes)
+}
+
+/// The name of the first object whose initializer goes past an object.
+#[tactic(auto, unfolding(crate::specs::UnitObjects::first_past))]
+fn first_past(objects: &[StaticObject], sizes: &[u64]) -> Option<Place>
+    ensures { result ≡ spec.first_past sizes.now (map static_view objects.now) }
+{
+    for at in 0..objects.len() {
+        if !object_fits(&objects[at], sizes) {
+            return Some(objects[at].place);
+        }
+    }
+    None
+}
+
 /// Gives each array of unknown length one element, and bounds the addresses in static initializers.
-pub fn finish_objects(cx: &mut Context) -> Result<(), Memory>
-    ensures { IfOk result (λ _. state cx.new ≡ spec.with_bounded (spec.with_completed (state cx.old))) }
+///
+/// # Errors
+///
+/// `ConstantNeeded` at the name of the first object whose initializer goes past an array of which
+/// the length became known behind it (6.6p9, 6.7.9p4); or want of memory.
+pub fn finish_objects(cx: &mut Context) -> Result<(), Stop>
+    ensures { Leads (λ _. tt) (spec.finished_objects (state cx.old)) result (state cx.new) }
 {
     complete_objects(cx);
     let sizes = object_sizes(cx)?;
     bound_objects(cx, sizes.as_slice());
-    Ok(())
+    match first_past(cx.statics.as_slice(), sizes.as_slice()) {
+        Some(place) => Err(constant_needed(place)),
+        None => Ok(()),
+    }
 }

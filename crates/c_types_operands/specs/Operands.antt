@@ -1,5 +1,5 @@
 -- Operands, as contracts see them: what an expression is to the operator above it (6.3.2.1).
-use Rattle.std.specs.Prelude.{ℕ, ℤ, pos, ◌+◌, Bool, true, false, ◌&&◌, ◌||◌, cond, Option, Some, None}
+use Rattle.std.specs.Prelude.{ℕ, ℤ, pos, ◌+◌, ◌==◌, Bool, true, false, ◌&&◌, ◌||◌, cond, Option, Some, None}
 use Rattle.std.specs.Int.{w32, int_min, saturate_unsigned}
 use Rattle.std.specs.Ordering.{int_eq}
 use Rattle.std.specs.Global.{Box}
@@ -101,17 +101,23 @@ parenthesized o = record o { form = wrapped o.form }
 -- what becomes of an lvalue, and the type of its value
 pub data UseView : Type 0 where
   Decays : (ctype : Ty) → UseView
+  Begins : (ctype : Ty) → UseView
   Stays : (ctype : Ty) → UseView
   Loads : (ctype : Ty) → UseView
 
 abbrev pub use_view : LvalueUse → UseView
 use_view (uses.Decay t) = Decays (view t)
+use_view (uses.Begin t) = Begins (view t)
 use_view (uses.Struct t) = Stays (view t)
 use_view (uses.Load t) = Loads (view t)
 
+-- where an array has no length yet, the pointer to its first element reaches as far as the object does in the end
+abbrev pub array_use : ℕ → Ty → UseView
+array_use count t = cond (count == 0) (Begins t) (Decays t)
+
 -- an array becomes a pointer to its first element, a struct stays what it is, a scalar is loaded
 abbrev pub use_of : Ty → UseView
-use_of (Array element count) = Decays (Pointer element)
+use_of (Array element count) = array_use count (Pointer element)
 use_of (Struct i) = Stays (Struct i)
 use_of (Int k) = Loads (Int k)
 use_of (Pointer t) = Loads (Pointer t)
@@ -122,6 +128,7 @@ loaded at t parens l = tree.Typed at t parens None (tree.Load l)
 
 abbrev pub value_by : Place → ℕ → LvalueTree → UseView → TermTree
 value_by at parens l (Decays t) = node at t (tree.Decay l)
+value_by at parens l (Begins t) = node at t (tree.AddressOf l)
 value_by at parens l (Stays t) = node at t (tree.Struct l)
 value_by at parens l (Loads t) = loaded at t parens l
 

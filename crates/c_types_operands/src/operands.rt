@@ -176,8 +176,21 @@ pub fn pointer_to(alloc: Global, target: &CType) -> Result<CType, Memory>
 #[derive(Drop)]
 enum LvalueUse {
     Decay(CType),
+    Begin(CType),
     Struct(CType),
     Load(CType),
+}
+
+/// How an array of so many elements is used as a pointer of a type; where it has no length yet, the
+/// pointer reaches as far as the object does in the end.
+fn array_use(count: u64, ctype: CType) -> LvalueUse
+    ensures { use_view result ≡ spec.array_use count (view ctype) }
+{
+    if count == 0 {
+        LvalueUse::Begin(ctype)
+    } else {
+        LvalueUse::Decay(ctype)
+    }
 }
 
 /// How an lvalue of a type is used.
@@ -185,7 +198,7 @@ fn used(alloc: Global, t: &CType) -> Result<LvalueUse, Memory>
     ensures { IfOk result (λ u. use_view u ≡ spec.use_of (view t.now)) }
 {
     match t {
-        CType::Array(element, _) => Ok(LvalueUse::Decay(pointer_to(alloc, element)?)),
+        CType::Array(element, count) => Ok(array_use(*count, pointer_to(alloc, element)?)),
         CType::Struct(number) => Ok(LvalueUse::Struct(CType::Struct(*number))),
         CType::Int(kind) => Ok(LvalueUse::Load(CType::Int(*kind))),
         CType::Pointer(target) => Ok(LvalueUse::Load(pointer_to(alloc, target)?)),
@@ -202,6 +215,7 @@ pub fn lvalue_value(alloc: Global, lvalue: Box<Lvalue>) -> Result<Box<CheckedTer
     let parens = lvalue.parens;
     match used(alloc, &lvalue.ctype)? {
         LvalueUse::Decay(ctype) => term_node(alloc, place, ctype, TermForm::Decay(lvalue)),
+        LvalueUse::Begin(ctype) => term_node(alloc, place, ctype, TermForm::AddressOf(lvalue)),
         LvalueUse::Struct(ctype) => term_node(alloc, place, ctype, TermForm::Struct(lvalue)),
         LvalueUse::Load(ctype) => loaded(alloc, place, ctype, parens, lvalue),
     }

@@ -2,7 +2,7 @@
 use crate::call::{NONE, Unit, check_all};
 use std::test::Fail;
 
-const ARRAYS: [Unit; 8] = [
+const ARRAYS: [Unit; 11] = [
     (
         "int main(void){int a[10];int i;for(i=0;i<10;i++)a[i]=i;return 0;}",
         0,
@@ -37,6 +37,21 @@ const ARRAYS: [Unit; 8] = [
         "int main(void){int a[4]={0};unsigned i=0;i--;return a[i];}",
         1,
         "a.c:1:54: invptr: pointer is out of bounds\na.c:1:54: taintsink: tainted value reaches a sink\n2 diagnostics in a.c\n",
+    ),
+    (
+        "extern int a[];int main(void){return a[2];}int a[3];",
+        0,
+        NONE,
+    ),
+    (
+        "extern int a[];int main(void){return a[3];}int a[3];",
+        1,
+        "a.c:1:39: invptr: pointer is out of bounds\n1 diagnostics in a.c\n",
+    ),
+    (
+        "int a[];int main(void){return a[1];}",
+        1,
+        "a.c:1:32: invptr: pointer is out of bounds\n1 diagnostics in a.c\n",
     ),
     // A folded leaf of characters whose places are 3 bytes apart, copied over integers: the second
     // integer has the byte of a place that is not its own.

@@ -1,4 +1,4 @@
-//! The worked rows of rules and typing, as tests of the program on units in memory.
+//! The worked rows of rules, typing and `replay`, as tests of the program on units in memory.
 #![tactic(auto)]
 
 #[cfg(test)]
@@ -7,6 +7,10 @@ mod alias_rows;
 mod array_rows;
 #[cfg(test)]
 mod call;
+#[cfg(test)]
+mod replay_call;
+#[cfg(test)]
+mod replay_rows;
 #[cfg(test)]
 mod rule_rows;
 #[cfg(test)]

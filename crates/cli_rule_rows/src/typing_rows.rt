@@ -176,7 +176,7 @@ const POINTERS_AND_INTEGERS: [(&str, &str); 8] = [
     ),
 ];
 
-const CONSTANTS_NEEDED: [(&str, &str); 8] = [
+const CONSTANTS_NEEDED: [(&str, &str); 11] = [
     (
         "int a[0];int main(void){return 0;}",
         "a.c:1:5: refused: ConstantNeeded\n",
@@ -208,6 +208,18 @@ const CONSTANTS_NEEDED: [(&str, &str); 8] = [
     (
         "enum e{A=2147483648};int main(void){return 0;}",
         "a.c:1:8: refused: ConstantNeeded\n",
+    ),
+    (
+        "extern int a[];int *p=&a[5];int a[2];int main(void){return 0;}",
+        "a.c:1:21: refused: ConstantNeeded\n",
+    ),
+    (
+        "int a[];int *p=a;int *q=a+2;int main(void){return 0;}",
+        "a.c:1:23: refused: ConstantNeeded\n",
+    ),
+    (
+        "extern int a[];int f(void){static int *p[2]={0,&a[3]};return 0;}int a[2];",
+        "a.c:1:40: refused: ConstantNeeded\n",
     ),
 ];
 
@@ -268,7 +280,7 @@ const RECURSION: [(&str, &str); 4] = [
     ),
 ];
 
-const ACCEPTED: [&str; 50] = [
+const ACCEPTED: [&str; 51] = [
     "int main(void){int a=1,b=2;return a+++b;}",
     "int x='\\377';int main(void){return 0;}",
     "int x='\\x0000041';int main(void){return 0;}",
@@ -294,6 +306,7 @@ const ACCEPTED: [&str; 50] = [
     "extern int x;int main(void){return sizeof x;}",
     "extern int x;int f(void);int main(void){return x+f();}int f(void){return 1;}int x=1;",
     "extern int a[];int main(void){return a[2];}int a[3];",
+    "extern int a[];int *p=&a[1],*q=a+2;int a[2];int main(void){return *p;}",
     "int x;int x;int x=1;int main(void){return x;}",
     "extern char x;extern signed char x;int main(void){return 0;}",
     "int main(void){int free=1;return free;}",

@@ -20,6 +20,7 @@ fn has_room(depth: u32, more: u32) -> bool
     more <= u32::MAX - depth
 }
 
+/// Whether a type is that of a struct.
 pub fn is_struct(t: &CType) -> bool
     ensures { result ≡ spec.is_struct (view t.now) }
 {
@@ -29,12 +30,14 @@ pub fn is_struct(t: &CType) -> bool
     }
 }
 
+/// Whether a function has a local object of a number; its parameters are the first ones.
 pub fn has_local(function: &Function, local: u32) -> bool
     ensures { result ≡ spec.has_local (function_view function.now) local }
 {
     (local as usize) < function.locals.len()
 }
 
+/// Whether a unit has an object of static storage, or a function a local one.
 fn has_object(unit: &Checked, function: &Function, object: ObjectRef) -> bool
     ensures { result ≡ spec.has_object (unit_view unit.now) (function_view function.now) object }
 {

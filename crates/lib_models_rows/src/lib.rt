@@ -1,6 +1,8 @@
-//! Rows of the built-in headers and of the data models with names, as tests.
+//! Rows of the built-in headers, of the data models with names, and of memory (loads, stores and lifetimes), as tests.
 #![tactic(auto)]
 
+#[cfg(test)]
+mod access_rows;
 #[cfg(test)]
 mod header_texts;
 #[cfg(test)]

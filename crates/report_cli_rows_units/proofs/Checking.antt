@@ -7,6 +7,7 @@ use Rattle.c_layout.specs.Models.{lp64, ilp32}
 use Rattle.c_layout.specs.CheckedUnits.{UnitView}
 use Rattle.cc_base.specs.declared.refusals.Refusal.TheVariants as refusal
 use Rattle.c_types.specs.UnitChecks.{check}
+use Rattle.c_types_objects.specs.UnitObjects.{first_past}
 use Rattle.c_types.specs.UnitDefinitions.{last_storage, with_declarators, with_externals}
 use Rattle.c_types.specs.UnitEntries.{integers_from, entry_from, first_place}
 use Rattle.c_types_cycles.specs.CallCycles.{leads, first_closing}
@@ -19,17 +20,17 @@ use Rattle.report_cli_rows_units.specs.WorkedTrees.{tree_with, checked_unit}
 use Rattle.report_cli_rows_units.specs.WorkedUnits.{IsCheckedTo}
 
 checks : check lp64 (codes "main") (tree_with 0) ≡ Ok checked_unit
-unfolding last_storage with_declarators with_externals integers_from entry_from leads first_closing newest_from each_same stepped each_named utf8_valid_len is_utf8 chars encode
+unfolding last_storage with_declarators with_externals first_past integers_from entry_from leads first_closing newest_from each_same stepped each_named utf8_valid_len is_utf8 chars encode
 checks = refl
 
 -- under another entry there is none
 other_entry : check lp64 (codes "f") (tree_with 0) ≡ refused first_place refusal.NoEntry
-unfolding last_storage with_declarators with_externals integers_from entry_from leads first_closing newest_from each_same stepped each_named utf8_valid_len is_utf8 chars encode
+unfolding last_storage with_declarators with_externals first_past integers_from entry_from leads first_closing newest_from each_same stepped each_named utf8_valid_len is_utf8 chars encode
 other_entry = refl
 
 -- under another model its int is that of the model, and so is the unit
 of_other_model : check ilp32 (codes "main") (tree_with 0) ≡ Ok (record checked_unit { model = ilp32 })
-unfolding last_storage with_declarators with_externals integers_from entry_from leads first_closing newest_from each_same stepped each_named utf8_valid_len is_utf8 chars encode
+unfolding last_storage with_declarators with_externals first_past integers_from entry_from leads first_closing newest_from each_same stepped each_named utf8_valid_len is_utf8 chars encode
 of_other_model = refl
 
 pointer_of : Ruled UnitView → ℕ

@@ -1,5 +1,5 @@
 //! What a replay tells of a run, and how it refuses its draws.
-use crate::call::{answer, with_files};
+use crate::replay_call::{answer, with_files};
 use std::alloc::Global;
 use std::process::Abort;
 use std::test::Fail;
