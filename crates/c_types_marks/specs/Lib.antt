@@ -5,3 +5,4 @@ pub mod UnitParts
 pub mod MadeLaws
 pub mod ProperTrees
 pub mod TypingLaws
+pub mod ProperStatements
