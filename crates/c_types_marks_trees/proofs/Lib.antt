@@ -1,0 +1,4 @@
+pub mod Fronts
+pub mod Expressions
+pub mod Declarations
+pub mod Statements

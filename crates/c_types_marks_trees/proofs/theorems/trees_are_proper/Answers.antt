@@ -1,0 +1,4 @@
+use Rattle.c_types_marks_trees.proofs.theorems.trees_are_proper.Goals as goal
+
+pub returns : goal.returns
+returns c = ?
