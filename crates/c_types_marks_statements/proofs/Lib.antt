@@ -1,0 +1,7 @@
+pub mod ReadySteps
+pub mod Going
+pub mod TypedSubobjects
+pub mod Initializing
+pub mod Declaring
+pub mod Stating
+pub mod Bodies
