@@ -1,0 +1,1 @@
+-- Type names keep what typing knows, and name types of the data model.
