@@ -1,0 +1,3 @@
+pub mod ModelKinds
+pub mod UnusedTerms
+pub mod MadeConversions
