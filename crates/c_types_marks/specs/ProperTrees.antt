@@ -1,12 +1,11 @@
 -- Trees whose constants have types of the data model, with their values, and whose literals are of bytes.
-use Rattle.std.specs.Prelude.{◌≡◌, ℕ, ◌+◌, true, nat_le, List, length}
+use Rattle.std.specs.Prelude.{◌≡◌, ℕ, true, List}
 use Rattle.cc_base.specs.IntegerTypes.{in_type}
 use Rattle.c_layout.specs.SyntaxTrees as syntax
 use Rattle.c_layout.specs.SyntaxTrees.{Tree, Trees}
 use Rattle.c_layout.specs.declared.data_model.Model.{Model}
 use Rattle.c_layout.specs.declared.syntax_tree.expressions.Constant.{Constant}
 use Rattle.c_types_primary.specs.Primaries.{constant_value}
-use Rattle.lib_models_effects.specs.LibraryChecks.{most_size}
 use Rattle.ref_machine_looks_units.specs.LookedStatements.{are_bytes}
 use Rattle.c_types_marks.specs.ModelTypes.{IsKindOf}
 
@@ -14,15 +13,14 @@ pub record IsProperConstant (m : Model) (c : Constant) : Type 0 where
   pub kind : IsKindOf m c.kind
   pub fits : in_type c.kind (constant_value c) ≡ true
 
-pub record IsProperLiteral (m : Model) (bytes : List ℕ) : Type 0 where
-  pub plain : are_bytes bytes ≡ true
-  pub short : nat_le (length bytes + 1) (most_size m) ≡ true
+abbrev pub IsProperLiteral : List ℕ → Type 0
+IsProperLiteral bytes = are_bytes bytes ≡ true
 
 abbrev mutual
   pub IsProperTree : Model → Tree → Type 0
   IsProperTree m (syntax.Name at text) = Unit {0}
   IsProperTree m (syntax.Number at c) = IsProperConstant m c
-  IsProperTree m (syntax.Literal at bytes) = IsProperLiteral m bytes
+  IsProperTree m (syntax.Literal at bytes) = IsProperLiteral bytes
   IsProperTree m (syntax.Paren at e) = IsProperTree m e
   IsProperTree m (syntax.Subscript at a b) = IsProperTree m a × IsProperTree m b
   IsProperTree m (syntax.Call at name es) = AreProperTrees m es
