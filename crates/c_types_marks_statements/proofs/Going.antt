@@ -42,7 +42,7 @@ module _ (m : Model) where
 
   pub then : {U V : Type 0} (s : State) (N : U → Type 0) (P : UnitView → U → Type 0) (M : V → Type 0) (Q : UnitView → V → Type 0) (r : Ruled (U × State)) (next : U → State → Ruled (V × State)) → Goes m s N P r
       → ((x : U) (t : State) → IsReady m t → N x → Goes m t M (λ u y. P u x → Q u y) (next x t)) → Goes m s M Q (after r next)
-  then s N P M Q (Ok p) next h go = on (next p.0 p.1) (go p.0 p.1 h.0 h.1)
+  then {V = V} s N P M Q (Ok p) next h go = on (next p.0 p.1) (go p.0 p.1 h.0 h.1)
     where
       on : (r : Ruled (V × State)) → Goes m p.1 M (λ u y. P u p.0 → Q u y) r → Goes m s M Q r
       on (Ok q) i = (i.0, i.1, λ u part. (let a = i.2 u part in let b = h.2 u a.0 in (b.0, a.1 b.1)))

@@ -118,7 +118,7 @@ IsText None = Unit {0}
 IsText (Some bytes) = are_bytes bytes ≡ true
 
 bare_text : (m : Model) (e : Tree) → IsProperTree m e → IsText (bare_literal e)
-bare_text m (syntax.Literal at bytes) h = h.plain
+bare_text m (syntax.Literal at bytes) h = h
 bare_text m (syntax.Name at text) h = tt
 bare_text m (syntax.Number at c) h = tt
 bare_text m (syntax.Paren at e) h = tt
@@ -296,7 +296,7 @@ module _ (laws : HasLaws) (m : Model) where
     fill_items_read : (items : InitializerTrees) (s : State) (equals : Place) (had : List OpenView) (v : FillingView) → IsReady m s → AreProperInitializers m items → AreTyped m had → Reads s v (lists.fill_items s equals had v items)
     fill_items_read tree.NoInitializer s equals had v h proper opened = (h, opened, λ u part. (part, λ all. all))
     fill_items_read (tree.MoreInitializers i list) s equals had v h proper opened =
-        further s v (lists.fill_item s equals had v i) (λ p t. lists.fill_items t equals p.0 p.1 list) (fill_item_reads i s equals had v h proper.0 opened) (λ p t ready open. fill_items_read list t equals p.0 p.1 ready proper.1 open)
+        further s v (lists.fill_item s equals had v i) (λ p t. lists.fill_items t equals p.0 p.1 list) (fill_item_reads i s equals had v h proper.0 opened) (λ p t ready more. fill_items_read list t equals p.0 p.1 ready proper.1 more)
 
   fill_counts : (s : State) (equals : Place) (sub : SubobjectView) (v : FillingView) (list : InitializerTrees) → IsReady m s → AreProperInitializers m list → IsTypeOf m sub.ctype → Counts s v (lists.fill s equals sub v list)
   fill_counts s equals sub v list h proper t =

@@ -1,7 +1,5 @@
-pub mod ReadySteps
 pub mod Going
+pub mod ReadySteps
 pub mod TypedSubobjects
 pub mod Initializing
-pub mod Declaring
-pub mod Stating
 pub mod Bodies
