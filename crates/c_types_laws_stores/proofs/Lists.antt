@@ -32,7 +32,7 @@ placed_with P (y ∷ xs) x all one = (all.0, placed_with P xs x all.1 one)
 
 one_placed : (P Q : SubobjectView → Type 0) → ((s : SubobjectView) → P s → Q s) → (x : StoreTree) → IsPlaced P x → IsPlaced Q x
 one_placed P Q f (StoreValue offset e) h = (h.0, f h.0 h.1, h.2, h.3, h.4)
-one_placed P Q f (StoreCopy offset l) h = tt
+one_placed P Q f (StoreCopy offset l) h = (h.0, f h.0 h.1, h.2)
 one_placed P Q f (StoreText offset room text) h = (h.0, f h.0 h.1, h.2, h.3)
 
 pub all_placed : (P Q : SubobjectView → Type 0) → ((s : SubobjectView) → P s → Q s) → (xs : List StoreTree) → ArePlaced P xs → ArePlaced Q xs
@@ -43,14 +43,14 @@ pub scalar_placed : (P : SubobjectView → Type 0) (v : FillingView) (s : Subobj
 scalar_placed P v s (Ok e) part h all = placed_with P v.stores (StoreValue s.offset e) all (s, part, refl, h.0, h.1)
 scalar_placed P v s (Err f) part h all = all
 
-copy_placed : (P : SubobjectView → Type 0) (v : FillingView) (at : Place) (offset : ℕ) (l : Option LvalueTree) → ArePlaced P v.stores → ArePlaced P (copy_of v at offset l).stores
-copy_placed P v at offset None all = all
-copy_placed P v at offset (Some l) all = placed_with P v.stores (StoreCopy offset l) all tt
+copy_placed : (P : SubobjectView → Type 0) (v : FillingView) (at : Place) (s : SubobjectView) (l : Option LvalueTree) → P s → ArePlaced P v.stores → ArePlaced P (copy_of v at s.offset l).stores
+copy_placed P v at s None part all = all
+copy_placed P v at s (Some l) part all = placed_with P v.stores (StoreCopy s.offset l) all (s, part, refl)
 
 value_placed : (P : SubobjectView → Type 0) (k : Known) (at : Place) (s : SubobjectView) (o : OperandView) (v : FillingView) (b : Bool) → P s → ArePlaced P v.stores
     → ArePlaced P (cond b (scalar_of v s.offset (assigned k at (term_of o) s.ctype)) (copy_of v at s.offset (struct_source o s.ctype))).stores
 value_placed P k at s o v true part all = scalar_placed P v s (assigned k at (term_of o) s.ctype) part (assigned_typed k at (term_of o) s.ctype) all
-value_placed P k at s o v false part all = copy_placed P v at s.offset (struct_source o s.ctype) all
+value_placed P k at s o v false part all = copy_placed P v at s (struct_source o s.ctype) part all
 
 pub found_placed : (P : SubobjectView → Type 0) (k : Known) (at : Place) (o : OperandView) (v : FillingView) (found : Option SubobjectView) → ((s : SubobjectView) → found ≡ Some s → P s) → ArePlaced P v.stores → ArePlaced P (with_found k at o v found).stores
 found_placed P k at o v None part all = all

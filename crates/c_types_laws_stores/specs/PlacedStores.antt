@@ -31,7 +31,7 @@ pub record IsPart (k : Known) (t : Ty) (s : SubobjectView) : Type 0 where
 
 abbrev pub IsPlaced : (SubobjectView → Type 0) → StoreTree → Type 0
 IsPlaced P (StoreValue offset e) = (s : SubobjectView) × P s × (s.offset ≡ offset) × (is_scalar s.ctype ≡ true) × (term_type e ≡ s.ctype)
-IsPlaced P (StoreCopy offset l) = Unit {0}
+IsPlaced P (StoreCopy offset l) = (s : SubobjectView) × P s × (s.offset ≡ offset)
 IsPlaced P (StoreText offset room text) = (s : SubobjectView) × P s × (s.offset ≡ offset) × (character_room s.ctype ≡ Some room)
 
 abbrev pub ArePlaced : (SubobjectView → Type 0) → List StoreTree → Type 0

@@ -7,8 +7,9 @@ use Rattle.c_layout.specs.CheckedTrees as tree
 use Rattle.c_layout.specs.CheckedTrees.{TermTree, FormTree, LvalueTree}
 use Rattle.c_layout.specs.CheckedUnits.{UnitView}
 use Rattle.c_layout.specs.declared.checked_tree.checked_terms.ConversionKind.TheVariants as kind
-use Rattle.c_types_operands.specs.Operands.{OperandForm, AsValue, AsLvalue, OperandView, term_type, term_constant, lvalue_type, is_scalar, is_void, is_null_form}
+use Rattle.c_types_operands.specs.Operands.{OperandForm, AsValue, AsLvalue, OperandView, term_type, term_constant, lvalue_type, is_scalar, is_void}
 use Rattle.c_types_scopes.specs.Refusals.{Ruled}
+use Rattle.flow_lower_tasks.specs.TermKinds.{is_zero_cast, converted, term_form}
 use Rattle.ref_machine_looks.specs.LookedTerms as look
 use Rattle.ref_machine_looks.specs.LookedTerms.{exact, is_marked_term, is_marked_place, has_tests}
 use Rattle.c_types_marks.specs.ModelTypes.{IsTypeOf}
@@ -33,7 +34,7 @@ pub record IsMade (u : UnitView) (e : TermTree) : Type 0 where
   pub typed : IsTypeOf u.model (term_type e)
   pub bare : is_implicit e ≡ false
   pub constant : (n : ℤ) → term_constant e ≡ Some n → IsExactly u e n
-  pub null : is_null_form e ≡ true → look.is_null u.model e ≡ true
+  pub null : is_zero_cast (term_type e) (converted (term_form e)) ≡ true → look.is_null u.model e ≡ true
   pub tests : is_scalar (term_type e) ≡ true → (is_test : Bool) → has_tests u is_test e ≡ true
 
 pub record IsMadePlace (u : UnitView) (l : LvalueTree) : Type 0 where

@@ -1,0 +1,4 @@
+pub mod Expressing
+pub mod Declaring
+pub mod Specifying
+pub mod NearStores

@@ -1,0 +1,5 @@
+pub mod ModelKinds
+pub mod UnusedTerms
+pub mod MadeConversions
+pub mod MadeNodes
+pub mod MadeValues

@@ -1,0 +1,2 @@
+//! The rules of typing make marked terms of marked terms.
+#![tactic(auto)]
