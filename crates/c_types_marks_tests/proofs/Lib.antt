@@ -1,5 +1,6 @@
 pub mod ModelKinds
 pub mod Rewrapped
+mod SameBits
 pub mod FoldedNumbers
 pub mod MadeNumbers
 pub mod MadeTests
