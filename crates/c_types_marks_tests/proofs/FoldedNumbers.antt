@@ -1,13 +1,13 @@
 -- What typing folds is what operators give.
 use Rattle.std.proofs.Common.{◌≡◌, ◌⊎◌, inl, inr, ℕ, suc, ◌+◌, ◌-◌, ◌*◌, ◌/◌, ◌%◌, ◌^◌, ◌<◌, ◌≤◌, ◌==◌, Bool, true, false, ◌&&◌, cond, nat_lt, Option, Some, None, option_map, is_some, arith, refl, ap, sym, subst, subst₂, ◌∙◌}
 use Rattle.std.specs.Prelude.{ℤ, pos, negsuc, ◌+ℤ◌, ◌-ℤ◌, ◌*ℤ◌, neg_ℤ, ◌≤ℤ◌, ◌<ℤ◌, unsigned_abs, int_le, int_lt, int_div, int_rem, bit_and, bit_or, bit_xor}
-use Rattle.std.specs.Int.{w64, bit_not, int_rem_euclid, int_bit_and, int_bit_or, int_bit_xor, int_bit_not, int_shr}
+use Rattle.std.specs.Int.{w64, cast_signed, bit_not, int_rem_euclid, int_bit_and, int_bit_or, int_bit_xor, int_bit_not, int_shr}
 use Rattle.std.specs.Option.{option_and_then}
 use Rattle.std.specs.Ordering.{int_eq}
 use Rattle.std.proofs.lemmas.Int.{ints}
 use Rattle.std.proofs.lemmas.Nat.{pow_pos, and_mod, or_mod, xor_mod}
 use Rattle.std.proofs.Math.Nat.{div-le_self, mod-le}
-use Rattle.std.proofs.lemmas.Bool.{cases_Bool, ltb-true, ltb-false, and_parts, and_from, cond-true, cond-false}
+use Rattle.std.proofs.lemmas.Bool.{cases_Bool, ltb-true, ltb-false, eq-eqb, and_parts, and_from, cond-true, cond-false}
 use Rattle.cc_base.specs.IntegerTypes.{is_size, modulus, least_of, greatest_of, in_type, wrap_into}
 use Rattle.cc_base.specs.MachineArithmetic.{result_of, is_count, is_quotient_overflow, binary_result, unary_result}
 use Rattle.cc_base.specs.declared.int_types.IntType.{IntType}
@@ -56,12 +56,23 @@ mapped f (Some x) n e = (x, refl, some_is (f x) n e)
 apart : (b : ℤ) → int_eq b (pos 0) ≡ false → b ≡ pos 0 → ⊥
 apart b h e = never (sym h ∙ ap (λ x. int_eq x (pos 0)) e)
 
+divisor_there : (b : ℕ) (t : Bool) → int_eq (pos b) (pos 0) ≡ t → (b == 0) ≡ false → t ≡ false
+divisor_there b true is h = never (sym h ∙ eq-eqb b 0 (ap unsigned_abs (number_is (pos b) (pos 0) is)))
+divisor_there b false is h = refl
+
 in_64_is : (x n : ℤ) → in_64 x ≡ Some n → x ≡ n
 in_64_is x n e = if_true (int_le (negsuc (2 ^ 63 - 1)) x && int_lt x (pos (2 ^ 63))) (Some x) n (λ h s. some_is x n s) e
 
+-- the bits of a number, all turned
+turned_high : (n m : ℕ) → n + suc m ≡ 2 ^ 64 → m < 2 ^ 63 → cast_signed w64 n ≡ (negsuc 0 -ℤ pos m)
+turned_high n m e h = omega (arith, ints, e, h)
+
+turned_low : (n m : ℕ) → n ≡ m → m < 2 ^ 63 → cast_signed w64 n ≡ (negsuc 0 -ℤ negsuc m)
+turned_low n m e h = omega (arith, ints, e, h)
+
 not_64 : (a : ℤ) → negsuc (2 ^ 63 - 1) ≤ℤ a → a <ℤ pos (2 ^ 63) → int_bit_not w64 a ≡ (negsuc 0 -ℤ a)
-not_64 (pos m) p q = omega (arith, ints, q)
-not_64 (negsuc m) p q = omega (arith, ints, p)
+not_64 (pos m) p q = let h : m < 2 ^ 63 = omega (arith, ints, q) in turned_high (2 ^ 64 - 1 - m) m (omega (arith, h)) h
+not_64 (negsuc m) p q = let h : m < 2 ^ 63 = omega (arith, ints, p) in turned_low (2 ^ 64 - 1 - (2 ^ 64 - suc m)) m (omega (arith, h)) h
 
 -- ---- conversion
 
@@ -227,7 +238,7 @@ module _ (k : IntType) (size : is_size k.bytes ≡ true) where
     natural P f (negsuc m) i = let lo = (of_type k (negsuc m) i).0 in absurd (omega (arith, ints, lo, least_zero))
 
     unsigned_same : (m : ℕ) → m < 2 ^ 64 → unsigned_64 (pos m) ≡ m
-    unsigned_same m h = cond-true (int_le (pos 0) (pos m) && int_lt (pos m) (pos (2 ^ 64))) m 0 (and_from (int_le (pos 0) (pos m)) (int_lt (pos m) (pos (2 ^ 64))) (true_le _ _ (omega (arith, ints))) (true_lt _ _ (omega (arith, ints, h))))
+    unsigned_same m h = cond-true (int_le (pos 0) (pos m) && int_lt (pos m) (pos (2 ^ 64))) m 0 (and_from (int_le (pos 0) (pos m)) (int_lt (pos m) (pos (2 ^ 64))) (true_le (pos 0) (pos m) (omega (arith, ints))) (true_lt (pos m) (pos (2 ^ 64)) (omega (arith, ints, h))))
 
     -- a natural number that is not above one of the type
     own : (m a : ℕ) (n : ℤ) → m ≤ a → in_type k (pos a) ≡ true → converted k (pos m) ≡ n → (in_type k (pos m) ≡ true) × (pos m ≡ n)
@@ -236,16 +247,13 @@ module _ (k : IntType) (size : is_size k.bytes ≡ true) where
         (j, sym (wrapped_own k (pos m) size j) ∙ (sym (converts (pos m)) ∙ h))
 
     module _ (a b : ℕ) (n : ℤ) (i : in_type k (pos a) ≡ true) (small : b < 2 ^ 64) where
-      some_divisor : (b == 0) ≡ false → int_eq (pos b) (pos 0) ≡ false
-      some_divisor h = h
-
       unsigned_divided : unsigned_folded op.Divide k a b ≡ Some n → binary_result Div k (pos a) (pos b) ≡ Some n
       unsigned_divided h =
           let x = mapped (λ m. converted k (pos m)) (unsigned_result op.Divide a b) n h in
           let y = unless (b == 0) (Some (a / b)) x.0 x.1 in
           let q : a / b ≡ x.0 = some_is (a / b) x.0 y.1 in
           let c = own (a / b) a n (div-le_self a b) i (ap (λ m. converted k (pos m)) q ∙ x.2) in
-          quotient_comes k (pos a) (pos b) (apart (pos b) (some_divisor y.0)) c.0 ∙ ap Some c.1
+          quotient_comes k (pos a) (pos b) (apart (pos b) (divisor_there b (int_eq (pos b) (pos 0)) refl y.0)) c.0 ∙ ap Some c.1
 
       unsigned_remains : unsigned_folded op.Remainder k a b ≡ Some n → binary_result Rem k (pos a) (pos b) ≡ Some n
       unsigned_remains h =
@@ -254,7 +262,7 @@ module _ (k : IntType) (size : is_size k.bytes ≡ true) where
           let q : a % b ≡ x.0 = some_is (a % b) x.0 y.1 in
           let c = own (a % b) a n (mod-le a b) i (ap (λ m. converted k (pos m)) q ∙ x.2) in
           let o : is_quotient_overflow k (pos a) (pos b) ≡ false = rw e refl in
-          cond-false (int_eq (pos b) (pos 0)) None (cond (is_quotient_overflow k (pos a) (pos b)) None (Some (int_rem (pos a) (pos b)))) (some_divisor y.0) ∙ (cond-false (is_quotient_overflow k (pos a) (pos b)) None (Some (int_rem (pos a) (pos b))) o ∙ ap Some c.1)
+          cond-false (int_eq (pos b) (pos 0)) None (cond (is_quotient_overflow k (pos a) (pos b)) None (Some (int_rem (pos a) (pos b)))) (divisor_there b (int_eq (pos b) (pos 0)) refl y.0) ∙ (cond-false (is_quotient_overflow k (pos a) (pos b)) None (Some (int_rem (pos a) (pos b))) o ∙ ap Some c.1)
 
       -- the bits of a result
       takes_bits : (m bits : ℕ) → m % 2 ^ (8 * k.bytes) ≡ bits → Some (converted k (pos m)) ≡ Some n → Some (wrap_into k (pos bits)) ≡ Some n
