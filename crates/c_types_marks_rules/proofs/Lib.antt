@@ -3,3 +3,5 @@ pub mod UnusedTerms
 pub mod MadeConversions
 pub mod MadeNodes
 pub mod MadeValues
+pub mod GroundKinds
+pub mod MadeArithmetic
