@@ -1,8 +1,9 @@
 -- The numbers that terms record are those that they are.
-use Rattle.std.proofs.Common.{◌≡◌, ℕ, ℤ, pos, Bool, true, cond, Option, Some, None}
+use Rattle.std.proofs.Common.{◌≡◌, ℕ, ℤ, pos, Bool, true, false, cond, Option, Some, None}
 use Rattle.cc_base.specs.IntegerTypes.{wrap_into}
 use Rattle.cc_base.specs.declared.diagnostics.Place.{Place}
 use Rattle.cc_base.specs.declared.int_types.IntType.{IntType}
+use Rattle.cc_base.specs.declared.integer_operators.IntOp.TheVariants.{Shl, Shr}
 use Rattle.c_layout.specs.Types.{Ty, Int}
 use Rattle.c_layout.specs.CheckedTrees as tree
 use Rattle.c_layout.specs.CheckedTrees.{TermTree, Typed}
@@ -38,14 +39,22 @@ is_relation_meant (meant.Number sign) = false
 abbrev pub is_relation : BinaryOp → Bool
 is_relation op = is_relation_meant (meaning op)
 
+abbrev pub is_shift_meant : OperatorMeaning → Bool
+is_shift_meant (meant.Number Shl) = true
+is_shift_meant (meant.Number Shr) = true
+is_shift_meant how = false
+
+abbrev pub is_shift : BinaryOp → Bool
+is_shift op = is_shift_meant (meaning op)
+
 -- ---- terms; `c` is what a term records
 
 module _ (u : UnitView) (k : Known) (ground : IsGround u k) (at : Place) (c : Option ℤ) (n : ℤ) where
   pub operator_number : (op : BinaryOp) (is_int : Bool) (kind : IntType) (left right : TermTree) → is_relation op ≡ is_int → IsKindOf u.model kind → IsMade u left → IsMade u right → folded_constant op kind (term_constant left) (term_constant right) ≡ Some n → IsExactly u (Typed at (Int (result_kind k is_int kind)) 0 c (tree.Integer op (integer_as k left kind) (integer_as k right kind))) n
   operator_number op is_int kind left right relates h x y e = ?
 
-  pub shift_number : (op : BinaryOp) (a b : IntType) (left right : TermTree) → is_relation op ≡ false → term_type left ≡ Int a → term_type right ≡ Int b → IsMade u left → IsMade u right → shifted_constant op (promoted k.numbers a) (term_constant left) (term_constant right) ≡ Some n → IsExactly u (Typed at (Int (promoted k.numbers a)) 0 c (tree.Integer op (integer_as k left (promoted k.numbers a)) (integer_as k right (promoted k.numbers b)))) n
-  shift_number op a b left right relates s t x y e = ?
+  pub shift_number : (op : BinaryOp) (a b : IntType) (left right : TermTree) → is_shift op ≡ true → term_type left ≡ Int a → term_type right ≡ Int b → IsMade u left → IsMade u right → shifted_constant op (promoted k.numbers a) (term_constant left) (term_constant right) ≡ Some n → IsExactly u (Typed at (Int (promoted k.numbers a)) 0 c (tree.Integer op (integer_as k left (promoted k.numbers a)) (integer_as k right (promoted k.numbers b)))) n
+  shift_number op a b left right shifts s t x y e = ?
 
   -- `+`, `-` or `~`
   pub turned_number : (op : UnaryOp) (a : IntType) (e : TermTree) → term_type e ≡ Int a → IsMade u e → turned_value op (promoted k.numbers a) (term_constant e) ≡ Some n → IsExactly u (with_constant c (turned at op (promoted k.numbers a) (integer_as k e (promoted k.numbers a)))) n

@@ -3,8 +3,10 @@ use Rattle.std.specs.Prelude.{◌≡◌, ℤ, true, Some}
 use Rattle.cc_base.specs.IntegerTypes.{is_size, in_type, wrap_into}
 use Rattle.cc_base.specs.MachineArithmetic.{binary_result, unary_result}
 use Rattle.cc_base.specs.declared.int_types.IntType.{IntType}
+use Rattle.cc_base.specs.declared.integer_operators.IntOp.TheVariants.{Shl, Shr}
 use Rattle.cc_base.specs.declared.integer_operators.UnOp.TheVariants.{Neg, Compl}
 use Rattle.c_layout.specs.declared.syntax_tree.expressions.BinaryOp.{BinaryOp}
+use Rattle.c_layout.specs.declared.syntax_tree.expressions.BinaryOp.TheVariants as op
 use Rattle.c_types_rules.specs.ConstantFolding.{converted, folded, shifted, negated, complemented}
 use Rattle.flow_lower_tasks.specs.TermKinds.{meaning}
 use Rattle.ref_machine_looks.specs.LookedTerms.{result}
@@ -12,8 +14,9 @@ use Rattle.ref_machine_looks.specs.LookedTerms.{result}
 -- of a type with a size that types have
 pub record FoldsAsComputedIn (kind : IntType) : Type 0 where
   pub converts : (n : ℤ) → converted kind n ≡ wrap_into kind n
-  pub operates : (op : BinaryOp) (a b n : ℤ) → folded op kind a b ≡ Some n → result (meaning op) kind (wrap_into kind a) (wrap_into kind b) ≡ Some n
-  pub shifts : (op : BinaryOp) (a b n : ℤ) → in_type kind a ≡ true → shifted op kind a b ≡ Some n → result (meaning op) kind a b ≡ Some n
+  pub operates : (sign : BinaryOp) (a b n : ℤ) → folded sign kind a b ≡ Some n → result (meaning sign) kind (wrap_into kind a) (wrap_into kind b) ≡ Some n
+  pub shifts_left : (a b n : ℤ) → in_type kind a ≡ true → shifted op.ShiftLeft kind a b ≡ Some n → binary_result Shl kind a b ≡ Some n
+  pub shifts_right : (a b n : ℤ) → in_type kind a ≡ true → shifted op.ShiftRight kind a b ≡ Some n → binary_result Shr kind a b ≡ Some n
   pub negates : (a n : ℤ) → in_type kind a ≡ true → negated kind a ≡ Some n → unary_result Neg kind a ≡ Some n
   pub complements : (a : ℤ) → in_type kind a ≡ true → unary_result Compl kind a ≡ Some (complemented kind a)
 
