@@ -14,7 +14,7 @@ use Rattle.c_types_operands.specs.Operands.{term_type, is_scalar}
 use Rattle.c_types_operands.specs.Arithmetic.{int_kind, integer_kinds}
 use Rattle.c_types_operands.specs.declared.arithmetic.KindPair.{KindPair}
 use Rattle.lib_models_effects.specs.LibraryChecks.{most_size}
-use Rattle.ref_machine_looks.specs.LookedTypes.{is_kind, has_truths, is_address, subtracts}
+use Rattle.ref_machine_looks.specs.LookedTypes.{is_kind, has_truths, is_address, is_integer, subtracts}
 use Rattle.ref_machine_looks.proofs.Truths.{no_some, some_is}
 use Rattle.c_types_marks.specs.ModelTypes.{IsKindOf, IsTypeOf, IsGround}
 use Rattle.c_types_marks.specs.MadeTerms.{IsMade}
@@ -33,6 +33,9 @@ pointer_scalar e t typed = subst (λ s. is_scalar s ≡ true) (sym typed) refl
 
 pub pointer_address : (e : TermTree) (t : Ty) → term_type e ≡ Pointer t → is_address (term_type e) ≡ true
 pointer_address e t typed = subst (λ s. is_address s ≡ true) (sym typed) refl
+
+pub number_integer : (e : TermTree) (kind : IntType) → term_type e ≡ Int kind → is_integer (term_type e) ≡ true
+number_integer e kind typed = subst (λ t. is_integer t ≡ true) (sym typed) refl
 
 module _ (u : UnitView) (k : Known) (ground : IsGround u k) where
   pub numbers : ModelNumbers u.model

@@ -5,3 +5,4 @@ pub mod MadeNodes
 pub mod MadeValues
 pub mod GroundKinds
 pub mod MadeArithmetic
+pub mod MadeSums

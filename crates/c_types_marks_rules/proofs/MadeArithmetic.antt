@@ -24,7 +24,7 @@ use Rattle.ref_machine_looks.specs.LookedTerms.{is_marked_term}
 use Rattle.ref_machine_looks.proofs.Truths.{never}
 use Rattle.c_types_marks.specs.ModelTypes.{IsKindOf, IsGround}
 use Rattle.c_types_marks.specs.MadeTerms.{IsMade, IsGiven, IsMadeOperand, Makes}
-use Rattle.c_types_marks_tests.proofs.MadeNumbers.{if_fixed, is_relation_meant, is_relation, operator_number, shift_number}
+use Rattle.c_types_marks_tests.proofs.MadeNumbers.{if_fixed, is_relation_meant, is_relation, is_shift_meant, is_shift, operator_number, shift_number}
 use Rattle.c_types_marks_tests.proofs.MadeTests.{is_number_meant, no_tests, integer_tests}
 use Rattle.c_types_marks_rules.proofs.ModelKinds.{kind_same}
 use Rattle.c_types_marks_rules.proofs.GroundKinds.{kinds_are, numbers, number_known, kind_there, promoted_there, common_there, int_there, int_truths}
@@ -36,11 +36,9 @@ counts_self Shl kind = refl
 counts_self Shr kind = refl
 counts_self sign kind = kind_same kind
 
--- an operator whose right operand may have any type
-pub record IsShift (op : BinaryOp) : Type 0 where
-  pub sign : IntOp
-  pub means : meaning op ≡ meant.Number sign
-  pub counts : (kind count : IntType) → counts_as sign kind count ≡ true
+shift_no_test : (how : OperatorMeaning) → is_shift_meant how ≡ true → is_number_meant how ≡ true
+shift_no_test (meant.Number sign) h = refl
+shift_no_test (meant.Truth rel) h = never h
 
 module _ (u : UnitView) (k : Known) (ground : IsGround u k) where
   combined : (how : OperatorMeaning) (is_int : Bool) (kind : IntType) → is_relation_meant how ≡ is_int → IsKindOf u.model kind → combines u how (Int kind) (Int kind) (Int (result_kind k is_int kind)) ≡ true
@@ -49,10 +47,13 @@ module _ (u : UnitView) (k : Known) (ground : IsGround u k) where
   combined (meant.Truth rel) true kind is known = int_truths u k ground
   combined (meant.Truth rel) false kind is known = never (sym is)
 
-  shifted : (op : BinaryOp) (a b : IntType) → IsShift op → IsKindOf u.model a → combines u (meaning op) (Int a) (Int b) (Int a) ≡ true
-  shifted op a b shift known =
-      subst (λ how. combines u how (Int a) (Int b) (Int a) ≡ true) (sym shift.means)
-          (and_from (is_kind u.model a) (same_kind a a && counts_as shift.sign a b) (kind_there u k ground a known) (and_from (same_kind a a) (counts_as shift.sign a b) (kind_same a) (shift.counts a b)))
+  counted : (sign : IntOp) (a b : IntType) → counts_as sign a b ≡ true → IsKindOf u.model a → combines u (meant.Number sign) (Int a) (Int b) (Int a) ≡ true
+  counted sign a b counts known = and_from (is_kind u.model a) (same_kind a a && counts_as sign a b) (kind_there u k ground a known) (and_from (same_kind a a) (counts_as sign a b) (kind_same a) counts)
+
+  shifted : (how : OperatorMeaning) (a b : IntType) → is_shift_meant how ≡ true → IsKindOf u.model a → combines u how (Int a) (Int b) (Int a) ≡ true
+  shifted (meant.Number Shl) a b shift known = counted Shl a b refl known
+  shifted (meant.Number Shr) a b shift known = counted Shr a b refl known
+  shifted how a b shift known = never shift
 
   -- an operator on two terms that have its types
   integers_marked : (at : Place) (c : Option ℤ) (op : BinaryOp) (a b to : IntType) (x y : TermTree) (used : Bool) → IsGiven u x (Int a) → IsGiven u y (Int b) → combines u (meaning op) (Int a) (Int b) (Int to) ≡ true → is_marked_term u used (Typed at (Int to) 0 c (tree.Integer op x y)) ≡ true
@@ -91,12 +92,12 @@ module _ (u : UnitView) (k : Known) (ground : IsGround u k) where
 
   -- ---- shifts
 
-  shift_in_made : (at : Place) (op : BinaryOp) (kinds : KindPair) (left right : ValueView) → IsShift op → is_relation op ≡ false → IsMade u left.term → IsMade u right.term → term_type left.term ≡ Int kinds.left → term_type right.term ≡ Int kinds.right → IsMadeOperand u (shift_in k at op (promoted_kinds k kinds) left right)
-  shift_in_made at op kinds left right shift relates x y s t =
+  shift_in_made : (at : Place) (op : BinaryOp) (kinds : KindPair) (left right : ValueView) → is_shift op ≡ true → IsMade u left.term → IsMade u right.term → term_type left.term ≡ Int kinds.left → term_type right.term ≡ Int kinds.right → IsMadeOperand u (shift_in k at op (promoted_kinds k kinds) left right)
+  shift_in_made at op kinds left right shift x y s t =
       term_made u at (Int a) 0 constant (tree.Integer op (integer_as k left.term a) (integer_as k right.term b)) refl refl
-          (integers_marked at constant op a b a (integer_as k left.term a) (integer_as k right.term b) true (integer_given u k (numbers u k ground) left.term kinds.left a x s known) (integer_given u k (numbers u k ground) right.term kinds.right b y t (promoted_there u k ground kinds.right (number_known u k ground right.term kinds.right y t))) (shifted op a b shift known))
+          (integers_marked at constant op a b a (integer_as k left.term a) (integer_as k right.term b) true (integer_given u k (numbers u k ground) left.term kinds.left a x s known) (integer_given u k (numbers u k ground) right.term kinds.right b y t (promoted_there u k ground kinds.right (number_known u k ground right.term kinds.right y t))) (shifted (meaning op) a b shift known))
           known
-          (λ n is. shift_number u k ground at constant n op kinds.left kinds.right left.term right.term relates s t x y (if_fixed (left.fixed && right.fixed) (shifted_constant op a (term_constant left.term) (term_constant right.term)) n is).1)
+          (λ n is. shift_number u k ground at constant n op kinds.left kinds.right left.term right.term shift s t x y (if_fixed (left.fixed && right.fixed) (shifted_constant op a (term_constant left.term) (term_constant right.term)) n is).1)
           (λ scalar is_test. no_tests u k ground at (Int a) 0 constant is_test (tree.Integer op (integer_as k left.term a) (integer_as k right.term b)) untested)
     where
       a : IntType
@@ -112,11 +113,11 @@ module _ (u : UnitView) (k : Known) (ground : IsGround u k) where
       known = promoted_there u k ground kinds.left (number_known u k ground left.term kinds.left x s)
 
       untested : is_number_meant (meaning op) ≡ true
-      untested = subst (λ how. is_number_meant how ≡ true) (sym shift.means) refl
+      untested = shift_no_test (meaning op) shift
 
-  pub shift_made : (at : Place) (op : BinaryOp) (left right : ValueView) → IsShift op → is_relation op ≡ false → IsMade u left.term → IsMade u right.term → Makes u (shift_operation k at op left right)
-  shift_made at op left right shift relates x y = by (value_kinds left right) refl
+  pub shift_made : (at : Place) (op : BinaryOp) (left right : ValueView) → is_shift op ≡ true → IsMade u left.term → IsMade u right.term → Makes u (shift_operation k at op left right)
+  shift_made at op left right shift x y = by (value_kinds left right) refl
     where
       by : (o : Option KindPair) → value_kinds left right ≡ o → Makes u (shift_by k at op left right o)
       by None is = tt
-      by (Some kinds) is = let e = kinds_are (term_type left.term) (term_type right.term) kinds is in shift_in_made at op kinds left right shift relates x y e.0 e.1
+      by (Some kinds) is = let e = kinds_are (term_type left.term) (term_type right.term) kinds is in shift_in_made at op kinds left right shift x y e.0 e.1
