@@ -6,3 +6,5 @@ pub mod MadeValues
 pub mod GroundKinds
 pub mod MadeArithmetic
 pub mod MadeSums
+pub mod PairedTypes
+pub mod MadeComparisons
