@@ -8,3 +8,6 @@ pub mod MadeArithmetic
 pub mod MadeSums
 pub mod PairedTypes
 pub mod MadeComparisons
+pub mod MadePlaces
+pub mod MadeUnary
+pub mod MadeSizes
