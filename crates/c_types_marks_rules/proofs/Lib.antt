@@ -11,3 +11,6 @@ pub mod MadeComparisons
 pub mod MadePlaces
 pub mod MadeUnary
 pub mod MadeSizes
+pub mod MadeChoices
+pub mod MadeAssignments
+pub mod MadeOperators
