@@ -1,5 +1,5 @@
 -- The integer types that rules of typing take of a data model are those of the unit's model.
-use Rattle.std.proofs.Common.{◌≡◌, ℕ, ◌≤◌, pos, negsuc, Bool, true, false, ◌&&◌, Option, Some, refl, sym, subst, ap}
+use Rattle.std.proofs.Common.{◌≡◌, ℕ, ◌≤◌, pos, negsuc, Bool, true, false, ◌&&◌, Some, refl, sym, subst, ap}
 use Rattle.cc_base.specs.IntegerTypes.{in_type}
 use Rattle.cc_base.specs.declared.int_types.IntType.{IntType}
 use Rattle.c_layout.specs.Layout.{most_bytes}

@@ -38,11 +38,11 @@ module _ (u : UnitView) (k : Known) (ground : IsGround u k) where
   comparison_made at sign x y p q s t tests =
       let truth : Bool = is_truth (Int (int_kind k)) in
       node_made u at (Int (int_kind k)) 0 (tree.Compare sign x y) refl refl
-          (and_from (is_marked_term u true x) (is_marked_term u true y && (is_address (term_type x) && (is_address (term_type y) && truth))) p
-              (and_from (is_marked_term u true y) (is_address (term_type x) && (is_address (term_type y) && truth)) q
-                  (and_from (is_address (term_type x)) (is_address (term_type y) && truth) s (and_from (is_address (term_type y)) truth t (int_truths u k ground)))))
-          (int_there u k ground)
-          (λ scalar is_test. tests is_test)
+      (and_from (is_marked_term u true x) (is_marked_term u true y && (is_address (term_type x) && (is_address (term_type y) && truth))) p
+      (and_from (is_marked_term u true y) (is_address (term_type x) && (is_address (term_type y) && truth)) q
+      (and_from (is_address (term_type x)) (is_address (term_type y) && truth) s (and_from (is_address (term_type y)) truth t (int_truths u k ground)))))
+      (int_there u k ground)
+      (λ scalar is_test. tests is_test)
 
   pointers_made : (at : Place) (sign : BinaryOp) (x y : TermTree) → IsMade u x → IsMade u y → Makes u (pointer_relation k at sign x y)
   pointers_made at sign x y p q = by (common_target k (term_type x) (term_type y)) refl
@@ -50,7 +50,7 @@ module _ (u : UnitView) (k : Known) (ground : IsGround u k) where
       on : ArePointers (term_type x) (term_type y) → IsMadeOperand u (pointer_comparison k at sign x y)
       on are =
           comparison_made at sign x y (scalar_marked u x p (pointer_scalar x are.target are.left)) (scalar_marked u y q (pointer_scalar y are.target are.right)) (pointer_address x are.target are.left) (pointer_address y are.target are.right)
-              (λ is_test. pointer_tests u k ground at (Int (int_kind k)) 0 None is_test sign x y (pointer_address x are.target are.left) (pointer_address y are.target are.right) p q)
+          (λ is_test. pointer_tests u k ground at (Int (int_kind k)) 0 None is_test sign x y (pointer_address x are.target are.left) (pointer_address y are.target are.right) p q)
 
       by : (o : Option ℕ) → common_target k (term_type x) (term_type y) ≡ o → Makes u (pointer_relation_by k at sign x y o)
       by None is = tt
@@ -60,13 +60,13 @@ module _ (u : UnitView) (k : Known) (ground : IsGround u k) where
   left_made at sign x y p q pointer comes =
       let given : IsGiven u (in_type k y (term_type x)) (term_type x) = pointer_given u k ground y (term_type x) pointer.0 pointer.1 q comes p.typed in
       comparison_made at sign x (in_type k y (term_type x)) (scalar_marked u x p (pointer_scalar x pointer.0 pointer.1)) given.marked (pointer_address x pointer.0 pointer.1) (given_address u k ground (in_type k y (term_type x)) (term_type x) pointer.0 pointer.1 given)
-          (λ is_test. left_pointer_tests u k ground at (Int (int_kind k)) 0 None is_test sign x y (pointer_address x pointer.0 pointer.1) (comes_null y comes) p q)
+      (λ is_test. left_pointer_tests u k ground at (Int (int_kind k)) 0 None is_test sign x y (pointer_address x pointer.0 pointer.1) (comes_null y comes) p q)
 
   right_made : (at : Place) (sign : BinaryOp) (x y : TermTree) → IsMade u x → IsMade u y → ComesToPointer (term_type x) (is_null x) → IsPointer (term_type y) → IsMadeOperand u (pointer_comparison k at sign (in_type k x (term_type y)) y)
   right_made at sign x y p q comes pointer =
       let given : IsGiven u (in_type k x (term_type y)) (term_type y) = pointer_given u k ground x (term_type y) pointer.0 pointer.1 p comes q.typed in
       comparison_made at sign (in_type k x (term_type y)) y given.marked (scalar_marked u y q (pointer_scalar y pointer.0 pointer.1)) (given_address u k ground (in_type k x (term_type y)) (term_type y) pointer.0 pointer.1 given) (pointer_address y pointer.0 pointer.1)
-          (λ is_test. right_pointer_tests u k ground at (Int (int_kind k)) 0 None is_test sign x y (comes_null x comes) (pointer_address y pointer.0 pointer.1) p q)
+      (λ is_test. right_pointer_tests u k ground at (Int (int_kind k)) 0 None is_test sign x y (comes_null x comes) (pointer_address y pointer.0 pointer.1) p q)
 
   pointer_equality_made : (at : Place) (sign : BinaryOp) (x y : TermTree) → IsMade u x → IsMade u y → Makes u (pointer_equality k at sign x y)
   pointer_equality_made at sign x y p q = by (pairing x y) (paired_as (term_type x) (is_null x) (term_type y) (is_null y))

@@ -1,5 +1,5 @@
 -- Lvalues that operands are, and steps of what they designate.
-use Rattle.std.proofs.Common.{◌≡◌, Bool, true, false, ◌&&◌, cond, Option, Some, None, refl, sym, subst}
+use Rattle.std.proofs.Common.{◌≡◌, Bool, true, false, ◌&&◌, cond, Some, None, refl, sym, subst}
 use Rattle.std.proofs.lemmas.Bool.{and_from}
 use Rattle.cc_base.specs.declared.int_types.IntType.{IntType}
 use Rattle.c_layout.specs.CheckedTrees.{LvalueTree}
@@ -45,4 +45,4 @@ module _ (u : UnitView) where
   pub steps_there : (k : Known) (ground : IsGround u k) (t : Ty) (old kind : IntType) → t ≡ Int old → IsKindOf u.model old → IsKindOf u.model kind → steps_in u kind t t ≡ true
   steps_there k ground t old kind is known other =
       and_from (is_such (λ a. is_kind u.model a) t) (is_kind u.model kind && same_type t t) (subst (λ s. is_such (λ a. is_kind u.model a) s ≡ true) (sym is) (kind_there u k ground old known))
-          (and_from (is_kind u.model kind) (same_type t t) (kind_there u k ground kind other) (type_same t))
+      (and_from (is_kind u.model kind) (same_type t t) (kind_there u k ground kind other) (type_same t))

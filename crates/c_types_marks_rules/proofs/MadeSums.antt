@@ -1,5 +1,5 @@
 -- Sums and differences of pointers, and what pointers point to, are made of what is made.
-use Rattle.std.proofs.Common.{◌≡◌, ◌⊎◌, inl, inr, ℕ, Bool, true, false, ◌&&◌, ◌||◌, cond, Option, Some, None, Ok, Err, refl, sym, subst, ap, ◌∙◌}
+use Rattle.std.proofs.Common.{◌≡◌, ◌⊎◌, inl, inr, ℕ, Bool, true, false, ◌&&◌, cond, Option, Some, None, Ok, Err, refl, sym, subst, ap, ◌∙◌}
 use Rattle.std.proofs.lemmas.Bool.{and_from, or_left, or_right}
 use Rattle.cc_base.specs.declared.diagnostics.Place.{Place}
 use Rattle.cc_base.specs.declared.int_types.IntType.{IntType}
@@ -89,23 +89,23 @@ module _ (u : UnitView) (k : Known) (ground : IsGround u k) where
   shift_made : (at : Place) (down : Bool) (v : SumView) (t : Ty) (left right : TermTree) → is_marked_term u true left ≡ true → is_marked_term u true right ≡ true → adds_to (term_type left) (term_type right) ≡ true → IsTypeOf u.model t → v.ctype ≡ Pointer t → IsMade u (Typed at v.ctype 0 None (tree.Shift down v.size left right))
   shift_made at down v t left right x y adds known is =
       subst (λ s. IsMade u (Typed at s 0 None (tree.Shift down v.size left right))) (sym is)
-          (node_made u at (Pointer t) 0 (tree.Shift down v.size left right) refl refl
-              (and_from (is_marked_term u true left) (is_marked_term u true right && (adds_to (term_type left) (term_type right) && true)) x
-                  (and_from (is_marked_term u true right) (adds_to (term_type left) (term_type right) && true) y (and_from (adds_to (term_type left) (term_type right)) true adds refl)))
-              known
-              (λ scalar is_test. no_tests u k ground at (Pointer t) 0 None is_test (tree.Shift down v.size left right) refl))
+      (node_made u at (Pointer t) 0 (tree.Shift down v.size left right) refl refl
+      (and_from (is_marked_term u true left) (is_marked_term u true right && (adds_to (term_type left) (term_type right) && true)) x
+      (and_from (is_marked_term u true right) (adds_to (term_type left) (term_type right) && true) y (and_from (adds_to (term_type left) (term_type right)) true adds refl)))
+      known
+      (λ scalar is_test. no_tests u k ground at (Pointer t) 0 None is_test (tree.Shift down v.size left right) refl))
 
   moved_left : (at : Place) (down : Bool) (v : SumView) (left right : TermTree) → IsMade u left → IsMade u right → IsSumOf (term_type left) (term_type right) v → IsMade u (Typed at v.ctype 0 None (tree.Shift down v.size left right))
   moved_left at down v left right x y sum =
       shift_made at down v sum.target left right (scalar_marked u left x (pointer_scalar left sum.target sum.pointer_is)) (scalar_marked u right y (number_scalar right sum.kind sum.number_is))
-          (or_left (is_address (term_type left) && look.is_integer (term_type right)) (look.is_integer (term_type left) && is_address (term_type right)) (and_from (is_address (term_type left)) (look.is_integer (term_type right)) (pointer_address left sum.target sum.pointer_is) (number_integer right sum.kind sum.number_is)))
-          (target_known u k ground left sum.target x sum.pointer_is) sum.same
+      (or_left (is_address (term_type left) && look.is_integer (term_type right)) (look.is_integer (term_type left) && is_address (term_type right)) (and_from (is_address (term_type left)) (look.is_integer (term_type right)) (pointer_address left sum.target sum.pointer_is) (number_integer right sum.kind sum.number_is)))
+      (target_known u k ground left sum.target x sum.pointer_is) sum.same
 
   moved_right : (at : Place) (down : Bool) (v : SumView) (left right : TermTree) → IsMade u left → IsMade u right → IsSumOf (term_type right) (term_type left) v → IsMade u (Typed at v.ctype 0 None (tree.Shift down v.size left right))
   moved_right at down v left right x y sum =
       shift_made at down v sum.target left right (scalar_marked u left x (number_scalar left sum.kind sum.number_is)) (scalar_marked u right y (pointer_scalar right sum.target sum.pointer_is))
-          (or_right (is_address (term_type left) && look.is_integer (term_type right)) (look.is_integer (term_type left) && is_address (term_type right)) (and_from (look.is_integer (term_type left)) (is_address (term_type right)) (number_integer left sum.kind sum.number_is) (pointer_address right sum.target sum.pointer_is)))
-          (target_known u k ground right sum.target y sum.pointer_is) sum.same
+      (or_right (is_address (term_type left) && look.is_integer (term_type right)) (look.is_integer (term_type left) && is_address (term_type right)) (and_from (look.is_integer (term_type left)) (is_address (term_type right)) (number_integer left sum.kind sum.number_is) (pointer_address right sum.target sum.pointer_is)))
+      (target_known u k ground right sum.target y sum.pointer_is) sum.same
 
   sum_made : (at : Place) (left right : TermTree) → IsMade u left → IsMade u right → MakesTerm u (pointer_sum k at left right)
   sum_made at left right x y = by (sum_type k (term_type left) (term_type right)) refl
@@ -134,12 +134,12 @@ module _ (u : UnitView) (k : Known) (ground : IsGround u k) where
       on : (size : ℕ) → ArePointers (term_type left) (term_type right) → IsMade u (Typed at t 0 None (tree.Difference size left right))
       on size p =
           node_made u at t 0 (tree.Difference size left right) refl refl
-              (and_from (is_marked_term u true left) (is_marked_term u true right && (is_address (term_type left) && (is_address (term_type right) && subtracts u t))) (scalar_marked u left x (pointer_scalar left p.target p.left))
-                  (and_from (is_marked_term u true right) (is_address (term_type left) && (is_address (term_type right) && subtracts u t)) (scalar_marked u right y (pointer_scalar right p.target p.right))
-                      (and_from (is_address (term_type left)) (is_address (term_type right) && subtracts u t) (pointer_address left p.target p.left)
-                          (and_from (is_address (term_type right)) (subtracts u t) (pointer_address right p.target p.right) (difference_there u k ground)))))
-              (size_there u k ground true)
-              (λ scalar is_test. no_tests u k ground at t 0 None is_test (tree.Difference size left right) refl)
+          (and_from (is_marked_term u true left) (is_marked_term u true right && (is_address (term_type left) && (is_address (term_type right) && subtracts u t))) (scalar_marked u left x (pointer_scalar left p.target p.left))
+          (and_from (is_marked_term u true right) (is_address (term_type left) && (is_address (term_type right) && subtracts u t)) (scalar_marked u right y (pointer_scalar right p.target p.right))
+          (and_from (is_address (term_type left)) (is_address (term_type right) && subtracts u t) (pointer_address left p.target p.left)
+          (and_from (is_address (term_type right)) (subtracts u t) (pointer_address right p.target p.right) (difference_there u k ground)))))
+          (size_there u k ground true)
+          (λ scalar is_test. no_tests u k ground at t 0 None is_test (tree.Difference size left right) refl)
 
       by : (o : Option ℕ) → common_target k (term_type left) (term_type right) ≡ o → MakesTerm u (difference_by k at left right o)
       by None is = tt

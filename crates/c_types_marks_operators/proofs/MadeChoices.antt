@@ -59,10 +59,10 @@ module _ (u : UnitView) (k : Known) (ground : IsGround u k) where
       let value : Option ℤ = logical_value sign (term_constant left.term) (term_constant right.term) in
       let constant : Option ℤ = cond (left.fixed && right.fixed) value None in
       term_made u at (Int (int_kind k)) 0 constant (tree.Logical sign left.term right.term) refl refl
-          (and_from (is_marked_term u true left.term) (is_marked_term u true right.term && is_truth (Int (int_kind k))) (scalar_marked u left.term x s) (and_from (is_marked_term u true right.term) (is_truth (Int (int_kind k))) (scalar_marked u right.term y t) (int_truths u k ground)))
-          (int_there u k ground)
-          (λ n is. logical_number u k ground at constant n sign left.term right.term x y (if_fixed (left.fixed && right.fixed) value n is).1)
-          (λ scalar is_test. logical_tests u k ground at (Int (int_kind k)) 0 constant is_test sign left.term right.term s t x y)
+      (and_from (is_marked_term u true left.term) (is_marked_term u true right.term && is_truth (Int (int_kind k))) (scalar_marked u left.term x s) (and_from (is_marked_term u true right.term) (is_truth (Int (int_kind k))) (scalar_marked u right.term y t) (int_truths u k ground)))
+      (int_there u k ground)
+      (λ n is. logical_number u k ground at constant n sign left.term right.term x y (if_fixed (left.fixed && right.fixed) value n is).1)
+      (λ scalar is_test. logical_tests u k ground at (Int (int_kind k)) 0 constant is_test sign left.term right.term s t x y)
 
   logical_of_made : (at : Place) (sign : LogicalOp) (left right : ValueView) → IsMade u left.term → IsMade u right.term → Makes u (logical_of k at sign left right)
   logical_of_made at sign left right x y = makes_if u (are_scalars (term_type left.term) (term_type right.term)) _ _ (λ h. let b = both_scalars (term_type left.term) (term_type right.term) h in logical_node_made at sign left right x y b.0 b.1) (λ h. tt)
@@ -77,18 +77,18 @@ module _ (u : UnitView) (k : Known) (ground : IsGround u k) where
     arms_marked t constant used a b p q s r =
         let same : Bool = same_mark (term_type a) t && same_mark (term_type b) t in
         and_from (is_marked_term u true condition) (has_tests u true condition && (is_marked_term u used a && (is_marked_term u used b && same))) (scalar_marked u condition made scalar)
-            (and_from (has_tests u true condition) (is_marked_term u used a && (is_marked_term u used b && same)) (made.tests scalar true)
-                (and_from (is_marked_term u used a) (is_marked_term u used b && same) p
-                    (and_from (is_marked_term u used b) same q
-                        (and_from (same_mark (term_type a) t) (same_mark (term_type b) t) (subst (λ x. same_mark x t ≡ true) (sym s) (mark_same t)) (subst (λ x. same_mark x t ≡ true) (sym r) (mark_same t))))))
+        (and_from (has_tests u true condition) (is_marked_term u used a && (is_marked_term u used b && same)) (made.tests scalar true)
+        (and_from (is_marked_term u used a) (is_marked_term u used b && same) p
+        (and_from (is_marked_term u used b) same q
+        (and_from (same_mark (term_type a) t) (same_mark (term_type b) t) (subst (λ x. same_mark x t ≡ true) (sym s) (mark_same t)) (subst (λ x. same_mark x t ≡ true) (sym r) (mark_same t))))))
 
     integers_made : (first second : TermTree) (fixed : Bool) (a b : IntType) → IsMade u first → IsMade u second → term_type first ≡ Int a → term_type second ≡ Int b → IsMadeOperand u (integer_choice k at (common k.numbers a b) (record { condition = condition; first = first; second = second; fixed = fixed }))
     integers_made first second fixed a b x y s t =
         term_made u at (Int kind) 0 constant (tree.Conditional condition (integer_as k first kind) (integer_as k second kind)) refl refl
-            (arms_marked (Int kind) constant true (integer_as k first kind) (integer_as k second kind) p.marked q.marked p.same q.same)
-            known
-            (λ n is. choice_number u k ground at constant n kind condition first second known made x y (if_fixed fixed value n is).1)
-            (λ h is_test. choice_tests u k ground at (Int kind) 0 constant is_test condition (integer_as k first kind) (integer_as k second kind) scalar made (arm_tests u k first (Int kind) (number_scalar first a s) x) (arm_tests u k second (Int kind) (number_scalar second b t) y))
+        (arms_marked (Int kind) constant true (integer_as k first kind) (integer_as k second kind) p.marked q.marked p.same q.same)
+        known
+        (λ n is. choice_number u k ground at constant n kind condition first second known made x y (if_fixed fixed value n is).1)
+        (λ h is_test. choice_tests u k ground at (Int kind) 0 constant is_test condition (integer_as k first kind) (integer_as k second kind) scalar made (arm_tests u k first (Int kind) (number_scalar first a s) x) (arm_tests u k second (Int kind) (number_scalar second b t) y))
       where
         kind : IntType
         kind = common k.numbers a b
@@ -112,30 +112,30 @@ module _ (u : UnitView) (k : Known) (ground : IsGround u k) where
     pointers_made : (a b : TermTree) (t target : Ty) → t ≡ Pointer target → IsGiven u a t → IsGiven u b t → IsTypeOf u.model t → has_tests u false a ≡ true → has_tests u false b ≡ true → IsMadeOperand u (plain_choice at condition a b)
     pointers_made a b t target is p q known first second =
         node_made u at (term_type a) 0 (tree.Conditional condition a b) refl refl
-            (subst (λ used. is_marked_term u (not used) (Typed at (term_type a) 0 None (tree.Conditional condition a b)) ≡ true) (sym (subst (λ s. is_void s ≡ false) (sym (p.same ∙ is)) refl)) (arms_marked (term_type a) None true a b p.marked q.marked refl (q.same ∙ sym p.same)))
-            (subst (λ s. IsTypeOf u.model s) (sym p.same) known)
-            (λ h is_test. choice_tests u k ground at (term_type a) 0 None is_test condition a b scalar made first second)
+        (subst (λ used. is_marked_term u (not used) (Typed at (term_type a) 0 None (tree.Conditional condition a b)) ≡ true) (sym (subst (λ s. is_void s ≡ false) (sym (p.same ∙ is)) refl)) (arms_marked (term_type a) None true a b p.marked q.marked refl (q.same ∙ sym p.same)))
+        (subst (λ s. IsTypeOf u.model s) (sym p.same) known)
+        (λ h is_test. choice_tests u k ground at (term_type a) 0 None is_test condition a b scalar made first second)
 
     voids_made : (a b : TermTree) → IsMade u a → IsMade u b → term_type a ≡ Void → term_type b ≡ Void → IsMadeOperand u (plain_choice at condition a b)
     voids_made a b x y s t =
         node_made u at (term_type a) 0 (tree.Conditional condition a b) refl refl
-            (arms_marked (term_type a) None (not (is_void (term_type a))) a b x.marked (subst (λ r. is_marked_term u (not (is_void r)) b ≡ true) (t ∙ sym s) y.marked) refl (t ∙ sym s))
-            x.typed
-            (λ h is_test. never (subst (λ r. is_scalar r ≡ true) s h))
+        (arms_marked (term_type a) None (not (is_void (term_type a))) a b x.marked (subst (λ r. is_marked_term u (not (is_void r)) b ≡ true) (t ∙ sym s) y.marked) refl (t ∙ sym s))
+        x.typed
+        (λ h is_test. never (subst (λ r. is_scalar r ≡ true) s h))
 
     left_made : (a b : TermTree) → IsMade u a → IsMade u b → IsPointer (term_type a) → ComesToPointer (term_type b) (is_null b) → IsMadeOperand u (plain_choice at condition a (in_type k b (term_type a)))
     left_made a b x y pointer comes =
         let first : is_scalar (term_type a) ≡ true = pointer_scalar a pointer.0 pointer.1 in
         pointers_made a (in_type k b (term_type a)) (term_type a) pointer.0 pointer.1 (same_given u k (numbers u k ground) a (term_type a) x first refl) (pointer_given u k ground b (term_type a) pointer.0 pointer.1 y comes x.typed) x.typed
-            (x.tests first false)
-            (arm_tests u k b (term_type a) (comes_scalar b comes) y)
+        (x.tests first false)
+        (arm_tests u k b (term_type a) (comes_scalar b comes) y)
 
     right_made : (a b : TermTree) → IsMade u a → IsMade u b → ComesToPointer (term_type a) (is_null a) → IsPointer (term_type b) → IsMadeOperand u (plain_choice at condition (in_type k a (term_type b)) b)
     right_made a b x y comes pointer =
         let second : is_scalar (term_type b) ≡ true = pointer_scalar b pointer.0 pointer.1 in
         pointers_made (in_type k a (term_type b)) b (term_type b) pointer.0 pointer.1 (pointer_given u k ground a (term_type b) pointer.0 pointer.1 x comes y.typed) (same_given u k (numbers u k ground) b (term_type b) y second refl) y.typed
-            (arm_tests u k a (term_type b) (comes_scalar a comes) x)
-            (y.tests second false)
+        (arm_tests u k a (term_type b) (comes_scalar a comes) x)
+        (y.tests second false)
 
     module _ (a b : TermTree) (fixed : Bool) (x : IsMade u a) (y : IsMade u b) where
       abbrev choice : ChoiceView
@@ -173,9 +173,9 @@ module _ (u : UnitView) (k : Known) (ground : IsGround u k) where
     value_comma_made : (e : TermTree) → IsMade u e → IsMadeOperand u (value_comma at first e)
     value_comma_made e made =
         node_made u at (term_type e) 0 (tree.Comma first e) refl refl
-            (and_from (is_marked_term u false first) (is_marked_term u (not (is_void (term_type e))) e && same_mark (term_type e) (term_type e)) marked (and_from (is_marked_term u (not (is_void (term_type e))) e) (same_mark (term_type e) (term_type e)) made.marked (mark_same (term_type e))))
-            made.typed
-            (λ scalar is_test. no_tests u k ground at (term_type e) 0 None is_test (tree.Comma first e) refl)
+        (and_from (is_marked_term u false first) (is_marked_term u (not (is_void (term_type e))) e && same_mark (term_type e) (term_type e)) marked (and_from (is_marked_term u (not (is_void (term_type e))) e) (same_mark (term_type e) (term_type e)) made.marked (mark_same (term_type e))))
+        made.typed
+        (λ scalar is_test. no_tests u k ground at (term_type e) 0 None is_test (tree.Comma first e) refl)
 
     struct_comma_made : (l : LvalueTree) → IsMadePlace u l → IsMadeOperand u (struct_comma at first l)
     struct_comma_made l place = record { marked = and_from (is_marked_term u false first) (is_marked_place u l) marked place.marked; typed = place.typed }

@@ -42,13 +42,13 @@ module _ (u : UnitView) (k : Known) (ground : IsGround u k) where
   size_made at t size (Some e) is_pointer is =
       let to : Ty = Int (kind_of k.numbers (size_rank k.numbers) false) in
       term_made u at to 0 (Some (pos size)) (tree.Sizeof size e is_pointer) refl refl (size_has u k ground t size is) (size_there u k ground false)
-          (λ n same. size_number u k ground at (Some (pos size)) n t size (Some e) is_pointer is same)
-          (λ scalar is_test. no_tests u k ground at to 0 (Some (pos size)) is_test (tree.Sizeof size e is_pointer) refl)
+      (λ n same. size_number u k ground at (Some (pos size)) n t size (Some e) is_pointer is same)
+      (λ scalar is_test. no_tests u k ground at to 0 (Some (pos size)) is_test (tree.Sizeof size e is_pointer) refl)
   size_made at t size None is_pointer is =
       let to : Ty = Int (kind_of k.numbers (size_rank k.numbers) false) in
       term_made u at to 0 (Some (pos size)) (tree.SizeofType size is_pointer) refl refl (size_has u k ground t size is) (size_there u k ground false)
-          (λ n same. size_number u k ground at (Some (pos size)) n t size None is_pointer is same)
-          (λ scalar is_test. no_tests u k ground at to 0 (Some (pos size)) is_test (tree.SizeofType size is_pointer) refl)
+      (λ n same. size_number u k ground at (Some (pos size)) n t size None is_pointer is same)
+      (λ scalar is_test. no_tests u k ground at to 0 (Some (pos size)) is_test (tree.SizeofType size is_pointer) refl)
 
   sized_made : (at : Place) (t : Ty) (operand : Option TermTree) (is_pointer : Bool) → Makes u (size_by k at operand is_pointer (size_of k t))
   sized_made at t operand is_pointer = by (size_of k t) refl

@@ -1,10 +1,10 @@
 -- Unary operators, `++` and `--` make what is made.
-use Rattle.std.proofs.Common.{◌≡◌, ℕ, ℤ, Bool, true, false, ◌&&◌, cond, Option, Some, None, refl, sym, subst}
+use Rattle.std.proofs.Common.{◌≡◌, ℕ, ℤ, true, ◌&&◌, cond, Option, Some, None, refl, sym, subst}
 use Rattle.std.proofs.lemmas.Bool.{and_from}
 use Rattle.cc_base.specs.declared.diagnostics.Place.{Place}
 use Rattle.cc_base.specs.declared.int_types.IntType.{IntType}
 use Rattle.c_layout.specs.CheckedTrees as tree
-use Rattle.c_layout.specs.CheckedTrees.{TermTree, Typed, LvalueTree}
+use Rattle.c_layout.specs.CheckedTrees.{TermTree, LvalueTree}
 use Rattle.c_layout.specs.CheckedUnits.{UnitView}
 use Rattle.c_layout.specs.Types.{Ty, Int, Pointer, same_type}
 use Rattle.c_layout.specs.declared.checked_tree.checked_terms.StepTime.{StepTime}
@@ -38,17 +38,17 @@ module _ (u : UnitView) (k : Known) (ground : IsGround u k) where
   number_stepped at sign time l kind made is =
       let known : IsKindOf u.model kind = place_kind u l kind made is in
       node_made u at (lvalue_type l) 0 (tree.Step sign time (Int (promoted k.numbers kind)) l) refl refl
-          (and_from (is_marked_place u l) (steps_in u (promoted k.numbers kind) (lvalue_type l) (lvalue_type l)) made.marked (steps_there u k ground (lvalue_type l) kind (promoted k.numbers kind) is known (promoted_there u k ground kind known)))
-          made.typed
-          (λ scalar is_test. no_tests u k ground at (lvalue_type l) 0 None is_test (tree.Step sign time (Int (promoted k.numbers kind)) l) refl)
+      (and_from (is_marked_place u l) (steps_in u (promoted k.numbers kind) (lvalue_type l) (lvalue_type l)) made.marked (steps_there u k ground (lvalue_type l) kind (promoted k.numbers kind) is known (promoted_there u k ground kind known)))
+      made.typed
+      (λ scalar is_test. no_tests u k ground at (lvalue_type l) 0 None is_test (tree.Step sign time (Int (promoted k.numbers kind)) l) refl)
 
   pointer_stepped : (at : Place) (sign : StepOp) (time : StepTime) (l : LvalueTree) (t : Ty) (size : Option ℕ) → IsMadePlace u l → lvalue_type l ≡ Pointer t → Makes u (step_by at sign time l (pointer_kind size))
   pointer_stepped at sign time l t None made is = tt
   pointer_stepped at sign time l t (Some size) made is =
       node_made u at (lvalue_type l) 0 (tree.StepPointer sign time size l) refl refl
-          (and_from (is_marked_place u l) (is_address (lvalue_type l) && is_address (lvalue_type l)) made.marked (and_from (is_address (lvalue_type l)) (is_address (lvalue_type l)) (place_address u l t is) (place_address u l t is)))
-          made.typed
-          (λ scalar is_test. no_tests u k ground at (lvalue_type l) 0 None is_test (tree.StepPointer sign time size l) refl)
+      (and_from (is_marked_place u l) (is_address (lvalue_type l) && is_address (lvalue_type l)) made.marked (and_from (is_address (lvalue_type l)) (is_address (lvalue_type l)) (place_address u l t is) (place_address u l t is)))
+      made.typed
+      (λ scalar is_test. no_tests u k ground at (lvalue_type l) 0 None is_test (tree.StepPointer sign time size l) refl)
 
   type_stepped : (at : Place) (sign : StepOp) (time : StepTime) (l : LvalueTree) (t : Ty) → IsMadePlace u l → lvalue_type l ≡ t → Makes u (step_by at sign time l (step_kind k t))
   type_stepped at sign time l (Int kind) made is = number_stepped at sign time l kind made is
@@ -81,10 +81,10 @@ module _ (u : UnitView) (k : Known) (ground : IsGround u k) where
     negation_made scalar =
         let constant : Option ℤ = cond v.fixed (not_value (term_constant v.term)) None in
         term_made u at (Int (int_kind k)) 0 constant (tree.Not v.term) refl refl
-            (and_from (is_marked_term u true v.term) (is_truth (Int (int_kind k))) (scalar_marked u v.term x scalar) (int_truths u k ground))
-            (int_there u k ground)
-            (λ n is. not_number u k ground at constant n v.term x (if_fixed v.fixed (not_value (term_constant v.term)) n is).1)
-            (λ s is_test. not_tests u k ground at (Int (int_kind k)) 0 constant is_test v.term scalar x)
+        (and_from (is_marked_term u true v.term) (is_truth (Int (int_kind k))) (scalar_marked u v.term x scalar) (int_truths u k ground))
+        (int_there u k ground)
+        (λ n is. not_number u k ground at constant n v.term x (if_fixed v.fixed (not_value (term_constant v.term)) n is).1)
+        (λ s is_test. not_tests u k ground at (Int (int_kind k)) 0 constant is_test v.term scalar x)
 
     pub not_made : Makes u (not_of k at v)
     not_made = makes_if u (is_scalar (term_type v.term)) _ _ negation_made (λ h. tt)
@@ -104,7 +104,7 @@ module _ (u : UnitView) (k : Known) (ground : IsGround u k) where
       computed_marked : (e : TermTree) → IsGiven u e (Int (promoted k.numbers a)) → (is_marked_term u true e && (same_type (term_type e) (Int (promoted k.numbers a)) && is_kind u.model (promoted k.numbers a))) ≡ true
       computed_marked e g =
           and_from (is_marked_term u true e) (same_type (term_type e) (Int (promoted k.numbers a)) && is_kind u.model (promoted k.numbers a)) g.marked
-              (and_from (same_type (term_type e) (Int (promoted k.numbers a))) (is_kind u.model (promoted k.numbers a)) (subst (λ t. same_type t (Int (promoted k.numbers a)) ≡ true) (sym g.same) (type_same (Int (promoted k.numbers a)))) (kind_there u k ground (promoted k.numbers a) known))
+          (and_from (same_type (term_type e) (Int (promoted k.numbers a))) (is_kind u.model (promoted k.numbers a)) (subst (λ t. same_type t (Int (promoted k.numbers a)) ≡ true) (sym g.same) (type_same (Int (promoted k.numbers a)))) (kind_there u k ground (promoted k.numbers a) known))
 
       abbrev constant : UnaryOp → Option ℤ
       constant sign = cond v.fixed (turned_value sign (promoted k.numbers a) (term_constant v.term)) None
@@ -115,20 +115,20 @@ module _ (u : UnitView) (k : Known) (ground : IsGround u k) where
       plus_made : IsMadeOperand u (arithmetic_in k at op.Plus (promoted k.numbers a) v)
       plus_made =
           term_made u at (Int (promoted k.numbers a)) 0 (constant op.Plus) (tree.Plus (integer_as k v.term (promoted k.numbers a))) refl refl (same_marked (integer_as k v.term (promoted k.numbers a)) given) known
-              (λ n is. turned_number u k ground at (constant op.Plus) n op.Plus a v.term typed x (fixed_number op.Plus n is))
-              (λ s is_test. no_tests u k ground at (Int (promoted k.numbers a)) 0 (constant op.Plus) is_test (tree.Plus (integer_as k v.term (promoted k.numbers a))) refl)
+          (λ n is. turned_number u k ground at (constant op.Plus) n op.Plus a v.term typed x (fixed_number op.Plus n is))
+          (λ s is_test. no_tests u k ground at (Int (promoted k.numbers a)) 0 (constant op.Plus) is_test (tree.Plus (integer_as k v.term (promoted k.numbers a))) refl)
 
       minus_made : IsMadeOperand u (arithmetic_in k at op.Minus (promoted k.numbers a) v)
       minus_made =
           term_made u at (Int (promoted k.numbers a)) 0 (constant op.Minus) (tree.Minus (integer_as k v.term (promoted k.numbers a))) refl refl (computed_marked (integer_as k v.term (promoted k.numbers a)) given) known
-              (λ n is. turned_number u k ground at (constant op.Minus) n op.Minus a v.term typed x (fixed_number op.Minus n is))
-              (λ s is_test. no_tests u k ground at (Int (promoted k.numbers a)) 0 (constant op.Minus) is_test (tree.Minus (integer_as k v.term (promoted k.numbers a))) refl)
+          (λ n is. turned_number u k ground at (constant op.Minus) n op.Minus a v.term typed x (fixed_number op.Minus n is))
+          (λ s is_test. no_tests u k ground at (Int (promoted k.numbers a)) 0 (constant op.Minus) is_test (tree.Minus (integer_as k v.term (promoted k.numbers a))) refl)
 
       complement_made : IsMadeOperand u (arithmetic_in k at op.Complement (promoted k.numbers a) v)
       complement_made =
           term_made u at (Int (promoted k.numbers a)) 0 (constant op.Complement) (tree.Complement (integer_as k v.term (promoted k.numbers a))) refl refl (computed_marked (integer_as k v.term (promoted k.numbers a)) given) known
-              (λ n is. turned_number u k ground at (constant op.Complement) n op.Complement a v.term typed x (fixed_number op.Complement n is))
-              (λ s is_test. no_tests u k ground at (Int (promoted k.numbers a)) 0 (constant op.Complement) is_test (tree.Complement (integer_as k v.term (promoted k.numbers a))) refl)
+          (λ n is. turned_number u k ground at (constant op.Complement) n op.Complement a v.term typed x (fixed_number op.Complement n is))
+          (λ s is_test. no_tests u k ground at (Int (promoted k.numbers a)) 0 (constant op.Complement) is_test (tree.Complement (integer_as k v.term (promoted k.numbers a))) refl)
 
     promotes : (sign : UnaryOp) → ((a : IntType) → term_type v.term ≡ Int a → IsMadeOperand u (arithmetic_in k at sign (promoted k.numbers a) v)) → (t : Ty) → term_type v.term ≡ t → Makes u (arithmetic_by k at sign v (promoted_kind k t))
     promotes sign made (Int a) is = made a is

@@ -1,5 +1,5 @@
 -- Assignments make what is made.
-use Rattle.std.proofs.Common.{◌≡◌, ℕ, Bool, true, false, not, ◌&&◌, cond, Option, Some, None, Ok, Err, refl, sym, subst, ap}
+use Rattle.std.proofs.Common.{◌≡◌, ℕ, Bool, true, false, not, ◌&&◌, Option, Some, None, Ok, Err, refl, sym, subst, ap}
 use Rattle.std.proofs.lemmas.Bool.{and_from}
 use Rattle.cc_base.specs.declared.diagnostics.Place.{Place}
 use Rattle.cc_base.specs.declared.int_types.IntType.{IntType}
@@ -64,14 +64,14 @@ module _ (u : UnitView) (k : Known) (ground : IsGround u k) where
     assign_marked e used given =
         let t : Ty = lvalue_type left in
         and_from (is_marked_place u left) (is_marked_term u true e && (is_scalar_type u t && (same_mark (term_type e) t && same_mark t t))) place.marked
-            (and_from (is_marked_term u true e) (is_scalar_type u t && (same_mark (term_type e) t && same_mark t t)) given.marked
-                (and_from (is_scalar_type u t) (same_mark (term_type e) t && same_mark t t) (scalar_there u (numbers u k ground) t place.typed)
-                    (and_from (same_mark (term_type e) t) (same_mark t t) (subst (λ s. same_mark s t ≡ true) (sym given.same) (mark_same t)) (mark_same t))))
+        (and_from (is_marked_term u true e) (is_scalar_type u t && (same_mark (term_type e) t && same_mark t t)) given.marked
+        (and_from (is_scalar_type u t) (same_mark (term_type e) t && same_mark t t) (scalar_there u (numbers u k ground) t place.typed)
+        (and_from (same_mark (term_type e) t) (same_mark t t) (subst (λ s. same_mark s t ≡ true) (sym given.same) (mark_same t)) (mark_same t))))
 
     assign_made : (r : Ruled TermTree) → Gives u (lvalue_type left) r → Makes u (simple_by at left r)
     assign_made (Ok e) given =
         node_made u at (lvalue_type left) 0 (tree.Assign left e) refl refl (assign_marked e (not (is_void (lvalue_type left))) given) place.typed
-            (λ scalar is_test. assign_tests u k ground at (lvalue_type left) 0 None is_test left e (assign_marked e true given) place.typed)
+        (λ scalar is_test. assign_tests u k ground at (lvalue_type left) 0 None is_test left e (assign_marked e true given) place.typed)
     assign_made (Err f) given = tt
 
     simple_made : (x : OperandView) → IsMadeOperand u x → Makes u (simple k at left x)
@@ -88,22 +88,22 @@ module _ (u : UnitView) (k : Known) (ground : IsGround u k) where
           let e : TermTree = integer_as k right kind in
           let given : IsGiven u (integer_as k right kind) (Int kind) = integer_given u k (numbers u k ground) right b kind x t other in
           node_made u at (lvalue_type left) 0 (tree.Compound sign (Int computed) left (integer_as k right kind)) refl refl
-              (and_from (is_marked_place u left) (is_marked_term u true e && (is_such (λ count. counts_as (number_operator (meaning sign)) computed count) (term_type e) && steps_in u computed (lvalue_type left) (lvalue_type left))) place.marked
-                  (and_from (is_marked_term u true e) (is_such (λ count. counts_as (number_operator (meaning sign)) computed count) (term_type e) && steps_in u computed (lvalue_type left) (lvalue_type left)) given.marked
-                      (and_from (is_such (λ count. counts_as (number_operator (meaning sign)) computed count) (term_type e)) (steps_in u computed (lvalue_type left) (lvalue_type left)) (subst (λ r. is_such (λ count. counts_as (number_operator (meaning sign)) computed count) r ≡ true) (sym given.same) counts)
-                          (steps_there u k ground (lvalue_type left) a computed s (place_kind u left a place s) known))))
-              place.typed
-              (λ scalar is_test. no_tests u k ground at (lvalue_type left) 0 None is_test (tree.Compound sign (Int computed) left (integer_as k right kind)) refl)
+          (and_from (is_marked_place u left) (is_marked_term u true e && (is_such (λ count. counts_as (number_operator (meaning sign)) computed count) (term_type e) && steps_in u computed (lvalue_type left) (lvalue_type left))) place.marked
+          (and_from (is_marked_term u true e) (is_such (λ count. counts_as (number_operator (meaning sign)) computed count) (term_type e) && steps_in u computed (lvalue_type left) (lvalue_type left)) given.marked
+          (and_from (is_such (λ count. counts_as (number_operator (meaning sign)) computed count) (term_type e)) (steps_in u computed (lvalue_type left) (lvalue_type left)) (subst (λ r. is_such (λ count. counts_as (number_operator (meaning sign)) computed count) r ≡ true) (sym given.same) counts)
+          (steps_there u k ground (lvalue_type left) a computed s (place_kind u left a place s) known))))
+          place.typed
+          (λ scalar is_test. no_tests u k ground at (lvalue_type left) 0 None is_test (tree.Compound sign (Int computed) left (integer_as k right kind)) refl)
 
       move_made : (down : Bool) (size : ℕ) (t : Ty) (b : IntType) → lvalue_type left ≡ Pointer t → term_type right ≡ Int b → Makes u (compound_move at down size left right)
       move_made down size t b s r =
           node_made u at (lvalue_type left) 0 (tree.CompoundShift down size left right) refl refl
-              (and_from (is_marked_place u left) (is_marked_term u true right && (is_integer (term_type right) && (is_address (lvalue_type left) && is_address (lvalue_type left)))) place.marked
-                  (and_from (is_marked_term u true right) (is_integer (term_type right) && (is_address (lvalue_type left) && is_address (lvalue_type left))) (scalar_marked u right x (number_scalar right b r))
-                      (and_from (is_integer (term_type right)) (is_address (lvalue_type left) && is_address (lvalue_type left)) (number_integer right b r)
-                          (and_from (is_address (lvalue_type left)) (is_address (lvalue_type left)) (place_address u left t s) (place_address u left t s)))))
-              place.typed
-              (λ scalar is_test. no_tests u k ground at (lvalue_type left) 0 None is_test (tree.CompoundShift down size left right) refl)
+          (and_from (is_marked_place u left) (is_marked_term u true right && (is_integer (term_type right) && (is_address (lvalue_type left) && is_address (lvalue_type left)))) place.marked
+          (and_from (is_marked_term u true right) (is_integer (term_type right) && (is_address (lvalue_type left) && is_address (lvalue_type left))) (scalar_marked u right x (number_scalar right b r))
+          (and_from (is_integer (term_type right)) (is_address (lvalue_type left) && is_address (lvalue_type left)) (number_integer right b r)
+          (and_from (is_address (lvalue_type left)) (is_address (lvalue_type left)) (place_address u left t s) (place_address u left t s)))))
+          place.typed
+          (λ scalar is_test. no_tests u k ground at (lvalue_type left) 0 None is_test (tree.CompoundShift down size left right) refl)
 
       -- an integer
       module _ (a b : IntType) (s : lvalue_type left ≡ Int a) (t : term_type right ≡ Int b) where
