@@ -1,20 +1,19 @@
 -- Relations of two integers are decided: their operands are sides of tests in the common type.
-use Rattle.std.proofs.Common.{◌≡◌, ◌⊎◌, inl, inr, ℕ, ◌==◌, ℤ, Bool, true, false, ◌&&◌, ◌||◌, Option, Some, None, refl, ap, sym, subst, subst₂, ◌∙◌}
-use Rattle.std.specs.Ordering.{int_eq}
+use Rattle.std.proofs.Common.{◌≡◌, ◌⊎◌, inl, inr, ℤ, Bool, true, Option, Some, None, refl, ap, sym, subst, subst₂, ◌∙◌}
 use Rattle.std.proofs.lemmas.Bool.{eq-eqb, and_from, or_left, or_right, cond-true}
 use Rattle.std.proofs.lemmas.Bool.Decides.{Decides-int_eq}
 use Rattle.cc_base.specs.IntegerTypes.{wrap_into}
 use Rattle.cc_base.specs.declared.int_types.IntType.{IntType}
 use Rattle.cc_base.specs.declared.integer_operators.Rel.{Rel}
 use Rattle.cc_base.specs.declared.integer_operators.Rel.TheVariants.{Lt, Le, Gt, Ge, Eq, Ne}
-use Rattle.c_layout.specs.Types.{Ty, Int, same_kind}
+use Rattle.c_layout.specs.Types.{Int, same_kind}
 use Rattle.c_layout.specs.CheckedTrees.{TermTree}
 use Rattle.c_layout.specs.CheckedUnits.{UnitView}
 use Rattle.c_layout.specs.declared.checked_tree.checked_terms.ObjectRef.{ObjectRef}
 use Rattle.c_layout.specs.declared.checked_tree.checked_terms.ObjectRef.TheVariants as ref
 use Rattle.c_types_scopes.specs.Known.{Known}
-use Rattle.c_types_operands.specs.Operands.{is_void, term_constant}
-use Rattle.c_types_operands.specs.Conversions.{in_type, implicit, integer_as}
+use Rattle.c_types_operands.specs.Operands.{term_constant}
+use Rattle.c_types_operands.specs.Conversions.{implicit, integer_as}
 use Rattle.flow_lower_conditions.specs.declared.branch_tests.NamedObject.{NamedObject}
 use Rattle.flow_lower_conditions.specs.Tests.{named, named_or_assigned, constant_of}
 use Rattle.flow_lower_tasks.specs.TermKinds.{integer_type, scalar_of, term_type}
@@ -27,9 +26,9 @@ use Rattle.ref_machine.specs.Items as item
 use Rattle.ref_machine.specs.Items.{NamedSide, NamedTest}
 use Rattle.ref_machine.specs.TermTests.{test_between, right_side, test_with, turned_test, relation_test, operator_test}
 use Rattle.ref_machine_marks.specs.Marks.{Mark, Exactly, Loaded, Converted}
-use Rattle.ref_machine_looks.specs.LookedTypes.{is_kind, is_scalar_type, same_scalar}
-use Rattle.ref_machine_looks.specs.LookedTests.{same_reference, same_object, same_relation, is_side_of, converted_number, converted_object, compares}
-use Rattle.ref_machine_looks.specs.LookedTerms.{exact, side, stored, quiet, operand, is_marked_term, converted_in, converted_to}
+use Rattle.ref_machine_looks.specs.LookedTypes.{is_kind, same_scalar}
+use Rattle.ref_machine_looks.specs.LookedTests.{same_reference, same_object, same_relation, is_side_of, converted_number, compares}
+use Rattle.ref_machine_looks.specs.LookedTerms.{side, quiet, operand, converted_in, converted_to}
 use Rattle.c_types_marks.specs.ModelTypes.{IsKindOf, IsGround}
 use Rattle.c_types_marks.specs.MadeTerms.{IsMade}
 use Rattle.c_types_marks_tests.proofs.ModelKinds.{same_kind_self, kind_there}

@@ -44,11 +44,11 @@ use Rattle.ref_machine_ranges.proofs.Results.{binary_in, unary_in}
 use Rattle.ref_machine_ranges.proofs.TypeRanges.{of_wider, wrapped_in, wrapped_own}
 use Rattle.c_types_marks.specs.ModelTypes.{IsKindOf, IsTypeOf, IsGround}
 use Rattle.c_types_marks.specs.MadeTerms.{IsExactly, IsMade}
-use Rattle.c_types_marks_tests.specs.FoldingLaws.{FoldsAsComputedIn}
+use Rattle.c_types_marks_numbers.specs.FoldingLaws.{FoldsAsComputedIn}
 use Rattle.c_types_marks_tests.proofs.ModelKinds.{kind_there, kind_size, kind_truths, promoted_kind, promoted_wider}
 use Rattle.c_types_marks_tests.proofs.Rewrapped.{noted_exact}
-use Rattle.c_types_marks_tests.proofs.SizeNumbers.{size_fits, sized_small}
-use Rattle.c_types_marks_tests.proofs.FoldedNumbers.{computed}
+use Rattle.c_types_marks_numbers.proofs.SizeNumbers.{size_fits, sized_small}
+use Rattle.c_types_marks_numbers.proofs.FoldedNumbers.{computed}
 use Rattle.c_types_marks_tests.proofs.ConvertedOperands.{exact_in}
 
 -- ---- what is recorded

@@ -98,7 +98,7 @@ module _ (u : UnitView) (proper : is_model u.model ≡ true) where
       let common : IntType = common_with_int kind u.model.int in
       let test : NamedTest = zero_test_in o common in
       subst (λ s. decides_alone u o s test ≡ true) (sym is)
-        (and_from (is_kind u.model kind) _ (kind_there u.model proper kind h) (and_from (is_kind u.model common) _ (kind_there u.model proper common (zero_kind u.model proper kind h)) (and_from (is_wider kind common) _ (zero_wider u.model proper kind h) (same_test_self test))))
+      (and_from (is_kind u.model kind) _ (kind_there u.model proper kind h) (and_from (is_kind u.model common) _ (kind_there u.model proper common (zero_kind u.model proper kind h)) (and_from (is_wider kind common) _ (zero_wider u.model proper kind h) (same_test_self test))))
   zero_decided o t typed of.Pointer is same = subst (λ s. decides_alone u o s (null_test_of o Ne) ≡ true) (sym is) (same_test_self (null_test_of o Ne))
 
   -- a term that is an object, or assigns to one

@@ -1,9 +1,9 @@
 -- Integer types of a data model: their sizes, promotions and common types.
-use Rattle.std.proofs.Common.{◌≡◌, ◌⊎◌, inl, inr, ℕ, ◌==◌, Bool, true, false, ◌&&◌, ◌||◌, cond, nat_le, nat_lt, refl, ap, sym, subst, ◌∙◌}
+use Rattle.std.proofs.Common.{◌≡◌, inl, inr, ℕ, ◌==◌, Bool, true, false, ◌&&◌, ◌||◌, cond, nat_le, nat_lt, refl, ap, sym, subst}
 use Rattle.std.proofs.lemmas.Bool.{eqb-true, eq-eqb}
 use Rattle.cc_base.specs.IntegerTypes.{is_size}
 use Rattle.cc_base.specs.declared.int_types.IntType.{IntType}
-use Rattle.c_layout.specs.Models.{is_model, short_fits, int_fits, long_fits, long_long_fits, pointer_fits}
+use Rattle.c_layout.specs.Models.{is_model, short_fits, int_fits, long_fits, long_long_fits}
 use Rattle.c_layout.specs.Types.{Ty, Int, Pointer, Array, Struct, Void, same_kind, same_type}
 use Rattle.c_layout.specs.CheckedUnits.{UnitView}
 use Rattle.c_layout.specs.declared.data_model.Model.{Model}
@@ -20,7 +20,6 @@ use Rattle.c_types_marks.specs.ModelTypes.{IsKindOf, IsTypeOf}
 both_hold : (a b : Bool) → a ≡ true → b ≡ true → (a && b) ≡ true
 both_hold true b e f = f
 both_hold false b e f = e
-
 
 pub same_kind_self : (a : IntType) → same_kind a a ≡ true
 same_kind_self a = by a.signed
@@ -58,7 +57,7 @@ by_sizes look each m proper =
     let two = both_true (look (sized 2 4 m.pointer m.char_signed)) (look (sized 2 8 m.pointer m.char_signed)) all.0 in
     let four = both_true (look (sized 4 4 m.pointer m.char_signed)) (look (sized 4 8 m.pointer m.char_signed)) all.1 in
     let by : (int long : ℕ) → m.int ≡ int → m.long ≡ long → look (sized int long m.pointer m.char_signed) ≡ true → look m ≡ true = λ int long e f h.
-        subst (λ n. look (made n m.int m.long m.long_long) ≡ true) (sym short) (subst (λ n. look (made 2 n m.long m.long_long) ≡ true) (sym e) (subst (λ n. look (made 2 int n m.long_long) ≡ true) (sym f) (subst (λ n. look (made 2 int long n) ≡ true) (sym long_long) h))) in
+    subst (λ n. look (made n m.int m.long m.long_long) ≡ true) (sym short) (subst (λ n. look (made 2 n m.long m.long_long) ≡ true) (sym e) (subst (λ n. look (made 2 int n m.long_long) ≡ true) (sym f) (subst (λ n. look (made 2 int long n) ≡ true) (sym long_long) h))) in
     elim (either_true (m.int == 2) (m.int == 4) q.0) [
       | inl e ↦ elim (either_true (m.long == 4) (m.long == 8) r.0) [ inl f ↦ by 2 4 (eqb-true m.int 2 e) (eqb-true m.long 4 f) two.0 | inr f ↦ by 2 8 (eqb-true m.int 2 e) (eqb-true m.long 8 f) two.1 ]
       | inr e ↦ elim (either_true (m.long == 4) (m.long == 8) r.0) [ inl f ↦ by 4 4 (eqb-true m.int 4 e) (eqb-true m.long 4 f) four.0 | inr f ↦ by 4 8 (eqb-true m.int 4 e) (eqb-true m.long 8 f) four.1 ]

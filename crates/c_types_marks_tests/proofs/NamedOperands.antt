@@ -3,13 +3,13 @@ use Rattle.std.proofs.Common.{◌≡◌, ◌⊎◌, inl, inr, ℤ, pos, Bool, tr
 use Rattle.std.proofs.lemmas.Bool.{cond-true, and_from}
 use Rattle.c_layout.specs.Types.{Ty, Int, Pointer, Array, Struct, Void}
 use Rattle.c_layout.specs.CheckedTrees as tree
-use Rattle.c_layout.specs.CheckedTrees.{TermTree, Typed, LvalueTree, Designates}
+use Rattle.c_layout.specs.CheckedTrees.{TermTree, Typed, Designates}
 use Rattle.c_layout.specs.CheckedUnits.{UnitView}
 use Rattle.c_layout.specs.declared.data_model.Model.{Model}
 use Rattle.c_layout.specs.declared.checked_tree.checked_terms.ConversionKind.TheVariants.{Implicit, Cast}
 use Rattle.flow_lower_conditions.specs.declared.branch_tests.NamedObject.{NamedObject}
 use Rattle.flow_lower_conditions.specs.Tests.{named, named_by, or_else, named_or_assigned}
-use Rattle.flow_lower_tasks.specs.TermKinds.{is_zero, scalar_of, term_type, term_form, lvalue_type, peeled, assigned}
+use Rattle.flow_lower_tasks.specs.TermKinds.{is_zero, scalar_of, term_type, term_form, peeled, assigned}
 use Rattle.ref_machine_marks.specs.Marks.{Mark, Exactly, Null, Loaded}
 use Rattle.ref_machine_looks.specs.LookedTypes.{is_scalar_type, is_address, same_mark}
 use Rattle.ref_machine_looks.specs.LookedTerms.{exact, is_exact_zero, is_null, has_object, loaded_from, side, stored, converted_in, converted_to, first_of, quiet, operand, is_marked_term}
@@ -47,12 +47,15 @@ module _ (u : UnitView) where
   number_side (Typed at t p c (tree.Convert sort a)) n h = let x = converted_from u.model t (exact u.model a) n h in ap (converted_to u t) (number_side a x.0 x.1)
   number_side (Typed at t p c f) n h = refl
 
-  pub null_side : (e : TermTree) → is_null u.model e ≡ true → side u e ≡ None
-  null_side (Typed at t p c (tree.Convert sort a)) h = ap (converted_to u t) (by (either_true (is_null u.model a) (is_exact_zero u.model a) (both_true (is_address t) (is_null u.model a || is_exact_zero u.model a) h).1))
+  either_side : (e : TermTree) → (is_null u.model e ≡ true → side u e ≡ None) → (is_null u.model e || is_exact_zero u.model e) ≡ true → side u e ≡ None
+  either_side e f h = by (either_true (is_null u.model e) (is_exact_zero u.model e) h)
     where
-      by : (is_null u.model a ≡ true) ⊎ (is_exact_zero u.model a ≡ true) → side u a ≡ None
-      by (inl e) = null_side a e
-      by (inr e) = number_side a (pos 0) (zero_is (exact u.model a) e)
+      by : (is_null u.model e ≡ true) ⊎ (is_exact_zero u.model e ≡ true) → side u e ≡ None
+      by (inl g) = f g
+      by (inr g) = number_side e (pos 0) (zero_is (exact u.model e) g)
+
+  pub null_side : (e : TermTree) → is_null u.model e ≡ true → side u e ≡ None
+  null_side (Typed at t p c (tree.Convert sort a)) h = ap (converted_to u t) (either_side a (λ g. null_side a g) (both_true (is_address t) (is_null u.model a || is_exact_zero u.model a) h).1)
   null_side (Typed at t p c f) h = never h
 
   null_number : (e : TermTree) → is_null u.model e ≡ true → exact u.model e ≡ None

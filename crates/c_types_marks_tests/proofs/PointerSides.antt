@@ -1,6 +1,6 @@
 -- Comparisons of pointers with null are decided: one operand is null and the other one the value of an object.
 use Rattle.std.proofs.Common.{◌≡◌, ◌⊎◌, inl, inr, pos, Bool, true, false, ◌&&◌, ◌||◌, cond, Option, Some, None, refl, ap, sym, subst, subst₂, ◌∙◌}
-use Rattle.std.proofs.lemmas.Bool.{and_from, or_left, or_right, cond-true}
+use Rattle.std.proofs.lemmas.Bool.{and_from, or_left, or_right}
 use Rattle.cc_base.specs.declared.int_types.IntType.{IntType}
 use Rattle.cc_base.specs.declared.integer_operators.Rel.{Rel}
 use Rattle.c_layout.specs.Types.{Ty, Int, Pointer, Array, Struct, Void}
@@ -13,8 +13,7 @@ use Rattle.c_types_operands.specs.Operands as operand
 use Rattle.c_types_operands.specs.Conversions.{in_type, implicit}
 use Rattle.flow_lower_conditions.specs.declared.branch_tests.NamedObject.{NamedObject}
 use Rattle.flow_lower_conditions.specs.Tests.{named, named_or_assigned, compared_with_null}
-use Rattle.flow_lower_tasks.specs.TermKinds.{scalar_of, is_void_pointer, is_zero, is_zero_cast, converted, term_type, term_form, term_constant, peeled, is_null_term, is_null_constant}
-use Rattle.flow_program.specs.declared.machine_instructions.Scalar.{Scalar}
+use Rattle.flow_lower_tasks.specs.TermKinds.{scalar_of, is_void_pointer, is_zero, is_zero_cast, converted, term_type, term_form, term_constant, is_null_term, is_null_constant}
 use Rattle.flow_program.specs.declared.machine_instructions.Scalar.TheVariants as of
 use Rattle.ref_machine.specs.Items as item
 use Rattle.ref_machine.specs.Items.{NamedTest}
@@ -23,7 +22,7 @@ use Rattle.ref_machine_marks.specs.Marks.{Mark, Null, Loaded}
 use Rattle.ref_machine_looks.specs.LookedTypes.{is_scalar, is_pointer, is_address}
 use Rattle.ref_machine_looks.specs.LookedTests.{same_object, same_relation, same_test, converted_mark, converted_pointer, compares_with_null}
 use Rattle.ref_machine_looks.specs.LookedTerms as look
-use Rattle.ref_machine_looks.specs.LookedTerms.{exact, is_exact_zero, side, stored, quiet, converted_to}
+use Rattle.ref_machine_looks.specs.LookedTerms.{exact, is_exact_zero, side, quiet, converted_to}
 use Rattle.ref_machine_looks.proofs.SameTypes.{pointer_is}
 use Rattle.ref_machine_looks.proofs.Truths.{never, no_some, both_true, either_true}
 use Rattle.c_types_marks.specs.MadeTerms.{IsExactly, IsMade}
@@ -127,10 +126,10 @@ module _ (u : UnitView) (k : Known) (e : TermTree) (to : Ty) (fits : (is_address
   assigned_known : (o : NamedObject) → IsAssigned u e o → look.operand u (in_type k e to) ≡ Some (Loaded o)
   assigned_known o y = in_type_by k e to (λ l. look.operand u l ≡ Some (Loaded o)) (λ same. operand_stored u e (Loaded o) y.side y.number y.null y.stored)
       (operand_stored u (implicit k e to) (Loaded o)
-        (converted_side k e to u ∙ ap (converted_to u to) y.side)
-        (converted_exact k e to u.model ∙ address_no_number u.model to (exact u.model e) address)
-        (converted_null k e to u.model ∙ (ap (λ b. is_address to && (b || is_exact_zero u.model e)) y.null ∙ (ap (λ o. is_address to && is_zero o) y.number ∙ and_false (is_address to))))
-        (converted_stored k e to u ∙ (ap (converted_to u to) y.stored ∙ converted_pointer_is o (assigned_pointer o y))))
+      (converted_side k e to u ∙ ap (converted_to u to) y.side)
+      (converted_exact k e to u.model ∙ address_no_number u.model to (exact u.model e) address)
+      (converted_null k e to u.model ∙ (ap (λ b. is_address to && (b || is_exact_zero u.model e)) y.null ∙ (ap (λ o. is_address to && is_zero o) y.number ∙ and_false (is_address to))))
+      (converted_stored k e to u ∙ (ap (converted_to u to) y.stored ∙ converted_pointer_is o (assigned_pointer o y))))
     where
       and_false : (b : Bool) → (b && false) ≡ false
       and_false true = refl

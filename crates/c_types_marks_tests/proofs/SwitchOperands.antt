@@ -1,8 +1,8 @@
 -- What a switch selects by is an object, converted or not, or a number.
-use Rattle.std.proofs.Common.{◌≡◌, Bool, true, false, not, ◌&&◌, Option, Some, None, refl, ap, sym, subst, ◌∙◌}
+use Rattle.std.proofs.Common.{◌≡◌, true, not, ◌&&◌, Option, Some, None, refl, ap, sym, subst, ◌∙◌}
 use Rattle.std.proofs.lemmas.Bool.{and_from, or_left, cond-true}
 use Rattle.cc_base.specs.declared.int_types.IntType.{IntType}
-use Rattle.c_layout.specs.Types.{Ty, Int}
+use Rattle.c_layout.specs.Types.{Int}
 use Rattle.c_layout.specs.CheckedTrees.{TermTree}
 use Rattle.c_layout.specs.CheckedUnits.{UnitView}
 use Rattle.c_types_rules.specs.IntegerKinds.{promoted}
@@ -13,7 +13,7 @@ use Rattle.flow_lower_conditions.specs.declared.branch_tests.NamedObject.{NamedO
 use Rattle.flow_lower_conditions.specs.Tests.{named}
 use Rattle.flow_lower_tasks.specs.TermKinds.{scalar_of, term_type}
 use Rattle.flow_program.specs.declared.machine_instructions.Scalar.TheVariants as of
-use Rattle.ref_machine_marks.specs.Marks.{Loaded, Converted}
+use Rattle.ref_machine_marks.specs.Marks.{Converted}
 use Rattle.ref_machine_looks.specs.LookedTypes.{is_kind, is_wider, is_integer, converts}
 use Rattle.ref_machine_looks.specs.LookedTests.{same_object, converted_number}
 use Rattle.ref_machine_looks.specs.LookedTerms.{is_marked_term, side, converted_to}
@@ -34,13 +34,13 @@ module _ (u : UnitView) (k : Known) (ground : IsGround u k) (e : TermTree) (a wi
   marked_in : is_marked_term u true (integer_as k e wide) ≡ true
   marked_in = in_type_by k e (Int wide) (λ l. is_marked_term u true l ≡ true) (λ same. used_marked)
       (and_from (is_kind u.model wide) _ (kind_there u.model ground.proper wide g)
-        (or_left _ _ (and_from (is_marked_term u true (noted k (Int wide) e)) (converts (of.Int wide) (scalar_of (term_type (noted k (Int wide) e)))) (noted_marked k (Int wide) u true e ∙ used_marked) (ap (λ s. converts (of.Int wide) (scalar_of s)) (noted_type k (Int wide) e ∙ t)))))
+      (or_left _ _ (and_from (is_marked_term u true (noted k (Int wide) e)) (converts (of.Int wide) (scalar_of (term_type (noted k (Int wide) e)))) (noted_marked k (Int wide) u true e ∙ used_marked) (ap (λ s. converts (of.Int wide) (scalar_of s)) (noted_type k (Int wide) e ∙ t)))))
 
   object_matches : (o : NamedObject) → IsLoaded u e o → matches u o (side u (integer_as k e wide)) ≡ true
   object_matches o y = in_type_by k e (Int wide) (λ l. matches u o (side u l) ≡ true)
       (λ same. subst (λ mark. matches u o mark ≡ true) (sym y.side) (and_from (same_object o o) (is_of_kind u o.kind) (same_object_self o) (subst (λ s. is_of_kind u s ≡ true) (sym kind) (kind_there u.model ground.proper a h))))
       (subst (λ mark. matches u o mark ≡ true) (sym found) (and_from (same_object o o) (is_within u wide o.kind) (same_object_self o)
-        (subst (λ s. is_within u wide s ≡ true) (sym kind) (and_from (is_kind u.model a) (is_kind u.model wide && is_wider a wide) (kind_there u.model ground.proper a h) (and_from (is_kind u.model wide) (is_wider a wide) (kind_there u.model ground.proper wide g) wider)))))
+      (subst (λ s. is_within u wide s ≡ true) (sym kind) (and_from (is_kind u.model a) (is_kind u.model wide && is_wider a wide) (kind_there u.model ground.proper a h) (and_from (is_kind u.model wide) (is_wider a wide) (kind_there u.model ground.proper wide g) wider)))))
     where
       kind : o.kind ≡ of.Int a
       kind = y.kind ∙ ap scalar_of t

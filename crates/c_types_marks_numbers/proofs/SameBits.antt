@@ -1,10 +1,11 @@
 -- Conversion into a type sees of a number its low bits alone, also of one in 64 bits.
-use Rattle.std.proofs.Common.{◌≡◌, inl, inr, ℕ, ◌-◌, ◌*◌, ◌%◌, ◌^◌, ◌<◌, ◌≤◌, arith, refl, ap, ap₂, sym, subst, ◌∙◌}
+use Rattle.std.proofs.Common.{◌≡◌, inl, inr, ℕ, suc, ◌+◌, ◌-◌, ◌*◌, ◌%◌, ◌^◌, ◌<◌, ◌≤◌, arith, refl, ap, ap₂, sym, subst, ◌∙◌}
 use Rattle.std.specs.Prelude.{ℤ, pos, negsuc, ◌+ℤ◌, ◌≤ℤ◌, ◌<ℤ◌, true, unsigned_abs, bit_and, bit_or, bit_xor}
 use Rattle.std.specs.Int.{w64, cast_signed, cast_unsigned, int_bit_and, int_bit_or, int_bit_xor}
 use Rattle.std.proofs.lemmas.Int.{ints, int_rem_euclid_is, to_z_pos}
 use Rattle.std.proofs.lemmas.Nat.{pow_pos, and_mod, or_mod, xor_mod, and_le_l, or_lt, xor_lt}
 use Rattle.std.proofs.lemmas.Bool.{cases_lt}
+use Rattle.std.proofs.Math.Facts.{to_z-neg}
 use Rattle.std.proofs.Math.Pow.{mod-mod-pow}
 use Rattle.cc_base.specs.IntegerTypes.{is_size, wrap_into}
 use Rattle.cc_base.specs.declared.int_types.IntType.{IntType}
@@ -20,6 +21,13 @@ pub bits_of_sum : (size : ℕ) (z : ℤ) (q m : ℕ) → z +ℤ pos (q * 2 ^ (8 
 bits_of_sum size z q m e = ap unsigned_abs (int_rem_euclid_is z (pos (2 ^ (8 * size))) (2 ^ (8 * size)) q m (pow_pos (8 * size)) refl e)
 
 -- ---- 64 bits
+
+-- the bits of a number below 0
+pub signed_high : (n m : ℕ) → n + suc m ≡ 2 ^ 64 → m < 2 ^ 63 → cast_signed w64 n ≡ negsuc m
+signed_high n m e h = let d : n ≡ 2 ^ 64 - suc m = omega (arith, e) in ap (cast_signed w64) d ∙ to_z-neg w64 m h
+
+high_whole : (n m : ℕ) → n + suc m ≡ 2 ^ 64 → negsuc m +ℤ pos (2 ^ 64) ≡ pos n
+high_whole n m e = omega (arith, ints, e)
 
 module _ (size : ℕ) (h : is_size size ≡ true) where
   -- how often 64 bits have the modulus
@@ -44,7 +52,9 @@ module _ (size : ℕ) (h : is_size size ≡ true) where
   signed_bits : (n : ℕ) → n < 2 ^ 64 → bits_in size (cast_signed w64 n) ≡ n % 2 ^ (8 * size)
   signed_bits n p = elim (cases_lt n (2 ^ 63)) [
     | inl q ↦ ap (bits_in size) (to_z_pos w64 n q)
-    | inr q ↦ bits_of_whole (cast_signed w64 n) n (omega (arith, ints, p, q))
+    | inr q ↦ (let m : ℕ = 2 ^ 64 - suc n in
+        let e : n + suc m ≡ 2 ^ 64 = omega (arith, p) in
+        ap (bits_in size) (signed_high n m e (omega (arith, e, q))) ∙ bits_of_whole (negsuc m) n (high_whole n m e))
   ]
 
 unsigned_below : (z : ℤ) → negsuc (2 ^ 63 - 1) ≤ℤ z → z <ℤ pos (2 ^ 63) → cast_unsigned w64 z < 2 ^ 64

@@ -1,21 +1,20 @@
 -- What typing folds is what operators give.
-use Rattle.std.proofs.Common.{◌≡◌, ◌⊎◌, inl, inr, ℕ, suc, ◌+◌, ◌-◌, ◌*◌, ◌/◌, ◌%◌, ◌^◌, ◌<◌, ◌≤◌, ◌==◌, Bool, true, false, ◌&&◌, cond, nat_lt, Option, Some, None, option_map, is_some, arith, refl, ap, sym, subst, subst₂, ◌∙◌}
+use Rattle.std.proofs.Common.{◌≡◌, inl, inr, ℕ, suc, ◌+◌, ◌-◌, ◌*◌, ◌/◌, ◌%◌, ◌^◌, ◌<◌, ◌≤◌, ◌==◌, Bool, true, false, ◌&&◌, cond, nat_lt, Option, Some, None, option_map, is_some, arith, refl, ap, sym, subst, subst₂, ◌∙◌}
 use Rattle.std.specs.Prelude.{ℤ, pos, negsuc, ◌+ℤ◌, ◌-ℤ◌, ◌*ℤ◌, neg_ℤ, ◌≤ℤ◌, ◌<ℤ◌, unsigned_abs, int_le, int_lt, int_div, int_rem, bit_and, bit_or, bit_xor}
 use Rattle.std.specs.Int.{w64, cast_signed, bit_not, int_rem_euclid, int_bit_and, int_bit_or, int_bit_xor, int_bit_not, int_shr}
 use Rattle.std.specs.Option.{option_and_then}
 use Rattle.std.specs.Ordering.{int_eq}
-use Rattle.std.proofs.lemmas.Int.{ints}
+use Rattle.std.proofs.lemmas.Int.{ints, to_z_pos}
 use Rattle.std.proofs.lemmas.Nat.{pow_pos, and_mod, or_mod, xor_mod}
 use Rattle.std.proofs.Math.Nat.{div-le_self, mod-le}
 use Rattle.std.proofs.lemmas.Bool.{cases_Bool, ltb-true, ltb-false, eq-eqb, and_parts, and_from, cond-true, cond-false}
 use Rattle.cc_base.specs.IntegerTypes.{is_size, modulus, least_of, greatest_of, in_type, wrap_into}
-use Rattle.cc_base.specs.MachineArithmetic.{result_of, is_count, is_quotient_overflow, binary_result, unary_result}
+use Rattle.cc_base.specs.MachineArithmetic.{result_of, is_count, is_quotient_overflow, binary_result}
 use Rattle.cc_base.specs.declared.int_types.IntType.{IntType}
 use Rattle.cc_base.specs.declared.integer_operators.IntOp.TheVariants.{Div, Rem, Shl, Shr}
-use Rattle.cc_base.specs.declared.integer_operators.UnOp.TheVariants.{Neg, Compl}
 use Rattle.c_layout.specs.declared.syntax_tree.expressions.BinaryOp.{BinaryOp}
 use Rattle.c_layout.specs.declared.syntax_tree.expressions.BinaryOp.TheVariants as op
-use Rattle.c_types_rules.specs.ConstantFolding.{modulus_of, converted, has_number, if_has, in_64, unless_zero, related, signed_result, unsigned_result, signed_64, unsigned_64, bits_of, quotient_fits, signed_folded, unsigned_folded, arithmetic, related_or, folded, count_of, shifted_left, signed_shift, unsigned_shift, counted_shift, shifted, negated, complemented}
+use Rattle.c_types_rules.specs.ConstantFolding.{modulus_of, converted, has_number, if_has, in_64, unless_zero, related, signed_result, unsigned_result, signed_64, unsigned_64, bits_of, signed_folded, unsigned_folded, related_or, folded, count_of, shifted_left, signed_shift, unsigned_shift, counted_shift, shifted}
 use Rattle.flow_lower_tasks.specs.TermKinds.{meaning}
 use Rattle.interval_domain.specs.Best.{le_true, true_le}
 use Rattle.interval_domain.specs.IntervalNumbers.{by_size}
@@ -30,8 +29,8 @@ use Rattle.ref_machine_looks.proofs.DecidedTests.{number_is}
 use Rattle.ref_machine_looks.proofs.Truths.{never, there, some_is, no_some, if_true}
 use Rattle.ref_machine_ranges.proofs.ReadBack.{bits_below}
 use Rattle.ref_machine_ranges.proofs.TypeRanges.{between_ends, zero_in, wrapped_in, wrapped_own}
-use Rattle.c_types_marks_tests.specs.FoldingLaws.{FoldsAsComputedIn, FoldsAsComputed}
-use Rattle.c_types_marks_tests.proofs.SameBits.{same_wrapped, bits_of_sum, low_bits, bits_of_whole, bits_and, bits_or, bits_xor}
+use Rattle.c_types_marks_numbers.specs.FoldingLaws.{FoldsAsComputed}
+use Rattle.c_types_marks_numbers.proofs.SameBits.{signed_high, same_wrapped, bits_of_sum, low_bits, bits_of_whole, bits_and, bits_or, bits_xor}
 
 -- ---- tests and options
 
@@ -65,10 +64,10 @@ in_64_is x n e = if_true (int_le (negsuc (2 ^ 63 - 1)) x && int_lt x (pos (2 ^ 6
 
 -- the bits of a number, all turned
 turned_high : (n m : ℕ) → n + suc m ≡ 2 ^ 64 → m < 2 ^ 63 → cast_signed w64 n ≡ (negsuc 0 -ℤ pos m)
-turned_high n m e h = omega (arith, ints, e, h)
+turned_high n m e h = let d : negsuc m ≡ (negsuc 0 -ℤ pos m) = omega (arith, ints) in signed_high n m e h ∙ d
 
 turned_low : (n m : ℕ) → n ≡ m → m < 2 ^ 63 → cast_signed w64 n ≡ (negsuc 0 -ℤ negsuc m)
-turned_low n m e h = omega (arith, ints, e, h)
+turned_low n m e h = let d : pos m ≡ (negsuc 0 -ℤ negsuc m) = omega (arith, ints) in ap (cast_signed w64) e ∙ (to_z_pos w64 m h ∙ d)
 
 not_64 : (a : ℤ) → negsuc (2 ^ 63 - 1) ≤ℤ a → a <ℤ pos (2 ^ 63) → int_bit_not w64 a ≡ (negsuc 0 -ℤ a)
 not_64 (pos m) p q = let h : m < 2 ^ 63 = omega (arith, ints, q) in turned_high (2 ^ 64 - 1 - m) m (omega (arith, h)) h

@@ -89,5 +89,5 @@ module _ (m : Model) (proper : is_model m ≡ true) where
   sized_small structs (Struct i) n h =
       let laid : Bool = (struct_at structs i).complete && nat_lt 0 (struct_at structs i).align in
       if_small (nat_lt i (length structs) && (laid && nat_le (struct_at structs i).size most_bytes)) (struct_at structs i).size n
-          (λ e. leb-true (struct_at structs i).size most_bytes (both_true laid (nat_le (struct_at structs i).size most_bytes) (both_true (nat_lt i (length structs)) (laid && nat_le (struct_at structs i).size most_bytes) e).1).1) h
+      (λ e. leb-true (struct_at structs i).size most_bytes (both_true laid (nat_le (struct_at structs i).size most_bytes) (both_true (nat_lt i (length structs)) (laid && nat_le (struct_at structs i).size most_bytes) e).1).1) h
   sized_small structs Void n h = no_some n h
