@@ -1,0 +1,2 @@
+pub mod ReadyStates
+pub mod MarkedBodies
