@@ -49,6 +49,10 @@ module _ (m : Model) where
       on (Err f) i = tt
   then s N P M Q (Err f) next h go = tt
 
+  pub weaker : {V : Type 0} (s : State) (N : V → Type 0) (P Q : UnitView → V → Type 0) (r : Ruled (V × State)) → Goes m s N P r → ((u : UnitView) (x : V) → P u x → Q u x) → Goes m s N Q r
+  weaker s N P Q (Ok p) h f = (h.0, h.1, λ u part. (let a = h.2 u part in (a.0, f u p.0 a.1)))
+  weaker s N P Q (Err e) h f = tt
+
   pub kept_goes : {V : Type 0} (t : State) (N : V → Type 0) (P : UnitView → V → Type 0) (r : Ruled V) → IsReady m t → Rules t N P r → Goes m t N P (kept t r)
   kept_goes t N P (Ok v) h g = (h, g.0, λ u part. (part, g.1 u part))
   kept_goes t N P (Err f) h g = tt

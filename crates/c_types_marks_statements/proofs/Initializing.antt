@@ -165,11 +165,14 @@ module _ (laws : HasLaws) (m : Model) where
   pub value_made : (t : State) (u : UnitView) (x : OperandView) → IsReady m t → IsPartOf t u → IsMadeOperand u x → IsMade u (term_of x)
   value_made t u x h part g = laws.values u t.known (ground m t u h part) x g
 
-  scalar_given : (t : State) (u : UnitView) (at : Place) (x : OperandView) (to : Ty) → IsReady m t → IsPartOf t u → IsTypeOf m to → IsMadeOperand u x → GivesScalar u (assigned t.known at (term_of x) to)
-  scalar_given t u at x to h part to_typed g =
+  pub term_given : (t : State) (u : UnitView) (at : Place) (e : TermTree) (to : Ty) → IsReady m t → IsPartOf t u → IsTypeOf m to → IsMade u e → GivesScalar u (assigned t.known at e to)
+  term_given t u at e to h part to_typed g =
       let base = ground m t u h part in
       let there : IsTypeOf u.model to = unit_type m t u to h part to_typed in
-      given_scalar u to (assigned t.known at (term_of x) to) (scalar_there u to base.proper there) (laws.conversions u t.known base at (term_of x) to (value_made t u x h part g) there)
+      given_scalar u to (assigned t.known at e to) (scalar_there u to base.proper there) (laws.conversions u t.known base at e to g there)
+
+  scalar_given : (t : State) (u : UnitView) (at : Place) (x : OperandView) (to : Ty) → IsReady m t → IsPartOf t u → IsTypeOf m to → IsMadeOperand u x → GivesScalar u (assigned t.known at (term_of x) to)
+  scalar_given t u at x to h part to_typed g = term_given t u at (term_of x) to h part to_typed (value_made t u x h part g)
 
   -- ---- steps that fill
 
