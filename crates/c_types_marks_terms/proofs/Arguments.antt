@@ -1,13 +1,12 @@
 -- Arguments that are converted to the types of their parameters.
-use Rattle.std.proofs.Common.{◌≡◌, ◌+◌, ◌==◌, ℕ, zero, suc, List, [], ◌∷◌, map, Option, Some, None, Ok, Err, slice_get, length, refl, ap, subst, sym, ◌∙◌, arith}
-use Rattle.std.specs.Prelude.{Bool, true, false, cond, ◌&&◌}
+use Rattle.std.proofs.Common.{◌≡◌, ◌+◌, ◌==◌, ℕ, suc, List, [], ◌∷◌, map, Some, Ok, Err, slice_get, length, refl, ap, subst, sym, ◌∙◌, arith}
+use Rattle.std.specs.Prelude.{Bool, true, false, cond}
 use Rattle.std.proofs.lemmas.Bool.{eqb-true, eq-eqb, and_from}
 use Rattle.cc_base.specs.declared.diagnostics.Place.{Place}
 use Rattle.c_layout.specs.Types.{Ty}
 use Rattle.c_layout.specs.CheckedTrees as tree
 use Rattle.c_layout.specs.CheckedTrees.{TermTree, term_trees}
 use Rattle.c_layout.specs.CheckedUnits.{FunctionView, UnitView}
-use Rattle.c_layout.specs.declared.data_model.Model.{Model}
 use Rattle.c_types_scopes.specs.Known.{Known}
 use Rattle.c_types_scopes.specs.Refusals.{Ruled, type_fault}
 use Rattle.c_types_operands.specs.Conversions.{assigned}
@@ -17,11 +16,11 @@ use Rattle.c_types_primary.specs.Lists.{with_first, if_first}
 use Rattle.flow_lower_functions.specs.Functions.{local_type}
 use Rattle.flow_lower_tasks.specs.TermKinds as flow
 use Rattle.ref_machine_kinds.specs.KindedTerms.{argument_kinds}
-use Rattle.ref_machine_operations.specs.Kinds.{Kind, kind_of_type}
+use Rattle.ref_machine_operations.specs.Kinds.{kind_of_type}
 use Rattle.ref_machine_looks.specs.LookedTerms.{are_marked_terms, have_parameters}
 use Rattle.ref_machine_looks.specs.LookedTypes.{same_mark}
 use Rattle.c_types_marks.specs.MadeLaws.{ValuesAreMade, ConversionsGive}
-use Rattle.c_types_marks.specs.MadeTerms.{IsMade, IsMadeOperand, IsGiven, Gives}
+use Rattle.c_types_marks.specs.MadeTerms.{IsMadeOperand, IsGiven, Gives}
 use Rattle.c_types_marks.specs.ModelTypes.{IsTypeOf, IsGround, Each}
 
 abbrev pub AreMade : UnitView → List OperandView → Type 0

@@ -1,5 +1,5 @@
 -- Calls of functions of the unit, of the library and of printf are made.
-use Rattle.std.proofs.Common.{◌≡◌, ◌+◌, ◌==◌, ℕ, zero, suc, List, [], ◌∷◌, map, Option, Some, None, Ok, Err, slice_get, length, refl, ap, subst, sym, ◌∙◌, arith}
+use Rattle.std.proofs.Common.{◌≡◌, ◌+◌, ◌==◌, ℕ, List, [], ◌∷◌, Option, Some, None, Ok, Err, slice_get, length, refl, ap, subst, sym, ◌∙◌, arith}
 use Rattle.std.specs.Prelude.{Bool, true, false, cond, not, ◌&&◌, ◌||◌, is_none, unwrap_or}
 use Rattle.std.proofs.lemmas.Bool.{and_from}
 use Rattle.cc_base.specs.declared.diagnostics.Place.{Place}
@@ -13,15 +13,14 @@ use Rattle.c_layout.specs.declared.library_functions.LibFn.{LibFn}
 use Rattle.c_layout.specs.declared.library_functions.LibFn.TheVariants as lib
 use Rattle.c_types_rules.specs.IntegerKinds.{promoted}
 use Rattle.c_types_rules.specs.declared.type_conversions.Conversion.TheVariants.{Same, Converted}
-use Rattle.c_types_rules.specs.declared.integer_kinds.Rank.TheVariants as rank
 use Rattle.c_types_scopes.specs.DeclaredTypes.{SignatureView}
 use Rattle.c_types_scopes.specs.Known.{Known}
 use Rattle.c_types_scopes.specs.Refusals.{Ruled, undeclared, format_fault}
 use Rattle.c_types_scopes.specs.States.{State, is_evaluated}
-use Rattle.c_types_operands.specs.Conversions.{assigned_by, implicit, integer_as}
+use Rattle.c_types_operands.specs.Conversions.{assigned_by, implicit}
 use Rattle.c_types_operands.specs.Operands.{OperandForm, AsValue, AsLvalue, OperandView, Begins, Decays, form_value, value_by, term_of, term_type, is_void, wrapped}
 use Rattle.c_types_primary.specs.Calls as calls
-use Rattle.c_types_primary.specs.Calls.{called, called_with, converted_arguments, each_formatted, formatted, formatted_arguments, if_wanted, is_wanted, literal_bytes, promoted_argument, takes_format}
+use Rattle.c_types_primary.specs.Calls.{called, called_with, converted_arguments, each_formatted, formatted, formatted_arguments, is_wanted, literal_bytes, promoted_argument, takes_format}
 use Rattle.c_types_primary.specs.Lists.{with_first, if_first}
 use Rattle.c_types_primary.specs.PrintfFormats.{wanted_by}
 use Rattle.c_types_primary.specs.Primaries.{no_number}
@@ -39,12 +38,12 @@ use Rattle.ref_machine_looks.specs.LookedTypes.{same_mark}
 use Rattle.c_types_marks.specs.KnownTypes.{HasTypes}
 use Rattle.c_types_marks.specs.MadeLaws.{ValuesAreMade, ConversionsGive}
 use Rattle.c_types_marks.specs.MadeTerms.{IsMade, IsMadeOperand, IsGiven, Gives, Makes}
-use Rattle.c_types_marks.specs.ModelTypes.{IsTypeOf, IsGround, Each}
-use Rattle.c_types_marks.specs.UnitParts.{IsPartOf, IsHeadOf, IsThere}
+use Rattle.c_types_marks.specs.ModelTypes.{IsTypeOf, IsGround}
+use Rattle.c_types_marks.specs.UnitParts.{IsPartOf, IsThere}
 use Rattle.c_types_marks_rules.proofs.ModelKinds.{mark_same, promoted_known}
 use Rattle.c_types_marks_terms.proofs.Arguments.{AreMade, AreGiven, GivesAll, arguments_given, given_marked, given_parameters, type_is}
 use Rattle.c_types_marks_terms.proofs.LibraryCalls.{library_called_made, library_call_made}
-use Rattle.c_types_marks_terms.proofs.Parts.{in_model, kind_is}
+use Rattle.c_types_marks_terms.proofs.Parts.{in_model}
 use Rattle.c_types_marks_terms.proofs.Primaries.{in_unit}
 use Rattle.c_types_marks_terms.proofs.Steps.{Holds, ground}
 

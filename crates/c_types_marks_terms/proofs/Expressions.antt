@@ -1,5 +1,5 @@
 -- Expressions keep what typing knows, and those that are evaluated are made.
-use Rattle.std.proofs.Common.{◌≡◌, ℕ, List, [], ◌∷◌, Option, Some, None, Ok, Err, refl, subst, sym, ◌∙◌}
+use Rattle.std.proofs.Common.{◌≡◌, ℕ, List, Option, Some, None, Ok, Err, refl, subst, sym, ◌∙◌}
 use Rattle.std.specs.Prelude.{true}
 use Rattle.cc_base.specs.declared.diagnostics.Place.{Place}
 use Rattle.c_layout.specs.CheckedUnits.{UnitView}
@@ -9,7 +9,7 @@ use Rattle.c_layout.specs.declared.checked_tree.checked_terms.StepTime.TheVarian
 use Rattle.c_layout.specs.declared.data_model.Model.{Model}
 use Rattle.c_types_scopes.specs.Answers.{after, kept}
 use Rattle.c_types_scopes.specs.Refusals.{Ruled}
-use Rattle.c_types_scopes.specs.States.{State, is_evaluated, with_constant}
+use Rattle.c_types_scopes.specs.States.{State, is_evaluated}
 use Rattle.c_types_operands.specs.Comparisons.{binary}
 use Rattle.c_types_operands.specs.Indirections.{indirection, subscript}
 use Rattle.c_types_operands.specs.Operands.{OperandView, term_of}
@@ -34,7 +34,7 @@ use Rattle.c_types_marks.specs.ModelTypes.{IsTypeOf}
 use Rattle.c_types_marks_terms.specs.TermLaws.{RulesMakeExpressions, LengthsKeep}
 use Rattle.c_types_marks_terms.proofs.Arguments.{AreMade}
 use Rattle.c_types_marks_terms.proofs.Calls.{IsText, text_wrapped, IsSpelled, call_made}
-use Rattle.c_types_marks_terms.proofs.Primaries.{in_unit, name_made, constant_made, literal_made, literal_step, member_made, arrow_made}
+use Rattle.c_types_marks_terms.proofs.Primaries.{name_made, constant_made, literal_made, literal_step, member_made, arrow_made}
 use Rattle.c_types_marks_terms.proofs.Steps.{IsAt, keeps_same, keeps_twice, at_later, evaluated_still, ground, then, weaker, Holds, constant_keeps, called_keeps}
 use Rattle.c_types_marks_terms.proofs.TypeNames.{Anything, type_name_on}
 

@@ -1,6 +1,6 @@
 -- Calls of library functions are made.
-use Rattle.std.proofs.Common.{◌≡◌, ◌⊎◌, inl, inr, ◌+◌, ◌-◌, ◌*◌, ◌^◌, ◌==◌, ℕ, zero, suc, pos, negsuc, List, [], ◌∷◌, map, Option, Some, None, Ok, Err, slice_get, length, refl, ap, subst, sym, ◌∙◌, arith}
-use Rattle.std.specs.Prelude.{ℤ, Bool, true, false, cond, not, ◌&&◌, ◌||◌}
+use Rattle.std.proofs.Common.{◌≡◌, inl, inr, ◌-◌, ◌*◌, ◌^◌, ℕ, pos, negsuc, List, [], ◌∷◌, map, None, Ok, Err, refl, subst, sym}
+use Rattle.std.specs.Prelude.{ℤ, Bool, true, false, not, ◌&&◌, ◌||◌}
 use Rattle.std.proofs.lemmas.Bool.{and_from}
 use Rattle.cc_base.specs.IntegerTypes.{in_type}
 use Rattle.cc_base.specs.declared.diagnostics.Place.{Place}
@@ -25,16 +25,16 @@ use Rattle.c_types_primary.specs.Calls.{library_called, takes_format}
 use Rattle.flow_lower_expressions.specs.Calls.{gives}
 use Rattle.flow_lower_tasks.specs.TermKinds.{scalar_of}
 use Rattle.ref_machine_kinds.specs.KindedTerms.{argument_kinds}
-use Rattle.ref_machine_operations.specs.Kinds.{Kind, kind_of_type}
+use Rattle.ref_machine_operations.specs.Kinds.{kind_of_type}
 use Rattle.ref_machine_operations.specs.TakenKinds.{result_kind}
-use Rattle.ref_machine_looks.specs.LookedTerms.{accepts, is_given, calls_library, has_tests, are_marked_terms}
+use Rattle.ref_machine_looks.specs.LookedTerms.{accepts, is_given, has_tests, are_marked_terms}
 use Rattle.c_types_marks.specs.KnownTypes.{HasTypes}
 use Rattle.c_types_marks.specs.MadeLaws.{ValuesAreMade, ConversionsGive}
 use Rattle.c_types_marks.specs.MadeTerms.{IsMadeOperand, Makes}
 use Rattle.c_types_marks.specs.ModelTypes.{IsTypeOf, Each}
 use Rattle.c_types_marks.specs.UnitParts.{IsPartOf}
 use Rattle.c_types_marks_rules.proofs.ModelKinds.{model_numbers}
-use Rattle.c_types_marks_terms.proofs.Arguments.{AreMade, AreGiven, GivesAll, arguments_given, given_marked, given_kinds}
+use Rattle.c_types_marks_terms.proofs.Arguments.{AreMade, GivesAll, arguments_given, given_marked, given_kinds}
 use Rattle.c_types_marks_terms.proofs.Parts.{kind_is, in_model, each_none, each_first}
 use Rattle.c_types_marks_terms.proofs.Primaries.{in_unit}
 use Rattle.c_types_marks_terms.proofs.Steps.{ground}
