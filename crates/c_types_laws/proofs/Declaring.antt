@@ -26,7 +26,7 @@ pub record HasDeclarations (R : State → State → Type 0) : Type 0 where
   pub enumerations : (s : State) (x : List (List ℤ)) → R s (record s { enumerations = x })
 
 module _ (R : State → State → Type 0) (has : HasDeclarations R) where
-  specifies : HasSpecifiers R
+  pub specifies : HasSpecifiers R
   specifies = record {
     steps = has.steps;
     tagged = λ s name t. has.scoped s _;

@@ -3,5 +3,6 @@ pub mod Expressing
 pub mod Specifying
 pub mod Declaring
 pub mod Initializing
+pub mod Blocks
 pub mod Stating
 pub mod Entries
