@@ -1,0 +1,6 @@
+//! What typing knows at the end of a unit is part of the unit.
+#![tactic(auto)]
+
+mod theorems;
+
+pub use theorems::units_have_heads;
