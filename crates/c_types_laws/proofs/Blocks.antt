@@ -28,7 +28,6 @@ use Rattle.c_types_statement_rules.specs.BodyFlow.{FlowView, flow_with_default}
 use Rattle.c_types_statement_rules.specs.Points.{Point}
 use Rattle.c_types_statement_rules.specs.SimpleStatements as simple
 use Rattle.c_types_statement_rules.specs.CompoundStatements as compound
-use Rattle.c_types_statement_rules.specs.CompoundStatements.{ControllingView}
 use Rattle.c_types_statement_rules.specs.StatementNodes as nodes
 use Rattle.c_types_statement_rules.specs.StatementNodes.{no_parts, in_loop, in_switch}
 use Rattle.c_types_statements.specs.LabelNumbers as labels

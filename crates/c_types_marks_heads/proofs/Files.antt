@@ -31,13 +31,14 @@ use Rattle.ref_machine_looks.specs.LookedTypes.{same_mark}
 use Rattle.flow_lower_functions.specs.Functions.{local_type, type_or}
 use Rattle.c_types_marks.specs.UnitParts.{IsHeadOf}
 use Rattle.c_types_marks_rules.proofs.ModelKinds.{mark_same}
-use Rattle.c_types_marks_heads.proofs.Longer.{Longer, longer_by, longer_twice, last_item}
+use Rattle.c_types_marks_scopes.proofs.Longer.{Longer, longer_by, longer_twice, last_item}
 use Rattle.c_types_marks_heads.proofs.Numbering.{IsNumbering, IsComing}
-use Rattle.c_types_marks_heads.proofs.Growing.{ScopeView, scope, opened, IsMeaningful, AreFew, IsRenewed, GoesOn, Grows, on_same, on_twice, on_closed, grows_closed, means_by, means_longer, means_more, means_renewed, renewed_longer, none_declared, function_found}
-use Rattle.c_types_marks_heads.proofs.Heads.{local_ctype, types_of, Heads, function_heads, IsFunctionOf, HasBody, body_goes}
+use Rattle.c_types_marks_scopes.specs.BodyObjects.{local_ctype, types_of}
+use Rattle.c_types_marks_scopes.proofs.Growing.{ScopeView, scope, opened, IsMeaningful, AreFew, IsRenewed, GoesOn, Grows, on_same, on_twice, on_closed, grows_closed, means_by, means_longer, means_more, means_renewed, renewed_longer, none_declared, function_found}
+use Rattle.c_types_marks_scopes.proofs.Heads.{Heads, function_heads, IsFunctionOf, HasBody, body_goes}
 use Rattle.c_types_marks_heads.proofs.Functions.{HasFunctions, functions_longer, functions_new, functions_defined, renewed_changed, Stands, IsSigned, Signs, signed_signs, IsMet, Meets, judged_meets}
 use Rattle.c_types_objects.specs.Changes.{changed}
-use Rattle.c_types_marks_heads.proofs.Objects.{G, named, words_lead, typedef_leads, object_declarator_leads, initialized_declarator_leads}
+use Rattle.c_types_marks_scopes.proofs.Objects.{G, named, words_lead, typedef_leads, object_declarator_leads, initialized_declarator_leads}
 
 -- ---- states at file scope
 
@@ -66,22 +67,16 @@ module _ (d : DefinitionsView) (names : List (List ℕ)) (m : Model) (good : IsN
   abbrev File : List FunctionView → State → Type 0
   File made s = IsFile d names m made s
 
-  -- a state that is reached with the functions as they are
-  file_on : (made : List FunctionView) (s t : State) → GoesOn (scope s) (scope t) → IsMeaningful (scope t) → HasFunctions d made t.scopes.ordinary.entries t.functions → File made s → (more : List FunctionView) → HasFunctions d more t.scopes.ordinary.entries t.functions → File more t
-  file_on made s t on means fs h more gs = record {
-    names = longer_twice names s.scopes.names t.scopes.names h.names on.names;
-    definitions = on.definitions ∙ h.definitions;
-    model = on.model ∙ h.model;
-    marks = on.marks ∙ h.marks;
-    means = means;
-    few = on.few h.few;
-    functions = gs;
-  }
-
   file_grows : (made : List FunctionView) (s t : State) → Grows (scope s) (scope t) → File made s → File made t
-  file_grows made s t g h =
-      let fs = subst (HasFunctions d made t.scopes.ordinary.entries) (sym g.functions) (functions_longer d made s.scopes.ordinary.entries t.scopes.ordinary.entries s.functions g.on.entries h.functions) in
-      file_on made s t g.on (g.means h.means) fs h made fs
+  file_grows made s t g h = record {
+    names = longer_twice names s.scopes.names t.scopes.names h.names g.on.names;
+    definitions = g.on.definitions ∙ h.definitions;
+    model = g.on.model ∙ h.model;
+    marks = g.on.marks ∙ h.marks;
+    means = g.means h.means;
+    few = g.on.few h.few;
+    functions = subst (HasFunctions d made t.scopes.ordinary.entries) (sym g.functions) (functions_longer d made s.scopes.ordinary.entries t.scopes.ordinary.entries s.functions g.on.entries h.functions);
+  }
 
   -- ---- the place of a function among those declared
 

@@ -4,12 +4,11 @@ use Rattle.std.specs.Prelude.{cond, nat_lt, ◌==◌, slice_set}
 use Rattle.std.proofs.lemmas.Bool.{cases_eq, ltb-true, ltb-false, eqb-true}
 use Rattle.std.proofs.lemmas.List.{length-append}
 use Rattle.std.proofs.lemmas.Option.{same_Some}
-use Rattle.cc_base.specs.declared.diagnostics.Place.{Place}
 use Rattle.c_layout.specs.Types.{Ty, same_type}
 use Rattle.c_layout.specs.DeclarationTrees.{NameView}
 use Rattle.c_layout.specs.CheckedUnits.{FunctionView}
 use Rattle.c_types_scopes.specs.Answers.{after}
-use Rattle.c_types_scopes.specs.DeclaredTypes.{SignatureView, each_same, same_types, is_same_signature}
+use Rattle.c_types_scopes.specs.DeclaredTypes.{SignatureView, each_same, same_types}
 use Rattle.c_types_scopes.specs.Definitions.{DefinitionsView, function_of}
 use Rattle.c_types_scopes.specs.Refusals.{Ruled, redeclared, type_fault}
 use Rattle.c_types_scopes.specs.States.{State}
@@ -24,9 +23,9 @@ use Rattle.c_types_laws_stores.proofs.Types.{type_is}
 use Rattle.c_types_laws_units.proofs.Kept.{appended_is, front_stays, set_other}
 use Rattle.c_types_laws_units.proofs.Bodies.{changed_is}
 use Rattle.c_types_marks.specs.UnitParts.{IsHeadOf}
-use Rattle.c_types_marks_heads.proofs.Longer.{Longer, longer_by, last_item}
+use Rattle.c_types_marks_scopes.proofs.Longer.{Longer, longer_by, last_item}
 use Rattle.c_types_marks_heads.proofs.Numbering.{IsNumbering}
-use Rattle.c_types_marks_heads.proofs.Growing.{HasName, IsRenewed, name_longer}
+use Rattle.c_types_marks_scopes.proofs.Growing.{HasName, IsRenewed, name_longer}
 
 -- by the functions that were made so far, and the names at file scope
 pub record HasFunctions (d : DefinitionsView) (made : List FunctionView) (entries : List NameDeclaration) (fs : List SignatureView) : Type 0 where
@@ -52,12 +51,6 @@ both_ways false e f = absurd (cc)
 -- ---- a function more
 
 module _ (d : DefinitionsView) (made : List FunctionView) (es : List NameDeclaration) (fs : List SignatureView) (good : IsNumbering d) (name place : ℕ) (none : HasName es name → ⊥) (h : HasFunctions d made es fs) where
-  new : SignatureView
-  new = functions.new_signature (function_of d name)
-
-  entry : NameDeclaration
-  entry = record { name = name; meaning = place }
-
   -- no other one has its number
   not_there : (i n : ℕ) (f : SignatureView) → slice_get fs i ≡ Some f → f.number ≡ Some n → function_of d name ≡ Some n → ⊥
   not_there i n f is number there = let x = h.named i n f is number in none (subst (HasName es) (good.apart x.0 name n x.1 there) x.2)
@@ -114,10 +107,12 @@ pub changed_there : {A : Type 0} (f : A → A) (k i : ℕ) (xs : List A) → (i 
 changed_there f k i xs other = changed_at_there f k i xs (slice_get xs k) other
 
 pub renewed_changed : (c : SignatureView → SignatureView) (index : ℕ) (fs : List SignatureView) → ((f : SignatureView) → (c f).number ≡ f.number) → IsRenewed fs (changed c index fs)
-renewed_changed c index fs same = record { each = λ i f is. elim (cases_eq i index) [
+renewed_changed c index fs same = record {
+  each = λ i f is. elim (cases_eq i index) [
     | inl here ↦ (c f, ap (slice_get (changed c index fs)) here ∙ changed_here c index fs f (ap (slice_get fs) (sym here) ∙ is), same f)
     | inr other ↦ (f, changed_there c index i fs other ∙ is, refl)
-  ] }
+  ];
+}
 
 pub head_like : (f g : SignatureView) (made : FunctionView) → f.result.ctype ≡ g.result.ctype → f.parameters ≡ g.parameters → IsHeadOf g made → IsHeadOf f made
 head_like f g made result same h = record {

@@ -1,9 +1,4 @@
-pub mod Longer
 pub mod Numbering
-pub mod Growing
-pub mod Steps
-pub mod Heads
 pub mod Functions
-pub mod Objects
 pub mod Files
 pub mod Units

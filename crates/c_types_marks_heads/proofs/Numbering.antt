@@ -7,15 +7,12 @@ use Rattle.std.proofs.lemmas.Bool.{eqb-true}
 use Rattle.std.proofs.lemmas.Option.{same_Some}
 use Rattle.indexmap.specs.IndexMap.{insert_entry}
 use Rattle.c_layout.specs.DeclarationTrees.{NameView, InitDeclaratorView, Object, Initialized, Prototype, ExternalTree, Declared, Defined}
-use Rattle.c_layout.specs.declared.data_model.Model.{Model}
-use Rattle.c_types_scopes.specs.DeclaredTypes.{ObjectView, SignatureView}
 use Rattle.c_types_scopes.specs.Definitions as definitions
 use Rattle.c_types_scopes.specs.Definitions.{DefinitionsView, function_of}
 use Rattle.c_types_scopes.specs.Names.{number_in}
-use Rattle.c_types_scopes.specs.ScopeTables.{TableView}
 use Rattle.c_types_scopes.specs.States.{State}
 use Rattle.c_types.specs.UnitDefinitions.{with_object, with_function, with_named, with_declarator, with_declarators, with_external, with_externals, is_definition, storage_of}
-use Rattle.c_types_marks_heads.proofs.Longer.{Longer, longer_same, longer_twice, text_more, number_stays}
+use Rattle.c_types_marks_scopes.proofs.Longer.{Longer, longer_same, longer_twice, text_more, number_stays}
 
 -- ---- names with their numbers
 

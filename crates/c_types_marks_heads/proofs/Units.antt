@@ -1,10 +1,10 @@
 -- What typing knows at the end of a unit is part of it.
-use Rattle.std.proofs.Common.{◌≡◌, ◌<◌, ◌≤◌, ◌+◌, ℕ, zero, suc, Bool, true, false, List, [], ◌∷◌, ◌++◌, length, map, slice_get, Option, Some, None, Ok, Err, arith, refl, ap, subst, sym, ◌∙◌}
-use Rattle.std.specs.Prelude.{is_some, nat_le}
+use Rattle.std.proofs.Common.{◌≡◌, ◌<◌, ◌+◌, ℕ, zero, suc, Bool, true, false, List, [], ◌∷◌, length, map, slice_get, Option, Some, None, Ok, Err, arith, refl, ap, subst, sym, ◌∙◌}
+use Rattle.std.specs.Prelude.{is_some}
 use Rattle.std.proofs.lemmas.Bool.{le-leb}
 use Rattle.std.proofs.lemmas.List.{length-append, length-map}
 use Rattle.cc_base.specs.declared.diagnostics.Place.{Place}
-use Rattle.c_layout.specs.CheckedUnits.{FunctionView, StaticView}
+use Rattle.c_layout.specs.CheckedUnits.{FunctionView}
 use Rattle.c_layout.specs.DeclarationTrees.{ExternalTree, Declared, Defined}
 use Rattle.c_layout.specs.declared.data_model.Model.{Model}
 use Rattle.c_types_scopes.specs.Answers.{after}
@@ -22,9 +22,9 @@ use Rattle.c_types_laws.proofs.Leading.{Leads}
 use Rattle.c_types_laws.proofs.Entries.{same_value}
 use Rattle.c_types_marks.specs.UnitParts.{IsPartOf, IsThere}
 use Rattle.c_types_marks_heads.specs.HeadLaws.{UnitsHaveHeads}
-use Rattle.c_types_marks_heads.proofs.Longer.{longer_same}
-use Rattle.c_types_marks_heads.proofs.Numbering.{IsNumbering, Prepares, externals_prepare, AllCome, Comes, behind, externals_come}
-use Rattle.c_types_marks_heads.proofs.Growing.{few_by}
+use Rattle.c_types_marks_scopes.proofs.Longer.{longer_same}
+use Rattle.c_types_marks_heads.proofs.Numbering.{IsNumbering, externals_prepare, AllCome, Comes, behind, externals_come}
+use Rattle.c_types_marks_scopes.proofs.Growing.{few_by}
 use Rattle.c_types_marks_heads.proofs.Files.{IsFile, declaration_keeps, Defines, definition_defines}
 
 there_within : {A : Type 0} (xs : List A) (n : ℕ) → n < length xs → is_some (slice_get xs n) ≡ true
@@ -97,10 +97,10 @@ module _ (d : DefinitionsView) (names : List (List ℕ)) (m : Model) (good : IsN
       by_defined : (b : Bool) → f.is_defined ≡ b → IsThere (checks.unit_of m made s entry) f n
       by_defined true defined = let g = file.functions.met i n f is number defined in record { function = g.0; found = g.1; head = g.2 }
       by_defined false undefined = absurd (
-        let least = file.functions.coming i n f is number undefined in
-        let name = file.functions.named i n f is number in
-        let less = all name.0 n name.1 in
-        omega (arith, least, less))
+          let least = file.functions.coming i n f is number undefined in
+          let name = file.functions.named i n f is number in
+          let less = all name.0 n name.1 in
+          omega (arith, least, less))
 
   part_of : (made : List FunctionView) (s : State) (entry : ℕ) → IsFile d names m made s → AllMade d made → IsPartOf s (checks.unit_of m made s entry)
   part_of made s entry file all = record {

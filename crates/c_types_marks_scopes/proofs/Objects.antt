@@ -27,8 +27,9 @@ use Rattle.c_types_laws.proofs.Initializing.{initializer_leads}
 use Rattle.c_types_laws.proofs.Specifying.{declared_leads, specifiers_lead}
 use Rattle.c_types_laws.proofs.Blocks.{static_leads}
 use Rattle.c_types_laws_units.proofs.Bodies.{changed_long}
-use Rattle.c_types_marks_heads.proofs.Growing.{scope, grows_twice, grows_objects, grows_declared, few_more, few_changed}
-use Rattle.c_types_marks_heads.proofs.Steps.{Goes, goes_same, goes_twice, goes_named, steps_go, specifiers_go, AreLike, like_passes, blocks_go}
+use Rattle.c_types_marks_scopes.specs.BodyObjects.{AreLike}
+use Rattle.c_types_marks_scopes.proofs.Growing.{scope, grows_twice, grows_objects, grows_declared, few_more, few_changed}
+use Rattle.c_types_marks_scopes.proofs.Steps.{Goes, goes_same, goes_twice, goes_named, steps_go, specifiers_go, like_passes, blocks_go}
 use Rattle.c_types_objects.specs.Changes.{changed}
 
 abbrev pub G : State → State → Type 0
@@ -64,16 +65,16 @@ first_goes name n d s true =
     let long = length-append s.statics (record { name = n.text; at = n.at; ctype = d.ctype; stores = [] } ∷ []) in
     let u : State = record s { objects = s.objects ++ object ∷ []; statics = t.statics } in (
       grows_twice (scope s) (scope u) (scope (objects.with_declaration name object t))
-      (grows_objects (scope s) u.objects u.statics (few_more s.objects s.statics t.statics object (omega (arith, long)) (λ k is. (let e = same_Some (length s.statics) k is in omega (arith, e, long)))))
-      (grows_declared (scope u) name (meaning.Static (length s.objects)) tt),
+          (grows_objects (scope s) u.objects u.statics (few_more s.objects s.statics t.statics object (omega (arith, long)) (λ k is. (let e = same_Some (length s.statics) k is in omega (arith, e, long)))))
+          (grows_declared (scope u) name (meaning.Static (length s.objects)) tt),
       like_passes.same s.body.locals,
     )
 first_goes name n d s false =
     let object = objects.first_object None d in
     let u : State = record s { objects = s.objects ++ object ∷ [] } in (
       grows_twice (scope s) (scope u) (scope (objects.with_declaration name object s))
-      (grows_objects (scope s) u.objects u.statics (few_more s.objects s.statics s.statics object (omega arith) (λ k is. absurd (cc))))
-      (grows_declared (scope u) name (meaning.Static (length s.objects)) tt),
+          (grows_objects (scope s) u.objects u.statics (few_more s.objects s.statics s.statics object (omega arith) (λ k is. absurd (cc))))
+          (grows_declared (scope u) name (meaning.Static (length s.objects)) tt),
       like_passes.same s.body.locals,
     )
 

@@ -1,21 +1,16 @@
 -- Steps of typing in a scope grow it; the types of local objects stay, but for that of an object with its own initializer.
-use Rattle.std.proofs.Common.{◌≡◌, ◌<◌, ◌≤◌, ◌+◌, inl, inr, ℕ, ℤ, Bool, true, false, List, [], ◌∷◌, ◌++◌, length, slice_get, Option, Some, None, arith, refl, ap, sym, ◌∙◌}
+use Rattle.std.proofs.Common.{◌≡◌, ◌+◌, ℕ, Bool, true, false, List, [], ◌∷◌, ◌++◌, length, slice_get, Option, Some, None, arith, refl, ◌∙◌}
 use Rattle.std.specs.Prelude.{cond}
 use Rattle.std.proofs.lemmas.List.{length-append}
 use Rattle.std.proofs.lemmas.Option.{same_Some, slice_get_within}
-use Rattle.cc_base.specs.declared.diagnostics.Place.{Place}
 use Rattle.c_layout.specs.Types.{Ty}
-use Rattle.c_layout.specs.StructViews.{StructView}
-use Rattle.c_layout.specs.CheckedTrees.{TermTree}
 use Rattle.c_layout.specs.CheckedUnits.{LocalView, StaticStoreView}
-use Rattle.c_layout.specs.DeclarationTrees.{NameView, InitializerTree}
-use Rattle.c_types_scopes.specs.DeclaredTypes.{DeclaredView, ObjectView}
+use Rattle.c_layout.specs.DeclarationTrees.{NameView}
+use Rattle.c_types_scopes.specs.DeclaredTypes.{DeclaredView}
 use Rattle.c_types_scopes.specs.Names as names
 use Rattle.c_types_scopes.specs.Names.{number_in}
 use Rattle.c_types_scopes.specs.States.{State, is_evaluated, with_name}
 use Rattle.c_types_scopes.specs.declared.meanings.Meaning.TheVariants as meaning
-use Rattle.c_types_declarations.specs.ContextSteps.{with_body}
-use Rattle.c_types_initializers.specs.Initialized.{InitializedView}
 use Rattle.c_types_initializers.specs.StaticStores.{with_expressions}
 use Rattle.c_types_objects.specs.Changes.{changed, changed_at}
 use Rattle.c_types_objects.specs.LocalObjects.{typed_local, typed_object, typed_static, with_automatic, with_static_object, with_local_type, with_static_type, static_declaration}
@@ -25,8 +20,9 @@ use Rattle.c_types_laws.proofs.Specifying.{HasSpecifiers}
 use Rattle.c_types_laws.proofs.Blocks.{HasBlocks}
 use Rattle.c_types_laws_units.proofs.Kept.{front_stays, set_other}
 use Rattle.c_types_laws_units.proofs.Bodies.{changed_long}
-use Rattle.c_types_marks_heads.proofs.Longer.{text_more}
-use Rattle.c_types_marks_heads.proofs.Growing.{scope, opened, Grows, grows_same, grows_twice, grows_names, grows_objects, grows_declared, grows_closed, few_more, few_changed}
+use Rattle.c_types_marks_scopes.specs.BodyObjects.{AreLike}
+use Rattle.c_types_marks_scopes.proofs.Longer.{text_more}
+use Rattle.c_types_marks_scopes.proofs.Growing.{scope, Grows, grows_same, grows_twice, grows_names, grows_objects, grows_declared, grows_closed, few_more, few_changed}
 
 -- ---- what becomes of local objects
 
@@ -85,9 +81,6 @@ same_passes = record { same = λ ls. refl; trans = λ xs ys zs g h. h ∙ g }
 
 -- ---- types stay
 
-pub record AreLike (xs ys : List LocalView) : Type 0 where
-  pub each : (i : ℕ) (l : LocalView) → slice_get xs i ≡ Some l → (m : LocalView) × (slice_get ys i ≡ Some m) × (m.ctype ≡ l.ctype)
-
 pub like_passes : IsPassed AreLike
 like_passes = record {
   same = λ ls. record { each = λ i l is. (l, is, refl) };
@@ -115,10 +108,12 @@ started_like : (n : NameView) (d : DeclaredView) (s t : State) (made : Ty) → G
 started_like n d s t made g =
     let a = goes_twice AreLike like_passes s (with_automatic n d s) t (automatic_like n d s) g in (
       a.0,
-      record { each = λ i l is.
-          let m = a.1.each i l is in
-          let less = slice_get_within s.body.locals i l is in
-          (m.0, retyped_other t.body.locals (length s.body.locals) i made (λ e. omega (arith, e, less)) ∙ m.1, m.2) },
+      record {
+        each = λ i l is.
+            let m = a.1.each i l is in
+            let less = slice_get_within s.body.locals i l is in
+            (m.0, retyped_other t.body.locals (length s.body.locals) i made (λ e. omega (arith, e, less)) ∙ m.1, m.2);
+      },
     )
 
 static_like : (n : NameView) (d : DeclaredView) (s : State) → Goes AreLike s (with_static_object n d s)
@@ -127,9 +122,9 @@ static_like n d s =
     let long = length-append s.statics (record { name = n.text; at = n.at; ctype = d.ctype; stores = [] } ∷ []) in
     let u : State = record t { objects = (with_static_object n d s).objects; statics = (with_static_object n d s).statics } in (
       grows_twice (scope s) (scope t) (scope (with_static_object n d s)) (goes_named AreLike like_passes s n.text).0
-      (grows_twice (scope t) (scope u) (scope (with_static_object n d s))
-      (grows_objects (scope t) u.objects u.statics (few_more s.objects s.statics u.statics (static_declaration t d) (omega (arith, long)) (λ k is. (let e = same_Some (length s.statics) k is in omega (arith, e, long)))))
-      (grows_declared (scope u) (number_in s.scopes.names n.text) (meaning.Static (length s.objects)) tt)),
+          (grows_twice (scope t) (scope u) (scope (with_static_object n d s))
+          (grows_objects (scope t) u.objects u.statics (few_more s.objects s.statics u.statics (static_declaration t d) (omega (arith, long)) (λ k is. (let e = same_Some (length s.statics) k is in omega (arith, e, long)))))
+          (grows_declared (scope u) (number_in s.scopes.names n.text) (meaning.Static (length s.objects)) tt)),
       like_passes.same s.body.locals,
     )
 

@@ -1,5 +1,5 @@
 -- The parameters of a head that all have names are the first objects of the body, each of its type, and stay so.
-use Rattle.std.proofs.Common.{◌≡◌, ℕ, Bool, true, false, List, [], ◌∷◌, ◌++◌, length, map, Option, Some, None, Ok, Err, refl, ap, sym, ◌∙◌, append_assoc}
+use Rattle.std.proofs.Common.{◌≡◌, ℕ, Bool, true, false, List, [], ◌∷◌, ◌++◌, length, map, Option, Some, None, Ok, Err, refl, ap, subst, sym, ◌∙◌, append_assoc}
 use Rattle.std.specs.Prelude.{cond, is_some}
 use Rattle.std.proofs.lemmas.List.{append-nil, map-append}
 use Rattle.cc_base.specs.declared.diagnostics.Place.{Place}
@@ -28,17 +28,12 @@ use Rattle.c_types_statements.specs.LocalDeclarations.{local_declaration}
 use Rattle.c_types_statements.specs.Statements.{items}
 use Rattle.c_types.specs.FunctionDefinitions as definitions
 use Rattle.c_types_laws.proofs.Leading.{Leads, kept_leads, then}
+use Rattle.c_types_laws.proofs.Entries.{same_value}
 use Rattle.c_types_laws.proofs.Specifying.{declared_leads, specifiers_lead}
 use Rattle.c_types_laws.proofs.Blocks.{Comes, items_come, all_labels_lead}
-use Rattle.c_types_marks_heads.proofs.Growing.{scope, Grows, grows_same, grows_twice, grows_declared}
-use Rattle.c_types_marks_heads.proofs.Steps.{Goes, goes_same, goes_twice, goes_named, specifiers_go, IsSame, same_passes, AreLike, blocks_go}
-
-abbrev pub local_ctype : LocalView → Ty
-local_ctype l = l.ctype
-
--- the types of the objects of the body at hand
-abbrev pub types_of : State → List Ty
-types_of s = map local_ctype s.body.locals
+use Rattle.c_types_marks_scopes.specs.BodyObjects.{local_ctype, types_of, AreLike, HeadsMakeObjects, BodiesKeepTypes}
+use Rattle.c_types_marks_scopes.proofs.Growing.{scope, Grows, grows_same, grows_twice, grows_declared}
+use Rattle.c_types_marks_scopes.proofs.Steps.{Goes, goes_same, goes_twice, goes_named, specifiers_go, IsSame, same_passes, blocks_go}
 
 -- parameters more, which are objects if they have names
 record Adds (named : Bool) (s t : State) (ts : List Ty) : Type 0 where
@@ -159,3 +154,19 @@ body_goes n ts h s = of_items (items local_declaration (definitions.before_body 
         let all = blocks_go.specifies.steps.trans s (definitions.before_body h ts s).state p.1.state labelled g in
         (all.0, record { returns = refl; counted = refl; like = all.1 })
     of_items (Err f) g = tt
+
+-- ---- the laws
+
+head_made : (s t : State) (h : HeadView) (r : Ruled (HeadView × State)) → Heads s r → r ≡ Ok (h, t) → h.are_named ≡ true → types_of t ≡ h.parameters
+head_made s t h (Ok p) g is = subst (λ q. q.0.are_named ≡ true → types_of q.1 ≡ q.0.parameters) (same_value p (h, t) is) g.1
+head_made s t h (Err f) g is = absurd (cc)
+
+pub heads_make_objects : HeadsMakeObjects
+heads_make_objects s t b f h is named = head_made s t h (heads.function_head s b f) (function_heads s b f) is named
+
+body_made : (h : HeadView) (s t : State) (f : FunctionView) (r : Ruled (FunctionView × State)) → HasBody h s r → r ≡ Ok (f, t) → AreLike s.body.locals f.locals
+body_made h s t f (Ok p) g is = subst (λ q. AreLike s.body.locals q.0.locals) (same_value p (f, t) is) g.1.like
+body_made h s t f (Err e) g is = absurd (cc)
+
+pub bodies_keep_types : BodiesKeepTypes
+bodies_keep_types n ts h s t f is = body_made h s t f (definitions.with_body n ts h s) (body_goes n ts h s) is

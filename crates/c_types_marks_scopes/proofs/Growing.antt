@@ -3,8 +3,8 @@ use Rattle.std.proofs.Common.{◌≡◌, ◌<◌, ◌≤◌, ◌+◌, ◌-◌, �
 use Rattle.std.specs.Prelude.{cond, nat_lt, ◌==◌}
 use Rattle.std.proofs.Math.Seq.{take-append_seam}
 use Rattle.std.proofs.lemmas.Bool.{eqb-true, ltb-true}
-use Rattle.std.proofs.lemmas.List.{append-nil, length-append}
-use Rattle.std.proofs.lemmas.Option.{same_Some, slice_get_within}
+use Rattle.std.proofs.lemmas.List.{length-append}
+use Rattle.std.proofs.lemmas.Option.{same_Some}
 use Rattle.c_layout.specs.CheckedUnits.{StaticView}
 use Rattle.c_layout.specs.declared.data_model.Model.{Model}
 use Rattle.c_types_scopes.specs.DeclaredTypes.{ObjectView, SignatureView}
@@ -19,7 +19,7 @@ use Rattle.c_types_scopes.specs.declared.scope_table.NameDeclaration.{NameDeclar
 use Rattle.c_types_objects.specs.Changes.{changed}
 use Rattle.c_types_laws_units.proofs.Kept.{appended_is, front_stays}
 use Rattle.c_types_laws_units.proofs.Bodies.{changed_is}
-use Rattle.c_types_marks_heads.proofs.Longer.{Longer, longer_same, longer_by, longer_twice, longer_item, last_item}
+use Rattle.c_types_marks_scopes.proofs.Longer.{Longer, longer_same, longer_by, longer_twice, longer_item, last_item}
 
 -- ---- what names mean
 
@@ -136,10 +136,10 @@ none_declared s name outer h found has = by_place (newest s.scopes.ordinary.entr
     by_place (Some i) is e = elim (newest_there 0 name i s.scopes.ordinary.entries None is) [
       | inl none ↦ (let b : ⊥ = cc in b)
       | inr at ↦ (
-        let here : slice_get s.scopes.ordinary.entries i ≡ Some at.1 = ap (slice_get s.scopes.ordinary.entries) (let j = at.2 in omega (arith, j)) ∙ at.3 in
-        let m = place_means s.scopes.ordinary s.scopes.meanings s.functions s.definitions i at.1 outer h here in
-        let both : None ≡ Some m.0 = sym e ∙ m.1 in
-        let b : ⊥ = cc in b)
+          let here : slice_get s.scopes.ordinary.entries i ≡ Some at.1 = ap (slice_get s.scopes.ordinary.entries) (let j = at.2 in omega (arith, j)) ∙ at.3 in
+          let m = place_means s.scopes.ordinary s.scopes.meanings s.functions s.definitions i at.1 outer h here in
+          let both : None ≡ Some m.0 = sym e ∙ m.1 in
+          let b : ⊥ = cc in b)
     ]
 
 -- a function that a name means there has its number
@@ -151,11 +151,11 @@ function_found s name number outer h found = by_place (newest s.scopes.ordinary.
     by_place (Some i) is e = elim (newest_there 0 name i s.scopes.ordinary.entries None is) [
       | inl none ↦ absurd (cc)
       | inr at ↦ (
-        let here : slice_get s.scopes.ordinary.entries i ≡ Some at.1 = ap (slice_get s.scopes.ordinary.entries) (let j = at.2 in omega (arith, j)) ∙ at.3 in
-        let m = place_means s.scopes.ordinary s.scopes.meanings s.functions s.definitions i at.1 outer h here in
-        let same : m.0 ≡ meaning.Function number = same_Some m.0 (meaning.Function number) (sym m.1 ∙ e) in
-        let f = subst (IsMeant s.functions s.definitions at.1.name) same m.2 in
-        (f.0, f.1, f.2 ∙ ap (function_of s.definitions) at.4))
+          let here : slice_get s.scopes.ordinary.entries i ≡ Some at.1 = ap (slice_get s.scopes.ordinary.entries) (let j = at.2 in omega (arith, j)) ∙ at.3 in
+          let m = place_means s.scopes.ordinary s.scopes.meanings s.functions s.definitions i at.1 outer h here in
+          let same : m.0 ≡ meaning.Function number = same_Some m.0 (meaning.Function number) (sym m.1 ∙ e) in
+          let f = subst (IsMeant s.functions s.definitions at.1.name) same m.2 in
+          (f.0, f.1, f.2 ∙ ap (function_of s.definitions) at.4))
     ]
 
 -- ---- objects
@@ -169,18 +169,22 @@ few_by a b x y p q h = record { each = λ i n o is number. (let less = h.each i 
 
 -- an object more, of the last number or of none
 pub few_more : (objects : List ObjectView) (statics others : List StaticView) (object : ObjectView) → length statics ≤ length others → ((n : ℕ) → object.number ≡ Some n → n < length others) → AreFew objects statics → AreFew (objects ++ object ∷ []) others
-few_more objects statics others object long few h = record { each = λ i n o is number. (elim (appended_is objects object i o is) [
+few_more objects statics others object long few h = record {
+  each = λ i n o is number. (elim (appended_is objects object i o is) [
     | inl old ↦ (let less = h.each i n o old number in omega (arith, less, long))
     | inr new ↦ few n (ap (λ z. z.number) (sym new.1) ∙ number)
-  ]) }
+  ]);
+}
 
 pub few_changed : (f : ObjectView → ObjectView) (index : ℕ) (objects : List ObjectView) (statics others : List StaticView) → ((o : ObjectView) → (f o).number ≡ o.number) → length others ≡ length statics → AreFew objects statics → AreFew (changed f index objects) others
-few_changed f index objects statics others same long h = record { each = λ i n o is number.
-    let c = changed_is f index objects i o is in
-    let less : n < length statics = elim c.2 [
-      | inl here ↦ h.each i n c.0 c.1 (sym (same c.0) ∙ (ap (λ z. z.number) (sym here.1) ∙ number))
-      | inr other ↦ h.each i n c.0 c.1 (ap (λ z. z.number) (sym other.1) ∙ number)
-    ] in omega (arith, less, long) }
+few_changed f index objects statics others same long h = record {
+  each = λ i n o is number.
+      let c = changed_is f index objects i o is in
+      let less : n < length statics = elim c.2 [
+        | inl here ↦ h.each i n c.0 c.1 (sym (same c.0) ∙ (ap (λ z. z.number) (sym here.1) ∙ number))
+        | inr other ↦ h.each i n c.0 c.1 (ap (λ z. z.number) (sym other.1) ∙ number)
+      ] in omega (arith, less, long);
+}
 
 -- ---- scopes
 
