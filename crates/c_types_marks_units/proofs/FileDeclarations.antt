@@ -60,12 +60,12 @@ array_type m element t (Some n) typed is = subst (IsTypeOf m) (some_is (Array el
 no_type : (m : Model) (t : Ty) → None ≡ Some t → IsTypeOf m t
 no_type m t e = absurd (let d : ⊥ = cc in d)
 
-if_type : (m : Model) (b : Bool) (t : Ty) (o : Option Ty) → (o ≡ Some t → IsTypeOf m t) → cond b o None ≡ Some t → IsTypeOf m t
-if_type m true t o h is = h is
-if_type m false t o h is = no_type m t is
-
 arrays_type : (m : Model) (element : Ty) (n : ℕ) (new t : Ty) → IsTypeOf m element → composite_with element n new ≡ Some t → IsTypeOf m t
-arrays_type m element n (Array other k) t typed is = if_type m (same_type other element) t (array_composite element (common_length n k)) (array_type m element t (common_length n k) typed) is
+arrays_type m element n (Array other k) t typed is = by (same_type other element) refl is
+  where
+    by : (b : Bool) → same_type other element ≡ b → cond b (array_composite other (common_length n k)) None ≡ Some t → IsTypeOf m t
+    by true same e = array_type m other t (common_length n k) (subst (IsTypeOf m) (sym (type_is other element same)) typed) e
+    by false same e = no_type m t e
 arrays_type m element n (Int kind) t typed is = no_type m t is
 arrays_type m element n (Pointer v) t typed is = no_type m t is
 arrays_type m element n (Struct i) t typed is = no_type m t is
@@ -129,7 +129,7 @@ module _ (laws : HasLaws) (m : Model) where
           let v : State = objects.with_enumeration index d.enumeration s in
           let had : IsTypeOf m o.declared.ctype = own s o.declared.ctype ready (ready.types.objects index o there) in
           let both : IsTypeOf m t = composite_type m o.declared.ctype d.ctype t had typed is in
-          done s (with_static_type index (number_or o.number) t v) tt (λ u part. enumerated_passes s index d.enumeration u (static_type_passes v index (number_or o.number) t u part)) (static_type_ready m v (enumerated_ready m s ready index d.enumeration) index (number_or o.number) t both)
+          done {V = Unit {0}} s (with_static_type index (number_or o.number) t v) tt (λ u part. enumerated_passes s index d.enumeration u (static_type_passes v index (number_or o.number) t u part)) (static_type_ready m v (enumerated_ready m s ready index d.enumeration) index (number_or o.number) t both)
 
   indexed_runs : (index : ℕ) (s : State) (r : Ruled (Unit {0} × State)) → Runs s r → Runs s (external.indexed index r)
   indexed_runs index s (Ok p) h = h
@@ -167,7 +167,7 @@ module _ (laws : HasLaws) (m : Model) where
   -- ---- typedef names
 
   typedef_by_runs : (name : ℕ) (n : NameView) (d : DeclaredView) (s : State) → IsReady m s → IsTypeOf m d.ctype → Runs s (external.typedef_by name n d s)
-  typedef_by_runs name n d s ready typed = choose s (external.is_taken name n.text s) _ _ tt (done s (external.with_typedef name d s) tt (typedef_passes s name d) (typedef_ready m s ready name d typed))
+  typedef_by_runs name n d s ready typed = choose s (external.is_taken name n.text s) _ _ tt (done {V = Unit {0}} s (external.with_typedef name d s) tt (typedef_passes s name d) (typedef_ready m s ready name d typed))
 
   typedef_runs : (s : State) (base : SpecifiedView) (at : Place) (d : InitDeclaratorView) → IsReady m s → IsTypeOf m base.declared.ctype → IsProperInitDeclarator m d → Runs s (external.typedef_declarator s base at d)
   typedef_runs s base at (Object d) ready typed proper = by_name d.name
