@@ -1,5 +1,5 @@
 -- What typing makes of bodies is marked.
-use Rattle.std.proofs.Common.{◌≡◌, ℕ, Ok, Err, refl}
+use Rattle.std.proofs.Common.{ℕ, Ok, Err, refl}
 use Rattle.c_types_scopes.specs.Refusals.{Ruled}
 use Rattle.c_types_objects.specs.LocalObjects.{PartsView}
 use Rattle.c_types_statement_rules.specs.BodyFlow.{no_flow}

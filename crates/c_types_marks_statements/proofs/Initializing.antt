@@ -4,7 +4,6 @@ use Rattle.std.specs.Prelude.{Bool, true, false, cond}
 use Rattle.cc_base.specs.declared.diagnostics.Place.{Place}
 use Rattle.cc_base.specs.declared.refusals.Fault.{Fault}
 use Rattle.c_layout.specs.Types.{Ty, same_type}
-use Rattle.c_layout.specs.StructViews.{StructView}
 use Rattle.c_layout.specs.SyntaxTrees as syntax
 use Rattle.c_layout.specs.SyntaxTrees.{Tree}
 use Rattle.c_layout.specs.DeclarationTrees as tree
@@ -22,8 +21,8 @@ use Rattle.c_types_operands.specs.Operands as operands
 use Rattle.c_types_operands.specs.Conversions.{assigned}
 use Rattle.c_types_operators.specs.Assignments.{struct_source, source_form}
 use Rattle.c_types_expressions.specs.Expressions.{typed}
-use Rattle.c_types_initializers.specs.Subobjects.{SubobjectView, OpenView, entered, next, subobject, passed}
-use Rattle.c_types_initializers.specs.Literals.{bare_literal, character_room, only_literal, literal_item, literal_length, length_or, with_length}
+use Rattle.c_types_initializers.specs.Subobjects.{SubobjectView, OpenView, entered, next, subobject}
+use Rattle.c_types_initializers.specs.Literals.{bare_literal, character_room, only_literal, literal_length}
 use Rattle.c_types_initializers.specs.ListStores.{FillingView, nothing, scalar_of, copy_of, with_found, takes_value, takes_text, sought}
 use Rattle.c_types_initializers.specs.Initialized.{InitializedView, ByTerm, ByLvalue, ByStores, scalar_by, struct_by, by_operand, spelled, filled_by}
 use Rattle.c_types_braced_lists.specs.BracedLists as lists
@@ -42,9 +41,9 @@ use Rattle.c_types_marks_tests.proofs.ModelKinds.{scalar_there}
 use Rattle.c_types_marks_layouts.proofs.Expressing.{expressions_lay}
 use Rattle.c_types_marks_statements.specs.ReadyStates.{IsReady, Goes}
 use Rattle.c_types_marks_statements.specs.MarkedBodies.{HasLaws}
-use Rattle.c_types_marks_statements.proofs.Going.{Rules, unit_type, ground, then, kept_goes, cond_goes, led_goes}
+use Rattle.c_types_marks_statements.proofs.Going.{unit_type, ground, then, cond_goes, led_goes}
 use Rattle.c_types_marks_statements.proofs.Going as going
-use Rattle.c_types_marks_statements.proofs.TypedSubobjects.{FieldsTyped, AreTyped, IsTypedFound, length_typed, next_typed, sought_typed}
+use Rattle.c_types_marks_statements.proofs.TypedSubobjects.{FieldsTyped, AreTyped, length_typed, next_typed, sought_typed}
 
 -- ---- stores
 
