@@ -2,3 +2,5 @@ pub mod FileSteps
 pub mod HeadSteps
 pub mod FileDeclarations
 pub mod Signatures
+pub mod HeadLayouts
+pub mod Functions
