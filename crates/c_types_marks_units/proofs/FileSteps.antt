@@ -24,7 +24,7 @@ use Rattle.c_types_marks_statements.specs.ReadyStates.{IsReady}
 use Rattle.c_types_marks_statements.proofs.Going.{IsPassed}
 use Rattle.c_types_marks_statements.proofs.ReadySteps.{each_more, each_changed, changed_there}
 
-no_item : {A P : Type 0} (x : A) → None ≡ Some x → P
+pub no_item : {A P : Type 0} (x : A) → None ≡ Some x → P
 no_item x e = absurd (let d : ⊥ = cc in d)
 
 module _ (m : Model) (s : State) (h : IsReady m s) where

@@ -4,3 +4,5 @@ pub mod FileDeclarations
 pub mod Signatures
 pub mod HeadLayouts
 pub mod Functions
+pub mod Externals
+pub mod Units
