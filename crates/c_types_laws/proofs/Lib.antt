@@ -1,5 +1,6 @@
 pub mod Leading
 pub mod Expressing
+pub mod Specifying
 pub mod Declaring
 pub mod Initializing
 pub mod Stating

@@ -3,3 +3,14 @@ pub mod UnusedTerms
 pub mod MadeConversions
 pub mod MadeNodes
 pub mod MadeValues
+pub mod GroundKinds
+pub mod MadeArithmetic
+pub mod MadeSums
+pub mod PairedTypes
+pub mod MadeComparisons
+pub mod MadePlaces
+pub mod MadeUnary
+pub mod MadeSizes
+pub mod MadeChoices
+pub mod MadeAssignments
+pub mod MadeOperators

@@ -1,5 +1,5 @@
 -- Conversions of made terms: they are marked, they have the type that they convert to, and they keep null pointer constants.
-use Rattle.std.proofs.Common.{◌≡◌, ◌⊎◌, inl, inr, ℤ, pos, Bool, true, false, not, ◌&&◌, ◌||◌, cond, Option, Some, None, Ok, Err, refl, sym, subst, ap, ◌∙◌}
+use Rattle.std.proofs.Common.{◌≡◌, ◌⊎◌, inl, inr, ℤ, Bool, true, false, not, ◌&&◌, ◌||◌, cond, Option, Some, None, refl, sym, subst, ap, ◌∙◌}
 use Rattle.std.proofs.lemmas.Bool.{and_from, or_left, or_right}
 use Rattle.cc_base.specs.declared.diagnostics.Place.{Place}
 use Rattle.cc_base.specs.declared.int_types.IntType.{IntType}
@@ -21,7 +21,7 @@ use Rattle.flow_lower_tasks.specs.TermKinds.{scalar_of}
 use Rattle.ref_machine_looks.specs.LookedTypes.{is_scalar_type, is_address, converts}
 use Rattle.ref_machine_looks.specs.LookedTerms as look
 use Rattle.ref_machine_looks.specs.LookedTerms.{exact, is_exact_zero, is_marked_term}
-use Rattle.ref_machine_looks.proofs.Truths.{never, no_some, both_true, either_true}
+use Rattle.ref_machine_looks.proofs.Truths.{never, both_true}
 use Rattle.ref_machine_looks.proofs.SameTypes.{type_is}
 use Rattle.c_types_marks.specs.ModelTypes.{IsKindOf, IsTypeOf, IsGround}
 use Rattle.c_types_marks.specs.MadeTerms.{IsExactly, IsMade, IsGiven, Gives}
@@ -104,10 +104,10 @@ module _ (u : UnitView) where
     noted_converted : (e : TermTree) (to : Ty) → is_marked_term u true e ≡ true → IsConverted e to → (direct (noted k to e) to || from_zero (noted k to e) to) ≡ true
     noted_converted e to marked (inl c) =
         or_left (direct (noted k to e) to) (from_zero (noted k to e) to)
-            (and_from (is_marked_term u true (noted k to e)) (converts (scalar_of to) (scalar_of (term_type (noted k to e)))) (noted_marked k to u true e ∙ marked) (ap (λ t. converts (scalar_of to) (scalar_of t)) (noted_type k to e) ∙ c))
+        (and_from (is_marked_term u true (noted k to e)) (converts (scalar_of to) (scalar_of (term_type (noted k to e)))) (noted_marked k to u true e ∙ marked) (ap (λ t. converts (scalar_of to) (scalar_of t)) (noted_type k to e) ∙ c))
     noted_converted e to marked (inr z) =
         or_right (direct (noted k to e) to) (from_zero (noted k to e) to)
-            (and_from (is_address to) (is_exact_zero u.model (noted k to e)) z.0 (ap lowered.is_zero (noted_exact k to u.model e) ∙ z.1))
+        (and_from (is_address to) (is_exact_zero u.model (noted k to e)) z.0 (ap lowered.is_zero (noted_exact k to u.model e) ∙ z.1))
 
     pub converted_marked : (how : ConversionKind) (at : Place) (e : TermTree) (to : Ty) (used : Bool) → is_marked_term u true e ≡ true → is_scalar_type u to ≡ true → IsConverted e to → is_marked_term u used (converted_term k how at e to) ≡ true
     converted_marked how at e to used marked scalar by = and_from (is_scalar_type u to) (direct (noted k to e) to || from_zero (noted k to e) to) scalar (noted_converted e to marked by)

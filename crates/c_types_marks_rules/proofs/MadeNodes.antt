@@ -1,7 +1,7 @@
 -- What terms that are no conversions owe to be made, and rules that refuse.
-use Rattle.std.proofs.Common.{◌≡◌, ℕ, ℤ, Bool, true, false, not, cond, Option, Some, None, Ok, Err, refl, subst}
+use Rattle.std.proofs.Common.{◌≡◌, ℕ, ℤ, Bool, true, false, not, cond, Option, Some, None, refl, subst}
 use Rattle.cc_base.specs.declared.diagnostics.Place.{Place}
-use Rattle.c_layout.specs.CheckedTrees.{TermTree, FormTree, Typed}
+use Rattle.c_layout.specs.CheckedTrees.{FormTree, Typed}
 use Rattle.c_layout.specs.CheckedUnits.{UnitView}
 use Rattle.c_layout.specs.Types.{Ty}
 use Rattle.c_types_scopes.specs.Refusals.{Ruled}

@@ -1,5 +1,5 @@
 -- Values of operands, and operands in parentheses.
-use Rattle.std.proofs.Common.{◌≡◌, ℕ, ◌==◌, ℤ, Bool, true, false, not, ◌&&◌, cond, Option, Some, None, refl, sym, subst, ◌∙◌}
+use Rattle.std.proofs.Common.{◌≡◌, ℕ, ◌==◌, ℤ, Bool, true, false, not, ◌&&◌, cond, Option, None, refl, sym, subst, ◌∙◌}
 use Rattle.std.proofs.lemmas.Bool.{and_from}
 use Rattle.cc_base.specs.declared.diagnostics.Place.{Place}
 use Rattle.c_layout.specs.CheckedTrees as tree
@@ -7,7 +7,7 @@ use Rattle.c_layout.specs.CheckedTrees.{FormTree, Typed, LvalueTree, LvalueFormT
 use Rattle.c_layout.specs.CheckedUnits.{UnitView}
 use Rattle.c_layout.specs.Types.{Ty, Int, Pointer, Array, Struct, Void}
 use Rattle.c_types_scopes.specs.Known.{Known}
-use Rattle.c_types_operands.specs.Operands.{OperandForm, AsValue, AsLvalue, OperandView, is_scalar, is_void, one_more, wrapped, parenthesized, Begins, Decays, value_by, lvalue_type, lvalue_value, form_value, term_of}
+use Rattle.c_types_operands.specs.Operands.{OperandForm, AsValue, AsLvalue, OperandView, is_void, one_more, wrapped, parenthesized, Begins, Decays, value_by, lvalue_type, lvalue_value, form_value, term_of}
 use Rattle.ref_machine_looks.specs.LookedTypes.{is_scalar_type, same_mark}
 use Rattle.ref_machine_looks.specs.LookedTerms.{is_marked_term, is_marked_place}
 use Rattle.ref_machine_looks.proofs.Truths.{never}
@@ -28,12 +28,12 @@ module _ (u : UnitView) (k : Known) (ground : IsGround u k) where
   loaded_marked : (at : Place) (t : Ty) (parens : ℕ) (l : LvalueTree) (used : Bool) → is_marked_place u l ≡ true → IsTypeOf u.model (lvalue_type l) → lvalue_type l ≡ t → is_marked_term u used (Typed at t parens None (tree.Load l)) ≡ true
   loaded_marked at t parens l used place typed same =
       and_from (is_marked_place u l) (is_scalar_type u (lvalue_type l) && same_mark (lvalue_type l) t) place
-          (and_from (is_scalar_type u (lvalue_type l)) (same_mark (lvalue_type l) t) (scalar_there u numbers (lvalue_type l) typed) (subst (λ s. same_mark (lvalue_type l) s ≡ true) same (mark_same (lvalue_type l))))
+      (and_from (is_scalar_type u (lvalue_type l)) (same_mark (lvalue_type l) t) (scalar_there u numbers (lvalue_type l) typed) (subst (λ s. same_mark (lvalue_type l) s ≡ true) same (mark_same (lvalue_type l))))
 
   loaded_made : (at : Place) (t : Ty) (parens : ℕ) (f : LvalueFormTree) → IsMadePlace u (Designates at t parens f) → IsMade u (Typed at t parens None (tree.Load (Designates at t parens f)))
   loaded_made at t parens f place =
       node_made u at t parens (tree.Load (Designates at t parens f)) refl refl (loaded_marked at t parens (Designates at t parens f) (not (is_void t)) place.marked place.typed refl) place.typed
-          (λ scalar is_test. load_tests u k ground at t parens None is_test (Designates at t parens f) (loaded_marked at t parens (Designates at t parens f) true place.marked place.typed refl) place.typed)
+      (λ scalar is_test. load_tests u k ground at t parens None is_test (Designates at t parens f) (loaded_marked at t parens (Designates at t parens f) true place.marked place.typed refl) place.typed)
 
   -- a pointer to the first element of an array
   first_made : (at : Place) (t : Ty) (parens : ℕ) (l : LvalueTree) (none : Bool) → is_marked_place u l ≡ true → IsTypeOf u.model t → IsMade u (value_by at parens l (cond none (Begins (Pointer t)) (Decays (Pointer t))))

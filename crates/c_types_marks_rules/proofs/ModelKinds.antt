@@ -1,5 +1,5 @@
 -- The integer types of a data model: a machine has them, operators compute in them, and what they hold.
-use Rattle.std.proofs.Common.{◌≡◌, ◌⊎◌, inl, inr, ℕ, ◌+◌, ◌-◌, ◌*◌, ◌^◌, ◌≤◌, ◌==◌, pos, negsuc, Bool, true, false, not, ◌&&◌, ◌||◌, cond, nat_le, nat_lt, Option, Some, None, List, length, refl, sym, subst, ap, ◌∙◌, arith}
+use Rattle.std.proofs.Common.{◌≡◌, ◌⊎◌, inl, inr, ℕ, ◌-◌, ◌*◌, ◌^◌, ◌≤◌, ◌==◌, pos, negsuc, Bool, true, false, not, ◌&&◌, ◌||◌, cond, nat_le, nat_lt, Option, Some, None, List, length, refl, sym, subst, ap, arith}
 use Rattle.std.specs.Option.{option_and_then}
 use Rattle.std.proofs.lemmas.Bool.{eqb-true, eq-eqb, leb-true, and_from, both_ways}
 use Rattle.std.proofs.lemmas.Int.{ints}
@@ -16,7 +16,7 @@ use Rattle.c_types_rules.specs.declared.integer_kinds.Rank.{Rank}
 use Rattle.c_types_rules.specs.declared.integer_kinds.Rank.TheVariants as rank
 use Rattle.lib_models_effects.specs.LibraryChecks.{most_size}
 use Rattle.ref_machine_looks.specs.LookedTypes.{is_kind, has_truths, same_mark}
-use Rattle.ref_machine_looks.proofs.Truths.{never, no_some, some_is, both_true, either_true}
+use Rattle.ref_machine_looks.proofs.Truths.{no_some, some_is, both_true, either_true}
 use Rattle.c_types_marks.specs.ModelTypes.{IsKindOf}
 
 -- ---- the numbers of a model
@@ -118,8 +118,8 @@ module _ (m : Model) where
   joined_known : (a b : IntType) → IsKindOf m a → IsKindOf m b → IsKindOf m (joined a b)
   joined_known a b p q =
       either_known (same_sign a.signed b.signed) (cond (nat_le b.rank a.rank) a b) (cond a.signed (mixed a b) (mixed b a))
-          (either_known (nat_le b.rank a.rank) a b p q)
-          (either_known a.signed (mixed a b) (mixed b a) (mixed_known a b p q) (mixed_known b a q p))
+      (either_known (nat_le b.rank a.rank) a b p q)
+      (either_known a.signed (mixed a b) (mixed b a) (mixed_known a b p q) (mixed_known b a q p))
 
   pub common_known : (a b : IntType) → IsKindOf m a → IsKindOf m b → IsKindOf m (common m a b)
   common_known a b p q = joined_known (promoted m a) (promoted m b) (promoted_known a p) (promoted_known b q)
@@ -199,5 +199,5 @@ module _ (m : Model) (numbers : ModelNumbers m) where
   sized_small structs (Struct i) n h =
       let laid : Bool = (struct_at structs i).complete && nat_lt 0 (struct_at structs i).align in
       if_small (nat_lt i (length structs) && (laid && nat_le (struct_at structs i).size most_bytes)) (struct_at structs i).size n
-          (λ e. leb-true (struct_at structs i).size most_bytes (both_true laid (nat_le (struct_at structs i).size most_bytes) (both_true (nat_lt i (length structs)) (laid && nat_le (struct_at structs i).size most_bytes) e).1).1) h
+      (λ e. leb-true (struct_at structs i).size most_bytes (both_true laid (nat_le (struct_at structs i).size most_bytes) (both_true (nat_lt i (length structs)) (laid && nat_le (struct_at structs i).size most_bytes) e).1).1) h
   sized_small structs Void n h = no_some n h

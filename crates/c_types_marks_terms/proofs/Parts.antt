@@ -1,9 +1,8 @@
 -- What has a property where it is there: options, elements of lists, and types made of types.
-use Rattle.std.proofs.Common.{◌≡◌, ◌+◌, ℕ, zero, suc, List, [], ◌∷◌, ◌++◌, Option, Some, None, slice_get, refl, ap, subst, sym, ◌∙◌}
+use Rattle.std.proofs.Common.{◌≡◌, ◌+◌, ℕ, zero, suc, List, [], ◌∷◌, ◌++◌, Option, Some, None, slice_get, refl, subst}
 use Rattle.std.specs.Prelude.{Bool, true, false, cond}
 use Rattle.std.proofs.lemmas.Option.{same_Some}
 use Rattle.cc_base.specs.declared.diagnostics.Place.{Place}
-use Rattle.cc_base.specs.declared.int_types.IntType.{IntType}
 use Rattle.c_layout.specs.Types.{Ty, Array}
 use Rattle.c_layout.specs.StructViews.{StructView}
 use Rattle.c_layout.specs.declared.data_model.Model.{Model}
@@ -15,7 +14,7 @@ use Rattle.c_types_rules.specs.declared.type_words.NamedKind.{NamedKind}
 use Rattle.c_types_rules.specs.declared.type_words.NamedKind.TheVariants as named
 use Rattle.c_types_rules.specs.declared.type_words.WordCounts.{WordCounts}
 use Rattle.c_types_scopes.specs.Refusals.{or_type_fault}
-use Rattle.c_types_scopes.specs.TypeSteps.{array_of, step_of, then_step, stepped, may_be_element}
+use Rattle.c_types_scopes.specs.TypeSteps.{then_step, stepped, may_be_element}
 use Rattle.c_types_scopes.specs.declared.type_steps.TypeStep.{TypeStep}
 use Rattle.c_types_scopes.specs.declared.type_steps.TypeStep.TheVariants as step
 use Rattle.c_types_marks.specs.ModelTypes.{IsKindOf, IsTypeOf, Each}

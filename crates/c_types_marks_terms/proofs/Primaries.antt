@@ -1,6 +1,6 @@
 -- Names, constants, literals and members are made.
-use Rattle.std.proofs.Common.{◌≡◌, ◌<◌, ◌≤◌, ◌+◌, ◌==◌, ℕ, zero, suc, List, [], ◌∷◌, ◌++◌, Option, Some, None, Ok, Err, slice_get, length, refl, ap, subst, sym, ◌∙◌, arith, rules}
-use Rattle.std.specs.Prelude.{ℤ, Bool, true, false, cond, ◌&&◌, is_none, is_some, nat_le, unwrap_or, option_map}
+use Rattle.std.proofs.Common.{◌≡◌, ◌<◌, ◌+◌, ℕ, List, [], ◌∷◌, ◌++◌, Option, Some, None, Ok, Err, slice_get, length, refl, ap, subst, sym, arith}
+use Rattle.std.specs.Prelude.{ℤ, Bool, true, false, cond, ◌&&◌, is_none, is_some, unwrap_or, option_map}
 use Rattle.std.proofs.lemmas.Bool.{leb-true, le-leb}
 use Rattle.std.proofs.lemmas.List.{length-append}
 use Rattle.std.proofs.lemmas.Option.{same_Some, slice_get-get_or}
@@ -9,7 +9,7 @@ use Rattle.cc_base.specs.declared.diagnostics.Place.{Place}
 use Rattle.cc_base.specs.declared.int_types.IntType.{IntType}
 use Rattle.c_layout.specs.Types.{Ty, Int}
 use Rattle.c_layout.specs.CheckedTrees as tree
-use Rattle.c_layout.specs.CheckedTrees.{LvalueTree, LvalueFormTree}
+use Rattle.c_layout.specs.CheckedTrees.{LvalueTree}
 use Rattle.c_layout.specs.CheckedUnits.{UnitView, LocalView, LiteralView}
 use Rattle.c_layout.specs.StructViews.{FieldView, StructView}
 use Rattle.c_layout.specs.declared.checked_tree.checked_terms.ObjectRef.TheVariants as object
@@ -23,25 +23,24 @@ use Rattle.c_types_scopes.specs.Names as scopes
 use Rattle.c_types_scopes.specs.Names.{known_in}
 use Rattle.c_types_scopes.specs.ScopeTables as table
 use Rattle.c_types_scopes.specs.StructTables as structs
-use Rattle.c_types_scopes.specs.StructTables.{TypesView, MemberView}
-use Rattle.c_types_scopes.specs.States.{State, is_evaluated, literal_number, with_literal}
+use Rattle.c_types_scopes.specs.StructTables.{MemberView}
+use Rattle.c_types_scopes.specs.States.{State, is_evaluated, with_literal}
 use Rattle.c_types_scopes.specs.declared.meanings.Meaning.{Meaning}
 use Rattle.c_types_scopes.specs.declared.meanings.Meaning.TheVariants as meaning
 use Rattle.c_types_scopes.specs.declared.struct_types.MemberEntry.{MemberEntry}
 use Rattle.c_types_operands.specs.Arithmetic.{int_kind}
-use Rattle.c_types_operands.specs.Operands.{OperandForm, AsValue, AsLvalue, OperandView, node, lvalue_type, term_of}
-use Rattle.c_types_operands.specs.Indirections.{indirection}
+use Rattle.c_types_operands.specs.Operands.{OperandForm, AsValue, AsLvalue, OperandView, lvalue_type}
 use Rattle.c_types_primary.specs.Members as members
 use Rattle.c_types_primary.specs.Primaries as primaries
 use Rattle.c_types_primary.specs.Primaries.{designated, fixed_number, meaning_of, no_number}
 use Rattle.ref_machine_looks.specs.LookedTerms.{has_tests}
 use Rattle.c_types_marks.specs.KnownTypes.{HasTypes, IsMeaning}
-use Rattle.c_types_marks.specs.MadeTerms.{IsExactly, IsMade, IsMadePlace, IsMadeForm, IsMadeOperand, Makes}
+use Rattle.c_types_marks.specs.MadeTerms.{IsMadePlace, IsMadeForm, IsMadeOperand, Makes}
 use Rattle.c_types_marks.specs.ModelTypes.{IsKindOf, IsTypeOf, Each}
 use Rattle.c_types_marks.specs.ProperTrees.{IsProperConstant}
-use Rattle.c_types_marks.specs.TypingLaws.{Keeps, LeadsOn}
+use Rattle.c_types_marks.specs.TypingLaws.{Keeps}
 use Rattle.c_types_marks.specs.UnitParts.{IsPartOf}
-use Rattle.c_types_marks_terms.proofs.Parts.{HoldsIf, none_of, there_if, kind_is, in_model}
+use Rattle.c_types_marks_terms.proofs.Parts.{HoldsIf, there_if, kind_is, in_model}
 
 -- a type of the model of typing is one of the unit's
 pub in_unit : (s : State) (u : UnitView) (t : Ty) → IsPartOf s u → IsTypeOf s.known.numbers t → IsTypeOf u.model t

@@ -1,6 +1,6 @@
 -- Steps of typing that keep what is known, one after another.
-use Rattle.std.proofs.Common.{◌≡◌, ◌<◌, ◌≤◌, ◌+◌, ◌==◌, ℕ, List, [], ◌∷◌, ◌++◌, length, Option, Some, None, Ok, Err, slice_get, refl, ap, subst, sym, ◌∙◌, arith}
-use Rattle.std.specs.Prelude.{Bool, true, false, cond, nat_le, is_some}
+use Rattle.std.proofs.Common.{◌≡◌, ◌==◌, ℕ, List, length, Ok, Err, slice_get, refl, ap, subst, sym, ◌∙◌}
+use Rattle.std.specs.Prelude.{Bool, true, false, cond, nat_le}
 use Rattle.cc_base.specs.declared.diagnostics.Place.{Place}
 use Rattle.c_layout.specs.Models.{is_model}
 use Rattle.c_layout.specs.CheckedTrees.{TermTree}
@@ -8,8 +8,7 @@ use Rattle.c_layout.specs.CheckedUnits.{UnitView}
 use Rattle.c_layout.specs.declared.data_model.Model.{Model}
 use Rattle.c_types_scopes.specs.Refusals.{Ruled}
 use Rattle.c_types_scopes.specs.Answers.{after, kept}
-use Rattle.c_types_scopes.specs.Names.{ScopesView}
-use Rattle.c_types_scopes.specs.States.{State, is_evaluated, with_name, with_constant, with_literal, with_call}
+use Rattle.c_types_scopes.specs.States.{State, is_evaluated, with_name, with_constant, with_call}
 use Rattle.c_types_marks.specs.ModelTypes.{IsGround}
 use Rattle.c_types_marks.specs.KnownTypes.{HasTypes}
 use Rattle.c_types_marks.specs.UnitParts.{IsPartOf}

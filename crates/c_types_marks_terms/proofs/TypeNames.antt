@@ -1,5 +1,5 @@
 -- Type names keep what typing knows, and name types of the data model.
-use Rattle.std.proofs.Common.{◌≡◌, ℕ, List, [], ◌∷◌, ◌++◌, Option, Some, None, Ok, Err, slice_get, length, refl, ap, subst, sym, ◌∙◌}
+use Rattle.std.proofs.Common.{◌≡◌, ℕ, List, [], ◌∷◌, Option, Some, None, Ok, Err, slice_get, refl, subst, ◌∙◌}
 use Rattle.cc_base.specs.declared.diagnostics.Place.{Place}
 use Rattle.c_layout.specs.Types.{Ty}
 use Rattle.c_layout.specs.StructViews.{no_struct}
@@ -28,10 +28,10 @@ use Rattle.c_types_primary.specs.Primaries.{meaning_of}
 use Rattle.c_types_primary.specs.TypeNames as names
 use Rattle.c_types_primary.specs.TypeNames.{WordsView, with_struct_tag}
 use Rattle.c_types_marks.specs.KnownTypes.{HasTypes, HasFields}
-use Rattle.c_types_marks.specs.ModelTypes.{IsKindOf, IsTypeOf, Each}
+use Rattle.c_types_marks.specs.ModelTypes.{IsTypeOf}
 use Rattle.c_types_marks.specs.TypingLaws.{Keeps, LeadsOn}
 use Rattle.c_types_marks_terms.proofs.Steps.{IsAt, keeps_same, keeps_by, at_later, onward, then, stays, Holds, named_keeps}
-use Rattle.c_types_marks_terms.proofs.Parts.{HoldsIf, none_of, or_fault_holds, there_if, each_none, each_more, kind_is, in_model, IsNamedOf, words_hold, steps_hold}
+use Rattle.c_types_marks_terms.proofs.Parts.{HoldsIf, or_fault_holds, there_if, each_none, each_more, kind_is, in_model, IsNamedOf, words_hold, steps_hold}
 
 abbrev pub IsDeclaredOf : Model → DeclaredView → Type 0
 IsDeclaredOf m d = IsTypeOf m d.ctype

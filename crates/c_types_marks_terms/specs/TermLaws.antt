@@ -1,5 +1,4 @@
 -- What typing of expressions makes and keeps, where its rules make what is made.
-use Rattle.std.specs.Prelude.{◌≡◌}
 use Rattle.c_layout.specs.SyntaxTrees.{Tree}
 use Rattle.c_types_scopes.specs.States.{State}
 use Rattle.c_types_expressions.specs.Expressions.{length}

@@ -1,6 +1,6 @@
-//! Numbers and tests of what typing makes: constants are folded as operators compute, and conditions decide their tests.
+//! Numbers and tests of what typing makes: terms are the numbers that they record, and conditions decide their tests.
 #![tactic(auto)]
 
 mod theorems;
 
-pub use theorems::{folds_as_computed, switches_select};
+pub use theorems::switches_select;

@@ -1,7 +1,6 @@
 -- Specifiers, declarators and function heads keep what typing knows, and give types of the data model.
-use Rattle.std.specs.Prelude.{◌≡◌, Bool, List}
+use Rattle.std.specs.Prelude.{Bool, List}
 use Rattle.cc_base.specs.declared.diagnostics.Place.{Place}
-use Rattle.c_layout.specs.Types.{Ty}
 use Rattle.c_layout.specs.DeclarationTrees.{DeclaratorLayerView, SpecTrees, FunctionDeclaratorView}
 use Rattle.c_types_scopes.specs.DeclaredTypes.{DeclaredView}
 use Rattle.c_types_scopes.specs.States.{State}

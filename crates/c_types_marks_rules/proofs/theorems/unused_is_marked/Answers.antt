@@ -1,0 +1,5 @@
+use Rattle.c_types_marks_rules.proofs.MadeOperators.{unused_is_marked}
+use Rattle.c_types_marks_rules.proofs.theorems.unused_is_marked.Goals as goal
+
+pub returns : goal.returns
+returns c = unused_is_marked

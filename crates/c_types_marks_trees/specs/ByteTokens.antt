@@ -1,0 +1,29 @@
+-- Tokens whose texts are of bytes, and what trees of them hold.
+use Rattle.std.specs.Prelude.{◌≡◌, true, Bool, List, [], ◌∷◌}
+use Rattle.std.specs.List.{list_all}
+use Rattle.c_layout.specs.Models.{is_model}
+use Rattle.c_layout.specs.DeclarationTrees.{ExternalTree}
+use Rattle.c_layout.specs.declared.data_model.Model.{Model}
+use Rattle.c_layout.specs.declared.syntax_tree.expressions.Constant.{Constant}
+use Rattle.cc_base.specs.declared.lexemes.Token.{Token}
+use Rattle.c_parser_tokens.specs.declared.terminals.Symbol.TheVariants as symbol
+use Rattle.c_parser_tokens.specs.declared.terminals.Terminal.{Terminal}
+use Rattle.c_parser.specs.Externals.{IsUnit}
+use Rattle.ref_machine_looks_units.specs.LookedStatements.{are_bytes}
+use Rattle.c_types_marks.specs.ProperTrees.{IsProperConstant}
+use Rattle.c_types_marks.specs.ProperStatements.{AreProperExternals}
+
+abbrev pub has_bytes : Token → Bool
+has_bytes t = are_bytes t.text
+
+-- a terminal that is proper where it is a constant or a literal
+pub record IsProperTerminal (m : Model) (t : Terminal) : Type 0 where
+  pub constant : (c : Constant) → t.symbol ≡ symbol.Constant c → IsProperConstant m c
+  pub literal : t.symbol ≡ symbol.Literal → are_bytes t.text ≡ true
+
+abbrev pub AreProperTerminals : Model → List Terminal → Type 0
+AreProperTerminals m [] = Unit {0}
+AreProperTerminals m (t ∷ ts) = IsProperTerminal m t × AreProperTerminals m ts
+
+abbrev pub TreesAreProper : Type 0
+TreesAreProper = (m : Model) (tokens : List Token) (es : List ExternalTree) → is_model m ≡ true → list_all has_bytes tokens ≡ true → IsUnit m tokens es → AreProperExternals m es

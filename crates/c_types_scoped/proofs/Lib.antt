@@ -1,0 +1,6 @@
+pub mod Numbers
+pub mod Seen
+pub mod Rules
+pub mod Typed
+pub mod Filled
+pub mod Units

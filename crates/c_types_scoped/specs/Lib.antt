@@ -1,0 +1,2 @@
+pub mod BlockDeclarations
+pub mod ScopedChecks
