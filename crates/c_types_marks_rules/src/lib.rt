@@ -1,6 +1,6 @@
-//! The rules of typing make marked terms of marked terms.
+//! What rules of typing make of made operands: values, conversions, and terms between two operands.
 #![tactic(auto)]
 
 mod theorems;
 
-pub use theorems::{conversions_give, operators_make, unused_is_marked, values_are_made};
+pub use theorems::{conversions_give, unused_is_marked, values_are_made};

@@ -1,10 +1,5 @@
 //! What rules of typing make of what is made.
-ghost use Rattle.c_types_marks.specs.MadeLaws.{ConversionsGive, OperatorsMake, UnusedIsMarked, ValuesAreMade};
-
-/// The rules of operators make marked terms of marked terms.
-pub fn operators_make()
-    ensures { OperatorsMake }
-{}
+ghost use Rattle.c_types_marks.specs.MadeLaws.{ConversionsGive, UnusedIsMarked, ValuesAreMade};
 
 /// The value of an operand is marked.
 pub fn values_are_made()

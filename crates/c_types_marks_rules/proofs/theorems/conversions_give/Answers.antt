@@ -1,4 +1,4 @@
-use Rattle.c_types_marks_rules.proofs.MadeOperators.{conversions_give}
+use Rattle.c_types_marks_rules.proofs.MadeRules.{conversions_give}
 use Rattle.c_types_marks_rules.proofs.theorems.conversions_give.Goals as goal
 
 pub returns : goal.returns

@@ -1,4 +1,4 @@
-use Rattle.c_types_marks_rules.proofs.MadeOperators.{unused_is_marked}
+use Rattle.c_types_marks_rules.proofs.MadeRules.{unused_is_marked}
 use Rattle.c_types_marks_rules.proofs.theorems.unused_is_marked.Goals as goal
 
 pub returns : goal.returns

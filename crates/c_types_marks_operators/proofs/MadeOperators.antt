@@ -1,25 +1,13 @@
--- The rules of typing make what is made of what is made.
-use Rattle.std.proofs.Common.{not}
-use Rattle.c_types_operands.specs.Operands.{is_void, term_of, term_type}
-use Rattle.c_types_marks.specs.MadeLaws.{OperatorsMake, ValuesAreMade, ConversionsGive, UnusedIsMarked}
-use Rattle.c_types_marks_rules.proofs.MadeAssignments.{assignment_made}
-use Rattle.c_types_marks_rules.proofs.MadeChoices.{logical_made, conditional_made, comma_made}
+-- The rules of operators make what is made of what is made.
+use Rattle.c_types_operands.specs.Operands.{term_of}
+use Rattle.c_types_marks.specs.MadeLaws.{OperatorsMake}
+use Rattle.c_types_marks_operators.proofs.MadeAssignments.{assignment_made}
+use Rattle.c_types_marks_operators.proofs.MadeChoices.{logical_made, conditional_made, comma_made}
 use Rattle.c_types_marks_rules.proofs.MadeComparisons.{binary_made}
-use Rattle.c_types_marks_rules.proofs.MadeConversions as conversions
-use Rattle.c_types_marks_rules.proofs.MadeSizes.{operand_size_made, type_size_made, cast_made}
+use Rattle.c_types_marks_operators.proofs.MadeSizes.{operand_size_made, type_size_made, cast_made}
 use Rattle.c_types_marks_rules.proofs.MadeSums.{indirection_made, subscript_made}
-use Rattle.c_types_marks_rules.proofs.MadeUnary.{step_made, unary_made}
+use Rattle.c_types_marks_operators.proofs.MadeUnary.{step_made, unary_made}
 use Rattle.c_types_marks_rules.proofs.MadeValues.{value_made, parenthesized_made}
-use Rattle.c_types_marks_rules.proofs.UnusedTerms.{unused_marked}
-
-pub values_are_made : ValuesAreMade
-values_are_made u k ground x made = value_made u k ground x made
-
-pub conversions_give : ConversionsGive
-conversions_give u k ground at e to made known = conversions.conversions_give u k ground at e to made known
-
-pub unused_is_marked : UnusedIsMarked
-unused_is_marked u k ground e made = unused_marked u (not (is_void (term_type e))) e made.marked
 
 pub operators_make : OperatorsMake
 operators_make u k ground = record {

@@ -1,7 +1,7 @@
-//! The rules of operators.
+//! What rules of operators make of what is made.
 ghost use Rattle.c_types_marks.specs.MadeLaws.{OperatorsMake};
 
-/// The rules of typing make marked terms of marked terms.
+/// The rules of operators make marked terms of marked terms.
 pub fn operators_make()
     ensures { OperatorsMake }
 {}

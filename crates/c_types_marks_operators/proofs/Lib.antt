@@ -1,0 +1,5 @@
+pub mod MadeUnary
+pub mod MadeSizes
+pub mod MadeChoices
+pub mod MadeAssignments
+pub mod MadeOperators
