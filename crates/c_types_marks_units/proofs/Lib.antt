@@ -1,0 +1,4 @@
+pub mod FileSteps
+pub mod HeadSteps
+pub mod FileDeclarations
+pub mod Signatures
