@@ -46,13 +46,14 @@ use Rattle.c_types_marks.specs.MadeTerms.{IsMade, IsMadeOperand}
 use Rattle.c_types_marks.specs.UnitParts.{IsPartOf}
 use Rattle.c_types_marks.specs.ProperTrees.{IsProperTree}
 use Rattle.c_types_marks.specs.ProperStatements.{IsProperIf, IsProperLocal, IsProperFirst, IsProperStatement, AreProperStatements}
-use Rattle.c_types_marks_statements.specs.ReadyStates.{IsReady, Goes}
-use Rattle.c_types_marks_statements.specs.MarkedBodies.{HasLaws, AreMarkedParts}
-use Rattle.c_types_marks_statements.proofs.Going.{IsPassed, ground, then}
-use Rattle.c_types_marks_statements.proofs.Going as going
-use Rattle.c_types_marks_statements.proofs.ReadySteps.{scoped_ready, scoped_passes, named_ready, constant_ready, constant_passes}
-use Rattle.c_types_marks_statements.proofs.Initializing.{GivesScalar, typed_goes, value_made, term_given}
-use Rattle.c_types_marks_statements.proofs.Declaring.{both, marked_more, Adds, local_adds}
+use Rattle.c_types_marks_initializers.specs.ReadyStates.{IsReady, Goes}
+use Rattle.c_types_marks_initializers.specs.PartLaws.{HasLaws}
+use Rattle.c_types_marks_initializers.specs.MarkedDeclarations.{AreMarkedParts}
+use Rattle.c_types_marks_initializers.proofs.Going.{IsPassed, ground, then}
+use Rattle.c_types_marks_initializers.proofs.Going as going
+use Rattle.c_types_marks_initializers.proofs.ReadySteps.{scoped_ready, scoped_passes, named_ready, constant_ready, constant_passes}
+use Rattle.c_types_marks_initializers.proofs.Initializing.{GivesScalar, typed_goes, value_made, term_given}
+use Rattle.c_types_marks_initializers.proofs.Declaring.{both, marked_more, Adds, local_adds}
 
 -- ---- conditions
 

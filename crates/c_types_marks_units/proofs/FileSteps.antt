@@ -20,9 +20,9 @@ use Rattle.c_types_laws_units.proofs.Kept.{front_stays}
 use Rattle.c_types_marks.specs.ModelTypes.{IsTypeOf, Each}
 use Rattle.c_types_marks.specs.KnownTypes.{HasTypes, IsMeaning, HasResult, HasParameters}
 use Rattle.c_types_marks.specs.UnitParts.{IsPartOf}
-use Rattle.c_types_marks_statements.specs.ReadyStates.{IsReady}
-use Rattle.c_types_marks_statements.proofs.Going.{IsPassed}
-use Rattle.c_types_marks_statements.proofs.ReadySteps.{each_more, each_changed, changed_there}
+use Rattle.c_types_marks_initializers.specs.ReadyStates.{IsReady}
+use Rattle.c_types_marks_initializers.proofs.Going.{IsPassed}
+use Rattle.c_types_marks_initializers.proofs.ReadySteps.{each_more, each_changed, changed_there}
 
 pub no_item : {A P : Type 0} (x : A) → None ≡ Some x → P
 no_item x e = absurd (let d : ⊥ = cc in d)

@@ -20,8 +20,8 @@ use Rattle.c_types_laws_units.proofs.Kept.{appended_is, front_stays, set_other}
 use Rattle.c_types_laws_units.proofs.Bodies.{changed_is}
 use Rattle.c_types_marks.specs.ModelTypes.{IsTypeOf, Each}
 use Rattle.c_types_marks.specs.KnownTypes.{IsMeaning}
-use Rattle.c_types_marks_statements.specs.ReadyStates.{IsReady}
-use Rattle.c_types_marks_statements.proofs.Going.{IsPassed}
+use Rattle.c_types_marks_initializers.specs.ReadyStates.{IsReady}
+use Rattle.c_types_marks_initializers.proofs.Going.{IsPassed}
 
 -- ---- lists
 

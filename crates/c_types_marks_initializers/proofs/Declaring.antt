@@ -43,12 +43,14 @@ use Rattle.c_types_marks_layouts.proofs.Laying.{pointer_is}
 use Rattle.c_types_marks_layouts.proofs.Declaring.{declarators_lay}
 use Rattle.c_types_marks_layouts.proofs.Specifying.{specifiers_lay}
 use Rattle.c_types_marks_layouts.proofs.NearStores.{stores_are_near}
-use Rattle.c_types_marks_statements.specs.ReadyStates.{IsReady, Goes}
-use Rattle.c_types_marks_statements.specs.MarkedBodies.{HasLaws, AreMarkedParts}
-use Rattle.c_types_marks_statements.proofs.Going.{IsPassed, Rules, ground, onward, then, weaker, kept_goes, cond_goes, led_goes}
-use Rattle.c_types_marks_statements.proofs.Going as going
-use Rattle.c_types_marks_statements.proofs.ReadySteps.{scoped_passes, named_ready, constant_ready, constant_passes, automatic_ready, automatic_passes, static_ready, static_passes, local_type_ready, local_type_passes, static_type_ready, static_type_passes, stores_ready, stores_pass}
-use Rattle.c_types_marks_statements.proofs.Initializing.{AreValued, IsInitial, Initializes, initializer_goes}
+use Rattle.c_types_marks_initializers.specs.ReadyStates.{IsReady, Goes}
+use Rattle.c_types_marks_initializers.specs.PartLaws.{HasLaws}
+use Rattle.c_types_marks_initializers.specs.MarkedDeclarations.{AreMarkedParts}
+use Rattle.c_types_marks_initializers.proofs.Going.{IsPassed, Rules, ground, onward, then, weaker, kept_goes, cond_goes, led_goes}
+use Rattle.c_types_marks_initializers.proofs.Going as going
+use Rattle.c_types_marks_initializers.proofs.ReadySteps.{scoped_passes, named_ready, constant_ready, constant_passes, automatic_ready, automatic_passes, static_ready, static_passes, local_type_ready, local_type_passes, static_type_ready, static_type_passes, stores_ready, stores_pass}
+use Rattle.c_types_marks_initializers.specs.MarkedInitializers.{AreValued, IsInitial}
+use Rattle.c_types_marks_initializers.proofs.Initializing.{Initializes, initializer_goes}
 
 -- ---- lists
 
