@@ -121,13 +121,6 @@ both_new xs ys few middle many low high g h = record {
 abbrev pub Apart : List ℕ → ℕ → ℕ → List ℕ → Type 0
 Apart alive few many new = (k : ℕ) → is_in k alive ≡ true → (k < few) ⊎ ((many ≤ k) ⊎ (is_in k new ≡ true))
 
-pub apart_within : (alive : List ℕ) (few many low high : ℕ) → few ≤ low → high ≤ many → Apart alive few many [] → Apart alive low high []
-apart_within alive few many low high g h apart k is = elim (apart k is) [
-  | inl before ↦ inl (omega (arith, before, g))
-  | inr (inl behind) ↦ inr (inl (omega (arith, behind, h)))
-  | inr (inr new) ↦ never new
-]
-
 pub apart_first : (alive xs ys : List ℕ) (few middle many : ℕ) → middle ≤ many → AreNew ys middle many → Apart alive few many (xs ++ ys) → Apart alive few middle xs
 apart_first alive xs ys few middle many high new apart k is = elim (apart k is) [
   | inl before ↦ inl before
@@ -164,3 +157,25 @@ new_beside alive new few many news apart =
       | inr (inl behind) ↦ (let a = news.most k is in omega (arith, a, behind))
       | inr (inr none) ↦ never none
     ])))
+
+-- behind the new ones they are old
+pub apart_behind : (alive new : List ℕ) (few middle many : ℕ) → few ≤ middle → AreNew new few middle → Apart alive few many new → Apart alive middle many []
+apart_behind alive new few middle many low news apart k is = elim (apart k is) [
+  | inl before ↦ inl (omega (arith, before, low))
+  | inr (inl behind) ↦ inr (inl behind)
+  | inr (inr now) ↦ inl (news.most k now)
+]
+
+pub apart_before : (alive new : List ℕ) (few many high : ℕ) → many ≤ high → Apart alive few high new → Apart alive few many new
+apart_before alive new few many high more apart k is = elim (apart k is) [
+  | inl before ↦ inl before
+  | inr (inl behind) ↦ inr (inl (omega (arith, behind, more)))
+  | inr (inr now) ↦ inr (inr now)
+]
+
+pub apart_after : (alive new : List ℕ) (few low many : ℕ) → few ≤ low → Apart alive few many new → Apart alive low many new
+apart_after alive new few low many more apart k is = elim (apart k is) [
+  | inl before ↦ inl (omega (arith, before, more))
+  | inr (inl behind) ↦ inr (inl behind)
+  | inr (inr now) ↦ inr (inr now)
+]
