@@ -3,8 +3,3 @@ pub mod Seen
 pub mod Rules
 pub mod Typed
 pub mod Filled
-pub mod Declared
-pub mod Stated
-pub mod Headed
-pub mod Files
-pub mod Units

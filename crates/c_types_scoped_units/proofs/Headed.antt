@@ -1,5 +1,5 @@
 -- Function definitions: the parameters are the first objects of the body, and the body names what lives.
-use Rattle.std.proofs.Common.{◌≡◌, ◌<◌, ◌≤◌, ◌+◌, ◌⊎◌, inl, inr, ℕ, suc, Bool, true, false, List, [], ◌∷◌, ◌++◌, length, Option, Some, None, Ok, Err, arith, refl, ap, subst, sym, ◌∙◌}
+use Rattle.std.proofs.Common.{◌≡◌, ◌<◌, ◌≤◌, ◌+◌, ◌⊎◌, inl, inr, ℕ, suc, Bool, true, false, List, [], ◌∷◌, ◌++◌, length, Option, Some, None, Ok, Err, arith, refl, subst, sym, ◌∙◌}
 use Rattle.std.specs.Prelude.{cond, ◌&&◌, nat_le, is_some}
 use Rattle.std.proofs.lemmas.Bool.{le-leb}
 use Rattle.std.proofs.lemmas.List.{length-append}
@@ -9,10 +9,8 @@ use Rattle.c_layout.specs.CheckedTrees as tree
 use Rattle.c_layout.specs.CheckedUnits.{FunctionView}
 use Rattle.c_layout.specs.DeclarationTrees as syntax
 use Rattle.c_layout.specs.DeclarationTrees.{NameView, DeclaratorView, ParameterView, ParametersView, NoParameters, OnlyVoid, ParameterList, FunctionDeclaratorView, SpecTree, StatementTrees, spec_trees}
-use Rattle.c_layout.specs.declared.syntax_tree.declarations.Storage.{Storage}
 use Rattle.c_types_scopes.specs.Answers.{after, kept}
 use Rattle.c_types_scopes.specs.DeclaredTypes.{DeclaredView}
-use Rattle.c_types_scopes.specs.Definitions.{function_of}
 use Rattle.c_types_scopes.specs.Names.{number_in, found_here}
 use Rattle.c_types_scopes.specs.Refusals.{Ruled, type_fault, redeclared}
 use Rattle.c_types_scopes.specs.ScopeTables as table
@@ -51,12 +49,14 @@ use Rattle.ref_machine.specs.SourceStates.{result_object}
 use Rattle.ref_machine_lives.specs.Lives.{kept_objects}
 use Rattle.ref_machine_looks.proofs.Truths.{never}
 use Rattle.ref_machine_looks_units.specs.LookedScopes.{is_scoped_body, is_scoped_function, are_new, are_scoped_statements}
-use Rattle.ref_machine_returns.specs.EndedObjects.{AreAmong, own_objects}
+use Rattle.ref_machine_returns.specs.EndedObjects.{AreAmong}
 use Rattle.c_types_scoped.specs.BlockDeclarations.{DeclareInBlocks}
-use Rattle.c_types_scoped.proofs.Declared.{Adds}
-use Rattle.c_types_scoped.proofs.Numbers.{Apart, two, in_parts, in_front, in_back, is_only, in_numbers, numbers_are, none_new, one_new, in_itself, new_beside, apart_inside}
-use Rattle.c_types_scoped.proofs.Seen.{SeesAt, Sees, Follows, FollowsBy, Stays, count, closes, declares, follows_twice, follows_stays, sees_more, specifiers_stay, stays_follows, stays_same, stays_sees, stays_twice}
-use Rattle.c_types_scoped.proofs.Stated.{Itemized, Moves, items_scoped}
+use Rattle.c_types_scoped.specs.SeenObjects.{SeesAt, FollowsBy, Stays, count}
+use Rattle.c_types_scoped.proofs.Numbers.{two, in_parts, in_front, in_back, is_only, in_numbers, numbers_are, none_new, one_new, in_itself}
+use Rattle.c_types_scoped.proofs.Seen.{closes, declares, follows_twice, follows_stays, sees_more, specifiers_stay, stays_follows, stays_same, stays_sees, stays_twice}
+use Rattle.c_types_scoped_bodies.specs.ScopedBodies.{Adds, Apart, Itemized}
+use Rattle.c_types_scoped_bodies.proofs.Beside.{new_beside, apart_inside}
+use Rattle.c_types_scoped_bodies.proofs.Stated.{Moves, items_scoped}
 
 -- ---- steps that make no object
 

@@ -1,13 +1,13 @@
 -- Declarations of blocks: their objects are new, and their statements name what lives.
-use Rattle.std.proofs.Common.{◌≡◌, ◌<◌, ◌≤◌, ◌+◌, ℕ, Bool, true, false, List, [], ◌∷◌, ◌++◌, length, Option, Some, None, Ok, Err, arith, refl, ap, subst, sym, ◌∙◌, append_assoc}
-use Rattle.std.specs.Prelude.{cond, ◌&&◌}
+use Rattle.std.proofs.Common.{◌≡◌, ◌+◌, ℕ, Bool, true, false, List, [], ◌∷◌, ◌++◌, length, Option, Some, None, Ok, Err, arith, refl, ap, sym, ◌∙◌, append_assoc}
+use Rattle.std.specs.Prelude.{cond}
 use Rattle.std.specs.List.{list_all}
 use Rattle.std.proofs.lemmas.List.{append-nil, length-append}
 use Rattle.cc_base.specs.declared.diagnostics.Place.{Place}
 use Rattle.c_layout.specs.Types.{Ty}
 use Rattle.c_layout.specs.CheckedTrees as tree
-use Rattle.c_layout.specs.CheckedTrees.{StatementTree, StatementTrees, StoreTree, StoreValue, StoreCopy, StoreText, statement_trees}
-use Rattle.c_layout.specs.CheckedUnits.{FunctionView, StaticStoreView}
+use Rattle.c_layout.specs.CheckedTrees.{StatementTree, StoreTree, StoreValue, StoreCopy, StoreText, statement_trees}
+use Rattle.c_layout.specs.CheckedUnits.{FunctionView}
 use Rattle.c_layout.specs.DeclarationTrees.{NameView, DeclaratorLayerView, InitializerTree, InitDeclaratorView, Object, Initialized, Prototype, LocalView, spec_trees}
 use Rattle.c_types_scopes.specs.Answers.{after, kept}
 use Rattle.c_types_scopes.specs.DeclaredTypes.{DeclaredView}
@@ -32,18 +32,14 @@ use Rattle.ref_machine.specs.Scopes.{is_in}
 use Rattle.ref_machine_looks_units.specs.LookedScopes.{is_scoped_term, is_scoped_place, is_scoped_store, is_scoped_statement, are_scoped_statements}
 use Rattle.ref_machine_looks.proofs.Truths.{both_true}
 use Rattle.ref_machine_returns.specs.EndedObjects.{AreAmong}
-use Rattle.c_types_scoped.proofs.Filled.{ScopedInitial, ScopedMade, initializer_yields}
-use Rattle.c_types_scoped.proofs.Numbers.{Apart, two, in_front, in_back, in_itself, none_new, one_new, apart_first, apart_second, apart_after, apart_before}
-use Rattle.c_types_scoped.proofs.Seen.{SeesAt, Follows, Stays, Yields, count, declares, stays_so, stays_same, stays_twice, stays_sees, stays_follows, follows_stays, follows_twice, steps_stay, specifiers_stay}
-
--- what stands in a scope behind some parts: new objects, and statements in which they live
-pub record Adds (s t : State) (returned : Ty) (parts more : PartsView) : Type 0 where
-  pub new : List ℕ
-  pub made : List StatementTree
-  pub follows : Follows s t new
-  pub objects : more.objects ≡ parts.objects ++ new
-  pub statements : more.statements ≡ parts.statements ++ made
-  pub scoped : (f : FunctionView) → f.returns ≡ returned → (alive : List ℕ) → AreAmong new alive → SeesAt alive s → Apart alive (count s) (count t) new → are_scoped_statements f alive (statement_trees made) ≡ true
+use Rattle.c_types_scoped.specs.ScopedLaws.{Yields}
+use Rattle.c_types_scoped.specs.ScopedOperands.{ScopedInitial, ScopedMade}
+use Rattle.c_types_scoped.specs.SeenObjects.{SeesAt, Follows, Stays, count}
+use Rattle.c_types_scoped.proofs.Filled.{initializer_yields}
+use Rattle.c_types_scoped.proofs.Numbers.{two, in_front, in_back, in_itself, none_new, one_new}
+use Rattle.c_types_scoped.proofs.Seen.{declares, stays_so, stays_same, stays_twice, stays_sees, stays_follows, follows_stays, follows_twice, steps_stay, specifiers_stay}
+use Rattle.c_types_scoped_bodies.specs.ScopedBodies.{Apart, Adds}
+use Rattle.c_types_scoped_bodies.proofs.Beside.{apart_first, apart_second, apart_after, apart_before}
 
 pub statements_both : (f : FunctionView) (alive : List ℕ) (xs ys : List StatementTree) → are_scoped_statements f alive (statement_trees xs) ≡ true → are_scoped_statements f alive (statement_trees ys) ≡ true → are_scoped_statements f alive (statement_trees (xs ++ ys)) ≡ true
 statements_both f alive [] ys g h = h

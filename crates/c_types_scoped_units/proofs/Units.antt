@@ -1,10 +1,10 @@
 -- Each checked unit passes the look at scopes.
-use Rattle.std.proofs.Common.{◌≡◌, ◌+◌, ℕ, zero, suc, Bool, true, false, List, [], ◌∷◌, ◌++◌, slice_get, Option, Some, None, Ok, Err, arith, refl, ap, subst, sym, ◌∙◌}
-use Rattle.std.specs.Prelude.{cond, ◌&&◌, is_some, nat_le}
+use Rattle.std.proofs.Common.{◌≡◌, ◌+◌, ℕ, suc, Bool, true, false, List, [], ◌∷◌, ◌++◌, slice_get, Option, Some, None, Ok, Err, arith, refl, ap, subst, sym, ◌∙◌}
+use Rattle.std.specs.Prelude.{cond, is_some, nat_le}
 use Rattle.std.specs.List.{list_all}
 use Rattle.std.proofs.lemmas.Option.{same_Some}
 use Rattle.cc_base.specs.declared.diagnostics.Place.{Place}
-use Rattle.c_layout.specs.CheckedUnits.{FunctionView, UnitView}
+use Rattle.c_layout.specs.CheckedUnits.{FunctionView}
 use Rattle.c_layout.specs.DeclarationTrees.{NameView, InitDeclaratorView, Object, Initialized, Prototype, ExternalTree, Declared, Defined}
 use Rattle.c_layout.specs.declared.data_model.Model.{Model}
 use Rattle.c_types_cycles.specs.CallCycles.{first_cycle}
@@ -25,11 +25,11 @@ use Rattle.c_types_laws.proofs.Leading.{Leads}
 use Rattle.ref_machine_looks.proofs.Truths.{both_true}
 use Rattle.ref_machine_looks_units.specs.LookedScopes.{is_scoped, is_scoped_function}
 use Rattle.c_types_scoped.specs.BlockDeclarations.{UnitInBlocks, ExternalInBlocks}
-use Rattle.c_types_scoped.specs.ScopedChecks.{ChecksAreScoped}
-use Rattle.c_types_scoped.proofs.Files.{Sighted, external_leads}
-use Rattle.c_types_scoped.proofs.Headed.{Defines, function_defines}
+use Rattle.c_types_scoped.specs.SeenObjects.{SeesAt}
 use Rattle.c_types_scoped.proofs.Numbers.{two}
-use Rattle.c_types_scoped.proofs.Seen.{SeesAt}
+use Rattle.c_types_scoped_units.specs.ScopedChecks.{ChecksAreScoped}
+use Rattle.c_types_scoped_units.proofs.Files.{Sighted, external_leads}
+use Rattle.c_types_scoped_units.proofs.Headed.{Defines, function_defines}
 
 -- ---- before the first declaration
 

@@ -1,11 +1,11 @@
 -- Declarations at file scope: no name means a local object behind them.
-use Rattle.std.proofs.Common.{◌≡◌, ℕ, Bool, true, false, List, [], ◌∷◌, length, slice_get, Option, Some, None, Ok, Err, arith, refl}
+use Rattle.std.proofs.Common.{ℕ, Bool, true, false, List, [], ◌∷◌, length, slice_get, Option, Some, None, Ok, Err, arith}
 use Rattle.std.specs.Prelude.{cond}
 use Rattle.cc_base.specs.declared.diagnostics.Place.{Place}
 use Rattle.c_layout.specs.Types.{Ty}
 use Rattle.c_layout.specs.DeclarationTrees.{NameView, SpecTree, DeclaratorLayerView, InitializerTree, InitDeclaratorView, Object, Initialized, Prototype, FunctionDeclaratorView, spec_trees}
 use Rattle.c_layout.specs.declared.syntax_tree.declarations.Storage.{Storage}
-use Rattle.c_types_scopes.specs.Answers.{after, kept}
+use Rattle.c_types_scopes.specs.Answers.{after}
 use Rattle.c_types_scopes.specs.DeclaredTypes.{DeclaredView, ObjectView}
 use Rattle.c_types_scopes.specs.Definitions.{has_object}
 use Rattle.c_types_scopes.specs.Names.{number_in, found_here}
@@ -30,10 +30,11 @@ use Rattle.c_types_laws.proofs.Initializing.{initializer_leads}
 use Rattle.c_types_laws.proofs.Leading.{Leads, cond_leads, onward, then}
 use Rattle.c_types_laws.proofs.Specifying.{declared_leads, specifiers_lead}
 use Rattle.ref_machine_looks.proofs.Truths.{never}
-use Rattle.c_types_scoped.proofs.Declared.{static_leads}
-use Rattle.c_types_scoped.proofs.Headed.{HeadsBy, Heads, function_heads, parameter_count, signed_stays, slot_stays}
+use Rattle.c_types_scoped.specs.SeenObjects.{SeesAt, Stays, count}
 use Rattle.c_types_scoped.proofs.Numbers.{none_new}
-use Rattle.c_types_scoped.proofs.Seen.{SeesAt, Stays, closes, count, declares, specifiers_stay, stays_same, stays_sees, stays_twice, steps_stay}
+use Rattle.c_types_scoped.proofs.Seen.{closes, declares, specifiers_stay, stays_same, stays_sees, stays_twice, steps_stay}
+use Rattle.c_types_scoped_bodies.proofs.Declared.{static_leads}
+use Rattle.c_types_scoped_units.proofs.Headed.{HeadsBy, Heads, function_heads, parameter_count, signed_stays, slot_stays}
 
 step : {U V : Type 0} (s : State) (r : Ruled (U × State)) (next : U → State → Ruled (V × State)) → Leads Stays s r → ((u : U) (t : State) → Leads Stays t (next u t)) → Leads Stays s (after r next)
 step s r next = then Stays stays_twice s r next

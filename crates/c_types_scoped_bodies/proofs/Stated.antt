@@ -1,6 +1,6 @@
 -- Statements name what lives, and their scopes begin with new objects.
-use Rattle.std.proofs.Common.{◌≡◌, ◌<◌, ◌≤◌, ◌+◌, ◌⊎◌, inl, inr, ℕ, ℤ, ◌==◌, Bool, true, false, not, List, [], ◌∷◌, ◌++◌, length, Option, Some, None, Ok, Err, arith, refl, ap, subst, sym, ◌∙◌}
-use Rattle.std.specs.Prelude.{cond, ◌&&◌, nat_lt, is_none, is_some}
+use Rattle.std.proofs.Common.{◌≡◌, ◌+◌, ℕ, ℤ, ◌==◌, Bool, true, false, not, List, [], ◌++◌, length, Option, Some, None, Ok, Err, refl, ap, subst, sym, ◌∙◌}
+use Rattle.std.specs.Prelude.{cond, ◌&&◌, nat_lt, is_none}
 use Rattle.cc_base.specs.declared.diagnostics.Place.{Place}
 use Rattle.cc_base.specs.declared.int_types.IntType.{IntType}
 use Rattle.c_layout.specs.Types.{Ty, Int, Pointer, Array, Struct, Void}
@@ -9,40 +9,43 @@ use Rattle.c_layout.specs.CheckedTrees.{TermTree, StatementTree, statement_trees
 use Rattle.c_layout.specs.CheckedUnits.{FunctionView}
 use Rattle.c_layout.specs.SyntaxTrees.{Tree}
 use Rattle.c_layout.specs.DeclarationTrees as syntax
-use Rattle.c_layout.specs.DeclarationTrees.{NameView, LocalView, ForFirstView, NoClause, Clause, Declares}
+use Rattle.c_layout.specs.DeclarationTrees.{LocalView, ForFirstView, NoClause, Clause, Declares}
 use Rattle.c_types_scopes.specs.Answers.{after, kept}
 use Rattle.c_types_scopes.specs.Known.{Known}
-use Rattle.c_types_scopes.specs.Names.{number_in, known_in}
+use Rattle.c_types_scopes.specs.Names.{known_in}
 use Rattle.c_types_scopes.specs.Refusals.{Ruled, type_fault, redeclared}
-use Rattle.c_types_scopes.specs.States.{State, with_constant}
+use Rattle.c_types_scopes.specs.States.{State}
 use Rattle.c_types_operands.specs.Conversions as conversions
-use Rattle.c_types_operands.specs.Operands.{OperandView, term_of, term_type, is_scalar, is_null}
+use Rattle.c_types_operands.specs.Operands.{term_of, term_type, is_scalar}
 use Rattle.c_types_expressions.specs.Expressions.{typed}
 use Rattle.c_types_objects.specs.LocalObjects.{PartsView}
-use Rattle.c_types_statement_rules.specs.BodyFlow.{FlowView, SwitchView, innermost, case_in, defaulted_in, flow_with_case, flow_with_default, flow_default, is_met}
+use Rattle.c_types_statement_rules.specs.BodyFlow.{FlowView, SwitchView, innermost, case_in, defaulted_in, flow_with_default, flow_default, is_met}
 use Rattle.c_types_statement_rules.specs.Points.{Point, point}
 use Rattle.c_types_statement_rules.specs.SimpleStatements as simple
 use Rattle.c_types_statement_rules.specs.CompoundStatements as compound
 use Rattle.c_types_statement_rules.specs.CompoundStatements.{ControllingView}
 use Rattle.c_types_statement_rules.specs.StatementNodes as nodes
 use Rattle.c_types_statement_rules.specs.StatementNodes.{no_parts, in_loop, in_switch}
-use Rattle.c_types_statement_rules.specs.declared.body_flow.AddedCase.{AddedCase}
 use Rattle.c_types_statement_rules.specs.declared.compound_statements.CaseStanding.{CaseStanding}
 use Rattle.c_types_statement_rules.specs.declared.compound_statements.CaseStanding.TheVariants as standing
 use Rattle.c_types_statements.specs.LocalDeclarations.{local_declaration}
 use Rattle.c_types_statements.specs.Statements as spec
 use Rattle.c_types_statements.specs.Statements.{ClausesView, declaration_of}
 use Rattle.flow_lower_tasks.specs.TermKinds.{is_void}
-use Rattle.ref_machine.specs.Scopes.{is_in}
 use Rattle.ref_machine_looks_units.specs.LookedScopes.{is_scoped_term, is_scoped_if, is_scoped_statement, are_scoped_statements, are_new}
 use Rattle.ref_machine_returns.specs.EndedObjects.{AreAmong}
 use Rattle.c_types_scoped.specs.BlockDeclarations.{IsNoDeclaration, DeclaresInBlocks, DeclareInBlocks}
-use Rattle.c_types_scoped.proofs.Declared.{Adds, adds_twice, adds_stays, adds_nothing, adds_statement, local_declares}
-use Rattle.c_types_scoped.proofs.Declared as declared
-use Rattle.c_types_scoped.proofs.Numbers.{Apart, two, in_front, in_back, apart_after, apart_before, apart_behind, apart_inside, new_beside}
-use Rattle.c_types_scoped.proofs.Rules.{ScopedTerm, Scoped, MakesTerm, value_scoped, unused_scoped, integer_scoped, assigned_scoped}
-use Rattle.c_types_scoped.proofs.Seen.{SeesAt, Follows, Stays, Yields, Judged, count, closes, sees_more, stays_same, stays_twice, stays_sees}
+use Rattle.c_types_scoped.specs.ScopedLaws.{Yields}
+use Rattle.c_types_scoped.specs.ScopedOperands.{ScopedTerm, Scoped}
+use Rattle.c_types_scoped.specs.SeenObjects.{SeesAt, Stays, count}
+use Rattle.c_types_scoped.proofs.Numbers.{two, in_front, in_back}
+use Rattle.c_types_scoped.proofs.Rules.{MakesTerm, value_scoped, unused_scoped, integer_scoped, assigned_scoped}
+use Rattle.c_types_scoped.proofs.Seen.{Judged, closes, sees_more, stays_same, stays_twice, stays_sees}
 use Rattle.c_types_scoped.proofs.Typed.{typed_yields}
+use Rattle.c_types_scoped_bodies.specs.ScopedBodies.{Adds, Apart, Itemized}
+use Rattle.c_types_scoped_bodies.proofs.Beside.{apart_after, apart_before, apart_behind, apart_inside, new_beside}
+use Rattle.c_types_scoped_bodies.proofs.Declared as declared
+use Rattle.c_types_scoped_bodies.proofs.Declared.{adds_twice, adds_stays, adds_nothing, adds_statement, local_declares}
 
 -- ---- steps between points
 
@@ -255,11 +258,6 @@ switch_comes p q at c i None m g h = tt
 switch_comes p q at c i (Some kind) m g h = (moves_same q, λ f same alive sees apart. two (is_scoped_term alive (conversions.integer_as q.state.known c.term kind)) (is_scoped_statement f alive i) (integer_scoped alive q.state.known c.term kind (g alive sees)) (h f same alive sees apart))
 
 -- ---- blocks
-
--- items stand in a scope behind some parts
-abbrev pub Itemized : Point → PartsView → Ruled (PartsView × Point) → Type 0
-Itemized p parts (Ok v) = (v.1.flow.returns ≡ p.flow.returns) × Adds p.state v.1.state p.flow.returns parts v.0
-Itemized p parts (Err f) = Unit {0}
 
 block_comes : (p : Point) (r : Ruled (PartsView × Point)) → Itemized (spec.in_scope p) no_parts r → Comes p (Made p) (after r spec.block_in)
 block_comes p (Err e) h = tt
