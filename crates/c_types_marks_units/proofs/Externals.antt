@@ -101,7 +101,7 @@ module _ (laws : HasLaws) (heads_keep : HeadsKeep) (m : Model) where
       of_kept : (r : Ruled (Unit {0} × State)) → Runs laws m s r → Goes_on s made (after r (checks.functions_kept made))
       of_kept (Ok p) h = (h.0, had, λ u part. ((h.2 u part).0, λ marked. marked))
       of_kept (Err f) h = tt
-  external_goes s made (Defined at words f body) ready had proper = of_made (bodies.function_definition s at words f body) (function_goes laws heads_keep m s at words f body ready proper.0 proper.1 proper.2)
+  external_goes s made (Defined at words f body) ready had proper = of_made (bodies.function_definition s at words f body) (function_goes laws heads_keep m s at words f body ready proper.0 proper.1.0 proper.1.1)
     where
       of_made : (r : Ruled (FunctionView × State)) → Goes m s (IsTypedFunction m) IsMarkedBody r → Goes_on s made (after r (checks.with_function made))
       of_made (Ok p) h = (h.0, typed_more m made p.0 had h.1, λ u part. (let g = h.2 u part in (g.0, λ marked. marked_more u made p.0 marked g.1)))
