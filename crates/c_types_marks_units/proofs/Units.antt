@@ -37,16 +37,13 @@ use Rattle.c_types_marks.specs.ModelTypes.{IsKindOf, IsTypeOf, Each}
 use Rattle.c_types_marks.specs.ProperStatements.{AreProperExternals}
 use Rattle.c_types_marks.specs.UnitParts.{IsPartOf}
 use Rattle.c_types_marks_tests.proofs.ModelKinds.{kind_there}
+use Rattle.c_types_marks_heads.specs.HeadLaws.{UnitsHaveHeads}
 use Rattle.c_types_marks_types.specs.TypeLaws.{HeadsKeep}
 use Rattle.c_types_marks_initializers.specs.PartLaws.{HasLaws}
 use Rattle.c_types_marks_initializers.specs.ReadyStates.{Goes}
 use Rattle.c_types_marks_units.specs.MarkedUnits.{ChecksAreMarked}
 use Rattle.c_types_marks_units.proofs.Externals.{AreTypedFunctions, AreMarkedBodies, externals_go, begun_ready}
 use Rattle.c_types_marks_units.proofs.Functions.{IsTypedFunction, IsMarkedBody}
-
--- the last state of an accepted unit is part of it
-abbrev pub UnitsHaveHeads : Type 0
-UnitsHaveHeads = (m : Model) (es : List ExternalTree) (functions : List FunctionView) (s : State) (entry : ℕ) → checks.typed_unit (first_state m) es ≡ Ok (functions, s) → IsPartOf s (checks.unit_of m functions s entry)
 
 both : (a b : Bool) → a ≡ true → b ≡ true → (a && b) ≡ true
 both true b h g = g
