@@ -225,7 +225,7 @@ met_behind n number h s (Ok p) g = on (functions.met_head n number h p.1) (met_r
     on (Err f) i = tt
 met_behind n number h s (Err f) g = tt
 
-abbrev HasAll : Ruled (HeadView × State) → Type 0
+abbrev pub HasAll : Ruled (HeadView × State) → Type 0
 HasAll (Ok p) = length p.0.parameters ≤ count p.1
 HasAll (Err f) = Unit {0}
 
@@ -236,7 +236,7 @@ judged_room n slot h s room = of_met (functions.judged_head n slot.number slot.b
     of_met (Ok p) i = let a = room i.0 in let b = i.1 in omega (arith, a, b)
     of_met (Err f) i = tt
 
-defined_room : (s : State) (base : SpecifiedView) (f : FunctionDeclaratorView) → HasAll (definitions.defined_head s base f)
+pub defined_room : (s : State) (base : SpecifiedView) (f : FunctionDeclaratorView) → HasAll (definitions.defined_head s base f)
 defined_room s base f = of_head (functions.function_slot f.name s).0 (heads.function_head (functions.in_scope (functions.function_slot f.name s).1) base.declared f) (head_room (functions.in_scope (functions.function_slot f.name s).1) base.declared f)
   where
     of_head : (slot : FunctionSlot) (r : Ruled (HeadView × State)) → HasRoom r → HasAll (after r (definitions.head_in f.name slot))
@@ -368,12 +368,12 @@ integers_at (m ∷ ls) at n (suc k) l h is less =
     integers_at ls (at + 1) n k l first.1 is (omega (arith, less))
 
 -- what is found is a function that takes integers
-record IsEntry (at : ℕ) (fs : List FunctionView) (entry : ℕ) : Type 0 where
-  k : ℕ
-  is : entry ≡ at + k
-  f : FunctionView
-  among : slice_get fs k ≡ Some f
-  takes : takes_integers f ≡ true
+pub record IsEntry (at : ℕ) (fs : List FunctionView) (entry : ℕ) : Type 0 where
+  pub k : ℕ
+  pub is : entry ≡ at + k
+  pub f : FunctionView
+  pub among : slice_get fs k ≡ Some f
+  pub takes : takes_integers f ≡ true
 
 narrowed_is : (at e : ℕ) (b : Bool) → cond b (Some at) None ≡ Some e → e ≡ at
 narrowed_is at e true h = sym (same_Some at e h)
@@ -387,7 +387,7 @@ named_entry : (f : FunctionView) (fs : List FunctionView) (at e : ℕ) (b : Bool
 named_entry f fs at e true rest more h = let t = taken (takes_integers f) at e h in let i = t.1 in record { k = 0; is = omega (arith, i); f = f; among = refl; takes = t.0 }
 named_entry f fs at e false rest more h = let r = more h in let i = r.is in record { k = suc r.k; is = omega (arith, i); f = r.f; among = r.among; takes = r.takes }
 
-found_entry : (fs : List FunctionView) (at : ℕ) (name : List ℕ) (e : ℕ) → entry_from at fs name ≡ Some e → IsEntry at fs e
+pub found_entry : (fs : List FunctionView) (at : ℕ) (name : List ℕ) (e : ℕ) → entry_from at fs name ≡ Some e → IsEntry at fs e
 unfolding entry_from
 found_entry [] at name e h = absurd (cc)
 found_entry (f ∷ fs) at name e h = named_entry f fs at e (has_name f name) (entry_from (at + 1) fs name) (λ g. found_entry fs (at + 1) name e g) h
@@ -399,7 +399,7 @@ value_or other (Err f) = other
 pub same_value : {V : Type 0} (a b : V) → (let r : Ruled V = Ok a in r) ≡ Ok b → a ≡ b
 same_value a b h = ap (value_or a) h
 
-judged_is : (fs : List FunctionView) (calls : List Call) (e : ℕ) (found : Option ℕ) → judged_entry calls found ≡ Ok e → found ≡ Some e
+pub judged_is : (fs : List FunctionView) (calls : List Call) (e : ℕ) (found : Option ℕ) → judged_entry calls found ≡ Ok e → found ≡ Some e
 judged_is fs calls e None h = absurd (cc)
 judged_is fs calls e (Some n) h = by_calls (first_cycle calls) h
   where

@@ -1,6 +1,2 @@
-//! What typing makes is marked: operators have operands of their marks, and conditions decide their tests.
+//! Definitions alone: what is known of terms that typing makes, of what typing knows, and the laws that say so.
 #![tactic(auto)]
-
-mod theorems;
-
-pub use theorems::operators_make;

@@ -16,11 +16,11 @@ use Rattle.ref_machine_looks.proofs.Truths.{no_some, some_is, both_true, either_
 
 -- ---- pointers
 
-record PointerSize (m : Model) : Type 0 where
-  pointer : (m.pointer ≡ 4) ⊎ (m.pointer ≡ 8)
-  size : bytes_of m (size_rank m) ≡ m.pointer
+pub record PointerSize (m : Model) : Type 0 where
+  pub pointer : (m.pointer ≡ 4) ⊎ (m.pointer ≡ 8)
+  pub size : bytes_of m (size_rank m) ≡ m.pointer
 
-one_of_two : (n a b : ℕ) → (n == a || n == b) ≡ true → (n ≡ a) ⊎ (n ≡ b)
+pub one_of_two : (n a b : ℕ) → (n == a || n == b) ≡ true → (n ≡ a) ⊎ (n ≡ b)
 one_of_two n a b h = by (either_true (n == a) (n == b) h)
   where
     by : ((n == a) ≡ true) ⊎ ((n == b) ≡ true) → (n ≡ a) ⊎ (n ≡ b)
@@ -41,7 +41,7 @@ size_bytes m false false is other h = by (either_true (m.pointer == m.int || m.p
     by (inl e) = early (one_of_two m.pointer m.int m.long e)
     by (inr e) = sym (eqb-true m.pointer m.long_long e)
 
-pointer_size : (m : Model) → is_model m ≡ true → PointerSize m
+pub pointer_size : (m : Model) → is_model m ≡ true → PointerSize m
 pointer_size m h =
     let a = both_true (short_fits m.short) (int_fits m.int && (long_fits m.long && (long_long_fits m.long_long && pointer_fits m.int m.long m.long_long m.pointer))) h in
     let b = both_true (int_fits m.int) (long_fits m.long && (long_long_fits m.long_long && pointer_fits m.int m.long m.long_long m.pointer)) a.1 in

@@ -26,11 +26,12 @@ use Rattle.ref_machine_looks.specs.LookedTerms.{is_marked_term, is_marked_place}
 use Rattle.ref_machine_looks.proofs.Truths.{no_some}
 use Rattle.c_types_marks.specs.ModelTypes.{IsKindOf, IsGround}
 use Rattle.c_types_marks.specs.MadeTerms.{IsMade, IsMadePlace, IsGiven, Gives, IsMadeOperand, Makes}
+use Rattle.c_types_marks_tests.proofs.ModelKinds.{scalar_there}
 use Rattle.c_types_marks_tests.proofs.MadeTests.{no_tests, assign_tests}
 use Rattle.c_types_marks_rules.proofs.ModelKinds.{mark_same}
-use Rattle.c_types_marks_rules.proofs.GroundKinds.{number_scalar, number_integer, numbers, number_known, promoted_there, common_there}
+use Rattle.c_types_marks_rules.proofs.GroundKinds.{number_scalar, number_integer, number_known, promoted_there, common_there}
 use Rattle.c_types_marks_rules.proofs.MadeArithmetic.{counts_self}
-use Rattle.c_types_marks_rules.proofs.MadeConversions.{scalar_there, scalar_marked, integer_given, conversions_give}
+use Rattle.c_types_marks_rules.proofs.MadeConversions.{scalar_marked, integer_given, conversions_give}
 use Rattle.c_types_marks_rules.proofs.MadeNodes.{node_made, makes_if}
 use Rattle.c_types_marks_rules.proofs.MadePlaces.{own_made, source_made, place_address, place_kind, steps_there}
 use Rattle.c_types_marks_rules.proofs.MadeValues.{value_made}
@@ -65,7 +66,7 @@ module _ (u : UnitView) (k : Known) (ground : IsGround u k) where
         let t : Ty = lvalue_type left in
         and_from (is_marked_place u left) (is_marked_term u true e && (is_scalar_type u t && (same_mark (term_type e) t && same_mark t t))) place.marked
         (and_from (is_marked_term u true e) (is_scalar_type u t && (same_mark (term_type e) t && same_mark t t)) given.marked
-        (and_from (is_scalar_type u t) (same_mark (term_type e) t && same_mark t t) (scalar_there u (numbers u k ground) t place.typed)
+        (and_from (is_scalar_type u t) (same_mark (term_type e) t && same_mark t t) (scalar_there u t ground.proper place.typed)
         (and_from (same_mark (term_type e) t) (same_mark t t) (subst (λ s. same_mark s t ≡ true) (sym given.same) (mark_same t)) (mark_same t))))
 
     assign_made : (r : Ruled TermTree) → Gives u (lvalue_type left) r → Makes u (simple_by at left r)
@@ -86,7 +87,7 @@ module _ (u : UnitView) (k : Known) (ground : IsGround u k) where
       number_made : (sign : BinaryOp) (a b computed kind : IntType) → lvalue_type left ≡ Int a → term_type right ≡ Int b → IsKindOf u.model computed → IsKindOf u.model kind → counts_as (number_operator (meaning sign)) computed kind ≡ true → Makes u (compound_number k at sign (record { left = computed; right = kind }) left right)
       number_made sign a b computed kind s t known other counts =
           let e : TermTree = integer_as k right kind in
-          let given : IsGiven u (integer_as k right kind) (Int kind) = integer_given u k (numbers u k ground) right b kind x t other in
+          let given : IsGiven u (integer_as k right kind) (Int kind) = integer_given u k ground.proper right b kind x t other in
           node_made u at (lvalue_type left) 0 (tree.Compound sign (Int computed) left (integer_as k right kind)) refl refl
           (and_from (is_marked_place u left) (is_marked_term u true e && (is_such (λ count. counts_as (number_operator (meaning sign)) computed count) (term_type e) && steps_in u computed (lvalue_type left) (lvalue_type left))) place.marked
           (and_from (is_marked_term u true e) (is_such (λ count. counts_as (number_operator (meaning sign)) computed count) (term_type e) && steps_in u computed (lvalue_type left) (lvalue_type left)) given.marked

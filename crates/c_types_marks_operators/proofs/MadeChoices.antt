@@ -26,7 +26,7 @@ use Rattle.c_types_marks.specs.MadeTerms.{IsMade, IsMadePlace, IsMadeForm, IsGiv
 use Rattle.c_types_marks_tests.proofs.MadeNumbers.{if_fixed, logical_number, choice_number}
 use Rattle.c_types_marks_tests.proofs.MadeTests.{no_tests, logical_tests, choice_tests, arm_tests}
 use Rattle.c_types_marks_rules.proofs.ModelKinds.{mark_same}
-use Rattle.c_types_marks_rules.proofs.GroundKinds.{kinds_are, number_scalar, pointer_scalar, numbers, number_known, common_there, int_there, int_truths}
+use Rattle.c_types_marks_rules.proofs.GroundKinds.{kinds_are, number_scalar, pointer_scalar, number_known, common_there, int_there, int_truths}
 use Rattle.c_types_marks_rules.proofs.MadeConversions.{scalar_marked, same_given, integer_given}
 use Rattle.c_types_marks_rules.proofs.MadeNodes.{term_made, node_made, makes_if}
 use Rattle.c_types_marks_rules.proofs.MadeValues.{lvalue_made, value_made}
@@ -103,10 +103,10 @@ module _ (u : UnitView) (k : Known) (ground : IsGround u k) where
         known = common_there u k ground a b (number_known u k ground first a x s) (number_known u k ground second b y t)
 
         p : IsGiven u (integer_as k first kind) (Int kind)
-        p = integer_given u k (numbers u k ground) first a kind x s known
+        p = integer_given u k ground.proper first a kind x s known
 
         q : IsGiven u (integer_as k second kind) (Int kind)
-        q = integer_given u k (numbers u k ground) second b kind y t known
+        q = integer_given u k ground.proper second b kind y t known
 
     -- arms of one type of pointers
     pointers_made : (a b : TermTree) (t target : Ty) → t ≡ Pointer target → IsGiven u a t → IsGiven u b t → IsTypeOf u.model t → has_tests u false a ≡ true → has_tests u false b ≡ true → IsMadeOperand u (plain_choice at condition a b)
@@ -126,14 +126,14 @@ module _ (u : UnitView) (k : Known) (ground : IsGround u k) where
     left_made : (a b : TermTree) → IsMade u a → IsMade u b → IsPointer (term_type a) → ComesToPointer (term_type b) (is_null b) → IsMadeOperand u (plain_choice at condition a (in_type k b (term_type a)))
     left_made a b x y pointer comes =
         let first : is_scalar (term_type a) ≡ true = pointer_scalar a pointer.0 pointer.1 in
-        pointers_made a (in_type k b (term_type a)) (term_type a) pointer.0 pointer.1 (same_given u k (numbers u k ground) a (term_type a) x first refl) (pointer_given u k ground b (term_type a) pointer.0 pointer.1 y comes x.typed) x.typed
+        pointers_made a (in_type k b (term_type a)) (term_type a) pointer.0 pointer.1 (same_given u k ground.proper a (term_type a) x first refl) (pointer_given u k ground b (term_type a) pointer.0 pointer.1 y comes x.typed) x.typed
         (x.tests first false)
         (arm_tests u k b (term_type a) (comes_scalar b comes) y)
 
     right_made : (a b : TermTree) → IsMade u a → IsMade u b → ComesToPointer (term_type a) (is_null a) → IsPointer (term_type b) → IsMadeOperand u (plain_choice at condition (in_type k a (term_type b)) b)
     right_made a b x y comes pointer =
         let second : is_scalar (term_type b) ≡ true = pointer_scalar b pointer.0 pointer.1 in
-        pointers_made (in_type k a (term_type b)) b (term_type b) pointer.0 pointer.1 (pointer_given u k ground a (term_type b) pointer.0 pointer.1 x comes y.typed) (same_given u k (numbers u k ground) b (term_type b) y second refl) y.typed
+        pointers_made (in_type k a (term_type b)) b (term_type b) pointer.0 pointer.1 (pointer_given u k ground a (term_type b) pointer.0 pointer.1 x comes y.typed) (same_given u k ground.proper b (term_type b) y second refl) y.typed
         (arm_tests u k a (term_type b) (comes_scalar a comes) x)
         (y.tests second false)
 

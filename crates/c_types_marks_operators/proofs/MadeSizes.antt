@@ -24,9 +24,10 @@ use Rattle.ref_machine_looks.proofs.Truths.{never, no_some}
 use Rattle.c_types_marks.specs.ModelTypes.{IsTypeOf, IsGround}
 use Rattle.c_types_marks.specs.MadeTerms.{IsExactly, IsMade, IsMadeOperand, Makes}
 use Rattle.c_types_marks_tests.proofs.MadeNumbers.{if_fixed, cast_number, size_number}
+use Rattle.c_types_marks_tests.proofs.ModelKinds.{scalar_there}
 use Rattle.c_types_marks_tests.proofs.MadeTests.{no_tests, cast_null}
-use Rattle.c_types_marks_rules.proofs.GroundKinds.{numbers, size_there, size_has}
-use Rattle.c_types_marks_rules.proofs.MadeConversions.{scalar_there, scalar_marked, IsConverted, converted_marked, ConvertsAs, cast_as, converting}
+use Rattle.c_types_marks_rules.proofs.GroundKinds.{size_there, size_has}
+use Rattle.c_types_marks_rules.proofs.MadeConversions.{scalar_marked, IsConverted, converted_marked, ConvertsAs, cast_as, converting}
 use Rattle.c_types_marks_rules.proofs.MadeNodes.{term_made, node_made, makes_if}
 use Rattle.c_types_marks_rules.proofs.MadeValues.{value_made}
 use Rattle.c_types_marks_rules.proofs.UnusedTerms.{unused_marked}
@@ -78,7 +79,7 @@ module _ (u : UnitView) (k : Known) (ground : IsGround u k) where
 
     converted_made : (to : Ty) → IsTypeOf u.model to → is_scalar (term_type v.term) ≡ true → IsConverted u v.term to → IsMadeOperand u (scalar_cast k at to v)
     converted_made to known scalar how = record {
-      marked = converted_marked u k kind.Cast at v.term to (not (is_void to)) (scalar_marked u v.term x scalar) (scalar_there u (numbers u k ground) to known) how;
+      marked = converted_marked u k kind.Cast at v.term to (not (is_void to)) (scalar_marked u v.term x scalar) (scalar_there u to ground.proper known) how;
       typed = known;
       bare = refl;
       constant = λ n is. cast_constant to n known is;

@@ -23,8 +23,9 @@ use Rattle.c_types_marks.specs.ModelTypes.{IsKindOf, IsGround}
 use Rattle.c_types_marks.specs.MadeTerms.{IsMade, IsMadePlace, IsGiven, IsMadeOperand, Makes}
 use Rattle.c_types_marks_tests.proofs.MadeNumbers.{if_fixed, turned_number, not_number}
 use Rattle.c_types_marks_tests.proofs.MadeTests.{no_tests, not_tests}
-use Rattle.c_types_marks_rules.proofs.ModelKinds.{mark_same, type_same}
-use Rattle.c_types_marks_rules.proofs.GroundKinds.{numbers, number_known, kind_there, promoted_there, int_there, int_truths}
+use Rattle.c_types_marks_tests.proofs.ModelKinds.{same_type_self}
+use Rattle.c_types_marks_rules.proofs.ModelKinds.{mark_same}
+use Rattle.c_types_marks_rules.proofs.GroundKinds.{number_known, kind_there, promoted_there, int_there, int_truths}
 use Rattle.c_types_marks_rules.proofs.MadeConversions.{scalar_marked, integer_given}
 use Rattle.c_types_marks_rules.proofs.MadeNodes.{term_made, node_made, makes_if}
 use Rattle.c_types_marks_rules.proofs.MadePlaces.{own_made, place_address, place_kind, steps_there}
@@ -96,7 +97,7 @@ module _ (u : UnitView) (k : Known) (ground : IsGround u k) where
       known = promoted_there u k ground a (number_known u k ground v.term a x typed)
 
       given : IsGiven u (integer_as k v.term (promoted k.numbers a)) (Int (promoted k.numbers a))
-      given = integer_given u k (numbers u k ground) v.term a (promoted k.numbers a) x typed known
+      given = integer_given u k ground.proper v.term a (promoted k.numbers a) x typed known
 
       same_marked : (e : TermTree) → IsGiven u e (Int (promoted k.numbers a)) → (is_marked_term u true e && same_mark (term_type e) (Int (promoted k.numbers a))) ≡ true
       same_marked e g = and_from (is_marked_term u true e) (same_mark (term_type e) (Int (promoted k.numbers a))) g.marked (subst (λ t. same_mark t (Int (promoted k.numbers a)) ≡ true) (sym g.same) (mark_same (Int (promoted k.numbers a))))
@@ -104,7 +105,7 @@ module _ (u : UnitView) (k : Known) (ground : IsGround u k) where
       computed_marked : (e : TermTree) → IsGiven u e (Int (promoted k.numbers a)) → (is_marked_term u true e && (same_type (term_type e) (Int (promoted k.numbers a)) && is_kind u.model (promoted k.numbers a))) ≡ true
       computed_marked e g =
           and_from (is_marked_term u true e) (same_type (term_type e) (Int (promoted k.numbers a)) && is_kind u.model (promoted k.numbers a)) g.marked
-          (and_from (same_type (term_type e) (Int (promoted k.numbers a))) (is_kind u.model (promoted k.numbers a)) (subst (λ t. same_type t (Int (promoted k.numbers a)) ≡ true) (sym g.same) (type_same (Int (promoted k.numbers a)))) (kind_there u k ground (promoted k.numbers a) known))
+          (and_from (same_type (term_type e) (Int (promoted k.numbers a))) (is_kind u.model (promoted k.numbers a)) (subst (λ t. same_type t (Int (promoted k.numbers a)) ≡ true) (sym g.same) (same_type_self (Int (promoted k.numbers a)))) (kind_there u k ground (promoted k.numbers a) known))
 
       abbrev constant : UnaryOp → Option ℤ
       constant sign = cond v.fixed (turned_value sign (promoted k.numbers a) (term_constant v.term)) None

@@ -18,7 +18,9 @@ use Rattle.ref_machine_looks.specs.LookedTypes.{is_kind, has_truths, is_address,
 use Rattle.ref_machine_looks.proofs.Truths.{no_some, some_is}
 use Rattle.c_types_marks.specs.ModelTypes.{IsKindOf, IsTypeOf, IsGround}
 use Rattle.c_types_marks.specs.MadeTerms.{IsMade}
-use Rattle.c_types_marks_rules.proofs.ModelKinds.{ModelNumbers, model_numbers, kind_known, promoted_known, common_known, machine_has, truths_fit, size_fits, difference_fits, sized_small}
+use Rattle.c_types_marks_numbers.proofs.SizeNumbers.{size_fits, sized_small}
+use Rattle.c_types_marks_tests.proofs.ModelKinds as kinds
+use Rattle.c_types_marks_rules.proofs.ModelKinds.{model_numbers, kind_known, promoted_known, difference_fits}
 
 -- the integer types of two types
 pub kinds_are : (s t : Ty) (p : KindPair) → integer_kinds s t ≡ Some p → (s ≡ Int p.left) × (t ≡ Int p.right)
@@ -38,9 +40,6 @@ pub number_integer : (e : TermTree) (kind : IntType) → term_type e ≡ Int kin
 number_integer e kind typed = subst (λ t. is_integer t ≡ true) (sym typed) refl
 
 module _ (u : UnitView) (k : Known) (ground : IsGround u k) where
-  pub numbers : ModelNumbers u.model
-  numbers = model_numbers u.model ground.proper
-
   pub number_known : (e : TermTree) (kind : IntType) → IsMade u e → term_type e ≡ Int kind → IsKindOf u.model kind
   number_known e kind made typed = subst (λ t. IsTypeOf u.model t) typed made.typed
 
@@ -48,28 +47,28 @@ module _ (u : UnitView) (k : Known) (ground : IsGround u k) where
   target_known e t made typed = subst (λ s. IsTypeOf u.model s) typed made.typed
 
   pub kind_there : (kind : IntType) → IsKindOf u.model kind → is_kind u.model kind ≡ true
-  kind_there kind known = machine_has u.model numbers kind known
+  kind_there kind known = kinds.kind_there u.model ground.proper kind known
 
   pub promoted_there : (kind : IntType) → IsKindOf u.model kind → IsKindOf u.model (promoted k.numbers kind)
   promoted_there kind known = subst (λ m. IsKindOf u.model (promoted m kind)) ground.same (promoted_known u.model kind known)
 
   pub common_there : (a b : IntType) → IsKindOf u.model a → IsKindOf u.model b → IsKindOf u.model (common k.numbers a b)
-  common_there a b p q = subst (λ m. IsKindOf u.model (common m a b)) ground.same (common_known u.model a b p q)
+  common_there a b p q = subst (λ m. IsKindOf u.model (common m a b)) ground.same (kinds.common_kind u.model ground.proper a b p q)
 
   pub int_there : IsKindOf u.model (int_kind k)
   int_there = subst (λ m. IsKindOf u.model (kind_of m rank.Int true)) ground.same (kind_known u.model rank.Int true)
 
   pub int_truths : has_truths (int_kind k) ≡ true
-  int_truths = subst (λ m. has_truths (kind_of m rank.Int true) ≡ true) ground.same (truths_fit u.model numbers)
+  int_truths = kinds.kind_truths u.model ground.proper (int_kind k) int_there
 
   pub size_there : (signed : Bool) → IsKindOf u.model (kind_of k.numbers (size_rank k.numbers) signed)
   size_there signed = subst (λ m. IsKindOf u.model (kind_of m (size_rank m) signed)) ground.same (kind_known u.model (size_rank u.model) signed)
 
   pub difference_there : subtracts u (Int (kind_of k.numbers (size_rank k.numbers) true)) ≡ true
-  difference_there = subst (λ m. (in_type (kind_of m (size_rank m) true) (pos (most_size u.model)) && in_type (kind_of m (size_rank m) true) (negsuc (most_size u.model))) ≡ true) ground.same (difference_fits u.model numbers)
+  difference_there = subst (λ m. (in_type (kind_of m (size_rank m) true) (pos (most_size u.model)) && in_type (kind_of m (size_rank m) true) (negsuc (most_size u.model))) ≡ true) ground.same (difference_fits u.model (model_numbers u.model ground.proper))
 
   -- a size is one of the type of sizes
   pub size_has : (t : Ty) (size : ℕ) → size_of k t ≡ Some size → in_type (kind_of k.numbers (size_rank k.numbers) false) (pos size) ≡ true
   size_has t size h =
-      let small : size ≤ most_bytes = sized_small u.model numbers k.structs t size (subst (λ m. sized k.structs m.pointer t ≡ Some size) (sym ground.same) h) in
-      subst (λ m. in_type (kind_of m (size_rank m) false) (pos size) ≡ true) ground.same (size_fits u.model numbers size small)
+      let small : size ≤ most_bytes = sized_small u.model ground.proper k.structs t size (subst (λ m. sized k.structs m.pointer t ≡ Some size) (sym ground.same) h) in
+      subst (λ m. in_type (kind_of m (size_rank m) false) (pos size) ≡ true) ground.same (size_fits u.model ground.proper size small)

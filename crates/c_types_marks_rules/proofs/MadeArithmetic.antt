@@ -26,15 +26,15 @@ use Rattle.c_types_marks.specs.ModelTypes.{IsKindOf, IsGround}
 use Rattle.c_types_marks.specs.MadeTerms.{IsMade, IsGiven, IsMadeOperand, Makes}
 use Rattle.c_types_marks_tests.proofs.MadeNumbers.{if_fixed, is_relation_meant, is_relation, is_shift_meant, is_shift, operator_number, shift_number}
 use Rattle.c_types_marks_tests.proofs.MadeTests.{is_number_meant, no_tests, integer_tests}
-use Rattle.c_types_marks_rules.proofs.ModelKinds.{kind_same}
-use Rattle.c_types_marks_rules.proofs.GroundKinds.{kinds_are, numbers, number_known, kind_there, promoted_there, common_there, int_there, int_truths}
+use Rattle.c_types_marks_tests.proofs.ModelKinds.{same_kind_self}
+use Rattle.c_types_marks_rules.proofs.GroundKinds.{kinds_are, number_known, kind_there, promoted_there, common_there, int_there, int_truths}
 use Rattle.c_types_marks_rules.proofs.MadeConversions.{integer_given}
 use Rattle.c_types_marks_rules.proofs.MadeNodes.{term_made}
 
 pub counts_self : (sign : IntOp) (kind : IntType) → counts_as sign kind kind ≡ true
 counts_self Shl kind = refl
 counts_self Shr kind = refl
-counts_self sign kind = kind_same kind
+counts_self sign kind = same_kind_self kind
 
 shift_no_test : (how : OperatorMeaning) → is_shift_meant how ≡ true → is_number_meant how ≡ true
 shift_no_test (meant.Number sign) h = refl
@@ -42,13 +42,13 @@ shift_no_test (meant.Truth rel) h = never h
 
 module _ (u : UnitView) (k : Known) (ground : IsGround u k) where
   combined : (how : OperatorMeaning) (is_int : Bool) (kind : IntType) → is_relation_meant how ≡ is_int → IsKindOf u.model kind → combines u how (Int kind) (Int kind) (Int (result_kind k is_int kind)) ≡ true
-  combined (meant.Number sign) false kind is known = and_from (is_kind u.model kind) (same_kind kind kind && counts_as sign kind kind) (kind_there u k ground kind known) (and_from (same_kind kind kind) (counts_as sign kind kind) (kind_same kind) (counts_self sign kind))
+  combined (meant.Number sign) false kind is known = and_from (is_kind u.model kind) (same_kind kind kind && counts_as sign kind kind) (kind_there u k ground kind known) (and_from (same_kind kind kind) (counts_as sign kind kind) (same_kind_self kind) (counts_self sign kind))
   combined (meant.Number sign) true kind is known = never is
   combined (meant.Truth rel) true kind is known = int_truths u k ground
   combined (meant.Truth rel) false kind is known = never (sym is)
 
   counted : (sign : IntOp) (a b : IntType) → counts_as sign a b ≡ true → IsKindOf u.model a → combines u (meant.Number sign) (Int a) (Int b) (Int a) ≡ true
-  counted sign a b counts known = and_from (is_kind u.model a) (same_kind a a && counts_as sign a b) (kind_there u k ground a known) (and_from (same_kind a a) (counts_as sign a b) (kind_same a) counts)
+  counted sign a b counts known = and_from (is_kind u.model a) (same_kind a a && counts_as sign a b) (kind_there u k ground a known) (and_from (same_kind a a) (counts_as sign a b) (same_kind_self a) counts)
 
   shifted : (how : OperatorMeaning) (a b : IntType) → is_shift_meant how ≡ true → IsKindOf u.model a → combines u how (Int a) (Int b) (Int a) ≡ true
   shifted (meant.Number Shl) a b shift known = counted Shl a b refl known
@@ -65,7 +65,7 @@ module _ (u : UnitView) (k : Known) (ground : IsGround u k) where
   pub common_made : (at : Place) (op : BinaryOp) (is_int : Bool) (kinds : KindPair) (left right : ValueView) → is_relation op ≡ is_int → IsMade u left.term → IsMade u right.term → term_type left.term ≡ Int kinds.left → term_type right.term ≡ Int kinds.right → IsMadeOperand u (in_common_kind k at op is_int kinds left right)
   common_made at op is_int kinds left right relates x y s t =
       term_made u at (Int (result_kind k is_int kind)) 0 constant (tree.Integer op (integer_as k left.term kind) (integer_as k right.term kind)) refl refl
-      (integers_marked at constant op kind kind (result_kind k is_int kind) (integer_as k left.term kind) (integer_as k right.term kind) true (integer_given u k (numbers u k ground) left.term kinds.left kind x s known) (integer_given u k (numbers u k ground) right.term kinds.right kind y t known) (combined (meaning op) is_int kind relates known))
+      (integers_marked at constant op kind kind (result_kind k is_int kind) (integer_as k left.term kind) (integer_as k right.term kind) true (integer_given u k ground.proper left.term kinds.left kind x s known) (integer_given u k ground.proper right.term kinds.right kind y t known) (combined (meaning op) is_int kind relates known))
       (result_known is_int)
       (λ n is. operator_number u k ground at constant n op is_int kind left.term right.term relates known x y (if_fixed (left.fixed && right.fixed) (folded_constant op kind (term_constant left.term) (term_constant right.term)) n is).1)
       (λ scalar is_test. integer_tests u k ground at (Int (result_kind k is_int kind)) 0 constant is_test op kind kinds.left kinds.right left.term right.term known s t x y)
@@ -95,7 +95,7 @@ module _ (u : UnitView) (k : Known) (ground : IsGround u k) where
   shift_in_made : (at : Place) (op : BinaryOp) (kinds : KindPair) (left right : ValueView) → is_shift op ≡ true → IsMade u left.term → IsMade u right.term → term_type left.term ≡ Int kinds.left → term_type right.term ≡ Int kinds.right → IsMadeOperand u (shift_in k at op (promoted_kinds k kinds) left right)
   shift_in_made at op kinds left right shift x y s t =
       term_made u at (Int a) 0 constant (tree.Integer op (integer_as k left.term a) (integer_as k right.term b)) refl refl
-      (integers_marked at constant op a b a (integer_as k left.term a) (integer_as k right.term b) true (integer_given u k (numbers u k ground) left.term kinds.left a x s known) (integer_given u k (numbers u k ground) right.term kinds.right b y t (promoted_there u k ground kinds.right (number_known u k ground right.term kinds.right y t))) (shifted (meaning op) a b shift known))
+      (integers_marked at constant op a b a (integer_as k left.term a) (integer_as k right.term b) true (integer_given u k ground.proper left.term kinds.left a x s known) (integer_given u k ground.proper right.term kinds.right b y t (promoted_there u k ground kinds.right (number_known u k ground right.term kinds.right y t))) (shifted (meaning op) a b shift known))
       known
       (λ n is. shift_number u k ground at constant n op kinds.left kinds.right left.term right.term shift s t x y (if_fixed (left.fixed && right.fixed) (shifted_constant op a (term_constant left.term) (term_constant right.term)) n is).1)
       (λ scalar is_test. no_tests u k ground at (Int a) 0 constant is_test (tree.Integer op (integer_as k left.term a) (integer_as k right.term b)) untested)

@@ -3,11 +3,11 @@ use Rattle.std.proofs.Common.{◌≡◌, ◌⊎◌, inl, inr, ℤ, Bool, true, f
 use Rattle.std.proofs.lemmas.Bool.{and_from, or_left, or_right}
 use Rattle.cc_base.specs.declared.diagnostics.Place.{Place}
 use Rattle.cc_base.specs.declared.int_types.IntType.{IntType}
+use Rattle.c_layout.specs.Models.{is_model}
 use Rattle.c_layout.specs.CheckedTrees as tree
 use Rattle.c_layout.specs.CheckedTrees.{TermTree, FormTree, Typed}
 use Rattle.c_layout.specs.CheckedUnits.{UnitView}
 use Rattle.c_layout.specs.Types.{Ty, Int, Pointer, Array, Struct, Void, same_kind, same_type}
-use Rattle.c_layout.specs.declared.data_model.Model.{Model}
 use Rattle.c_layout.specs.declared.checked_tree.checked_terms.ConversionKind.{ConversionKind}
 use Rattle.c_layout.specs.declared.checked_tree.checked_terms.ConversionKind.TheVariants as kind
 use Rattle.c_types_rules.specs.TypeConversions as types
@@ -20,34 +20,15 @@ use Rattle.flow_lower_tasks.specs.TermKinds as lowered
 use Rattle.flow_lower_tasks.specs.TermKinds.{scalar_of}
 use Rattle.ref_machine_looks.specs.LookedTypes.{is_scalar_type, is_address, converts}
 use Rattle.ref_machine_looks.specs.LookedTerms as look
-use Rattle.ref_machine_looks.specs.LookedTerms.{exact, is_exact_zero, is_marked_term}
+use Rattle.ref_machine_looks.specs.LookedTerms.{is_exact_zero, is_marked_term}
 use Rattle.ref_machine_looks.proofs.Truths.{never, both_true}
 use Rattle.ref_machine_looks.proofs.SameTypes.{type_is}
 use Rattle.c_types_marks.specs.ModelTypes.{IsKindOf, IsTypeOf, IsGround}
 use Rattle.c_types_marks.specs.MadeTerms.{IsExactly, IsMade, IsGiven, Gives}
-use Rattle.c_types_marks_rules.proofs.ModelKinds.{ModelNumbers, model_numbers, machine_has}
-
--- ---- notes of allocated types change nothing
-
-pub noted_type : (k : Known) (to : Ty) (e : TermTree) → term_type (noted k to e) ≡ term_type e
-noted_type k to (Typed at t parens constant f) = refl
-
-pub noted_marked : (k : Known) (to : Ty) (u : UnitView) (used : Bool) (e : TermTree) → is_marked_term u used (noted k to e) ≡ is_marked_term u used e
-noted_marked k to u used (Typed at t parens constant (tree.Library f args allocated)) = refl
-noted_marked k to u used (Typed at t parens constant f) = refl
-
-pub noted_exact : (k : Known) (to : Ty) (m : Model) (e : TermTree) → exact m (noted k to e) ≡ exact m e
-noted_exact k to m (Typed at t parens constant (tree.Library f args allocated)) = refl
-noted_exact k to m (Typed at t parens constant f) = refl
+use Rattle.c_types_marks_tests.proofs.ModelKinds.{scalar_there}
+use Rattle.c_types_marks_tests.proofs.Rewrapped.{noted_type, noted_exact, noted_marked}
 
 -- ---- types
-
-pub scalar_there : (u : UnitView) (numbers : ModelNumbers u.model) (t : Ty) → IsTypeOf u.model t → is_scalar_type u t ≡ true
-scalar_there u numbers (Int k) known = machine_has u.model numbers k known
-scalar_there u numbers (Pointer t) known = refl
-scalar_there u numbers (Array t n) known = refl
-scalar_there u numbers (Struct i) known = refl
-scalar_there u numbers Void known = refl
 
 pub not_void : (t : Ty) → is_scalar t ≡ true → is_void t ≡ false
 not_void (Int k) h = refl
@@ -112,9 +93,9 @@ module _ (u : UnitView) where
     pub converted_marked : (how : ConversionKind) (at : Place) (e : TermTree) (to : Ty) (used : Bool) → is_marked_term u true e ≡ true → is_scalar_type u to ≡ true → IsConverted e to → is_marked_term u used (converted_term k how at e to) ≡ true
     converted_marked how at e to used marked scalar by = and_from (is_scalar_type u to) (direct (noted k to e) to || from_zero (noted k to e) to) scalar (noted_converted e to marked by)
 
-    module _ (numbers : ModelNumbers u.model) where
+    module _ (proper : is_model u.model ≡ true) where
       pub implicit_given : (e : TermTree) (to : Ty) → IsMade u e → is_scalar (term_type e) ≡ true → IsTypeOf u.model to → IsConverted e to → IsGiven u (implicit k e to) to
-      implicit_given e to made scalar known by = record { marked = converted_marked kind.Implicit (term_place e) e to true (scalar_marked e made scalar) (scalar_there u numbers to known) by; same = refl }
+      implicit_given e to made scalar known by = record { marked = converted_marked kind.Implicit (term_place e) e to true (scalar_marked e made scalar) (scalar_there u to proper known) by; same = refl }
 
       pub same_given : (e : TermTree) (to : Ty) → IsMade u e → is_scalar (term_type e) ≡ true → term_type e ≡ to → IsGiven u e to
       same_given e to made scalar same = record { marked = scalar_marked e made scalar; same = same }
@@ -194,7 +175,7 @@ module _ (u : UnitView) (k : Known) where
   conversions_give ground at e to made known = by (types.assigned (term_type e) (is_null e) to) (assigned_as (term_type e) (is_null e) to)
     where
       by : (c : Conversion) → ConvertsAs (term_type e) (is_null e) to c → Gives u to (assigned_by k at e to c)
-      by conversion.Same h = same_given u k (model_numbers u.model ground.proper) e to made h.0 h.1
-      by conversion.Converted h = implicit_given u k (model_numbers u.model ground.proper) e to made h.scalar known (converting e to made h)
+      by conversion.Same h = same_given u k ground.proper e to made h.0 h.1
+      by conversion.Converted h = implicit_given u k ground.proper e to made h.scalar known (converting e to made h)
       by conversion.Crossing h = tt
       by conversion.Nothing h = tt

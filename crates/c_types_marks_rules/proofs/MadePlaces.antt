@@ -12,7 +12,7 @@ use Rattle.ref_machine_looks.specs.LookedTypes.{is_kind, is_address, is_such, st
 use Rattle.ref_machine_looks.proofs.Truths.{no_some, some_is}
 use Rattle.c_types_marks.specs.ModelTypes.{IsKindOf, IsTypeOf, IsGround}
 use Rattle.c_types_marks.specs.MadeTerms.{IsMadePlace, IsMadeForm, IsMadeOperand}
-use Rattle.c_types_marks_rules.proofs.ModelKinds.{type_same}
+use Rattle.c_types_marks_tests.proofs.ModelKinds.{same_type_self}
 use Rattle.c_types_marks_rules.proofs.GroundKinds.{kind_there}
 
 module _ (u : UnitView) where
@@ -45,4 +45,4 @@ module _ (u : UnitView) where
   pub steps_there : (k : Known) (ground : IsGround u k) (t : Ty) (old kind : IntType) → t ≡ Int old → IsKindOf u.model old → IsKindOf u.model kind → steps_in u kind t t ≡ true
   steps_there k ground t old kind is known other =
       and_from (is_such (λ a. is_kind u.model a) t) (is_kind u.model kind && same_type t t) (subst (λ s. is_such (λ a. is_kind u.model a) s ≡ true) (sym is) (kind_there u k ground old known))
-      (and_from (is_kind u.model kind) (same_type t t) (kind_there u k ground kind other) (type_same t))
+      (and_from (is_kind u.model kind) (same_type t t) (kind_there u k ground kind other) (same_type_self t))

@@ -14,21 +14,18 @@ use Rattle.ref_machine_looks.proofs.Truths.{never}
 use Rattle.c_types_marks.specs.ModelTypes.{IsTypeOf, IsGround}
 use Rattle.c_types_marks.specs.MadeTerms.{IsExactly, IsMade, IsMadePlace, IsMadeForm, IsMadeOperand}
 use Rattle.c_types_marks_tests.proofs.MadeTests.{no_tests, load_tests}
+use Rattle.c_types_marks_tests.proofs.ModelKinds.{scalar_there}
 use Rattle.c_types_marks_tests.proofs.Rewrapped.{rewrapped_exact, rewrapped_null, rewrapped_marked, rewrapped_tests, rewrapped_place}
-use Rattle.c_types_marks_rules.proofs.ModelKinds.{ModelNumbers, model_numbers, mark_same}
-use Rattle.c_types_marks_rules.proofs.MadeConversions.{scalar_there}
+use Rattle.c_types_marks_rules.proofs.ModelKinds.{mark_same}
 use Rattle.c_types_marks_rules.proofs.MadeNodes.{node_made}
 
 module _ (u : UnitView) (k : Known) (ground : IsGround u k) where
   -- ---- values
 
-  numbers : ModelNumbers u.model
-  numbers = model_numbers u.model ground.proper
-
   loaded_marked : (at : Place) (t : Ty) (parens : ℕ) (l : LvalueTree) (used : Bool) → is_marked_place u l ≡ true → IsTypeOf u.model (lvalue_type l) → lvalue_type l ≡ t → is_marked_term u used (Typed at t parens None (tree.Load l)) ≡ true
   loaded_marked at t parens l used place typed same =
       and_from (is_marked_place u l) (is_scalar_type u (lvalue_type l) && same_mark (lvalue_type l) t) place
-      (and_from (is_scalar_type u (lvalue_type l)) (same_mark (lvalue_type l) t) (scalar_there u numbers (lvalue_type l) typed) (subst (λ s. same_mark (lvalue_type l) s ≡ true) same (mark_same (lvalue_type l))))
+      (and_from (is_scalar_type u (lvalue_type l)) (same_mark (lvalue_type l) t) (scalar_there u (lvalue_type l) ground.proper typed) (subst (λ s. same_mark (lvalue_type l) s ≡ true) same (mark_same (lvalue_type l))))
 
   loaded_made : (at : Place) (t : Ty) (parens : ℕ) (f : LvalueFormTree) → IsMadePlace u (Designates at t parens f) → IsMade u (Typed at t parens None (tree.Load (Designates at t parens f)))
   loaded_made at t parens f place =

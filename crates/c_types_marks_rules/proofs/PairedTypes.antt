@@ -14,7 +14,7 @@ use Rattle.c_types_operands.specs.Conversions.{in_type}
 use Rattle.ref_machine_looks.specs.LookedTypes.{is_address}
 use Rattle.c_types_marks.specs.ModelTypes.{IsTypeOf, IsGround}
 use Rattle.c_types_marks.specs.MadeTerms.{IsMade, IsGiven}
-use Rattle.c_types_marks_rules.proofs.GroundKinds.{number_scalar, pointer_scalar, pointer_address, numbers}
+use Rattle.c_types_marks_rules.proofs.GroundKinds.{number_scalar, pointer_scalar, pointer_address}
 use Rattle.c_types_marks_rules.proofs.MadeConversions.{IsConverted, type_given, pointer_converted, zero_converted}
 
 abbrev pub IsPointer : Ty → Type 0
@@ -66,11 +66,11 @@ comes_null e (inr z) = or_right (is_address (term_type e)) (is_null e) z.2
 
 module _ (u : UnitView) (k : Known) (ground : IsGround u k) where
   comes_converted : (e : TermTree) (target : Ty) → IsMade u e → ComesToPointer (term_type e) (is_null e) → IsConverted u e (Pointer target)
-  comes_converted e target made (inl p) = pointer_converted u k (numbers u k ground) e p.0 target p.1
-  comes_converted e target made (inr z) = zero_converted u k (numbers u k ground) e z.0 target made z.1 z.2
+  comes_converted e target made (inl p) = pointer_converted u k ground.proper e p.0 target p.1
+  comes_converted e target made (inr z) = zero_converted u k ground.proper e z.0 target made z.1 z.2
 
   pub pointer_given : (e : TermTree) (to target : Ty) → to ≡ Pointer target → IsMade u e → ComesToPointer (term_type e) (is_null e) → IsTypeOf u.model to → IsGiven u (in_type k e to) to
-  pointer_given e to target is made comes known = type_given u k (numbers u k ground) e to made (comes_scalar e comes) known (subst (λ t. IsConverted u e t) (sym is) (comes_converted e target made comes))
+  pointer_given e to target is made comes known = type_given u k ground.proper e to made (comes_scalar e comes) known (subst (λ t. IsConverted u e t) (sym is) (comes_converted e target made comes))
 
   pub given_address : (e : TermTree) (to target : Ty) → to ≡ Pointer target → IsGiven u e to → is_address (term_type e) ≡ true
   given_address e to target is given = pointer_address e target (given.same ∙ is)

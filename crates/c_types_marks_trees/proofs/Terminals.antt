@@ -23,8 +23,9 @@ use Rattle.c_parser_tokens.specs.Keywords.{is_left_out, keyword_of}
 use Rattle.c_parser_tokens.specs.Punctuators.{punctuator_of}
 use Rattle.ref_machine_looks.proofs.Truths.{both_true, no_some}
 use Rattle.ref_machine_looks_units.specs.LookedStatements.{are_bytes}
+use Rattle.ref_machine_looks_units.specs.SmallUnits.{has_byte_text}
 use Rattle.c_types_marks.specs.ProperTrees.{IsProperConstant}
-use Rattle.c_types_marks_trees.specs.ByteTokens.{has_bytes, IsProperTerminal, AreProperTerminals}
+use Rattle.c_types_marks_trees.specs.ByteTokens.{IsProperTerminal, AreProperTerminals}
 use Rattle.c_types_marks_trees.proofs.Characters.{bytes_both, literal_is_of_bytes}
 use Rattle.c_types_marks_trees.proofs.Constants.{integer_proper, character_proper}
 
@@ -89,7 +90,7 @@ by_kind m at kind.Punct text s kept proper h is same =
     subst (λ x. IsProperTerminal m (terminal_with at x kept)) (same_Some (punctuator_symbol (punctuator_of text)) s is) (plain_terminal m at (punctuator_symbol (punctuator_of text)) kept (sign_no_constant (punctuator_of text)) (sign_no_literal (punctuator_of text)))
 by_kind m at kind.HeaderName text s kept proper h is same = subst (λ x. IsProperTerminal m (terminal_with at x kept)) (same_Some symbol.HeaderName s is) (plain_terminal m at symbol.HeaderName kept header_no_constant header_no_literal)
 
-one_token : (m : Model) (t : Token) (x : Terminal) → is_model m ≡ true → has_bytes t ≡ true → terminal_of m t ≡ Some x → IsProperTerminal m x
+one_token : (m : Model) (t : Token) (x : Terminal) → is_model m ≡ true → has_byte_text t ≡ true → terminal_of m t ≡ Some x → IsProperTerminal m x
 one_token m t x proper h is =
     option_and_then_some (λ s. option_and_then (λ text. Some (terminal_with t.place s text)) (kept_text s t.text)) (symbol_of m t) x is (λ s e e1.
     option_and_then_some (λ text. Some (terminal_with t.place s text)) (kept_text s t.text) x e1 (λ kept e2 e3. subst (IsProperTerminal m) (same_Some (terminal_with t.place s kept) x e3) (by_kind m t.place t.kind t.text s kept proper h e e2)))
@@ -122,15 +123,15 @@ abbrev with_token : Model → List Terminal → Token → List Token → Option 
 with_token m before t ts None = Err t.place
 with_token m before t ts (Some next) = terminals_after m (joined before next) ts
 
-all_tokens : (m : Model) (tokens : List Token) (before found : List Terminal) → is_model m ≡ true → list_all has_bytes tokens ≡ true → AreProperTerminals m before → terminals_after m before tokens ≡ Ok found → AreProperTerminals m found
+all_tokens : (m : Model) (tokens : List Token) (before found : List Terminal) → is_model m ≡ true → list_all has_byte_text tokens ≡ true → AreProperTerminals m before → terminals_after m before tokens ≡ Ok found → AreProperTerminals m found
 all_tokens m [] before found proper h g is = subst (AreProperTerminals m) (same before found is) g
   where
     same : (a b : List Terminal) → ◌≡◌ {A = Result (List Terminal) Place} (Ok a) (Ok b) → a ≡ b
     same a b e = cc
 all_tokens m (t ∷ ts) before found proper h g is = by (λ x made e. all_tokens m ts (joined before x) found proper parts.1 (joined_proper m before x g (one_token m t x proper parts.0 made)) e) (terminal_of m t) refl is
   where
-    parts : (has_bytes t ≡ true) × (list_all has_bytes ts ≡ true)
-    parts = both_true (has_bytes t) (list_all has_bytes ts) h
+    parts : (has_byte_text t ≡ true) × (list_all has_byte_text ts ≡ true)
+    parts = both_true (has_byte_text t) (list_all has_byte_text ts) h
 
     refused : (at : Place) → ◌≡◌ {A = Result (List Terminal) Place} (Err at) (Ok found) → ⊥
     refused at e = cc
@@ -140,7 +141,7 @@ all_tokens m (t ∷ ts) before found proper h g is = by (λ x made e. all_tokens
     by next (Some x) made e = next x made e
 
 -- the terminals of a unit
-pub classified_proper : (m : Model) (tokens : List Token) (found : List Terminal) → is_model m ≡ true → list_all has_bytes tokens ≡ true → classified m tokens ≡ Ok found → AreProperTerminals m found
+pub classified_proper : (m : Model) (tokens : List Token) (found : List Terminal) → is_model m ≡ true → list_all has_byte_text tokens ≡ true → classified m tokens ≡ Ok found → AreProperTerminals m found
 classified_proper m tokens found proper h is = by (terminals_after m [] tokens) refl is
   where
     by_left_out : (ts : List Terminal) (o : Option Terminal) → without_left_out ts o ≡ Ok found → ts ≡ found

@@ -1,6 +1,5 @@
--- Tokens whose texts are of bytes, and what trees of them hold.
-use Rattle.std.specs.Prelude.{◌≡◌, true, Bool, List, [], ◌∷◌}
-use Rattle.std.specs.List.{list_all}
+-- What trees of tokens hold whose texts are of bytes.
+use Rattle.std.specs.Prelude.{◌≡◌, true, List, [], ◌∷◌}
 use Rattle.c_layout.specs.Models.{is_model}
 use Rattle.c_layout.specs.DeclarationTrees.{ExternalTree}
 use Rattle.c_layout.specs.declared.data_model.Model.{Model}
@@ -10,11 +9,10 @@ use Rattle.c_parser_tokens.specs.declared.terminals.Symbol.TheVariants as symbol
 use Rattle.c_parser_tokens.specs.declared.terminals.Terminal.{Terminal}
 use Rattle.c_parser.specs.Externals.{IsUnit}
 use Rattle.ref_machine_looks_units.specs.LookedStatements.{are_bytes}
+use Rattle.ref_machine_looks_units.specs.SmallUnits.{have_byte_texts}
 use Rattle.c_types_marks.specs.ProperTrees.{IsProperConstant}
 use Rattle.c_types_marks.specs.ProperStatements.{AreProperExternals}
-
-abbrev pub has_bytes : Token → Bool
-has_bytes t = are_bytes t.text
+use Rattle.c_types_scoped.specs.BlockDeclarations.{UnitInBlocks}
 
 -- a terminal that is proper where it is a constant or a literal
 pub record IsProperTerminal (m : Model) (t : Terminal) : Type 0 where
@@ -26,4 +24,8 @@ AreProperTerminals m [] = Unit {0}
 AreProperTerminals m (t ∷ ts) = IsProperTerminal m t × AreProperTerminals m ts
 
 abbrev pub TreesAreProper : Type 0
-TreesAreProper = (m : Model) (tokens : List Token) (es : List ExternalTree) → is_model m ≡ true → list_all has_bytes tokens ≡ true → IsUnit m tokens es → AreProperExternals m es
+TreesAreProper = (m : Model) (tokens : List Token) (es : List ExternalTree) → is_model m ≡ true → have_byte_texts tokens ≡ true → IsUnit m tokens es → AreProperExternals m es
+
+-- declarations in functions are items of blocks
+abbrev pub TreesDeclareInBlocks : Type 0
+TreesDeclareInBlocks = (m : Model) (tokens : List Token) (es : List ExternalTree) → IsUnit m tokens es → UnitInBlocks es

@@ -1,7 +1,27 @@
 //! Checked units.
 ghost use Rattle.c_types_marks_units.specs.MarkedUnits.{ChecksAreMarked};
 
+use c_types_laws::entries_take_integers;
+use c_types_marks_heads::units_have_heads;
+use c_types_marks_operators::operators_make;
+use c_types_marks_rules::{conversions_give, unused_is_marked, values_are_made};
+use c_types_marks_terms::expressions_are_made;
+use c_types_marks_tests::switches_select;
+use c_types_marks_types::{declarators_keep, heads_keep, specifiers_keep};
+
 /// A checked unit whose functions are regular and whose objects memory has room for passes the look at its terms.
 pub fn checks_are_marked()
     ensures { ChecksAreMarked }
-{}
+{
+    operators_make();
+    values_are_made();
+    conversions_give();
+    unused_is_marked();
+    switches_select();
+    expressions_are_made();
+    specifiers_keep();
+    declarators_keep();
+    heads_keep();
+    units_have_heads();
+    entries_take_integers();
+}

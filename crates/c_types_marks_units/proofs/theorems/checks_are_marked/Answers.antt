@@ -1,4 +1,17 @@
+use Rattle.c_types_marks_initializers.specs.PartLaws.{HasLaws}
+use Rattle.c_types_marks_units.proofs.Units.{checks_marked}
 use Rattle.c_types_marks_units.proofs.theorems.checks_are_marked.Goals as goal
 
 pub returns : goal.returns
-returns c = ?
+returns c = checks_marked laws c.heads_keep.ensures c.entries_take_integers.ensures c.units_have_heads.ensures
+  where
+    laws : HasLaws
+    laws = record {
+      expressions = c.expressions_are_made.ensures c.operators_make.ensures c.values_are_made.ensures c.conversions_give.ensures;
+      values = c.values_are_made.ensures;
+      conversions = c.conversions_give.ensures;
+      unused = c.unused_is_marked.ensures;
+      switches = c.switches_select.ensures;
+      specifiers = c.specifiers_keep.ensures;
+      declarators = c.declarators_keep.ensures;
+    }
