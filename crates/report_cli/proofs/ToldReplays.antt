@@ -85,10 +85,10 @@ same_unit None dirs m main names others a b is also same = same
 same_unit (Some held) dirs m main names others a b is also same = one_unit held dirs m main names others a b is also
 
 stands : ReplaysAreTold → (files : Option Files) (c : CommandView) (draws : Option Bytes) (m : Model) (names : List Bytes) (outcome : OutcomeView) (run : IsRunOf (FromFiles files c.dirs m c.unit) files draws (replay_setting c m) c.steps names (ran outcome)) → StandsInReports files c m run.expanded outcome
-stands told files c draws m names outcome run turns others diags report same goes d there =
+stands told files c draws m names outcome run turns others diags report same d there =
     let one = same_unit files c.dirs m c.unit others names report.expanded run.expanded report.is_expanded run.is_expanded same in
     let judged = subst (λ (u : Unit7). IsJudged u (judging m c.entry turns) report.found) one report.judged in
-    report.listed.kept d (told run.expanded m c.entry turns None report.found run.draws c.steps outcome judged run.replayed goes d there)
+    report.listed.kept d (told run.expanded m c.entry turns None report.found run.draws c.steps outcome judged run.replayed d there)
 
 -- ---- the whole
 

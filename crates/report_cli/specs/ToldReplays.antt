@@ -6,7 +6,6 @@ use Rattle.cc_base.specs.declared.diagnostics.Diag.{Diag}
 use Rattle.c_layout.specs.declared.data_model.Model.{Model}
 use Rattle.c_layout.specs.declared.unit_tokens.Unit7.{Unit7}
 use Rattle.c_preproc.specs.Causes.{Seen}
-use Rattle.ref_machine.specs.RunFacts.{Left}
 use Rattle.replay_run.specs.OutcomeViews.{OutcomeView}
 use Rattle.report_cli_words.specs.Requests.{CommandView}
 use Rattle.report_cli_words.specs.Requests as asked
@@ -22,12 +21,11 @@ abbrev pub IsSameUnit : Option Files → Unit7 → Unit7 → Type 0
 IsSameUnit None a b = a ≡ b
 IsSameUnit (Some held) a b = Unit {0}
 
--- each pair of a run that does not end as `left` is in each report that `check` has of the unit from the same entry on, however
--- many turns are unrolled
+-- each pair of a run is in each report that `check` has of the unit from the same entry on, however many turns are unrolled
 abbrev pub StandsInReports : Option Files → CommandView → Model → Unit7 → OutcomeView → Type 0
 StandsInReports files c m unit outcome =
     (turns : Option ℕ) (names : List Bytes) (diags : List Diag) (report : IsReport (FromFiles files c.dirs m c.unit) (judging m c.entry turns) names diags) → IsSameUnit files report.expanded unit
-    → (outcome.end ≡ Left → ⊥) → (d : Diag) → Contains outcome.diags d → Contains diags d
+    → (d : Diag) → Contains outcome.diags d → Contains diags d
 
 -- the pairs of the run, put whole and in one call, and that they stand in reports
 pub record TellsReplay (seen : Seen) (c : CommandView) (draws : Option Bytes) (sink : Took) (status : ℕ) : Type 0 where
