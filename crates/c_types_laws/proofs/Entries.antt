@@ -225,7 +225,7 @@ met_behind n number h s (Ok p) g = on (functions.met_head n number h p.1) (met_r
     on (Err f) i = tt
 met_behind n number h s (Err f) g = tt
 
-abbrev HasAll : Ruled (HeadView × State) → Type 0
+abbrev pub HasAll : Ruled (HeadView × State) → Type 0
 HasAll (Ok p) = length p.0.parameters ≤ count p.1
 HasAll (Err f) = Unit {0}
 
@@ -236,7 +236,7 @@ judged_room n slot h s room = of_met (functions.judged_head n slot.number slot.b
     of_met (Ok p) i = let a = room i.0 in let b = i.1 in omega (arith, a, b)
     of_met (Err f) i = tt
 
-defined_room : (s : State) (base : SpecifiedView) (f : FunctionDeclaratorView) → HasAll (definitions.defined_head s base f)
+pub defined_room : (s : State) (base : SpecifiedView) (f : FunctionDeclaratorView) → HasAll (definitions.defined_head s base f)
 defined_room s base f = of_head (functions.function_slot f.name s).0 (heads.function_head (functions.in_scope (functions.function_slot f.name s).1) base.declared f) (head_room (functions.in_scope (functions.function_slot f.name s).1) base.declared f)
   where
     of_head : (slot : FunctionSlot) (r : Ruled (HeadView × State)) → HasRoom r → HasAll (after r (definitions.head_in f.name slot))

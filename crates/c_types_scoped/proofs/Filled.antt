@@ -1,5 +1,5 @@
 -- Initializers name what lives.
-use Rattle.std.proofs.Common.{◌≡◌, ℕ, Bool, true, false, ◌&&◌, List, [], ◌∷◌, ◌++◌, Option, Some, None, Ok, Err, refl, ap, sym, ◌∙◌}
+use Rattle.std.proofs.Common.{◌≡◌, ℕ, Bool, true, false, List, [], ◌∷◌, ◌++◌, Option, Some, None, Ok, Err, refl}
 use Rattle.std.specs.Prelude.{cond}
 use Rattle.std.specs.List.{list_all}
 use Rattle.cc_base.specs.declared.diagnostics.Place.{Place}
@@ -9,7 +9,7 @@ use Rattle.c_layout.specs.CheckedTrees.{TermTree, LvalueTree, StoreTree, StoreVa
 use Rattle.c_layout.specs.DeclarationTrees as tree
 use Rattle.c_layout.specs.DeclarationTrees.{InitializerTree, InitializerTrees}
 use Rattle.c_layout.specs.SyntaxTrees.{Tree}
-use Rattle.c_types_scopes.specs.Answers.{after, kept}
+use Rattle.c_types_scopes.specs.Answers.{after}
 use Rattle.c_types_scopes.specs.Known.{Known}
 use Rattle.c_types_scopes.specs.Refusals.{Ruled, type_fault}
 use Rattle.c_types_scopes.specs.States.{State}
@@ -17,7 +17,7 @@ use Rattle.c_types_operands.specs.Conversions.{assigned}
 use Rattle.c_types_operands.specs.Operands.{OperandView, is_scalar, is_struct, term_of}
 use Rattle.c_types_operators.specs.Assignments.{struct_source}
 use Rattle.c_types_expressions.specs.Expressions.{typed}
-use Rattle.c_types_initializers.specs.Initialized.{InitializedView, ByTerm, ByLvalue, ByStores, by_operand, filled, filled_by, scalar_by, struct_by}
+use Rattle.c_types_initializers.specs.Initialized.{InitializedView, by_operand, filled, filled_by, scalar_by, struct_by}
 use Rattle.c_types_initializers.specs.ListStores as stores
 use Rattle.c_types_initializers.specs.ListStores.{FillingView, nothing, sought, takes_text, takes_value}
 use Rattle.c_types_initializers.specs.Literals.{bare_literal, character_room, only_literal}
@@ -27,19 +27,13 @@ use Rattle.c_types_braced_lists.specs.Initializers as spec
 use Rattle.c_types_laws.proofs.Initializing.{initializer_leads, items_lead}
 use Rattle.ref_machine_looks.proofs.Truths.{both_true}
 use Rattle.ref_machine_looks_units.specs.LookedScopes.{is_scoped_store}
+use Rattle.c_types_scoped.specs.ScopedLaws.{Yields}
+use Rattle.c_types_scoped.specs.ScopedOperands.{Scoped, ScopedInitial, ScopedMade}
+use Rattle.c_types_scoped.specs.SeenObjects.{SeesAt, Stays}
 use Rattle.c_types_scoped.proofs.Numbers.{two}
-use Rattle.c_types_scoped.proofs.Rules.{ScopedTerm, ScopedPlace, Scoped, MakesTerm, IfPlace, value_scoped, assigned_scoped, source_scoped}
-use Rattle.c_types_scoped.proofs.Seen.{SeesAt, Stays, Gives, Judged, Yields, leads_gives, steps_stay, yields}
+use Rattle.c_types_scoped.proofs.Rules.{MakesTerm, IfPlace, value_scoped, assigned_scoped, source_scoped}
+use Rattle.c_types_scoped.proofs.Seen.{Gives, Judged, leads_gives, steps_stay, yields}
 use Rattle.c_types_scoped.proofs.Typed.{and_then, ruled, typed_scoped}
-
--- what an initializer does names what lives
-abbrev pub ScopedInitial : List ℕ → InitializedView → Type 0
-ScopedInitial alive (ByTerm e) = ScopedTerm alive e
-ScopedInitial alive (ByLvalue l) = ScopedPlace alive l
-ScopedInitial alive (ByStores xs) = list_all (is_scoped_store alive) xs ≡ true
-
-abbrev pub ScopedMade : List ℕ → InitializedView × Ty → Type 0
-ScopedMade alive m = ScopedInitial alive m.0
 
 module _ (alive : List ℕ) where
   abbrev Fills : FillingView → Type 0

@@ -3,4 +3,3 @@ pub mod Seen
 pub mod Rules
 pub mod Typed
 pub mod Filled
-pub mod Units

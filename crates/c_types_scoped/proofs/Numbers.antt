@@ -1,11 +1,11 @@
 -- Lists of numbers of objects: which are among others, and which are new.
-use Rattle.std.proofs.Common.{◌≡◌, ◌<◌, ◌≤◌, ◌+◌, ◌⊎◌, inl, inr, ℕ, zero, suc, ◌==◌, Bool, true, false, not, ◌&&◌, ◌||◌, List, [], ◌∷◌, ◌++◌, arith, refl, ap, subst, sym, ◌∙◌, eq-eqb}
+use Rattle.std.proofs.Common.{◌≡◌, ◌<◌, ◌≤◌, ◌+◌, ◌⊎◌, inl, inr, ℕ, zero, suc, ◌==◌, Bool, true, false, not, ◌&&◌, ◌||◌, List, [], ◌∷◌, ◌++◌, arith, refl, ap, sym, ◌∙◌, eq-eqb}
 use Rattle.std.proofs.lemmas.Bool.{cases_Bool, eqb-true}
 use Rattle.flow_lower_functions.specs.Functions.{numbers_from}
 use Rattle.ref_machine.specs.Scopes.{is_in}
 use Rattle.ref_machine_looks.proofs.Truths.{never, both_true, either_true, is_false}
-use Rattle.ref_machine_looks_units.specs.LookedScopes.{are_distinct, are_apart, are_new}
-use Rattle.ref_machine_returns.specs.EndedObjects.{AreAmong}
+use Rattle.ref_machine_looks_units.specs.LookedScopes.{are_distinct}
+use Rattle.c_types_scoped.specs.SeenObjects.{AreNew}
 
 pub two : (a b : Bool) → a ≡ true → b ≡ true → (a && b) ≡ true
 two true b g h = h
@@ -15,11 +15,11 @@ pub unlike : (b : Bool) → (b ≡ true → ⊥) → b ≡ false
 unlike true h = absurd (h refl)
 unlike false h = refl
 
-either_is : (a b : Bool) → b ≡ true → (a || b) ≡ true
+pub either_is : (a b : Bool) → b ≡ true → (a || b) ≡ true
 either_is true b h = refl
 either_is false b h = h
 
-not_false : (b : Bool) → b ≡ false → not b ≡ true
+pub not_false : (b : Bool) → b ≡ false → not b ≡ true
 not_false true h = sym h
 not_false false h = refl
 
@@ -76,12 +76,6 @@ numbers_are first (suc n) k h = elim (either_true (k == first) (is_in k (numbers
 
 -- ---- new numbers
 
--- numbers from one on and below another one, each once
-pub record AreNew (new : List ℕ) (few many : ℕ) : Type 0 where
-  pub distinct : are_distinct new ≡ true
-  pub least : (k : ℕ) → is_in k new ≡ true → few ≤ k
-  pub most : (k : ℕ) → is_in k new ≡ true → k < many
-
 pub none_new : (few many : ℕ) → AreNew [] few many
 none_new few many = record { distinct = refl; least = λ k h. never h; most = λ k h. never h }
 
@@ -114,53 +108,3 @@ both_new xs ys few middle many low high g h = record {
   least = λ k is. elim (in_parts k xs ys is) [ inl front ↦ g.least k front | inr back ↦ (let b = h.least k back in omega (arith, low, b)) ];
   most = λ k is. elim (in_parts k xs ys is) [ inl front ↦ (let a = g.most k front in omega (arith, high, a)) | inr back ↦ h.most k back ];
 }
-
--- ---- what lives beside new numbers
-
--- what lives was there before a step, or comes behind it, or is new in it
-abbrev pub Apart : List ℕ → ℕ → ℕ → List ℕ → Type 0
-Apart alive few many new = (k : ℕ) → is_in k alive ≡ true → (k < few) ⊎ ((many ≤ k) ⊎ (is_in k new ≡ true))
-
-pub apart_within : (alive : List ℕ) (few many low high : ℕ) → few ≤ low → high ≤ many → Apart alive few many [] → Apart alive low high []
-apart_within alive few many low high g h apart k is = elim (apart k is) [
-  | inl before ↦ inl (omega (arith, before, g))
-  | inr (inl behind) ↦ inr (inl (omega (arith, behind, h)))
-  | inr (inr new) ↦ never new
-]
-
-pub apart_first : (alive xs ys : List ℕ) (few middle many : ℕ) → middle ≤ many → AreNew ys middle many → Apart alive few many (xs ++ ys) → Apart alive few middle xs
-apart_first alive xs ys few middle many high new apart k is = elim (apart k is) [
-  | inl before ↦ inl before
-  | inr (inl behind) ↦ inr (inl (omega (arith, behind, high)))
-  | inr (inr either) ↦ elim (in_parts k xs ys either) [ inl front ↦ inr (inr front) | inr back ↦ inr (inl (new.least k back)) ]
-]
-
-pub apart_second : (alive xs ys : List ℕ) (few middle many : ℕ) → few ≤ middle → AreNew xs few middle → Apart alive few many (xs ++ ys) → Apart alive middle many ys
-apart_second alive xs ys few middle many low new apart k is = elim (apart k is) [
-  | inl before ↦ inl (omega (arith, before, low))
-  | inr (inl behind) ↦ inr (inl behind)
-  | inr (inr either) ↦ elim (in_parts k xs ys either) [ inl front ↦ inl (new.most k front) | inr back ↦ inr (inr back) ]
-]
-
--- with the new ones
-pub apart_inside : (alive new : List ℕ) (few many : ℕ) → Apart alive few many [] → Apart (new ++ alive) few many new
-apart_inside alive new few many apart k is = elim (in_parts k new alive is) [ inl front ↦ inr (inr front) | inr back ↦ old (apart k back) ]
-  where
-    old : (k < few) ⊎ ((many ≤ k) ⊎ (is_in k [] ≡ true)) → (k < few) ⊎ ((many ≤ k) ⊎ (is_in k new ≡ true))
-    old (inl before) = inl before
-    old (inr (inl behind)) = inr (inl behind)
-    old (inr (inr none)) = never none
-
-apart_all : (alive new : List ℕ) → ((k : ℕ) → is_in k new ≡ true → is_in k alive ≡ false) → are_apart alive new ≡ true
-apart_all alive [] h = refl
-apart_all alive (n ∷ ns) h = two (not (is_in n alive)) (are_apart alive ns) (not_false (is_in n alive) (h n (ap (λ b. b || is_in n ns) (eq-eqb n n refl)))) (apart_all alive ns (λ k is. h k (either_is (k == n) (is_in k ns) is)))
-
--- new numbers are none of those that live
-pub new_beside : (alive new : List ℕ) (few many : ℕ) → AreNew new few many → Apart alive few many [] → are_new new alive ≡ true
-new_beside alive new few many news apart =
-    two (are_distinct new) (are_apart alive new) news.distinct
-    (apart_all alive new (λ k is. unlike (is_in k alive) (λ lives. elim (apart k lives) [
-      | inl before ↦ (let a = news.least k is in omega (arith, a, before))
-      | inr (inl behind) ↦ (let a = news.most k is in omega (arith, a, behind))
-      | inr (inr none) ↦ never none
-    ])))

@@ -1,6 +1,6 @@
 -- The rules of operators make, of operands that name what lives, what names what lives.
-use Rattle.std.proofs.Common.{◌≡◌, ℕ, ℤ, Bool, true, false, ◌&&◌, List, [], ◌∷◌, Option, Some, None, Ok, Err, refl}
-use Rattle.std.specs.Prelude.{cond, ◌==◌}
+use Rattle.std.proofs.Common.{◌≡◌, ℕ, ℤ, Bool, true, false, ◌&&◌, List, Option, Some, None, Ok, Err, refl}
+use Rattle.std.specs.Prelude.{cond}
 use Rattle.cc_base.specs.declared.diagnostics.Place.{Place}
 use Rattle.cc_base.specs.declared.int_types.IntType.{IntType}
 use Rattle.c_layout.specs.Types.{Ty, Int, Pointer, same_type}
@@ -45,22 +45,9 @@ use Rattle.c_types_operators.specs.declared.assignments.CompoundKind.TheVariants
 use Rattle.c_types_operators.specs.declared.unary_operators.StepKind.{StepKind}
 use Rattle.c_types_operators.specs.declared.unary_operators.StepKind.TheVariants as steps
 use Rattle.ref_machine_looks_units.specs.LookedScopes.{is_scoped_term, is_scoped_place}
+use Rattle.c_types_scoped.specs.ScopedOperands.{ScopedTerm, ScopedPlace, ScopedForm, Scoped}
 use Rattle.c_types_scoped.proofs.Numbers.{two}
 use Rattle.c_types_scoped.proofs.Seen.{Judged}
-
-abbrev pub ScopedTerm : List ℕ → TermTree → Type 0
-ScopedTerm alive e = is_scoped_term alive e ≡ true
-
-abbrev pub ScopedPlace : List ℕ → LvalueTree → Type 0
-ScopedPlace alive l = is_scoped_place alive l ≡ true
-
-abbrev pub ScopedForm : List ℕ → OperandForm → Type 0
-ScopedForm alive (AsValue e) = ScopedTerm alive e
-ScopedForm alive (AsLvalue l) = ScopedPlace alive l
-
--- an operand names what lives
-abbrev pub Scoped : List ℕ → OperandView → Type 0
-Scoped alive o = ScopedForm alive o.form
 
 abbrev pub Makes : List ℕ → Ruled OperandView → Type 0
 Makes alive r = Judged (Scoped alive) r

@@ -1,5 +1,5 @@
 -- What names mean in the scopes that are open: which local objects they may name, and how that changes.
-use Rattle.std.proofs.Common.{◌≡◌, ◌<◌, ◌≤◌, ◌+◌, ◌-◌, ◌⊎◌, inl, inr, ℕ, ℤ, Bool, true, false, List, [], ◌∷◌, ◌++◌, length, take, slice_get, Option, Some, None, option_map, Ok, Err, arith, refl, ap, subst, sym, ◌∙◌, append_assoc}
+use Rattle.std.proofs.Common.{◌≡◌, ◌≤◌, ◌+◌, ◌-◌, ◌⊎◌, inl, inr, ℕ, Bool, true, false, List, [], ◌∷◌, ◌++◌, length, take, slice_get, Option, Some, None, option_map, Ok, Err, arith, refl, ap, subst, sym, ◌∙◌, append_assoc}
 use Rattle.std.specs.Prelude.{cond}
 use Rattle.std.proofs.Math.Seq.{take-append_seam}
 use Rattle.std.proofs.lemmas.List.{append-nil, length-append}
@@ -21,22 +21,9 @@ use Rattle.c_types_laws_units.proofs.Kept.{appended_is, front_stays}
 use Rattle.ref_machine.specs.Scopes.{is_in}
 use Rattle.ref_machine_looks.proofs.Truths.{never}
 use Rattle.ref_machine_returns.specs.EndedObjects.{AreAmong}
-use Rattle.c_types_scoped.proofs.Numbers.{AreNew, none_new, both_new, in_front, in_back}
-
--- a local object that a name means lives
-abbrev pub IsSeen : List ℕ → Meaning → Type 0
-IsSeen alive (meaning.Local k) = is_in k alive ≡ true
-IsSeen alive (meaning.Static n) = Unit {0}
-IsSeen alive (meaning.Function n) = Unit {0}
-IsSeen alive (meaning.Typedef n) = Unit {0}
-IsSeen alive (meaning.Enumerator v) = Unit {0}
-
--- so it is of all names in scope
-pub record Sees (alive : List ℕ) (entries : List NameDeclaration) (meanings : List Meaning) : Type 0 where
-  pub each : (i : ℕ) (d : NameDeclaration) → slice_get entries i ≡ Some d → (m : Meaning) × (slice_get meanings d.meaning ≡ Some m) × IsSeen alive m
-
-abbrev pub SeesAt : List ℕ → State → Type 0
-SeesAt alive s = Sees alive s.scopes.ordinary.entries s.scopes.meanings
+use Rattle.c_types_scoped.specs.ScopedLaws.{Yields}
+use Rattle.c_types_scoped.specs.SeenObjects.{AreNew, IsSeen, Sees, SeesAt, FollowsBy, count, Follows, Stays}
+use Rattle.c_types_scoped.proofs.Numbers.{none_new, both_new, in_front, in_back}
 
 seen_more : (had alive : List ℕ) (m : Meaning) → AreAmong had alive → IsSeen had m → IsSeen alive m
 seen_more had alive (meaning.Local k) more h = more k h
@@ -70,26 +57,6 @@ local_lives alive s text k sees h = by_number (known_in s.scopes.names text) h
     by_number (Some n) e = found_lives alive s.scopes.ordinary.entries s.scopes.meanings k sees (newest s.scopes.ordinary.entries n) e
 
 -- ---- steps in a scope
-
--- names are declared in the innermost scope, among them such of new local objects
-pub record FollowsBy (had : TableView) (meant : List Meaning) (few : ℕ) (has : TableView) (means : List Meaning) (many : ℕ) (new : List ℕ) : Type 0 where
-  pub marks : has.marks ≡ had.marks
-  pub more : List NameDeclaration
-  pub entries : has.entries ≡ had.entries ++ more
-  pub others : List Meaning
-  pub meanings : means ≡ meant ++ others
-  pub count : few ≤ many
-  pub sees : (alive : List ℕ) → AreAmong new alive → Sees alive had.entries meant → Sees alive has.entries means
-  pub news : AreNew new few many
-
-abbrev pub count : State → ℕ
-count s = length s.body.locals
-
-abbrev pub Follows : State → State → List ℕ → Type 0
-Follows s t new = FollowsBy s.scopes.ordinary s.scopes.meanings (count s) t.scopes.ordinary t.scopes.meanings (count t) new
-
-abbrev pub Stays : State → State → Type 0
-Stays s t = Follows s t []
 
 pub stays_so : (had : TableView) (meant : List Meaning) (few many : ℕ) → few ≤ many → FollowsBy had meant few had meant many []
 stays_so had meant few many more = record {
@@ -226,11 +193,6 @@ Gives alive P (Err f) = Unit {0}
 abbrev pub Judged : {V : Type 0} → (V → Type 0) → Ruled V → Type 0
 Judged P (Ok v) = P v
 Judged P (Err f) = Unit {0}
-
--- the same of all objects that may live
-abbrev pub Yields : {V : Type 0} → State → (List ℕ → V → Type 0) → Ruled (V × State) → Type 0
-Yields s P (Ok p) = Stays s p.1 × ((alive : List ℕ) → SeesAt alive s → P alive p.0)
-Yields s P (Err f) = Unit {0}
 
 pub yields : {V : Type 0} (s : State) (P : List ℕ → V → Type 0) (r : Ruled (V × State)) → Leads Stays s r → ((alive : List ℕ) → SeesAt alive s → Gives alive (P alive) r) → Yields s P r
 yields s P (Ok p) g h = (g, λ alive sees. (h alive sees).1)

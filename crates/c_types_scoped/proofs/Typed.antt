@@ -1,5 +1,5 @@
 -- Expressions name what lives.
-use Rattle.std.proofs.Common.{◌≡◌, ℕ, Bool, true, false, ◌&&◌, List, [], ◌∷◌, length, slice_get, Option, Some, None, Ok, Err, refl}
+use Rattle.std.proofs.Common.{◌≡◌, ℕ, Bool, true, false, List, [], ◌∷◌, length, slice_get, Option, Some, None, Ok, Err, refl}
 use Rattle.std.specs.Prelude.{cond, ◌==◌}
 use Rattle.cc_base.specs.declared.diagnostics.Place.{Place}
 use Rattle.cc_base.specs.declared.int_types.IntType.{IntType}
@@ -28,7 +28,7 @@ use Rattle.c_types_primary.specs.Primaries as primaries
 use Rattle.c_types_primary.specs.Primaries.{library_named, meaning_of}
 use Rattle.c_types_primary.specs.Members as members
 use Rattle.c_types_primary.specs.Calls as calls
-use Rattle.c_types_primary.specs.Lists.{if_first, with_first}
+use Rattle.c_types_primary.specs.Lists.{if_first}
 use Rattle.c_types_primary.specs.PrintfFormats.{wanted_by}
 use Rattle.c_types_primary.specs.TypeNames.{named_type}
 use Rattle.c_types_primary.specs.declared.calls.Callee.{Callee}
@@ -37,12 +37,15 @@ use Rattle.c_types_primary.specs.declared.printf_formats.Wanted.{Wanted}
 use Rattle.c_types_expressions.specs.Leaves.{named, callee_of, noted_callee, first_tree}
 use Rattle.c_types_expressions.specs.Expressions as spec
 use Rattle.c_types_laws.proofs.Expressing.{typed_leads, lengths_lead, type_name_leads}
-use Rattle.c_types_laws.proofs.Leading.{Leads, then}
+use Rattle.c_types_laws.proofs.Leading.{then}
 use Rattle.ref_machine.specs.Scopes.{is_in}
 use Rattle.ref_machine_looks_units.specs.LookedScopes.{is_scoped_term, are_scoped_terms}
+use Rattle.c_types_scoped.specs.ScopedLaws.{Yields}
+use Rattle.c_types_scoped.specs.ScopedOperands.{ScopedTerm, ScopedPlace, ScopedForm, Scoped}
+use Rattle.c_types_scoped.specs.SeenObjects.{SeesAt, Stays}
 use Rattle.c_types_scoped.proofs.Numbers.{two}
-use Rattle.c_types_scoped.proofs.Rules.{ScopedTerm, ScopedPlace, ScopedForm, Scoped, Makes, MakesTerm, parenthesized_scoped, value_scoped, integer_scoped, assigned_scoped, binary_scoped, indirection_scoped, subscript_scoped, step_scoped, unary_scoped, size_of_operand_scoped, size_of_type_scoped, cast_scoped, logical_scoped, conditional_scoped, comma_scoped, assignment_scoped}
-use Rattle.c_types_scoped.proofs.Seen.{SeesAt, Stays, Gives, Judged, Yields, local_lives, leads_gives, steps_stay, stays_twice, stays_sees, yields}
+use Rattle.c_types_scoped.proofs.Rules.{Makes, MakesTerm, parenthesized_scoped, value_scoped, integer_scoped, assigned_scoped, binary_scoped, indirection_scoped, subscript_scoped, step_scoped, unary_scoped, size_of_operand_scoped, size_of_type_scoped, cast_scoped, logical_scoped, conditional_scoped, comma_scoped, assignment_scoped}
+use Rattle.c_types_scoped.proofs.Seen.{Gives, Judged, local_lives, leads_gives, steps_stay, stays_twice, stays_sees, yields}
 
 abbrev pub AllScoped : List ℕ → List OperandView → Type 0
 AllScoped alive [] = Unit {0}

@@ -1,2 +1,4 @@
 pub mod BlockDeclarations
-pub mod ScopedChecks
+pub mod SeenObjects
+pub mod ScopedOperands
+pub mod ScopedLaws

@@ -1,6 +1,6 @@
-//! Each checked unit names its local objects where they live.
+//! Expressions and initializers name local objects where they live.
 #![tactic(auto)]
 
 mod theorems;
 
-pub use theorems::checks_are_scoped;
+pub use theorems::{expressions_are_scoped, initializers_are_scoped};

@@ -1,7 +1,12 @@
-//! Scopes of checked units.
-ghost use Rattle.c_types_scoped.specs.ScopedChecks.{ChecksAreScoped};
+//! Scopes of expressions.
+ghost use Rattle.c_types_scoped.specs.ScopedLaws.{ExpressionsAreScoped, InitializersAreScoped};
 
-/// What a checked unit names lives where it is named, and what a scope begins with is new.
-pub fn checks_are_scoped()
-    ensures { ChecksAreScoped }
+/// An expression names what names of its state may mean.
+pub fn expressions_are_scoped()
+    ensures { ExpressionsAreScoped }
+{}
+
+/// An initializer names what names of its state may mean.
+pub fn initializers_are_scoped()
+    ensures { InitializersAreScoped }
 {}
