@@ -368,12 +368,12 @@ integers_at (m ∷ ls) at n (suc k) l h is less =
     integers_at ls (at + 1) n k l first.1 is (omega (arith, less))
 
 -- what is found is a function that takes integers
-record IsEntry (at : ℕ) (fs : List FunctionView) (entry : ℕ) : Type 0 where
-  k : ℕ
-  is : entry ≡ at + k
-  f : FunctionView
-  among : slice_get fs k ≡ Some f
-  takes : takes_integers f ≡ true
+pub record IsEntry (at : ℕ) (fs : List FunctionView) (entry : ℕ) : Type 0 where
+  pub k : ℕ
+  pub is : entry ≡ at + k
+  pub f : FunctionView
+  pub among : slice_get fs k ≡ Some f
+  pub takes : takes_integers f ≡ true
 
 narrowed_is : (at e : ℕ) (b : Bool) → cond b (Some at) None ≡ Some e → e ≡ at
 narrowed_is at e true h = sym (same_Some at e h)
@@ -387,7 +387,7 @@ named_entry : (f : FunctionView) (fs : List FunctionView) (at e : ℕ) (b : Bool
 named_entry f fs at e true rest more h = let t = taken (takes_integers f) at e h in let i = t.1 in record { k = 0; is = omega (arith, i); f = f; among = refl; takes = t.0 }
 named_entry f fs at e false rest more h = let r = more h in let i = r.is in record { k = suc r.k; is = omega (arith, i); f = r.f; among = r.among; takes = r.takes }
 
-found_entry : (fs : List FunctionView) (at : ℕ) (name : List ℕ) (e : ℕ) → entry_from at fs name ≡ Some e → IsEntry at fs e
+pub found_entry : (fs : List FunctionView) (at : ℕ) (name : List ℕ) (e : ℕ) → entry_from at fs name ≡ Some e → IsEntry at fs e
 unfolding entry_from
 found_entry [] at name e h = absurd (cc)
 found_entry (f ∷ fs) at name e h = named_entry f fs at e (has_name f name) (entry_from (at + 1) fs name) (λ g. found_entry fs (at + 1) name e g) h
@@ -399,7 +399,7 @@ value_or other (Err f) = other
 pub same_value : {V : Type 0} (a b : V) → (let r : Ruled V = Ok a in r) ≡ Ok b → a ≡ b
 same_value a b h = ap (value_or a) h
 
-judged_is : (fs : List FunctionView) (calls : List Call) (e : ℕ) (found : Option ℕ) → judged_entry calls found ≡ Ok e → found ≡ Some e
+pub judged_is : (fs : List FunctionView) (calls : List Call) (e : ℕ) (found : Option ℕ) → judged_entry calls found ≡ Ok e → found ≡ Some e
 judged_is fs calls e None h = absurd (cc)
 judged_is fs calls e (Some n) h = by_calls (first_cycle calls) h
   where

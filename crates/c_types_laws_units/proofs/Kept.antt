@@ -70,14 +70,14 @@ or_true : (b : Bool) → (b || true) ≡ true
 or_true true = refl
 or_true false = refl
 
-keys_more : (n owner : ℕ) (ks : List ℕ) → list_any (nat_eq n) ks ≡ true → list_any (nat_eq n) (insert_key nat_eq ks owner) ≡ true
+pub keys_more : (n owner : ℕ) (ks : List ℕ) → list_any (nat_eq n) ks ≡ true → list_any (nat_eq n) (insert_key nat_eq ks owner) ≡ true
 keys_more n owner ks h = by_known (list_any (nat_eq owner) ks)
   where
     by_known : (b : Bool) → list_any (nat_eq n) (if b then ks else ks ++ owner ∷ []) ≡ true
     by_known true = h
     by_known false = list_any-append (nat_eq n) ks (owner ∷ []) ∙ ap (λ b. b || list_any (nat_eq n) (owner ∷ [])) h
 
-key_there : (owner : ℕ) (ks : List ℕ) → list_any (nat_eq owner) (insert_key nat_eq ks owner) ≡ true
+pub key_there : (owner : ℕ) (ks : List ℕ) → list_any (nat_eq owner) (insert_key nat_eq ks owner) ≡ true
 key_there owner ks = by_known (list_any (nat_eq owner) ks) refl
   where
     self : list_any (nat_eq owner) (owner ∷ []) ≡ true
@@ -205,7 +205,7 @@ member_named s owner name field e = keeps_structs s (types.with_member s.types o
   },
 ))
 
-apart_bodies : (b : Bool) → b ≡ false → b ≡ true → ⊥
+pub apart_bodies : (b : Bool) → b ≡ false → b ≡ true → ⊥
 apart_bodies true f t = cc
 apart_bodies false f t = cc
 

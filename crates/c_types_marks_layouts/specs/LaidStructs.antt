@@ -1,6 +1,7 @@
 -- Structs whose members lie within them: what typing keeps of layouts.
-use Rattle.std.specs.Prelude.{◌≡◌, ◌⊎◌, ◌<◌, ◌≤◌, ◌+◌, ◌^◌, ℕ, Bool, true, List, [], ◌∷◌, Option, Some, is_some, slice_get, Ok, Err}
+use Rattle.std.specs.Prelude.{◌≡◌, ◌⊎◌, ◌≤◌, ◌+◌, ◌^◌, ℕ, Bool, true, List, [], ◌∷◌, Some, is_some, slice_get, Ok, Err}
 use Rattle.cc_base.specs.declared.diagnostics.Place.{Place}
+use Rattle.c_layout.specs.Models.{is_model}
 use Rattle.c_layout.specs.Types.{Ty}
 use Rattle.c_layout.specs.StructViews.{FieldView, StructView, no_struct}
 use Rattle.c_layout.specs.SyntaxTrees.{Tree}
@@ -24,7 +25,7 @@ pub record IsInside (k : Known) (v : StructView) (f : FieldView) : Type 0 where
 
 -- the structs of a state are those that its rules know; those without a body are not known
 pub record HasLayouts (s : State) : Type 0 where
-  pub wide : 0 < s.known.numbers.pointer
+  pub proper : is_model s.known.numbers ≡ true
   pub settled : s.known.structs ≡ s.types.structs
   pub bodies : (n : ℕ) (v : StructView) → slice_get s.types.structs n ≡ Some v → (v ≡ no_struct) ⊎ (has_body s.types n ≡ true)
   pub laid : (n i : ℕ) (v : StructView) (f : FieldView) → slice_get s.known.structs n ≡ Some v → slice_get v.fields i ≡ Some f → IsInside s.known v f

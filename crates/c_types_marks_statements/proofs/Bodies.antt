@@ -1,5 +1,5 @@
 -- What typing makes of bodies is marked.
-use Rattle.std.proofs.Common.{◌≡◌, ℕ, Ok, Err, refl}
+use Rattle.std.proofs.Common.{ℕ, Ok, Err, refl}
 use Rattle.c_types_scopes.specs.Refusals.{Ruled}
 use Rattle.c_types_objects.specs.LocalObjects.{PartsView}
 use Rattle.c_types_statement_rules.specs.BodyFlow.{no_flow}
@@ -8,8 +8,9 @@ use Rattle.c_types_statement_rules.specs.StatementNodes.{no_parts}
 use Rattle.c_types_statements.specs.LocalDeclarations.{local_declaration}
 use Rattle.c_types_statements.specs.Statements.{items}
 use Rattle.c_types.specs.FunctionDefinitions.{before_body, counted}
-use Rattle.c_types_marks_statements.specs.ReadyStates.{Goes}
-use Rattle.c_types_marks_statements.specs.MarkedBodies.{BodiesAreMarked, AreMarkedParts}
+use Rattle.c_types_marks_initializers.specs.ReadyStates.{Goes}
+use Rattle.c_types_marks_initializers.specs.MarkedDeclarations.{AreMarkedParts}
+use Rattle.c_types_marks_statements.specs.MarkedBodies.{BodiesAreMarked}
 use Rattle.c_types_marks_statements.proofs.Stating.{Stands, IsLabelled, items_come, all_labels_come}
 
 pub bodies_are_marked : BodiesAreMarked

@@ -1,7 +1,2 @@
-pub mod Going
-pub mod ReadySteps
-pub mod TypedSubobjects
-pub mod Initializing
-pub mod Declaring
 pub mod Stating
 pub mod Bodies

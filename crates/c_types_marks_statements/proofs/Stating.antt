@@ -1,7 +1,6 @@
 -- What typing makes of statements is marked.
-use Rattle.std.proofs.Common.{◌≡◌, ℕ, ℤ, List, [], ◌∷◌, ◌++◌, length, Option, Some, None, Ok, Err, refl, ap, subst, sym, ◌∙◌}
+use Rattle.std.proofs.Common.{◌≡◌, ℕ, ℤ, length, Option, Some, None, Ok, Err, refl, ap, subst, sym, ◌∙◌}
 use Rattle.std.specs.Prelude.{Bool, true, false, not, ◌&&◌, ◌==◌, cond, is_some, nat_lt}
-use Rattle.std.proofs.lemmas.Bool.{and_parts}
 use Rattle.std.proofs.lemmas.Option.{same_Some}
 use Rattle.cc_base.specs.declared.diagnostics.Place.{Place}
 use Rattle.cc_base.specs.declared.int_types.IntType.{IntType}
@@ -11,22 +10,20 @@ use Rattle.c_layout.specs.CheckedTrees.{TermTree, StatementTree, statement_trees
 use Rattle.c_layout.specs.CheckedUnits.{FunctionView, UnitView}
 use Rattle.c_layout.specs.SyntaxTrees.{Tree}
 use Rattle.c_layout.specs.DeclarationTrees as syntax
-use Rattle.c_layout.specs.DeclarationTrees.{NameView, LocalView, ForFirstView, NoClause, Clause, Declares}
+use Rattle.c_layout.specs.DeclarationTrees.{LocalView, ForFirstView, NoClause, Clause, Declares}
 use Rattle.c_layout.specs.declared.data_model.Model.{Model}
 use Rattle.c_types_rules.specs.IntegerKinds.{promoted}
 use Rattle.c_types_scopes.specs.Names as names
 use Rattle.c_types_scopes.specs.Names.{number_in, known_in}
-use Rattle.c_types_scopes.specs.Known.{Known}
 use Rattle.c_types_scopes.specs.Refusals.{Ruled, type_fault, redeclared}
 use Rattle.c_types_scopes.specs.Answers.{after, kept}
-use Rattle.c_types_scopes.specs.States.{State, with_name, with_constant}
-use Rattle.c_types_operands.specs.Operands.{OperandView, term_of, is_scalar, is_void}
+use Rattle.c_types_scopes.specs.States.{State}
+use Rattle.c_types_operands.specs.Operands.{term_of, is_scalar, is_void}
 use Rattle.c_types_operands.specs.Operands as operands
-use Rattle.c_types_operands.specs.Conversions as conversions
 use Rattle.c_types_operands.specs.Conversions.{integer_as, assigned}
 use Rattle.c_types_expressions.specs.Expressions.{typed}
 use Rattle.c_types_objects.specs.LocalObjects.{PartsView}
-use Rattle.c_types_statement_rules.specs.BodyFlow.{FlowView, SwitchView, innermost, with_innermost, with_case, case_in, flow_with_case, with_default, defaulted_in, flow_with_default, flow_default, is_met, label_of, with_label, with_new_label}
+use Rattle.c_types_statement_rules.specs.BodyFlow.{FlowView, SwitchView, innermost, case_in, defaulted_in, flow_with_default, flow_default, is_met, label_of, with_new_label}
 use Rattle.c_types_statement_rules.specs.Points.{Point, point}
 use Rattle.c_types_statement_rules.specs.SimpleStatements as simple
 use Rattle.c_types_statement_rules.specs.CompoundStatements as compound
@@ -49,13 +46,14 @@ use Rattle.c_types_marks.specs.MadeTerms.{IsMade, IsMadeOperand}
 use Rattle.c_types_marks.specs.UnitParts.{IsPartOf}
 use Rattle.c_types_marks.specs.ProperTrees.{IsProperTree}
 use Rattle.c_types_marks.specs.ProperStatements.{IsProperIf, IsProperLocal, IsProperFirst, IsProperStatement, AreProperStatements}
-use Rattle.c_types_marks_statements.specs.ReadyStates.{IsReady, Goes}
-use Rattle.c_types_marks_statements.specs.MarkedBodies.{HasLaws, AreMarkedParts}
-use Rattle.c_types_marks_statements.proofs.Going.{IsPassed, ground, then}
-use Rattle.c_types_marks_statements.proofs.Going as going
-use Rattle.c_types_marks_statements.proofs.ReadySteps.{scoped_ready, scoped_passes, named_ready, constant_ready, constant_passes}
-use Rattle.c_types_marks_statements.proofs.Initializing.{GivesScalar, typed_goes, value_made, term_given}
-use Rattle.c_types_marks_statements.proofs.Declaring.{both, marked_more, Adds, local_adds}
+use Rattle.c_types_marks_initializers.specs.ReadyStates.{IsReady, Goes}
+use Rattle.c_types_marks_initializers.specs.PartLaws.{HasLaws}
+use Rattle.c_types_marks_initializers.specs.MarkedDeclarations.{AreMarkedParts}
+use Rattle.c_types_marks_initializers.proofs.Going.{IsPassed, ground, then}
+use Rattle.c_types_marks_initializers.proofs.Going as going
+use Rattle.c_types_marks_initializers.proofs.ReadySteps.{scoped_ready, scoped_passes, named_ready, constant_ready, constant_passes}
+use Rattle.c_types_marks_initializers.proofs.Initializing.{GivesScalar, typed_goes, value_made, term_given}
+use Rattle.c_types_marks_initializers.proofs.Declaring.{both, marked_more, Adds, local_adds}
 
 -- ---- conditions
 

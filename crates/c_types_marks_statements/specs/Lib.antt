@@ -1,2 +1,1 @@
-pub mod ReadyStates
 pub mod MarkedBodies

@@ -1,4 +1,4 @@
-//! What typing makes of statements, initializers and local declarations is marked.
+//! What typing makes of statements and bodies is marked.
 #![tactic(auto)]
 
 mod theorems;

@@ -29,13 +29,13 @@ use Rattle.c_types_laws_stores.proofs.Types.{type_is}
 use Rattle.c_types_marks.specs.ModelTypes.{IsTypeOf, Each}
 use Rattle.c_types_marks.specs.ProperStatements.{AreProperLayers, AreProperWords, IsProperInitializer, IsProperFunction, IsProperInitDeclarator, AreProperInitDeclarators}
 use Rattle.c_types_marks.specs.UnitParts.{IsPartOf}
-use Rattle.c_types_marks_statements.specs.MarkedBodies.{HasLaws}
-use Rattle.c_types_marks_statements.specs.ReadyStates.{IsReady, Goes}
-use Rattle.c_types_marks_statements.proofs.Declaring.{specifiers_go, declared_goes, static_goes}
-use Rattle.c_types_marks_statements.proofs.Going as going
-use Rattle.c_types_marks_statements.proofs.Going.{IsPassed}
-use Rattle.c_types_marks_statements.proofs.Initializing.{initializer_goes}
-use Rattle.c_types_marks_statements.proofs.ReadySteps.{named_ready, scoped_passes, static_type_ready, static_type_passes}
+use Rattle.c_types_marks_initializers.specs.PartLaws.{HasLaws}
+use Rattle.c_types_marks_initializers.specs.ReadyStates.{IsReady, Goes}
+use Rattle.c_types_marks_initializers.proofs.Declaring.{specifiers_go, declared_goes, static_goes}
+use Rattle.c_types_marks_initializers.proofs.Going as going
+use Rattle.c_types_marks_initializers.proofs.Going.{IsPassed}
+use Rattle.c_types_marks_initializers.proofs.Initializing.{initializer_goes}
+use Rattle.c_types_marks_initializers.proofs.ReadySteps.{named_ready, scoped_passes, static_type_ready, static_type_passes}
 use Rattle.c_types_marks_units.proofs.FileSteps.{static_more_ready, static_more_passes, declaration_ready, declaration_passes, enumerated_ready, enumerated_passes, initialized_ready, initialized_passes, typedef_ready, typedef_passes}
 
 -- ---- the type of two declarations
@@ -149,7 +149,7 @@ module _ (laws : HasLaws) (m : Model) where
       choose s (is_library_name n.text) (redeclared n.at) (external.object_by (number_in s.scopes.names n.text) n d t) tt
       (on s t (external.object_by (number_in s.scopes.names n.text) n d t) (name_passes s n.text) (object_runs (number_in s.scopes.names n.text) n d t (found_here s.scopes (number_in s.scopes.names n.text)) (named_ready m s ready n.text) typed))
 
-  declared_object_runs : (s : State) (base : SpecifiedView) (n : NameView) (layers : List DeclaratorLayerView) (has : Bool) → IsReady m s → IsTypeOf m base.declared.ctype → AreProperLayers m layers → Runs s (external.declared_object s base n layers has)
+  pub declared_object_runs : (s : State) (base : SpecifiedView) (n : NameView) (layers : List DeclaratorLayerView) (has : Bool) → IsReady m s → IsTypeOf m base.declared.ctype → AreProperLayers m layers → Runs s (external.declared_object s base n layers has)
   declared_object_runs s base n layers has ready typed proper =
       steps s (λ (d : DeclaredView). IsTypeOf m d.ctype) (declared_type s n.at base.declared layers) (external.object_in n base.storage has) (declared_goes laws m s n.at base.declared layers ready typed proper)
       (λ d t there is. choose t (objects.may_be_object t.known d.ctype base.storage has) (external.object_named n d t) _ (named_runs n d t there is) tt)
@@ -158,7 +158,7 @@ module _ (laws : HasLaws) (m : Model) where
   initializer_runs at equals i index s None there ready proper = tt
   initializer_runs at equals i index s (Some o) there ready proper = static_goes laws m s at index (number_or o.number) equals o.declared.ctype i ready proper (own s o.declared.ctype ready (ready.types.objects index o there))
 
-  object_initializer_runs : (at equals : Place) (i : InitializerTree) (index : ℕ) (s : State) → IsReady m s → IsProperInitializer m i → Runs s (external.object_initializer at equals i index s)
+  pub object_initializer_runs : (at equals : Place) (i : InitializerTree) (index : ℕ) (s : State) → IsReady m s → IsProperInitializer m i → Runs s (external.object_initializer at equals i index s)
   object_initializer_runs at equals i index s ready proper =
       let t : State = objects.with_initialized index s in
       choose s (objects.is_initialized s index) _ (external.initializer_at at equals i index t) tt
@@ -169,7 +169,7 @@ module _ (laws : HasLaws) (m : Model) where
   typedef_by_runs : (name : ℕ) (n : NameView) (d : DeclaredView) (s : State) → IsReady m s → IsTypeOf m d.ctype → Runs s (external.typedef_by name n d s)
   typedef_by_runs name n d s ready typed = choose s (external.is_taken name n.text s) _ _ tt (done {V = Unit {0}} s (external.with_typedef name d s) tt (typedef_passes s name d) (typedef_ready m s ready name d typed))
 
-  typedef_runs : (s : State) (base : SpecifiedView) (at : Place) (d : InitDeclaratorView) → IsReady m s → IsTypeOf m base.declared.ctype → IsProperInitDeclarator m d → Runs s (external.typedef_declarator s base at d)
+  pub typedef_runs : (s : State) (base : SpecifiedView) (at : Place) (d : InitDeclaratorView) → IsReady m s → IsTypeOf m base.declared.ctype → IsProperInitDeclarator m d → Runs s (external.typedef_declarator s base at d)
   typedef_runs s base at (Object d) ready typed proper = by_name d.name
     where
       by_name : (n : Option NameView) → Runs s (external.typedef_named s base at n d.layers)

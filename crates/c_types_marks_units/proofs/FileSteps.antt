@@ -20,11 +20,11 @@ use Rattle.c_types_laws_units.proofs.Kept.{front_stays}
 use Rattle.c_types_marks.specs.ModelTypes.{IsTypeOf, Each}
 use Rattle.c_types_marks.specs.KnownTypes.{HasTypes, IsMeaning, HasResult, HasParameters}
 use Rattle.c_types_marks.specs.UnitParts.{IsPartOf}
-use Rattle.c_types_marks_statements.specs.ReadyStates.{IsReady}
-use Rattle.c_types_marks_statements.proofs.Going.{IsPassed}
-use Rattle.c_types_marks_statements.proofs.ReadySteps.{each_more, each_changed, changed_there}
+use Rattle.c_types_marks_initializers.specs.ReadyStates.{IsReady}
+use Rattle.c_types_marks_initializers.proofs.Going.{IsPassed}
+use Rattle.c_types_marks_initializers.proofs.ReadySteps.{each_more, each_changed, changed_there}
 
-no_item : {A P : Type 0} (x : A) → None ≡ Some x → P
+pub no_item : {A P : Type 0} (x : A) → None ≡ Some x → P
 no_item x e = absurd (let d : ⊥ = cc in d)
 
 module _ (m : Model) (s : State) (h : IsReady m s) where
@@ -52,7 +52,7 @@ module _ (m : Model) (s : State) (h : IsReady m s) where
       fields = h.types.fields;
       meanings = h.types.meanings;
     };
-    layouts = record { wide = h.layouts.wide; settled = h.layouts.settled; bodies = h.layouts.bodies; laid = h.layouts.laid };
+    layouts = record { proper = h.layouts.proper; settled = h.layouts.settled; bodies = h.layouts.bodies; laid = h.layouts.laid };
   }
 
   pub streamed_ready : (n : ℕ) → IsReady m (record s { stream = n })
@@ -70,7 +70,7 @@ module _ (m : Model) (s : State) (h : IsReady m s) where
       fields = h.types.fields;
       meanings = h.types.meanings;
     };
-    layouts = record { wide = h.layouts.wide; settled = h.layouts.settled; bodies = h.layouts.bodies; laid = h.layouts.laid };
+    layouts = record { proper = h.layouts.proper; settled = h.layouts.settled; bodies = h.layouts.bodies; laid = h.layouts.laid };
   }
 
   pub bare_ready : (b : BodyView) → b.locals ≡ [] → IsReady m (record s { body = b })
@@ -88,7 +88,7 @@ module _ (m : Model) (s : State) (h : IsReady m s) where
       fields = h.types.fields;
       meanings = h.types.meanings;
     };
-    layouts = record { wide = h.layouts.wide; settled = h.layouts.settled; bodies = h.layouts.bodies; laid = h.layouts.laid };
+    layouts = record { proper = h.layouts.proper; settled = h.layouts.settled; bodies = h.layouts.bodies; laid = h.layouts.laid };
   }
 
   pub numbered_ready : (n : ℕ) → IsReady m (record s { body = record s.body { number = n } })
@@ -106,7 +106,7 @@ module _ (m : Model) (s : State) (h : IsReady m s) where
       fields = h.types.fields;
       meanings = h.types.meanings;
     };
-    layouts = record { wide = h.layouts.wide; settled = h.layouts.settled; bodies = h.layouts.bodies; laid = h.layouts.laid };
+    layouts = record { proper = h.layouts.proper; settled = h.layouts.settled; bodies = h.layouts.bodies; laid = h.layouts.laid };
   }
 
   -- ---- objects
@@ -126,7 +126,7 @@ module _ (m : Model) (s : State) (h : IsReady m s) where
       fields = h.types.fields;
       meanings = h.types.meanings;
     };
-    layouts = record { wide = h.layouts.wide; settled = h.layouts.settled; bodies = h.layouts.bodies; laid = h.layouts.laid };
+    layouts = record { proper = h.layouts.proper; settled = h.layouts.settled; bodies = h.layouts.bodies; laid = h.layouts.laid };
   }
 
   pub declaration_ready : (name : ℕ) (o : ObjectView) → IsTypeOf m o.declared.ctype → IsReady m (objects.with_declaration name o s)
@@ -144,7 +144,7 @@ module _ (m : Model) (s : State) (h : IsReady m s) where
       fields = h.types.fields;
       meanings = meaning_more (meaning.Static (length s.objects)) (λ k is. cc);
     };
-    layouts = record { wide = h.layouts.wide; settled = h.layouts.settled; bodies = h.layouts.bodies; laid = h.layouts.laid };
+    layouts = record { proper = h.layouts.proper; settled = h.layouts.settled; bodies = h.layouts.bodies; laid = h.layouts.laid };
   }
 
   pub enumerated_ready : (index : ℕ) (e : Option ℕ) → IsReady m (objects.with_enumeration index e s)
@@ -162,7 +162,7 @@ module _ (m : Model) (s : State) (h : IsReady m s) where
       fields = h.types.fields;
       meanings = h.types.meanings;
     };
-    layouts = record { wide = h.layouts.wide; settled = h.layouts.settled; bodies = h.layouts.bodies; laid = h.layouts.laid };
+    layouts = record { proper = h.layouts.proper; settled = h.layouts.settled; bodies = h.layouts.bodies; laid = h.layouts.laid };
   }
 
   pub initialized_ready : (index : ℕ) → IsReady m (objects.with_initialized index s)
@@ -180,7 +180,7 @@ module _ (m : Model) (s : State) (h : IsReady m s) where
       fields = h.types.fields;
       meanings = h.types.meanings;
     };
-    layouts = record { wide = h.layouts.wide; settled = h.layouts.settled; bodies = h.layouts.bodies; laid = h.layouts.laid };
+    layouts = record { proper = h.layouts.proper; settled = h.layouts.settled; bodies = h.layouts.bodies; laid = h.layouts.laid };
   }
 
   -- ---- typedef names
@@ -200,7 +200,7 @@ module _ (m : Model) (s : State) (h : IsReady m s) where
       fields = h.types.fields;
       meanings = meaning_more (meaning.Typedef (length s.typedefs)) (λ k is. cc);
     };
-    layouts = record { wide = h.layouts.wide; settled = h.layouts.settled; bodies = h.layouts.bodies; laid = h.layouts.laid };
+    layouts = record { proper = h.layouts.proper; settled = h.layouts.settled; bodies = h.layouts.bodies; laid = h.layouts.laid };
   }
 
   -- ---- functions
@@ -220,7 +220,7 @@ module _ (m : Model) (s : State) (h : IsReady m s) where
       fields = h.types.fields;
       meanings = meaning_more (meaning.Function (length s.functions)) (λ k is. cc);
     };
-    layouts = record { wide = h.layouts.wide; settled = h.layouts.settled; bodies = h.layouts.bodies; laid = h.layouts.laid };
+    layouts = record { proper = h.layouts.proper; settled = h.layouts.settled; bodies = h.layouts.bodies; laid = h.layouts.laid };
   }
 
   pub given_ready : (number : ℕ) (d : DeclaredView) (ts : List Ty) → IsTypeOf m d.ctype → Each (IsTypeOf m) ts → IsReady m (functions.with_given number d ts s)
@@ -238,7 +238,7 @@ module _ (m : Model) (s : State) (h : IsReady m s) where
       fields = h.types.fields;
       meanings = h.types.meanings;
     };
-    layouts = record { wide = h.layouts.wide; settled = h.layouts.settled; bodies = h.layouts.bodies; laid = h.layouts.laid };
+    layouts = record { proper = h.layouts.proper; settled = h.layouts.settled; bodies = h.layouts.bodies; laid = h.layouts.laid };
   }
 
   pub result_ready : (number : ℕ) (d : DeclaredView) → IsTypeOf m d.ctype → IsReady m (functions.with_result number d s)
@@ -256,7 +256,7 @@ module _ (m : Model) (s : State) (h : IsReady m s) where
       fields = h.types.fields;
       meanings = h.types.meanings;
     };
-    layouts = record { wide = h.layouts.wide; settled = h.layouts.settled; bodies = h.layouts.bodies; laid = h.layouts.laid };
+    layouts = record { proper = h.layouts.proper; settled = h.layouts.settled; bodies = h.layouts.bodies; laid = h.layouts.laid };
   }
 
   pub met_ready : (number : ℕ) → IsReady m (functions.with_defined s number)
@@ -274,7 +274,7 @@ module _ (m : Model) (s : State) (h : IsReady m s) where
       fields = h.types.fields;
       meanings = h.types.meanings;
     };
-    layouts = record { wide = h.layouts.wide; settled = h.layouts.settled; bodies = h.layouts.bodies; laid = h.layouts.laid };
+    layouts = record { proper = h.layouts.proper; settled = h.layouts.settled; bodies = h.layouts.bodies; laid = h.layouts.laid };
   }
 
 -- ---- what is part of later states

@@ -1,11 +1,11 @@
 -- Steps of declarations that leave a state ready, which is part of what comes then.
 use Rattle.std.proofs.Common.{◌≡◌, ◌<◌, ℕ, zero, suc, List, [], ◌∷◌, ◌++◌, Option, Some, None, slice_get, length, arith, refl, ap, subst, sym, ◌∙◌, inl, inr}
-use Rattle.std.specs.Prelude.{◌⊎◌, is_some, slice_set, true}
+use Rattle.std.specs.Prelude.{◌⊎◌, slice_set}
 use Rattle.std.proofs.lemmas.Bool.{cases_eq}
 use Rattle.std.proofs.lemmas.Option.{slice_get_within}
 use Rattle.c_layout.specs.Types.{Ty}
 use Rattle.c_layout.specs.CheckedTrees.{TermTree}
-use Rattle.c_layout.specs.CheckedUnits.{UnitView, LocalView, StaticView, StaticStoreView}
+use Rattle.c_layout.specs.CheckedUnits.{LocalView, StaticView, StaticStoreView}
 use Rattle.c_layout.specs.DeclarationTrees.{NameView}
 use Rattle.c_layout.specs.declared.data_model.Model.{Model}
 use Rattle.c_types_scopes.specs.DeclaredTypes.{DeclaredView, ObjectView}
@@ -14,15 +14,14 @@ use Rattle.c_types_scopes.specs.States.{State, with_name, with_constant}
 use Rattle.c_types_scopes.specs.declared.meanings.Meaning.{Meaning}
 use Rattle.c_types_scopes.specs.declared.meanings.Meaning.TheVariants as meaning
 use Rattle.c_types_objects.specs.Changes.{changed, changed_at}
-use Rattle.c_types_objects.specs.LocalObjects.{typed_local, typed_object, typed_static, static_declaration, with_automatic, with_static_object, with_local_type, with_object_type, with_run_type, with_static_type}
+use Rattle.c_types_objects.specs.LocalObjects.{typed_local, typed_object, typed_static, static_declaration, with_automatic, with_static_object, with_local_type, with_static_type}
 use Rattle.c_types_statements.specs.StaticInitializers.{stored_static, with_stores}
 use Rattle.c_types_laws_units.proofs.Kept.{appended_is, front_stays, set_other}
 use Rattle.c_types_laws_units.proofs.Bodies.{changed_is}
 use Rattle.c_types_marks.specs.ModelTypes.{IsTypeOf, Each}
-use Rattle.c_types_marks.specs.KnownTypes.{HasTypes, IsMeaning}
-use Rattle.c_types_marks.specs.UnitParts.{IsPartOf}
-use Rattle.c_types_marks_statements.specs.ReadyStates.{IsReady}
-use Rattle.c_types_marks_statements.proofs.Going.{IsPassed}
+use Rattle.c_types_marks.specs.KnownTypes.{IsMeaning}
+use Rattle.c_types_marks_initializers.specs.ReadyStates.{IsReady}
+use Rattle.c_types_marks_initializers.proofs.Going.{IsPassed}
 
 -- ---- lists
 
@@ -65,7 +64,7 @@ module _ (m : Model) (s : State) (h : IsReady m s) where
     numbers = h.numbers;
     evaluated = h.evaluated;
     types = record { proper = h.types.proper; objects = h.types.objects; locals = h.types.locals; statics = h.types.statics; typedefs = h.types.typedefs; results = h.types.results; parameters = h.types.parameters; fields = h.types.fields; meanings = subst (λ ms. Each (IsMeaning s.known) ms) (sym same) h.types.meanings };
-    layouts = record { wide = h.layouts.wide; settled = h.layouts.settled; bodies = h.layouts.bodies; laid = h.layouts.laid };
+    layouts = record { proper = h.layouts.proper; settled = h.layouts.settled; bodies = h.layouts.bodies; laid = h.layouts.laid };
   }
 
   pub named_ready : (text : List ℕ) → IsReady m (with_name s text)
@@ -76,7 +75,7 @@ module _ (m : Model) (s : State) (h : IsReady m s) where
     numbers = h.numbers;
     evaluated = h.evaluated;
     types = record { proper = h.types.proper; objects = h.types.objects; locals = h.types.locals; statics = h.types.statics; typedefs = h.types.typedefs; results = h.types.results; parameters = h.types.parameters; fields = h.types.fields; meanings = h.types.meanings };
-    layouts = record { wide = h.layouts.wide; settled = h.layouts.settled; bodies = h.layouts.bodies; laid = h.layouts.laid };
+    layouts = record { proper = h.layouts.proper; settled = h.layouts.settled; bodies = h.layouts.bodies; laid = h.layouts.laid };
   }
 
   -- a meaning that is no enumerator
@@ -98,7 +97,7 @@ module _ (m : Model) (s : State) (h : IsReady m s) where
       fields = h.types.fields;
       meanings = meaning_more (meaning.Local (length s.body.locals)) (λ k is. cc);
     };
-    layouts = record { wide = h.layouts.wide; settled = h.layouts.settled; bodies = h.layouts.bodies; laid = h.layouts.laid };
+    layouts = record { proper = h.layouts.proper; settled = h.layouts.settled; bodies = h.layouts.bodies; laid = h.layouts.laid };
   }
 
   pub static_ready : (n : NameView) (d : DeclaredView) → IsTypeOf m d.ctype → IsReady m (with_static_object n d s)
@@ -116,7 +115,7 @@ module _ (m : Model) (s : State) (h : IsReady m s) where
       fields = h.types.fields;
       meanings = meaning_more (meaning.Static (length s.objects)) (λ k is. cc);
     };
-    layouts = record { wide = h.layouts.wide; settled = h.layouts.settled; bodies = h.layouts.bodies; laid = h.layouts.laid };
+    layouts = record { proper = h.layouts.proper; settled = h.layouts.settled; bodies = h.layouts.bodies; laid = h.layouts.laid };
   }
 
   pub local_type_ready : (number : ℕ) (t : Ty) → IsTypeOf m t → IsReady m (with_local_type number t s)
@@ -134,7 +133,7 @@ module _ (m : Model) (s : State) (h : IsReady m s) where
       fields = h.types.fields;
       meanings = h.types.meanings;
     };
-    layouts = record { wide = h.layouts.wide; settled = h.layouts.settled; bodies = h.layouts.bodies; laid = h.layouts.laid };
+    layouts = record { proper = h.layouts.proper; settled = h.layouts.settled; bodies = h.layouts.bodies; laid = h.layouts.laid };
   }
 
   pub static_type_ready : (index number : ℕ) (t : Ty) → IsTypeOf m t → IsReady m (with_static_type index number t s)
@@ -152,7 +151,7 @@ module _ (m : Model) (s : State) (h : IsReady m s) where
       fields = h.types.fields;
       meanings = h.types.meanings;
     };
-    layouts = record { wide = h.layouts.wide; settled = h.layouts.settled; bodies = h.layouts.bodies; laid = h.layouts.laid };
+    layouts = record { proper = h.layouts.proper; settled = h.layouts.settled; bodies = h.layouts.bodies; laid = h.layouts.laid };
   }
 
   pub stores_ready : (number : ℕ) (stores : List StaticStoreView) → IsReady m (with_stores number stores s)
@@ -170,7 +169,7 @@ module _ (m : Model) (s : State) (h : IsReady m s) where
       fields = h.types.fields;
       meanings = h.types.meanings;
     };
-    layouts = record { wide = h.layouts.wide; settled = h.layouts.settled; bodies = h.layouts.bodies; laid = h.layouts.laid };
+    layouts = record { proper = h.layouts.proper; settled = h.layouts.settled; bodies = h.layouts.bodies; laid = h.layouts.laid };
   }
 
 -- ---- what is part of later states

@@ -4,7 +4,6 @@ use Rattle.std.specs.Prelude.{Bool, true, false, cond}
 use Rattle.cc_base.specs.declared.diagnostics.Place.{Place}
 use Rattle.cc_base.specs.declared.refusals.Fault.{Fault}
 use Rattle.c_layout.specs.Types.{Ty, same_type}
-use Rattle.c_layout.specs.StructViews.{StructView}
 use Rattle.c_layout.specs.SyntaxTrees as syntax
 use Rattle.c_layout.specs.SyntaxTrees.{Tree}
 use Rattle.c_layout.specs.DeclarationTrees as tree
@@ -22,10 +21,10 @@ use Rattle.c_types_operands.specs.Operands as operands
 use Rattle.c_types_operands.specs.Conversions.{assigned}
 use Rattle.c_types_operators.specs.Assignments.{struct_source, source_form}
 use Rattle.c_types_expressions.specs.Expressions.{typed}
-use Rattle.c_types_initializers.specs.Subobjects.{SubobjectView, OpenView, entered, next, subobject, passed}
-use Rattle.c_types_initializers.specs.Literals.{bare_literal, character_room, only_literal, literal_item, literal_length, length_or, with_length}
+use Rattle.c_types_initializers.specs.Subobjects.{SubobjectView, OpenView, entered, next, subobject}
+use Rattle.c_types_initializers.specs.Literals.{bare_literal, character_room, only_literal, literal_length}
 use Rattle.c_types_initializers.specs.ListStores.{FillingView, nothing, scalar_of, copy_of, with_found, takes_value, takes_text, sought}
-use Rattle.c_types_initializers.specs.Initialized.{InitializedView, ByTerm, ByLvalue, ByStores, scalar_by, struct_by, by_operand, spelled, filled_by}
+use Rattle.c_types_initializers.specs.Initialized.{InitializedView, scalar_by, struct_by, by_operand, spelled, filled_by}
 use Rattle.c_types_braced_lists.specs.BracedLists as lists
 use Rattle.c_types_braced_lists.specs.Initializers as spec
 use Rattle.flow_lower_tasks.specs.TermKinds.{term_type}
@@ -40,33 +39,18 @@ use Rattle.c_types_marks.specs.ProperStatements.{IsProperInitializer, AreProperI
 use Rattle.c_types_marks.specs.TypingLaws.{MakesOperand}
 use Rattle.c_types_marks_tests.proofs.ModelKinds.{scalar_there}
 use Rattle.c_types_marks_layouts.proofs.Expressing.{expressions_lay}
-use Rattle.c_types_marks_statements.specs.ReadyStates.{IsReady, Goes}
-use Rattle.c_types_marks_statements.specs.MarkedBodies.{HasLaws}
-use Rattle.c_types_marks_statements.proofs.Going.{Rules, unit_type, ground, then, kept_goes, cond_goes, led_goes}
-use Rattle.c_types_marks_statements.proofs.Going as going
-use Rattle.c_types_marks_statements.proofs.TypedSubobjects.{FieldsTyped, AreTyped, IsTypedFound, length_typed, next_typed, sought_typed}
+use Rattle.c_types_marks_initializers.specs.ReadyStates.{IsReady, Goes}
+use Rattle.c_types_marks_initializers.specs.PartLaws.{HasLaws}
+use Rattle.c_types_marks_initializers.specs.MarkedInitializers.{AreValued, IsValued, IsInitial}
+use Rattle.c_types_marks_initializers.proofs.Going.{unit_type, ground, then, cond_goes, led_goes}
+use Rattle.c_types_marks_initializers.proofs.Going as going
+use Rattle.c_types_marks_initializers.proofs.TypedSubobjects.{FieldsTyped, AreTyped, length_typed, next_typed, sought_typed}
 
 -- ---- stores
-
--- of values that are marked, or of bytes
-abbrev pub IsValued : UnitView → StoreTree → Type 0
-IsValued u (StoreValue offset e) = (is_marked_term u true e ≡ true) × (is_scalar_type u (term_type e) ≡ true)
-IsValued u (StoreCopy offset l) = is_marked_place u l ≡ true
-IsValued u (StoreText offset room text) = are_bytes text ≡ true
-
-abbrev pub AreValued : UnitView → List StoreTree → Type 0
-AreValued u [] = Unit {0}
-AreValued u (x ∷ xs) = IsValued u x × AreValued u xs
 
 valued_more : (u : UnitView) (xs : List StoreTree) (x : StoreTree) → AreValued u xs → IsValued u x → AreValued u (xs ++ x ∷ [])
 valued_more u [] x all one = (one, tt)
 valued_more u (y ∷ xs) x all one = (all.0, valued_more u xs x all.1 one)
-
--- what an initializer does
-abbrev pub IsInitial : UnitView → InitializedView → Type 0
-IsInitial u (ByTerm e) = (is_marked_term u true e ≡ true) × (is_scalar_type u (term_type e) ≡ true)
-IsInitial u (ByLvalue l) = is_marked_place u l ≡ true
-IsInitial u (ByStores xs) = AreValued u xs
 
 -- a value of a scalar type, where it is not refused
 abbrev pub GivesScalar : UnitView → Ruled TermTree → Type 0

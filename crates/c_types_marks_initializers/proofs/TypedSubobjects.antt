@@ -1,5 +1,5 @@
 -- The subobjects of objects whose types are of a data model have such types.
-use Rattle.std.proofs.Common.{◌≡◌, ℕ, zero, suc, Bool, true, false, List, [], ◌∷◌, Option, Some, None, slice_get, refl, ap, subst, sym, ◌∙◌}
+use Rattle.std.proofs.Common.{◌≡◌, ℕ, zero, suc, Bool, true, false, List, [], ◌∷◌, Option, Some, None, slice_get, refl, subst}
 use Rattle.std.specs.Prelude.{cond, option_map}
 use Rattle.std.proofs.lemmas.Option.{same_Some}
 use Rattle.c_layout.specs.Types.{Ty, Int, Pointer, Array, Struct, Void}

@@ -12,7 +12,7 @@ use Rattle.c_types_marks.specs.ModelTypes.{IsTypeOf, IsGround}
 use Rattle.c_types_marks.specs.UnitParts.{IsPartOf}
 use Rattle.c_types_marks.specs.TypingLaws.{LeadsOn}
 use Rattle.c_types_marks_layouts.specs.LaidStructs.{LaidBehind}
-use Rattle.c_types_marks_statements.specs.ReadyStates.{IsReady, Goes}
+use Rattle.c_types_marks_initializers.specs.ReadyStates.{IsReady, Goes}
 
 -- a state is part of the units that come of a later one
 abbrev pub IsPassed : State → State → Type 0

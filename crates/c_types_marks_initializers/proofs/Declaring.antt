@@ -1,18 +1,17 @@
 -- What typing makes of declarations in blocks is marked.
-use Rattle.std.proofs.Common.{◌≡◌, ◌≤◌, ◌^◌, ◌-◌, ◌*◌, ℕ, List, [], ◌∷◌, ◌++◌, length, Option, Some, None, Ok, Err, arith, refl, ap, subst, sym, ◌∙◌, inl, inr}
-use Rattle.std.specs.Prelude.{Bool, true, false, ◌&&◌, ◌||◌, ◌==◌, cond, nat_le}
+use Rattle.std.proofs.Common.{◌≡◌, ◌≤◌, ◌^◌, ◌-◌, ◌*◌, ℕ, List, [], ◌∷◌, ◌++◌, length, Option, Some, None, Ok, Err, arith, refl, subst, sym, inl, inr}
+use Rattle.std.specs.Prelude.{◌⊎◌, Bool, true, false, ◌&&◌, cond, nat_le}
 use Rattle.std.specs.List.{list_all}
-use Rattle.std.proofs.lemmas.Bool.{and_parts, eqb-true, le-leb}
+use Rattle.std.proofs.lemmas.Bool.{and_parts, le-leb}
 use Rattle.cc_base.specs.declared.diagnostics.Place.{Place}
-use Rattle.c_layout.specs.Models.{is_model, short_fits, int_fits, long_fits, long_long_fits, pointer_fits}
+use Rattle.c_layout.specs.Models.{is_model}
 use Rattle.c_layout.specs.Types.{Ty}
 use Rattle.c_layout.specs.CheckedTrees as made
-use Rattle.c_layout.specs.CheckedTrees.{TermTree, StatementTree, StoreTree, StoreValue, StoreCopy, StoreText, statement_trees}
+use Rattle.c_layout.specs.CheckedTrees.{StatementTree, StoreTree, StoreValue, StoreCopy, StoreText, statement_trees}
 use Rattle.c_layout.specs.CheckedUnits.{FunctionView, StaticStoreView, UnitView}
 use Rattle.c_layout.specs.DeclarationTrees.{NameView, DeclaratorLayerView, InitializerTree, InitDeclaratorView, Object, Initialized, Prototype, LocalView, SpecTrees, spec_trees}
 use Rattle.c_layout.specs.declared.data_model.Model.{Model}
 use Rattle.c_types_scopes.specs.DeclaredTypes.{DeclaredView}
-use Rattle.c_types_scopes.specs.Known.{Known, size_of}
 use Rattle.c_types_scopes.specs.Names.{number_in, found_here}
 use Rattle.c_types_scopes.specs.Refusals.{Ruled, type_fault}
 use Rattle.c_types_scopes.specs.Answers.{after, kept}
@@ -39,16 +38,19 @@ use Rattle.c_types_marks.specs.ModelTypes.{IsTypeOf}
 use Rattle.c_types_marks.specs.UnitParts.{IsPartOf}
 use Rattle.c_types_marks.specs.ProperStatements.{AreProperLayers, AreProperSpecs, IsProperInitializer, IsProperInitDeclarator, AreProperInitDeclarators, IsProperLocal}
 use Rattle.c_types_marks_types.specs.TypeLaws.{HasSpecified, HasDeclared}
-use Rattle.c_types_marks_layouts.specs.LaidStructs.{IsNear, AreNear}
+use Rattle.c_types_marks_layouts.specs.LaidStructs.{AreNear}
+use Rattle.c_types_marks_layouts.proofs.Laying.{pointer_is}
 use Rattle.c_types_marks_layouts.proofs.Declaring.{declarators_lay}
 use Rattle.c_types_marks_layouts.proofs.Specifying.{specifiers_lay}
 use Rattle.c_types_marks_layouts.proofs.NearStores.{stores_are_near}
-use Rattle.c_types_marks_statements.specs.ReadyStates.{IsReady, Goes}
-use Rattle.c_types_marks_statements.specs.MarkedBodies.{HasLaws, AreMarkedParts}
-use Rattle.c_types_marks_statements.proofs.Going.{IsPassed, Rules, ground, onward, then, weaker, kept_goes, cond_goes, led_goes}
-use Rattle.c_types_marks_statements.proofs.Going as going
-use Rattle.c_types_marks_statements.proofs.ReadySteps.{scoped_passes, named_ready, constant_ready, constant_passes, automatic_ready, automatic_passes, static_ready, static_passes, local_type_ready, local_type_passes, static_type_ready, static_type_passes, stores_ready, stores_pass}
-use Rattle.c_types_marks_statements.proofs.Initializing.{IsValued, AreValued, IsInitial, Initializes, initializer_goes}
+use Rattle.c_types_marks_initializers.specs.ReadyStates.{IsReady, Goes}
+use Rattle.c_types_marks_initializers.specs.PartLaws.{HasLaws}
+use Rattle.c_types_marks_initializers.specs.MarkedDeclarations.{AreMarkedParts}
+use Rattle.c_types_marks_initializers.proofs.Going.{IsPassed, Rules, ground, onward, then, weaker, kept_goes, cond_goes, led_goes}
+use Rattle.c_types_marks_initializers.proofs.Going as going
+use Rattle.c_types_marks_initializers.proofs.ReadySteps.{scoped_passes, named_ready, constant_ready, constant_passes, automatic_ready, automatic_passes, static_ready, static_passes, local_type_ready, local_type_passes, static_type_ready, static_type_passes, stores_ready, stores_pass}
+use Rattle.c_types_marks_initializers.specs.MarkedInitializers.{AreValued, IsInitial}
+use Rattle.c_types_marks_initializers.proofs.Initializing.{Initializes, initializer_goes}
 
 -- ---- lists
 
@@ -65,24 +67,12 @@ marked_more u f (y ∷ xs) x all one =
 
 -- ---- sizes
 
-or_either : (a b : Bool) (A : Type 0) → (a || b) ≡ true → (a ≡ true → A) → (b ≡ true → A) → A
-or_either true b A h f g = f refl
-or_either false b A h f g = g h
-
-room_of : (n : ℕ) → n ≡ 4 → 2 ^ 30 ≤ 2 ^ (8 * n - 1) - 1
-room_of n is = subst (λ k. 2 ^ 30 ≤ 2 ^ (8 * k - 1) - 1) (sym is) (omega arith)
-
-wide_room_of : (n : ℕ) → n ≡ 8 → 2 ^ 30 ≤ 2 ^ (8 * n - 1) - 1
-wide_room_of n is = subst (λ k. 2 ^ 30 ≤ 2 ^ (8 * k - 1) - 1) (sym is) (omega arith)
+room_of : (n : ℕ) → (n ≡ 4) ⊎ (n ≡ 8) → 2 ^ 30 ≤ 2 ^ (8 * n - 1) - 1
+room_of n (inl four) = subst (λ k. 2 ^ 30 ≤ 2 ^ (8 * k - 1) - 1) (sym four) (omega arith)
+room_of n (inr eight) = subst (λ k. 2 ^ 30 ≤ 2 ^ (8 * k - 1) - 1) (sym eight) (omega arith)
 
 pub most_room : (m : Model) → is_model m ≡ true → 2 ^ 30 ≤ most_size m
-most_room m h =
-    let a = and_parts (short_fits m.short) (int_fits m.int && (long_fits m.long && (long_long_fits m.long_long && pointer_fits m.int m.long m.long_long m.pointer))) h in
-    let b = and_parts (int_fits m.int) (long_fits m.long && (long_long_fits m.long_long && pointer_fits m.int m.long m.long_long m.pointer)) a.1 in
-    let c = and_parts (long_fits m.long) (long_long_fits m.long_long && pointer_fits m.int m.long m.long_long m.pointer) b.1 in
-    let d = and_parts (long_long_fits m.long_long) (pointer_fits m.int m.long m.long_long m.pointer) c.1 in
-    let e = and_parts (m.pointer == 4 || m.pointer == 8) ((m.pointer == m.int || m.pointer == m.long) || m.pointer == m.long_long) d.1 in
-    or_either (m.pointer == 4) (m.pointer == 8) (2 ^ 30 ≤ most_size m) e.0 (λ is. room_of m.pointer (eqb-true m.pointer 4 is)) (λ is. wide_room_of m.pointer (eqb-true m.pointer 8 is))
+most_room m h = room_of m.pointer (pointer_is m h)
 
 near_fits : (u : UnitView) (offset : ℕ) → is_model u.model ≡ true → offset ≤ 2 ^ 30 → nat_le offset (most_size u.model) ≡ true
 near_fits u offset h near = le-leb offset (most_size u.model) (let room = most_room u.model h in omega (arith, room, near))

@@ -1,0 +1,5 @@
+pub mod Going
+pub mod ReadySteps
+pub mod TypedSubobjects
+pub mod Initializing
+pub mod Declaring

@@ -1,0 +1,6 @@
+//! What typing makes of initializers and local declarations is marked.
+#![tactic(auto)]
+
+mod theorems;
+
+pub use theorems::{declarations_are_marked, initializers_are_marked};
