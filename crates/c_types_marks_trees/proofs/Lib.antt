@@ -5,4 +5,5 @@ pub mod Statements
 pub mod Characters
 pub mod Constants
 pub mod Terminals
+pub mod Blocks
 pub mod Units

@@ -12,6 +12,7 @@ use Rattle.ref_machine_looks_units.specs.LookedStatements.{are_bytes}
 use Rattle.ref_machine_looks_units.specs.SmallUnits.{have_byte_texts}
 use Rattle.c_types_marks.specs.ProperTrees.{IsProperConstant}
 use Rattle.c_types_marks.specs.ProperStatements.{AreProperExternals}
+use Rattle.c_types_scoped.specs.BlockDeclarations.{UnitInBlocks}
 
 -- a terminal that is proper where it is a constant or a literal
 pub record IsProperTerminal (m : Model) (t : Terminal) : Type 0 where
@@ -24,3 +25,7 @@ AreProperTerminals m (t ∷ ts) = IsProperTerminal m t × AreProperTerminals m t
 
 abbrev pub TreesAreProper : Type 0
 TreesAreProper = (m : Model) (tokens : List Token) (es : List ExternalTree) → is_model m ≡ true → have_byte_texts tokens ≡ true → IsUnit m tokens es → AreProperExternals m es
+
+-- declarations in functions are items of blocks
+abbrev pub TreesDeclareInBlocks : Type 0
+TreesDeclareInBlocks = (m : Model) (tokens : List Token) (es : List ExternalTree) → IsUnit m tokens es → UnitInBlocks es

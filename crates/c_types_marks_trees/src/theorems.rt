@@ -1,7 +1,13 @@
-//! Trees of tokens that are of bytes.
-ghost use Rattle.c_types_marks_trees.specs.ByteTokens.{TreesAreProper};
+//! Trees that the grammar derives.
+ghost use Rattle.c_types_marks_trees.specs.ByteTokens.{TreesAreProper, TreesDeclareInBlocks};
 
-/// The constants of a unit have types of its data model, with their values, and its literals are of bytes.
+/// The constants of a unit whose tokens are of bytes have types of its data model, with their values, and its literals are
+/// of bytes.
 pub fn trees_are_proper()
     ensures { TreesAreProper }
+{}
+
+/// Declarations in functions are items of blocks, or first clauses of `for`.
+pub fn trees_declare_in_blocks()
+    ensures { TreesDeclareInBlocks }
 {}

@@ -216,6 +216,6 @@ module _ (laws : HasLaws) (heads_keep : HeadsKeep) (m : Model) where
   function_goes s at words f body ready specs proper statements =
       going.then m s (λ (b : SpecifiedView). IsTypeOf m b.declared.ctype) (λ u b. Unit {0}) (IsTypedFunction m) IsMarkedBody (specifiers s at false (spec_trees words)) (bodies.defined_by f (syntax.statement_trees body)) (specifiers_go laws m s at false (spec_trees words) ready specs)
       (λ b t there is.
-          going.weaker m t (IsTypedFunction m) IsMarkedBody (λ u y. Unit {0} → IsMarkedBody u y) (bodies.defined_by f (syntax.statement_trees body) b t)
-          (going.cond_goes m t (IsTypedFunction m) IsMarkedBody (is_typedef b.storage) (type_fault f.name.at) (bodies.defined f (syntax.statement_trees body) b t) tt (defined_goes t b f (syntax.statement_trees body) there is proper statements))
-          (λ u y body none. body))
+      going.weaker m t (IsTypedFunction m) IsMarkedBody (λ u y. Unit {0} → IsMarkedBody u y) (bodies.defined_by f (syntax.statement_trees body) b t)
+      (going.cond_goes m t (IsTypedFunction m) IsMarkedBody (is_typedef b.storage) (type_fault f.name.at) (bodies.defined f (syntax.statement_trees body) b t) tt (defined_goes t b f (syntax.statement_trees body) there is proper statements))
+      (λ u y body none. body))

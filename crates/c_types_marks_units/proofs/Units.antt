@@ -112,11 +112,11 @@ entry_entered : (u : UnitView) (f : FunctionView) → is_model u.model ≡ true 
 entry_entered u f proper typed at takes =
     ap (λ o. list_all (is_entered u) (parameters_of o)) at
     ∙ taken_entered u f.parameters f.locals (λ k l less there.
-        let i = takes f at k less in
-        let same : i.0 ≡ l = same_Some i.0 l (sym i.2 ∙ there) in
-        let is : l.ctype ≡ Int i.1 = ap (λ x. x.ctype) (sym same) ∙ i.3 in
-        let kind : IsTypeOf u.model (Int i.1) = subst (IsTypeOf u.model) is (typed.locals k l there) in
-        entered_by u l i.1 is (kind_there u.model proper i.1 kind))
+    let i = takes f at k less in
+    let same : i.0 ≡ l = same_Some i.0 l (sym i.2 ∙ there) in
+    let is : l.ctype ≡ Int i.1 = ap (λ x. x.ctype) (sym same) ∙ i.3 in
+    let kind : IsTypeOf u.model (Int i.1) = subst (IsTypeOf u.model) is (typed.locals k l there) in
+    entered_by u l i.1 is (kind_there u.model proper i.1 kind))
 
 has_its_entry : (u : UnitView) (f : FunctionView) → is_model u.model ≡ true → IsTypedFunction u.model f → function_at u u.entry ≡ Some f → TakesIntegers u → has_entry u ≡ true
 has_its_entry u f proper typed at takes = both (is_some (function_at u u.entry)) _ (ap is_some at) (entry_entered u f proper typed at takes)
