@@ -1,20 +1,15 @@
 -- Units that are typed from tokens, and looked at, pass the looks at their terms and scopes.
-use Rattle.std.proofs.Common.{List, subst}
-use Rattle.cc_base.specs.declared.lexemes.Token.{Token}
+use Rattle.std.proofs.Common.{subst}
 use Rattle.c_layout.specs.CheckedUnits.{unit_view}
-use Rattle.c_layout.specs.DeclarationTrees.{ExternalTree, unit_tree}
+use Rattle.c_layout.specs.DeclarationTrees.{unit_tree}
 use Rattle.c_layout.specs.declared.data_model.Model.{Model}
 use Rattle.c_parser.specs.Externals.{IsUnit}
-use Rattle.c_types_marks_trees.specs.ByteTokens.{TreesAreProper}
+use Rattle.c_types_marks_trees.specs.ByteTokens.{TreesAreProper, TreesDeclareInBlocks}
 use Rattle.c_types_marks_units.specs.MarkedUnits.{ChecksAreMarked}
-use Rattle.c_types_scoped.specs.BlockDeclarations.{UnitInBlocks}
 use Rattle.c_types_scoped_units.specs.ScopedChecks.{ChecksAreScoped}
 use Rattle.report_cli.specs.DefinedRuns.{TypedUnitsPassLooks}
 
-abbrev pub TreesAreInBlocks : Type 0
-TreesAreInBlocks = (m : Model) (tokens : List Token) (es : List ExternalTree) → IsUnit m tokens es → UnitInBlocks es
-
-pub typed_units_pass : TreesAreProper → TreesAreInBlocks → ChecksAreMarked → ChecksAreScoped → TypedUnitsPassLooks
+pub typed_units_pass : TreesAreProper → TreesDeclareInBlocks → ChecksAreMarked → ChecksAreScoped → TypedUnitsPassLooks
 typed_units_pass proper blocks marked scoped unit s tree checked parsed typed looked regular =
     let is = subst (λ (m : Model). IsUnit m unit.tokens (unit_tree tree)) looked.model parsed in
     let bytes = proper s.model unit.tokens (unit_tree tree) looked.proper looked.bytes is in

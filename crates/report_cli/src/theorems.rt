@@ -9,7 +9,7 @@ ghost use Rattle.report_cli.specs.VerifiedRuns.{VerifiedHoldRuns};
 ghost use Rattle.report_cli.specs.ToldReplays.{ReplaysStandInReports};
 
 use abstract_steps_sound_units::checked_runs_are_found;
-use c_types_marks_trees::{trees_are_in_blocks, trees_are_proper};
+use c_types_marks_trees::{trees_are_proper, trees_declare_in_blocks};
 use c_types_marks_units::checks_are_marked;
 use c_types_scoped_units::checks_are_scoped;
 use cert_check_sound::accepted_certificates_hold_units;
@@ -22,7 +22,7 @@ pub fn typed_units_pass_looks()
     ensures { TypedUnitsPassLooks }
 {
     trees_are_proper();
-    trees_are_in_blocks();
+    trees_declare_in_blocks();
     checks_are_marked();
     checks_are_scoped();
 }
