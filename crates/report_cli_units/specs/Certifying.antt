@@ -1,5 +1,5 @@
 -- Certificates of units: what stands behind the text of one, and behind the answer to one.
-use Rattle.std.specs.Prelude.{◌≡◌, ◌++◌, ℕ, ℤ, true, List, codes}
+use Rattle.std.specs.Prelude.{◌≡◌, ◌++◌, ℤ, true, List, codes}
 use Rattle.std.specs.Fmt.{decimal}
 use Rattle.cc_base.specs.Ascending.{is_ascending}
 use Rattle.cc_base.specs.Standard.{standard_limits}
