@@ -71,10 +71,11 @@ pub fn certificates_hold_runs()
 
 /// The sentence: where `check` answers 0 or 1, it has put the report of the unit whole and in one call, and its diagnostics
 /// hold each rule that a run of the checked unit violates, at its place: whatever comes from the outside, and after any
-/// number of turns.
+/// number of turns. None of its runs is ever stuck.
 pub fn answers_hold_runs()
     ensures { AnswersHoldRuns }
 {
+    answered_runs_are_defined();
     reports_hold_runs();
 }
 
@@ -82,6 +83,7 @@ pub fn answers_hold_runs()
 pub fn gates_hold_runs()
     ensures { GatesHoldRuns }
 {
+    answered_runs_are_defined();
     reports_hold_runs();
 }
 
@@ -89,6 +91,7 @@ pub fn gates_hold_runs()
 pub fn verified_hold_runs()
     ensures { VerifiedHoldRuns }
 {
+    answered_runs_are_defined();
     certificates_hold_runs();
 }
 
@@ -96,5 +99,6 @@ pub fn verified_hold_runs()
 pub fn replays_stand_in_reports()
     ensures { ReplaysStandInReports }
 {
+    answered_runs_are_defined();
     replays_are_told();
 }
