@@ -8,7 +8,8 @@ use Rattle.flow_program.specs.declared.programs.Flow.{Flow}
 use Rattle.cert_check_programs.specs.Certificates.{IsShown}
 use Rattle.cert_check_sound.specs.SoundCertificates.{HoldsPairsOfChecked}
 use Rattle.report_cli_texts.specs.Reports.{Bytes}
-use Rattle.template_runs_units.specs.UnitRuns.{UnitRunsAreProgramRuns}
+use Rattle.template_runs_looked.specs.LookedRuns.{LookedRunsAreProgramRuns}
+use Rattle.report_cli.specs.DefinedRuns.{TypedUnitsPassLooks}
 use Rattle.report_cli.specs.CertifiedRuns.{CertificatesHoldRuns}
 use Rattle.report_cli.proofs.FoundRuns.{program_of, violated_in}
 
@@ -16,9 +17,10 @@ use Rattle.report_cli.proofs.FoundRuns.{program_of, violated_in}
 abbrev pub CheckedPairsAreHeld : Type 0
 CheckedPairsAreHeld = (flow : Flow) (text : Bytes) (found : List Diag) → IsShown flow text found → HoldsPairsOfChecked flow found
 
-pub certificates_hold : UnitRunsAreProgramRuns → CheckedPairsAreHeld → CertificatesHoldRuns
-certificates_hold runs held unit s text found answer v violated =
+pub certificates_hold : LookedRunsAreProgramRuns → TypedUnitsPassLooks → CheckedPairsAreHeld → CertificatesHoldRuns
+certificates_hold runs pass held unit s text found answer v violated =
     let p = answer.program in
-    let x = violated_in runs (unit_view p.checked) answer.flow (program_of s p.tree p.checked answer.flow p.typed p.regular p.lowered p.well_formed) v violated in
+    let looks = pass unit s p.tree p.checked p.parsed p.typed p.looked p.regular in
+    let x = violated_in runs (unit_view p.checked) answer.flow (program_of s p.tree p.checked answer.flow p.typed p.regular p.lowered p.well_formed) looks v violated in
     held answer.flow text found answer.answers (unit_view p.checked) (record { model = s.model; name = s.entry; tree = unit_tree p.tree; limits = standard_limits; checked = p.typed.checks; lowered = p.lowered.lowers; plain = p.plain }) v
     (record { draws = x.draws; steps = x.steps; there = x.there })

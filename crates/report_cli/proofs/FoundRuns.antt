@@ -1,5 +1,5 @@
 -- What is told of a unit holds what its runs violate.
-use Rattle.std.proofs.Common.{◌≡◌, ◌≤◌, inl, inr, ℕ, ◌-◌, ◌^◌, ℤ, true, List, Option, Some, None, arith, sym, subst}
+use Rattle.std.proofs.Common.{◌≡◌, ◌≤◌, ℕ, ◌-◌, ◌^◌, ℤ, true, List, Option, Some, None, arith, sym, subst}
 use Rattle.std.specs.List.{Contains}
 use Rattle.std.proofs.lemmas.List.Elements.{Contains-append_right}
 use Rattle.cc_base.specs.Standard.{standard_limits}
@@ -12,16 +12,16 @@ use Rattle.flow_program.specs.WellFormed.{is_well_formed}
 use Rattle.flow_program.specs.declared.programs.Flow.{Flow}
 use Rattle.flow_program_views.specs.ProgramViews.{flow_view}
 use Rattle.flow_program_machine.specs.FlowStates as states
-use Rattle.flow_program_machine.specs.FlowStates.{FlowRun}
 use Rattle.flow_program_machine.specs.FlowSteps.{flow_steps}
 use Rattle.flow_program_machine.specs.FlowStarts.{flow_begin}
 use Rattle.flow_lower_units.specs.RegularUnits.{is_regular_unit}
 use Rattle.flow_analysis.specs.Analyses.{IsAnalysis}
-use Rattle.lib_models_effects.specs.Worlds.{Violation, Stuck}
-use Rattle.ref_machine.specs.SourceRuns.{SourceRun, Run, found_in, why_of}
-use Rattle.template_runs_units.specs.UnitRuns.{IsProgramOf, AgreeUnlessStuck, UnitRunsAreProgramRuns}
+use Rattle.lib_models_effects.specs.Worlds.{Violation}
+use Rattle.template_runs_units.specs.UnitRuns.{IsProgramOf}
+use Rattle.template_runs_looked.specs.LookedRuns.{PassesLooks, LookedRunsAreProgramRuns}
 use Rattle.abstract_steps_sound_units.specs.CheckedUnits.{FindsPairsOfChecked, FindsTurnedPairsOfChecked}
 use Rattle.report_cli_units.specs.Judging.{SettingView, IsTyped, IsLowered, IsTurned}
+use Rattle.report_cli.specs.DefinedRuns.{TypedUnitsPassLooks}
 use Rattle.report_cli.specs.FoundRuns.{IsViolatedBy, JudgedRunsAreFound, ReportsHoldRuns}
 
 -- by an analysis of a program
@@ -44,25 +44,16 @@ program_of s tree checked flow typed regular lowered good = record {
   room = few_temps;
 }
 
--- a run that is not stuck has violated what a run of the program has
-seen_by : (s : SourceRun) (r : FlowRun) (v : Violation) → AgreeUnlessStuck s r → (why_of s ≡ Some Stuck → ⊥) → Contains (found_in s) v → Contains (states.found_in r) v
-seen_by s r v (inl stuck) not_stuck there = absurd (not_stuck stuck)
-seen_by s r v (inr agree) not_stuck there = subst (λ vs. Contains vs v) agree.found there
-
 -- a run of the program that violates a rule
 pub record ViolatesIn (program : Flow) (u : UnitView) (v : Violation) : Type 0 where
   pub draws : List ℤ
   pub steps : ℕ
   pub there : Contains (states.found_in (flow_steps (flow_view program) steps (flow_begin u (flow_view program) draws))) v
 
-pub violated_in : UnitRunsAreProgramRuns → (u : UnitView) (program : Flow) → IsProgramOf u standard_limits program → (v : Violation) → IsViolatedBy u v → ViolatesIn program u v
-violated_in runs u program is v violated =
-    let x = runs u standard_limits program is violated.draws violated.turns in
-    record {
-      draws = violated.draws;
-      steps = x.0;
-      there = seen_by (Run u violated.draws violated.turns) (flow_steps (flow_view program) x.0 (flow_begin u (flow_view program) violated.draws)) v x.1 violated.not_stuck violated.there;
-    }
+pub violated_in : LookedRunsAreProgramRuns → (u : UnitView) (program : Flow) → IsProgramOf u standard_limits program → PassesLooks u → (v : Violation) → IsViolatedBy u v → ViolatesIn program u v
+violated_in runs u program is looks v violated =
+    let x = runs u standard_limits program is looks violated.draws violated.turns in
+    record { draws = violated.draws; steps = x.0; there = subst (λ vs. Contains vs v) x.1.found violated.there }
 
 -- the analysis is of the program, or of the one with turns unrolled
 finds_pairs : CheckedRunsAreFound → FindsTurnedPairsOfChecked → (turns : Option ℕ) (flow unrolled : Flow) (list : List ℤ) (found : List Diag)
@@ -70,11 +61,12 @@ finds_pairs : CheckedRunsAreFound → FindsTurnedPairsOfChecked → (turns : Opt
 finds_pairs once turned None flow unrolled list found is good analysis u of v there = once flow list found (subst (λ f. IsAnalysis f list found) is analysis) u of v there
 finds_pairs once turned (Some turns) flow unrolled list found is good analysis u of v there = turned turns standard_limits flow unrolled list found good is analysis u of v there
 
-pub judged_runs : UnitRunsAreProgramRuns → CheckedRunsAreFound → FindsTurnedPairsOfChecked → JudgedRunsAreFound
-judged_runs runs once turned unit s j judged v violated =
+pub judged_runs : LookedRunsAreProgramRuns → TypedUnitsPassLooks → CheckedRunsAreFound → FindsTurnedPairsOfChecked → JudgedRunsAreFound
+judged_runs runs pass once turned unit s j judged v violated =
     let f = judged.found in
     let finds = finds_pairs once turned s.turns judged.flow judged.analysed f.list f.runs judged.turned judged.made f.by_runs in
-    let x = violated_in runs (unit_view judged.checked) judged.flow (program_of s judged.tree judged.checked judged.flow judged.typed judged.regular judged.lowered judged.made) v violated in
+    let looks = pass unit s judged.tree judged.checked judged.parsed judged.typed judged.looked judged.regular in
+    let x = violated_in runs (unit_view judged.checked) judged.flow (program_of s judged.tree judged.checked judged.flow judged.typed judged.regular judged.lowered judged.made) looks v violated in
     let there =
     finds (unit_view judged.checked) (record { model = s.model; name = s.entry; tree = unit_tree judged.tree; limits = standard_limits; checked = judged.typed.checks; lowered = judged.lowered.lowers; plain = judged.plain }) v
     (record { draws = x.draws; steps = x.steps; there = x.there }) in

@@ -1,3 +1,5 @@
+pub mod LookedUnits
+pub mod DefinedRuns
 pub mod FoundRuns
 pub mod ReplayedRuns
 pub mod CertifiedRuns

@@ -1,12 +1,11 @@
 -- What is told of a unit holds what replays of it find.
-use Rattle.std.proofs.Common.{◌≡◌, ◌∙◌, ℕ, ℤ, List, Option, map, ap, sym, subst}
+use Rattle.std.proofs.Common.{ℕ, ℤ, List, map, sym, subst}
 use Rattle.std.specs.List.{Contains}
 use Rattle.std.proofs.lemmas.List.Elements.{All-map, All-contains, All-contains_itself}
 use Rattle.cc_base.specs.declared.diagnostics.Diag.{Diag}
 use Rattle.c_layout.specs.CheckedUnits.{UnitView, unit_view}
-use Rattle.lib_models_effects.specs.Worlds.{Violation, Why}
-use Rattle.ref_machine.specs.SourceRuns.{found_in, why_of}
-use Rattle.ref_machine.specs.RunFacts.{Left, end_by}
+use Rattle.lib_models_effects.specs.Worlds.{Violation}
+use Rattle.ref_machine.specs.SourceRuns.{found_in}
 use Rattle.replay_run.specs.OutcomeViews.{OutcomeView}
 use Rattle.replay_run.specs.Replays.{pair_of, IsOutcome}
 use Rattle.report_cli_units.specs.Judging.{judging, IsTyped}
@@ -21,19 +20,18 @@ violation_of d = record { at = d.place; rule = d.rule }
 violated : (vs : List Violation) (d : Diag) → Contains (map pair_of vs) d → Contains vs (violation_of d)
 violated vs d there = All-contains (λ e. Contains vs (violation_of e)) (map pair_of vs) d (All-map (λ e. Contains vs (violation_of e)) pair_of vs (All-contains_itself vs)) there
 
-pub outcome_held : (u : UnitView) (draws : List ℤ) (steps : ℕ) (outcome : OutcomeView) (pairs : List Diag) → HoldsRunsOf u pairs → IsOutcome u draws steps outcome → (outcome.end ≡ Left → ⊥) → (d : Diag) → Contains outcome.diags d → Contains pairs d
-outcome_held u draws steps outcome pairs holds o goes d there =
+pub outcome_held : (u : UnitView) (draws : List ℤ) (steps : ℕ) (outcome : OutcomeView) (pairs : List Diag) → HoldsRunsOf u pairs → IsOutcome u draws steps outcome → (d : Diag) → Contains outcome.diags d → Contains pairs d
+outcome_held u draws steps outcome pairs holds o d there =
     let r = o.replayed.reached in
     holds (violation_of d)
     (record {
       draws = draws;
       turns = r.turns;
       there = subst (λ x. Contains (found_in x) (violation_of d)) (sym r.is) (violated (found_in o.run) d (o.diags.made d there));
-      not_stuck = λ stuck. goes (o.end ∙ ap (λ x. end_by (why_of x)) (sym r.is) ∙ ap (λ (w : Option Why). end_by w) stuck);
     })
 
 pub replays_told : OneCheckedUnit → JudgedRunsAreFound → ReplaysAreTold
-replays_told one judged unit m entry turns other j draws steps outcome is replayed goes d there =
+replays_told one judged unit m entry turns other j draws steps outcome is replayed d there =
     let again : IsTyped (judging m entry turns) replayed.tree replayed.checked = record { checks = replayed.typed.checks; model = replayed.typed.model } in
     let same = one unit (judging m entry turns) is.tree replayed.tree is.checked replayed.checked is.parsed replayed.parsed is.typed again in
-    outcome_held (unit_view replayed.checked) draws steps outcome j.pairs (subst (λ u. HoldsRunsOf u j.pairs) same (judged unit (judging m entry turns) j is)) replayed.run goes d there
+    outcome_held (unit_view replayed.checked) draws steps outcome j.pairs (subst (λ u. HoldsRunsOf u j.pairs) same (judged unit (judging m entry turns) j is)) replayed.run d there

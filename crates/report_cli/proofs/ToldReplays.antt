@@ -14,6 +14,7 @@ use Rattle.report_cli_answers.specs.Outcomes.{Took, PutOnce}
 use Rattle.report_cli_answers.specs.Verdicts as verdict
 use Rattle.report_cli_answers.specs.Verdicts.{Verdict, status_of, text_of, HasModel, RefusesDraws, FromFiles, IsExpanded, IsRunOf, AnswersRun, AnswersReplay, IsVerdict, replay_setting}
 use Rattle.report_cli_laws.proofs.OneUnit.{one_unit}
+use Rattle.report_cli.specs.DefinedRuns.{RunsAreDefined}
 use Rattle.report_cli.specs.AnsweredRuns.{IsAccepting}
 use Rattle.report_cli.specs.ReplayedRuns.{ReplaysAreTold}
 use Rattle.report_cli.specs.ToldReplays.{IsSameUnit, StandsInReports, TellsReplay, ReplaysStandInReports}
@@ -85,15 +86,15 @@ same_unit None dirs m main names others a b is also same = same
 same_unit (Some held) dirs m main names others a b is also same = one_unit held dirs m main names others a b is also
 
 stands : ReplaysAreTold → (files : Option Files) (c : CommandView) (draws : Option Bytes) (m : Model) (names : List Bytes) (outcome : OutcomeView) (run : IsRunOf (FromFiles files c.dirs m c.unit) files draws (replay_setting c m) c.steps names (ran outcome)) → StandsInReports files c m run.expanded outcome
-stands told files c draws m names outcome run turns others diags report same goes d there =
+stands told files c draws m names outcome run turns others diags report same d there =
     let one = same_unit files c.dirs m c.unit others names report.expanded run.expanded report.is_expanded run.is_expanded same in
     let judged = subst (λ (u : Unit7). IsJudged u (judging m c.entry turns) report.found) one report.judged in
-    report.listed.kept d (told run.expanded m c.entry turns None report.found run.draws c.steps outcome judged run.replayed goes d there)
+    report.listed.kept d (told run.expanded m c.entry turns None report.found run.draws c.steps outcome judged run.replayed d there)
 
 -- ---- the whole
 
-tells : ReplaysAreTold → (seen : Seen) (c : CommandView) (draws : Option Bytes) (sink : Took) (status : ℕ) (v : Verdict) (m : Model) → HasModel seen.files c.model m → status ≡ status_of v → PutOnce sink (text_of v) → Runs seen c draws m v → TellsReplay seen c draws sink status
-tells told seen c draws sink status v m has by_status put r = record {
+tells : RunsAreDefined → ReplaysAreTold → (seen : Seen) (c : CommandView) (draws : Option Bytes) (sink : Took) (status : ℕ) (v : Verdict) (m : Model) → HasModel seen.files c.model m → status ≡ status_of v → PutOnce sink (text_of v) → Runs seen c draws m v → TellsReplay seen c draws sink status
+tells defined told seen c draws sink status v m has by_status put r = record {
   model = m;
   has_model = has;
   names = r.names;
@@ -102,13 +103,14 @@ tells told seen c draws sink status v m has by_status put r = record {
   by_status = by_status ∙ ap (λ (w : Verdict). status_of w) r.is;
   put = subst (λ (w : Verdict). PutOnce sink (text_of w)) r.is put;
   told = stands told seen.files c draws m r.names r.outcome r.run;
+  defined = defined.replayed r.run.expanded (replay_setting c m) r.run.draws c.steps (ran r.outcome) r.run.replayed;
 }
 
-by_verdict : ReplaysAreTold → (seen : Seen) (c : CommandView) (draws : Option Bytes) (sink : Took) (status : ℕ) (v : Verdict) → IsVerdict seen (asked.Replay c draws) v → status ≡ status_of v → PutOnce sink (text_of v) → IsAccepting (status_of v) → TellsReplay seen c draws sink status
-by_verdict told seen c draws sink status v (inl refuses) by_status put ok = absurd (no_model seen c.model v refuses ok)
-by_verdict told seen c draws sink status v (inr u) by_status put ok = tells told seen c draws sink status v u.chosen u.has_model by_status put (from_earlier seen u.later c draws u.chosen v u.is_later.files (of_replay u.later c draws u.chosen v u.answered ok))
+by_verdict : RunsAreDefined → ReplaysAreTold → (seen : Seen) (c : CommandView) (draws : Option Bytes) (sink : Took) (status : ℕ) (v : Verdict) → IsVerdict seen (asked.Replay c draws) v → status ≡ status_of v → PutOnce sink (text_of v) → IsAccepting (status_of v) → TellsReplay seen c draws sink status
+by_verdict defined told seen c draws sink status v (inl refuses) by_status put ok = absurd (no_model seen c.model v refuses ok)
+by_verdict defined told seen c draws sink status v (inr u) by_status put ok = tells defined told seen c draws sink status v u.chosen u.has_model by_status put (from_earlier seen u.later c draws u.chosen v u.is_later.files (of_replay u.later c draws u.chosen v u.answered ok))
 
-pub replays_stand : ReplaysAreTold → ReplaysStandInReports
-replays_stand told seen c draws sink status is ok =
+pub replays_stand : RunsAreDefined → ReplaysAreTold → ReplaysStandInReports
+replays_stand defined told seen c draws sink status is ok =
     let t = tells_verdict seen (asked.Replay c draws) sink status is ok in
-    by_verdict told seen c draws sink status t.verdict t.called_for t.by_status t.put t.accepts
+    by_verdict defined told seen c draws sink status t.verdict t.called_for t.by_status t.put t.accepts

@@ -13,6 +13,7 @@ use Rattle.report_cli_units.specs.Certifying.{shows}
 use Rattle.report_cli_answers.specs.Outcomes.{Took, PutOnce}
 use Rattle.report_cli_answers.specs.Verdicts as verdict
 use Rattle.report_cli_answers.specs.Verdicts.{Verdict, status_of, text_of, HasModel, FromFiles, IsCheckedBy, AnswersChecked, AnswersVerify, IsVerdict, cert_setting}
+use Rattle.report_cli.specs.DefinedRuns.{RunsAreDefined}
 use Rattle.report_cli.specs.AnsweredRuns.{IsAccepting}
 use Rattle.report_cli.specs.CertifiedRuns.{CertificatesHoldRuns}
 use Rattle.report_cli.specs.VerifiedRuns.{TellsVerifiedRuns, VerifiedHoldRuns}
@@ -55,8 +56,8 @@ of_verify seen c cert m v (inr checked) ok = of_checked seen c cert m v checked 
 from_earlier : (seen later : Seen) (c : CommandView) (cert : Bytes) (m : Model) (v : Verdict) → later.files ≡ seen.files → Shows later c cert m v → Shows seen c cert m v
 from_earlier seen later c cert m v same r = record { names = r.names; diags = r.diags; is = r.is; checked = subst (λ (fs : Option Files). IsCheckedBy (FromFiles fs c.dirs m c.unit) fs cert (cert_setting c m) r.names (shows r.diags)) same r.checked }
 
-tells : CertificatesHoldRuns → (seen : Seen) (c : CommandView) (cert : Bytes) (sink : Took) (status : ℕ) (v : Verdict) (m : Model) → HasModel seen.files c.model m → status ≡ status_of v → PutOnce sink (text_of v) → Shows seen c cert m v → TellsVerifiedRuns seen c cert sink status
-tells holds seen c cert sink status v m has by_status put r = record {
+tells : RunsAreDefined → CertificatesHoldRuns → (seen : Seen) (c : CommandView) (cert : Bytes) (sink : Took) (status : ℕ) (v : Verdict) (m : Model) → HasModel seen.files c.model m → status ≡ status_of v → PutOnce sink (text_of v) → Shows seen c cert m v → TellsVerifiedRuns seen c cert sink status
+tells defined holds seen c cert sink status v m has by_status put r = record {
   model = m;
   has_model = has;
   names = r.names;
@@ -65,13 +66,14 @@ tells holds seen c cert sink status v m has by_status put r = record {
   by_status = by_status ∙ ap (λ (w : Verdict). status_of w) r.is;
   put = subst (λ (w : Verdict). PutOnce sink (text_of w)) r.is put;
   holds = holds r.checked.expanded (cert_setting c m) r.checked.bytes r.diags r.checked.verifies;
+  defined = defined.certified r.checked.expanded (cert_setting c m) r.checked.verifies.flow r.checked.verifies.program;
 }
 
-by_verdict : CertificatesHoldRuns → (seen : Seen) (c : CommandView) (cert : Bytes) (sink : Took) (status : ℕ) (v : Verdict) → IsVerdict seen (asked.Verify c cert) v → status ≡ status_of v → PutOnce sink (text_of v) → IsAccepting (status_of v) → TellsVerifiedRuns seen c cert sink status
-by_verdict holds seen c cert sink status v (inl refuses) by_status put ok = absurd (no_model seen c.model v refuses ok)
-by_verdict holds seen c cert sink status v (inr u) by_status put ok = tells holds seen c cert sink status v u.chosen u.has_model by_status put (from_earlier seen u.later c cert u.chosen v u.is_later.files (of_verify u.later c cert u.chosen v u.answered ok))
+by_verdict : RunsAreDefined → CertificatesHoldRuns → (seen : Seen) (c : CommandView) (cert : Bytes) (sink : Took) (status : ℕ) (v : Verdict) → IsVerdict seen (asked.Verify c cert) v → status ≡ status_of v → PutOnce sink (text_of v) → IsAccepting (status_of v) → TellsVerifiedRuns seen c cert sink status
+by_verdict defined holds seen c cert sink status v (inl refuses) by_status put ok = absurd (no_model seen c.model v refuses ok)
+by_verdict defined holds seen c cert sink status v (inr u) by_status put ok = tells defined holds seen c cert sink status v u.chosen u.has_model by_status put (from_earlier seen u.later c cert u.chosen v u.is_later.files (of_verify u.later c cert u.chosen v u.answered ok))
 
-pub verified_hold : CertificatesHoldRuns → VerifiedHoldRuns
-verified_hold holds seen c cert sink status is ok =
+pub verified_hold : RunsAreDefined → CertificatesHoldRuns → VerifiedHoldRuns
+verified_hold defined holds seen c cert sink status is ok =
     let t = tells_verdict seen (asked.Verify c cert) sink status is ok in
-    by_verdict holds seen c cert sink status t.verdict t.called_for t.by_status t.put t.accepts
+    by_verdict defined holds seen c cert sink status t.verdict t.called_for t.by_status t.put t.accepts

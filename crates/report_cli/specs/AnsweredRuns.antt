@@ -9,10 +9,11 @@ use Rattle.report_cli_words.specs.Requests as asked
 use Rattle.report_cli_texts.specs.Reports.{Bytes}
 use Rattle.report_cli_answers.specs.Outcomes.{Took, PutOnce, Answers}
 use Rattle.report_cli_answers.specs.Verdicts.{report_status, report_in, HasModel, FromFiles, IsReport, check_setting}
+use Rattle.report_cli.specs.DefinedRuns.{IsNeverStuck}
 use Rattle.report_cli.specs.FoundRuns.{HoldsRunsOf}
 
 -- the report of the unit, put whole and in one call, and that its diagnostics hold each rule that a run of the checked
--- unit violates, at its place
+-- unit violates, at its place; none of its runs is stuck
 pub record TellsRuns (seen : Seen) (c : CommandView) (sink : Took) (status : ℕ) : Type 0 where
   pub model : Model
   pub has_model : HasModel seen.files c.model model
@@ -22,6 +23,7 @@ pub record TellsRuns (seen : Seen) (c : CommandView) (sink : Took) (status : ℕ
   pub by_status : status ≡ report_status diags
   pub put : PutOnce sink (report_in c.format names c.unit diags)
   pub holds : HoldsRunsOf (unit_view report.judged.checked) diags
+  pub defined : IsNeverStuck (unit_view report.judged.checked)
 
 -- the unit was accepted
 abbrev pub IsAccepting : ℕ → Type 0

@@ -1,24 +1,22 @@
 -- What is told of a unit holds what its runs violate.
-use Rattle.std.specs.Prelude.{◌≡◌, ℕ, ℤ, List, Option, Some}
+use Rattle.std.specs.Prelude.{ℕ, ℤ, List, Option}
 use Rattle.std.specs.List.{Contains}
 use Rattle.cc_base.specs.Outside.{Files}
 use Rattle.cc_base.specs.declared.diagnostics.Diag.{Diag}
 use Rattle.c_layout.specs.CheckedUnits.{UnitView, unit_view}
 use Rattle.c_layout.specs.declared.data_model.Model.{Model}
 use Rattle.c_layout.specs.declared.unit_tokens.Unit7.{Unit7}
-use Rattle.lib_models_effects.specs.Worlds.{Violation, Stuck}
-use Rattle.ref_machine.specs.SourceRuns.{Run, found_in, why_of}
+use Rattle.lib_models_effects.specs.Worlds.{Violation}
+use Rattle.ref_machine.specs.SourceRuns.{Run, found_in}
 use Rattle.report_cli_texts.specs.Reports.{Bytes}
 use Rattle.report_cli_units.specs.Judging.{SettingView, Judgement, IsJudged}
 use Rattle.report_cli_answers.specs.Verdicts.{FromFiles, IsReport}
 
--- a rule that a run of a unit violates at a place, under some numbers of the outside, within some turns behind which it
--- is not stuck
+-- a rule that a run of a unit violates at a place, under some numbers of the outside, within some turns
 pub record IsViolatedBy (u : UnitView) (v : Violation) : Type 0 where
   pub draws : List ℤ
   pub turns : ℕ
   pub there : Contains (found_in (Run u draws turns)) v
-  pub not_stuck : why_of (Run u draws turns) ≡ Some Stuck → ⊥
 
 -- the pairs hold each rule that a run of the unit violates, at its place
 abbrev pub HoldsRunsOf : UnitView → List Diag → Type 0

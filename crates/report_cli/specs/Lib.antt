@@ -1,3 +1,4 @@
+pub mod DefinedRuns
 pub mod FoundRuns
 pub mod ReplayedRuns
 pub mod CertifiedRuns

@@ -10,11 +10,12 @@ use Rattle.report_cli_texts.specs.Reports.{Bytes, report_of}
 use Rattle.report_cli_units.specs.Certifying.{shows}
 use Rattle.report_cli_answers.specs.Outcomes.{Took, PutOnce, Answers}
 use Rattle.report_cli_answers.specs.Verdicts.{report_status, HasModel, FromFiles, IsCheckedBy, cert_setting}
+use Rattle.report_cli.specs.DefinedRuns.{IsNeverStuck}
 use Rattle.report_cli.specs.FoundRuns.{HoldsRunsOf}
 use Rattle.report_cli.specs.AnsweredRuns.{IsAccepting}
 
 -- what the certificate shows of the unit, put whole and in one call, and that it holds each rule that a run of the checked
--- unit violates, at its place
+-- unit violates, at its place; none of its runs is stuck
 pub record TellsVerifiedRuns (seen : Seen) (c : CommandView) (cert : Bytes) (sink : Took) (status : ℕ) : Type 0 where
   pub model : Model
   pub has_model : HasModel seen.files c.model model
@@ -24,6 +25,7 @@ pub record TellsVerifiedRuns (seen : Seen) (c : CommandView) (cert : Bytes) (sin
   pub by_status : status ≡ report_status diags
   pub put : PutOnce sink (report_of names c.unit diags)
   pub holds : HoldsRunsOf (unit_view is_checked.verifies.program.checked) diags
+  pub defined : IsNeverStuck (unit_view is_checked.verifies.program.checked)
 
 abbrev pub VerifiedHoldRuns : Type 0
 VerifiedHoldRuns =

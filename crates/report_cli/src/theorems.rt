@@ -1,4 +1,5 @@
 //! Each rule that a run of a unit violates is told, at its place.
+ghost use Rattle.report_cli.specs.DefinedRuns.{TypedUnitsPassLooks, RunsAreDefined};
 ghost use Rattle.report_cli.specs.FoundRuns.{JudgedRunsAreFound, ReportsHoldRuns};
 ghost use Rattle.report_cli.specs.ReplayedRuns.{ReplaysAreTold};
 ghost use Rattle.report_cli.specs.CertifiedRuns.{CertificatesHoldRuns};
@@ -8,16 +9,39 @@ ghost use Rattle.report_cli.specs.VerifiedRuns.{VerifiedHoldRuns};
 ghost use Rattle.report_cli.specs.ToldReplays.{ReplaysStandInReports};
 
 use abstract_steps_sound_units::checked_runs_are_found;
+use c_types_marks_trees::{trees_are_proper, trees_declare_in_blocks};
+use c_types_marks_units::checks_are_marked;
+use c_types_scoped_units::checks_are_scoped;
 use cert_check_sound::accepted_certificates_hold_units;
 use report_cli_laws::one_parse;
-use template_runs_units::unit_runs_are_program_runs;
+use template_runs_looked::{looked_runs_are_program_runs, looked_units_are_never_stuck};
+
+/// A unit that is typed from its tokens passes the looks at its terms and scopes, where what typing does not ask was looked
+/// at: tokens of bytes, room in memory, and regular functions.
+pub fn typed_units_pass_looks()
+    ensures { TypedUnitsPassLooks }
+{
+    trees_are_proper();
+    trees_declare_in_blocks();
+    checks_are_marked();
+    checks_are_scoped();
+}
+
+/// So no run of a unit that is answered is ever stuck.
+pub fn answered_runs_are_defined()
+    ensures { RunsAreDefined }
+{
+    typed_units_pass_looks();
+    looked_units_are_never_stuck();
+}
 
 /// Each rule that a run of an accepted unit violates at a place is among the pairs that are told of it, also where turns
-/// are unrolled: whatever comes from the outside, and after any number of turns, unless the run is stuck there.
+/// are unrolled: whatever comes from the outside, and after any number of turns.
 pub fn judged_runs_are_found()
     ensures { JudgedRunsAreFound }
 {
-    unit_runs_are_program_runs();
+    looked_runs_are_program_runs();
+    typed_units_pass_looks();
     checked_runs_are_found();
 }
 
@@ -28,8 +52,7 @@ pub fn reports_hold_runs()
     judged_runs_are_found();
 }
 
-/// And each pair that a replay of an accepted unit finds is among those that are told of it, unless the replay ends as
-/// `left`.
+/// And each pair that a replay of an accepted unit finds is among those that are told of it.
 pub fn replays_are_told()
     ensures { ReplaysAreTold }
 {
@@ -41,16 +64,18 @@ pub fn replays_are_told()
 pub fn certificates_hold_runs()
     ensures { CertificatesHoldRuns }
 {
-    unit_runs_are_program_runs();
+    looked_runs_are_program_runs();
+    typed_units_pass_looks();
     accepted_certificates_hold_units();
 }
 
 /// The sentence: where `check` answers 0 or 1, it has put the report of the unit whole and in one call, and its diagnostics
 /// hold each rule that a run of the checked unit violates, at its place: whatever comes from the outside, and after any
-/// number of turns, unless the run is stuck there.
+/// number of turns. None of its runs is ever stuck.
 pub fn answers_hold_runs()
     ensures { AnswersHoldRuns }
 {
+    answered_runs_are_defined();
     reports_hold_runs();
 }
 
@@ -58,6 +83,7 @@ pub fn answers_hold_runs()
 pub fn gates_hold_runs()
     ensures { GatesHoldRuns }
 {
+    answered_runs_are_defined();
     reports_hold_runs();
 }
 
@@ -65,12 +91,14 @@ pub fn gates_hold_runs()
 pub fn verified_hold_runs()
     ensures { VerifiedHoldRuns }
 {
+    answered_runs_are_defined();
     certificates_hold_runs();
 }
 
-/// What `replay` tells of a unit stands in each report that `check` has of it, unless the replay ends as `left`.
+/// What `replay` tells of a unit stands in each report that `check` has of it.
 pub fn replays_stand_in_reports()
     ensures { ReplaysStandInReports }
 {
+    answered_runs_are_defined();
     replays_are_told();
 }

@@ -50,7 +50,8 @@ fn proved(
     unit: &Unit7,
     model: &Model,
 ) -> Result<Answer, Halt>
-    requires { is_model model.now ≡ true }
+    requires proper { is_model model.now ≡ true }
+    requires model { unit.now.model ≡ model.now }
     ensures fault { IsErrOf result Halt.ReadFault → ⊥ }
     ensures called { IfOk result (λ a. AnswersOwn (cert_setting (command_view command.now) model.now) unit.now (map string_bytes files.now) (string_bytes command.now.unit) a.status a.text.items ⊎ AnswersProof (cert_setting (command_view command.now) model.now) unit.now (string_bytes command.now.unit) a.status a.text.items) }
 {
@@ -175,7 +176,8 @@ fn verified(
     unit: &Unit7,
     model: &Model,
 ) -> Result<Answer, Halt>
-    requires { is_model model.now ≡ true }
+    requires proper { is_model model.now ≡ true }
+    requires model { unit.now.model ≡ model.now }
     ensures fault { IsErrOf result Halt.ReadFault → ⊥ }
     ensures called { IfOk result (λ a. AnswersOwn (cert_setting (command_view asked.now.command) model.now) unit.now (map string_bytes files.now) (string_bytes asked.now.command.unit) a.status a.text.items ⊎ AnswersVerified (cert_setting (command_view asked.now.command) model.now) unit.now bytes.now (string_bytes asked.now.cert) (map string_bytes files.now) (string_bytes asked.now.command.unit) a.status a.text.items) }
 {
@@ -200,7 +202,8 @@ fn checked_by_file<T: Tree>(
     model: &Model,
     tree: &mut T,
 ) -> Result<Answer, Halt>
-    requires { is_model model.now ≡ true }
+    requires proper { is_model model.now ≡ true }
+    requires model { unit.now.model ≡ model.now }
     ensures fault { IsErrOf result Halt.ReadFault → Rose (T.faults tree.old) (T.faults tree.new) }
     ensures called { IfOk result (λ a. Tells (RefusesFile (seen_of (T.files tree.old) (T.faults tree.old) (T.faults tree.new) (T.taken tree.old) (T.taken tree.new)) (string_bytes asked.now.cert)) a.status a.text.items ⊎ AnswersWithCert (T.files tree.old) (string_bytes asked.now.cert) (cert_setting (command_view asked.now.command) model.now) unit.now (map string_bytes files.now) (string_bytes asked.now.command.unit) a.status a.text.items) }
     ensures files { T.files tree.new ≡ T.files tree.old }

@@ -160,7 +160,8 @@ fn checked(
     unit: &Unit7,
     model: &Model,
 ) -> Result<Answer, Halt>
-    requires { is_model model.now ≡ true }
+    requires proper { is_model model.now ≡ true }
+    requires model { unit.now.model ≡ model.now }
     ensures fault { IsErrOf result Halt.ReadFault → ⊥ }
     ensures called { IfOk result (λ a. AnswersOwn (judging model.now (string_bytes command.now.entry) command.now.turns) unit.now (map string_bytes files.now) (string_bytes command.now.unit) a.status a.text.items ⊎ AnswersJudged (judging model.now (string_bytes command.now.entry) command.now.turns) unit.now command.now.format (map string_bytes files.now) (string_bytes command.now.unit) a.status a.text.items) }
 {
@@ -242,7 +243,8 @@ fn loaded(
     unit: &Unit7,
     model: &Model,
 ) -> Result<Answer, Halt>
-    requires { is_model model.now ≡ true }
+    requires proper { is_model model.now ≡ true }
+    requires model { unit.now.model ≡ model.now }
     ensures fault { IsErrOf result Halt.ReadFault → ⊥ }
     ensures called { IfOk result (λ a. AnswersOwn (load_setting model.now) unit.now (map string_bytes files.now) name.now a.status a.text.items ⊎ AnswersMade (load_setting model.now) unit.now name.now a.status a.text.items) }
 {

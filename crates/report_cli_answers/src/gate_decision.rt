@@ -50,7 +50,8 @@ fn gated(
     unit: &Unit7,
     model: &Model,
 ) -> Result<Answer, Halt>
-    requires { is_model model.now ≡ true }
+    requires proper { is_model model.now ≡ true }
+    requires model { unit.now.model ≡ model.now }
     ensures fault { IsErrOf result Halt.ReadFault → ⊥ }
     ensures called { IfOk result (λ a. AnswersOwn (gate_setting (command_view command.now) model.now) unit.now (map string_bytes files.now) (string_bytes command.now.unit) a.status a.text.items ⊎ AnswersGated (gate_setting (command_view command.now) model.now) unit.now known.now (map string_bytes files.now) (string_bytes command.now.unit) a.status a.text.items) }
 {
@@ -75,7 +76,8 @@ fn compared<T: Tree>(
     model: &Model,
     tree: &mut T,
 ) -> Result<Answer, Halt>
-    requires { is_model model.now ≡ true }
+    requires proper { is_model model.now ≡ true }
+    requires model { unit.now.model ≡ model.now }
     ensures fault { IsErrOf result Halt.ReadFault → Rose (T.faults tree.old) (T.faults tree.new) }
     ensures called { IfOk result (λ a. Tells (RefusesBase (seen_of (T.files tree.old) (T.faults tree.old) (T.faults tree.new) (T.taken tree.old) (T.taken tree.new)) (string_bytes gate.now.base)) a.status a.text.items ⊎ AnswersAgainst (T.files tree.old) (string_bytes gate.now.base) (gate_setting (command_view gate.now.command) model.now) unit.now (map string_bytes files.now) (string_bytes gate.now.command.unit) a.status a.text.items) }
     ensures files { T.files tree.new ≡ T.files tree.old }

@@ -83,7 +83,8 @@ fn replayed(
     unit: &Unit7,
     model: &Model,
 ) -> Result<Answer, Halt>
-    requires model { is_model model.now ≡ true }
+    requires proper { is_model model.now ≡ true }
+    requires model { unit.now.model ≡ model.now }
     requires steps { asked.now.command.steps ≤ 1000000 }
     ensures fault { IsErrOf result Halt.ReadFault → ⊥ }
     ensures called { IfOk result (λ a. AnswersOwn (replay_setting (command_view asked.now.command) model.now) unit.now (map string_bytes files.now) (string_bytes asked.now.command.unit) a.status a.text.items ⊎ AnswersRan (replay_setting (command_view asked.now.command) model.now) unit.now draws.now asked.now.command.steps (map string_bytes files.now) (string_bytes asked.now.command.unit) a.status a.text.items) }
@@ -109,7 +110,8 @@ fn run_over_draws<T: Tree>(
     model: &Model,
     tree: &mut T,
 ) -> Result<Answer, Halt>
-    requires model { is_model model.now ≡ true }
+    requires proper { is_model model.now ≡ true }
+    requires model { unit.now.model ≡ model.now }
     requires steps { asked.now.command.steps ≤ 1000000 }
     ensures fault { IsErrOf result Halt.ReadFault → Rose (T.faults tree.old) (T.faults tree.new) }
     ensures called { IfOk result (λ a. Tells (RefusesDraws (seen_of (T.files tree.old) (T.faults tree.old) (T.faults tree.new) (T.taken tree.old) (T.taken tree.new)) (option_map string_bytes asked.now.draws)) a.status a.text.items ⊎ AnswersOver (T.files tree.old) (option_map string_bytes asked.now.draws) (replay_setting (command_view asked.now.command) model.now) unit.now asked.now.command.steps (map string_bytes files.now) (string_bytes asked.now.command.unit) a.status a.text.items) }

@@ -13,10 +13,11 @@ use Rattle.c_types.specs.UnitChecks.{check}
 use Rattle.flow_lower.specs.Lowerings.{IsLowering}
 use Rattle.flow_lower_objects.specs.PlainObjects.{has_plain_objects}
 use Rattle.flow_lower_units.specs.RegularUnits.{is_regular_unit}
+use Rattle.ref_machine_looks_units.specs.SmallUnits.{have_byte_texts, is_small_unit}
 use Rattle.flow_program.specs.declared.programs.Flow.{Flow}
 use Rattle.flow_program_views.specs.ProgramViews.{FlowView, flow_view}
 use Rattle.report_cli_texts.specs.Reports.{Bytes, report_of}
-use Rattle.report_cli_units.specs.Judging.{SettingView, judging, Judgement, IsJudged, IsParsed, IsTyped, IsLowered, IsFound, cell_count}
+use Rattle.report_cli_units.specs.Judging.{SettingView, judging, Judgement, IsJudged, IsParsed, IsTyped, IsLooked, IsLowered, IsFound, cell_count}
 use Rattle.c_preproc.specs.Causes.{Seen}
 use Rattle.report_cli_words.specs.Requests as asked
 use Rattle.report_cli_words.specs.Requests.{CommandView}
@@ -49,6 +50,12 @@ text_is : report_of (name ∷ []) name lines ≡ text
 unfolding digits
 text_is = refl
 
+bytes : have_byte_texts expanded.tokens ≡ true
+bytes = refl
+
+small : is_small_unit checked_unit ≡ true
+small = refl
+
 plain : has_plain_objects checked_unit ≡ true
 plain = refl
 
@@ -64,6 +71,9 @@ module _ (some : Flow) (parsed_to : IsParsedTo) (checked_to : IsCheckedTo) (larg
     checks = ap (λ (es : List ExternalTree). check lp64 (codes "main") es) (tree_is some.blocks) ∙ (checked_to.there ∙ ap (λ (u : UnitView). Ok u) (sym (unit_is some.blocks)));
     model = refl;
   }
+
+  looked : IsLooked expanded setting (unit some.blocks)
+  looked = record { proper = refl; model = refl; bytes = bytes; small = ap (λ (u : UnitView). is_small_unit u) (unit_is some.blocks) ∙ small }
 
   lowered : IsLowered (unit some.blocks) flow
   lowered = record {
@@ -92,6 +102,7 @@ module _ (some : Flow) (parsed_to : IsParsedTo) (checked_to : IsCheckedTo) (larg
     parsed = parsed;
     checked = unit some.blocks;
     typed = typed;
+    looked = looked;
     plain = ap (λ (u : UnitView). has_plain_objects u) (unit_is some.blocks) ∙ plain;
     regular = ap (λ (u : UnitView). is_regular_unit u) (unit_is some.blocks) ∙ regular;
     flow = flow;

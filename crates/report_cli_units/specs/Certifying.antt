@@ -1,5 +1,5 @@
 -- Certificates of units: what stands behind the text of one, and behind the answer to one.
-use Rattle.std.specs.Prelude.{◌≡◌, ◌++◌, ℕ, ℤ, true, List, codes}
+use Rattle.std.specs.Prelude.{◌≡◌, ◌++◌, ℤ, true, List, codes}
 use Rattle.std.specs.Fmt.{decimal}
 use Rattle.cc_base.specs.Ascending.{is_ascending}
 use Rattle.cc_base.specs.Standard.{standard_limits}
@@ -23,7 +23,7 @@ use Rattle.cert_check_programs.specs.declared.checked_maps.Verified.{Verified}
 use Rattle.cert_check_programs.specs.declared.checked_maps.Verified.TheVariants as verified
 use Rattle.cert_check_programs.specs.Certificates.{IsCertificate, IsShown}
 use Rattle.report_cli_texts.specs.Reports.{Bytes}
-use Rattle.report_cli_units.specs.Judging.{SettingView, IsParsed, IsTyped, IsLowered}
+use Rattle.report_cli_units.specs.Judging.{SettingView, IsParsed, IsTyped, IsLooked, IsLowered}
 
 -- why a certificate is refused, in words
 abbrev pub cert_reason : CertFault → Bytes
@@ -31,12 +31,13 @@ cert_reason (Form n) = codes "Form " ++ decimal n
 cert_reason Start = codes "Start"
 cert_reason (Edge e) = codes "Edge " ++ decimal e
 
--- the program of a unit whose objects are plain and whose functions are regular; it is well formed
+-- the program of a unit that was looked at, whose objects are plain and whose functions are regular; it is well formed
 pub record IsProgram (unit : Unit7) (s : SettingView) (flow : Flow) : Type 0 where
   pub tree : Tree7
   pub parsed : IsParsed unit tree
   pub checked : Checked
   pub typed : IsTyped s tree checked
+  pub looked : IsLooked unit s checked
   pub plain : has_plain_objects (unit_view checked) ≡ true
   pub regular : is_regular_unit (unit_view checked) ≡ true
   pub lowered : IsLowered checked flow

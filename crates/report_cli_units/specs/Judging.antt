@@ -9,6 +9,7 @@ use Rattle.cc_base.specs.declared.refusals.Stop.{Stop}
 use Rattle.cc_base.specs.declared.refusals.Stop.TheVariants as stop
 use Rattle.c_layout.specs.declared.data_model.Model.{Model}
 use Rattle.c_layout.specs.CheckedUnits.{unit_view}
+use Rattle.c_layout.specs.Models.{is_model}
 use Rattle.c_layout.specs.DeclarationTrees.{unit_tree}
 use Rattle.c_layout.specs.declared.unit_tokens.Unit7.{Unit7}
 use Rattle.c_layout.specs.declared.syntax_tree.declarations.Tree7.{Tree7}
@@ -24,6 +25,7 @@ use Rattle.flow_program.specs.ThresholdNumbers.{limits_of}
 use Rattle.flow_program.specs.StructNumbers.{flow_numbers}
 use Rattle.flow_lower_objects.specs.PlainObjects.{has_plain_objects}
 use Rattle.flow_lower_units.specs.RegularUnits.{is_regular_unit}
+use Rattle.ref_machine_looks_units.specs.SmallUnits.{have_byte_texts, is_small_unit}
 use Rattle.flow_lower.specs.Lowerings as lowering
 use Rattle.flow_lower.specs.Lowerings.{IsLowering}
 use Rattle.flow_analysis.specs.Analyses.{IsAnalysis}
@@ -60,6 +62,14 @@ IsParsed unit tree = IsUnit unit.model unit.tokens (unit_tree tree)
 pub record IsTyped (s : SettingView) (tree : Tree7) (checked : Checked) : Type 0 where
   pub checks : check s.model s.entry (unit_tree tree) ≡ Ok (unit_view checked)
   pub model : checked.model ≡ s.model
+
+-- what typing does not ask, and a run needs in order not to be stuck: the model is one, the tokens are of bytes, and memory has
+-- room for the objects of the checked unit
+pub record IsLooked (unit : Unit7) (s : SettingView) (checked : Checked) : Type 0 where
+  pub proper : is_model s.model ≡ true
+  pub model : unit.model ≡ s.model
+  pub bytes : have_byte_texts unit.tokens ≡ true
+  pub small : is_small_unit (unit_view checked) ≡ true
 
 -- the program of a checked unit
 pub record IsLowered (checked : Checked) (flow : Flow) : Type 0 where
@@ -100,13 +110,14 @@ cells_from n (b ∷ bs) = cells_from (capped (n + base_cells b)) bs
 abbrev pub cell_count : Flow → ℕ
 cell_count flow = cells_from 0 flow.bases.items
 
--- an accepted unit: its checked unit, whose objects are plain and whose functions are regular, its well-formed program, the
--- program that is analysed, and what is found
+-- an accepted unit: its checked unit, which was looked at, whose objects are plain and whose functions are regular, its
+-- well-formed program, the program that is analysed, and what is found
 pub record IsJudged (unit : Unit7) (s : SettingView) (j : Judgement) : Type 0 where
   pub tree : Tree7
   pub parsed : IsParsed unit tree
   pub checked : Checked
   pub typed : IsTyped s tree checked
+  pub looked : IsLooked unit s checked
   pub plain : has_plain_objects (unit_view checked) ≡ true
   pub regular : is_regular_unit (unit_view checked) ≡ true
   pub flow : Flow

@@ -1,18 +1,19 @@
 -- One run of a unit: the checked unit that is run, and what its run comes to.
-use Rattle.std.specs.Prelude.{◌≡◌, ℕ, ℤ, List, Some, codes, slice_get}
+use Rattle.std.specs.Prelude.{◌≡◌, ℕ, ℤ, true, List, Some, codes, slice_get}
 use Rattle.cc_base.specs.declared.diagnostics.Place.{Place}
 use Rattle.c_layout.specs.CheckedUnits.{UnitView, unit_view, FunctionView}
 use Rattle.c_layout.specs.declared.unit_tokens.Unit7.{Unit7}
 use Rattle.c_layout.specs.declared.syntax_tree.declarations.Tree7.{Tree7}
 use Rattle.c_layout.specs.declared.checked_tree.checked_units.Checked.{Checked}
 use Rattle.flow_program.specs.declared.programs.Flow.{Flow}
+use Rattle.flow_lower_units.specs.RegularUnits.{is_regular_unit}
 use Rattle.ref_machine.specs.RunFacts.{End, Ended, Violation, Draws, Left, Steps}
 use Rattle.replay_run.specs.OutcomeViews.{OutcomeView}
 use Rattle.replay_run.specs.Replays.{IsOutcome, IsTooLarge}
 use Rattle.report_cli_texts.specs.Reports.{Bytes}
 use Rattle.report_cli_units.specs.declared.unit_replays.Replayed.{Replayed}
 use Rattle.report_cli_units.specs.declared.unit_replays.Replayed.TheVariants as replayed
-use Rattle.report_cli_units.specs.Judging.{SettingView, IsParsed, IsTyped, IsLowered}
+use Rattle.report_cli_units.specs.Judging.{SettingView, IsParsed, IsTyped, IsLooked, IsLowered}
 
 -- how a run stands, in words
 abbrev pub end_word : End → Bytes
@@ -42,12 +43,14 @@ abbrev pub IsRun : UnitView → List ℤ → ℕ → RunAnswer → Type 0
 IsRun u draws steps (ran outcome) = IsOutcome u draws steps outcome
 IsRun u draws steps (large place count limit) = IsEntryPlace u place × IsTooLarge u draws steps count limit
 
--- the same of a unit that was expanded, whose program is within the limits
+-- the same of a unit that was expanded and looked at, whose functions are regular, and whose program is within the limits
 pub record IsReplayed (unit : Unit7) (s : SettingView) (draws : List ℤ) (steps : ℕ) (answer : RunAnswer) : Type 0 where
   pub tree : Tree7
   pub parsed : IsParsed unit tree
   pub checked : Checked
   pub typed : IsTyped s tree checked
+  pub looked : IsLooked unit s checked
+  pub regular : is_regular_unit (unit_view checked) ≡ true
   pub flow : Flow
   pub lowered : IsLowered checked flow
   pub run : IsRun (unit_view checked) draws steps answer

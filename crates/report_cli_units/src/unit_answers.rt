@@ -6,7 +6,7 @@ ghost use Rattle.flow_lower_objects.specs.PlainObjects.{has_plain_objects};
 ghost use Rattle.flow_lower_units.specs.RegularUnits.{is_regular_unit};
 ghost use Rattle.flow_program.specs.WellFormed.{base_cells, is_well_formed};
 ghost use Rattle.cc_base.specs.Standard.{standard_limits};
-ghost use Rattle.report_cli_units.specs.Judging.{setting_view, judgement, cells_from, cell_count, IsParsed, IsTyped, IsLowered, IsTurned, IsJudged, IsFound, StopsUnit};
+ghost use Rattle.report_cli_units.specs.Judging.{setting_view, judgement, cells_from, cell_count, IsParsed, IsTyped, IsLooked, IsLowered, IsTurned, IsJudged, IsFound, StopsUnit};
 
 use crate::stages::{Stage, stop_at};
 use crate::unit_thresholds::unit_thresholds;
@@ -18,6 +18,7 @@ use flow_analysis::analyse;
 use flow_lower::lower;
 use flow_lower_counts::capped_sum;
 use flow_program::Flow;
+use report_cli_looks::{have_byte_texts, is_small_unit};
 use std::alloc::{AllocError, Global};
 use syntax_rules::syntactic;
 use turn_split::split;
@@ -117,6 +118,25 @@ pub(crate) fn typed(
     }
 }
 
+/// Looks at what typing does not ask, and a run needs in order not to be stuck.
+///
+/// # Errors
+///
+/// Want of memory where a token is not of bytes, which none is, or where memory has no room for an object of the unit,
+/// which only a string literal may be too long for.
+pub(crate) fn looked(unit: &Unit7, checked: &Checked, setting: Setting) -> Result<(), Memory>
+    requires proper { is_model setting.model.now ≡ true }
+    requires model { unit.now.model ≡ setting.model.now }
+    requires typed { checked.now.model ≡ setting.model.now }
+    ensures { IfOk result (λ _. IsLooked unit.now (setting_view setting.entry) checked.now) }
+{
+    if have_byte_texts(unit) && is_small_unit(checked) {
+        Ok(())
+    } else {
+        Err(Memory)
+    }
+}
+
 pub(crate) fn lowered(
     alloc: Global,
     unit: &Unit7,
@@ -162,15 +182,17 @@ fn turned(
     }
 }
 
-/// Parses, checks, lowers and analyses a unit.
+/// Parses, checks, lowers, looks at and analyses a unit.
 pub fn judge_unit(alloc: Global, unit: &Unit7, setting: Setting) -> Result<Judged, Stop>
-    requires { is_model setting.model.now ≡ true }
+    requires proper { is_model setting.model.now ≡ true }
+    requires model { unit.now.model ≡ setting.model.now }
     ensures judged { IfOk result (λ j. IsJudged unit.now (setting_view setting.entry) (judgement j)) }
     ensures stops { IfErr result (StopsUnit unit.now (setting_view setting.entry)) }
 {
     let tree = parsed(alloc, unit, setting)?;
     let checked = typed(alloc, unit, &tree, setting)?;
     let flow = lowered(alloc, unit, &tree, &checked, setting)?;
+    looked(unit, &checked, setting)?;
     match setting.turns {
         None => Ok(judge_program(alloc, &checked, &flow, &flow)?),
         Some(turns) => {

@@ -4,7 +4,7 @@ ghost use Rattle.c_layout.specs.Models.{is_model};
 ghost use Rattle.report_cli_units.specs.Judging.{setting_view, StopsUnit};
 ghost use Rattle.report_cli_units.specs.Certifying.{answer_view, IsProgram, IsProvedBy, IsProved, IsVerifiedUnit};
 
-use crate::unit_answers::{Setting, lowered, parsed, typed};
+use crate::unit_answers::{Setting, looked, lowered, parsed, typed};
 use crate::unit_thresholds::unit_thresholds;
 use c_layout::Unit7;
 use cc_base::{Memory, Stop};
@@ -12,9 +12,10 @@ use cert_check_programs::{Verified, prove_program, verify_program};
 use flow_program::Flow;
 use std::alloc::Global;
 
-/// Parses, checks and lowers a unit.
+/// Parses, checks, lowers and looks at a unit.
 fn program_of(alloc: Global, unit: &Unit7, setting: Setting) -> Result<Flow, Stop>
-    requires { is_model setting.model.now ≡ true }
+    requires proper { is_model setting.model.now ≡ true }
+    requires model { unit.now.model ≡ setting.model.now }
     ensures program { IfOk result (IsProgram unit.now (setting_view setting.entry)) }
     ensures model { IfOk result (λ flow. is_model flow.model ≡ true) }
     ensures stops { IfErr result (StopsUnit unit.now (setting_view setting.entry)) }
@@ -22,6 +23,7 @@ fn program_of(alloc: Global, unit: &Unit7, setting: Setting) -> Result<Flow, Sto
     let tree = parsed(alloc, unit, setting)?;
     let checked = typed(alloc, unit, &tree, setting)?;
     let flow = lowered(alloc, unit, &tree, &checked, setting)?;
+    looked(unit, &checked, setting)?;
     Ok(flow)
 }
 
@@ -37,7 +39,8 @@ fn text_of_program(alloc: Global, flow: &Flow) -> Result<Vec<u8>, Memory>
 
 /// The certificate of a unit.
 pub fn prove_unit(alloc: Global, unit: &Unit7, setting: Setting) -> Result<Vec<u8>, Stop>
-    requires { is_model setting.model.now ≡ true }
+    requires proper { is_model setting.model.now ≡ true }
+    requires model { unit.now.model ≡ setting.model.now }
     ensures proved { IfOk result (λ text. IsProved unit.now (setting_view setting.entry) text.items) }
     ensures stops { IfErr result (StopsUnit unit.now (setting_view setting.entry)) }
 {
@@ -53,7 +56,8 @@ pub fn verify_unit(
     setting: Setting,
     cert: &[u8],
 ) -> Result<Verified, Stop>
-    requires { is_model setting.model.now ≡ true }
+    requires proper { is_model setting.model.now ≡ true }
+    requires model { unit.now.model ≡ setting.model.now }
     ensures verified { IfOk result (λ v. IsVerifiedUnit unit.now (setting_view setting.entry) cert.now (answer_view v)) }
     ensures stops { IfErr result (StopsUnit unit.now (setting_view setting.entry)) }
 {

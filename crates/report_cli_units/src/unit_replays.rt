@@ -2,11 +2,12 @@
 ghost use Rattle.std.specs.Prelude.{◌≡◌, ◌≤◌, IfErr, IfOk, true};
 ghost use Rattle.c_layout.specs.CheckedUnits.{unit_view};
 ghost use Rattle.c_layout.specs.Models.{is_model};
+ghost use Rattle.flow_lower_units.specs.RegularUnits.{is_regular_unit};
 ghost use Rattle.flow_program.specs.declared.programs.Flow.{Flow};
 ghost use Rattle.report_cli_units.specs.Judging.{setting_view, IsLowered, IsParsed, IsTyped, StopsUnit};
 ghost use Rattle.report_cli_units.specs.Replaying.{run_answer, IsEntryPlace, IsReplayed, IsRun};
 
-use crate::unit_answers::{Setting, lowered, parsed, typed};
+use crate::unit_answers::{Setting, looked, lowered, parsed, typed};
 use c_layout::{Checked, Tree7, Unit7};
 use cc_base::{Memory, Place, Stop};
 use replay_run::{Outcome, ReplayStop, replay};
@@ -36,6 +37,7 @@ fn entry_place(
     requires parsed { IsParsed unit.now tree.now }
     requires typed { IsTyped (setting_view setting) tree.now checked.now }
     ensures place { IfOk result (IsEntryPlace (unit_view checked.now)) }
+    ensures regular { IfOk result (λ _. is_regular_unit (unit_view checked.now) ≡ true) }
     ensures lowered { IfOk result (λ _. (flow : Flow) × IsLowered checked.now flow) }
     ensures stops { IfErr result (StopsUnit unit.now (setting_view setting.entry)) }
 {
@@ -66,7 +68,7 @@ fn run(
     }
 }
 
-/// Parses, checks and lowers a unit, and takes its run over these draws, of so many steps at most, from 0 to
+/// Parses, checks, lowers and looks at a unit, and takes its run over these draws, of so many steps at most, from 0 to
 /// 1,000,000.
 pub fn replay_unit(
     alloc: Global,
@@ -75,7 +77,8 @@ pub fn replay_unit(
     draws: &[i128],
     steps: u64,
 ) -> Result<Replayed, Stop>
-    requires model { is_model setting.model.now ≡ true }
+    requires proper { is_model setting.model.now ≡ true }
+    requires model { unit.now.model ≡ setting.model.now }
     requires steps { steps ≤ 1000000 }
     ensures replayed { IfOk result (λ r. IsReplayed unit.now (setting_view setting.entry) draws.now steps (run_answer r)) }
     ensures stops { IfErr result (StopsUnit unit.now (setting_view setting.entry)) }
@@ -83,6 +86,7 @@ pub fn replay_unit(
     let tree = parsed(alloc, unit, setting)?;
     let checked = typed(alloc, unit, &tree, setting)?;
     let place = entry_place(alloc, unit, &tree, &checked, setting)?;
+    looked(unit, &checked, setting)?;
     let replayed = run(alloc, &checked, place, draws, steps)?;
     Ok(replayed)
 }

@@ -6,6 +6,7 @@ returns-clause-program c = record {
   parsed = c.in_ok-tree.ensures.parsed;
   checked = c.in_ok-checked.checked;
   typed = c.in_ok-checked.ensures.typed;
+  looked = c.in_ok-looked.ensures;
   plain = c.in_ok-flow.ensures.plain;
   regular = c.in_ok-flow.ensures.regular;
   lowered = c.in_ok-flow.ensures.lowered;
