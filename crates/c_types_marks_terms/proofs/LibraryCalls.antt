@@ -12,13 +12,11 @@ use Rattle.c_layout.specs.CheckedUnits.{UnitView}
 use Rattle.c_layout.specs.declared.data_model.Model.{Model}
 use Rattle.c_layout.specs.declared.library_functions.LibFn.{LibFn}
 use Rattle.c_layout.specs.declared.library_functions.LibFn.TheVariants as lib
-use Rattle.c_types_rules.specs.IntegerKinds.{size_rank, bytes_of, number_of}
+use Rattle.c_types_rules.specs.IntegerKinds.{kind_of, size_rank, bytes_of, number_of}
 use Rattle.c_types_rules.specs.declared.integer_kinds.Rank.TheVariants as rank
-use Rattle.c_types_scopes.specs.LibraryTypes.{result_slot, parameter_slots, slot_type, slot_types, library_result, library_parameters}
+use Rattle.c_types_scopes.specs.LibraryTypes.{slot_types, library_result, library_parameters}
 use Rattle.c_types_scopes.specs.Refusals.{Ruled}
 use Rattle.c_types_scopes.specs.States.{State}
-use Rattle.c_types_scopes.specs.declared.library_types.Slot.{Slot}
-use Rattle.c_types_scopes.specs.declared.library_types.Slot.TheVariants as slot
 use Rattle.c_types_operands.specs.Operands.{OperandView, is_void}
 use Rattle.c_types_primary.specs.Calls as calls
 use Rattle.c_types_primary.specs.Calls.{library_called, takes_format}
@@ -31,7 +29,7 @@ use Rattle.ref_machine_looks.specs.LookedTerms.{accepts, is_given, has_tests, ar
 use Rattle.c_types_marks.specs.KnownTypes.{HasTypes}
 use Rattle.c_types_marks.specs.MadeLaws.{ValuesAreMade, ConversionsGive}
 use Rattle.c_types_marks.specs.MadeTerms.{IsMadeOperand, Makes}
-use Rattle.c_types_marks.specs.ModelTypes.{IsTypeOf, Each}
+use Rattle.c_types_marks.specs.ModelTypes.{IsKindOf, IsTypeOf, Each}
 use Rattle.c_types_marks.specs.UnitParts.{IsPartOf}
 use Rattle.c_types_marks_rules.proofs.ModelKinds.{model_numbers}
 use Rattle.c_types_marks_terms.proofs.Arguments.{AreMade, GivesAll, arguments_given, given_marked, given_kinds}
@@ -41,18 +39,85 @@ use Rattle.c_types_marks_terms.proofs.Steps.{ground}
 
 -- ---- types
 
-slot_typed : (m : Model) (stream : ℕ) (s : Slot) → IsTypeOf m (slot_type m stream s)
-slot_typed m stream slot.Void = tt
-slot_typed m stream slot.Int = kind_is m rank.Int _
-slot_typed m stream slot.Size = kind_is m (size_rank m) _
-slot_typed m stream slot.Text = kind_is m rank.Char _
-slot_typed m stream slot.Memory = tt
-slot_typed m stream slot.Stream = tt
+int_typed : (m : Model) → IsKindOf m (kind_of m rank.Int true)
+int_typed m = kind_is m rank.Int true
 
-slots_typed : (m : Model) (stream : ℕ) (ss : List Slot) → Each (IsTypeOf m) (slot_types m stream ss)
+size_typed : (m : Model) → IsKindOf m (kind_of m (size_rank m) false)
+size_typed m = kind_is m (size_rank m) false
+
+text_typed : (m : Model) → IsKindOf m (kind_of m rank.Char m.char_signed)
+text_typed m = kind_is m rank.Char m.char_signed
+
+result_typed : (m : Model) (stream : ℕ) (f : LibFn) → IsTypeOf m (library_result m stream f)
+result_typed m stream lib.Malloc = tt
+result_typed m stream lib.Calloc = tt
+result_typed m stream lib.Realloc = tt
+result_typed m stream lib.Free = tt
+result_typed m stream lib.Memcpy = tt
+result_typed m stream lib.Memmove = tt
+result_typed m stream lib.Memset = tt
+result_typed m stream lib.Strlen = size_typed m
+result_typed m stream lib.Strcpy = text_typed m
+result_typed m stream lib.Strncpy = text_typed m
+result_typed m stream lib.Strcat = text_typed m
+result_typed m stream lib.Strcmp = int_typed m
+result_typed m stream lib.Isalpha = int_typed m
+result_typed m stream lib.Isdigit = int_typed m
+result_typed m stream lib.Isspace = int_typed m
+result_typed m stream lib.Isupper = int_typed m
+result_typed m stream lib.Islower = int_typed m
+result_typed m stream lib.Isalnum = int_typed m
+result_typed m stream lib.Toupper = int_typed m
+result_typed m stream lib.Tolower = int_typed m
+result_typed m stream lib.Getchar = int_typed m
+result_typed m stream lib.Fgets = text_typed m
+result_typed m stream lib.Putchar = int_typed m
+result_typed m stream lib.Puts = int_typed m
+result_typed m stream lib.Printf = int_typed m
+result_typed m stream lib.Exit = tt
+result_typed m stream lib.Abort = tt
+
+-- types, each of the model
+abbrev AreTypesOf : Model → List Ty → Type 0
+AreTypesOf m [] = Unit {0}
+AreTypesOf m (t ∷ ts) = IsTypeOf m t × AreTypesOf m ts
+
+each_typed : (m : Model) (ts : List Ty) → AreTypesOf m ts → Each (IsTypeOf m) ts
+each_typed m [] h = each_none (IsTypeOf m)
+each_typed m (t ∷ ts) h = each_first (IsTypeOf m) t ts h.0 (each_typed m ts h.1)
+
+parameters_are : (m : Model) (stream : ℕ) (f : LibFn) → AreTypesOf m (library_parameters m stream f)
 unfolding slot_types
-slots_typed m stream [] = each_none (IsTypeOf m)
-slots_typed m stream (s ∷ ss) = each_first (IsTypeOf m) (slot_type m stream s) (slot_types m stream ss) (slot_typed m stream s) (slots_typed m stream ss)
+parameters_are m stream lib.Malloc = (size_typed m, tt)
+parameters_are m stream lib.Calloc = (size_typed m, (size_typed m, tt))
+parameters_are m stream lib.Realloc = (tt, (size_typed m, tt))
+parameters_are m stream lib.Free = (tt, tt)
+parameters_are m stream lib.Memcpy = (tt, (tt, (size_typed m, tt)))
+parameters_are m stream lib.Memmove = (tt, (tt, (size_typed m, tt)))
+parameters_are m stream lib.Memset = (tt, (int_typed m, (size_typed m, tt)))
+parameters_are m stream lib.Strlen = (text_typed m, tt)
+parameters_are m stream lib.Strcpy = (text_typed m, (text_typed m, tt))
+parameters_are m stream lib.Strncpy = (text_typed m, (text_typed m, (size_typed m, tt)))
+parameters_are m stream lib.Strcat = (text_typed m, (text_typed m, tt))
+parameters_are m stream lib.Strcmp = (text_typed m, (text_typed m, tt))
+parameters_are m stream lib.Isalpha = (int_typed m, tt)
+parameters_are m stream lib.Isdigit = (int_typed m, tt)
+parameters_are m stream lib.Isspace = (int_typed m, tt)
+parameters_are m stream lib.Isupper = (int_typed m, tt)
+parameters_are m stream lib.Islower = (int_typed m, tt)
+parameters_are m stream lib.Isalnum = (int_typed m, tt)
+parameters_are m stream lib.Toupper = (int_typed m, tt)
+parameters_are m stream lib.Tolower = (int_typed m, tt)
+parameters_are m stream lib.Getchar = tt
+parameters_are m stream lib.Fgets = (text_typed m, (int_typed m, (tt, tt)))
+parameters_are m stream lib.Putchar = (int_typed m, tt)
+parameters_are m stream lib.Puts = (text_typed m, tt)
+parameters_are m stream lib.Printf = tt
+parameters_are m stream lib.Exit = (int_typed m, tt)
+parameters_are m stream lib.Abort = tt
+
+parameters_typed : (m : Model) (stream : ℕ) (f : LibFn) → Each (IsTypeOf m) (library_parameters m stream f)
+parameters_typed m stream f = each_typed m (library_parameters m stream f) (parameters_are m stream f)
 
 -- ---- what functions take and give
 
@@ -108,7 +173,7 @@ no_tests u at t f args false = refl
 pub library_called_made : (u : UnitView) (m : Model) (at : Place) (stream : ℕ) (f : LibFn) (es : List TermTree) → u.model ≡ m → is_model m ≡ true → are_marked_terms u (term_trees es) ≡ true → accepts f (argument_kinds (term_trees es)) ≡ true → IsMadeOperand u (library_called at (library_result m stream f) f es)
 library_called_made u m at stream f es same proper marked accepted = record {
   marked = and_from _ _ marked (and_from _ _ accepted (and_from _ _ (used_given m stream f) (subst (λ x. (not (gives f) || is_given x f (result_kind f) (scalar_of (library_result m stream f))) ≡ true) (sym same) (result_given m stream f proper))));
-  typed = in_model m u.model (library_result m stream f) (sym same) (slot_typed m stream (result_slot f));
+  typed = in_model m u.model (library_result m stream f) (sym same) (result_typed m stream f);
   bare = refl;
   constant = λ n e. absurd (cc);
   null = λ e. absurd (cc);
@@ -127,4 +192,4 @@ module _ (s : State) (u : UnitView) (h : HasTypes s) (p : IsPartOf s u) (values 
   library_call_made at f xs plain made =
       library_with_made at f (calls.converted_arguments s.known at xs (library_parameters s.known.numbers s.stream f)) plain
       (arguments_given u s.known (ground s u h p) values conversions at xs (library_parameters s.known.numbers s.stream f) made
-      (λ i t is. in_unit s u t p (slots_typed s.known.numbers s.stream (parameter_slots f) i t is)))
+      (λ i t is. in_unit s u t p (parameters_typed s.known.numbers s.stream f i t is)))

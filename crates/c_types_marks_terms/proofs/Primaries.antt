@@ -27,7 +27,6 @@ use Rattle.c_types_scopes.specs.StructTables.{MemberView}
 use Rattle.c_types_scopes.specs.States.{State, is_evaluated, with_literal}
 use Rattle.c_types_scopes.specs.declared.meanings.Meaning.{Meaning}
 use Rattle.c_types_scopes.specs.declared.meanings.Meaning.TheVariants as meaning
-use Rattle.c_types_scopes.specs.declared.struct_types.MemberEntry.{MemberEntry}
 use Rattle.c_types_operands.specs.Arithmetic.{int_kind}
 use Rattle.c_types_operands.specs.Operands.{OperandForm, AsValue, AsLvalue, OperandView, lvalue_type}
 use Rattle.c_types_primary.specs.Members as members
@@ -146,15 +145,15 @@ literal_step s at bytes h = literal_keeps s at bytes (is_evaluated s) h
 abbrev IsMemberOf : Model → MemberView → Type 0
 IsMemberOf m x = IsTypeOf m x.field.ctype
 
-field_holds : (m : Model) (e : MemberEntry) (o : Option FieldView) → HoldsIf (λ (f : FieldView). IsTypeOf m f.ctype) o → HoldsIf (IsMemberOf m) (option_map (structs.with_enumeration e.enumeration) o)
-field_holds m e None h = tt
-field_holds m e (Some f) h = h
+field_holds : (m : Model) (enumeration : Option ℕ) (o : Option FieldView) → HoldsIf (λ (f : FieldView). IsTypeOf m f.ctype) o → HoldsIf (IsMemberOf m) (option_map (structs.with_enumeration enumeration) o)
+field_holds m enumeration None h = tt
+field_holds m enumeration (Some f) h = h
 
-in_struct_holds : (m : Model) (e : MemberEntry) (o : Option StructView) → HoldsIf (λ (v : StructView). Each (λ (f : FieldView). IsTypeOf m f.ctype) v.fields) o → HoldsIf (IsMemberOf m) (structs.field_of e o)
+in_struct_holds : (m : Model) (e : _) (o : Option StructView) → HoldsIf (λ (v : StructView). Each (λ (f : FieldView). IsTypeOf m f.ctype) v.fields) o → HoldsIf (IsMemberOf m) (structs.field_of e o)
 in_struct_holds m e None h = tt
-in_struct_holds m e (Some v) h = field_holds m e (slice_get v.fields e.field) (there_if (λ (f : FieldView). IsTypeOf m f.ctype) v.fields e.field h)
+in_struct_holds m e (Some v) h = field_holds m e.enumeration (slice_get v.fields e.field) (there_if (λ (f : FieldView). IsTypeOf m f.ctype) v.fields e.field h)
 
-entry_holds : (s : State) (owner : ℕ) (e : Option MemberEntry) → HasTypes s → HoldsIf (IsMemberOf s.known.numbers) (structs.member_by s.types owner e)
+entry_holds : (s : State) (owner : ℕ) (e : _) → HasTypes s → HoldsIf (IsMemberOf s.known.numbers) (structs.member_by s.types owner e)
 entry_holds s owner None h = tt
 entry_holds s owner (Some e) h = in_struct_holds s.known.numbers e (slice_get s.types.structs owner) (there_if (λ (v : StructView). Each (λ (f : FieldView). IsTypeOf s.known.numbers f.ctype) v.fields) s.types.structs owner h.fields)
 

@@ -3,7 +3,7 @@ use Rattle.std.proofs.Common.{◌≡◌, ℕ, ℤ, Bool, true, false, ◌&&◌, 
 use Rattle.std.specs.Prelude.{cond}
 use Rattle.cc_base.specs.declared.diagnostics.Place.{Place}
 use Rattle.cc_base.specs.declared.int_types.IntType.{IntType}
-use Rattle.c_layout.specs.Types.{Ty, Int, Pointer, same_type}
+use Rattle.c_layout.specs.Types.{Ty, Int, Pointer, Array, Struct, Void, same_type}
 use Rattle.c_layout.specs.CheckedTrees as tree
 use Rattle.c_layout.specs.CheckedTrees.{TermTree, FormTree, LvalueTree, LvalueFormTree, Typed, Designates}
 use Rattle.c_layout.specs.declared.checked_tree.checked_terms.ConversionKind.{ConversionKind}
@@ -33,17 +33,11 @@ use Rattle.c_types_operands.specs.Indirections as indirections
 use Rattle.c_types_operands.specs.PointerArithmetic as pointers
 use Rattle.c_types_operands.specs.PointerArithmetic.{SumView}
 use Rattle.c_types_operands.specs.declared.arithmetic.KindPair.{KindPair}
-use Rattle.c_types_operands.specs.declared.comparisons.BinaryGroup.{BinaryGroup}
-use Rattle.c_types_operands.specs.declared.comparisons.BinaryGroup.TheVariants as group
 use Rattle.c_types_operators.specs.Assignments as assignments
 use Rattle.c_types_operators.specs.Choices as choices
 use Rattle.c_types_operators.specs.Choices.{ChoiceView}
 use Rattle.c_types_operators.specs.SizesAndCasts as sizes
 use Rattle.c_types_operators.specs.UnaryOperators as unaries
-use Rattle.c_types_operators.specs.declared.assignments.CompoundKind.{CompoundKind}
-use Rattle.c_types_operators.specs.declared.assignments.CompoundKind.TheVariants as compound
-use Rattle.c_types_operators.specs.declared.unary_operators.StepKind.{StepKind}
-use Rattle.c_types_operators.specs.declared.unary_operators.StepKind.TheVariants as steps
 use Rattle.ref_machine_looks_units.specs.LookedScopes.{is_scoped_term, is_scoped_place}
 use Rattle.c_types_scoped.specs.ScopedOperands.{ScopedTerm, ScopedPlace, ScopedForm, Scoped}
 use Rattle.c_types_scoped.proofs.Numbers.{two}
@@ -222,15 +216,26 @@ module _ (alive : List ℕ) where
     additive_by sign (Some kinds) = in_common k at x y g h sign false kinds
     additive_by sign None = pointers_added k at x.term y.term g h sign
 
-    binary_by : (sign : BinaryOp) (by : BinaryGroup) → Makes alive (comparisons.binary_by k at sign x y by)
-    binary_by sign group.Integers = operation_by k at x y g h sign (arithmetic.value_kinds x y)
-    binary_by sign group.Additive = additive_by sign (arithmetic.value_kinds x y)
-    binary_by sign group.Shift = shift_by k at x y g h sign (arithmetic.value_kinds x y)
-    binary_by sign group.Relation = relation_by k at x y g h sign (arithmetic.value_kinds x y)
-    binary_by sign group.Equality = equality_by k at x y g h sign (arithmetic.value_kinds x y)
+    operators_between : (sign : BinaryOp) → Makes alive (comparisons.between_values k at sign x y)
+    operators_between op.Multiply = operation_by k at x y g h op.Multiply (arithmetic.value_kinds x y)
+    operators_between op.Divide = operation_by k at x y g h op.Divide (arithmetic.value_kinds x y)
+    operators_between op.Remainder = operation_by k at x y g h op.Remainder (arithmetic.value_kinds x y)
+    operators_between op.And = operation_by k at x y g h op.And (arithmetic.value_kinds x y)
+    operators_between op.Xor = operation_by k at x y g h op.Xor (arithmetic.value_kinds x y)
+    operators_between op.Or = operation_by k at x y g h op.Or (arithmetic.value_kinds x y)
+    operators_between op.Add = additive_by op.Add (arithmetic.value_kinds x y)
+    operators_between op.Subtract = additive_by op.Subtract (arithmetic.value_kinds x y)
+    operators_between op.ShiftLeft = shift_by k at x y g h op.ShiftLeft (arithmetic.value_kinds x y)
+    operators_between op.ShiftRight = shift_by k at x y g h op.ShiftRight (arithmetic.value_kinds x y)
+    operators_between op.Less = relation_by k at x y g h op.Less (arithmetic.value_kinds x y)
+    operators_between op.Greater = relation_by k at x y g h op.Greater (arithmetic.value_kinds x y)
+    operators_between op.LessEqual = relation_by k at x y g h op.LessEqual (arithmetic.value_kinds x y)
+    operators_between op.GreaterEqual = relation_by k at x y g h op.GreaterEqual (arithmetic.value_kinds x y)
+    operators_between op.Equal = equality_by k at x y g h op.Equal (arithmetic.value_kinds x y)
+    operators_between op.NotEqual = equality_by k at x y g h op.NotEqual (arithmetic.value_kinds x y)
 
   pub binary_scoped : (k : Known) (at : Place) (sign : BinaryOp) (x y : OperandView) → Scoped alive x → Scoped alive y → Makes alive (comparisons.binary k at sign x y)
-  binary_scoped k at sign x y g h = binary_by k at (value_of x) (value_of y) (value_scoped x g) (value_scoped y h) sign (comparisons.group_of sign)
+  binary_scoped k at sign x y g h = operators_between k at (value_of x) (value_of y) (value_scoped x g) (value_scoped y h) sign
 
   -- ---- indirections
 
@@ -250,14 +255,20 @@ module _ (alive : List ℕ) where
 
   -- ---- unary operators
 
-  stepped_by : (at : Place) (sign : StepOp) (time : StepTime) (l : LvalueTree) (o : Option StepKind) → ScopedPlace alive l → Makes alive (unaries.step_by at sign time l o)
-  stepped_by at sign time l None h = tt
-  stepped_by at sign time l (Some (steps.Integer kind)) h = h
-  stepped_by at sign time l (Some (steps.Pointer size)) h = h
+  pointer_stepped : (at : Place) (sign : StepOp) (time : StepTime) (l : LvalueTree) (size : Option ℕ) → ScopedPlace alive l → Makes alive (unaries.step_by at sign time l (unaries.pointer_kind size))
+  pointer_stepped at sign time l None h = tt
+  pointer_stepped at sign time l (Some size) h = h
+
+  stepped_by : (k : Known) (at : Place) (sign : StepOp) (time : StepTime) (l : LvalueTree) (t : Ty) → ScopedPlace alive l → Makes alive (unaries.step_by at sign time l (unaries.step_kind k t))
+  stepped_by k at sign time l (Int kind) h = h
+  stepped_by k at sign time l (Pointer t) h = pointer_stepped at sign time l (size_of k t) h
+  stepped_by k at sign time l (Array t n) h = tt
+  stepped_by k at sign time l (Struct i) h = tt
+  stepped_by k at sign time l Void h = tt
 
   stepped_of : (k : Known) (at : Place) (sign : StepOp) (time : StepTime) (o : Option LvalueTree) → IfPlace alive o → Makes alive (unaries.step_of k at sign time o)
   stepped_of k at sign time None h = tt
-  stepped_of k at sign time (Some l) h = stepped_by at sign time l (unaries.step_kind k (lvalue_type l)) h
+  stepped_of k at sign time (Some l) h = stepped_by k at sign time l (lvalue_type l) h
 
   pub step_scoped : (k : Known) (at : Place) (sign : StepOp) (time : StepTime) (o : OperandView) → Scoped alive o → Makes alive (unaries.step k at sign time o)
   step_scoped k at sign time o h = stepped_of k at sign time (own_lvalue o) (own_scoped o h)
@@ -381,14 +392,34 @@ module _ (alive : List ℕ) where
         (copied_from at l (assignments.complete_source k o (lvalue_type l)) g (source_of_size o (lvalue_type l) (size_of k (lvalue_type l)) h))
         (cond_makes (is_scalar (lvalue_type l)) (assignments.simple k at l o) (type_fault at) (simple_by at l (conversions.assigned k at (term_of o) (lvalue_type l)) g (assigned_scoped k at (term_of o) (lvalue_type l) (value_scoped o h))) tt)
 
-    compound_as : (sign : BinaryOp) (c : Option CompoundKind) → Makes alive (assignments.compound_as k at sign l (term_of o) c)
-    compound_as sign None = tt
-    compound_as sign (Some (compound.Integer computed kind)) = two (is_scoped_place alive l) (is_scoped_term alive (conversions.integer_as k (term_of o) kind)) g (integer_scoped k (term_of o) kind (value_scoped o h))
-    compound_as sign (Some (compound.Pointer down size)) = two (is_scoped_place alive l) (is_scoped_term alive (term_of o)) g (value_scoped o h)
+    compound_number : (kind : IntType) → is_scoped_place alive l && is_scoped_term alive (conversions.integer_as k (term_of o) kind) ≡ true
+    compound_number kind = two (is_scoped_place alive l) (is_scoped_term alive (conversions.integer_as k (term_of o) kind)) g (integer_scoped k (term_of o) kind (value_scoped o h))
+
+    numbers_by : (sign : BinaryOp) (kinds : KindPair) → Makes alive (assignments.compound_as k at sign l (term_of o) (Some (assignments.integer_compound k sign kinds)))
+    numbers_by op.ShiftLeft kinds = compound_number (promoted k.numbers kinds.right)
+    numbers_by op.ShiftRight kinds = compound_number (promoted k.numbers kinds.right)
+    numbers_by _ kinds = compound_number (common k.numbers kinds.left kinds.right)
+
+    moves_by : (sign : BinaryOp) (down : Bool) (size : Option ℕ) → Makes alive (assignments.compound_as k at sign l (term_of o) (assignments.pointer_step down size))
+    moves_by sign down None = tt
+    moves_by sign down (Some size) = two (is_scoped_place alive l) (is_scoped_term alive (term_of o)) g (value_scoped o h)
+
+    moved : (sign : BinaryOp) → Makes alive (assignments.compound_as k at sign l (term_of o) (assignments.moved_pointer k sign (lvalue_type l)))
+    moved op.Add = moves_by op.Add false (pointers.target_size k (lvalue_type l))
+    moved op.Subtract = moves_by op.Subtract true (pointers.target_size k (lvalue_type l))
+    moved _ = tt
+
+    moved_if : (sign : BinaryOp) (b : Bool) → Makes alive (assignments.compound_as k at sign l (term_of o) (cond b (assignments.moved_pointer k sign (lvalue_type l)) None))
+    moved_if sign true = moved sign
+    moved_if sign false = tt
+
+    compound_by : (sign : BinaryOp) (p : Option KindPair) → Makes alive (assignments.compound_as k at sign l (term_of o) (assignments.compound_by k sign (lvalue_type l) (term_type (term_of o)) p))
+    compound_by sign (Some kinds) = numbers_by sign kinds
+    compound_by sign None = moved_if sign (is_integer (term_type (term_of o)))
 
     assignment_by : (how : AssignOp) → Makes alive (assignments.assignment_by k at how l o)
     assignment_by assign.Simple = assigned_to
-    assignment_by (assign.Compound sign) = compound_as sign (assignments.compound_kind k sign (lvalue_type l) (term_type (term_of o)))
+    assignment_by (assign.Compound sign) = compound_by sign (arithmetic.integer_kinds (lvalue_type l) (term_type (term_of o)))
 
   assignment_to : (k : Known) (at : Place) (how : AssignOp) (y : OperandView) (o : Option LvalueTree) → IfPlace alive o → Scoped alive y → Makes alive (assignments.assignment_to k at how y o)
   assignment_to k at how y None g h = tt
