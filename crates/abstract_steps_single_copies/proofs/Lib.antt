@@ -1,0 +1,4 @@
+pub mod SpelledRows
+pub mod CharacterLeaves
+pub mod ToldSpells
+pub mod ToldLiterals

@@ -1,0 +1,6 @@
+pub mod WaysTold
+pub mod PointerTests
+pub mod NullTests
+pub mod RelabelledObjects
+pub mod CaseTests
+pub mod IntegerSides
