@@ -1,0 +1,103 @@
+-- Programs whose one run passes each block once at most, on rows that tell its states; and that an analysis of such a program finds no
+-- more than this run violates.
+use Rattle.std.specs.Prelude.{◌≡◌, ℕ, ℤ, true, false, List, [], Option, Some, slice_get}
+use Rattle.std.specs.List.{Contains}
+use Rattle.cc_base.specs.InductiveMap.{IsInductive}
+use Rattle.cc_base.specs.Lattices.{LatticeOf}
+use Rattle.cc_base.specs.IntegerDomains.{IntegersOf}
+use Rattle.cc_base.specs.declared.diagnostics.Place.{Place}
+use Rattle.cc_base.specs.declared.diagnostics.Rule.{Rule}
+use Rattle.cc_base.specs.declared.limit_table.Limits.{Limits}
+use Rattle.c_layout.specs.CheckedUnits.{UnitView}
+use Rattle.flow_program.specs.declared.machine_instructions.Instruction.{Instruction}
+use Rattle.flow_program.specs.declared.machine_instructions.Operation.{Operation}
+use Rattle.flow_program.specs.declared.machine_instructions.Operation.TheVariants as op
+use Rattle.flow_program.specs.declared.programs.Flow.{Flow}
+use Rattle.value_domain.specs.declared.row_cells.Cell.{Cell}
+use Rattle.value_domain.specs.Cells.{cell_lattice}
+use Rattle.rule_checks.specs.AdmittedRules.{instructions_of}
+use Rattle.lib_models_effects.specs.Worlds.{World, Stuck, Violation}
+use Rattle.flow_program_views.specs.ProgramViews.{flow_view}
+use Rattle.flow_program_machine.specs.FlowStates.{Standing, running, stopped, found_in}
+use Rattle.flow_program_machine.specs.FlowSteps.{flow_steps}
+use Rattle.flow_program_machine.specs.FlowStarts.{flow_begin}
+use Rattle.store_domain_meaning.specs.Coverage.{state_of}
+use Rattle.abstract_steps_system.specs.FlowMachines.{is_head_at, start_of, flow_machine}
+use Rattle.abstract_steps_sound.specs.OperandTypes.{HasOperands}
+use Rattle.abstract_steps_sound_copied_structs.specs.StructTables.{HasStructs}
+use Rattle.abstract_steps_sound_spelling.specs.SpellSteps.{SpellsCharacters}
+use Rattle.abstract_steps_covered.specs.Covering.{Admits}
+use Rattle.abstract_steps_single.specs.SingleLaws.{HasRight, IsPlainCall, ValueStepsAreTold, PointerStepsAreTold, CallsAreTold}
+use Rattle.abstract_steps_single.specs.SingleRows.{IsPlainProgram, TellsState}
+use Rattle.abstract_steps_single_store.specs.TypedAccesses.{HasObjects, IsTyped}
+use Rattle.abstract_steps_single_store.specs.StoreLaws.{LoadsAreTold, StoresAreTold, EntersAreTold, LeavesAreTold, ForgetsAreTold, ClearsAreTold}
+use Rattle.abstract_steps_single_copies.specs.TypedCopies.{IsTypedCopy}
+use Rattle.abstract_steps_single_copies.specs.CopyLaws.{SpellsAreTold, CopiesAreTold}
+use Rattle.abstract_steps_single_ways.specs.WayLaws.{WaysAreApart, WaysAreTold}
+
+-- ---- programs
+
+-- accesses are of the kind of what lies there, texts lie over characters, and calls are of few functions
+abbrev pub IsSingleStep : Flow → Operation → Standing → Type 0
+IsSingleStep flow (op.Load to from kind) s = IsTyped flow s from kind
+IsSingleStep flow (op.Store to from kind kept) s = IsTyped flow s to kind
+IsSingleStep flow (op.Copy to from index) s = IsTypedCopy flow (op.Copy to from index) s
+IsSingleStep flow (op.Spell base offset room text) s = SpellsCharacters flow (op.Spell base offset room text)
+IsSingleStep flow (op.Library to name arguments newest size) s = IsPlainCall (op.Library to name arguments newest size)
+IsSingleStep flow (op.ReadLine to text count stream) s = ⊥
+IsSingleStep flow _ s = Unit {0}
+
+-- what the laws on an instruction suppose of the state before it
+pub record IsSingleAt (flow : Flow) (o : Operation) (s : Standing) : Type 0 where
+  pub step : IsSingleStep flow o s
+  pub operands : HasOperands o s.temps
+  pub right : HasRight o s.temps
+
+-- what the laws suppose of a program and of its run under no numbers of the outside
+pub record IsSingleProgram (flow : Flow) (u : UnitView) : Type 0 where
+  pub plain : IsPlainProgram flow
+  pub objects : HasObjects flow
+  pub structs : HasStructs flow
+  pub apart : WaysAreApart flow
+  -- no edge goes back
+  pub headless : (b : ℕ) → is_head_at flow.blocks.items b ≡ false
+  -- the run begins
+  pub first : Standing
+  pub begins : flow_begin u (flow_view flow) [] ≡ running first []
+  pub unstuck : (count : ℕ) (w : World) (found : List Violation) → flow_steps (flow_view flow) count (flow_begin u (flow_view flow) []) ≡ stopped Stuck w found → ⊥
+  pub steps : (count : ℕ) (s : Standing) (found : List Violation) (i : Instruction) → flow_steps (flow_view flow) count (flow_begin u (flow_view flow) []) ≡ running s found → slice_get (instructions_of flow s.block) s.at ≡ Some i → IsSingleAt flow i.operation s
+
+-- ---- violations
+
+-- the run under no numbers of the outside violates the rule at the place
+pub record IsViolatedAlone (flow : Flow) (u : UnitView) (place : Place) (rule : Rule) : Type 0 where
+  pub count : ℕ
+  pub there : Contains (found_in (flow_steps (flow_view flow) count (flow_begin u (flow_view flow) []))) (record { at = place; rule = rule })
+
+-- ---- the laws on single instructions together
+
+module _ {I : Type 0} (l : LatticeOf I) (n : IntegersOf I) (stands : I → ℤ → Type 0) (flow : Flow) where
+  pub record SingleLaws (limits : Limits) : Type 0 where
+    pub values : ValueStepsAreTold l n stands flow
+    pub pointers : PointerStepsAreTold l n stands flow
+    pub calls : CallsAreTold l n stands flow
+    pub loads : LoadsAreTold l n stands flow
+    pub stores : StoresAreTold l n stands flow
+    pub copies : CopiesAreTold l n stands flow
+    pub spells : SpellsAreTold l n stands flow
+    pub enters : EntersAreTold l n stands flow
+    pub leaves : LeavesAreTold l n stands flow
+    pub forgets : ForgetsAreTold l n stands flow
+    pub clears : ClearsAreTold l n stands flow
+    pub ways : WaysAreTold l n stands flow limits
+
+-- ---- maps
+
+module _ {I : Type 0} (l : LatticeOf I) (n : IntegersOf I) (flow : Flow) where
+  -- the row of the system's entry tells the states in which runs of a unit begin
+  abbrev pub EntryTells : List ℤ → UnitView → Type 0
+  EntryTells list u = (draws : List ℤ) (s : Standing) → flow_begin u (flow_view flow) draws ≡ running s [] → TellsState l n flow (start_of l n flow list) (state_of s)
+
+  -- each pair that every inductive map admits is violated by the run
+  abbrev pub AdmitOnlyRun : List ℤ → UnitView → Type 0
+  AdmitOnlyRun list u = (place : Place) (rule : Rule) → ((rows : List (Option (List (Cell I)))) → IsInductive (cell_lattice l) (flow_machine l n flow list) rows → Admits l n flow rows place rule) → IsViolatedAlone flow u place rule
