@@ -5,3 +5,4 @@ pub mod PassedBlocks
 pub mod Ways
 pub mod SingleSteps
 pub mod SingleRuns
+pub mod SingleAnalyses

@@ -45,10 +45,12 @@ use Rattle.store_domain_sound_programs.specs.Premises.{HasPremises}
 use Rattle.store_domain_sound_programs.proofs.ShapedBases.{all_at}
 use Rattle.abstract_steps_sound.specs.OperandTypes.{HasOperands}
 use Rattle.abstract_steps_sound.specs.SoundSteps.{IsReached, StandsBehind}
-use Rattle.abstract_steps_covered.specs.SoundEnds.{StepsGoOnSoundly, EndsGoOnSoundly}
-use Rattle.abstract_steps_covered.specs.Covering.{rows_behind, Admits}
+use Rattle.abstract_steps_covered.specs.SoundEnds.{IsDoneIn, StepsGoOnSoundly, EndsGoOnSoundly}
+use Rattle.abstract_steps_covered.specs.Covering.{HasTypedRuns, rows_behind, Admits}
 use Rattle.abstract_steps_covered.proofs.Blocks.{IsAt, is_at, block_facts, goes_or_ends, last_is, get_last}
 use Rattle.abstract_steps_covered.proofs.GoingOn.{go_on}
+use Rattle.abstract_steps_sound_copied_structs.specs.StructTables.{HasStructs}
+use Rattle.abstract_steps_sound_programs.specs.OpenSteps.{SpellsOverCharacters}
 use Rattle.abstract_steps_sound_edges.specs.EdgeSteps.{TestsAreSound}
 use Rattle.abstract_steps_single.specs.SingleSteps.{IsDefined}
 use Rattle.abstract_steps_single_ways.specs.WayLaws.{FitsWay, IsWay, TestsAreTold}
@@ -79,7 +81,7 @@ module _ {I : Type 0} {l : LatticeOf I} {n : IntegersOf I} {stands : I → ℤ �
     (leaves : (number : ℕ) (row : List (Cell I)) → is_own_row l n list flow.bases.items flow.width row ≡ true → through l n flow list number row ≡ edge_end l n flow (edge_at flow.edges.items number).from number row)
     (owns : (block number : ℕ) (row x : List (Cell I)) → is_own_row l n list flow.bases.items flow.width row ≡ true → edge_end l n flow block number row ≡ Some x → is_own_row l n list flow.bases.items flow.width x ≡ true)
     (start_own : is_own_row l n list flow.bases.items flow.width (start_of l n flow list) ≡ true)
-    (u : UnitView) (single : IsSingleProgram flow u) where
+    (structs : HasStructs flow) (texts : SpellsOverCharacters flow) (u : UnitView) (typed : HasTypedRuns flow u) (single : IsSingleProgram flow u) where
   abbrev f : FlowView
   f = flow_view flow
 
@@ -156,6 +158,12 @@ module _ {I : Type 0} {l : LatticeOf I} {n : IntegersOf I} {stands : I → ℤ �
       is_single : IsSingleAt flow it.operation g.s
       is_single = single.steps count g.s g.found it g.is in_list
 
+      operands : HasOperands it.operation g.s.temps
+      operands = typed [] count g.s g.found it g.is in_list
+
+      done : IsDoneIn flow it.operation
+      done = record { block = g.s.block; at = g.s.at; instruction = it; is = in_list; does = refl }
+
       defined : IsDefined reply
       defined w e = single.unstuck (suc count) w (g.found ++ violations_at it.place w.violated) (stepped ∙ ap (run_by g.found it.place) e)
 
@@ -178,8 +186,8 @@ module _ {I : Type 0} {l : LatticeOf I} {n : IntegersOf I} {stands : I → ℤ �
 
       goes_out : (on : leads it.operation ≡ On) (y : Reply Standing) → reply ≡ y → Outcome y
       goes_out on y e =
-          let told = step_told l n stands flow limits laws p single.objects single.structs single.plain g.passed.before.naming row g.s reached g.passed.before.tells it.operation on is_single.step fits is_single.operands is_single.right defined in
-          let sound = steps_sound g.passed.before.naming row (begun g.s) it.operation (on, record { block = g.s.block; at = g.s.at; instruction = it; is = in_list; does = refl }) fits is_single.operands reached in
+          let told = step_told l n stands flow limits laws p single.objects structs texts single.plain g.passed.before.naming row g.s reached g.passed.before.tells it.operation on done is_single.step fits operands is_single.right defined in
+          let sound = steps_sound g.passed.before.naming row (begun g.s) it.operation (on, done) fits operands reached in
           by_reply y e (λ t w d. both l n flow stands (operate l n flow row it.operation) (record t { world = w }) (sound.goes_on t w d) (told.goes_on t w d)) told.ends (λ r c. subst (λ z. Contains (world_of z).violated r) e (told.violated r c))
         where
           by_reply : (y : Reply Standing) → reply ≡ y → ((t : Standing) (w : World) → reply ≡ goes t w → IsBoth l n flow stands (operate l n flow row it.operation) (record t { world = w })) → ((why : Why) (w : World) → reply ≡ stops why w → operate l n flow row it.operation ≡ None) → ((r : Rule) → violates (operation_violations l n flow row it.operation) r ≡ true → Contains (world_of y).violated r) → Outcome y

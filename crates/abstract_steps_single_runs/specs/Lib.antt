@@ -1,1 +1,2 @@
 pub mod SingleRuns
+pub mod SingleAnalyses

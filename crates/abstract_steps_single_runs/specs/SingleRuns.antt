@@ -23,9 +23,6 @@ use Rattle.flow_program_machine.specs.FlowSteps.{flow_steps}
 use Rattle.flow_program_machine.specs.FlowStarts.{flow_begin}
 use Rattle.store_domain_meaning.specs.Coverage.{state_of}
 use Rattle.abstract_steps_system.specs.FlowMachines.{is_head_at, start_of, flow_machine}
-use Rattle.abstract_steps_sound.specs.OperandTypes.{HasOperands}
-use Rattle.abstract_steps_sound_copied_structs.specs.StructTables.{HasStructs}
-use Rattle.abstract_steps_sound_spelling.specs.SpellSteps.{SpellsCharacters}
 use Rattle.abstract_steps_covered.specs.Covering.{Admits}
 use Rattle.abstract_steps_single.specs.SingleLaws.{HasRight, IsPlainCall, ValueStepsAreTold, PointerStepsAreTold, CallsAreTold}
 use Rattle.abstract_steps_single.specs.SingleRows.{IsPlainProgram, TellsState}
@@ -37,29 +34,26 @@ use Rattle.abstract_steps_single_ways.specs.WayLaws.{WaysAreApart, WaysAreTold}
 
 -- ---- programs
 
--- accesses are of the kind of what lies there, texts lie over characters, and calls are of few functions
+-- accesses are of the kind of what lies there, and calls are of few functions
 abbrev pub IsSingleStep : Flow → Operation → Standing → Type 0
 IsSingleStep flow (op.Load to from kind) s = IsTyped flow s from kind
 IsSingleStep flow (op.Store to from kind kept) s = IsTyped flow s to kind
 IsSingleStep flow (op.Copy to from index) s = IsTypedCopy flow (op.Copy to from index) s
-IsSingleStep flow (op.Spell base offset room text) s = SpellsCharacters flow (op.Spell base offset room text)
 IsSingleStep flow (op.Library to name arguments newest size) s = IsPlainCall (op.Library to name arguments newest size)
 IsSingleStep flow (op.ReadLine to text count stream) s = ⊥
 IsSingleStep flow _ s = Unit {0}
 
--- what the laws on an instruction suppose of the state before it
+-- what the laws on an instruction suppose of the state before it, beside operands of the types that soundness supposes
 pub record IsSingleAt (flow : Flow) (o : Operation) (s : Standing) : Type 0 where
   pub step : IsSingleStep flow o s
-  pub operands : HasOperands o s.temps
   pub right : HasRight o s.temps
 
 -- what the laws suppose of a program and of its run under no numbers of the outside
 pub record IsSingleProgram (flow : Flow) (u : UnitView) : Type 0 where
   pub plain : IsPlainProgram flow
   pub objects : HasObjects flow
-  pub structs : HasStructs flow
   pub apart : WaysAreApart flow
-  -- no edge goes back
+  -- no edge enters a block from that block or a later one
   pub headless : (b : ℕ) → is_head_at flow.blocks.items b ≡ false
   -- the run begins
   pub first : Standing
