@@ -3,4 +3,3 @@ pub mod PointerTests
 pub mod NullTests
 pub mod RelabelledObjects
 pub mod CaseTests
-pub mod IntegerSides

@@ -17,7 +17,7 @@ module _ {I : Type 0} (l : LatticeOf I) (n : IntegersOf I) (stands : I → ℤ �
   abbrev pub NullTestsAreTold : Type 0
   NullTestsAreTold = HasPremises flow → (test : Test) → IsNullTest flow test → TestIsTold l n stands flow (Some test)
 
-  -- not proved yet
+  -- a test on integers: of two sides, or of an object with itself
   abbrev pub IntegerTestsAreTold : Type 0
   IntegerTestsAreTold = HasPremises flow → (test : Test) → IsIntegerTest flow test → TestIsTold l n stands flow (Some test)
 

@@ -1,5 +1,5 @@
 -- Sides of tests on integers: what a row tells of them, and what it tells where one is refined.
-use Rattle.std.proofs.Common.{◌≡◌, ℕ, zero, suc, ◌-◌, ◌<◌, Bool, true, false, ◌&&◌, ◌||◌, Option, Some, List, [], ◌∷◌, length, take, arith, subst, sym, refl, ap, ◌∙◌, inl, inr}
+use Rattle.std.proofs.Common.{◌≡◌, ℕ, zero, suc, ◌<◌, Bool, true, false, ◌&&◌, ◌||◌, Option, Some, List, [], ◌∷◌, length, take, arith, subst, sym, refl, ap, ◌∙◌, inl, inr}
 use Rattle.std.specs.Prelude.{slice_get, ℤ, int_le}
 use Rattle.std.proofs.lemmas.Bool.{cases_Bool, and_parts}
 use Rattle.std.proofs.lemmas.Option.{slice_get_within}
@@ -86,7 +86,7 @@ size_above : (n : ℕ) → is_size n ≡ true → 0 < n
 size_above zero h = cc
 size_above (suc n) h = omega arith
 
-bounded_constant : (m : _) (rel : Rel) (k : IntType) (z : ℤ) (other : Labels) (memory : Memory) → bounded m rel k (constant z) other memory ≡ memory
+pub bounded_constant : (m : _) (rel : Rel) (k : IntType) (z : ℤ) (other : Labels) (memory : Memory) → bounded m rel k (constant z) other memory ≡ memory
 bounded_constant m rel k z other memory = elim (cases_Bool (is_unlabelled other)) [ inl e ↦ rw e refl | inr e ↦ rw e refl ]
 
 -- ---- numbers
