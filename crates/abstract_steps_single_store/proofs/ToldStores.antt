@@ -350,8 +350,7 @@ module _ {I : Type 0} {l : LatticeOf I} {n : IntegersOf I} {stands : I → ℤ �
                 let window : window_of n rest (table.class_bytes flow.model place.leaf.class) ≡ Some (window_between place.leaf.offset place.leaf.offset) = subst (λ z. window_of n rest (table.class_bytes flow.model z) ≡ Some (window_between place.leaf.offset place.leaf.offset)) place.class there in
                 let something = some_value n s.bases s.world.memory place.leaf v y fit_leaf (t.temps from v has) in
                 subst (λ z. Sets (store l n flow.model flow.bases.items rest z (signed_in kind) y row)) (sym place.class)
-                (subst (λ z. Sets (store l n flow.model flow.bases.items rest place.leaf.class z y row)) (sym place.signed)
-                (store_sets l n flow.model flow.bases.items row h.base base.0 base.1 h.few (plain.no_heap h.base base.0 base.1) (base_fits flow p h.base base.0 base.1) (allocated_not h.base base.0 base.1) lit (objects h.base base.0 base.1) (λ j leaf f. plain.apart h.base j base.0 leaf base.1 f) place.number place.leaf place.among y rest touches.sole window something))
+                (store_sets l n flow.model flow.bases.items row h.base base.0 base.1 h.few (plain.no_heap h.base base.0 base.1) (base_fits flow p h.base base.0 base.1) (allocated_not h.base base.0 base.1) lit (objects h.base base.0 base.1) (λ j leaf f. plain.apart h.base j base.0 leaf base.1 f) place.number place.leaf place.among y (signed_in kind) rest touches.sole window something)
 
             row_is : setting.after ≡ sound.row
             unfolding operate store_step store_to move_temp
@@ -369,9 +368,9 @@ module _ {I : Type 0} {l : LatticeOf I} {n : IntegersOf I} {stands : I → ℤ �
             }
 
             told_state : TellsState l n flow setting.after (state_of now)
-            told_state = stored_state q ranges exact flow p row r.long (state_of s) t after_store.memory sound.stands_for.sane.small h.base i base.0 base.1 h.names
-                (λ d j f ne same. ne (same_Some d h.base (sym (r.stands_for.lives.named d j f) ∙ (ap naming same ∙ r.stands_for.lives.named h.base i h.names))))
+            told_state = stored_state q ranges exact flow p row r.long (state_of s) after_store.memory sound.stands_for.sane.small h.base i base.0 base.1
                 (objects h.base base.0 base.1) (λ j leaf f. plain.apart h.base j base.0 leaf base.1 f) place.number place.leaf place.among v fit_leaf (sound.stands_for.held.within from v has) written y (t.temps from v has) setting.after setting.keeps
+                t h.names (λ d j f ne same. ne (same_Some d h.base (sym (r.stands_for.lives.named d j f) ∙ (ap naming same ∙ r.stands_for.lives.named h.base i h.names))))
 
             inside_told : IsDefined (keeping now kept) → ToldAt pair (keeping now kept)
             inside_told d =
