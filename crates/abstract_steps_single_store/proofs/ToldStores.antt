@@ -42,7 +42,6 @@ use Rattle.abstract_steps_instructions.specs.StepViolations.{operation_violation
 use Rattle.lib_models_memory.specs.Bytes.{MachinePointer, null, into, Content, Byte}
 use Rattle.lib_models_memory.specs.Tags.{tag_of}
 use Rattle.store_domain_meaning.specs.Matching.{Matched}
-use Rattle.store_domain_meaning.specs.Matching.{Fits as MatchFits}
 use Rattle.lib_models_memory.specs.Instances.{Life, live, ended, freed, Memory, bytes_of, byte_at, life_at}
 use Rattle.lib_models_memory.specs.ScalarSizes.{class_bytes, is_pointer, same_class}
 use Rattle.lib_models_memory.specs.Scalars.{Scalar, integer, pointer}
@@ -106,7 +105,7 @@ first_only : (x : Content) (k : ℕ) (y : Content) → slice_get (x ∷ []) k �
 first_only x zero y e = (refl, same_Some x y e)
 first_only x (suc k) y e = cc
 
-fit_of : (kind : declared.Scalar) (v : Scalar) (leaf : Leaf) → class_in kind ≡ leaf.class → is_of_kind kind v ≡ true → FitsLeaf leaf v
+pub fit_of : (kind : declared.Scalar) (v : Scalar) (leaf : Leaf) → class_in kind ≡ leaf.class → is_of_kind kind v ≡ true → FitsLeaf leaf v
 fit_of (of.Int k) (integer z la) leaf same h = sym (ap is_pointer same) ∙ integer_class k
 fit_of (of.Int k) (pointer m) leaf same h = absurd (true≢false (sym h))
 fit_of of.Pointer (integer z la) leaf same h = absurd (true≢false (sym h))
@@ -123,11 +122,11 @@ module _ {I : Type 0} (n : IntegersOf I) (entered : ℕ → Option ℕ) (memory 
   pointer_some p null h = rw (h.bases, h.null) refl
   pointer_some p (into i offset lo hi) h = life_some p (life_at memory i) i offset lo hi h
 
-  some_value : (leaf : Leaf) (v : Scalar) (y : Value I) → FitsLeaf leaf v → TellsScalar n entered memory y v → is_nothing n leaf.class y ≡ false
+  pub some_value : (leaf : Leaf) (v : Scalar) (y : Value I) → FitsLeaf leaf v → TellsScalar n entered memory y v → is_nothing n leaf.class y ≡ false
   some_value leaf (integer z la) y f g = rw (f, g.number) refl
   some_value leaf (pointer m) y f g = rw f (pointer_some y.pointer m g.points)
 
-base_fits : (flow : Flow) → HasPremises flow → (b : ℕ) (base : BaseInfo) → slice_get flow.bases.items b ≡ Some base → Fits base
+pub base_fits : (flow : Flow) → HasPremises flow → (b : ℕ) (base : BaseInfo) → slice_get flow.bases.items b ≡ Some base → Fits base
 base_fits flow p b base at = let k = p.laid.laid.close b base at in let s = p.laid.laid.small in omega (arith, k, s)
 
 -- ---- the value that is kept
