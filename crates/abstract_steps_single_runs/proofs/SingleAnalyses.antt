@@ -1,11 +1,13 @@
 -- The laws on single instructions hold of intervals, but for those that are open; so an analysis of a plain program finds its run.
-use Rattle.std.specs.Prelude.{◌≡◌, ◌&&◌, ℕ, ℤ, true, Option, Some, None, List, [], slice_get}
+use Rattle.std.specs.Prelude.{◌≡◌, ◌&&◌, ℕ, ℤ, true, Option, Some, None, List, [], ◌∷◌, map, replicate, slice_get}
 use Rattle.std.specs.List.{Contains}
-use Rattle.std.proofs.Common.{arith, refl, inl, inr}
+use Rattle.std.proofs.Common.{arith, refl, ap, ◌∙◌, inl, inr}
+use Rattle.std.proofs.lemmas.List.{length-replicate}
 use Rattle.std.proofs.lemmas.Bool.{and_parts}
 use Rattle.cc_base.specs.Standard.{standard_limits}
 use Rattle.cc_base.specs.declared.diagnostics.Diag.{Diag}
-use Rattle.c_layout.specs.CheckedUnits.{UnitView}
+use Rattle.c_layout.specs.CheckedUnits.{LocalView, UnitView}
+use Rattle.c_layout.specs.Types.{Int}
 use Rattle.flow_program.specs.FlowSystems.{well_formed_system}
 use Rattle.flow_program.specs.WellFormed.{is_well_formed}
 use Rattle.flow_program.specs.declared.flow_edges.Edge.{Edge}
@@ -13,6 +15,9 @@ use Rattle.flow_program.specs.declared.flow_edges.EdgeKind.{EdgeKind}
 use Rattle.flow_program.specs.declared.flow_edges.EdgeKind.TheVariants as kind
 use Rattle.flow_program.specs.declared.flow_edges.Test.{Test}
 use Rattle.flow_program.specs.declared.programs.Flow.{Flow}
+use Rattle.flow_program.specs.declared.programs.ParameterInput.{ParameterInput}
+use Rattle.value_domain.specs.declared.row_cells.Cell.TheVariants.{Nothing}
+use Rattle.lib_models_effects.specs.UnitStarts.{with_parameters, entry_parameters, world_before}
 use Rattle.flow_program_objects.specs.Sites.{has_sites, ends_with_lines}
 use Rattle.flow_program_objects.specs.SpelledTexts.{spells_over_characters}
 use Rattle.flow_program_objects.specs.ScalarTests.{all_follow_scalars}
@@ -21,8 +26,8 @@ use Rattle.interval_domain.specs.IntervalLattice.{interval_lattice, interval_ord
 use Rattle.interval_domain.specs.IntervalNumbers.{interval_numbers, interval_bounding, interval_ranges}
 use Rattle.interval_domain_laws.specs.Operations.{interval_monotone, interval_sound}
 use Rattle.flow_program_views.specs.ProgramViews.{flow_view}
-use Rattle.flow_program_machine.specs.FlowStates.{running}
-use Rattle.flow_program_machine.specs.FlowStarts.{flow_begin}
+use Rattle.flow_program_machine.specs.FlowStates.{Standing, running}
+use Rattle.flow_program_machine.specs.FlowStarts.{first_standing, begun_by, flow_begin}
 use Rattle.store_domain_meaning.specs.Coverage.{state_of}
 use Rattle.store_domain_sound_programs.specs.Premises.{HasPremises}
 use Rattle.store_domain_sound_programs.proofs.WellFormedPremises.{meets_premises}
@@ -47,6 +52,13 @@ use Rattle.abstract_steps_sound_analyses.proofs.ScalarTests.{kinds_proved}
 use Rattle.abstract_steps_sound_maps.specs.CarriedMaps.{EntryStands}
 use Rattle.flow_analysis.specs.Analyses.{IsAnalysis}
 use Rattle.flow_analysis.specs.CheckedPrograms.{IsChecked}
+use Rattle.abstract_steps_sound_beginnings.specs.UnitStarts.{StartsAs}
+use Rattle.abstract_steps_sound_beginnings.proofs.Beginnings.{runs_begin}
+use Rattle.abstract_steps_sound_entries.proofs.EntryRows.{entry_stands}
+use Rattle.abstract_steps_sound_checked_starts.proofs.CheckedStarts.{sound_structs, unit_starts}
+use Rattle.abstract_steps_laws_own_starts.proofs.RegularStarts.{regular_fits}
+use Rattle.abstract_steps_single.specs.SingleRows.{IsPlainProgram, TellsState}
+use Rattle.abstract_steps_single_store.specs.TypedAccesses.{HasObjects}
 use Rattle.abstract_steps_single.proofs.ExactIntervals.{intervals_exact}
 use Rattle.abstract_steps_single.proofs.ValueSteps.{value_step_told}
 use Rattle.abstract_steps_single_pointers.proofs.PointerSteps.{pointer_step_told}
@@ -63,9 +75,12 @@ use Rattle.abstract_steps_single_ways.proofs.WaysTold.{way_told}
 use Rattle.abstract_steps_single_ways.proofs.PointerTests.{pointer_test_told}
 use Rattle.abstract_steps_single_ways.proofs.NullTests.{null_test_told}
 use Rattle.abstract_steps_single_ways.proofs.CaseTests.{case_test_told}
-use Rattle.abstract_steps_single_runs.specs.SingleRuns.{SingleLaws, EntryTells, IsSingleProgram, IsViolatedAlone}
-use Rattle.abstract_steps_single_runs.specs.SingleAnalyses.{OpenLaws, FindsOnlyRun}
+use Rattle.abstract_steps_single_tests.proofs.IntegerTests.{integer_test_told}
+use Rattle.abstract_steps_single_starts.proofs.ToldStarts.{start_is_told}
+use Rattle.abstract_steps_single_runs.specs.SingleRuns.{SingleLaws, IsSingleProgram}
+use Rattle.abstract_steps_single_runs.specs.SingleAnalyses.{OpenLaws, FindsOnlyRunOf, FindsOnlyRunsOfChecked}
 use Rattle.abstract_steps_single_runs.proofs.PassedBlocks.{both}
+use Rattle.abstract_steps_single_runs.proofs.PlainObjects.{has_objects}
 use Rattle.abstract_steps_single_runs.proofs.SingleRuns.{admits_only_run}
 
 module _ (flow : Flow) (more : OpenLaws flow) where
@@ -89,7 +104,7 @@ module _ (flow : Flow) (more : OpenLaws flow) where
     test_told : (test : Option Test) → TestIsProved flow test → TestIsTold interval_lattice interval_numbers Stands flow test
     test_told None h = tt
     test_told (Some test) h = elim h [
-      | inl k ↦ more.tests p test k
+      | inl k ↦ (λ naming row s r t d. integer_test_told interval_order interval_bounding interval_sound intervals_exact flow p naming row s r t test k d)
       | inr other ↦ elim other [
         | inl k ↦ (λ naming row s r t d. pointer_test_told _ _ flow row s t test k d)
         | inr k ↦ (λ naming row s r t d. null_test_told interval_bounding flow p naming row s r t test k d)
@@ -133,19 +148,49 @@ module _ (flow : Flow) (list : List ℤ) (found : List Diag) (a : IsAnalysis flo
       let t = and_parts (spells_over_characters flow) (all_follow_scalars flow) e.1 in
       kinds_proved flow t.1
 
-  pub finds_only_run : FindsOnlyRun flow list found
-  finds_only_run u stand tell more single d there =
-      let laid = laid_out standard_limits flow regular.well_formed (omega (arith)) in
-      let named = all_named standard_limits flow regular.well_formed regular.scalars in
-      let rising = regular_rising flow list a.regular in
-      let near = regular.near in
-      let behind = stand [] single.first single.begins in
-      admits_only_run interval_order flow list standard_limits regular.well_formed p (steps flow list a.regular enough) (ends flow list a.regular enough)
-      (tests_sound interval_order interval_bounding interval_sound interval_ranges flow p enough.tests)
-      (laws flow more) (λ number e is. kind_told flow more p e.kind (kinds number e is))
-      (λ number row own. fit_nothing interval_order interval_rounding interval_heights interval_bounding interval_monotone interval_ranges interval_ends flow list near enough.reaches laid named rising number row own)
-      (λ block number row x own e. leaves_own interval_order interval_rounding interval_heights interval_bounding interval_monotone interval_ranges interval_ends flow list near enough.reaches laid named rising block number row x own e)
-      ((flow-laws interval_order interval_rounding interval_heights interval_bounding interval_ends flow list (well_formed_system standard_limits flow regular.well_formed)).start_attained)
-      structs enough.texts u (typed_runs flow list a.regular enough u stand a.rows a.inductive a.typed) single
-      (both interval_lattice interval_numbers flow Stands (Some (start_of interval_lattice interval_numbers flow list)) single.first behind (record { row = start_of interval_lattice interval_numbers flow list; is = refl; tells = tell [] single.first single.begins }))
-      d.place d.rule (λ rows closed. a.made d there rows closed)
+  objects : IsPlainProgram flow → HasObjects flow
+  objects plain = has_objects standard_limits flow regular.well_formed plain
+
+  module _ (u : UnitView) (starts : StartsAs u flow) where
+    stand : EntryStands interval_lattice interval_numbers Stands flow list u
+    stand = entry_stands flow list a.regular enough.reaches a.started u starts
+
+    -- a unit whose program takes no numbers begins
+    none_taken : {X Y : Type 0} (f : X → Y) (xs : List X) → map f xs ≡ [] → xs ≡ []
+    none_taken f [] e = refl
+    none_taken f (x ∷ xs) e = cc
+
+    begin : Standing
+    begin = first_standing u (flow_view flow) (world_before u [])
+
+    begins : flow.parameters.items ≡ [] → flow_begin u (flow_view flow) [] ≡ running begin []
+    unfolding begin
+    begins none =
+        let own : entry_parameters u ≡ [] = none_taken (λ (x : LocalView). x.ctype) (entry_parameters u) (starts.inputs.types ∙ ap (map (λ (x : ParameterInput). Int x.kind)) none) in
+        ap (λ z. begun_by u (flow_view flow) (with_parameters u z (world_before u []))) own
+
+    tells : (single : IsSingleProgram flow u) → TellsState interval_lattice interval_numbers flow (start_of interval_lattice interval_numbers flow list) (state_of begin)
+    tells single =
+        start_is_told interval_order interval_bounding interval_sound interval_ranges intervals_exact flow standard_limits regular.well_formed p (objects single.plain) single.plain single.parameters u starts.model
+        (runs_begin flow standard_limits regular.well_formed regular.initial p u starts)
+        (replicate flow.width Nothing) (start_of interval_lattice interval_numbers flow list) (length-replicate flow.width Nothing) (regular_fits flow list a.regular enough.reaches a.started) [] begin (begins single.parameters)
+
+    pub finds_only_run : FindsOnlyRunOf flow found u
+    finds_only_run more single d there =
+        let laid = laid_out standard_limits flow regular.well_formed (omega (arith)) in
+        let named = all_named standard_limits flow regular.well_formed regular.scalars in
+        let rising = regular_rising flow list a.regular in
+        let near = regular.near in
+        let behind = stand [] begin (begins single.parameters) in
+        admits_only_run interval_order flow list standard_limits regular.well_formed p (steps flow list a.regular enough) (ends flow list a.regular enough)
+        (tests_sound interval_order interval_bounding interval_sound interval_ranges flow p enough.tests)
+        (laws flow more) (λ number e is. kind_told flow more p e.kind (kinds number e is))
+        (λ number row own. fit_nothing interval_order interval_rounding interval_heights interval_bounding interval_monotone interval_ranges interval_ends flow list near enough.reaches laid named rising number row own)
+        (λ block number row x own e. leaves_own interval_order interval_rounding interval_heights interval_bounding interval_monotone interval_ranges interval_ends flow list near enough.reaches laid named rising block number row x own e)
+        ((flow-laws interval_order interval_rounding interval_heights interval_bounding interval_ends flow list (well_formed_system standard_limits flow regular.well_formed)).start_attained)
+        structs enough.texts (objects single.plain) u (typed_runs flow list a.regular enough u stand a.rows a.inductive a.typed) single begin (begins single.parameters)
+        (both interval_lattice interval_numbers flow Stands (Some (start_of interval_lattice interval_numbers flow list)) begin behind (record { row = start_of interval_lattice interval_numbers flow list; is = refl; tells = tells single }))
+        d.place d.rule (λ rows closed. a.made d there rows closed)
+
+  pub checked_only_run : FindsOnlyRunsOfChecked flow found
+  checked_only_run u is = finds_only_run u (unit_starts u flow (sound_structs flow list a.regular a.checked.structs) is)

@@ -53,8 +53,9 @@ use Rattle.abstract_steps_sound_copied_structs.specs.StructTables.{HasStructs}
 use Rattle.abstract_steps_sound_programs.specs.OpenSteps.{SpellsOverCharacters}
 use Rattle.abstract_steps_sound_edges.specs.EdgeSteps.{TestsAreSound}
 use Rattle.abstract_steps_single.specs.SingleSteps.{IsDefined}
+use Rattle.abstract_steps_single_store.specs.TypedAccesses.{HasObjects}
 use Rattle.abstract_steps_single_ways.specs.WayLaws.{FitsWay, IsWay, TestsAreTold}
-use Rattle.abstract_steps_single_runs.specs.SingleRuns.{IsSingleProgram, IsSingleAt, IsViolatedAlone, SingleLaws, EntryTells, AdmitOnlyRun}
+use Rattle.abstract_steps_single_runs.specs.SingleRuns.{IsSingleProgram, IsSingleAt, IsViolatedAlone, SingleLaws, AdmitOnlyRun}
 use Rattle.abstract_steps_single_runs.proofs.BlockEdges.{edge_leads}
 use Rattle.abstract_steps_single_runs.proofs.MapPairs.{admitted_in}
 use Rattle.abstract_steps_single_runs.proofs.Tables.{listed, listed_length, listed_at, left_from, left_in, left_less}
@@ -81,7 +82,7 @@ module _ {I : Type 0} {l : LatticeOf I} {n : IntegersOf I} {stands : I → ℤ �
     (leaves : (number : ℕ) (row : List (Cell I)) → is_own_row l n list flow.bases.items flow.width row ≡ true → through l n flow list number row ≡ edge_end l n flow (edge_at flow.edges.items number).from number row)
     (owns : (block number : ℕ) (row x : List (Cell I)) → is_own_row l n list flow.bases.items flow.width row ≡ true → edge_end l n flow block number row ≡ Some x → is_own_row l n list flow.bases.items flow.width x ≡ true)
     (start_own : is_own_row l n list flow.bases.items flow.width (start_of l n flow list) ≡ true)
-    (structs : HasStructs flow) (texts : SpellsOverCharacters flow) (u : UnitView) (typed : HasTypedRuns flow u) (single : IsSingleProgram flow u) where
+    (structs : HasStructs flow) (texts : SpellsOverCharacters flow) (objects : HasObjects flow) (u : UnitView) (typed : HasTypedRuns flow u) (single : IsSingleProgram flow u) where
   abbrev f : FlowView
   f = flow_view flow
 
@@ -186,7 +187,7 @@ module _ {I : Type 0} {l : LatticeOf I} {n : IntegersOf I} {stands : I → ℤ �
 
       goes_out : (on : leads it.operation ≡ On) (y : Reply Standing) → reply ≡ y → Outcome y
       goes_out on y e =
-          let told = step_told l n stands flow limits laws p single.objects structs texts single.plain g.passed.before.naming row g.s reached g.passed.before.tells it.operation on done is_single.step fits operands is_single.right defined in
+          let told = step_told l n stands flow limits laws p objects structs texts single.plain g.passed.before.naming row g.s reached g.passed.before.tells it.operation on done is_single.step fits operands is_single.right defined in
           let sound = steps_sound g.passed.before.naming row (begun g.s) it.operation (on, done) fits operands reached in
           by_reply y e (λ t w d. both l n flow stands (operate l n flow row it.operation) (record t { world = w }) (sound.goes_on t w d) (told.goes_on t w d)) told.ends (λ r c. subst (λ z. Contains (world_of z).violated r) e (told.violated r c))
         where
@@ -333,20 +334,20 @@ module _ {I : Type 0} {l : LatticeOf I} {n : IntegersOf I} {stands : I → ℤ �
   first_is (goes v w) s e = let a : first_standing u f w ≡ s = cc in record { block = ap (λ z. z.block) (sym a); at = ap (λ z. z.at) (sym a) }
   first_is (stops why w) s e = cc
 
-  module _ (start : IsBoth l n flow stands (Some (start_of l n flow list)) single.first) where
+  module _ (begin : Standing) (begins : flow_begin u f [] ≡ running begin []) (start : IsBoth l n flow stands (Some (start_of l n flow list)) begin) where
     first : GoesOn (run 0) (left_from flow.blocks.items 0)
     first =
-        let a = first_is (start_world u []) single.first single.begins in
+        let a = first_is (start_world u []) begin begins in
         record {
           rows = put_at empty_table 0 (start_of l n flow list);
           b = 0;
           at = 0;
-          s = single.first;
+          s = begin;
           found = [];
-          is = single.begins;
+          is = begins;
           block = a.block;
           stands_at = a.at;
-          passed = begun_passed l n flow stands list o start_own single.first start;
+          passed = begun_passed l n flow stands list o start_own begin start;
           few = omega arith;
         }
 

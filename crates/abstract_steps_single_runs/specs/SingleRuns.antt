@@ -21,12 +21,11 @@ use Rattle.flow_program_views.specs.ProgramViews.{flow_view}
 use Rattle.flow_program_machine.specs.FlowStates.{Standing, running, stopped, found_in}
 use Rattle.flow_program_machine.specs.FlowSteps.{flow_steps}
 use Rattle.flow_program_machine.specs.FlowStarts.{flow_begin}
-use Rattle.store_domain_meaning.specs.Coverage.{state_of}
-use Rattle.abstract_steps_system.specs.FlowMachines.{is_head_at, start_of, flow_machine}
+use Rattle.abstract_steps_system.specs.FlowMachines.{is_head_at, flow_machine}
 use Rattle.abstract_steps_covered.specs.Covering.{Admits}
 use Rattle.abstract_steps_single.specs.SingleLaws.{HasRight, IsPlainCall, ValueStepsAreTold, PointerStepsAreTold, CallsAreTold}
-use Rattle.abstract_steps_single.specs.SingleRows.{IsPlainProgram, TellsState}
-use Rattle.abstract_steps_single_store.specs.TypedAccesses.{HasObjects, IsTyped}
+use Rattle.abstract_steps_single.specs.SingleRows.{IsPlainProgram}
+use Rattle.abstract_steps_single_store.specs.TypedAccesses.{IsTyped}
 use Rattle.abstract_steps_single_store.specs.StoreLaws.{LoadsAreTold, StoresAreTold, EntersAreTold, LeavesAreTold, ForgetsAreTold, ClearsAreTold}
 use Rattle.abstract_steps_single_copies.specs.TypedCopies.{IsTypedCopy}
 use Rattle.abstract_steps_single_copies.specs.CopyLaws.{SpellsAreTold, CopiesAreTold}
@@ -48,16 +47,14 @@ pub record IsSingleAt (flow : Flow) (o : Operation) (s : Standing) : Type 0 wher
   pub step : IsSingleStep flow o s
   pub right : HasRight o s.temps
 
--- what the laws suppose of a program and of its run under no numbers of the outside
+-- what the laws suppose of a program, and of its run under no numbers of the outside
 pub record IsSingleProgram (flow : Flow) (u : UnitView) : Type 0 where
   pub plain : IsPlainProgram flow
-  pub objects : HasObjects flow
+  pub parameters : flow.parameters.items ≡ []
   pub apart : WaysAreApart flow
   -- no edge enters a block from that block or a later one
   pub headless : (b : ℕ) → is_head_at flow.blocks.items b ≡ false
-  -- the run begins
-  pub first : Standing
-  pub begins : flow_begin u (flow_view flow) [] ≡ running first []
+  -- a step of the run is defined
   pub unstuck : (count : ℕ) (w : World) (found : List Violation) → flow_steps (flow_view flow) count (flow_begin u (flow_view flow) []) ≡ stopped Stuck w found → ⊥
   pub steps : (count : ℕ) (s : Standing) (found : List Violation) (i : Instruction) → flow_steps (flow_view flow) count (flow_begin u (flow_view flow) []) ≡ running s found → slice_get (instructions_of flow s.block) s.at ≡ Some i → IsSingleAt flow i.operation s
 
@@ -88,10 +85,6 @@ module _ {I : Type 0} (l : LatticeOf I) (n : IntegersOf I) (stands : I → ℤ �
 -- ---- maps
 
 module _ {I : Type 0} (l : LatticeOf I) (n : IntegersOf I) (flow : Flow) where
-  -- the row of the system's entry tells the states in which runs of a unit begin
-  abbrev pub EntryTells : List ℤ → UnitView → Type 0
-  EntryTells list u = (draws : List ℤ) (s : Standing) → flow_begin u (flow_view flow) draws ≡ running s [] → TellsState l n flow (start_of l n flow list) (state_of s)
-
   -- each pair that every inductive map admits is violated by the run
   abbrev pub AdmitOnlyRun : List ℤ → UnitView → Type 0
   AdmitOnlyRun list u = (place : Place) (rule : Rule) → ((rows : List (Option (List (Cell I)))) → IsInductive (cell_lattice l) (flow_machine l n flow list) rows → Admits l n flow rows place rule) → IsViolatedAlone flow u place rule
