@@ -51,16 +51,16 @@ module _ (flow : Flow) where
       let mine : take x.edges rest ≡ take x.edges (drop x.first_edge edges) = ap (take x.edges) (r ∙ ap (λ z. drop z edges) (sym (eqb-true x.first_edge first q.0))) in
       elim (cases_lt j x.edges) [
         | inl a ↦
-          (let there = take_get x.edges rest j e a g in
-          let leave = all_at (λ (z : Edge). (z.from == at) && nat_lt z.to (length flow.blocks.items)) (take x.edges rest) j e w.0 there in
-          let from = eqb-true e.from at (and_parts (e.from == at) (nat_lt e.to (length flow.blocks.items)) leave).0 in
-          record { index = 0; holder = x; among = refl; from = omega (arith, from); place = j; own = subst (λ z. slice_get z j ≡ Some e) mine there })
+            (let there = take_get x.edges rest j e a g in
+            let leave = all_at (λ (z : Edge). (z.from == at) && nat_lt z.to (length flow.blocks.items)) (take x.edges rest) j e w.0 there in
+            let from = eqb-true e.from at (and_parts (e.from == at) (nat_lt e.to (length flow.blocks.items)) leave).0 in
+            record { index = 0; holder = x; among = refl; from = omega (arith, from); place = j; own = subst (λ z. slice_get z j ≡ Some e) mine there })
         | inr a ↦
-          (let k : ℕ = j - x.edges in
-          let there : j ≡ x.edges + k = omega (arith, a) in
-          let s = of_block (at + 1) (first + x.edges) xs (drop x.edges rest) (ap (drop x.edges) r ∙ drop_more first x.edges (first + x.edges) edges refl) p.1 k e (get_drop x.edges rest k j there ∙ g) in
-          let from = s.from in
-          record { index = suc s.index; holder = s.holder; among = s.among; from = omega (arith, from); place = s.place; own = s.own })
+            (let k : ℕ = j - x.edges in
+            let there : j ≡ x.edges + k = omega (arith, a) in
+            let s = of_block (at + 1) (first + x.edges) xs (drop x.edges rest) (ap (drop x.edges) r ∙ drop_more first x.edges (first + x.edges) edges refl) p.1 k e (get_drop x.edges rest k j there ∙ g) in
+            let from = s.from in
+            record { index = suc s.index; holder = s.holder; among = s.among; from = omega (arith, from); place = s.place; own = s.own })
       ]
 
   pub edge_leads : (limits : Limits) → is_well_formed limits flow ≡ true → (number b at : ℕ) (e : Edge) (i : Instruction) → slice_get edges number ≡ Some e → e.from ≡ b → slice_get (instructions_of flow b) at ≡ Some i → (leads i.operation ≡ On → ⊥) → FitsLead (leads i.operation) e.kind

@@ -2,8 +2,6 @@ pub mod BlockEdges
 pub mod MapPairs
 pub mod Tables
 pub mod PassedBlocks
-pub mod PlainObjects
 pub mod Ways
 pub mod SingleSteps
 pub mod SingleRuns
-pub mod SingleAnalyses

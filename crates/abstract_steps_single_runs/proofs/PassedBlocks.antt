@@ -284,11 +284,11 @@ module _ {I : Type 0} (l : LatticeOf I) (n : IntegersOf I) (flow : Flow) where
                 let made : step machine other (rows (machine.source other)) ≡ edge l n flow p.before.row other = along other (Some p.before.row) leaving end_is in
                 elim (cases_eq other number) [
                   | inl same ↦
-                    (let it : edge_at flow.edges.items other ≡ e = same_Some (edge_at flow.edges.items other) e (sym there ∙ (ap (slice_get flow.edges.items) same ∙ edge_is)) in
-                    let to : machine.target other ≡ e.to = ap (λ (z : Edge). z.to) it in
-                    let got : step machine other (rows (machine.source other)) ≡ Some h.row = made ∙ (ap (edge l n flow p.before.row) same ∙ h.is) in
-                    let goal : reached_leq order (Some h.row) (next e.to) ≡ true = subst (λ z. reached_leq order (Some h.row) z ≡ true) (sym next_here) (reached_leq-refl order (cell_order o) (Some h.row)) in
-                    subst (λ z. reached_leq order (step machine other (rows (machine.source other))) (next z) ≡ true) (sym to) (subst (λ z. reached_leq order z (next e.to) ≡ true) (sym got) goal))
+                      (let it : edge_at flow.edges.items other ≡ e = same_Some (edge_at flow.edges.items other) e (sym there ∙ (ap (slice_get flow.edges.items) same ∙ edge_is)) in
+                      let to : machine.target other ≡ e.to = ap (λ (z : Edge). z.to) it in
+                      let got : step machine other (rows (machine.source other)) ≡ Some h.row = made ∙ (ap (edge l n flow p.before.row) same ∙ h.is) in
+                      let goal : reached_leq order (Some h.row) (next e.to) ≡ true = subst (λ z. reached_leq order (Some h.row) z ≡ true) (sym next_here) (reached_leq-refl order (cell_order o) (Some h.row)) in
+                      subst (λ z. reached_leq order (step machine other (rows (machine.source other))) (next z) ≡ true) (sym to) (subst (λ z. reached_leq order z (next e.to) ≡ true) (sym got) goal))
                   | inr ne ↦ subst (λ z. reached_leq order z (next (machine.target other)) ≡ true) (sym (made ∙ apart other (edge_at flow.edges.items other) there leaving ne)) refl
                 ]
 

@@ -55,7 +55,7 @@ use Rattle.abstract_steps_sound_edges.specs.EdgeSteps.{TestsAreSound}
 use Rattle.abstract_steps_single.specs.SingleSteps.{IsDefined}
 use Rattle.abstract_steps_single_store.specs.TypedAccesses.{HasObjects}
 use Rattle.abstract_steps_single_ways.specs.WayLaws.{FitsWay, IsWay, TestsAreTold}
-use Rattle.abstract_steps_single_runs.specs.SingleRuns.{IsSingleProgram, IsSingleAt, IsViolatedAlone, SingleLaws, AdmitOnlyRun}
+use Rattle.abstract_steps_single_runs.specs.SingleRuns.{IsSingleProgram, IsSingleAt, IsViolatedAlone, SingleLaws, AdmitOnlyRun, MapsAdmitOnlyRun}
 use Rattle.abstract_steps_single_runs.proofs.BlockEdges.{edge_leads}
 use Rattle.abstract_steps_single_runs.proofs.MapPairs.{admitted_in}
 use Rattle.abstract_steps_single_runs.proofs.Tables.{listed, listed_length, listed_at, left_from, left_in, left_less}
@@ -380,3 +380,8 @@ module _ {I : Type 0} {l : LatticeOf I} {n : IntegersOf I} {stands : I → ℤ �
 
     pub admits_only_run : AdmitOnlyRun l n flow list u
     admits_only_run place rule h = admitted_alone end.ended.rows end.ended.closed place rule (h (map end.ended.rows end.ended.closed) (inductive end.ended.rows end.ended.closed))
+
+pub maps_admit : {I : Type 0} {l : LatticeOf I} {n : IntegersOf I} {stands : I → ℤ → Type 0} → OrderLaws l → (flow : Flow) (list : List ℤ) (limits : Limits) → MapsAdmitOnlyRun l n stands flow list limits
+maps_admit {l = l} {n = n} {stands = stands} o flow list limits s u typed single first begins behind tells =
+    admits_only_run o flow list limits s.good s.premises s.steps s.ends s.sound s.laws s.told s.leaves s.owns s.start s.structs s.texts s.objects u typed single first begins
+    (both l n flow stands (Some (start_of l n flow list)) first behind (record { row = start_of l n flow list; is = refl; tells = tells }))

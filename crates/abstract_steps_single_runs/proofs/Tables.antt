@@ -10,7 +10,6 @@ use Rattle.lib_models_effects.specs.NumberedTables.{put_at}
 pub put_here : {A : Type 0} (f : ℕ → Option A) (n : ℕ) (x : A) → put_at f n x n ≡ Some x
 put_here f n x = grind arith
 
-
 pub put_else : {A : Type 0} (f : ℕ → Option A) (n : ℕ) (x : A) (m : ℕ) → (m ≡ n → ⊥) → put_at f n x m ≡ f m
 put_else f n x m ne = grind arith
 

@@ -1,2 +1,1 @@
 pub mod SingleRuns
-pub mod SingleAnalyses

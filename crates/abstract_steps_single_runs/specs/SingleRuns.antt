@@ -9,6 +9,7 @@ use Rattle.cc_base.specs.declared.diagnostics.Place.{Place}
 use Rattle.cc_base.specs.declared.diagnostics.Rule.{Rule}
 use Rattle.cc_base.specs.declared.limit_table.Limits.{Limits}
 use Rattle.c_layout.specs.CheckedUnits.{UnitView}
+use Rattle.flow_program.specs.WellFormed.{is_well_formed}
 use Rattle.flow_program.specs.declared.machine_instructions.Instruction.{Instruction}
 use Rattle.flow_program.specs.declared.machine_instructions.Operation.{Operation}
 use Rattle.flow_program.specs.declared.machine_instructions.Operation.TheVariants as op
@@ -21,15 +22,24 @@ use Rattle.flow_program_views.specs.ProgramViews.{flow_view}
 use Rattle.flow_program_machine.specs.FlowStates.{Standing, running, stopped, found_in}
 use Rattle.flow_program_machine.specs.FlowSteps.{flow_steps}
 use Rattle.flow_program_machine.specs.FlowStarts.{flow_begin}
-use Rattle.abstract_steps_system.specs.FlowMachines.{is_head_at, flow_machine}
-use Rattle.abstract_steps_covered.specs.Covering.{Admits}
+use Rattle.abstract_steps_rows.specs.OwnRows.{is_own_row}
+use Rattle.abstract_steps_system.specs.BlockPasses.{edge_end}
+use Rattle.abstract_steps_system.specs.FlowMachines.{edge_at, is_head_at, start_of, through, flow_machine}
+use Rattle.store_domain_meaning.specs.Coverage.{state_of}
+use Rattle.store_domain_sound_programs.specs.Premises.{HasPremises}
+use Rattle.abstract_steps_sound.specs.SoundSteps.{StandsBehind}
+use Rattle.abstract_steps_sound_copied_structs.specs.StructTables.{HasStructs}
+use Rattle.abstract_steps_sound_edges.specs.EdgeSteps.{TestsAreSound}
+use Rattle.abstract_steps_sound_programs.specs.OpenSteps.{SpellsOverCharacters}
+use Rattle.abstract_steps_covered.specs.SoundEnds.{StepsGoOnSoundly, EndsGoOnSoundly}
+use Rattle.abstract_steps_covered.specs.Covering.{HasTypedRuns, Admits}
 use Rattle.abstract_steps_single.specs.SingleLaws.{HasRight, IsPlainCall, ValueStepsAreTold, PointerStepsAreTold, CallsAreTold}
-use Rattle.abstract_steps_single.specs.SingleRows.{IsPlainProgram}
-use Rattle.abstract_steps_single_store.specs.TypedAccesses.{IsTyped}
+use Rattle.abstract_steps_single.specs.SingleRows.{IsPlainProgram, TellsState}
+use Rattle.abstract_steps_single_store.specs.TypedAccesses.{HasObjects, IsTyped}
 use Rattle.abstract_steps_single_store.specs.StoreLaws.{LoadsAreTold, StoresAreTold, EntersAreTold, LeavesAreTold, ForgetsAreTold, ClearsAreTold}
 use Rattle.abstract_steps_single_copies.specs.TypedCopies.{IsTypedCopy}
 use Rattle.abstract_steps_single_copies.specs.CopyLaws.{SpellsAreTold, CopiesAreTold}
-use Rattle.abstract_steps_single_ways.specs.WayLaws.{WaysAreApart, WaysAreTold}
+use Rattle.abstract_steps_single_ways.specs.WayLaws.{WaysAreApart, WaysAreTold, TestsAreTold}
 
 -- ---- programs
 
@@ -88,3 +98,27 @@ module _ {I : Type 0} (l : LatticeOf I) (n : IntegersOf I) (flow : Flow) where
   -- each pair that every inductive map admits is violated by the run
   abbrev pub AdmitOnlyRun : List ℤ → UnitView → Type 0
   AdmitOnlyRun list u = (place : Place) (rule : Rule) → ((rows : List (Option (List (Cell I)))) → IsInductive (cell_lattice l) (flow_machine l n flow list) rows → Admits l n flow rows place rule) → IsViolatedAlone flow u place rule
+
+-- ---- what is supposed beside
+
+module _ {I : Type 0} (l : LatticeOf I) (n : IntegersOf I) (stands : I → ℤ → Type 0) (flow : Flow) (list : List ℤ) (limits : Limits) where
+  -- a well-formed program for which the analysis is sound and the laws hold, on whose own rows the fit changes nothing
+  pub record HasLaws : Type 0 where
+    pub good : is_well_formed limits flow ≡ true
+    pub premises : HasPremises flow
+    pub objects : HasObjects flow
+    pub structs : HasStructs flow
+    pub texts : SpellsOverCharacters flow
+    pub steps : StepsGoOnSoundly l n stands flow
+    pub ends : EndsGoOnSoundly l n stands flow limits
+    pub sound : TestsAreSound l n stands flow
+    pub laws : SingleLaws l n stands flow limits
+    pub told : TestsAreTold l n stands flow
+    pub leaves : (number : ℕ) (row : List (Cell I)) → is_own_row l n list flow.bases.items flow.width row ≡ true → through l n flow list number row ≡ edge_end l n flow (edge_at flow.edges.items number).from number row
+    pub owns : (block number : ℕ) (row x : List (Cell I)) → is_own_row l n list flow.bases.items flow.width row ≡ true → edge_end l n flow block number row ≡ Some x → is_own_row l n list flow.bases.items flow.width x ≡ true
+    pub start : is_own_row l n list flow.bases.items flow.width (start_of l n flow list) ≡ true
+
+  -- where the row of the entry stands for the state in which the run begins and tells it, and operands are of their types
+  abbrev pub MapsAdmitOnlyRun : Type 0
+  MapsAdmitOnlyRun = HasLaws → (u : UnitView) → HasTypedRuns flow u → IsSingleProgram flow u → (first : Standing) → flow_begin u (flow_view flow) [] ≡ running first []
+      → StandsBehind l n stands flow (Some (start_of l n flow list)) first → TellsState l n flow (start_of l n flow list) (state_of first) → AdmitOnlyRun l n flow list u

@@ -78,16 +78,16 @@ use Rattle.abstract_steps_single_ways.proofs.CaseTests.{case_test_told}
 use Rattle.abstract_steps_single_tests.proofs.IntegerTests.{integer_test_told}
 use Rattle.abstract_steps_single_starts.proofs.ToldStarts.{start_is_told}
 use Rattle.abstract_steps_single_runs.specs.SingleRuns.{SingleLaws, IsSingleProgram}
-use Rattle.abstract_steps_single_runs.specs.SingleAnalyses.{OpenLaws, FindsOnlyRunOf, FindsOnlyRunsOfChecked}
+use Rattle.abstract_steps_single_analyses.specs.SingleAnalyses.{OpenLaws, FindsOnlyRunOf, FindsOnlyRunsOfChecked}
 use Rattle.abstract_steps_single_runs.proofs.PassedBlocks.{both}
-use Rattle.abstract_steps_single_runs.proofs.PlainObjects.{has_objects}
+use Rattle.abstract_steps_single_analyses.proofs.PlainObjects.{has_objects}
 use Rattle.abstract_steps_single_runs.proofs.SingleRuns.{admits_only_run}
 
 module _ (flow : Flow) (more : OpenLaws flow) where
   laws : SingleLaws interval_lattice interval_numbers Stands flow standard_limits
   laws = record {
     values = λ p naming row s o is fits typed right r t d. value_step_told interval_bounding interval_sound interval_ranges intervals_exact flow p naming row s r t o is fits typed right d;
-    pointers = λ p plain naming row s o is fits typed right r t d. pointer_step_told interval_bounding intervals_exact flow p plain naming row s r t o is fits typed right d;
+    pointers = λ p plain naming row s o is fits typed right r t d. pointer_step_told interval_bounding intervals_exact flow p plain naming row s r t o is fits d;
     calls = λ p naming row s o is fits typed right r t d. call_told interval_bounding intervals_exact flow p naming row s r t o is fits d;
     loads = λ p objects plain naming row s o is fits typed r t d. load_step_told interval_bounding flow p objects plain naming row s r t o is fits d;
     stores = λ p objects plain naming row s o is fits typed r t d. store_step_told interval_order interval_bounding interval_sound interval_ranges intervals_exact flow p objects plain naming row s r t o is fits d;
