@@ -1,4 +1,4 @@
--- The laws on single instructions hold of intervals, but for those that are open; so an analysis of a plain program finds its run.
+-- The laws on single instructions hold of intervals, but for those that are open; so an analysis of a plain program finds just what its run violates.
 use Rattle.std.specs.Prelude.{◌≡◌, ◌&&◌, ℕ, ℤ, true, Option, Some, None, List, [], ◌∷◌, map, replicate, slice_get}
 use Rattle.std.specs.List.{Contains}
 use Rattle.std.proofs.Common.{arith, refl, ap, ◌∙◌, inl, inr}
@@ -47,7 +47,7 @@ use Rattle.abstract_steps_sound_programs.specs.OpenSteps.{TestIsProved, CaseIsPr
 use Rattle.abstract_steps_sound_programs.proofs.AllSteps.{tests_sound}
 use Rattle.abstract_steps_sound_analyses.specs.SoundAnalyses.{Suffices}
 use Rattle.abstract_steps_sound_analyses.proofs.SoundAnalyses.{standard_held, steps, ends, typed_runs}
-use Rattle.abstract_steps_sound_analyses.proofs.FoundRuns.{suffices}
+use Rattle.abstract_steps_sound_analyses.proofs.FoundRuns.{suffices, finds_each_pair}
 use Rattle.abstract_steps_sound_analyses.proofs.ScalarTests.{kinds_proved}
 use Rattle.abstract_steps_sound_maps.specs.CarriedMaps.{EntryStands}
 use Rattle.flow_analysis.specs.Analyses.{IsAnalysis}
@@ -77,8 +77,8 @@ use Rattle.abstract_steps_single_ways.proofs.NullTests.{null_test_told}
 use Rattle.abstract_steps_single_ways.proofs.CaseTests.{case_test_told}
 use Rattle.abstract_steps_single_tests.proofs.IntegerTests.{integer_test_told}
 use Rattle.abstract_steps_single_starts.proofs.ToldStarts.{start_is_told}
-use Rattle.abstract_steps_single_runs.specs.SingleRuns.{SingleLaws, IsSingleProgram}
-use Rattle.abstract_steps_single_analyses.specs.SingleAnalyses.{OpenLaws, FindsOnlyRunOf, FindsOnlyRunsOfChecked}
+use Rattle.abstract_steps_single_runs.specs.SingleRuns.{SingleLaws, IsSingleProgram, IsViolatedAlone}
+use Rattle.abstract_steps_single_analyses.specs.SingleAnalyses.{OpenLaws, FindsJustRunOf, FindsJustRunsOfChecked}
 use Rattle.abstract_steps_single_runs.proofs.PassedBlocks.{both}
 use Rattle.abstract_steps_single_analyses.proofs.PlainObjects.{has_objects}
 use Rattle.abstract_steps_single_runs.proofs.SingleRuns.{admits_only_run}
@@ -175,8 +175,8 @@ module _ (flow : Flow) (list : List ℤ) (found : List Diag) (a : IsAnalysis flo
         (runs_begin flow standard_limits regular.well_formed regular.initial p u starts)
         (replicate flow.width Nothing) (start_of interval_lattice interval_numbers flow list) (length-replicate flow.width Nothing) (regular_fits flow list a.regular enough.reaches a.started) [] begin (begins single.parameters)
 
-    pub finds_only_run : FindsOnlyRunOf flow found u
-    finds_only_run more single d there =
+    only_run : OpenLaws flow → IsSingleProgram flow u → (d : Diag) → Contains found d → IsViolatedAlone flow u d.place d.rule
+    only_run more single d there =
         let laid = laid_out standard_limits flow regular.well_formed (omega (arith)) in
         let named = all_named standard_limits flow regular.well_formed regular.scalars in
         let rising = regular_rising flow list a.regular in
@@ -192,5 +192,8 @@ module _ (flow : Flow) (list : List ℤ) (found : List Diag) (a : IsAnalysis flo
         (both interval_lattice interval_numbers flow Stands (Some (start_of interval_lattice interval_numbers flow list)) begin behind (record { row = start_of interval_lattice interval_numbers flow list; is = refl; tells = tells single }))
         d.place d.rule (λ rows closed. a.made d there rows closed)
 
-  pub checked_only_run : FindsOnlyRunsOfChecked flow found
-  checked_only_run u is = finds_only_run u (unit_starts u flow (sound_structs flow list a.regular a.checked.structs) is)
+    pub finds_run : FindsJustRunOf flow found u
+    finds_run more single d = (λ there. only_run more single d there, λ v. finds_each_pair flow list found a u stand (record { at = d.place; rule = d.rule }) (record { draws = []; steps = v.count; there = v.there }))
+
+  pub finds_checked_run : FindsJustRunsOfChecked flow found
+  finds_checked_run u is = finds_run u (unit_starts u flow (sound_structs flow list a.regular a.checked.structs) is)

@@ -1,5 +1,5 @@
--- That an analysis finds no more than the one run of a plain program violates.
-use Rattle.std.specs.Prelude.{List}
+-- That an analysis finds just what the one run of a plain program violates.
+use Rattle.std.specs.Prelude.{◌↔◌, List}
 use Rattle.std.specs.List.{Contains}
 use Rattle.cc_base.specs.declared.diagnostics.Diag.{Diag}
 use Rattle.c_layout.specs.CheckedUnits.{UnitView}
@@ -16,14 +16,14 @@ use Rattle.abstract_steps_single_runs.specs.SingleRuns.{IsSingleProgram, IsViola
 pub record OpenLaws (flow : Flow) : Type 0 where
   pub copies : CopiesAreTold interval_lattice interval_numbers Stands flow
 
--- each pair that is found is violated by the run of the unit under no numbers of the outside
-abbrev pub FindsOnlyRunOf : Flow → List Diag → UnitView → Type 0
-FindsOnlyRunOf flow found u = OpenLaws flow → IsSingleProgram flow u → (d : Diag) → Contains found d → IsViolatedAlone flow u d.place d.rule
+-- the pairs that are found are just those that the run of the unit under no numbers of the outside violates
+abbrev pub FindsJustRunOf : Flow → List Diag → UnitView → Type 0
+FindsJustRunOf flow found u = OpenLaws flow → IsSingleProgram flow u → (d : Diag) → Contains found d ↔ IsViolatedAlone flow u d.place d.rule
 
 -- of a unit with whose tables the program begins
-abbrev pub FindsOnlyRuns : Flow → List Diag → Type 0
-FindsOnlyRuns flow found = (u : UnitView) → StartsAs u flow → FindsOnlyRunOf flow found u
+abbrev pub FindsJustRuns : Flow → List Diag → Type 0
+FindsJustRuns flow found = (u : UnitView) → StartsAs u flow → FindsJustRunOf flow found u
 
 -- of a checked unit whose program it is
-abbrev pub FindsOnlyRunsOfChecked : Flow → List Diag → Type 0
-FindsOnlyRunsOfChecked flow found = (u : UnitView) → IsUnitOf u flow → FindsOnlyRunOf flow found u
+abbrev pub FindsJustRunsOfChecked : Flow → List Diag → Type 0
+FindsJustRunsOfChecked flow found = (u : UnitView) → IsUnitOf u flow → FindsJustRunOf flow found u
