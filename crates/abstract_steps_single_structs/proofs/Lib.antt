@@ -1,0 +1,3 @@
+pub mod OneSpans
+pub mod OneCopies
+pub mod PlainPadding
