@@ -1,3 +1,4 @@
 pub mod OneSpans
 pub mod OneCopies
 pub mod PlainPadding
+pub mod CopiedRows

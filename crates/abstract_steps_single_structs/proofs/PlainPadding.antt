@@ -139,7 +139,7 @@ module _ (flow : Flow) (index : ℕ) (view : StructView) (listed : IsListed flow
         let leaf_same = same_size flow.model s.leaf.class in
         let once = s.same.alone in
         let inside = listed.struct.inside s.number (s.leaf.offset + (class_bytes flow.model s.leaf.class - 1)) (class_bytes flow.model s.leaf.class - 1) s.leaf s.among
-        (record { start = s.leaf.offset; place = record { turn = 0; few = omega (arith, once); there = omega arith }; there = refl; small = let a = class_above flow.model s.leaf.class in omega (arith, a) }) in
+        (record { start = s.leaf.offset; place = record { turn = 0; few = omega (arith, once); there = omega arith }; there = omega arith; small = let a = class_above flow.model s.leaf.class in omega (arith, a) }) in
         let small = listed.struct.small in
         not_padded s.number lo hi s.leaf s.among once (omega (arith, from, offset)) (omega (arith, to, offset, class, leaf_same, inside, above, same)) (omega (arith, to, small))
 
