@@ -2,3 +2,4 @@ pub mod OneSpans
 pub mod OneCopies
 pub mod PlainPadding
 pub mod CopiedRows
+pub mod FinishedRows
