@@ -3,3 +3,4 @@ pub mod OneCopies
 pub mod PlainPadding
 pub mod CopiedRows
 pub mod FinishedRows
+pub mod CopiedValues
