@@ -75,7 +75,7 @@ module _ (flow : Flow) (p : HasPremises flow) (objects : HasObjects flow) (plain
     own number leaf e = t.there.leaves number leaf e
 
     -- where the cell of a leaf of the struct is
-    pub place : (number : ℕ) (leaf : Leaf) → slice_get leaves number ≡ Some leaf → ℕ
+    unfoldable pub place : (number : ℕ) (leaf : Leaf) → slice_get leaves number ≡ Some leaf → ℕ
     place number leaf e = leaf_position base (own number leaf e).number
 
     pub place_is : (number : ℕ) (leaf : Leaf) (e : slice_get leaves number ≡ Some leaf) → (place number leaf e ≡ base.first + (own number leaf e).number) × ((own number leaf e).number < length base.shape.cells)
@@ -123,7 +123,7 @@ module _ (flow : Flow) (p : HasPremises flow) (objects : HasObjects flow) (plain
           ∙ reads_cell l n flow.model flow.bases.items b base t.at t.few (plain.no_heap b base t.at) (objects b base t.at) (λ j y f. plain.apart b j base y t.at f) x.number x.own x.among (span_of_leaf leaf (window_between start start)) (window number leaf e) row
 
       -- what the cell becomes
-      pub stored : (number : ℕ) (leaf : Leaf) → slice_get leaves number ≡ Some leaf → values.Value I → values.Value I
+      unfoldable pub stored : (number : ℕ) (leaf : Leaf) → slice_get leaves number ≡ Some leaf → values.Value I → values.Value I
       stored number leaf e v = as_stored n flow.model (near_value l n v) (own number leaf e).own.class (own number leaf e).own.signed
 
       stored_same : (k m : ℕ) (x y : Leaf) (e : slice_get leaves k ≡ Some x) (f : slice_get leaves m ≡ Some y) → k ≡ m → (v : values.Value I) → stored k x e v ≡ stored m y f v

@@ -4,3 +4,4 @@ pub mod PlainPadding
 pub mod CopiedRows
 pub mod FinishedRows
 pub mod CopiedValues
+pub mod CopiedStates
