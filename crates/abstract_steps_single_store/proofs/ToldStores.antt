@@ -42,6 +42,7 @@ use Rattle.abstract_steps_instructions.specs.StepViolations.{operation_violation
 use Rattle.lib_models_memory.specs.Bytes.{MachinePointer, null, into, Content, Byte}
 use Rattle.lib_models_memory.specs.Tags.{tag_of}
 use Rattle.store_domain_meaning.specs.Matching.{Matched}
+use Rattle.store_domain_meaning.specs.Matching.{Fits as MatchFits}
 use Rattle.lib_models_memory.specs.Instances.{Life, live, ended, freed, Memory, bytes_of, byte_at, life_at}
 use Rattle.lib_models_memory.specs.ScalarSizes.{class_bytes, is_pointer, same_class}
 use Rattle.lib_models_memory.specs.Scalars.{Scalar, integer, pointer}
