@@ -10,7 +10,7 @@ use Rattle.interval_domain.specs.IntervalNumbers.{interval_numbers}
 use Rattle.abstract_steps_sound_beginnings.specs.UnitStarts.{StartsAs}
 use Rattle.abstract_steps_sound_checked_starts.specs.CheckedStarts.{IsUnitOf}
 use Rattle.abstract_steps_single_copies.specs.CopyLaws.{CopiesAreTold}
-use Rattle.abstract_steps_single_runs.specs.SingleRuns.{IsSingleProgram, IsViolatedAlone}
+use Rattle.abstract_steps_single_runs.specs.SingleRuns.{IsNeverStuck, IsSingleProgram, IsViolatedAlone}
 
 -- the laws on single instructions that are not proved yet
 pub record OpenLaws (flow : Flow) : Type 0 where
@@ -18,7 +18,7 @@ pub record OpenLaws (flow : Flow) : Type 0 where
 
 -- the pairs that are found are just those that the run of the unit under no numbers of the outside violates
 abbrev pub FindsJustRunOf : Flow → List Diag → UnitView → Type 0
-FindsJustRunOf flow found u = OpenLaws flow → IsSingleProgram flow u → (d : Diag) → Contains found d ↔ IsViolatedAlone flow u d.place d.rule
+FindsJustRunOf flow found u = OpenLaws flow → IsNeverStuck flow u → IsSingleProgram flow u → (d : Diag) → Contains found d ↔ IsViolatedAlone flow u d.place d.rule
 
 -- of a unit with whose tables the program begins
 abbrev pub FindsJustRuns : Flow → List Diag → Type 0

@@ -55,7 +55,7 @@ use Rattle.abstract_steps_sound_edges.specs.EdgeSteps.{TestsAreSound}
 use Rattle.abstract_steps_single.specs.SingleSteps.{IsDefined}
 use Rattle.abstract_steps_single_store.specs.TypedAccesses.{HasObjects}
 use Rattle.abstract_steps_single_ways.specs.WayLaws.{FitsWay, IsWay, TestsAreTold}
-use Rattle.abstract_steps_single_runs.specs.SingleRuns.{IsSingleProgram, IsSingleAt, IsViolatedAlone, SingleLaws, AdmitOnlyRun, MapsAdmitOnlyRun}
+use Rattle.abstract_steps_single_runs.specs.SingleRuns.{IsNeverStuck, IsSingleProgram, IsSingleAt, IsViolatedAlone, SingleLaws, AdmitOnlyRun, MapsAdmitOnlyRun}
 use Rattle.abstract_steps_single_runs.proofs.BlockEdges.{edge_leads}
 use Rattle.abstract_steps_single_runs.proofs.MapPairs.{admitted_in}
 use Rattle.abstract_steps_single_runs.proofs.Tables.{listed, listed_length, listed_at, left_from, left_in, left_less}
@@ -82,7 +82,7 @@ module _ {I : Type 0} {l : LatticeOf I} {n : IntegersOf I} {stands : I → ℤ �
     (leaves : (number : ℕ) (row : List (Cell I)) → is_own_row l n list flow.bases.items flow.width row ≡ true → through l n flow list number row ≡ edge_end l n flow (edge_at flow.edges.items number).from number row)
     (owns : (block number : ℕ) (row x : List (Cell I)) → is_own_row l n list flow.bases.items flow.width row ≡ true → edge_end l n flow block number row ≡ Some x → is_own_row l n list flow.bases.items flow.width x ≡ true)
     (start_own : is_own_row l n list flow.bases.items flow.width (start_of l n flow list) ≡ true)
-    (structs : HasStructs flow) (texts : SpellsOverCharacters flow) (objects : HasObjects flow) (u : UnitView) (typed : HasTypedRuns flow u) (single : IsSingleProgram flow u) where
+    (structs : HasStructs flow) (texts : SpellsOverCharacters flow) (objects : HasObjects flow) (u : UnitView) (typed : HasTypedRuns flow u) (unstuck : IsNeverStuck flow u) (single : IsSingleProgram flow u) where
   abbrev f : FlowView
   f = flow_view flow
 
@@ -166,7 +166,7 @@ module _ {I : Type 0} {l : LatticeOf I} {n : IntegersOf I} {stands : I → ℤ �
       done = record { block = g.s.block; at = g.s.at; instruction = it; is = in_list; does = refl }
 
       defined : IsDefined reply
-      defined w e = single.unstuck (suc count) w (g.found ++ violations_at it.place w.violated) (stepped ∙ ap (run_by g.found it.place) e)
+      defined w e = unstuck (suc count) w (g.found ++ violations_at it.place w.violated) (stepped ∙ ap (run_by g.found it.place) e)
 
       abbrev row : List (Cell I)
       row = g.passed.before.row
@@ -296,7 +296,7 @@ module _ {I : Type 0} {l : LatticeOf I} {n : IntegersOf I} {stands : I → ℤ �
     one_step = by_step (slice_get (block_of f g.s.block).steps g.s.at) refl
       where
         by_step : (x : Option Step) → slice_get (block_of f g.s.block).steps g.s.at ≡ x → GoesOn (run (suc count)) left ⊎ HasStopped (run (suc count))
-        by_step None e = absurd (single.unstuck (suc count) g.s.world g.found (stepped_by None e))
+        by_step None e = absurd (unstuck (suc count) g.s.world g.found (stepped_by None e))
         by_step (Some i) e = step_out i (is_at flow g.s.block g.s.at i e) e
 
   -- ---- all instructions
@@ -309,7 +309,7 @@ module _ {I : Type 0} {l : LatticeOf I} {n : IntegersOf I} {stands : I → ℤ �
   to_end zero count g = absurd (by_step (slice_get (block_of f g.s.block).steps g.s.at) refl)
     where
       by_step : (x : Option Step) → slice_get (block_of f g.s.block).steps g.s.at ≡ x → ⊥
-      by_step None e = single.unstuck (suc count) g.s.world g.found (ap (flow_step f) g.is ∙ ap (instruction_step f g.found g.s) e)
+      by_step None e = unstuck (suc count) g.s.world g.found (ap (flow_step f) g.is ∙ ap (instruction_step f g.found g.s) e)
       by_step (Some i) e =
           let k = is_at flow g.s.block g.s.at i e in
           let all = left_in flow.blocks.items g.s.block k.holder k.block_is in
@@ -382,6 +382,6 @@ module _ {I : Type 0} {l : LatticeOf I} {n : IntegersOf I} {stands : I → ℤ �
     admits_only_run place rule h = admitted_alone end.ended.rows end.ended.closed place rule (h (map end.ended.rows end.ended.closed) (inductive end.ended.rows end.ended.closed))
 
 pub maps_admit : {I : Type 0} {l : LatticeOf I} {n : IntegersOf I} {stands : I → ℤ → Type 0} → OrderLaws l → (flow : Flow) (list : List ℤ) (limits : Limits) → MapsAdmitOnlyRun l n stands flow list limits
-maps_admit {l = l} {n = n} {stands = stands} o flow list limits s u typed single first begins behind tells =
-    admits_only_run o flow list limits s.good s.premises s.steps s.ends s.sound s.laws s.told s.leaves s.owns s.start s.structs s.texts s.objects u typed single first begins
+maps_admit {l = l} {n = n} {stands = stands} o flow list limits s u typed unstuck single first begins behind tells =
+    admits_only_run o flow list limits s.good s.premises s.steps s.ends s.sound s.laws s.told s.leaves s.owns s.start s.structs s.texts s.objects u typed unstuck single first begins
     (both l n flow stands (Some (start_of l n flow list)) first behind (record { row = start_of l n flow list; is = refl; tells = tells }))

@@ -64,9 +64,11 @@ pub record IsSingleProgram (flow : Flow) (u : UnitView) : Type 0 where
   pub apart : WaysAreApart flow
   -- no edge enters a block from that block or a later one
   pub headless : (b : ℕ) → is_head_at flow.blocks.items b ≡ false
-  -- a step of the run is defined
-  pub unstuck : (count : ℕ) (w : World) (found : List Violation) → flow_steps (flow_view flow) count (flow_begin u (flow_view flow) []) ≡ stopped Stuck w found → ⊥
   pub steps : (count : ℕ) (s : Standing) (found : List Violation) (i : Instruction) → flow_steps (flow_view flow) count (flow_begin u (flow_view flow) []) ≡ running s found → slice_get (instructions_of flow s.block) s.at ≡ Some i → IsSingleAt flow i.operation s
+
+-- each step of the run is defined
+abbrev pub IsNeverStuck : Flow → UnitView → Type 0
+IsNeverStuck flow u = (count : ℕ) (w : World) (found : List Violation) → flow_steps (flow_view flow) count (flow_begin u (flow_view flow) []) ≡ stopped Stuck w found → ⊥
 
 -- ---- violations
 
@@ -120,5 +122,5 @@ module _ {I : Type 0} (l : LatticeOf I) (n : IntegersOf I) (stands : I → ℤ �
 
   -- where the row of the entry stands for the state in which the run begins and tells it, and operands are of their types
   abbrev pub MapsAdmitOnlyRun : Type 0
-  MapsAdmitOnlyRun = HasLaws → (u : UnitView) → HasTypedRuns flow u → IsSingleProgram flow u → (first : Standing) → flow_begin u (flow_view flow) [] ≡ running first []
+  MapsAdmitOnlyRun = HasLaws → (u : UnitView) → HasTypedRuns flow u → IsNeverStuck flow u → IsSingleProgram flow u → (first : Standing) → flow_begin u (flow_view flow) [] ≡ running first []
       → StandsBehind l n stands flow (Some (start_of l n flow list)) first → TellsState l n flow (start_of l n flow list) (state_of first) → AdmitOnlyRun l n flow list u
