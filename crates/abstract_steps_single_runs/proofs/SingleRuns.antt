@@ -56,6 +56,7 @@ use Rattle.abstract_steps_single.specs.SingleSteps.{IsDefined}
 use Rattle.abstract_steps_single_store.specs.TypedAccesses.{HasObjects}
 use Rattle.abstract_steps_single_ways.specs.WayLaws.{FitsWay, IsWay, TestsAreTold}
 use Rattle.abstract_steps_single_runs.specs.SingleRuns.{IsNeverStuck, IsSingleProgram, IsSingleAt, IsViolatedAlone, SingleLaws, AdmitOnlyRun, MapsAdmitOnlyRun}
+use Rattle.abstract_steps_single_runs.proofs.ApartWays.{ways_apart}
 use Rattle.abstract_steps_single_runs.proofs.BlockEdges.{edge_leads}
 use Rattle.abstract_steps_single_runs.proofs.MapPairs.{admitted_in}
 use Rattle.abstract_steps_single_runs.proofs.Tables.{listed, listed_length, listed_at, left_from, left_in, left_less}
@@ -249,7 +250,7 @@ module _ {I : Type 0} {l : LatticeOf I} {n : IntegersOf I} {stands : I → ℤ �
             by_reply : (y : Reply Standing) → reply ≡ y → Outcome y
             by_reply (stops why w) r = absurd (defined w (r ∙ ap (λ z. stops z w) (way_stuck f (begun g.s) it.operation is why w r)))
             by_reply (goes t w) r =
-                let told = (laws.ways p single.apart tests_sound tests_told good g.passed.before.naming row (begun g.s) it last_here is reached g.passed.before.tells defined).goes_on t w r in
+                let told = (laws.ways p (ways_apart flow limits good single.switches) tests_sound tests_told good g.passed.before.naming row (begun g.s) it last_here is reached g.passed.before.tells defined).goes_on t w r in
                 let sound = (ends_sound good g.passed.before.naming row (begun g.s) it last_here off reached).goes_on t w r in
                 let way_of : (number : ℕ) (e : Edge) → slice_get flow.edges.items number ≡ Some e → e.from ≡ g.s.block → FitsWay it.operation e.kind = λ number e is_edge from. to_way it.operation is e.kind (edge_leads flow limits good number g.s.block g.s.at e it is_edge from in_list off) in
                 let one : sound.number ≡ told.number = elim (cases_eq sound.number told.number) [

@@ -10,12 +10,16 @@ use Rattle.cc_base.specs.declared.diagnostics.Rule.{Rule}
 use Rattle.cc_base.specs.declared.limit_table.Limits.{Limits}
 use Rattle.c_layout.specs.CheckedUnits.{UnitView}
 use Rattle.flow_program.specs.WellFormed.{is_well_formed}
+use Rattle.flow_program.specs.declared.flow_edges.CaseTest.{CaseTest}
+use Rattle.flow_program.specs.declared.flow_edges.Edge.{Edge}
+use Rattle.flow_program.specs.declared.flow_edges.EdgeKind.TheVariants as kind
 use Rattle.flow_program.specs.declared.machine_instructions.Instruction.{Instruction}
 use Rattle.flow_program.specs.declared.machine_instructions.Operation.{Operation}
 use Rattle.flow_program.specs.declared.machine_instructions.Operation.TheVariants as op
 use Rattle.flow_program.specs.declared.programs.Flow.{Flow}
 use Rattle.value_domain.specs.declared.row_cells.Cell.{Cell}
 use Rattle.value_domain.specs.Cells.{cell_lattice}
+use Rattle.abstract_steps.specs.Edges.{has_label}
 use Rattle.rule_checks.specs.AdmittedRules.{instructions_of}
 use Rattle.lib_models_effects.specs.Worlds.{World, Stuck, Violation}
 use Rattle.flow_program_views.specs.ProgramViews.{flow_view}
@@ -39,7 +43,7 @@ use Rattle.abstract_steps_single_store.specs.TypedAccesses.{HasObjects, IsTyped}
 use Rattle.abstract_steps_single_store.specs.StoreLaws.{LoadsAreTold, StoresAreTold, EntersAreTold, LeavesAreTold, ForgetsAreTold, ClearsAreTold}
 use Rattle.abstract_steps_single_copies.specs.TypedCopies.{IsTypedCopy}
 use Rattle.abstract_steps_single_copies.specs.CopyLaws.{SpellsAreTold, CopiesAreTold}
-use Rattle.abstract_steps_single_ways.specs.WayLaws.{WaysAreApart, WaysAreTold, TestsAreTold}
+use Rattle.abstract_steps_single_ways.specs.WayLaws.{WaysAreTold, TestsAreTold}
 
 -- ---- programs
 
@@ -57,11 +61,16 @@ pub record IsSingleAt (flow : Flow) (o : Operation) (s : Standing) : Type 0 wher
   pub step : IsSingleStep flow o s
   pub right : HasRight o s.temps
 
+-- the labels of each switch are apart, and the way for other values knows them
+pub record SwitchesAreApart (flow : Flow) : Type 0 where
+  pub cases : (j k : ℕ) (d e : Edge) (a b : CaseTest) → slice_get flow.edges.items j ≡ Some d → slice_get flow.edges.items k ≡ Some e → d.from ≡ e.from → (k ≡ j → ⊥) → d.kind ≡ kind.Case a → e.kind ≡ kind.Case b → a.value ≡ b.value → ⊥
+  pub others : (j k : ℕ) (d e : Edge) (a : CaseTest) (values : _) → slice_get flow.edges.items j ≡ Some d → slice_get flow.edges.items k ≡ Some e → d.from ≡ e.from → d.kind ≡ kind.Case a → e.kind ≡ kind.Other values → has_label values.items a.value ≡ true
+
 -- what the laws suppose of a program, and of its run under no numbers of the outside
 pub record IsSingleProgram (flow : Flow) (u : UnitView) : Type 0 where
   pub plain : IsPlainProgram flow
   pub parameters : flow.parameters.items ≡ []
-  pub apart : WaysAreApart flow
+  pub switches : SwitchesAreApart flow
   -- no edge enters a block from that block or a later one
   pub headless : (b : ℕ) → is_head_at flow.blocks.items b ≡ false
   pub steps : (count : ℕ) (s : Standing) (found : List Violation) (i : Instruction) → flow_steps (flow_view flow) count (flow_begin u (flow_view flow) []) ≡ running s found → slice_get (instructions_of flow s.block) s.at ≡ Some i → IsSingleAt flow i.operation s
