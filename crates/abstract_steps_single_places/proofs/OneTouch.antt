@@ -1,5 +1,5 @@
 -- The touch of bytes through a value that tells one pointer.
-use Rattle.std.proofs.Common.{◌≡◌, ℕ, ◌+◌, ◌<◌, ◌≤◌, ◌^◌, ◌-◌, Bool, true, false, ◌&&◌, ◌||◌, Option, Some, None, List, arith, subst, refl, ap, ◌∙◌, inl, inr}
+use Rattle.std.proofs.Common.{◌≡◌, ℕ, ◌+◌, ◌<◌, ◌≤◌, ◌^◌, ◌-◌, Bool, true, false, ◌&&◌, ◌||◌, Option, Some, None, List, arith, subst, sym, refl, ap, ◌∙◌, inl, inr}
 use Rattle.std.specs.Prelude.{slice_get, ℤ, pos, neg_ℤ, ◌-ℤ◌, ◌+ℤ◌, ◌≤ℤ◌, negsuc, int_le, int_lt}
 use Rattle.std.proofs.lemmas.Int.{ints, clamps}
 use Rattle.std.proofs.lemmas.Bool.{cases_Bool, or_right}
@@ -85,6 +85,7 @@ module _ {I : Type 0} {l : LatticeOf I} {n : IntegersOf I} {stands : I → ℤ �
   pub record TouchesNothing (told : Violations) : Type 0 where
     pub violations : done.violations ≡ told
     pub window : window_of n done.rest size ≡ None
+    pub empty : bases_empty done.rest.bases ≡ true
 
   or_true : (b : Bool) → (b || true) ≡ true
   or_true true = refl
@@ -110,8 +111,14 @@ module _ {I : Type 0} {l : LatticeOf I} {n : IntegersOf I} {stands : I → ℤ �
     unfolding touch
     window_nowhere x e f = rw (e, f) (no_window q size)
 
+    empty_nowhere : (x : Pointers I) → touched_inside l n p (live_of l n bases row p.bases) 0 size ≡ x → is_nowhere n (kept_of bases write x.bases) x.rel ≡ true → bases_empty done.rest.bases ≡ true
+    unfolding touch
+    empty_nowhere x e f = rw (e, f) refl
+
     pub nowhere : TouchesNothing (touching (null || ended) false false)
-    nowhere = record { violations = told_nowhere; window = window_nowhere (no_pointer l) inside_nowhere (rw q.least_bounds (or_true (bases_empty (kept_of bases write no_base)))) }
+    nowhere =
+        let gone : is_nowhere n (kept_of bases write no_base) l.least ≡ true = rw q.least_bounds (or_true (bases_empty (kept_of bases write no_base))) in
+        record { violations = told_nowhere; window = window_nowhere (no_pointer l) inside_nowhere gone; empty = empty_nowhere (no_pointer l) inside_nowhere gone }
 
   module _ (entered : ℕ → Option ℕ) (i offset lo hi : ℕ) (h : IsIntoOne n entered p i offset lo hi) (base : BaseInfo) (at : slice_get bases h.base ≡ Some base) (above : lo ≤ offset) (short : hi ≤ 2 ^ 64 - 1) where
     abbrev z : ℤ
@@ -151,16 +158,22 @@ module _ {I : Type 0} {l : LatticeOf I} {n : IntegersOf I} {stands : I → ℤ �
     unfolding touch
     nowhere_by x e f = rw (e, f) (no_window q size)
 
+    empty_by : (x : Pointers I) → touched_inside l n p (live_of l n bases row p.bases) 0 size ≡ x → is_nowhere n (kept_of bases write x.bases) x.rel ≡ true → bases_empty done.rest.bases ≡ true
+    unfolding touch
+    empty_by x e f = rw (e, f) refl
+
     pub outside : hi < offset + size → TouchesNothing (touching false true false)
     outside k = record {
       violations = told_by (no_pointer l) true (inside_out k) (leaves_out k) ∙ ap (λ z. touching false true (write && z)) (none_literal bases no_base refl) ∙ ap (touching false true) (and_false write);
       window = nowhere_by (no_pointer l) (inside_out k) (rw q.least_bounds (or_true (bases_empty (kept_of bases write no_base))));
+      empty = empty_by (no_pointer l) (inside_out k) (rw q.least_bounds (or_true (bases_empty (kept_of bases write no_base))));
     }
 
     pub record TouchesOne : Type 0 where
       pub violations : done.violations ≡ no_violations
       pub sole : done.rest.bases ≡ only_base h.base
       pub window : window_of n done.rest size ≡ Some (window_between offset offset)
+      pub told : IsIntoOne n entered done.rest i offset lo hi
 
     pub literal : offset + size ≤ hi → write ≡ true → is_literal_kind base.kind ≡ true → TouchesNothing (touching false false true)
     literal k w lit =
@@ -168,6 +181,7 @@ module _ {I : Type 0} {l : LatticeOf I} {n : IntegersOf I} {stands : I → ℤ �
         record {
           violations = told_by reached false (inside_in k) (leaves_not k) ∙ ap (touching false false) (rw (w, literal_is bases h.base base at h.few) lit);
           window = nowhere_by reached (inside_in k) (rw (w, d, lit) refl);
+          empty = empty_by reached (inside_in k) (rw (w, d, lit) refl);
         }
 
     kept_is : (write && is_literal_kind base.kind) ≡ false → (w : Bool) → write ≡ w → kept_of bases w (only_base h.base) ≡ only_base h.base
@@ -197,9 +211,23 @@ module _ {I : Type 0} {l : LatticeOf I} {n : IntegersOf I} {stands : I → ℤ �
         (near_is (of_range l n (Some (z, z))) z (one_range q z) (omega (arith, ints)) (omega (arith, ints)))
         (near_is p.len (pos hi -ℤ pos lo) h.room (omega (arith, ints)) (omega (arith, ints))) above k short
 
+    told_inside : offset + size ≤ hi → (write && is_literal_kind base.kind) ≡ false → IsIntoOne n entered done.rest i offset lo hi
+    told_inside k lit = subst (λ x. IsIntoOne n entered x i offset lo hi) (sym (rest_is k lit)) (record {
+      base = h.base;
+      few = h.few;
+      names = h.names;
+      bases = refl;
+      lower = near_is p.lo (pos lo) h.lower (omega (arith, ints)) (omega (arith, ints));
+      relative = near_is (of_range l n (Some (z, z))) z (one_range q z) (omega (arith, ints)) (omega (arith, ints));
+      room = near_is p.len (pos hi -ℤ pos lo) h.room (omega (arith, ints)) (omega (arith, ints));
+      null = refl;
+      ended = refl;
+    })
+
     pub inside : offset + size ≤ hi → (write && is_literal_kind base.kind) ≡ false → TouchesOne
     inside k lit = record {
       violations = told_by reached false (inside_in k) (leaves_not k) ∙ ap (touching false false) (ap (λ z. write && z) (literal_is bases h.base base at h.few) ∙ lit);
       sole = sole_by k lit;
       window = window_by k lit;
+      told = told_inside k lit;
     }

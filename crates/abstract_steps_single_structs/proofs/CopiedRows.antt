@@ -1,5 +1,5 @@
 -- What a copy of a struct makes of a row, where each side is one place of one object.
-use Rattle.std.proofs.Common.{◌≡◌, ℕ, zero, suc, ◌+◌, ◌-◌, ◌<◌, ◌≤◌, ◌^◌, Bool, true, false, cond, Option, Some, None, List, length, arith, subst, sym, refl, ap, ◌∙◌, inl, inr}
+use Rattle.std.proofs.Common.{◌≡◌, ℕ, suc, ◌+◌, ◌-◌, ◌<◌, ◌≤◌, ◌^◌, false, Some, List, length, arith, subst, sym, refl, ap, ◌∙◌, inl, inr}
 use Rattle.std.specs.Prelude.{slice_get}
 use Rattle.std.specs.Option.{unwrap_or}
 use Rattle.std.proofs.lemmas.Bool.{cases_eq, cases_lt}
@@ -12,7 +12,6 @@ use Rattle.c_layout.specs.StructViews.{StructView, structs_view}
 use Rattle.c_layout.specs.Types.{Struct}
 use Rattle.c_layout.specs.declared.leaf_lists.Leaf.{Leaf}
 use Rattle.c_layout.specs.declared.shapes.BaseInfo.{BaseInfo}
-use Rattle.flow_program.specs.WellFormed.{base_cells, base_values}
 use Rattle.flow_program.specs.declared.programs.Flow.{Flow}
 use Rattle.value_domain.specs.declared.values.Value as values
 use Rattle.value_domain.specs.declared.row_cells.Cell.{Cell}
@@ -23,7 +22,6 @@ use Rattle.store_domain.specs.LiveBases.{most_bases, only_base, is_one_instance}
 use Rattle.store_domain.specs.NearValues.{near_value}
 use Rattle.store_domain.specs.RowPositions.{leaf_position, cell_at, value_at, put_value}
 use Rattle.lib_models_effects.specs.Touches.{is_allocated}
-use Rattle.store_domain_meaning.specs.Places.{OwnedByLeaf}
 use Rattle.store_domain_meaning.specs.SoundMemory.{storage_for}
 use Rattle.store_domain_sound.specs.Gives.{Gives}
 use Rattle.store_domain_sound.proofs.Classes.{class_above}
@@ -35,7 +33,6 @@ use Rattle.store_domain_sound_programs.specs.Premises.{HasPremises}
 use Rattle.store_domain_structs.specs.CopyPlaces.{span_of_leaf}
 use Rattle.store_domain_structs.specs.LeafCopies.{read_leaf, write_leaf}
 use Rattle.store_domain_structs.specs.StructCopies.{Route, route_for, read_source, write_target, copy_read, copy_leaves, copy_all}
-use Rattle.abstract_steps_sound_copied_leaves.specs.StructLeaves.{IsStruct}
 use Rattle.abstract_steps_sound_copied_structs.specs.StructTables.{IsListed}
 use Rattle.abstract_steps_sound_copied_structs.proofs.FewLeaves.{no_more_than_bytes}
 use Rattle.abstract_steps_sound_copied_turns.proofs.Batches.{batch_gives, done, batches_give}

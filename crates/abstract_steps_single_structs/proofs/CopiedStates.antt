@@ -1,5 +1,5 @@
 -- The row behind a copy of a struct tells the state behind it.
-use Rattle.std.proofs.Common.{◌≡◌, ℕ, ◌+◌, ◌-◌, ◌<◌, ◌≤◌, ◌^◌, true, Option, Some, None, List, length, arith, subst, sym, refl, ap, ap₂, ◌∙◌, inl, inr}
+use Rattle.std.proofs.Common.{◌≡◌, ℕ, ◌+◌, ◌-◌, ◌<◌, ◌≤◌, Some, List, length, arith, subst, sym, refl, ap, ◌∙◌, inl, inr}
 use Rattle.std.specs.Prelude.{slice_get, ℤ}
 use Rattle.std.proofs.lemmas.Bool.{cases_lt}
 use Rattle.std.proofs.lemmas.Option.{same_Some, slice_get_within}
@@ -14,12 +14,12 @@ use Rattle.value_domain.specs.declared.row_cells.Cell.{Cell}
 use Rattle.store_domain.specs.CellReads.{as_stored}
 use Rattle.store_domain.specs.NearValues.{near_value}
 use Rattle.store_domain.specs.RowPositions.{leaf_position, cell_at, value_in, value_at}
-use Rattle.lib_models_memory.specs.Bytes.{Content, Tag, Byte}
+use Rattle.lib_models_memory.specs.Bytes.{Content, Byte}
 use Rattle.lib_models_memory.specs.Instances.{Memory, bytes_at, byte_at}
 use Rattle.lib_models_memory.specs.ScalarSizes.{class_bytes}
 use Rattle.lib_models_memory.specs.Tags.{tag_of, tag_at}
 use Rattle.store_domain_meaning.specs.Matching.{Fits, Matched}
-use Rattle.store_domain_meaning.specs.Places.{IsPlaceOf, OwnedByLeaf}
+use Rattle.store_domain_meaning.specs.Places.{IsPlaceOf}
 use Rattle.store_domain_meaning.specs.RowMeaning.{MachineState}
 use Rattle.store_domain_meaning.specs.SoundMemory.{IsContentIn}
 use Rattle.store_domain_sound.proofs.Classes.{class_above}
@@ -38,11 +38,10 @@ use Rattle.abstract_steps_single.specs.SingleValues.{TellsHeld}
 use Rattle.abstract_steps_single_places.proofs.OneLeaf.{owned, place_is}
 use Rattle.abstract_steps_single_store.specs.TypedAccesses.{HasObjects}
 use Rattle.abstract_steps_single_store.proofs.Moves.{held_moves, holds_moves, change_tells}
-use Rattle.abstract_steps_single_copies.specs.TypedCopies.{HasOwnLeaf, HasStructLeaf}
+use Rattle.abstract_steps_single_copies.specs.TypedCopies.{HasOwnLeaf}
 use Rattle.abstract_steps_single_structs.proofs.CopiedRows as rows
 use Rattle.abstract_steps_single_structs.proofs.CopiedRows.{IsSide, leaves, base_fits, inside, own}
 use Rattle.abstract_steps_single_structs.proofs.CopiedValues.{copied_holds, copied_tells}
-
 
 -- a byte of the target, and where it comes from
 pub record Came (old : Memory) (i offset j at x : ℕ) (y : Byte) : Type 0 where

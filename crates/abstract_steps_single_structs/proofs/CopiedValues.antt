@@ -1,6 +1,6 @@
 -- The value of a leaf and its bytes tell the same scalar behind a copy.
-use Rattle.std.proofs.Common.{◌≡◌, ℕ, ◌+◌, ◌<◌, Bool, true, false, cond, Option, Some, None, List, length, arith, subst, sym, refl, ap, ◌∙◌}
-use Rattle.std.specs.Prelude.{slice_get, ℤ}
+use Rattle.std.proofs.Common.{◌≡◌, ℕ, ◌+◌, ◌<◌, Bool, true, false, cond, Option, Some, None, arith, subst, sym, refl, ap, ◌∙◌}
+use Rattle.std.specs.Prelude.{ℤ}
 use Rattle.std.proofs.lemmas.Int.{ints}
 use Rattle.std.proofs.lemmas.Bool.{true≢false}
 use Rattle.std.proofs.lemmas.Option.{slice_get_within}
@@ -15,9 +15,9 @@ use Rattle.store_domain.specs.CellReads.{as_stored}
 use Rattle.store_domain.specs.NearValues.{near_value}
 use Rattle.store_domain.specs.ScalarTypes.{kind_of}
 use Rattle.lib_models_memory.specs.Bytes.{null, into, Content, indeterminate, number, part, Byte}
-use Rattle.lib_models_memory.specs.Instances.{Memory, life_at, byte_at}
+use Rattle.lib_models_memory.specs.Instances.{Memory, byte_at}
 use Rattle.lib_models_memory.specs.Labels.{Labels, no_labels}
-use Rattle.lib_models_memory.specs.Numbers.{Labelled, number_of}
+use Rattle.lib_models_memory.specs.Numbers.{number_of}
 use Rattle.lib_models_memory.specs.ScalarSizes.{class_bytes, is_pointer}
 use Rattle.lib_models_memory.specs.Scalars.{Scalar, integer, pointer}
 use Rattle.store_domain_meaning.specs.Matching.{Matched, number_in}

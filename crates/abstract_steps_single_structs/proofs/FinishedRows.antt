@@ -1,5 +1,5 @@
 -- First zeros and padding leave the cells of leaves as the copy of a struct made them.
-use Rattle.std.proofs.Common.{◌≡◌, ℕ, ◌+◌, ◌<◌, ◌≤◌, ◌^◌, Bool, true, false, cond, Option, Some, None, List, length, arith, subst, sym, refl, ap, ◌∙◌}
+use Rattle.std.proofs.Common.{◌≡◌, ℕ, ◌+◌, ◌<◌, ◌≤◌, Bool, true, false, cond, Option, Some, List, length, arith, subst, sym, refl, ap, ◌∙◌}
 use Rattle.std.specs.Prelude.{slice_get}
 use Rattle.std.proofs.lemmas.Option.{slice_get_within}
 use Rattle.cc_base.specs.Lattices.{LatticeOf}
@@ -13,13 +13,12 @@ use Rattle.pointer_domain.specs.declared.pointer_sets.Pointers.{Pointers}
 use Rattle.value_domain.specs.declared.row_cells.Cell.{Cell}
 use Rattle.store_domain.specs.AccessWindows.{window_of, window_between}
 use Rattle.store_domain.specs.LiveBases.{only_base}
-use Rattle.store_domain.specs.RowPositions.{leaf_position, cell_at}
+use Rattle.store_domain.specs.RowPositions.{cell_at}
 use Rattle.store_domain.specs.Walks.{walk}
-use Rattle.store_domain_sound.specs.Gives.{Gives}
 use Rattle.store_domain_sound_programs.specs.Premises.{HasPremises}
 use Rattle.store_domain_structs.specs.CopyZeros.{Exact, copied_window, copy_zeros}
-use Rattle.store_domain_structs.specs.PaddingWrites.{Padded, has_padding, meets_leaf, pad_leaf_at, pad_leaf, pad_leaves, pad_classes, pad_zeros, pad_cells, write_padding}
-use Rattle.store_domain_structs.specs.StructCopies.{exact_copy, padded_of, copy_all, pad_if, finish_base, finish_if, finish_at, finish_all, finish, finish_reached, copy_route, copy_between, copy_found, copy_struct}
+use Rattle.store_domain_structs.specs.PaddingWrites.{Padded, has_padding, pad_leaf_at, pad_leaf, pad_leaves, pad_classes, pad_cells, write_padding}
+use Rattle.store_domain_structs.specs.StructCopies.{exact_copy, copy_all, finish_base, finish_if, finish_at, finish_all, finish, finish_reached, copy_route, copy_between, copy_found, copy_struct}
 use Rattle.abstract_steps_sound_copied_structs.specs.StructTables.{IsListed}
 use Rattle.abstract_steps_sound_copied_turns.proofs.FinishWrites.{zeros_only, pad_zeros_only}
 use Rattle.abstract_steps_single.specs.SingleRows.{IsPlainProgram}
@@ -27,7 +26,7 @@ use Rattle.abstract_steps_single_places.proofs.OneTurn.{walk_idle, walk_once}
 use Rattle.abstract_steps_single_places.proofs.OneBase.{has_own, has_no_other}
 use Rattle.abstract_steps_single_store.specs.TypedAccesses.{HasObjects}
 use Rattle.abstract_steps_single_structs.proofs.PlainPadding.{padded, none_met}
-use Rattle.abstract_steps_single_structs.proofs.CopiedRows.{IsSide, leaves, base_fits, place_is, route, to_place, moved, IsBehind, all_copied}
+use Rattle.abstract_steps_single_structs.proofs.CopiedRows.{IsSide, leaves, base_fits, place_is, route, to_place, moved, all_copied}
 
 module _ (flow : Flow) (p : HasPremises flow) (objects : HasObjects flow) (plain : IsPlainProgram flow) (index : ℕ) (view : StructView) (listed : IsListed flow.model (structs_view flow.structs) index view)
     (b d : ℕ) (target source : BaseInfo) (o a : ℕ) (t : IsSide flow index view b target o) (s : IsSide flow index view d source a)

@@ -1,5 +1,5 @@
 -- One leaf of a struct: read from the one leaf at its offset in one object, and written to the one in another.
-use Rattle.std.proofs.Common.{◌≡◌, ℕ, ◌+◌, ◌<◌, Bool, true, false, cond, not, ◌&&◌, ◌||◌, Option, Some, None, List, arith, refl, ap, ◌∙◌}
+use Rattle.std.proofs.Common.{◌≡◌, ℕ, ◌<◌, Bool, true, false, cond, not, ◌||◌, Some, None, List, arith, refl, ap, ◌∙◌}
 use Rattle.std.specs.Prelude.{slice_get, ◌==◌}
 use Rattle.std.proofs.lemmas.Bool.{and_from, eq-eqb, ne_eqb, or_left, or_right}
 use Rattle.cc_base.specs.Lattices.{LatticeOf}
@@ -20,7 +20,7 @@ use Rattle.store_domain.specs.Walks.{walk}
 use Rattle.store_domain.specs.RowPositions.{leaf_position, value_at, put_value, write_value}
 use Rattle.store_domain_sound.proofs.Classes.{same_class_is, count_none}
 use Rattle.store_domain_sound.proofs.Walks.{walk_meets}
-use Rattle.store_domain_structs.specs.CopyPlaces.{span_is_one, is_reached, is_touched, reached_count}
+use Rattle.store_domain_structs.specs.CopyPlaces.{is_reached, is_touched, reached_count}
 use Rattle.store_domain_structs.specs.LeafCopies.{reaches_class, has_own_place, has_place, has_place_or, any_place, is_strong, own_leaf, read_own_leaf, read_class_cell, read_own, other_leaf, read_other_leaf, read_class_bytes, read_padding, read_bytes, read_others, read_base, read_base_if, read_from, read_leaf, write_leaf_at, write_own_leaf, write_class_cell, write_leaves, write_own, write_other_at, write_other_leaf, write_class_bytes, write_bytes, write_other_leaves, write_others, write_base, write_base_if, write_to, write_all, write_leaf}
 use Rattle.store_domain_structs.specs.declared.copy_places.Span.{Span}
 use Rattle.store_domain_structs.specs.declared.leaf_copies.LeafAccess.{LeafAccess}

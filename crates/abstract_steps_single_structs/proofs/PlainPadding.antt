@@ -1,7 +1,7 @@
 -- The padding of a copied struct meets no leaf of an object in which the struct stands.
-use Rattle.std.proofs.Common.{◌≡◌, ℕ, zero, suc, ◌+◌, ◌-◌, ◌*◌, ◌/◌, ◌%◌, ◌<◌, ◌≤◌, ◌^◌, Bool, true, false, cond, not, ◌&&◌, ◌||◌, Option, Some, None, List, length, arith, subst, sym, refl, ap, ◌∙◌, inl, inr}
+use Rattle.std.proofs.Common.{◌≡◌, ℕ, zero, ◌+◌, ◌-◌, ◌*◌, ◌/◌, ◌%◌, ◌<◌, ◌≤◌, ◌^◌, Bool, true, false, not, ◌&&◌, ◌||◌, Option, Some, None, List, arith, subst, sym, refl, ap, ◌∙◌, inl, inr}
 use Rattle.std.specs.Prelude.{slice_get, nat_le, nat_lt, ◌==◌, max, min}
-use Rattle.std.proofs.lemmas.Bool.{cases_Bool, cases_lt, and_parts, leb-true, ltb-true, lt-ltb, le-ltb, le-leb, lt-leb, ne_eqb, or_left, cond-true, cond-false, or_from}
+use Rattle.std.proofs.lemmas.Bool.{cases_Bool, cases_lt, leb-true, lt-ltb, le-ltb, le-leb, lt-leb, ne_eqb, or_left, cond-true, cond-false, or_from}
 use Rattle.std.proofs.lemmas.Nat.{div-add-mod', div_below}
 use Rattle.std.proofs.Math.Nat.{div_self}
 use Rattle.std.proofs.lemmas.Option.{slice_get_within}
@@ -12,7 +12,6 @@ use Rattle.c_layout.specs.declared.data_model.Model.{Model}
 use Rattle.c_layout.specs.declared.leaf_lists.Leaf.{Leaf}
 use Rattle.c_layout.specs.declared.shapes.BaseInfo.{BaseInfo}
 use Rattle.flow_program.specs.declared.programs.Flow.{Flow}
-use Rattle.store_domain.specs.declared.access_windows.Window.{Window}
 use Rattle.store_domain.specs.AccessWindows.{window_between}
 use Rattle.store_domain.specs.LeafSelection.{turn_bytes, bytes_behind, bytes_below}
 use Rattle.store_domain.specs.RowPositions.{capped}
@@ -23,7 +22,7 @@ use Rattle.store_domain_sound.proofs.Classes.{class_above}
 use Rattle.store_domain_sound.proofs.Walks.{turns_meet}
 use Rattle.store_domain_structs.specs.CopyPlaces.{any_below}
 use Rattle.store_domain_structs.specs.LeafNumbers.{struct_leaf}
-use Rattle.store_domain_structs.specs.PaddingWrites.{Padded, covered_by, covered_leaf, leaf_bytes, is_padded_in, padded_met, has_padding_in, padding_meets, place_of, place_padded, meets_leaf}
+use Rattle.store_domain_structs.specs.PaddingWrites.{Padded, covered_by, covered_leaf, leaf_bytes, is_padded_in, has_padding_in, padding_meets, place_of, place_padded, meets_leaf}
 use Rattle.abstract_steps_sound_copied_leaves.specs.StructLeaves.{IsPlain, IsStruct}
 use Rattle.abstract_steps_sound_copied_structs.specs.StructTables.{IsListed}
 use Rattle.abstract_steps_single_places.proofs.OneLeaf.{same_size, owned}
