@@ -1,4 +1,4 @@
--- The laws on single instructions hold of intervals, but for those that are open; so an analysis of a plain program finds just what its run violates.
+-- The laws on single instructions hold of intervals; so an analysis of a plain program finds just what its run violates.
 use Rattle.std.specs.Prelude.{◌≡◌, ◌&&◌, ℕ, ℤ, true, Option, Some, None, List, [], ◌∷◌, map, replicate, slice_get}
 use Rattle.std.specs.List.{Contains}
 use Rattle.std.proofs.Common.{arith, refl, ap, ◌∙◌, inl, inr}
@@ -75,15 +75,16 @@ use Rattle.abstract_steps_single_ways.proofs.WaysTold.{way_told}
 use Rattle.abstract_steps_single_ways.proofs.PointerTests.{pointer_test_told}
 use Rattle.abstract_steps_single_ways.proofs.NullTests.{null_test_told}
 use Rattle.abstract_steps_single_ways.proofs.CaseTests.{case_test_told}
+use Rattle.abstract_steps_single_copied.proofs.ToldCopies.{copy_step_told}
 use Rattle.abstract_steps_single_tests.proofs.IntegerTests.{integer_test_told}
 use Rattle.abstract_steps_single_starts.proofs.ToldStarts.{start_is_told}
 use Rattle.abstract_steps_single_runs.specs.SingleRuns.{SingleLaws, IsNeverStuck, IsSingleProgram, IsViolatedAlone}
-use Rattle.abstract_steps_single_analyses.specs.SingleAnalyses.{OpenLaws, FindsJustRunOf, FindsJustRunsOfChecked}
+use Rattle.abstract_steps_single_analyses.specs.SingleAnalyses.{FindsJustRunOf, FindsJustRunsOfChecked}
 use Rattle.abstract_steps_single_runs.proofs.PassedBlocks.{both}
 use Rattle.abstract_steps_single_analyses.proofs.PlainObjects.{has_objects}
 use Rattle.abstract_steps_single_runs.proofs.SingleRuns.{admits_only_run}
 
-module _ (flow : Flow) (more : OpenLaws flow) where
+module _ (flow : Flow) where
   laws : SingleLaws interval_lattice interval_numbers Stands flow standard_limits
   laws = record {
     values = λ p naming row s o is fits typed right r t d. value_step_told interval_bounding interval_sound interval_ranges intervals_exact flow p naming row s r t o is fits typed right d;
@@ -91,7 +92,7 @@ module _ (flow : Flow) (more : OpenLaws flow) where
     calls = λ p naming row s o is fits typed right r t d. call_told interval_bounding intervals_exact flow p naming row s r t o is fits d;
     loads = λ p objects plain naming row s o is fits typed r t d. load_step_told interval_bounding flow p objects plain naming row s r t o is fits d;
     stores = λ p objects plain naming row s o is fits typed r t d. store_step_told interval_order interval_bounding interval_sound interval_ranges intervals_exact flow p objects plain naming row s r t o is fits d;
-    copies = more.copies;
+    copies = λ structs p objects plain naming row s o is fits typed r t d. copy_step_told interval_order interval_bounding interval_ranges intervals_exact flow p objects plain structs naming row s r t o is fits d;
     spells = λ p objects plain naming row s o is fits typed r t d. spell_step_told interval_bounding flow p objects plain naming row s r t o is fits d;
     enters = λ p objects plain naming row s o is fits typed r t d. enter_step_told interval_bounding flow p objects plain naming row s r t o is fits d;
     leaves = λ p objects plain naming row s o is fits typed r t d. leave_step_told flow p plain naming row s r t o is fits d;
@@ -175,8 +176,8 @@ module _ (flow : Flow) (list : List ℤ) (found : List Diag) (a : IsAnalysis flo
         (runs_begin flow standard_limits regular.well_formed regular.initial p u starts)
         (replicate flow.width Nothing) (start_of interval_lattice interval_numbers flow list) (length-replicate flow.width Nothing) (regular_fits flow list a.regular enough.reaches a.started) [] begin (begins single.parameters)
 
-    only_run : OpenLaws flow → IsNeverStuck flow u → IsSingleProgram flow u → (d : Diag) → Contains found d → IsViolatedAlone flow u d.place d.rule
-    only_run more unstuck single d there =
+    only_run : IsNeverStuck flow u → IsSingleProgram flow u → (d : Diag) → Contains found d → IsViolatedAlone flow u d.place d.rule
+    only_run unstuck single d there =
         let laid = laid_out standard_limits flow regular.well_formed (omega (arith)) in
         let named = all_named standard_limits flow regular.well_formed regular.scalars in
         let rising = regular_rising flow list a.regular in
@@ -184,7 +185,7 @@ module _ (flow : Flow) (list : List ℤ) (found : List Diag) (a : IsAnalysis flo
         let behind = stand [] begin (begins single.parameters) in
         admits_only_run interval_order flow list standard_limits regular.well_formed p (steps flow list a.regular enough) (ends flow list a.regular enough)
         (tests_sound interval_order interval_bounding interval_sound interval_ranges flow p enough.tests)
-        (laws flow more) (λ number e is. kind_told flow more p e.kind (kinds number e is))
+        (laws flow) (λ number e is. kind_told flow p e.kind (kinds number e is))
         (λ number row own. fit_nothing interval_order interval_rounding interval_heights interval_bounding interval_monotone interval_ranges interval_ends flow list near enough.reaches laid named rising number row own)
         (λ block number row x own e. leaves_own interval_order interval_rounding interval_heights interval_bounding interval_monotone interval_ranges interval_ends flow list near enough.reaches laid named rising block number row x own e)
         ((flow-laws interval_order interval_rounding interval_heights interval_bounding interval_ends flow list (well_formed_system standard_limits flow regular.well_formed)).start_attained)
@@ -193,7 +194,7 @@ module _ (flow : Flow) (list : List ℤ) (found : List Diag) (a : IsAnalysis flo
         d.place d.rule (λ rows closed. a.made d there rows closed)
 
     pub finds_run : FindsJustRunOf flow found u
-    finds_run more unstuck single d = (λ there. only_run more unstuck single d there, λ v. finds_each_pair flow list found a u stand (record { at = d.place; rule = d.rule }) (record { draws = []; steps = v.count; there = v.there }))
+    finds_run unstuck single d = (λ there. only_run unstuck single d there, λ v. finds_each_pair flow list found a u stand (record { at = d.place; rule = d.rule }) (record { draws = []; steps = v.count; there = v.there }))
 
   pub finds_checked_run : FindsJustRunsOfChecked flow found
   finds_checked_run u is = finds_run u (unit_starts u flow (sound_structs flow list a.regular a.checked.structs) is)

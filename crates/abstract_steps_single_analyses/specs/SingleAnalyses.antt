@@ -4,21 +4,13 @@ use Rattle.std.specs.List.{Contains}
 use Rattle.cc_base.specs.declared.diagnostics.Diag.{Diag}
 use Rattle.c_layout.specs.CheckedUnits.{UnitView}
 use Rattle.flow_program.specs.declared.programs.Flow.{Flow}
-use Rattle.interval_domain.specs.Spans.{Stands}
-use Rattle.interval_domain.specs.IntervalLattice.{interval_lattice}
-use Rattle.interval_domain.specs.IntervalNumbers.{interval_numbers}
 use Rattle.abstract_steps_sound_beginnings.specs.UnitStarts.{StartsAs}
 use Rattle.abstract_steps_sound_checked_starts.specs.CheckedStarts.{IsUnitOf}
-use Rattle.abstract_steps_single_copies.specs.CopyLaws.{CopiesAreTold}
 use Rattle.abstract_steps_single_runs.specs.SingleRuns.{IsNeverStuck, IsSingleProgram, IsViolatedAlone}
-
--- the laws on single instructions that are not proved yet
-pub record OpenLaws (flow : Flow) : Type 0 where
-  pub copies : CopiesAreTold interval_lattice interval_numbers Stands flow
 
 -- the pairs that are found are just those that the run of the unit under no numbers of the outside violates
 abbrev pub FindsJustRunOf : Flow → List Diag → UnitView → Type 0
-FindsJustRunOf flow found u = OpenLaws flow → IsNeverStuck flow u → IsSingleProgram flow u → (d : Diag) → Contains found d ↔ IsViolatedAlone flow u d.place d.rule
+FindsJustRunOf flow found u = IsNeverStuck flow u → IsSingleProgram flow u → (d : Diag) → Contains found d ↔ IsViolatedAlone flow u d.place d.rule
 
 -- of a unit with whose tables the program begins
 abbrev pub FindsJustRuns : Flow → List Diag → Type 0

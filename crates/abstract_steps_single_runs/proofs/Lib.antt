@@ -1,6 +1,5 @@
 pub mod BlockEdges
 pub mod ApartWays
-pub mod MapPairs
 pub mod Tables
 pub mod PassedBlocks
 pub mod Ways

@@ -58,7 +58,7 @@ use Rattle.abstract_steps_single_ways.specs.WayLaws.{FitsWay, IsWay, TestsAreTol
 use Rattle.abstract_steps_single_runs.specs.SingleRuns.{IsNeverStuck, IsSingleProgram, IsSingleAt, IsViolatedAlone, SingleLaws, AdmitOnlyRun, MapsAdmitOnlyRun}
 use Rattle.abstract_steps_single_runs.proofs.ApartWays.{ways_apart}
 use Rattle.abstract_steps_single_runs.proofs.BlockEdges.{edge_leads}
-use Rattle.abstract_steps_single_runs.proofs.MapPairs.{admitted_in}
+use Rattle.abstract_steps_covered.proofs.MapPairs.{admitted_in}
 use Rattle.abstract_steps_single_runs.proofs.Tables.{listed, listed_length, listed_at, left_from, left_in, left_less}
 use Rattle.abstract_steps_single_runs.proofs.PassedBlocks.{Table, IsBoth, both, IsClosed, IsPassed, begun_passed, on_passed, stopped_closed, next, next_passed}
 use Rattle.abstract_steps_single_runs.proofs.SingleSteps.{step_told, way_or_stop}

@@ -70,8 +70,8 @@ module _ (laws : UnitRunsAreProgramRuns) (u : UnitView) (limits : Limits) (progr
   from_source v h = subst (λ z. Contains z v) agree.found h
 
 pub finds_unit_run : UnitRunsAreProgramRuns → (program : Flow) (list : List ℤ) (found : List Diag) → IsAnalysis program list found → FindsJustUnitRuns program found
-finds_unit_run laws program list found a u limits is o more single end d =
-    let both = finds_checked_run program list found a u is more (never_stuck laws u limits program o end) single d in
+finds_unit_run laws program list found a u limits is o single end d =
+    let both = finds_checked_run program list found a u is (never_stuck laws u limits program o end) single d in
     let v : Violation = record { at = d.place; rule = d.rule } in (
       λ there. let h = both.0 there in to_source laws u limits program o end h.count v h.there,
       λ there. both.1 (record { count = count laws u limits program o end; there = from_source laws u limits program o end v there }),

@@ -10,7 +10,6 @@ use Rattle.ref_machine.specs.SourceRuns.{stopped, found_in, Run}
 use Rattle.template_runs_units.specs.UnitRuns.{IsProgramOf}
 use Rattle.abstract_steps_sound_checked_starts.specs.CheckedStarts.{IsUnitOf}
 use Rattle.abstract_steps_single_runs.specs.SingleRuns.{IsSingleProgram}
-use Rattle.abstract_steps_single_analyses.specs.SingleAnalyses.{OpenLaws}
 
 -- the run of a unit under no numbers of the outside comes to an end, and not to a step that is undefined
 pub record HasEnd (u : UnitView) : Type 0 where
@@ -24,5 +23,5 @@ pub record HasEnd (u : UnitView) : Type 0 where
 
 -- the pairs that are found are just those that this run violates
 abbrev pub FindsJustUnitRuns : Flow → List Diag → Type 0
-FindsJustUnitRuns flow found = (u : UnitView) (limits : Limits) → IsUnitOf u flow → IsProgramOf u limits flow → OpenLaws flow → IsSingleProgram flow u → (end : HasEnd u)
+FindsJustUnitRuns flow found = (u : UnitView) (limits : Limits) → IsUnitOf u flow → IsProgramOf u limits flow → IsSingleProgram flow u → (end : HasEnd u)
     → (d : Diag) → Contains found d ↔ Contains (found_in (Run u [] end.turns)) (record { at = d.place; rule = d.rule })
