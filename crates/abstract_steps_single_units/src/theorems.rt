@@ -6,11 +6,12 @@ ghost use Rattle.flow_program.specs.declared.programs.Flow.{Flow};
 ghost use Rattle.flow_analysis.specs.Analyses.{IsAnalysis};
 ghost use Rattle.abstract_steps_single_units.specs.SingleUnits.{FindsJustUnitRuns};
 
-use template_runs_units::unit_runs_are_program_runs;
+use template_runs_looked::{looked_runs_are_program_runs, looked_units_are_never_stuck};
 
 /// Where this run comes to an end.
 pub fn plain_units_are_told_exactly()
     ensures { (flow : Flow) (list : List ℤ) (found : List Diag) → IsAnalysis flow list found → FindsJustUnitRuns flow found }
 {
-    unit_runs_are_program_runs();
+    looked_runs_are_program_runs();
+    looked_units_are_never_stuck();
 }
