@@ -188,7 +188,7 @@ module _ {I : Type 0} {l : LatticeOf I} {n : IntegersOf I} {stands : I → ℤ �
 
       goes_out : (on : leads it.operation ≡ On) (y : Reply Standing) → reply ≡ y → Outcome y
       goes_out on y e =
-          let told = step_told l n stands flow limits laws p objects structs texts single.plain g.passed.before.naming row g.s reached g.passed.before.tells it.operation on done is_single.step fits operands is_single.right defined in
+          let told = step_told l n stands flow limits laws p objects structs texts single.plain g.passed.before.naming row g.s reached g.passed.before.tells it.operation on done (single.calls it.operation done) is_single.typed fits operands is_single.right defined in
           let sound = steps_sound g.passed.before.naming row (begun g.s) it.operation (on, done) fits operands reached in
           by_reply y e (λ t w d. both l n flow stands (operate l n flow row it.operation) (record t { world = w }) (sound.goes_on t w d) (told.goes_on t w d)) told.ends (λ r c. subst (λ z. Contains (world_of z).violated r) e (told.violated r c))
         where
@@ -285,7 +285,7 @@ module _ {I : Type 0} {l : LatticeOf I} {n : IntegersOf I} {stands : I → ℤ �
                 no_some e = cc
 
         ends_out : Outcome reply
-        ends_out = elim (way_or_stop flow g.s it.operation is_single.step off) [ inl is ↦ way_out is | inr e ↦ stop_out e ]
+        ends_out = elim (way_or_stop it.operation (single.calls it.operation done) off) [ inl is ↦ way_out is | inr e ↦ stop_out e ]
 
       out : Outcome reply
       out = elim (goes_or_ends it) [ inl on ↦ goes_out on reply refl | inr off ↦ ends_out off ]

@@ -35,7 +35,7 @@ use Rattle.abstract_steps_sound.specs.SoundSteps.{StandsBehind}
 use Rattle.abstract_steps_sound_copied_structs.specs.StructTables.{HasStructs}
 use Rattle.abstract_steps_sound_edges.specs.EdgeSteps.{TestsAreSound}
 use Rattle.abstract_steps_sound_programs.specs.OpenSteps.{SpellsOverCharacters}
-use Rattle.abstract_steps_covered.specs.SoundEnds.{StepsGoOnSoundly, EndsGoOnSoundly}
+use Rattle.abstract_steps_covered.specs.SoundEnds.{IsDoneIn, StepsGoOnSoundly, EndsGoOnSoundly}
 use Rattle.abstract_steps_covered.specs.Covering.{HasTypedRuns, Admits}
 use Rattle.abstract_steps_single.specs.SingleLaws.{HasRight, IsPlainCall, ValueStepsAreTold, PointerStepsAreTold, CallsAreTold}
 use Rattle.abstract_steps_single.specs.SingleRows.{IsPlainProgram, TellsState}
@@ -47,18 +47,22 @@ use Rattle.abstract_steps_single_ways.specs.WayLaws.{WaysAreTold, TestsAreTold}
 
 -- ---- programs
 
--- accesses are of the kind of what lies there, and calls are of few functions
-abbrev pub IsSingleStep : Flow → Operation → Standing → Type 0
-IsSingleStep flow (op.Load to from kind) s = IsTyped flow s from kind
-IsSingleStep flow (op.Store to from kind kept) s = IsTyped flow s to kind
-IsSingleStep flow (op.Copy to from index) s = IsTypedCopy flow (op.Copy to from index) s
-IsSingleStep flow (op.Library to name arguments newest size) s = IsPlainCall (op.Library to name arguments newest size)
-IsSingleStep flow (op.ReadLine to text count stream) s = ⊥
-IsSingleStep flow _ s = Unit {0}
+-- calls are of few functions
+abbrev pub IsPlainOperation : Operation → Type 0
+IsPlainOperation (op.Library to name arguments newest size) = IsPlainCall (op.Library to name arguments newest size)
+IsPlainOperation (op.ReadLine to text count stream) = ⊥
+IsPlainOperation _ = Unit {0}
+
+-- accesses are of the kind of what lies there
+abbrev pub IsTypedStep : Flow → Operation → Standing → Type 0
+IsTypedStep flow (op.Load to from kind) s = IsTyped flow s from kind
+IsTypedStep flow (op.Store to from kind kept) s = IsTyped flow s to kind
+IsTypedStep flow (op.Copy to from index) s = IsTypedCopy flow (op.Copy to from index) s
+IsTypedStep flow _ s = Unit {0}
 
 -- what the laws on an instruction suppose of the state before it, beside operands of the types that soundness supposes
 pub record IsSingleAt (flow : Flow) (o : Operation) (s : Standing) : Type 0 where
-  pub step : IsSingleStep flow o s
+  pub typed : IsTypedStep flow o s
   pub right : HasRight o s.temps
 
 -- the labels of each switch are apart, and the way for other values knows them
@@ -71,6 +75,7 @@ pub record IsSingleProgram (flow : Flow) (u : UnitView) : Type 0 where
   pub plain : IsPlainProgram flow
   pub parameters : flow.parameters.items ≡ []
   pub switches : SwitchesAreApart flow
+  pub calls : (o : Operation) → IsDoneIn flow o → IsPlainOperation o
   -- no edge enters a block from that block or a later one
   pub headless : (b : ℕ) → is_head_at flow.blocks.items b ≡ false
   pub steps : (count : ℕ) (s : Standing) (found : List Violation) (i : Instruction) → flow_steps (flow_view flow) count (flow_begin u (flow_view flow) []) ≡ running s found → slice_get (instructions_of flow s.block) s.at ≡ Some i → IsSingleAt flow i.operation s
