@@ -59,12 +59,6 @@ module _ {I : Type 0} (l : LatticeOf I) (n : IntegersOf I) where
 module _ {I : Type 0} (l : LatticeOf I) (n : IntegersOf I) (m : Model) (bases : List BaseInfo) (row : List (Cell I)) (b : ℕ) (base : BaseInfo) (at : slice_get bases b ≡ Some base) (small : b < most_bases) (object : base.shape.heap ≡ false) (fits : Fits base) (kind : is_allocated (storage_for base.kind) ≡ false) (writable : is_literal_kind base.kind ≡ false)
     (h : IsStruct m base.shape.cells base.size) (single : (j : ℕ) (leaf : Leaf) → slice_get base.shape.cells j ≡ Some leaf → leaf.count ≡ 1)
     (j : ℕ) (leaf : Leaf) (among : slice_get base.shape.cells j ≡ Some leaf) (v : values.Value I) where
-  abbrev access : Access
-  access = record { class = leaf.class; signed = leaf.signed; window = window_between leaf.offset leaf.offset }
-
-  abbrev write : Write I
-  write = write_to bases (only_base b) access v
-
   -- what the cell becomes
   abbrev pub stored : values.Value I
   stored = as_stored n m (stored_value leaf.class v) leaf.class leaf.signed
@@ -77,64 +71,72 @@ module _ {I : Type 0} (l : LatticeOf I) (n : IntegersOf I) (m : Model) (bases : 
     pub is : found ≡ Some after
     pub keeps : (x : ℕ) → (base.first + base_cells base ≤ x → x < base.first + base_values base → ⊥) → cell_at after x ≡ cell_at stored_row x
 
-  own_set : (t : List (Cell I)) → store_leaf_at l n m write leaf (leaf_position base j) t ≡ put_value t (leaf_position base j) stored
-  unfolding store_leaf_at write_value
-  own_set t =
-      let own = own_selected m base.shape.cells base.size h single j leaf among in
-      let alone = one_instance bases b base at small kind in
-      let here = eq-eqb leaf.offset leaf.offset refl in
-      let one = eq-eqb leaf.count 1 (single j leaf among) in
-      rw (own, alone, here, one) refl
+  -- whatever the sign of the access: the cell is of the leaf's
+  module _ (signed : Bool) where
+    abbrev access : Access
+    access = record { class = leaf.class; signed = signed; window = window_between leaf.offset leaf.offset }
 
-  leaves_are : store_leaves l n m base write row ≡ stored_row
-  unfolding store_leaves store_leaf_at
-  leaves_are =
-      walk_once (store_leaf l n m base write) 0 base.shape.cells row j j leaf among (omega arith) (λ i d other e f g t. let u = other_unselected m base.shape.cells base.size h single j leaf among i other e g in rw u refl)
-      ∙ own_set row
+    abbrev write : Write I
+    write = write_to bases (only_base b) access v
 
-  own_is : store_own l n m base write row ≡ stored_row
-  unfolding store_own store_class_cell
-  own_is = let e = leaves_are in rw (e, object) refl
+    own_set : (t : List (Cell I)) → store_leaf_at l n m write leaf (leaf_position base j) t ≡ put_value t (leaf_position base j) stored
+    unfolding store_leaf_at write_value
+    own_set t =
+        let own = own_selected m base.shape.cells base.size h single j leaf among in
+        let alone = one_instance bases b base at small kind in
+        let here = eq-eqb leaf.offset leaf.offset refl in
+        let one = eq-eqb leaf.count 1 (single j leaf among) in
+        rw (own, alone, here, one) refl
 
-  others_are : leaf.class ≡ Char → (t : List (Cell I)) → store_other_bytes l n m base write t ≡ t
-  unfolding store_other_bytes store_other_leaves store_other_leaf_at
-  others_are char t =
-      let e = walk_idle (store_other_leaf l n m base write) 0 base.shape.cells t (λ i d other e f. let u = none_other m base.shape.cells base.size h single j leaf among char i other e in rw u refl) in
-      rw (object, e) refl
+    leaves_are : store_leaves l n m base write row ≡ stored_row
+    unfolding store_leaves store_leaf_at
+    leaves_are =
+        walk_once (store_leaf l n m base write) 0 base.shape.cells row j j leaf among (omega arith) (λ i d other e f g t. let u = other_unselected m base.shape.cells base.size h single j leaf among i other e g in rw u refl)
+        ∙ own_set row
 
-  base_sets : (c : Bool) → same_class leaf.class Char ≡ c → (x : ℕ) → (base.first + base_cells base ≤ x → x < base.first + base_values base → ⊥) → cell_at (store_base l n m base write row) x ≡ cell_at stored_row x
-  unfolding store_base store_character store_wider
-  base_sets false e x far = let own = own_is in rw (e, own, object) refl
-  base_sets true e x far =
-      let own = own_is in
-      let same = others_are (same_class_is leaf.class Char e) stored_row in
-      let tri : Tri = n.compare Eq (cell_value n m write write.access.signed).num (n.one (pos 0)) in
-      rw (e, own, same) ((put_only l n base write.access.window tri write.alone fits).keeps stored_row x (λ f g. far f (omega (arith, g))))
+    own_is : store_own l n m base write row ≡ stored_row
+    unfolding store_own store_class_cell
+    own_is = let e = leaves_are in rw (e, object) refl
 
-  all_are : store_all l n m bases (only_base b) write row ≡ store_base l n m base write row
-  unfolding store_all store_if
-  all_are =
-      walk_once (store_to l n m (only_base b) write) 0 bases row b b base at (omega arith) (λ i d other e f g t. let u = has_no_other b d (λ k. g (omega (arith, f, k))) in rw u refl)
-      ∙ (let own = has_own b small in rw own refl)
+    others_are : leaf.class ≡ Char → (t : List (Cell I)) → store_other_bytes l n m base write t ≡ t
+    unfolding store_other_bytes store_other_leaves store_other_leaf_at
+    others_are char t =
+        let e = walk_idle (store_other_leaf l n m base write) 0 base.shape.cells t (λ i d other e f. let u = none_other m base.shape.cells base.size h single j leaf among char i other e in rw u refl) in
+        rw (object, e) refl
 
-  some_place : any_place m bases (only_base b) access ≡ true
-  unfolding any_place has_place has_own_place
-  some_place =
-      let own = own_selected m base.shape.cells base.size h single j leaf among in
-      let some : (selected_count base.shape.cells leaf.class access.window == 0) ≡ false = ne_eqb (selected_count base.shape.cells leaf.class access.window) 0 (λ (z : selected_count base.shape.cells leaf.class access.window ≡ 0). count_none (λ x. is_selected x leaf.class access.window) base.shape.cells j leaf among own z) in
-      let place : has_place m base access ≡ true = or_left _ _ (or_left _ _ (ap not some)) in
-      walk_meets (λ z. z ≡ true) (has_place_or m (only_base b) access) (λ k i s g. or_left _ _ g) 0 bases false b b base at (omega arith) (λ t. or_right _ _ (and_from _ _ (has_own b small) place))
+    base_sets : (c : Bool) → same_class leaf.class Char ≡ c → (x : ℕ) → (base.first + base_cells base ≤ x → x < base.first + base_values base → ⊥) → cell_at (store_base l n m base write row) x ≡ cell_at stored_row x
+    unfolding store_base store_character store_wider
+    base_sets false e x far = let own = own_is in rw (e, own, object) refl
+    base_sets true e x far =
+        let own = own_is in
+        let same = others_are (same_class_is leaf.class Char e) stored_row in
+        let tri : Tri = n.compare Eq (cell_value n m write write.access.signed).num (n.one (pos 0)) in
+        rw (e, own, same) ((put_only l n base write.access.window tri write.alone fits).keeps stored_row x (λ f g. far f (omega (arith, g))))
 
-  reached_are : reached_of l n bases row (only_base b) ≡ only_base b
-  reached_are = ap (writable_of bases) (live_is bases b base at small l n row object) ∙ (writable_is bases b base at small ∙ rw writable refl)
+    all_are : store_all l n m bases (only_base b) write row ≡ store_base l n m base write row
+    unfolding store_all store_if
+    all_are =
+        walk_once (store_to l n m (only_base b) write) 0 bases row b b base at (omega arith) (λ i d other e f g t. let u = has_no_other b d (λ k. g (omega (arith, f, k))) in rw u refl)
+        ∙ (let own = has_own b small in rw own refl)
 
-  pub store_sets : (p : Pointers I) → p.bases ≡ only_base b → window_of n p (class_bytes m leaf.class) ≡ Some (window_between leaf.offset leaf.offset) → is_nothing n leaf.class v ≡ false → SetsCell (store l n m bases p leaf.class leaf.signed v row)
-  unfolding store store_access can_store
-  store_sets p sole window something =
-      let r = reached_are in
-      let s = some_place in
-      record {
-        after = store_all l n m bases (only_base b) write row;
-        is = rw (window, sole, r, something, s) refl;
-        keeps = λ x far. ap (λ z. cell_at z x) all_are ∙ base_sets (same_class leaf.class Char) refl x far;
-      }
+    some_place : any_place m bases (only_base b) access ≡ true
+    unfolding any_place has_place has_own_place
+    some_place =
+        let own = own_selected m base.shape.cells base.size h single j leaf among in
+        let some : (selected_count base.shape.cells leaf.class access.window == 0) ≡ false = ne_eqb (selected_count base.shape.cells leaf.class access.window) 0 (λ (z : selected_count base.shape.cells leaf.class access.window ≡ 0). count_none (λ x. is_selected x leaf.class access.window) base.shape.cells j leaf among own z) in
+        let place : has_place m base access ≡ true = or_left _ _ (or_left _ _ (ap not some)) in
+        walk_meets (λ z. z ≡ true) (has_place_or m (only_base b) access) (λ k i s g. or_left _ _ g) 0 bases false b b base at (omega arith) (λ t. or_right _ _ (and_from _ _ (has_own b small) place))
+
+    reached_are : reached_of l n bases row (only_base b) ≡ only_base b
+    reached_are = ap (writable_of bases) (live_is bases b base at small l n row object) ∙ (writable_is bases b base at small ∙ rw writable refl)
+
+    pub store_sets : (p : Pointers I) → p.bases ≡ only_base b → window_of n p (class_bytes m leaf.class) ≡ Some (window_between leaf.offset leaf.offset) → is_nothing n leaf.class v ≡ false → SetsCell (store l n m bases p leaf.class signed v row)
+    unfolding store store_access can_store
+    store_sets p sole window something =
+        let r = reached_are in
+        let s = some_place in
+        record {
+          after = store_all l n m bases (only_base b) write row;
+          is = rw (window, sole, r, something, s) refl;
+          keeps = λ x far. ap (λ z. cell_at z x) all_are ∙ base_sets (same_class leaf.class Char) refl x far;
+        }

@@ -56,7 +56,7 @@ abbrev pub FitsLeaf : Leaf → Scalar → Type 0
 FitsLeaf leaf (integer z labels) = is_pointer leaf.class ≡ false
 FitsLeaf leaf (pointer p) = is_pointer leaf.class ≡ true
 
-module _ {I : Type 0} {l : LatticeOf I} {n : IntegersOf I} {stands : I → ℤ → Type 0} (q : BoundLaws l n stands) (ranges : RangeLaws l n) (x : ExactLaws n) (flow : Flow) (p : HasPremises flow) (row : List (Cell I)) (long : length row ≡ flow.width) (state : MachineState) (t : TellsState l n flow row state) (new : Memory) (small : (k : ℕ) → length (bytes_at new k) ≤ last_offset) (b i : ℕ) (base : BaseInfo) (at : slice_get flow.bases.items b ≡ Some base) (named : state.entered b ≡ Some i) (names : (d j : ℕ) → state.entered d ≡ Some j → (d ≡ b → ⊥) → j ≡ i → ⊥)
+module _ {I : Type 0} {l : LatticeOf I} {n : IntegersOf I} {stands : I → ℤ → Type 0} (q : BoundLaws l n stands) (ranges : RangeLaws l n) (x : ExactLaws n) (flow : Flow) (p : HasPremises flow) (row : List (Cell I)) (long : length row ≡ flow.width) (state : MachineState) (new : Memory) (small : (k : ℕ) → length (bytes_at new k) ≤ last_offset) (b i : ℕ) (base : BaseInfo) (at : slice_get flow.bases.items b ≡ Some base)
     (h : IsStruct flow.model base.shape.cells base.size) (single : (j : ℕ) (leaf : Leaf) → slice_get base.shape.cells j ≡ Some leaf → leaf.count ≡ 1)
     (j : ℕ) (leaf : Leaf) (among : slice_get base.shape.cells j ≡ Some leaf) (v : Scalar) (fit : FitsLeaf leaf v) (in_new : IsScalarIn new v)
     (w : IsWritten state.memory new i leaf.offset leaf.class (class_bytes flow.model leaf.class) (scalar_bytes (class_bytes flow.model leaf.class) v))
@@ -121,34 +121,42 @@ module _ {I : Type 0} {l : LatticeOf I} {n : IntegersOf I} {stands : I → ℤ �
           (near_scalar_tells q state.entered new small stored (left_in flow leaf v) (left_within v in_new) (left_near v tells) (stored_tells v fit tells));
     }
 
-    other_leaf : (k : ℕ) (other : Leaf) (offset : ℕ) → slice_get base.shape.cells k ≡ Some other → IsPlaceOf other offset → (k ≡ j → ⊥) → TellsLeaf l n flow behind (value_at l n after (leaf_position base k)) i offset other
-    other_leaf k other offset e placed ne =
-        let was = t.leaves b k i offset base other at e named placed in
-        let top = slice_get_within base.shape.cells k other e in
-        let there = leaf_is base k fits top in
-        let here = place in
-        let same = same_value l n row after (leaf_position base k) (kept (leaf_position base k) (λ f. ne (omega (arith, f, there, here))) (λ f g. omega (arith, f, there, top))) in
-        subst (λ z. TellsLeaf l n flow behind z i offset other) (sym same) (record {
-          held = was.held;
-          holds = holds_moves flow state.memory new i offset other (λ y less. w.outside i (offset + y) (λ d f g.
-              let begins = place_is flow.model base.shape.cells base.size h single k offset other e placed in
-              ne (h.one k j (offset + y) y ((offset + y) - leaf.offset) other leaf e among
-              (owned flow.model base.shape.cells base.size h single k (offset + y) y other e (omega (arith, begins)) less)
-              (owned flow.model base.shape.cells base.size h single j (offset + y) ((offset + y) - leaf.offset) leaf among (omega (arith, f)) (omega (arith, f, g)))))) was.held was.holds;
-          tells = held_moves n state.entered state.memory new w.lives (value_at l n row (leaf_position base k)) was.held was.tells;
-        })
+    -- the row tells the object's leaves
+    abbrev pub AreTold : List (Cell I) → MachineState → Type 0
+    AreTold of in_state = (k : ℕ) (other : Leaf) (offset : ℕ) → slice_get base.shape.cells k ≡ Some other → IsPlaceOf other offset → TellsLeaf l n flow in_state (value_at l n of (leaf_position base k)) i offset other
 
-    pub stored_state : TellsState l n flow after behind
-    stored_state = change_tells l n flow p row after state new b i base at named t (record {
+    module _ (told : AreTold row state) where
+      other_leaf : (k : ℕ) (other : Leaf) (offset : ℕ) → slice_get base.shape.cells k ≡ Some other → IsPlaceOf other offset → (k ≡ j → ⊥) → TellsLeaf l n flow behind (value_at l n after (leaf_position base k)) i offset other
+      other_leaf k other offset e placed ne =
+          let was = told k other offset e placed in
+          let top = slice_get_within base.shape.cells k other e in
+          let there = leaf_is base k fits top in
+          let here = place in
+          let same = same_value l n row after (leaf_position base k) (kept (leaf_position base k) (λ f. ne (omega (arith, f, there, here))) (λ f g. omega (arith, f, there, top))) in
+          subst (λ z. TellsLeaf l n flow behind z i offset other) (sym same) (record {
+            held = was.held;
+            holds = holds_moves flow state.memory new i offset other (λ y less. w.outside i (offset + y) (λ d f g.
+                let begins = place_is flow.model base.shape.cells base.size h single k offset other e placed in
+                ne (h.one k j (offset + y) y ((offset + y) - leaf.offset) other leaf e among
+                (owned flow.model base.shape.cells base.size h single k (offset + y) y other e (omega (arith, begins)) less)
+                (owned flow.model base.shape.cells base.size h single j (offset + y) ((offset + y) - leaf.offset) leaf among (omega (arith, f)) (omega (arith, f, g)))))) was.held was.holds;
+            tells = held_moves n state.entered state.memory new w.lives (value_at l n row (leaf_position base k)) was.held was.tells;
+          })
+
+      pub stored_leaves : AreTold after behind
+      stored_leaves k other offset e placed = elim (cases_eq k j) [
+        | inl f ↦ (let same : leaf ≡ other = same_Some leaf other (sym among ∙ (ap (slice_get base.shape.cells) (sym f) ∙ e)) in
+            let begins : leaf.offset ≡ offset = ap (λ z. z.offset) same ∙ sym (place_is flow.model base.shape.cells base.size h single k offset other e placed) in
+            subst (λ z. TellsLeaf l n flow behind (value_at l n after (leaf_position base z)) i offset other) (sym f)
+            (subst (λ z. TellsLeaf l n flow behind (value_at l n after (leaf_position base j)) i z other) begins
+            (subst (λ z. TellsLeaf l n flow behind (value_at l n after (leaf_position base j)) i leaf.offset z) same own_leaf)))
+        | inr f ↦ other_leaf k other offset e placed f
+      ]
+
+    pub stored_state : TellsState l n flow row state → state.entered b ≡ Some i → ((d j : ℕ) → state.entered d ≡ Some j → (d ≡ b → ⊥) → j ≡ i → ⊥) → TellsState l n flow after behind
+    stored_state t named names = change_tells l n flow p row after state new b i base at named t (record {
       lives = w.lives;
       others = λ d o ne. w.outside d o (λ e f g. ne e);
       outside = λ z far. let top = slice_get_within base.shape.cells j leaf among in let e = place in kept z (λ f. far (omega (arith, f, e)) (omega (arith, f, e, top))) (λ f g. far (omega (arith, f)) g);
       apart = names;
-    }) (λ k other offset e placed. elim (cases_eq k j) [
-      | inl f ↦ (let same : leaf ≡ other = same_Some leaf other (sym among ∙ (ap (slice_get base.shape.cells) (sym f) ∙ e)) in
-          let begins : leaf.offset ≡ offset = ap (λ z. z.offset) same ∙ sym (place_is flow.model base.shape.cells base.size h single k offset other e placed) in
-          subst (λ z. TellsLeaf l n flow behind (value_at l n after (leaf_position base z)) i offset other) (sym f)
-          (subst (λ z. TellsLeaf l n flow behind (value_at l n after (leaf_position base j)) i z other) begins
-          (subst (λ z. TellsLeaf l n flow behind (value_at l n after (leaf_position base j)) i leaf.offset z) same own_leaf)))
-      | inr f ↦ other_leaf k other offset e placed f
-    ])
+    }) (stored_leaves (λ k other offset e placed. t.leaves b k i offset base other at e named placed))

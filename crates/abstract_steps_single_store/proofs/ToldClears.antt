@@ -27,6 +27,7 @@ use Rattle.flow_program_machine.specs.FlowStates.{Standing}
 use Rattle.flow_program_machine.specs.FlowSteps.{act_step}
 use Rattle.store_domain_meaning.specs.Coverage.{state_of}
 use Rattle.store_domain_meaning.specs.Matching.{Matched}
+use Rattle.store_domain_meaning.specs.RowMeaning.{MachineState}
 use Rattle.store_domain_meaning.specs.ValueMeaning.{Naming}
 use Rattle.store_domain_sound_programs.specs.Premises.{HasPremises}
 use Rattle.abstract_steps_sound.specs.SoundSteps.{IsReached}
@@ -105,7 +106,7 @@ module _ (flow : Flow) (p : HasPremises flow) (b : ℕ) (info : BaseInfo) (at : 
       let there = leaf_is info d fits (let w = slice_get_within info.shape.cells i other f in omega (arith, w, g)) in
       only_leaves (leaf_position info j) (clear_leaf l n info other d) (one_leaf other d) (λ u w. ne (omega (arith, u, w, here, there, g)))) row
 
-  leaf_zero : (j : ℕ) (leaf : Leaf) → slice_get info.shape.cells j ≡ Some leaf → value_at l n after (leaf_position info j) ≡ near_value l n (zero_value l n leaf.class)
+  pub leaf_zero : (j : ℕ) (leaf : Leaf) → slice_get info.shape.cells j ≡ Some leaf → value_at l n after (leaf_position info j) ≡ near_value l n (zero_value l n leaf.class)
   unfolding clear_object set_zeros value_at
   leaf_zero j leaf e =
       let fits = blank.fits flow p b info at declared in
@@ -129,6 +130,32 @@ module _ (flow : Flow) (p : HasPremises flow) (b : ℕ) (info : BaseInfo) (at : 
       let w = slice_get_within info.shape.cells j leaf e in
       only_more _ _ (clear_leaf l n info leaf a) (omega (arith, here)) (omega (arith, here, w, d, cells)) (one_leaf leaf a))).keeps row x h
 
+-- a leaf of zero bytes
+module _ {I : Type 0} {l : LatticeOf I} {n : IntegersOf I} {stands : I → ℤ → Type 0} (q : BoundLaws l n stands) (flow : Flow) (state : MachineState) (i : ℕ) (leaf : Leaf) (bytes : (k : ℕ) → k < class_bytes flow.model leaf.class → Matched state.memory i (leaf.offset + k) leaf.class k (number 0 no_labels)) where
+  pub zero_leaf : (c : _) → is_pointer leaf.class ≡ c → TellsLeaf l n flow state (near_value l n (zero_value l n leaf.class)) i leaf.offset leaf
+  zero_leaf true c = record {
+    held = Some (pointer null);
+    holds = record { pointing = c; bytes = bytes };
+    tells = rw c (record { apart = near_none q l.least q.least_bounds; points = record { bases = refl; null = refl; ended = refl }; determinate = refl });
+  }
+  zero_leaf false c = record {
+    held = Some (integer (pos 0) no_labels);
+    holds = record {
+      integral = c;
+      numbers = zeros (class_bytes flow.model leaf.class);
+      bytes = record {
+        size = zeros_length (class_bytes flow.model leaf.class);
+        each = λ k m small g.
+            let z = zeros_at (class_bytes flow.model leaf.class) k m g in
+            let long = zeros_length (class_bytes flow.model leaf.class) in
+            subst (λ y. Matched state.memory i (leaf.offset + k) leaf.class k (number y.number y.labels)) (sym z) (bytes k (omega (arith, small, long)));
+      };
+      is = zeros_number leaf.signed (class_bytes flow.model leaf.class);
+      same = λ k m g. ap (λ y. y.labels) (zeros_at (class_bytes flow.model leaf.class) k m g);
+    };
+    tells = rw c (record { number = near_one q (n.one (pos 0)) (pos 0) (record { from = omega (arith, ints); to = omega (arith, ints) }) (q.one_bounds (pos 0)); labels_are = refl; apart = record { bases = refl; null = refl; ended = refl }; determinate = refl });
+  }
+
 module _ {I : Type 0} {l : LatticeOf I} {n : IntegersOf I} {stands : I → ℤ → Type 0} (q : BoundLaws l n stands) (flow : Flow) (p : HasPremises flow) (objects : HasObjects flow) (plain : IsPlainProgram flow) (naming : Naming) (row : List (Cell I)) (s : Standing) (r : IsReached l n stands flow naming row s) (t : TellsState l n flow row (state_of s)) where
   module _ (b i : ℕ) (info : BaseInfo) (at : slice_get flow.bases.items b ≡ Some info) (entered : s.bases b ≡ Some i) (declared : info.shape.heap ≡ false) (kind : info.kind ≡ Older → ⊥) where
     single : (j : ℕ) (leaf : Leaf) → slice_get info.shape.cells j ≡ Some leaf → leaf.count ≡ 1
@@ -136,30 +163,6 @@ module _ {I : Type 0} {l : LatticeOf I} {n : IntegersOf I} {stands : I → ℤ �
 
     abbrev zeroed : Memory
     zeroed = new q flow p naming row s r b i info at entered declared kind (number 0 no_labels)
-
-    cleared_leaf : (j : ℕ) (leaf : Leaf) → slice_get info.shape.cells j ≡ Some leaf → (c : _) → is_pointer leaf.class ≡ c → TellsLeaf l n flow (record { memory = zeroed; temps = s.temps; entered = s.bases }) (near_value l n (zero_value l n leaf.class)) i leaf.offset leaf
-    cleared_leaf j leaf e true c = record {
-      held = Some (pointer null);
-      holds = record { pointing = c; bytes = leaf_bytes q flow p objects plain naming row s r t b i info at entered declared kind (number 0 no_labels) j leaf e };
-      tells = rw c (record { apart = near_none q l.least q.least_bounds; points = record { bases = refl; null = refl; ended = refl }; determinate = refl });
-    }
-    cleared_leaf j leaf e false c = record {
-      held = Some (integer (pos 0) no_labels);
-      holds = record {
-        integral = c;
-        numbers = zeros (class_bytes flow.model leaf.class);
-        bytes = record {
-          size = zeros_length (class_bytes flow.model leaf.class);
-          each = λ k m small g.
-              let z = zeros_at (class_bytes flow.model leaf.class) k m g in
-              let long = zeros_length (class_bytes flow.model leaf.class) in
-              subst (λ y. Matched zeroed i (leaf.offset + k) leaf.class k (number y.number y.labels)) (sym z) (leaf_bytes q flow p objects plain naming row s r t b i info at entered declared kind (number 0 no_labels) j leaf e k (omega (arith, small, long)));
-        };
-        is = zeros_number leaf.signed (class_bytes flow.model leaf.class);
-        same = λ k m g. ap (λ y. y.labels) (zeros_at (class_bytes flow.model leaf.class) k m g);
-      };
-      tells = rw c (record { number = near_one q (n.one (pos 0)) (pos 0) (record { from = omega (arith, ints); to = omega (arith, ints) }) (q.one_bounds (pos 0)); labels_are = refl; apart = record { bases = refl; null = refl; ended = refl }; determinate = refl });
-    }
 
     cleared_tells : TellsState l n flow (clear_object l n info row) (record { memory = zeroed; temps = s.temps; entered = s.bases })
     cleared_tells =
@@ -171,7 +174,7 @@ module _ {I : Type 0} {l : LatticeOf I} {n : IntegersOf I} {stands : I → ℤ �
           apart = λ d j f ne same. ne (same_Some d b (sym (r.stands_for.lives.named d j f) ∙ (ap naming same ∙ r.stands_for.lives.named b i entered)));
         }) (λ j leaf offset e place.
         subst (λ x. TellsLeaf l n flow (record { memory = zeroed; temps = s.temps; entered = s.bases }) (value_at l n (clear_object l n info row) (leaf_position info j)) i x leaf) (sym (place_is flow.model info.shape.cells info.size (objects b info at) single j offset leaf e place))
-        (subst (λ z. TellsLeaf l n flow (record { memory = zeroed; temps = s.temps; entered = s.bases }) z i leaf.offset leaf) (sym (leaf_zero flow p b info at declared l n row r.long j leaf e)) (cleared_leaf j leaf e (is_pointer leaf.class) refl)))
+        (subst (λ z. TellsLeaf l n flow (record { memory = zeroed; temps = s.temps; entered = s.bases }) z i leaf.offset leaf) (sym (leaf_zero flow p b info at declared l n row r.long j leaf e)) (zero_leaf q flow (record { memory = zeroed; temps = s.temps; entered = s.bases }) i leaf (leaf_bytes q flow p objects plain naming row s r t b i info at entered declared kind (number 0 no_labels) j leaf e) (is_pointer leaf.class) refl)))
 
   clear_told : (b : ℕ) → fits_operation (names_of flow) (op.Clear b) ≡ true → IsDefined (act_step (flow_view flow) (act (op.Clear b)) s) → StepIsTold l n flow row (op.Clear b) s
   unfolding operate clear operation_violations

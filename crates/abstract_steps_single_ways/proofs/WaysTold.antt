@@ -78,7 +78,7 @@ same_self z = grind (arith, ints)
 other_is : (z : ℤ) (la : Labels) (labels : List ℤ) → is_other_than (Some (z, z)) labels ≡ not (is_among (integer z la) labels)
 other_is z la labels = ap₂ (λ a b. not a || not b) (same_self z) (among_is z la labels)
 
-lead_jump : (k : EdgeKind) → FitsLead Once k → FitsWay op.Jump k
+pub lead_jump : (k : EdgeKind) → FitsLead Once k → FitsWay op.Jump k
 lead_jump kind.Jump h = tt
 lead_jump (kind.When truth test kept) h = absurd h
 lead_jump (kind.Case test) h = absurd h
@@ -86,7 +86,7 @@ lead_jump (kind.Other values) h = absurd h
 lead_jump kind.NoLine h = absurd h
 lead_jump kind.Line h = absurd h
 
-lead_branch : (u : ℕ) (scalar : _) (k : EdgeKind) → FitsLead TwoWays k → FitsWay (op.Branch u scalar) k
+pub lead_branch : (u : ℕ) (scalar : _) (k : EdgeKind) → FitsLead TwoWays k → FitsWay (op.Branch u scalar) k
 lead_branch u scalar kind.Jump h = absurd h
 lead_branch u scalar (kind.When truth test kept) h = tt
 lead_branch u scalar (kind.Case test) h = absurd h
@@ -94,7 +94,7 @@ lead_branch u scalar (kind.Other values) h = absurd h
 lead_branch u scalar kind.NoLine h = absurd h
 lead_branch u scalar kind.Line h = absurd h
 
-lead_switch : (u : ℕ) (type : _) (k : EdgeKind) → FitsLead ByCases k → FitsWay (op.Switch u type) k
+pub lead_switch : (u : ℕ) (type : _) (k : EdgeKind) → FitsLead ByCases k → FitsWay (op.Switch u type) k
 lead_switch u type kind.Jump h = absurd h
 lead_switch u type (kind.When truth test kept) h = absurd h
 lead_switch u type (kind.Case test) h = tt
