@@ -25,7 +25,6 @@ use Rattle.abstract_steps_rows.specs.OwnRows.{is_own_row}
 use Rattle.abstract_steps_system.specs.BlockPasses as passes
 use Rattle.abstract_steps_system.specs.BlockPasses.{block_end, edge_behind, edge_end}
 use Rattle.abstract_steps_system.specs.FlowMachines.{edge_at, start_of, through, flow_machine}
-use Rattle.rule_checks.specs.AdmittedRules as rules
 use Rattle.rule_checks.specs.AdmittedRules.{instructions_of, row_behind}
 use Rattle.lib_models_effects.specs.NumberedTables.{put_at, empty_table}
 use Rattle.lib_models_effects.specs.Worlds.{Violation}
