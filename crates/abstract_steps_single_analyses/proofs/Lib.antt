@@ -1,0 +1,2 @@
+pub mod PlainObjects
+pub mod SingleAnalyses
