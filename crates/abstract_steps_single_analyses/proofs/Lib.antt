@@ -1,2 +1,3 @@
+pub mod RightOperands
 pub mod PlainObjects
 pub mod SingleAnalyses

@@ -46,7 +46,7 @@ use Rattle.abstract_steps_sound.specs.SoundSteps.{StandsBehind}
 use Rattle.abstract_steps_sound_programs.specs.OpenSteps.{TestIsProved, CaseIsProved, KindIsProved}
 use Rattle.abstract_steps_sound_programs.proofs.AllSteps.{tests_sound}
 use Rattle.abstract_steps_sound_analyses.specs.SoundAnalyses.{Suffices}
-use Rattle.abstract_steps_sound_analyses.proofs.SoundAnalyses.{standard_held, steps, ends, typed_runs}
+use Rattle.abstract_steps_sound_analyses.proofs.SoundAnalyses.{standard_held, steps, ends, typed_runs, covered}
 use Rattle.abstract_steps_sound_analyses.proofs.FoundRuns.{suffices, finds_each_pair}
 use Rattle.abstract_steps_sound_analyses.proofs.ScalarTests.{kinds_proved}
 use Rattle.abstract_steps_sound_maps.specs.CarriedMaps.{EntryStands}
@@ -82,6 +82,7 @@ use Rattle.abstract_steps_single_runs.specs.SingleRuns.{SingleLaws, IsNeverStuck
 use Rattle.abstract_steps_single_analyses.specs.SingleAnalyses.{FindsJustRunOf, FindsJustRunsOfChecked}
 use Rattle.abstract_steps_single_runs.proofs.PassedBlocks.{both}
 use Rattle.abstract_steps_single_analyses.proofs.PlainObjects.{has_objects}
+use Rattle.abstract_steps_single_analyses.proofs.RightOperands.{rights_of}
 use Rattle.abstract_steps_single_runs.proofs.SingleRuns.{admits_only_run}
 
 module _ (flow : Flow) where
@@ -183,13 +184,15 @@ module _ (flow : Flow) (list : List ℤ) (found : List Diag) (a : IsAnalysis flo
         let rising = regular_rising flow list a.regular in
         let near = regular.near in
         let behind = stand [] begin (begins single.parameters) in
+        let typed = typed_runs flow list a.regular enough u stand a.rows a.inductive a.typed in
+        let rights = rights_of flow u a.rows a.typed (covered flow list a.regular enough u stand typed a.rows a.inductive) in
         admits_only_run interval_order flow list standard_limits regular.well_formed p (steps flow list a.regular enough) (ends flow list a.regular enough)
         (tests_sound interval_order interval_bounding interval_sound interval_ranges flow p enough.tests)
         (laws flow) (λ number e is. kind_told flow p e.kind (kinds number e is))
         (λ number row own. fit_nothing interval_order interval_rounding interval_heights interval_bounding interval_monotone interval_ranges interval_ends flow list near enough.reaches laid named rising number row own)
         (λ block number row x own e. leaves_own interval_order interval_rounding interval_heights interval_bounding interval_monotone interval_ranges interval_ends flow list near enough.reaches laid named rising block number row x own e)
         ((flow-laws interval_order interval_rounding interval_heights interval_bounding interval_ends flow list (well_formed_system standard_limits flow regular.well_formed)).start_attained)
-        structs enough.texts (objects single.plain) u (typed_runs flow list a.regular enough u stand a.rows a.inductive a.typed) unstuck single begin (begins single.parameters)
+        structs enough.texts (objects single.plain) u typed rights unstuck single begin (begins single.parameters)
         (both interval_lattice interval_numbers flow Stands (Some (start_of interval_lattice interval_numbers flow list)) begin behind (record { row = start_of interval_lattice interval_numbers flow list; is = refl; tells = tells single }))
         d.place d.rule (λ rows closed. a.made d there rows closed)
 

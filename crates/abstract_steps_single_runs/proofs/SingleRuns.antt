@@ -55,7 +55,8 @@ use Rattle.abstract_steps_sound_edges.specs.EdgeSteps.{TestsAreSound}
 use Rattle.abstract_steps_single.specs.SingleSteps.{IsDefined}
 use Rattle.abstract_steps_single_store.specs.TypedAccesses.{HasObjects}
 use Rattle.abstract_steps_single_ways.specs.WayLaws.{FitsWay, IsWay, TestsAreTold}
-use Rattle.abstract_steps_single_runs.specs.SingleRuns.{IsNeverStuck, IsSingleProgram, IsSingleAt, IsViolatedAlone, SingleLaws, AdmitOnlyRun, MapsAdmitOnlyRun}
+use Rattle.abstract_steps_single.specs.SingleLaws.{HasRight}
+use Rattle.abstract_steps_single_runs.specs.SingleRuns.{IsTypedStep, HasRightOperands, IsNeverStuck, IsSingleProgram, IsViolatedAlone, SingleLaws, AdmitOnlyRun, MapsAdmitOnlyRun}
 use Rattle.abstract_steps_single_runs.proofs.ApartWays.{ways_apart}
 use Rattle.abstract_steps_single_runs.proofs.BlockEdges.{edge_leads}
 use Rattle.abstract_steps_covered.proofs.MapPairs.{admitted_in}
@@ -83,7 +84,7 @@ module _ {I : Type 0} {l : LatticeOf I} {n : IntegersOf I} {stands : I → ℤ �
     (leaves : (number : ℕ) (row : List (Cell I)) → is_own_row l n list flow.bases.items flow.width row ≡ true → through l n flow list number row ≡ edge_end l n flow (edge_at flow.edges.items number).from number row)
     (owns : (block number : ℕ) (row x : List (Cell I)) → is_own_row l n list flow.bases.items flow.width row ≡ true → edge_end l n flow block number row ≡ Some x → is_own_row l n list flow.bases.items flow.width x ≡ true)
     (start_own : is_own_row l n list flow.bases.items flow.width (start_of l n flow list) ≡ true)
-    (structs : HasStructs flow) (texts : SpellsOverCharacters flow) (objects : HasObjects flow) (u : UnitView) (typed : HasTypedRuns flow u) (unstuck : IsNeverStuck flow u) (single : IsSingleProgram flow u) where
+    (structs : HasStructs flow) (texts : SpellsOverCharacters flow) (objects : HasObjects flow) (u : UnitView) (typed : HasTypedRuns flow u) (rights : HasRightOperands flow u) (unstuck : IsNeverStuck flow u) (single : IsSingleProgram flow u) where
   abbrev f : FlowView
   f = flow_view flow
 
@@ -157,8 +158,11 @@ module _ {I : Type 0} {l : LatticeOf I} {n : IntegersOf I} {stands : I → ℤ �
       fits : fits_operation (names_of flow) it.operation ≡ true
       fits = all_at (λ j. fits_operation (names_of flow) j.operation) k.holder.instructions.items g.s.at it (block_facts flow limits good g.s.block k.holder k.block_is).fits k.is
 
-      is_single : IsSingleAt flow it.operation g.s
-      is_single = single.steps count g.s g.found it g.is in_list
+      is_typed : IsTypedStep flow it.operation g.s
+      is_typed = single.steps count g.s g.found it g.is in_list
+
+      has_right : HasRight it.operation g.s.temps
+      has_right = rights count g.s g.found it g.is in_list
 
       operands : HasOperands it.operation g.s.temps
       operands = typed [] count g.s g.found it g.is in_list
@@ -188,7 +192,7 @@ module _ {I : Type 0} {l : LatticeOf I} {n : IntegersOf I} {stands : I → ℤ �
 
       goes_out : (on : leads it.operation ≡ On) (y : Reply Standing) → reply ≡ y → Outcome y
       goes_out on y e =
-          let told = step_told l n stands flow limits laws p objects structs texts single.plain g.passed.before.naming row g.s reached g.passed.before.tells it.operation on done (single.calls it.operation done) is_single.typed fits operands is_single.right defined in
+          let told = step_told l n stands flow limits laws p objects structs texts single.plain g.passed.before.naming row g.s reached g.passed.before.tells it.operation on done (single.calls it.operation done) is_typed fits operands has_right defined in
           let sound = steps_sound g.passed.before.naming row (begun g.s) it.operation (on, done) fits operands reached in
           by_reply y e (λ t w d. both l n flow stands (operate l n flow row it.operation) (record t { world = w }) (sound.goes_on t w d) (told.goes_on t w d)) told.ends (λ r c. subst (λ z. Contains (world_of z).violated r) e (told.violated r c))
         where
@@ -383,6 +387,6 @@ module _ {I : Type 0} {l : LatticeOf I} {n : IntegersOf I} {stands : I → ℤ �
     admits_only_run place rule h = admitted_alone end.ended.rows end.ended.closed place rule (h (map end.ended.rows end.ended.closed) (inductive end.ended.rows end.ended.closed))
 
 pub maps_admit : {I : Type 0} {l : LatticeOf I} {n : IntegersOf I} {stands : I → ℤ → Type 0} → OrderLaws l → (flow : Flow) (list : List ℤ) (limits : Limits) → MapsAdmitOnlyRun l n stands flow list limits
-maps_admit {l = l} {n = n} {stands = stands} o flow list limits s u typed unstuck single first begins behind tells =
-    admits_only_run o flow list limits s.good s.premises s.steps s.ends s.sound s.laws s.told s.leaves s.owns s.start s.structs s.texts s.objects u typed unstuck single first begins
+maps_admit {l = l} {n = n} {stands = stands} o flow list limits s u typed rights unstuck single first begins behind tells =
+    admits_only_run o flow list limits s.good s.premises s.steps s.ends s.sound s.laws s.told s.leaves s.owns s.start s.structs s.texts s.objects u typed rights unstuck single first begins
     (both l n flow stands (Some (start_of l n flow list)) first behind (record { row = start_of l n flow list; is = refl; tells = tells }))

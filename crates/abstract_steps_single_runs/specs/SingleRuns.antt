@@ -60,11 +60,6 @@ IsTypedStep flow (op.Store to from kind kept) s = IsTyped flow s to kind
 IsTypedStep flow (op.Copy to from index) s = IsTypedCopy flow (op.Copy to from index) s
 IsTypedStep flow _ s = Unit {0}
 
--- what the laws on an instruction suppose of the state before it, beside operands of the types that soundness supposes
-pub record IsSingleAt (flow : Flow) (o : Operation) (s : Standing) : Type 0 where
-  pub typed : IsTypedStep flow o s
-  pub right : HasRight o s.temps
-
 -- the labels of each switch are apart, and the way for other values knows them
 pub record SwitchesAreApart (flow : Flow) : Type 0 where
   pub cases : (j k : ℕ) (d e : Edge) (a b : CaseTest) → slice_get flow.edges.items j ≡ Some d → slice_get flow.edges.items k ≡ Some e → d.from ≡ e.from → (k ≡ j → ⊥) → d.kind ≡ kind.Case a → e.kind ≡ kind.Case b → a.value ≡ b.value → ⊥
@@ -78,7 +73,11 @@ pub record IsSingleProgram (flow : Flow) (u : UnitView) : Type 0 where
   pub calls : (o : Operation) → IsDoneIn flow o → IsPlainOperation o
   -- no edge enters a block from that block or a later one
   pub headless : (b : ℕ) → is_head_at flow.blocks.items b ≡ false
-  pub steps : (count : ℕ) (s : Standing) (found : List Violation) (i : Instruction) → flow_steps (flow_view flow) count (flow_begin u (flow_view flow) []) ≡ running s found → slice_get (instructions_of flow s.block) s.at ≡ Some i → IsSingleAt flow i.operation s
+  pub steps : (count : ℕ) (s : Standing) (found : List Violation) (i : Instruction) → flow_steps (flow_view flow) count (flow_begin u (flow_view flow) []) ≡ running s found → slice_get (instructions_of flow s.block) s.at ≡ Some i → IsTypedStep flow i.operation s
+
+-- right operands are of the operators' types in this run
+abbrev pub HasRightOperands : Flow → UnitView → Type 0
+HasRightOperands flow u = (count : ℕ) (s : Standing) (found : List Violation) (i : Instruction) → flow_steps (flow_view flow) count (flow_begin u (flow_view flow) []) ≡ running s found → slice_get (instructions_of flow s.block) s.at ≡ Some i → HasRight i.operation s.temps
 
 -- each step of the run is defined
 abbrev pub IsNeverStuck : Flow → UnitView → Type 0
@@ -136,5 +135,5 @@ module _ {I : Type 0} (l : LatticeOf I) (n : IntegersOf I) (stands : I → ℤ �
 
   -- where the row of the entry stands for the state in which the run begins and tells it, and operands are of their types
   abbrev pub MapsAdmitOnlyRun : Type 0
-  MapsAdmitOnlyRun = HasLaws → (u : UnitView) → HasTypedRuns flow u → IsNeverStuck flow u → IsSingleProgram flow u → (first : Standing) → flow_begin u (flow_view flow) [] ≡ running first []
+  MapsAdmitOnlyRun = HasLaws → (u : UnitView) → HasTypedRuns flow u → HasRightOperands flow u → IsNeverStuck flow u → IsSingleProgram flow u → (first : Standing) → flow_begin u (flow_view flow) [] ≡ running first []
       → StandsBehind l n stands flow (Some (start_of l n flow list)) first → TellsState l n flow (start_of l n flow list) (state_of first) → AdmitOnlyRun l n flow list u
