@@ -29,7 +29,7 @@ pub record TellsRuns (seen : Seen) (c : CommandView) (sink : Took) (status : ℕ
   pub defined : IsNeverStuck (unit_view report.judged.checked)
   pub plain : c.turns ≡ None → HoldsJustRun report.judged.checked report.judged.flow diags
 
--- the unit was accepted
+-- 0 or 1: of `check`, that the unit was accepted
 abbrev pub IsAccepting : ℕ → Type 0
 IsAccepting status = (status ≡ 0) ⊎ (status ≡ 1)
 
