@@ -1,4 +1,4 @@
-//! The program, and what its answers hold: each rule that a run of the unit violates is told.
+//! The program, and what its answers hold: each rule that a run of the unit violates is told, and of a plain unit no other.
 #![tactic(auto)]
 
 mod program;
