@@ -10,6 +10,7 @@ use Rattle.flow_program.specs.declared.programs.Flow.{Flow}
 use Rattle.syntax_rules.specs.StatementPlaces.{unit_places}
 use Rattle.flow_analysis.specs.Analyses.{IsAnalysis}
 use Rattle.ref_machine.specs.SourceRuns.{Run, found_in}
+use Rattle.abstract_steps_sound_checked_starts.specs.CheckedStarts.{IsUnitOf}
 use Rattle.abstract_steps_single_units.specs.SingleUnits.{FindsJustUnitRuns}
 use Rattle.report_cli_units.specs.Judging.{IsTurned}
 use Rattle.report_cli.specs.DefinedRuns.{TypedUnitsPassLooks}
@@ -30,7 +31,7 @@ judged_pairs pass told unit s j judged none plain d there =
     let f = judged.found in
     let u = unit_view judged.checked in
     let own = subst (λ (p : Flow). IsAnalysis p f.list f.runs) (analysed_itself s.turns judged.flow judged.analysed none judged.turned) f.by_runs in
-    let is_unit = record { model = s.model; name = s.entry; tree = unit_tree judged.tree; limits = standard_limits; checked = judged.typed.checks; lowered = judged.lowered.lowers; plain = judged.plain } in
+    let is_unit : IsUnitOf u judged.flow = record { model = s.model; name = s.entry; tree = unit_tree judged.tree; limits = standard_limits; checked = judged.typed.checks; lowered = judged.lowered.lowers; plain = judged.plain } in
     let is_program = program_of s judged.tree judged.checked judged.flow judged.typed judged.regular judged.lowered judged.made in
     let looks = pass unit s judged.tree judged.checked judged.parsed judged.typed judged.looked judged.regular in
     elim (Contains-append_cases f.texts f.runs d (subst (λ ds. Contains ds d) f.both there)) [
