@@ -13,7 +13,7 @@ use Rattle.c_types.specs.UnitChecks.{check}
 use Rattle.flow_lower.specs.Lowerings.{IsLowering}
 use Rattle.flow_lower_objects.specs.PlainObjects.{has_plain_objects}
 use Rattle.flow_lower_units.specs.RegularUnits.{is_regular_unit}
-use Rattle.ref_machine_looks_units.specs.SmallUnits.{have_byte_texts, is_small_unit}
+use Rattle.ref_machine_looks_units.specs.SmallUnits.{have_byte_texts}
 use Rattle.flow_program.specs.declared.programs.Flow.{Flow}
 use Rattle.flow_program_views.specs.ProgramViews.{FlowView, flow_view}
 use Rattle.report_cli_texts.specs.Reports.{Bytes, report_of}
@@ -53,9 +53,6 @@ text_is = refl
 bytes : have_byte_texts expanded.tokens ≡ true
 bytes = refl
 
-small : is_small_unit checked_unit ≡ true
-small = refl
-
 plain : has_plain_objects checked_unit ≡ true
 plain = refl
 
@@ -72,8 +69,8 @@ module _ (some : Flow) (parsed_to : IsParsedTo) (checked_to : IsCheckedTo) (larg
     model = refl;
   }
 
-  looked : IsLooked expanded setting (unit some.blocks)
-  looked = record { proper = refl; model = refl; bytes = bytes; small = ap (λ (u : UnitView). is_small_unit u) (unit_is some.blocks) ∙ small }
+  looked : IsLooked expanded setting
+  looked = record { proper = refl; model = refl; bytes = bytes }
 
   lowered : IsLowered (unit some.blocks) flow
   lowered = record {

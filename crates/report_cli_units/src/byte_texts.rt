@@ -1,4 +1,4 @@
-//! Whether texts are of bytes.
+//! Whether the texts of tokens are of bytes.
 ghost use Rattle.std.specs.Prelude.{◌≡◌};
 ghost use Rattle.ref_machine_looks_units.specs.LookedStatements as statements;
 ghost use Rattle.ref_machine_looks_units.specs.SmallUnits as spec;
@@ -6,7 +6,7 @@ ghost use Rattle.ref_machine_looks_units.specs.SmallUnits as spec;
 use c_layout::Unit7;
 
 /// Whether each number of a text is that of a byte. By its type it is, but contracts see a list of numbers alone.
-pub(crate) fn are_bytes(text: &[u8]) -> bool
+fn are_bytes(text: &[u8]) -> bool
     ensures { result ≡ statements.are_bytes text.now }
 {
     for byte in text {
@@ -18,8 +18,8 @@ pub(crate) fn are_bytes(text: &[u8]) -> bool
 }
 
 /// Whether the tokens of a unit are of bytes, so that its constants and literals have values of theirs (6.4.4.4 and
-/// 6.4.5 of ISO/IEC 9899:2011). All tokens are.
-pub fn have_byte_texts(unit: &Unit7) -> bool
+/// 6.4.5 of ISO/IEC 9899:2011).
+pub(crate) fn have_byte_texts(unit: &Unit7) -> bool
     ensures { result ≡ spec.have_byte_texts unit.now.tokens }
 {
     let tokens = unit.tokens.as_slice();
