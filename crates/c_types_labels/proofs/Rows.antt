@@ -1,6 +1,5 @@
 -- Worked rows: switches, and whether their cases are of distinct values.
-use Rattle.std.specs.Prelude.{◌≡◌, refl, pos, negsuc, true, false, List, [], ◌∷◌, map, None}
-use Rattle.std.specs.Prelude.{ℤ}
+use Rattle.std.specs.Prelude.{◌≡◌, refl, ℤ, pos, negsuc, true, false, List, [], ◌∷◌, map, None}
 use Rattle.cc_base.specs.declared.diagnostics.Place.{Place}
 use Rattle.c_layout.specs.CheckedTrees.{TermTree, Typed, Number, StatementTree, Block, If, Switch, Case, Break, NoMore, And}
 use Rattle.c_layout.specs.Types.{Void}
