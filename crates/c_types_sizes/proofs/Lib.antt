@@ -1,0 +1,3 @@
+pub mod FitTypes
+pub mod Keeping
+pub mod Specifying
