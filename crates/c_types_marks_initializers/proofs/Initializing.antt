@@ -97,11 +97,11 @@ found_valued u k at o v (Some s) scalar h all = value_valued u k at s o v (is_sc
 
 -- ---- literals
 
-abbrev IsText : Option (List ℕ) → Type 0
+abbrev pub IsText : Option (List ℕ) → Type 0
 IsText None = Unit {0}
 IsText (Some bytes) = are_bytes bytes ≡ true
 
-bare_text : (m : Model) (e : Tree) → IsProperTree m e → IsText (bare_literal e)
+pub bare_text : (m : Model) (e : Tree) → IsProperTree m e → IsText (bare_literal e)
 bare_text m (syntax.Literal at bytes) h = h
 bare_text m (syntax.Name at text) h = tt
 bare_text m (syntax.Number at c) h = tt
@@ -122,7 +122,7 @@ bare_text m (syntax.Conditional at a b c) h = tt
 bare_text m (syntax.Assign at op a b) h = tt
 bare_text m (syntax.Comma at a b) h = tt
 
-only_text : (m : Model) (list : InitializerTrees) → AreProperInitializers m list → IsText (only_literal list)
+pub only_text : (m : Model) (list : InitializerTrees) → AreProperInitializers m list → IsText (only_literal list)
 only_text m tree.NoInitializer h = tt
 only_text m (tree.MoreInitializers (tree.Single e) tree.NoInitializer) h = bare_text m e h.0
 only_text m (tree.MoreInitializers (tree.Braces at items) tree.NoInitializer) h = tt

@@ -78,10 +78,10 @@ text_on (syntax.Comma at a b) s = not_spelled (syntax.Comma at a b) s (λ bytes 
 -- ---- under `sizeof`
 
 inside_types : (s : State) → HasTypes s → HasTypes (spec.inside s)
-inside_types s h = record { proper = h.proper; objects = h.objects; locals = h.locals; statics = h.statics; typedefs = h.typedefs; results = h.results; parameters = h.parameters; fields = h.fields; meanings = h.meanings }
+inside_types s h = record { proper = h.proper; objects = h.objects; locals = h.locals; statics = h.statics; typedefs = h.typedefs; literals = h.literals; stores = h.stores; results = h.results; parameters = h.parameters; fields = h.fields; meanings = h.meanings }
 
 outside_types : (s t : State) → HasTypes t → HasTypes (spec.outside s t)
-outside_types s t h = record { proper = h.proper; objects = h.objects; locals = h.locals; statics = h.statics; typedefs = h.typedefs; results = h.results; parameters = h.parameters; fields = h.fields; meanings = h.meanings }
+outside_types s t h = record { proper = h.proper; objects = h.objects; locals = h.locals; statics = h.statics; typedefs = h.typedefs; literals = h.literals; stores = h.stores; results = h.results; parameters = h.parameters; fields = h.fields; meanings = h.meanings }
 
 part_outside : (s t : State) (u : UnitView) → IsPartOf (spec.outside s t) u → IsPartOf t u
 part_outside s t u p = record { model = p.model; objects = p.objects; literals = p.literals; functions = p.functions }

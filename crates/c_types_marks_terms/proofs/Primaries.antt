@@ -109,7 +109,7 @@ more_literals : (s : State) (x : LiteralView) → HasTypes s → Keeps s (record
 more_literals s x h = record {
   model = refl;
   unevaluated = refl;
-  types = record { proper = h.proper; objects = h.objects; locals = h.locals; statics = h.statics; typedefs = h.typedefs; results = h.results; parameters = h.parameters; fields = h.fields; meanings = h.meanings };
+  types = record { proper = h.proper; objects = h.objects; locals = h.locals; statics = h.statics; typedefs = h.typedefs; literals = h.literals; stores = h.stores; results = h.results; parameters = h.parameters; fields = h.fields; meanings = h.meanings };
   parts = λ u p. record {
     model = p.model;
     objects = p.objects;

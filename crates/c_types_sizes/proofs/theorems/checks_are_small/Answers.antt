@@ -1,4 +1,5 @@
-use Rattle.c_types_sizes.proofs.Specifying.{specifiers_to, declared_to}
+use Rattle.c_types_sizes.proofs.Functions.{parts_to, begun_sized}
+use Rattle.c_types_sizes.proofs.FitTypes.{room_fits}
 use Rattle.c_types_sizes.proofs.theorems.checks_are_small.Goals as goal
 
 pub returns : goal.returns
