@@ -23,7 +23,7 @@ use Rattle.c_types_laws_units.proofs.Kept.{sized_grown}
 use Rattle.lib_models_effects.specs.LibraryChecks.{most_size}
 use Rattle.c_types_marks.specs.ModelTypes.{IsTypeOf}
 use Rattle.c_types_marks_tests.proofs.ModelKinds.{kind_size}
-use Rattle.c_types_marks_layouts.proofs.Inside.{sized_is}
+use Rattle.c_types_marks_layouts.proofs.Inside.{sized_is, sized_small}
 use Rattle.c_types_marks_layouts.proofs.Laying.{none_is, pointer_is}
 use Rattle.c_types_marks_initializers.proofs.Declaring.{most_room}
 use Rattle.c_types_sizes.specs.FitTypes.{HasElements, IsFit}
@@ -158,10 +158,6 @@ few_bytes n h = elim (either_is (n == 1) ((n == 2) || ((n == 4) || (n == 8))) h)
   ]
 ]
 
-cond_is : {A : Type 0} (c : Bool) (a b : A) → cond c (Some a) None ≡ Some b → (c ≡ true) × (a ≡ b)
-cond_is true a b h = (refl, same_Some a b h)
-cond_is false a b h = none_is b h
-
 struct_small : (structs : List StructView) (i : ℕ) → ((n : ℕ) (v : StructView) → slice_get structs n ≡ Some v → v.size ≤ 2 ^ 30) → (struct_at structs i).size ≤ 2 ^ 30
 struct_small [] i h = omega arith
 struct_small (v ∷ structs) zero h = h 0 v refl
@@ -171,31 +167,10 @@ module _ (m : Model) (structs : List StructView) (model : is_model m ≡ true) (
   abbrev ground : Known
   ground = record { numbers = m; structs = structs }
 
-  pub sized_small : (t : Ty) (size : ℕ) → sized structs m.pointer t ≡ Some size → size ≤ 2 ^ 30
-  sized_small (Int kind) size h =
-      let a = cond_is (nat_lt 0 kind.bytes && nat_le kind.bytes 8) kind.bytes size h in
-      let b = leb-true kind.bytes 8 (and_parts (nat_lt 0 kind.bytes) (nat_le kind.bytes 8) a.0).1 in
-      let c = a.1 in
-      omega (arith, b, c)
-  sized_small (Pointer t) size h = let e = same_Some m.pointer size h in elim (pointer_is m model) [ inl four ↦ omega (arith, e, four) | inr eight ↦ omega (arith, e, eight) ]
-  sized_small (Array t count) size h = by_element (sized structs m.pointer t) h
-    where
-      by_element : (o : Option ℕ) → option_and_then (array_size count) o ≡ Some size → size ≤ 2 ^ 30
-      by_element None g = none_is size g
-      by_element (Some each) g =
-          let a = cond_is (nat_lt 0 count && nat_le (count * each) most_bytes) (count * each) size g in
-          let b = leb-true (count * each) most_bytes (and_parts (nat_lt 0 count) (nat_le (count * each) most_bytes) a.0).1 in
-          subst (λ n. n ≤ 2 ^ 30) a.1 b
-  sized_small (Struct i) size h =
-      let s : StructView = struct_at structs i in
-      let a = cond_is (nat_lt i (length structs) && ((s.complete && nat_lt 0 s.align) && nat_le s.size most_bytes)) s.size size h in
-      subst (λ n. n ≤ 2 ^ 30) a.1 (struct_small structs i small)
-  sized_small Void size h = none_is size h
-
   -- the size of a complete type
   complete_small : (t : Ty) (o : Option ℕ) → sized structs m.pointer t ≡ o → is_some o ≡ true → size_of_type structs m.pointer t ≤ 2 ^ 30
   complete_small t None is h = absurd (cc)
-  complete_small t (Some n) is h = subst (λ z. z ≤ 2 ^ 30) (sym (sized_is structs m.pointer t n is)) (sized_small t n is)
+  complete_small t (Some n) is h = subst (λ z. z ≤ 2 ^ 30) (sym (sized_is structs m.pointer t n is)) (sized_small m structs model t n is)
 
   pub fit_small : (t : Ty) → IsTypeOf m t → IsFit ground t → size_of_type structs m.pointer t ≤ 2 ^ 30
   fit_small (Int kind) typed h = let b = few_bytes kind.bytes (kind_size m model kind typed) in omega (arith, b)

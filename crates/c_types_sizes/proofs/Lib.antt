@@ -5,3 +5,4 @@ pub mod Locals
 pub mod Heads
 pub mod Files
 pub mod Functions
+pub mod Units
