@@ -1,6 +1,6 @@
 -- Expressions keep what typing knows, and those that are evaluated are made.
 use Rattle.std.proofs.Common.{◌≡◌, ℕ, List, Option, Some, None, Ok, Err, refl, ap, subst, sym, ◌∙◌}
-use Rattle.std.specs.Prelude.{true}
+use Rattle.std.specs.Prelude.{true, is_some}
 use Rattle.cc_base.specs.declared.diagnostics.Place.{Place}
 use Rattle.c_layout.specs.CheckedUnits.{UnitView}
 use Rattle.c_layout.specs.SyntaxTrees as syntax
