@@ -1,21 +1,19 @@
 -- What typing the statements of a body leads to, by what its steps do: scopes are opened and closed again, and an
 -- initializer changes the type of its own object alone.
-use Rattle.std.proofs.Common.{◌≡◌, ℕ, ℤ, List, [], ◌∷◌, ◌++◌, Option, Some, None, Ok, Err, length, slice_get, refl}
-use Rattle.std.specs.Prelude.{Bool, true, false, cond, ◌==◌}
+use Rattle.std.proofs.Common.{◌≡◌, ℕ, List, [], ◌∷◌, ◌++◌, Option, Some, None, Ok, Err, length, slice_get, refl}
+use Rattle.std.specs.Prelude.{Bool, true, false, cond}
 use Rattle.cc_base.specs.declared.diagnostics.Place.{Place}
 use Rattle.c_layout.specs.Types.{Ty}
-use Rattle.c_layout.specs.CheckedTrees.{TermTree, StoreTree, StoreValue, StoreCopy, StoreText}
+use Rattle.c_layout.specs.CheckedTrees.{StoreTree, StoreValue, StoreCopy, StoreText}
 use Rattle.c_layout.specs.CheckedUnits.{StaticStoreView}
-use Rattle.c_layout.specs.SyntaxTrees.{Tree}
 use Rattle.c_layout.specs.DeclarationTrees as syntax
-use Rattle.c_layout.specs.DeclarationTrees.{NameView, DeclaratorLayerView, InitializerTree, InitDeclaratorView, Object, Initialized, Prototype, LocalView, ForFirstView, NoClause, Clause, Declares, spec_trees}
+use Rattle.c_layout.specs.DeclarationTrees.{NameView, DeclaratorLayerView, InitializerTree, InitDeclaratorView, Object, Initialized, Prototype, LocalView, spec_trees}
 use Rattle.c_types_scopes.specs.Refusals.{Ruled, type_fault}
 use Rattle.c_types_scopes.specs.Answers.{after, kept}
 use Rattle.c_types_scopes.specs.DeclaredTypes.{DeclaredView, ObjectView}
 use Rattle.c_types_scopes.specs.Names as names
 use Rattle.c_types_scopes.specs.Names.{number_in}
 use Rattle.c_types_scopes.specs.States.{State, with_name, with_constant}
-use Rattle.c_types_expressions.specs.Expressions.{typed}
 use Rattle.c_types_initializers.specs.Initialized.{InitializedView, ByTerm, ByLvalue, ByStores}
 use Rattle.c_types_initializers.specs.StaticStores.{with_list, with_expressions, constant_stores}
 use Rattle.c_types_declarations.specs.Declarators.{declared_type}
@@ -24,18 +22,15 @@ use Rattle.c_types_declarations.specs.SpecifierTrees.{specifiers}
 use Rattle.c_types_declarations.specs.Initializers.{initializer_of}
 use Rattle.c_types_objects.specs.FileObjects.{number_or}
 use Rattle.c_types_objects.specs.LocalObjects.{PartsView, with_object, may_be_local, with_automatic, static_declaration, with_static_object, with_local_type, with_static_type, is_static}
-use Rattle.c_types_statement_rules.specs.BodyFlow.{FlowView, flow_with_default}
 use Rattle.c_types_statement_rules.specs.Points.{Point}
 use Rattle.c_types_statement_rules.specs.SimpleStatements as simple
 use Rattle.c_types_statement_rules.specs.CompoundStatements as compound
 use Rattle.c_types_statement_rules.specs.StatementNodes as nodes
-use Rattle.c_types_statement_rules.specs.StatementNodes.{no_parts, in_loop, in_switch}
 use Rattle.c_types_statements.specs.LabelNumbers as labels
 use Rattle.c_types_statements.specs.LocalDeclarations as locals
 use Rattle.c_types_statements.specs.StaticInitializers as statics
 use Rattle.c_types_statements.specs.Statements as spec
 use Rattle.c_types_laws.proofs.Leading.{Leads, kept_leads, cond_leads, onward, then}
-use Rattle.c_types_laws.proofs.Expressing.{typed_leads}
 use Rattle.c_types_laws.proofs.Specifying.{HasSpecifiers, declared_leads, specifiers_lead}
 use Rattle.c_types_laws.proofs.Initializing.{initializer_leads}
 use Rattle.c_types_laws.proofs.Statements as statements

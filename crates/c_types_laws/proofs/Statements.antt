@@ -1,5 +1,5 @@
 -- What typing the statements of a body leads to, by what its declarations do: scopes are opened and closed again.
-use Rattle.std.proofs.Common.{◌≡◌, ℕ, ℤ, Option, Some, None, Ok, Err, length}
+use Rattle.std.proofs.Common.{ℤ, Option, Some, None, Ok, Err, length}
 use Rattle.std.specs.Prelude.{Bool, true, false, cond, ◌==◌}
 use Rattle.cc_base.specs.declared.diagnostics.Place.{Place}
 use Rattle.c_layout.specs.CheckedTrees.{TermTree}

@@ -1,5 +1,5 @@
 -- What typing knows has types of the data model, and its literals and stores are such as memory has.
-use Rattle.std.specs.Prelude.{◌≡◌, ℕ, ℤ, true, List, Some, slice_get}
+use Rattle.std.specs.Prelude.{◌≡◌, ℤ, true}
 use Rattle.cc_base.specs.IntegerTypes.{in_type}
 use Rattle.c_layout.specs.Models.{is_model}
 use Rattle.c_layout.specs.StructViews.{FieldView, StructView}

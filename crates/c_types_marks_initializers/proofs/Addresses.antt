@@ -1,5 +1,5 @@
 -- Static initializers store texts of bytes, and addresses of literals that lie within them.
-use Rattle.std.proofs.Common.{◌≡◌, ◌≤◌, ◌+◌, ◌*◌, ◌^◌, ℕ, ℤ, pos, negsuc, ◌+ℤ◌, ◌-ℤ◌, ◌*ℤ◌, Bool, true, false, List, [], ◌∷◌, ◌++◌, Option, Some, None, Ok, Err, arith, refl}
+use Rattle.std.proofs.Common.{◌≡◌, ◌≤◌, ◌+◌, ◌*◌, ◌^◌, ℕ, ℤ, pos, negsuc, ◌*ℤ◌, Bool, true, false, List, [], ◌∷◌, ◌++◌, Option, Some, None, Ok, Err, arith, refl}
 use Rattle.std.specs.Prelude.{cond, nat_le, int_lt, option_map}
 use Rattle.std.specs.Ordering.{int_eq}
 use Rattle.std.proofs.lemmas.Bool.{leb-true, ltb-false}
@@ -9,7 +9,7 @@ use Rattle.c_layout.specs.Models.{is_model}
 use Rattle.c_layout.specs.Types.{Ty, Int, Pointer, Array, Struct, Void}
 use Rattle.c_layout.specs.CheckedTrees as tree
 use Rattle.c_layout.specs.CheckedTrees.{TermTree, FormTree, LvalueTree, LvalueFormTree, StoreTree, StoreValue, StoreCopy, StoreText}
-use Rattle.c_layout.specs.CheckedUnits.{StaticStoreView, SetValue, SetText}
+use Rattle.c_layout.specs.CheckedUnits.{StaticStoreView}
 use Rattle.c_layout.specs.declared.checked_tree.checked_terms.ObjectRef.TheVariants as object
 use Rattle.c_layout.specs.declared.checked_tree.checked_units.StaticBase.{StaticBase}
 use Rattle.c_layout.specs.declared.checked_tree.checked_units.StaticBase.TheVariants as base

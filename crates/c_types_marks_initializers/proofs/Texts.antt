@@ -20,7 +20,7 @@ use Rattle.c_types_expressions.specs.Expressions.{typed}
 use Rattle.c_types_initializers.specs.Subobjects.{SubobjectView, OpenView, entered, next, subobject}
 use Rattle.c_types_initializers.specs.Literals.{bare_literal, character_room, only_literal}
 use Rattle.c_types_initializers.specs.ListStores.{FillingView, nothing, scalar_of, copy_of, with_found, takes_value, takes_text, sought}
-use Rattle.c_types_initializers.specs.Initialized.{InitializedView, ByTerm, ByLvalue, ByStores, scalar_by, struct_by, by_operand, filled_by}
+use Rattle.c_types_initializers.specs.Initialized.{InitializedView, ByTerm, ByLvalue, ByStores, scalar_by, struct_by, filled_by}
 use Rattle.c_types_braced_lists.specs.BracedLists as lists
 use Rattle.c_types_braced_lists.specs.Initializers as spec
 use Rattle.ref_machine_looks_units.specs.LookedStatements.{are_bytes}

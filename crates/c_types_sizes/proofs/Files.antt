@@ -23,21 +23,18 @@ use Rattle.c_types_declarations.specs.Specifiers.{SpecifiedView, is_library_name
 use Rattle.c_types_objects.specs.Changes.{changed}
 use Rattle.c_types_objects.specs.FileObjects as objects
 use Rattle.c_types_objects.specs.FileObjects.{number_or, composite}
-use Rattle.c_types_objects.specs.LocalObjects.{with_static_type}
 use Rattle.c_types_statements.specs.LocalDeclarations.{are_none, is_empty}
 use Rattle.c_types_file_scope.specs.ExternalDeclarations as external
 use Rattle.c_types_file_scope.specs.FunctionDeclarations as functions
-use Rattle.c_types_file_scope.specs.declared.function_declarations.FunctionSlot.{FunctionSlot}
 use Rattle.c_types_file_scope.specs.declared.function_declarations.NameBefore.{NameBefore}
 use Rattle.c_types_file_scope.specs.declared.function_declarations.NameBefore.TheVariants as standing
 use Rattle.c_types_laws.proofs.Leading.{Leads, cond_leads}
-use Rattle.c_types_laws.proofs.Initializing.{initializer_leads}
 use Rattle.c_types_laws_units.proofs.Kept.{later_same}
 use Rattle.c_types_marks_initializers.proofs.ReadySteps.{each_more, each_changed}
 use Rattle.c_types_sizes.specs.FitTypes.{HasElements, IsFit}
 use Rattle.c_types_sizes.proofs.FitTypes.{elements_grown, object_fit, composite_fit}
 use Rattle.c_types_sizes.proofs.Keeping as keeping
-use Rattle.c_types_sizes.proofs.Keeping.{Sized, Keeps, keeps_same, steps_keep, To, any, here, onward, then, cond_to, led}
+use Rattle.c_types_sizes.proofs.Keeping.{Sized, Keeps, keeps_same, To, any, here, onward, then, cond_to, led}
 use Rattle.c_types_sizes.proofs.Specifying.{HasParts, Parts, Said, specifiers_to, declared_to}
 use Rattle.c_types_sizes.proofs.Locals.{Fits, static_typed, static_to}
 use Rattle.c_types_sizes.proofs.Heads.{HasFit, head_to}

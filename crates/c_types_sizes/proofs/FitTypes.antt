@@ -1,12 +1,12 @@
 -- Which types are fit, and how large they are.
-use Rattle.std.proofs.Common.{◌≡◌, ◌≤◌, ◌*◌, ◌^◌, ◌⊎◌, inl, inr, ℕ, zero, suc, Bool, true, false, List, [], ◌∷◌, Option, Some, None, slice_get, get_or, arith, refl, ap, subst, sym, ◌∙◌}
-use Rattle.std.specs.Prelude.{◌&&◌, ◌||◌, ◌==◌, cond, not, nat_le, nat_lt, is_some, length, option_and_then}
-use Rattle.std.proofs.lemmas.Bool.{and_parts, eqb-true, leb-true, le-leb}
+use Rattle.std.proofs.Common.{◌≡◌, ◌≤◌, ◌*◌, ◌^◌, ◌⊎◌, inl, inr, ℕ, zero, suc, Bool, true, false, List, [], ◌∷◌, Option, Some, None, slice_get, arith, refl, ap, subst, sym}
+use Rattle.std.specs.Prelude.{◌||◌, ◌==◌, cond, not, nat_le, is_some, option_and_then}
+use Rattle.std.proofs.lemmas.Bool.{eqb-true, le-leb}
 use Rattle.std.proofs.lemmas.Option.{same_Some}
 use Rattle.cc_base.specs.IntegerTypes.{is_size}
-use Rattle.c_layout.specs.Layout.{most_bytes, size_of_type}
+use Rattle.c_layout.specs.Layout.{size_of_type}
 use Rattle.c_layout.specs.Models.{is_model}
-use Rattle.c_layout.specs.StructViews.{StructView, struct_at, no_struct}
+use Rattle.c_layout.specs.StructViews.{StructView, struct_at}
 use Rattle.c_layout.specs.Types.{Ty, Int, Pointer, Array, Struct, Void, same_type}
 use Rattle.c_layout.specs.declared.data_model.Model.{Model}
 use Rattle.c_layout.specs.declared.syntax_tree.declarations.Storage.{Storage}
@@ -16,7 +16,7 @@ use Rattle.c_types_operands.specs.Operands.{is_scalar}
 use Rattle.c_types_declarations.specs.Parameters.{is_result}
 use Rattle.c_types_objects.specs.FileObjects.{may_be_object, is_static_storage, common_length, array_composite, composite_with, composite_of, composite}
 use Rattle.c_types_objects.specs.LocalObjects.{may_be_local}
-use Rattle.c_types_objects.specs.UnitObjects.{completed, completed_count}
+use Rattle.c_types_objects.specs.UnitObjects.{completed}
 use Rattle.c_types_laws_stores.proofs.Growing.{Extends}
 use Rattle.c_types_laws_stores.proofs.Types.{type_is}
 use Rattle.c_types_laws_units.proofs.Kept.{sized_grown}

@@ -1,8 +1,7 @@
 -- The functions of a unit have results and objects of fit types.
-use Rattle.std.proofs.Common.{◌≡◌, ◌≤◌, ◌^◌, ℕ, Bool, true, false, List, [], ◌∷◌, ◌++◌, Option, Some, None, Ok, Err, slice_get, arith, refl}
+use Rattle.std.proofs.Common.{ℕ, Bool, true, false, List, [], ◌∷◌, ◌++◌, Option, Some, None, Ok, Err, refl}
 use Rattle.std.specs.Prelude.{cond}
 use Rattle.cc_base.specs.declared.diagnostics.Place.{Place}
-use Rattle.c_layout.specs.StructViews.{StructView}
 use Rattle.c_layout.specs.CheckedUnits.{FunctionView, LocalView}
 use Rattle.c_layout.specs.DeclarationTrees as syntax
 use Rattle.c_layout.specs.DeclarationTrees.{NameView, SpecTree, StatementTrees, FunctionDeclaratorView, InitDeclaratorView, Object, Initialized, Prototype, ExternalTree, Declared, Defined, spec_trees, statement_trees}

@@ -5,7 +5,6 @@ use Rattle.cc_base.specs.declared.diagnostics.Place.{Place}
 use Rattle.c_layout.specs.Types.{Ty}
 use Rattle.c_layout.specs.CheckedUnits.{LocalView}
 use Rattle.c_layout.specs.DeclarationTrees.{NameView, DeclaratorView, ParameterView, ParametersView, NoParameters, OnlyVoid, ParameterList, FunctionDeclaratorView, spec_trees}
-use Rattle.c_layout.specs.declared.syntax_tree.declarations.Storage.{Storage}
 use Rattle.c_types_scopes.specs.Answers.{after}
 use Rattle.c_types_scopes.specs.DeclaredTypes.{DeclaredView}
 use Rattle.c_types_scopes.specs.Known.{Known}
@@ -19,7 +18,6 @@ use Rattle.c_types_declarations.specs.Declarators.{declared_type}
 use Rattle.c_types_declarations.specs.FunctionHeads as heads
 use Rattle.c_types_declarations.specs.FunctionHeads.{HeadView}
 use Rattle.c_types_declarations.specs.Parameters as parameters
-use Rattle.c_types_declarations.specs.Specifiers.{SpecifiedView}
 use Rattle.c_types_declarations.specs.SpecifierTrees.{specifiers}
 use Rattle.c_types_declarations.specs.StructBodies.{is_stored}
 use Rattle.c_types_laws.proofs.Specifying.{declared_leads, specifiers_lead}

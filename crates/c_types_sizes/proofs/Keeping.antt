@@ -1,10 +1,9 @@
 -- Steps of typing keep the types of what is declared fit.
-use Rattle.std.proofs.Common.{◌≡◌, ◌≤◌, ◌^◌, ◌⊎◌, inl, inr, ℕ, zero, suc, List, [], ◌∷◌, ◌++◌, Option, Some, None, Ok, Err, slice_get, arith, refl, ap, subst, sym, ◌∙◌}
+use Rattle.std.proofs.Common.{◌≡◌, ◌≤◌, ◌^◌, ◌⊎◌, inl, inr, ℕ, List, [], ◌∷◌, Option, Some, None, Ok, Err, slice_get, arith, refl, ap, subst, sym, ◌∙◌}
 use Rattle.std.specs.Prelude.{Bool, true, false, cond, nat_le}
 use Rattle.std.proofs.lemmas.Bool.{cases_eq, leb-true}
 use Rattle.std.proofs.lemmas.Option.{same_Some}
 use Rattle.c_layout.specs.Layout.{most_bytes, round_up}
-use Rattle.c_layout.specs.Types.{Ty}
 use Rattle.c_layout.specs.StructLayouts.{Partial, finished}
 use Rattle.c_layout.specs.StructViews.{StructView, no_struct}
 use Rattle.c_layout.specs.CheckedUnits.{LocalView, StaticView}

@@ -1,6 +1,6 @@
 -- Declarations in blocks, and so bodies, keep the types of what is declared fit.
-use Rattle.std.proofs.Common.{◌≡◌, ℕ, List, [], ◌∷◌, ◌++◌, Option, Some, None, Ok, Err, length, refl}
-use Rattle.std.specs.Prelude.{Bool, true, false, is_some}
+use Rattle.std.proofs.Common.{ℕ, List, [], ◌∷◌, ◌++◌, Option, Some, None, Ok, Err, length}
+use Rattle.std.specs.Prelude.{Bool, true, false}
 use Rattle.cc_base.specs.declared.diagnostics.Place.{Place}
 use Rattle.c_layout.specs.Types.{Ty}
 use Rattle.c_layout.specs.CheckedTrees.{StoreTree, StoreValue, StoreCopy, StoreText}
@@ -9,7 +9,6 @@ use Rattle.c_layout.specs.DeclarationTrees as syntax
 use Rattle.c_layout.specs.DeclarationTrees.{NameView, DeclaratorLayerView, InitializerTree, InitDeclaratorView, Object, Initialized, Prototype, spec_trees}
 use Rattle.c_types_scopes.specs.Answers.{after, kept}
 use Rattle.c_types_scopes.specs.DeclaredTypes.{DeclaredView, ObjectView}
-use Rattle.c_types_scopes.specs.Known.{size_of}
 use Rattle.c_types_scopes.specs.Names.{number_in, found_here}
 use Rattle.c_types_scopes.specs.Refusals.{Ruled, type_fault}
 use Rattle.c_types_scopes.specs.States.{State, with_name, with_constant}
@@ -52,8 +51,8 @@ module _ (s : State) (h : Sized s) where
       let new : StaticView = record { name = n.text; at = n.at; ctype = d.ctype; stores = [] } in
       let object : ObjectView = static_declaration (with_name s n.text) d in
       keeping.with_static s.known s.types s.typedefs (s.objects ++ object ∷ []) s.body.locals s.statics
-          (keeping.with_declared s.known s.types s.typedefs s.objects s.body.locals s.statics h (s.objects ++ object ∷ []) (each_more (λ (o : ObjectView). IsFit s.known o.declared.ctype) s.objects object h.declared fit))
-          (s.statics ++ new ∷ []) (each_more (λ (o : StaticView). IsFit s.known o.ctype) s.statics new h.static fit)
+      (keeping.with_declared s.known s.types s.typedefs s.objects s.body.locals s.statics h (s.objects ++ object ∷ []) (each_more (λ (o : ObjectView). IsFit s.known o.declared.ctype) s.objects object h.declared fit))
+      (s.statics ++ new ∷ []) (each_more (λ (o : StaticView). IsFit s.known o.ctype) s.statics new h.static fit)
 
   local_typed : (number : ℕ) (t : Ty) → IsFit s.known t → Sized (with_local_type number t s)
   local_typed number t fit =
@@ -62,8 +61,8 @@ module _ (s : State) (h : Sized s) where
   pub static_typed : (index number : ℕ) (t : Ty) → IsFit s.known t → Sized (with_static_type index number t s)
   static_typed index number t fit =
       keeping.with_static s.known s.types s.typedefs (changed (typed_object t) index s.objects) s.body.locals s.statics
-          (keeping.with_declared s.known s.types s.typedefs s.objects s.body.locals s.statics h (changed (typed_object t) index s.objects) (each_changed (λ (o : ObjectView). IsFit s.known o.declared.ctype) (typed_object t) index s.objects (λ o old. fit) h.declared))
-          (changed (typed_static t) number s.statics) (each_changed (λ (o : StaticView). IsFit s.known o.ctype) (typed_static t) number s.statics (λ o old. fit) h.static)
+      (keeping.with_declared s.known s.types s.typedefs s.objects s.body.locals s.statics h (changed (typed_object t) index s.objects) (each_changed (λ (o : ObjectView). IsFit s.known o.declared.ctype) (typed_object t) index s.objects (λ o old. fit) h.declared))
+      (changed (typed_static t) number s.statics) (each_changed (λ (o : StaticView). IsFit s.known o.ctype) (typed_static t) number s.statics (λ o old. fit) h.static)
 
   stored : (number : ℕ) (stores : List StaticStoreView) → Sized (with_stores number stores s)
   stored number stores =

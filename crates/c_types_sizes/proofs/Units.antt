@@ -8,7 +8,7 @@ use Rattle.cc_base.specs.declared.diagnostics.Place.{Place}
 use Rattle.c_layout.specs.Models.{is_model}
 use Rattle.c_layout.specs.StructViews.{StructView}
 use Rattle.c_layout.specs.Types.{Ty}
-use Rattle.c_layout.specs.CheckedUnits.{FunctionView, LocalView, StaticView, StaticStoreView, SetValue, SetText, LiteralView, UnitView}
+use Rattle.c_layout.specs.CheckedUnits.{FunctionView, StaticView, StaticStoreView, SetValue, SetText, LiteralView, UnitView}
 use Rattle.c_layout.specs.DeclarationTrees.{ExternalTree}
 use Rattle.c_layout.specs.declared.checked_tree.checked_units.StaticBase.TheVariants as base
 use Rattle.c_layout.specs.declared.checked_tree.checked_units.StaticValue.{StaticValue}
@@ -28,7 +28,7 @@ use Rattle.lib_models_effects.specs.LibraryChecks.{most_size}
 use Rattle.ref_machine_looks_units.specs.LookedStatements.{are_bytes}
 use Rattle.ref_machine_looks_units.specs.LookedUnits.{is_small, is_small_local, is_proper_value, is_proper_store, is_marked_static, is_marked_literal, are_marked_objects}
 use Rattle.ref_machine_looks_units.specs.SmallUnits.{has_small_objects, is_small_unit}
-use Rattle.c_types_marks.specs.ModelTypes.{IsTypeOf, Each}
+use Rattle.c_types_marks.specs.ModelTypes.{IsTypeOf}
 use Rattle.c_types_marks.specs.ProperStatements.{AreProperExternals}
 use Rattle.c_types_marks.specs.ProperStores.{IsProperStore, AreProperStores}
 use Rattle.c_types_marks_types.specs.TypeLaws.{HeadsKeep}
