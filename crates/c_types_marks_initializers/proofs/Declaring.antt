@@ -50,8 +50,8 @@ use Rattle.c_types_marks_initializers.proofs.Going.{IsPassed, Rules, ground, onw
 use Rattle.c_types_marks_initializers.proofs.Going as going
 use Rattle.c_types_marks_initializers.proofs.ReadySteps.{scoped_passes, named_ready, constant_ready, constant_passes, automatic_ready, automatic_passes, static_ready, static_passes, local_type_ready, local_type_passes, static_type_ready, static_type_passes, stores_ready, stores_pass}
 use Rattle.c_types_marks_initializers.specs.MarkedInitializers.{AreValued, IsInitial}
-use Rattle.c_types_marks_initializers.proofs.Addresses.{StoresIf, constant_proper}
-use Rattle.c_types_marks_initializers.proofs.Texts.{IsByteInitial, initializer_texts}
+use Rattle.c_types_marks_stores.specs.StaticStores.{StoresIf}
+use Rattle.c_types_marks_stores.proofs.Addresses.{static_stores_proper}
 use Rattle.c_types_marks_initializers.proofs.Initializing.{Initializes, initializer_goes}
 
 -- ---- lists
@@ -187,14 +187,14 @@ module _ (laws : HasLaws) (m : Model) where
   pub static_goes : (s : State) (at : Place) (index number : ℕ) (equals : Place) (t : Ty) (i : InitializerTree) → IsReady m s → IsProperInitializer m i → IsTypeOf m t → Stores s (statics.static_initializer s at index number equals t i)
   static_goes s at index number equals t i h proper typed = of_made (initializer_of s equals t i) refl (initializer_goes laws m s equals t i h proper typed)
     where
-      of_size : (v : InitializedView) (made : Ty) (later : State) → IsReady m later → IsTypeOf m made → IsByteInitial v → (b : Bool) → Stores later (cond b (statics.store_static equals index number v made later) (type_fault at))
-      of_size v made later ready of plain true = stored_goes equals index number v made later (constant_stores later.known equals v) ready of (constant_proper later.known ready.types.proper equals v plain)
-      of_size v made later ready of plain false = tt
+      of_size : (v : InitializedView) (made : Ty) (later : State) → IsReady m later → IsTypeOf m made → StoresIf (constant_stores later.known equals v) → (b : Bool) → Stores later (cond b (statics.store_static equals index number v made later) (type_fault at))
+      of_size v made later ready of proper true = stored_goes equals index number v made later (constant_stores later.known equals v) ready of proper
+      of_size v made later ready of proper false = tt
 
       of_made : (r : Ruled ((InitializedView × Ty) × State)) → initializer_of s equals t i ≡ r → Initializes laws m s r → Stores s (after r (statics.judged_static at index number equals))
       of_made (Ok q) is g =
           onward m s q.1 going.nothing (λ u x. Unit {0}) (statics.judged_static at index number equals q.0 q.1) (λ u part. (g.2 u part).0)
-          (of_size q.0.0 q.0.1 q.1 g.0 g.1 (initializer_texts m s q.1 equals t q.0.1 i q.0.0 proper is) (has_size q.1.known q.0.1))
+          (of_size q.0.0 q.0.1 q.1 g.0 g.1 (static_stores_proper m q.1.known s q.1 equals equals t q.0.1 i q.0.0 g.0.types.proper proper is) (has_size q.1.known q.0.1))
       of_made (Err f) is g = tt
 
   -- ---- objects of blocks

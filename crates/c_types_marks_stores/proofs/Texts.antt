@@ -4,6 +4,7 @@ use Rattle.std.specs.Prelude.{Bool, true, false, cond}
 use Rattle.cc_base.specs.declared.diagnostics.Place.{Place}
 use Rattle.cc_base.specs.declared.refusals.Fault.{Fault}
 use Rattle.c_layout.specs.Types.{Ty}
+use Rattle.c_layout.specs.SyntaxTrees as syntax
 use Rattle.c_layout.specs.SyntaxTrees.{Tree}
 use Rattle.c_layout.specs.DeclarationTrees as tree
 use Rattle.c_layout.specs.DeclarationTrees.{InitializerTree, InitializerTrees}
@@ -20,29 +21,48 @@ use Rattle.c_types_expressions.specs.Expressions.{typed}
 use Rattle.c_types_initializers.specs.Subobjects.{SubobjectView, OpenView, entered, next, subobject}
 use Rattle.c_types_initializers.specs.Literals.{bare_literal, character_room, only_literal}
 use Rattle.c_types_initializers.specs.ListStores.{FillingView, nothing, scalar_of, copy_of, with_found, takes_value, takes_text, sought}
-use Rattle.c_types_initializers.specs.Initialized.{InitializedView, ByTerm, ByLvalue, ByStores, scalar_by, struct_by, filled_by}
+use Rattle.c_types_initializers.specs.Initialized.{InitializedView, scalar_by, struct_by, filled_by}
 use Rattle.c_types_braced_lists.specs.BracedLists as lists
 use Rattle.c_types_braced_lists.specs.Initializers as spec
 use Rattle.ref_machine_looks_units.specs.LookedStatements.{are_bytes}
 use Rattle.c_types_marks.specs.ProperStatements.{IsProperInitializer, AreProperInitializers}
-use Rattle.c_types_marks_initializers.proofs.Initializing.{IsText, bare_text, only_text}
+use Rattle.c_types_marks.specs.ProperTrees.{IsProperTree}
+use Rattle.c_types_marks_stores.specs.StaticStores.{IsByteStore, AreByteStores, IsByteInitial}
+
+-- ---- literals
+
+abbrev pub IsText : Option (List ℕ) → Type 0
+IsText None = Unit {0}
+IsText (Some bytes) = are_bytes bytes ≡ true
+
+pub bare_text : (m : Model) (e : Tree) → IsProperTree m e → IsText (bare_literal e)
+bare_text m (syntax.Literal at bytes) h = h
+bare_text m (syntax.Name at text) h = tt
+bare_text m (syntax.Number at c) h = tt
+bare_text m (syntax.Paren at e) h = tt
+bare_text m (syntax.Subscript at a b) h = tt
+bare_text m (syntax.Call at name es) h = tt
+bare_text m (syntax.Member at e name) h = tt
+bare_text m (syntax.Arrow at e name) h = tt
+bare_text m (syntax.Postfix at op e) h = tt
+bare_text m (syntax.Prefix at op e) h = tt
+bare_text m (syntax.Unary at op e) h = tt
+bare_text m (syntax.SizeofExpr at e) h = tt
+bare_text m (syntax.SizeofType at n es) h = tt
+bare_text m (syntax.Cast at n es e) h = tt
+bare_text m (syntax.Binary at op a b) h = tt
+bare_text m (syntax.Logical at op a b) h = tt
+bare_text m (syntax.Conditional at a b c) h = tt
+bare_text m (syntax.Assign at op a b) h = tt
+bare_text m (syntax.Comma at a b) h = tt
+
+pub only_text : (m : Model) (list : InitializerTrees) → AreProperInitializers m list → IsText (only_literal list)
+only_text m tree.NoInitializer h = tt
+only_text m (tree.MoreInitializers (tree.Single e) tree.NoInitializer) h = bare_text m e h.0
+only_text m (tree.MoreInitializers (tree.Braces at items) tree.NoInitializer) h = tt
+only_text m (tree.MoreInitializers i (tree.MoreInitializers j items)) h = tt
 
 -- ---- stores
-
-abbrev pub IsByteStore : StoreTree → Type 0
-IsByteStore (StoreValue offset e) = Unit {0}
-IsByteStore (StoreCopy offset l) = Unit {0}
-IsByteStore (StoreText offset room text) = are_bytes text ≡ true
-
-abbrev pub AreByteStores : List StoreTree → Type 0
-AreByteStores [] = Unit {0}
-AreByteStores (x ∷ xs) = IsByteStore x × AreByteStores xs
-
--- what an initializer does
-abbrev pub IsByteInitial : InitializedView → Type 0
-IsByteInitial (ByTerm e) = Unit {0}
-IsByteInitial (ByLvalue l) = Unit {0}
-IsByteInitial (ByStores xs) = AreByteStores xs
 
 store_more : (xs : List StoreTree) (x : StoreTree) → AreByteStores xs → IsByteStore x → AreByteStores (xs ++ x ∷ [])
 store_more [] x all one = (one, tt)

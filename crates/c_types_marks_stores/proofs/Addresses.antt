@@ -25,7 +25,8 @@ use Rattle.c_types_initializers.specs.declared.address_constants.PointerConstant
 use Rattle.c_types_initializers.specs.declared.address_constants.PointerConstant.TheVariants as pointer
 use Rattle.c_types_marks.specs.ProperStores.{IsNearBase, IsNearValue, IsProperStore, AreProperStores}
 use Rattle.c_types_marks_layouts.proofs.Inside.{sized_small}
-use Rattle.c_types_marks_initializers.proofs.Texts.{AreByteStores, IsByteStore, IsByteInitial}
+use Rattle.c_types_marks_stores.specs.StaticStores.{IsByteStore, AreByteStores, IsByteInitial, StoresIf, StaticStoresAreProper}
+use Rattle.c_types_marks_stores.proofs.Texts.{initializer_texts}
 
 -- ---- addresses
 
@@ -124,11 +125,6 @@ abbrev StoreIf : Ruled StaticStoreView → Type 0
 StoreIf (Ok s) = IsProperStore s
 StoreIf (Err f) = Unit {0}
 
--- the stores of a static initializer, where they are constant
-abbrev pub StoresIf : Ruled (List StaticStoreView) → Type 0
-StoresIf (Ok ss) = AreProperStores ss
-StoresIf (Err f) = Unit {0}
-
 module _ (k : Known) (model : is_model k.numbers ≡ true) where
   mutual
     located_near : (l : LvalueTree) → NearIf (spec.located k l)
@@ -207,7 +203,10 @@ module _ (k : Known) (model : is_model k.numbers ≡ true) where
   one_proper (Err f) one = tt
 
   -- what a static initializer stores
-  pub constant_proper : (at : Place) (v : InitializedView) → IsByteInitial v → StoresIf (stores.constant_stores k at v)
+  constant_proper : (at : Place) (v : InitializedView) → IsByteInitial v → StoresIf (stores.constant_stores k at v)
   constant_proper at (ByTerm e) plain = one_proper (stores.value_at at 0 (spec.static_value k e)) (value_proper at 0 (spec.static_value k e) (typed_near e (term_type e)))
   constant_proper at (ByLvalue l) plain = tt
   constant_proper at (ByStores xs) plain = list_proper at xs [] plain tt
+
+pub static_stores_proper : StaticStoresAreProper
+static_stores_proper m k s u equals at t made i v model proper is = constant_proper k model at v (initializer_texts m s u equals t made i v proper is)
