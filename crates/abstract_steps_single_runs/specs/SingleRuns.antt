@@ -69,7 +69,6 @@ pub record SwitchesAreApart (flow : Flow) : Type 0 where
 pub record IsSingleProgram (flow : Flow) (u : UnitView) : Type 0 where
   pub plain : IsPlainProgram flow
   pub parameters : flow.parameters.items ≡ []
-  pub switches : SwitchesAreApart flow
   pub calls : (o : Operation) → IsDoneIn flow o → IsPlainOperation o
   -- no edge enters a block from that block or a later one
   pub headless : (b : ℕ) → is_head_at flow.blocks.items b ≡ false
@@ -135,5 +134,5 @@ module _ {I : Type 0} (l : LatticeOf I) (n : IntegersOf I) (stands : I → ℤ �
 
   -- where the row of the entry stands for the state in which the run begins and tells it, and operands are of their types
   abbrev pub MapsAdmitOnlyRun : Type 0
-  MapsAdmitOnlyRun = HasLaws → (u : UnitView) → HasTypedRuns flow u → HasRightOperands flow u → IsNeverStuck flow u → IsSingleProgram flow u → (first : Standing) → flow_begin u (flow_view flow) [] ≡ running first []
+  MapsAdmitOnlyRun = HasLaws → SwitchesAreApart flow → (u : UnitView) → HasTypedRuns flow u → HasRightOperands flow u → IsNeverStuck flow u → IsSingleProgram flow u → (first : Standing) → flow_begin u (flow_view flow) [] ≡ running first []
       → StandsBehind l n stands flow (Some (start_of l n flow list)) first → TellsState l n flow (start_of l n flow list) (state_of first) → AdmitOnlyRun l n flow list u

@@ -18,6 +18,7 @@ use Rattle.template_runs_units.specs.UnitRuns.{IsProgramOf, Agree}
 use Rattle.template_runs_looked.specs.LookedRuns.{PassesLooks, LookedUnitsAreNeverStuck, LookedRunsAreProgramRuns}
 use Rattle.flow_analysis.specs.Analyses.{IsAnalysis}
 use Rattle.abstract_steps_single_runs.specs.SingleRuns.{IsNeverStuck}
+use Rattle.abstract_steps_single_switches.specs.UnitSwitches.{UnitSwitchesAreApart}
 use Rattle.abstract_steps_single_analyses.proofs.SingleAnalyses.{finds_checked_run}
 use Rattle.abstract_steps_single_units.specs.SingleUnits.{HasEnd, FindsJustUnitRuns}
 use Rattle.abstract_steps_single_units.proofs.EndedRuns.{one_cause, all_found}
@@ -70,9 +71,9 @@ module _ (laws : LookedRunsAreProgramRuns) (never : LookedUnitsAreNeverStuck) (u
   from_source : (v : Violation) → Contains (source.found_in (Run u [] end.turns)) v → Contains (flow.found_in (flow_steps f count begin)) v
   from_source v h = subst (λ z. Contains z v) agree.found h
 
-pub finds_unit_run : LookedRunsAreProgramRuns → LookedUnitsAreNeverStuck → (program : Flow) (list : List ℤ) (found : List Diag) → IsAnalysis program list found → FindsJustUnitRuns program found
-finds_unit_run laws never program list found a u limits is o looks single end d =
-    let both = finds_checked_run program list found a u is (never_stuck laws never u limits program o looks end) single d in
+pub finds_unit_run : LookedRunsAreProgramRuns → LookedUnitsAreNeverStuck → UnitSwitchesAreApart → (program : Flow) (list : List ℤ) (found : List Diag) → IsAnalysis program list found → FindsJustUnitRuns program found
+finds_unit_run laws never apart program list found a u limits is o looks single end d =
+    let both = finds_checked_run program list found a u is (apart u limits program o) (never_stuck laws never u limits program o looks end) single d in
     let v : Violation = record { at = d.place; rule = d.rule } in (
       λ there. let h = both.0 there in to_source laws never u limits program o looks end h.count v h.there,
       λ there. both.1 (record { count = count laws never u limits program o looks end; there = from_source laws never u limits program o looks end v there }),

@@ -6,6 +6,7 @@ ghost use Rattle.flow_program.specs.declared.programs.Flow.{Flow};
 ghost use Rattle.flow_analysis.specs.Analyses.{IsAnalysis};
 ghost use Rattle.abstract_steps_single_units.specs.SingleUnits.{FindsJustUnitRuns};
 
+use abstract_steps_single_switches::unit_switches_are_apart;
 use template_runs_looked::{looked_runs_are_program_runs, looked_units_are_never_stuck};
 
 /// Where this run comes to an end.
@@ -14,4 +15,5 @@ pub fn plain_units_are_told_exactly()
 {
     looked_runs_are_program_runs();
     looked_units_are_never_stuck();
+    unit_switches_are_apart();
 }

@@ -1,0 +1,42 @@
+-- Of a plain unit each pair is that of a syntactic rule, or is violated by the unit's own run.
+use Rattle.std.proofs.Common.{◌≡◌, ◌⊎◌, inl, inr, ℕ, ℤ, [], List, Option, Some, None, subst}
+use Rattle.std.specs.List.{Contains}
+use Rattle.std.proofs.lemmas.List.Elements.{Contains-append_cases}
+use Rattle.cc_base.specs.Standard.{standard_limits}
+use Rattle.cc_base.specs.declared.diagnostics.Diag.{Diag}
+use Rattle.c_layout.specs.CheckedUnits.{unit_view}
+use Rattle.c_layout.specs.DeclarationTrees.{unit_tree}
+use Rattle.flow_program.specs.declared.programs.Flow.{Flow}
+use Rattle.syntax_rules.specs.StatementPlaces.{unit_places}
+use Rattle.flow_analysis.specs.Analyses.{IsAnalysis}
+use Rattle.ref_machine.specs.SourceRuns.{Run, found_in}
+use Rattle.abstract_steps_single_units.specs.SingleUnits.{FindsJustUnitRuns}
+use Rattle.report_cli_units.specs.Judging.{IsTurned}
+use Rattle.report_cli.specs.DefinedRuns.{TypedUnitsPassLooks}
+use Rattle.report_cli.specs.PlainRuns.{JudgedPairsAreViolated, ReportsHoldJustRuns}
+use Rattle.report_cli.proofs.FoundRuns.{program_of}
+
+-- an analysis of a program finds just what the run of its plain unit violates
+abbrev PlainUnitsAreTold : Type 0
+PlainUnitsAreTold = (flow : Flow) (list : List ℤ) (found : List Diag) → IsAnalysis flow list found → FindsJustUnitRuns flow found
+
+-- with no turns unrolled, the analysis is of the unit's own program
+analysed_itself : (turns : Option ℕ) (flow analysed : Flow) → turns ≡ None → IsTurned turns flow analysed → analysed ≡ flow
+analysed_itself None flow analysed none is = is
+analysed_itself (Some turns) flow analysed none is = cc
+
+pub judged_pairs : TypedUnitsPassLooks → PlainUnitsAreTold → JudgedPairsAreViolated
+judged_pairs pass told unit s j judged none plain d there =
+    let f = judged.found in
+    let u = unit_view judged.checked in
+    let own = subst (λ (p : Flow). IsAnalysis p f.list f.runs) (analysed_itself s.turns judged.flow judged.analysed none judged.turned) f.by_runs in
+    let is_unit = record { model = s.model; name = s.entry; tree = unit_tree judged.tree; limits = standard_limits; checked = judged.typed.checks; lowered = judged.lowered.lowers; plain = judged.plain } in
+    let is_program = program_of s judged.tree judged.checked judged.flow judged.typed judged.regular judged.lowered judged.made in
+    let looks = pass unit s judged.tree judged.checked judged.parsed judged.typed judged.looked judged.regular in
+    elim (Contains-append_cases f.texts f.runs d (subst (λ ds. Contains ds d) f.both there)) [
+      | inl text ↦ inl (f.by_texts.made d text)
+      | inr run ↦ inr ((told judged.flow f.list f.runs own u standard_limits is_unit is_program looks plain.single plain.end d).0 run)
+    ]
+
+pub reports_hold_just : JudgedPairsAreViolated → ReportsHoldJustRuns
+reports_hold_just judged files dirs model main s names diags report none plain d there = judged report.expanded s report.found report.judged none plain d (report.listed.made d there)
