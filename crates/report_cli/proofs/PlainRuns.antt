@@ -9,7 +9,6 @@ use Rattle.c_layout.specs.DeclarationTrees.{unit_tree}
 use Rattle.flow_program.specs.declared.programs.Flow.{Flow}
 use Rattle.syntax_rules.specs.StatementPlaces.{unit_places}
 use Rattle.flow_analysis.specs.Analyses.{IsAnalysis}
-use Rattle.ref_machine.specs.SourceRuns.{Run, found_in}
 use Rattle.abstract_steps_single_units.specs.SingleUnits.{FindsJustUnitRuns}
 use Rattle.report_cli_units.specs.Judging.{IsTurned}
 use Rattle.report_cli.specs.DefinedRuns.{TypedUnitsPassLooks}
@@ -35,7 +34,7 @@ judged_pairs pass told unit s j judged none plain d there =
     let looks = pass unit s judged.tree judged.checked judged.parsed judged.typed judged.looked judged.regular in
     elim (Contains-append_cases f.texts f.runs d (subst (λ ds. Contains ds d) f.both there)) [
       | inl text ↦ inl (f.by_texts.made d text)
-      | inr run ↦ inr ((told judged.flow f.list f.runs own u standard_limits is_unit is_program looks plain.single plain.end d).0 run)
+      | inr run ↦ inr (let h = (told judged.flow f.list f.runs own u standard_limits is_unit is_program looks plain d).0 run in record { draws = []; turns = h.turns; there = h.there })
     ]
 
 pub reports_hold_just : JudgedPairsAreViolated → ReportsHoldJustRuns

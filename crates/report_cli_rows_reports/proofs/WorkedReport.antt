@@ -27,7 +27,6 @@ use Rattle.report_cli_answers.specs.Verdicts.{report_status, IsVerdict, IsLater}
 use Rattle.report_cli_laws.specs.Told.{IsAcceptedCheck, ToldReport}
 use Rattle.report_cli_laws_reports.specs.OneReports.{OneReport, OneVerdict}
 use Rattle.abstract_steps_single_runs.specs.SingleRuns.{IsSingleProgram}
-use Rattle.abstract_steps_single_units.specs.SingleUnits.{HasEnd}
 use Rattle.report_cli.specs.PlainRuns.{IsPlainUnit}
 use Rattle.report_cli_rows.specs.WorkedAnswers.{IsExpandedFromHeld, IsNamedModel}
 use Rattle.report_cli_rows_analyses.specs.WorkedAnalyses.{Map, thresholds, IsWorkedProgram}
@@ -36,7 +35,6 @@ use Rattle.report_cli_rows_units.specs.WorkedTrees.{checked_unit}
 use Rattle.report_cli_rows_units.specs.WorkedUnits.{IsParsedTo, IsCheckedTo}
 use Rattle.report_cli_rows_units.proofs.WorkedValues.{tree, tree_is, unit, unit_is}
 use Rattle.report_cli_rows_reports.proofs.TextPlaces.{no_places}
-use Rattle.report_cli_rows_reports.proofs.WorkedRuns.{has_end}
 use Rattle.report_cli_rows_reports.specs.WorkedReports.{command, seen, lines, text, IsReportOf, verdict, IsToldAlone}
 
 abbrev setting : SettingView
@@ -123,7 +121,7 @@ module _ (some : Flow) (parsed_to : IsParsedTo) (checked_to : IsCheckedTo) (larg
 
     plain_unit : IsPlainUnit (unit_view report.judged.checked) report.judged.flow
     unfolding report judged
-    plain_unit = record { single = subst (λ (u : UnitView). IsSingleProgram flow u) (sym (unit_is some.blocks)) worked.single; end = subst (λ (u : UnitView). HasEnd u) (sym (unit_is some.blocks)) has_end }
+    plain_unit = subst (λ (u : UnitView). IsSingleProgram flow u) (sym (unit_is some.blocks)) worked.single
 
     accepted : IsAcceptedCheck seen command
     accepted = record {
