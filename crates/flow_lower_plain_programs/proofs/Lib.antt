@@ -1,0 +1,5 @@
+pub mod SettledLeads
+pub mod SmallLeaves
+pub mod NamedBases
+pub mod LeadingOpenings
+pub mod LeadingPrograms

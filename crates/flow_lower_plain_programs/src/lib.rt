@@ -1,0 +1,2 @@
+//! Laws on the programs of plain units.
+#![tactic(auto)]
