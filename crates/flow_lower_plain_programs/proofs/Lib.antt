@@ -3,3 +3,5 @@ pub mod SmallLeaves
 pub mod NamedBases
 pub mod LeadingOpenings
 pub mod LeadingPrograms
+pub mod StandingLabels
+pub mod PlainPrograms
