@@ -16,6 +16,7 @@ use c_types_marks_units::checks_are_marked;
 use c_types_scoped_units::checks_are_scoped;
 use c_types_sizes::checks_are_small;
 use cert_check_sound::accepted_certificates_hold_units;
+use flow_lower_plain_programs::plain_units_have_plain_programs;
 use report_cli_laws::one_parse;
 use template_runs_looked::{looked_runs_are_program_runs, looked_units_are_never_stuck};
 
@@ -63,6 +64,7 @@ pub fn judged_pairs_are_violated()
 {
     typed_units_pass_looks();
     plain_units_are_told_exactly();
+    plain_units_have_plain_programs();
 }
 
 /// So is each diagnostic of its report.

@@ -26,7 +26,8 @@ use Rattle.report_cli_answers.specs.Outcomes.{Took, PutOnce, Answers}
 use Rattle.report_cli_answers.specs.Verdicts.{report_status, IsVerdict, IsLater}
 use Rattle.report_cli_laws.specs.Told.{IsAcceptedCheck, ToldReport}
 use Rattle.report_cli_laws_reports.specs.OneReports.{OneReport, OneVerdict}
-use Rattle.abstract_steps_single_runs.specs.SingleRuns.{IsSingleProgram}
+use Rattle.flow_lower_plain.specs.PlainUnits.{is_plain_unit}
+use Rattle.abstract_steps_single_runs.specs.SingleRuns.{HasTypedAccesses}
 use Rattle.report_cli.specs.PlainRuns.{IsPlainUnit}
 use Rattle.report_cli_rows.specs.WorkedAnswers.{IsExpandedFromHeld, IsNamedModel}
 use Rattle.report_cli_rows_analyses.specs.WorkedAnalyses.{Map, thresholds, IsWorkedProgram}
@@ -57,6 +58,9 @@ bytes = refl
 
 plain : has_plain_objects checked_unit ≡ true
 plain = refl
+
+plain_look : is_plain_unit checked_unit ≡ true
+plain_look = refl
 
 regular : is_regular_unit checked_unit ≡ true
 regular = refl
@@ -121,7 +125,7 @@ module _ (some : Flow) (parsed_to : IsParsedTo) (checked_to : IsCheckedTo) (larg
 
     plain_unit : IsPlainUnit (unit_view report.judged.checked) report.judged.flow
     unfolding report judged
-    plain_unit = subst (λ (u : UnitView). IsSingleProgram flow u) (sym (unit_is some.blocks)) worked.single
+    plain_unit = record { look = ap (λ (u : UnitView). is_plain_unit u) (unit_is some.blocks) ∙ plain_look; accesses = subst (λ (u : UnitView). HasTypedAccesses flow u) (sym (unit_is some.blocks)) worked.single.steps }
 
     accepted : IsAcceptedCheck seen command
     accepted = record {
