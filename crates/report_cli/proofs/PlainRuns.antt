@@ -4,14 +4,15 @@ use Rattle.std.specs.List.{Contains}
 use Rattle.std.proofs.lemmas.List.Elements.{Contains-append_cases}
 use Rattle.cc_base.specs.Standard.{standard_limits}
 use Rattle.cc_base.specs.declared.diagnostics.Diag.{Diag}
-use Rattle.c_layout.specs.CheckedUnits.{unit_view}
+use Rattle.c_layout.specs.CheckedUnits.{UnitView, unit_view}
 use Rattle.c_layout.specs.DeclarationTrees.{unit_tree}
 use Rattle.flow_program.specs.declared.programs.Flow.{Flow}
 use Rattle.syntax_rules.specs.StatementPlaces.{unit_places}
 use Rattle.flow_analysis.specs.Analyses.{IsAnalysis}
-use Rattle.ref_machine.specs.SourceRuns.{Run, found_in}
 use Rattle.abstract_steps_sound_checked_starts.specs.CheckedStarts.{IsUnitOf}
+use Rattle.abstract_steps_single_runs.specs.SingleRuns.{HasTypedAccesses, IsSingleProgram}
 use Rattle.abstract_steps_single_units.specs.SingleUnits.{FindsJustUnitRuns}
+use Rattle.flow_lower_plain_programs.specs.PlainPrograms.{IsPlainFlow, PlainUnitsHavePlainPrograms}
 use Rattle.report_cli_units.specs.Judging.{IsTurned}
 use Rattle.report_cli.specs.DefinedRuns.{TypedUnitsPassLooks}
 use Rattle.report_cli.specs.PlainRuns.{JudgedPairsAreViolated, ReportsHoldJustRuns}
@@ -26,17 +27,22 @@ analysed_itself : (turns : Option ℕ) (flow analysed : Flow) → turns ≡ None
 analysed_itself None flow analysed none is = is
 analysed_itself (Some turns) flow analysed none is = cc
 
-pub judged_pairs : TypedUnitsPassLooks → PlainUnitsAreTold → JudgedPairsAreViolated
-judged_pairs pass told unit s j judged none plain d there =
+-- what a plain unit is lowered to, with its accesses
+single_program : (program : Flow) (u : UnitView) → IsPlainFlow program → HasTypedAccesses program u → IsSingleProgram program u
+single_program program u flow accesses = record { plain = flow.plain; parameters = flow.parameters; calls = flow.calls; headless = flow.headless; steps = accesses }
+
+pub judged_pairs : TypedUnitsPassLooks → PlainUnitsAreTold → PlainUnitsHavePlainPrograms → JudgedPairsAreViolated
+judged_pairs pass told lowered unit s j judged none plain d there =
     let f = judged.found in
     let u = unit_view judged.checked in
     let own = subst (λ (p : Flow). IsAnalysis p f.list f.runs) (analysed_itself s.turns judged.flow judged.analysed none judged.turned) f.by_runs in
     let is_unit : IsUnitOf u judged.flow = record { model = s.model; name = s.entry; tree = unit_tree judged.tree; limits = standard_limits; checked = judged.typed.checks; lowered = judged.lowered.lowers; plain = judged.plain } in
     let is_program = program_of s judged.tree judged.checked judged.flow judged.typed judged.regular judged.lowered judged.made in
+    let single = single_program judged.flow u (lowered u standard_limits judged.flow is_program plain.look) plain.accesses in
     let looks = pass unit s judged.tree judged.checked judged.parsed judged.typed judged.looked judged.regular in
     elim (Contains-append_cases f.texts f.runs d (subst (λ ds. Contains ds d) f.both there)) [
       | inl text ↦ inl (f.by_texts.made d text)
-      | inr run ↦ inr ((told judged.flow f.list f.runs own u standard_limits is_unit is_program looks plain.single plain.end d).0 run)
+      | inr run ↦ inr (let h = (told judged.flow f.list f.runs own u standard_limits is_unit is_program looks single d).0 run in record { draws = []; turns = h.turns; there = h.there })
     ]
 
 pub reports_hold_just : JudgedPairsAreViolated → ReportsHoldJustRuns

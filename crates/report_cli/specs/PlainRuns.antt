@@ -1,5 +1,5 @@
--- Of a plain unit no line is false: each is that of a syntactic rule, or the unit's own run violates it.
-use Rattle.std.specs.Prelude.{◌≡◌, ◌⊎◌, List, [], Option, None}
+-- Of a plain unit no line is false: each is that of a syntactic rule, or a run of the unit violates it.
+use Rattle.std.specs.Prelude.{◌≡◌, ◌⊎◌, true, List, Option, None}
 use Rattle.std.specs.List.{Contains}
 use Rattle.cc_base.specs.Outside.{Files}
 use Rattle.cc_base.specs.declared.diagnostics.Diag.{Diag}
@@ -9,26 +9,24 @@ use Rattle.c_layout.specs.declared.data_model.Model.{Model}
 use Rattle.c_layout.specs.declared.unit_tokens.Unit7.{Unit7}
 use Rattle.syntax_rules.specs.StatementPlaces.{unit_places}
 use Rattle.flow_program.specs.declared.programs.Flow.{Flow}
-use Rattle.ref_machine.specs.SourceRuns.{Run, found_in}
-use Rattle.abstract_steps_single_runs.specs.SingleRuns.{IsSingleProgram}
-use Rattle.abstract_steps_single_units.specs.SingleUnits.{HasEnd}
+use Rattle.flow_lower_plain.specs.PlainUnits.{is_plain_unit}
+use Rattle.abstract_steps_single_runs.specs.SingleRuns.{HasTypedAccesses}
 use Rattle.report_cli_texts.specs.Reports.{Bytes}
 use Rattle.report_cli_units.specs.Judging.{SettingView, Judgement, IsJudged}
 use Rattle.report_cli_answers.specs.Verdicts.{FromFiles, IsReport}
+use Rattle.report_cli.specs.FoundRuns.{IsViolatedBy}
 
--- a unit, and its program. In C: the entry has no parameters; what it reaches has no loop and no `goto` back; each scalar of an
--- object has a cell of its own, so no array is long (more than 64 elements share their cells), and nothing is allocated; of the
--- library it calls exit, abort, putchar, toupper, tolower, isalpha, isdigit, isspace, isupper, islower and isalnum alone; and each
--- access of memory in the run is of the type of what lies there (6.5p7). That is `single`; and the run under no numbers of the
--- outside comes to an end
+-- a unit without loops and jumps back, parameters of the entry and arrays of more than 64 elements, which calls of the library but
+-- exit, abort, putchar and the functions of <ctype.h> alone; and in whose run under no numbers of the outside each access of memory
+-- is of the type of what lies there (6.5p7)
 pub record IsPlainUnit (u : UnitView) (program : Flow) : Type 0 where
-  pub single : IsSingleProgram program u
-  pub end : HasEnd u
+  pub look : is_plain_unit u ≡ true
+  pub accesses : HasTypedAccesses program u
 
--- each pair is one that the syntactic rules find in the unit, or one that this run violates, where the unit is plain
+-- each pair is one that the syntactic rules find in the unit, or one that a run violates, where the unit is plain
 abbrev pub HoldsJustRun : Checked → Flow → List Diag → Type 0
 HoldsJustRun checked program pairs =
-    (is : IsPlainUnit (unit_view checked) program) (d : Diag) → Contains pairs d → Contains (unit_places checked) d ⊎ Contains (found_in (Run (unit_view checked) [] is.end.turns)) (record { at = d.place; rule = d.rule })
+    IsPlainUnit (unit_view checked) program → (d : Diag) → Contains pairs d → Contains (unit_places checked) d ⊎ IsViolatedBy (unit_view checked) (record { at = d.place; rule = d.rule })
 
 -- so are the pairs of a unit that is judged with no turns unrolled
 abbrev pub JudgedPairsAreViolated : Type 0

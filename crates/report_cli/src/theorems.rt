@@ -14,18 +14,21 @@ use abstract_steps_sound_units::checked_runs_are_found;
 use c_types_marks_trees::{trees_are_proper, trees_declare_in_blocks};
 use c_types_marks_units::checks_are_marked;
 use c_types_scoped_units::checks_are_scoped;
+use c_types_sizes::checks_are_small;
 use cert_check_sound::accepted_certificates_hold_units;
+use flow_lower_plain_programs::plain_units_have_plain_programs;
 use report_cli_laws::one_parse;
 use template_runs_looked::{looked_runs_are_program_runs, looked_units_are_never_stuck};
 
-/// A unit that is typed from its tokens passes the looks at its terms and scopes, where what typing does not ask was looked
-/// at: tokens of bytes, room in memory, and regular functions.
+/// A unit that is typed from its tokens passes the looks at its terms and scopes, where tokens are of bytes and functions
+/// are regular.
 pub fn typed_units_pass_looks()
     ensures { TypedUnitsPassLooks }
 {
     trees_are_proper();
     trees_declare_in_blocks();
     checks_are_marked();
+    checks_are_small();
     checks_are_scoped();
 }
 
@@ -61,6 +64,7 @@ pub fn judged_pairs_are_violated()
 {
     typed_units_pass_looks();
     plain_units_are_told_exactly();
+    plain_units_have_plain_programs();
 }
 
 /// So is each diagnostic of its report.

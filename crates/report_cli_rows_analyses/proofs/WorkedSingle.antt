@@ -62,10 +62,6 @@ module _ (some : Flow) where
   single = record {
     plain = record { apart = λ b j base leaf there among. absurd (none_there base b there); no_heap = λ b base there. absurd (none_there base b there) };
     parameters = refl;
-    switches = record {
-      cases = λ j k d e a b at_j at_k from differ is also. absurd (none_there d j at_j);
-      others = λ j k d e a values at_j at_k from is also. absurd (none_there d j at_j);
-    };
     calls = plain_operation;
     headless = headless;
     steps = λ count s found i runs there. (are_plain s.block s.at i there).typed s;

@@ -13,7 +13,7 @@ use Rattle.c_types.specs.UnitChecks.{check}
 use Rattle.flow_lower.specs.Lowerings.{IsLowering}
 use Rattle.flow_lower_objects.specs.PlainObjects.{has_plain_objects}
 use Rattle.flow_lower_units.specs.RegularUnits.{is_regular_unit}
-use Rattle.ref_machine_looks_units.specs.SmallUnits.{have_byte_texts, is_small_unit}
+use Rattle.ref_machine_looks_units.specs.SmallUnits.{have_byte_texts}
 use Rattle.flow_program.specs.declared.programs.Flow.{Flow}
 use Rattle.flow_program_views.specs.ProgramViews.{FlowView, flow_view}
 use Rattle.report_cli_texts.specs.Reports.{Bytes, report_of}
@@ -26,8 +26,8 @@ use Rattle.report_cli_answers.specs.Outcomes.{Took, PutOnce, Answers}
 use Rattle.report_cli_answers.specs.Verdicts.{report_status, IsVerdict, IsLater}
 use Rattle.report_cli_laws.specs.Told.{IsAcceptedCheck, ToldReport}
 use Rattle.report_cli_laws_reports.specs.OneReports.{OneReport, OneVerdict}
-use Rattle.abstract_steps_single_runs.specs.SingleRuns.{IsSingleProgram}
-use Rattle.abstract_steps_single_units.specs.SingleUnits.{HasEnd}
+use Rattle.flow_lower_plain.specs.PlainUnits.{is_plain_unit}
+use Rattle.abstract_steps_single_runs.specs.SingleRuns.{HasTypedAccesses}
 use Rattle.report_cli.specs.PlainRuns.{IsPlainUnit}
 use Rattle.report_cli_rows.specs.WorkedAnswers.{IsExpandedFromHeld, IsNamedModel}
 use Rattle.report_cli_rows_analyses.specs.WorkedAnalyses.{Map, thresholds, IsWorkedProgram}
@@ -36,7 +36,6 @@ use Rattle.report_cli_rows_units.specs.WorkedTrees.{checked_unit}
 use Rattle.report_cli_rows_units.specs.WorkedUnits.{IsParsedTo, IsCheckedTo}
 use Rattle.report_cli_rows_units.proofs.WorkedValues.{tree, tree_is, unit, unit_is}
 use Rattle.report_cli_rows_reports.proofs.TextPlaces.{no_places}
-use Rattle.report_cli_rows_reports.proofs.WorkedRuns.{has_end}
 use Rattle.report_cli_rows_reports.specs.WorkedReports.{command, seen, lines, text, IsReportOf, verdict, IsToldAlone}
 
 abbrev setting : SettingView
@@ -57,11 +56,11 @@ text_is = refl
 bytes : have_byte_texts expanded.tokens ≡ true
 bytes = refl
 
-small : is_small_unit checked_unit ≡ true
-small = refl
-
 plain : has_plain_objects checked_unit ≡ true
 plain = refl
+
+plain_look : is_plain_unit checked_unit ≡ true
+plain_look = refl
 
 regular : is_regular_unit checked_unit ≡ true
 regular = refl
@@ -76,8 +75,8 @@ module _ (some : Flow) (parsed_to : IsParsedTo) (checked_to : IsCheckedTo) (larg
     model = refl;
   }
 
-  looked : IsLooked expanded setting (unit some.blocks)
-  looked = record { proper = refl; model = refl; bytes = bytes; small = ap (λ (u : UnitView). is_small_unit u) (unit_is some.blocks) ∙ small }
+  looked : IsLooked expanded setting
+  looked = record { proper = refl; model = refl; bytes = bytes }
 
   lowered : IsLowered (unit some.blocks) flow
   lowered = record {
@@ -126,7 +125,7 @@ module _ (some : Flow) (parsed_to : IsParsedTo) (checked_to : IsCheckedTo) (larg
 
     plain_unit : IsPlainUnit (unit_view report.judged.checked) report.judged.flow
     unfolding report judged
-    plain_unit = record { single = subst (λ (u : UnitView). IsSingleProgram flow u) (sym (unit_is some.blocks)) worked.single; end = subst (λ (u : UnitView). HasEnd u) (sym (unit_is some.blocks)) has_end }
+    plain_unit = record { look = ap (λ (u : UnitView). is_plain_unit u) (unit_is some.blocks) ∙ plain_look; accesses = subst (λ (u : UnitView). HasTypedAccesses flow u) (sym (unit_is some.blocks)) worked.single.steps }
 
     accepted : IsAcceptedCheck seen command
     accepted = record {

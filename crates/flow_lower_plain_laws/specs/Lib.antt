@@ -1,0 +1,3 @@
+pub mod LeadingPieces
+pub mod SwitchLabels
+pub mod LeadingTemplates
