@@ -309,9 +309,9 @@ module _ (calls : ℕ → Bool) (s : SettingView) (ds : List Dispatch) (b : ℕ)
       let M = λ (l : ℕ). (l ≡ p.labels + 3) ⊎ L l in
       let N = λ (l : ℕ). (l ≡ p.labels + 2) ⊎ (Stands ds around.choice second l ⊎ M l) in
       let last : Goes calls s (b + (0 + switches_in first)) M second around = subst (λ c. Goes calls s c M second around) (sym (from_zero (switches_in first)))
-              (record { later = g.later; breaks = g.breaks; plain = y.1; labels = λ l e. inr (g.labels l e); on_break = λ e. inr (g.on_break e); on_return = λ e. inr (g.on_return e); choice = λ own. in_first_less around.choice b (switches_in first) (g.choice (own_in_second e first second own)); switches = g.switches.1 }) in
+      (record { later = g.later; breaks = g.breaks; plain = y.1; labels = λ l e. inr (g.labels l e); on_break = λ e. inr (g.on_break e); on_return = λ e. inr (g.on_return e); choice = λ own. in_first_less around.choice b (switches_in first) (g.choice (own_in_second e first second own)); switches = g.switches.1 }) in
       let one : Goes calls s (b + 0) N first around = subst (λ c. Goes calls s c N first around) (none_more b)
-              (record { later = stands_or second g.later; breaks = g.breaks; plain = y.0; labels = λ l e. by l (either_true (nat_le 1 (labels_in l second)) (g.later l) e); on_break = λ e. inr (inr (inr (g.on_break e))); on_return = λ e. inr (inr (inr (g.on_return e))); choice = λ own. g.choice (own_in_first e first second own); switches = g.switches.0 }) in
+      (record { later = stands_or second g.later; breaks = g.breaks; plain = y.0; labels = λ l e. by l (either_true (nat_le 1 (labels_in l second)) (g.later l) e); on_break = λ e. inr (inr (inr (g.on_break e))); on_return = λ e. inr (inr (inr (g.on_return e))); choice = λ own. g.choice (own_in_first e first second own); switches = g.switches.0 }) in
       record {
         begun = b;
         count = (0 + switches_in first) + switches_in second;

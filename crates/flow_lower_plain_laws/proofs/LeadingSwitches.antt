@@ -128,9 +128,10 @@ more_less i n m less = omega (arith, less)
 cases_are : (s : SettingView) (from : ℕ) (P : ℕ → Type 0) (first n label number : ℕ) (cs : List CaseLabel) (p : Plan) → label ≡ behind first n → ((i : ℕ) → i < n + length cs → P (behind first i)) → AreArms s from P (case_arms s from label number cs p).arms
 cases_are s from P first n label number [] p e all = tt
 cases_are s from P first n label number (c ∷ cs) p e all =
-    let to = case_landing s label number in
-    (record { lands = subst P (sym e) (all n (one_less n (length cs))); goes = target_goes s from to p },
-     cases_are s from P first (suc n) (behind label 1) (behind number 1) cs (edge_target s from to p).after (next_behind first n label e) (λ i less. all i (more_less i n (length cs) less)))
+    let to = case_landing s label number in (
+      record { lands = subst P (sym e) (all n (one_less n (length cs))); goes = target_goes s from to p },
+      cases_are s from P first (suc n) (behind label 1) (behind number 1) cs (edge_target s from to p).after (next_behind first n label e) (λ i less. all i (more_less i n (length cs) less)),
+    )
 
 -- ---- what a switch gives away
 
@@ -193,8 +194,16 @@ module _ (calls : ℕ → Bool) (s : SettingView) (ds : List Dispatch) (L : ℕ 
       let own : get_or ds b.begun.choice no_dispatch ≡ b.begun.dispatch = ap (λ c. get_or ds c no_dispatch) choice ∙ known ∙ sym (begins_dispatch n around.scope p) in
       let start : (K : ℕ → Type 0) → Leading calls s ds begun 0 K b.after = λ K. lead_none b.after (begins_jobs n around.scope p ∙ none) (subst AreOfObjects (sym (begins_names n around.scope p)) names) in
       let inside : Goes calls s (begun + 0) M body (in_switch around b.begun) =
-              record { later = g.later; breaks = true; plain = x.1; labels = λ l t. inr (g.labels l t); on_break = λ t. inl refl; on_return = λ t. inr (g.on_return t); choice = λ o. just_below b.begun.choice (length p.dispatches) begun choice (one_more n around.scope p);
-                switches = subst (λ c. LabelsStand s body c) (sym (one_more n around.scope p) ∙ none_more begun) g.switches.2 } in
+      record {
+        later = g.later;
+        breaks = true;
+        plain = x.1;
+        labels = λ l t. inr (g.labels l t);
+        on_break = λ t. inl refl;
+        on_return = λ t. inr (g.on_return t);
+        choice = λ o. just_below b.begun.choice (length p.dispatches) begun choice (one_more n around.scope p);
+        switches = subst (λ c. LabelsStand s body c) (sym (one_more n around.scope p) ∙ none_more begun) g.switches.2;
+      } in
       let case_there : (i : ℕ) → i < 0 + n → N (behind b.begun.dispatch.cases i) = λ i less. inl (inr (inl (i, g.switches.0 i (in_all i n less), ap (λ (d : Dispatch). behind d.cases i) (sym own)))) in
       let landing = other_landing (choice_at s b.begun.choice) b.begun.dispatch b.begun.after in
       let lands : N landing.label = landed (choice_at s b.begun.choice).fallback b.begun.dispatch b.begun.after (get_or ds b.begun.choice no_dispatch) (ap (λ (d : Dispatch). d.fallback) (sym own)) (subst (λ c. HasDefault (choice_at s c).fallback body) (sym choice) g.switches.1) (inl refl) in
@@ -204,10 +213,10 @@ module _ (calls : ℕ → Bool) (s : SettingView) (ds : List Dispatch) (L : ℕ 
       let found = switched_object e other.after in
       let O = BlockTo s around.scope other.to landing N in
       let arms : AreArms s around.scope O a.arms = cases_are s around.scope O b.begun.dispatch.cases 0 b.begun.dispatch.cases first cases b.after
-              (first_behind b.begun.dispatch.cases (subst (λ (d : Dispatch). d.cases ≤ 2 ^ 32 - 1) (sym (begins_dispatch n around.scope p)) few)) (λ i less. inr (case_there i less)) in
+      (first_behind b.begun.dispatch.cases (subst (λ (d : Dispatch). d.cases ≤ 2 ^ 32 - 1) (sym (begins_dispatch n around.scope p)) few)) (λ i less. inr (case_there i less)) in
       let to_other : O other.to = others landing other.to (target_goes s around.scope landing a.after) N lands in
       let exits : AllTo (ArmsTo s around.scope a.arms O) (dispatch_exits a.arms cases found.base other.to) =
-              all_and (ArmsTo s around.scope a.arms O) (map (case_exit found.base) a.arms) _ (to_arms s around.scope a.arms found.base O arms) (behind_arms s around.scope a.arms O other.to to_other) in
+      all_and (ArmsTo s around.scope a.arms O) (map (case_exit found.base) a.arms) _ (to_arms s around.scope a.arms found.base O arms) (behind_arms s around.scope a.arms O other.to to_other) in
       record {
         begun = begun;
         count = 0 + switches_in body;

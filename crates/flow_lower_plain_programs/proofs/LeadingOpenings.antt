@@ -457,8 +457,16 @@ module _ (u : UnitView) where
           let count : length (blocks ++ b ∷ []) ≡ suc from = one_longer blocks b ∙ ap suc (ap length y.blocks ∙ ap length own.blocks) in
           let parts = subst (λ z. ArePlainCopies (length z) (a.within ∷ stack)) (sym y.labels) acted.copies in
           record {
-            copies = (record { depth = parts.0.depth; pieces = subst (λ z. LeadOn (is_plain_from u parts.0.depth) NoLabel z) (sym y.rest) parts.0.pieces; names = subst AreOfObjects (sym y.names) parts.0.names; small = subst (HasSmall u) (sym y.function) parts.0.small;
-              room = λ l is. subst (λ first. l + first < length q.program.labels) (sym y.first_label) (parts.0.room l (subst (λ z. Marked z NoLabel l) y.rest is)) }, parts.1);
+            copies = (
+              record {
+                depth = parts.0.depth;
+                pieces = subst (λ z. LeadOn (is_plain_from u parts.0.depth) NoLabel z) (sym y.rest) parts.0.pieces;
+                names = subst AreOfObjects (sym y.names) parts.0.names;
+                small = subst (HasSmall u) (sym y.function) parts.0.small;
+                room = λ l is. subst (λ first. l + first < length q.program.labels) (sym y.first_label) (parts.0.room l (subst (λ z. Marked z NoLabel l) y.rest is));
+              },
+              parts.1,
+            );
             edges = edges_more P _ (λ e z. ahead stack (length (blocks ++ b ∷ [])) (suc from) count a.program.labels q.program.labels y.labels a.within q.within y.rest y.first_label e z) q.program.edges y.edges;
             blocks = blocks_append blocks b (subst ArePlainBlocks (sym y.blocks) acted.blocks) (record { steps = subst ArePlainSteps (sym y.ready) acted.ready; head = refl });
             ready = tt;
