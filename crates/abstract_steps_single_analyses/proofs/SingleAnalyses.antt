@@ -78,7 +78,7 @@ use Rattle.abstract_steps_single_ways.proofs.CaseTests.{case_test_told}
 use Rattle.abstract_steps_single_copied.proofs.ToldCopies.{copy_step_told}
 use Rattle.abstract_steps_single_tests.proofs.IntegerTests.{integer_test_told}
 use Rattle.abstract_steps_single_starts.proofs.ToldStarts.{start_is_told}
-use Rattle.abstract_steps_single_runs.specs.SingleRuns.{SingleLaws, IsNeverStuck, IsSingleProgram, IsViolatedAlone}
+use Rattle.abstract_steps_single_runs.specs.SingleRuns.{SingleLaws, SwitchesAreApart, IsNeverStuck, IsSingleProgram, IsViolatedAlone}
 use Rattle.abstract_steps_single_analyses.specs.SingleAnalyses.{FindsJustRunOf, FindsJustRunsOfChecked}
 use Rattle.abstract_steps_single_runs.proofs.PassedBlocks.{both}
 use Rattle.abstract_steps_single_analyses.proofs.PlainObjects.{has_objects}
@@ -177,8 +177,8 @@ module _ (flow : Flow) (list : List ℤ) (found : List Diag) (a : IsAnalysis flo
         (runs_begin flow standard_limits regular.well_formed regular.initial p u starts)
         (replicate flow.width Nothing) (start_of interval_lattice interval_numbers flow list) (length-replicate flow.width Nothing) (regular_fits flow list a.regular enough.reaches a.started) [] begin (begins single.parameters)
 
-    only_run : IsNeverStuck flow u → IsSingleProgram flow u → (d : Diag) → Contains found d → IsViolatedAlone flow u d.place d.rule
-    only_run unstuck single d there =
+    only_run : SwitchesAreApart flow → IsNeverStuck flow u → IsSingleProgram flow u → (d : Diag) → Contains found d → IsViolatedAlone flow u d.place d.rule
+    only_run apart unstuck single d there =
         let laid = laid_out standard_limits flow regular.well_formed (omega (arith)) in
         let named = all_named standard_limits flow regular.well_formed regular.scalars in
         let rising = regular_rising flow list a.regular in
@@ -192,12 +192,12 @@ module _ (flow : Flow) (list : List ℤ) (found : List Diag) (a : IsAnalysis flo
         (λ number row own. fit_nothing interval_order interval_rounding interval_heights interval_bounding interval_monotone interval_ranges interval_ends flow list near enough.reaches laid named rising number row own)
         (λ block number row x own e. leaves_own interval_order interval_rounding interval_heights interval_bounding interval_monotone interval_ranges interval_ends flow list near enough.reaches laid named rising block number row x own e)
         ((flow-laws interval_order interval_rounding interval_heights interval_bounding interval_ends flow list (well_formed_system standard_limits flow regular.well_formed)).start_attained)
-        structs enough.texts (objects single.plain) u typed rights unstuck single begin (begins single.parameters)
+        structs enough.texts (objects single.plain) apart u typed rights unstuck single begin (begins single.parameters)
         (both interval_lattice interval_numbers flow Stands (Some (start_of interval_lattice interval_numbers flow list)) begin behind (record { row = start_of interval_lattice interval_numbers flow list; is = refl; tells = tells single }))
         d.place d.rule (λ rows closed. a.made d there rows closed)
 
     pub finds_run : FindsJustRunOf flow found u
-    finds_run unstuck single d = (λ there. only_run unstuck single d there, λ v. finds_each_pair flow list found a u stand (record { at = d.place; rule = d.rule }) (record { draws = []; steps = v.count; there = v.there }))
+    finds_run apart unstuck single d = (λ there. only_run apart unstuck single d there, λ v. finds_each_pair flow list found a u stand (record { at = d.place; rule = d.rule }) (record { draws = []; steps = v.count; there = v.there }))
 
   pub finds_checked_run : FindsJustRunsOfChecked flow found
   finds_checked_run u is = finds_run u (unit_starts u flow (sound_structs flow list a.regular a.checked.structs) is)

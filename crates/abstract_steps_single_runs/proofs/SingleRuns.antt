@@ -56,7 +56,7 @@ use Rattle.abstract_steps_single.specs.SingleSteps.{IsDefined}
 use Rattle.abstract_steps_single_store.specs.TypedAccesses.{HasObjects}
 use Rattle.abstract_steps_single_ways.specs.WayLaws.{FitsWay, IsWay, TestsAreTold}
 use Rattle.abstract_steps_single.specs.SingleLaws.{HasRight}
-use Rattle.abstract_steps_single_runs.specs.SingleRuns.{IsTypedStep, HasRightOperands, IsNeverStuck, IsSingleProgram, IsViolatedAlone, SingleLaws, AdmitOnlyRun, MapsAdmitOnlyRun}
+use Rattle.abstract_steps_single_runs.specs.SingleRuns.{SwitchesAreApart, IsTypedStep, HasRightOperands, IsNeverStuck, IsSingleProgram, IsViolatedAlone, SingleLaws, AdmitOnlyRun, MapsAdmitOnlyRun}
 use Rattle.abstract_steps_single_runs.proofs.ApartWays.{ways_apart}
 use Rattle.abstract_steps_single_runs.proofs.BlockEdges.{edge_leads}
 use Rattle.abstract_steps_covered.proofs.MapPairs.{admitted_in}
@@ -84,7 +84,7 @@ module _ {I : Type 0} {l : LatticeOf I} {n : IntegersOf I} {stands : I → ℤ �
     (leaves : (number : ℕ) (row : List (Cell I)) → is_own_row l n list flow.bases.items flow.width row ≡ true → through l n flow list number row ≡ edge_end l n flow (edge_at flow.edges.items number).from number row)
     (owns : (block number : ℕ) (row x : List (Cell I)) → is_own_row l n list flow.bases.items flow.width row ≡ true → edge_end l n flow block number row ≡ Some x → is_own_row l n list flow.bases.items flow.width x ≡ true)
     (start_own : is_own_row l n list flow.bases.items flow.width (start_of l n flow list) ≡ true)
-    (structs : HasStructs flow) (texts : SpellsOverCharacters flow) (objects : HasObjects flow) (u : UnitView) (typed : HasTypedRuns flow u) (rights : HasRightOperands flow u) (unstuck : IsNeverStuck flow u) (single : IsSingleProgram flow u) where
+    (structs : HasStructs flow) (texts : SpellsOverCharacters flow) (objects : HasObjects flow) (switches : SwitchesAreApart flow) (u : UnitView) (typed : HasTypedRuns flow u) (rights : HasRightOperands flow u) (unstuck : IsNeverStuck flow u) (single : IsSingleProgram flow u) where
   abbrev f : FlowView
   f = flow_view flow
 
@@ -254,7 +254,7 @@ module _ {I : Type 0} {l : LatticeOf I} {n : IntegersOf I} {stands : I → ℤ �
             by_reply : (y : Reply Standing) → reply ≡ y → Outcome y
             by_reply (stops why w) r = absurd (defined w (r ∙ ap (λ z. stops z w) (way_stuck f (begun g.s) it.operation is why w r)))
             by_reply (goes t w) r =
-                let told = (laws.ways p (ways_apart flow limits good single.switches) tests_sound tests_told good g.passed.before.naming row (begun g.s) it last_here is reached g.passed.before.tells defined).goes_on t w r in
+                let told = (laws.ways p (ways_apart flow limits good switches) tests_sound tests_told good g.passed.before.naming row (begun g.s) it last_here is reached g.passed.before.tells defined).goes_on t w r in
                 let sound = (ends_sound good g.passed.before.naming row (begun g.s) it last_here off reached).goes_on t w r in
                 let way_of : (number : ℕ) (e : Edge) → slice_get flow.edges.items number ≡ Some e → e.from ≡ g.s.block → FitsWay it.operation e.kind = λ number e is_edge from. to_way it.operation is e.kind (edge_leads flow limits good number g.s.block g.s.at e it is_edge from in_list off) in
                 let one : sound.number ≡ told.number = elim (cases_eq sound.number told.number) [
@@ -387,6 +387,6 @@ module _ {I : Type 0} {l : LatticeOf I} {n : IntegersOf I} {stands : I → ℤ �
     admits_only_run place rule h = admitted_alone end.ended.rows end.ended.closed place rule (h (map end.ended.rows end.ended.closed) (inductive end.ended.rows end.ended.closed))
 
 pub maps_admit : {I : Type 0} {l : LatticeOf I} {n : IntegersOf I} {stands : I → ℤ → Type 0} → OrderLaws l → (flow : Flow) (list : List ℤ) (limits : Limits) → MapsAdmitOnlyRun l n stands flow list limits
-maps_admit {l = l} {n = n} {stands = stands} o flow list limits s u typed rights unstuck single first begins behind tells =
-    admits_only_run o flow list limits s.good s.premises s.steps s.ends s.sound s.laws s.told s.leaves s.owns s.start s.structs s.texts s.objects u typed rights unstuck single first begins
+maps_admit {l = l} {n = n} {stands = stands} o flow list limits s switches u typed rights unstuck single first begins behind tells =
+    admits_only_run o flow list limits s.good s.premises s.steps s.ends s.sound s.laws s.told s.leaves s.owns s.start s.structs s.texts s.objects switches u typed rights unstuck single first begins
     (both l n flow stands (Some (start_of l n flow list)) first behind (record { row = start_of l n flow list; is = refl; tells = tells }))

@@ -65,15 +65,18 @@ pub record SwitchesAreApart (flow : Flow) : Type 0 where
   pub cases : (j k : ℕ) (d e : Edge) (a b : CaseTest) → slice_get flow.edges.items j ≡ Some d → slice_get flow.edges.items k ≡ Some e → d.from ≡ e.from → (k ≡ j → ⊥) → d.kind ≡ kind.Case a → e.kind ≡ kind.Case b → a.value ≡ b.value → ⊥
   pub others : (j k : ℕ) (d e : Edge) (a : CaseTest) (values : _) → slice_get flow.edges.items j ≡ Some d → slice_get flow.edges.items k ≡ Some e → d.from ≡ e.from → d.kind ≡ kind.Case a → e.kind ≡ kind.Other values → has_label values.items a.value ≡ true
 
+-- each access in the run under no numbers of the outside is of the kind of what lies there
+abbrev pub HasTypedAccesses : Flow → UnitView → Type 0
+HasTypedAccesses flow u = (count : ℕ) (s : Standing) (found : List Violation) (i : Instruction) → flow_steps (flow_view flow) count (flow_begin u (flow_view flow) []) ≡ running s found → slice_get (instructions_of flow s.block) s.at ≡ Some i → IsTypedStep flow i.operation s
+
 -- what the laws suppose of a program, and of its run under no numbers of the outside
 pub record IsSingleProgram (flow : Flow) (u : UnitView) : Type 0 where
   pub plain : IsPlainProgram flow
   pub parameters : flow.parameters.items ≡ []
-  pub switches : SwitchesAreApart flow
   pub calls : (o : Operation) → IsDoneIn flow o → IsPlainOperation o
   -- no edge enters a block from that block or a later one
   pub headless : (b : ℕ) → is_head_at flow.blocks.items b ≡ false
-  pub steps : (count : ℕ) (s : Standing) (found : List Violation) (i : Instruction) → flow_steps (flow_view flow) count (flow_begin u (flow_view flow) []) ≡ running s found → slice_get (instructions_of flow s.block) s.at ≡ Some i → IsTypedStep flow i.operation s
+  pub steps : HasTypedAccesses flow u
 
 -- right operands are of the operators' types in this run
 abbrev pub HasRightOperands : Flow → UnitView → Type 0
@@ -135,5 +138,5 @@ module _ {I : Type 0} (l : LatticeOf I) (n : IntegersOf I) (stands : I → ℤ �
 
   -- where the row of the entry stands for the state in which the run begins and tells it, and operands are of their types
   abbrev pub MapsAdmitOnlyRun : Type 0
-  MapsAdmitOnlyRun = HasLaws → (u : UnitView) → HasTypedRuns flow u → HasRightOperands flow u → IsNeverStuck flow u → IsSingleProgram flow u → (first : Standing) → flow_begin u (flow_view flow) [] ≡ running first []
+  MapsAdmitOnlyRun = HasLaws → SwitchesAreApart flow → (u : UnitView) → HasTypedRuns flow u → HasRightOperands flow u → IsNeverStuck flow u → IsSingleProgram flow u → (first : Standing) → flow_begin u (flow_view flow) [] ≡ running first []
       → StandsBehind l n stands flow (Some (start_of l n flow list)) first → TellsState l n flow (start_of l n flow list) (state_of first) → AdmitOnlyRun l n flow list u

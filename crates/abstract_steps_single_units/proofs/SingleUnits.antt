@@ -3,6 +3,8 @@ use Rattle.std.proofs.Common.{◌≡◌, ℕ, Option, Some, None, List, [], subs
 use Rattle.std.specs.Prelude.{ℤ}
 use Rattle.std.specs.List.{Contains}
 use Rattle.cc_base.specs.declared.diagnostics.Diag.{Diag}
+use Rattle.cc_base.specs.declared.diagnostics.Place.{Place}
+use Rattle.cc_base.specs.declared.diagnostics.Rule.{Rule}
 use Rattle.cc_base.specs.declared.limit_table.Limits.{Limits}
 use Rattle.c_layout.specs.CheckedUnits.{UnitView}
 use Rattle.flow_program.specs.declared.programs.Flow.{Flow}
@@ -17,15 +19,17 @@ use Rattle.ref_machine.specs.SourceRuns.{Run}
 use Rattle.template_runs_units.specs.UnitRuns.{IsProgramOf, Agree}
 use Rattle.template_runs_looked.specs.LookedRuns.{PassesLooks, LookedUnitsAreNeverStuck, LookedRunsAreProgramRuns}
 use Rattle.flow_analysis.specs.Analyses.{IsAnalysis}
-use Rattle.abstract_steps_single_runs.specs.SingleRuns.{IsNeverStuck}
+use Rattle.abstract_steps_single_runs.specs.SingleRuns.{IsNeverStuck, IsViolatedAlone}
+use Rattle.abstract_steps_single_switches.specs.UnitSwitches.{UnitSwitchesAreApart}
 use Rattle.abstract_steps_single_analyses.proofs.SingleAnalyses.{finds_checked_run}
-use Rattle.abstract_steps_single_units.specs.SingleUnits.{HasEnd, FindsJustUnitRuns}
+use Rattle.template_runs_ends.specs.EndedRuns.{HasStopped, UnitsWithoutLoopsEnd}
+use Rattle.abstract_steps_single_units.specs.SingleUnits.{FindsJustUnitRuns}
 use Rattle.abstract_steps_single_units.proofs.EndedRuns.{one_cause, all_found}
 
 same_cause : (a b : Why) → Some a ≡ Some b → a ≡ b
 same_cause a b e = cc
 
-module _ (laws : LookedRunsAreProgramRuns) (never : LookedUnitsAreNeverStuck) (u : UnitView) (limits : Limits) (program : Flow) (o : IsProgramOf u limits program) (looks : PassesLooks u) (end : HasEnd u) where
+module _ (laws : LookedRunsAreProgramRuns) (never : LookedUnitsAreNeverStuck) (u : UnitView) (limits : Limits) (program : Flow) (o : IsProgramOf u limits program) (looks : PassesLooks u) (turns : ℕ) (end : HasStopped (Run u [] turns)) where
   abbrev f : FlowView
   f = flow_view program
 
@@ -33,47 +37,51 @@ module _ (laws : LookedRunsAreProgramRuns) (never : LookedUnitsAreNeverStuck) (u
   begin = flow_begin u f []
 
   count : ℕ
-  count = (laws u limits program o looks [] end.turns).0
+  count = (laws u limits program o looks [] turns).0
 
-  ended : source.why_of (Run u [] end.turns) ≡ Some end.why
+  ended : source.why_of (Run u [] turns) ≡ Some end.why
   ended = ap source.why_of end.is
 
-  agree : Agree (Run u [] end.turns) (flow_steps f count begin)
+  agree : Agree (Run u [] turns) (flow_steps f count begin)
   unfolding count
-  agree = (laws u limits program o looks [] end.turns).1
+  agree = (laws u limits program o looks [] turns).1
 
   defined : end.why ≡ Stuck → ⊥
-  defined e = never u looks [] end.turns end.world end.found end.steps (end.is ∙ ap (λ z. source.stopped z end.world end.found end.steps) e)
+  defined e = never u looks [] turns end.world end.found end.steps (end.is ∙ ap (λ z. source.stopped z end.world end.found end.steps) e)
 
   -- the run of the program has stopped there, for the same cause
-  record HasStopped (r : FlowRun) : Type 0 where
+  record ProgramHasStopped (r : FlowRun) : Type 0 where
     world : World
     found : List Violation
     is : r ≡ stopped end.why world found
 
-  stopped_by : (r : FlowRun) → flow.why_of r ≡ Some end.why → HasStopped r
+  stopped_by : (r : FlowRun) → flow.why_of r ≡ Some end.why → ProgramHasStopped r
   stopped_by (running s found) e = absurd (no_cause end.why e)
     where
       no_cause : (w : Why) → None ≡ Some w → ⊥
       no_cause w k = cc
   stopped_by (stopped why w found) e = record { world = w; found = found; is = ap (λ z. stopped z w found) (same_cause why end.why e) }
 
-  has_stopped : HasStopped (flow_steps f count begin)
+  has_stopped : ProgramHasStopped (flow_steps f count begin)
   has_stopped = stopped_by (flow_steps f count begin) (sym agree.why ∙ ended)
 
   never_stuck : IsNeverStuck program u
   never_stuck n w found e = defined (one_cause f begin count n end.why Stuck has_stopped.world w has_stopped.found found has_stopped.is e)
 
-  to_source : (n : ℕ) (v : Violation) → Contains (flow.found_in (flow_steps f n begin)) v → Contains (source.found_in (Run u [] end.turns)) v
+  to_source : (n : ℕ) (v : Violation) → Contains (flow.found_in (flow_steps f n begin)) v → Contains (source.found_in (Run u [] turns)) v
   to_source n v h = subst (λ z. Contains z v) (sym agree.found) (all_found f begin n count end.why has_stopped.world has_stopped.found v has_stopped.is h)
 
-  from_source : (v : Violation) → Contains (source.found_in (Run u [] end.turns)) v → Contains (flow.found_in (flow_steps f count begin)) v
-  from_source v h = subst (λ z. Contains z v) agree.found h
+-- what the unit's run violates within some turns is violated by that of the program
+from_source : LookedRunsAreProgramRuns → (u : UnitView) (limits : Limits) (program : Flow) → IsProgramOf u limits program → PassesLooks u → (turns : ℕ) (place : Place) (rule : Rule) → Contains (source.found_in (Run u [] turns)) (record { at = place; rule = rule }) → IsViolatedAlone program u place rule
+from_source laws u limits program o looks turns place rule h =
+    let followed = laws u limits program o looks [] turns in
+    record { count = followed.0; there = subst (λ z. Contains z (record { at = place; rule = rule })) (followed.1.found) h }
 
-pub finds_unit_run : LookedRunsAreProgramRuns → LookedUnitsAreNeverStuck → (program : Flow) (list : List ℤ) (found : List Diag) → IsAnalysis program list found → FindsJustUnitRuns program found
-finds_unit_run laws never program list found a u limits is o looks single end d =
-    let both = finds_checked_run program list found a u is (never_stuck laws never u limits program o looks end) single d in
+pub finds_unit_run : LookedRunsAreProgramRuns → LookedUnitsAreNeverStuck → UnitSwitchesAreApart → UnitsWithoutLoopsEnd → (program : Flow) (list : List ℤ) (found : List Diag) → IsAnalysis program list found → FindsJustUnitRuns program found
+finds_unit_run laws never apart ends program list found a u limits is o looks single d =
+    let stop = ends u limits program o single.headless [] in
+    let both = finds_checked_run program list found a u is (apart u limits program o) (never_stuck laws never u limits program o looks stop.0 stop.1) single d in
     let v : Violation = record { at = d.place; rule = d.rule } in (
-      λ there. let h = both.0 there in to_source laws never u limits program o looks end h.count v h.there,
-      λ there. both.1 (record { count = count laws never u limits program o looks end; there = from_source laws never u limits program o looks end v there }),
+      λ there. let h = both.0 there in record { turns = stop.0; there = to_source laws never u limits program o looks stop.0 stop.1 h.count v h.there },
+      λ h. both.1 (from_source laws u limits program o looks h.turns d.place d.rule h.there),
     )

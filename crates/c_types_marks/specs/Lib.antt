@@ -1,5 +1,6 @@
 pub mod ModelTypes
 pub mod MadeTerms
+pub mod ProperStores
 pub mod KnownTypes
 pub mod UnitParts
 pub mod MadeLaws

@@ -175,6 +175,8 @@ module _ (m : Model) where
       locals = λ i x is. no_item x is;
       statics = λ i x is. no_item x is;
       typedefs = λ i x is. no_item x is;
+      literals = λ i x is. no_item x is;
+      stores = λ i x is. no_item x is;
       results = λ i x is. no_item x is;
       parameters = λ i x is. no_item x is;
       fields = λ i x is. no_item x is;
