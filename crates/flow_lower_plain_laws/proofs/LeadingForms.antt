@@ -7,9 +7,9 @@ use Rattle.c_layout.specs.CheckedTrees.{TermTree, StatementTree, StatementTrees}
 use Rattle.c_layout.specs.declared.checked_tree.checked_statements.CaseLabel.{CaseLabel}
 use Rattle.cc_base.specs.declared.diagnostics.Place.{Place}
 use Rattle.flow_lower_statements.specs.ScopeJumps.{left, all_entered, all_left}
-use Rattle.flow_lower_statements.specs.PlainStatements.{all_statements, in_scope, block}
+use Rattle.flow_lower_statements.specs.PlainStatements.{all_statements, in_scope}
 use Rattle.flow_lower_statements.specs.Loops.{selection, two_way_selection, part}
-use Rattle.flow_lower_statements.specs.Switches.{no_dispatch, dispatch_at, begin_switch, dispatch, in_switch, switch}
+use Rattle.flow_lower_statements.specs.Switches.{no_dispatch, dispatch_at, begin_switch, in_switch, switch}
 use Rattle.flow_lower_statements.specs.Statements.{statement}
 use Rattle.flow_lower_tasks.specs.Pieces.{Mark}
 use Rattle.flow_lower_tasks.specs.Works as jobs
@@ -26,11 +26,11 @@ use Rattle.flow_lower_growth.proofs.GrowingStatements.{grows_dispatch_of}
 use Rattle.flow_lower_growth.proofs.GrowingWorks.{grows_parts}
 use Rattle.flow_lower_debts.specs.Marks.{one, labels_in, cases_in, defaults_in}
 use Rattle.template_runs_scopes.specs.Scopes.{switches_in}
-use Rattle.flow_lower_plain_laws.specs.LeadingPieces.{AreOfObjects}
-use Rattle.flow_lower_plain_laws.proofs.LeadingWorks.{Stands, HasOwn, Brings, switches_of, Goes, IsOn, Leading, lead_none, lead_unused, WillMark, makes_this, makes_work, made}
-use Rattle.flow_lower_plain_laws.proofs.LeadingTerms.{lead_term, lead_pointer}
-use Rattle.flow_lower_plain_laws.proofs.LeadingConditions.{lead_condition_works}
-use Rattle.flow_lower_plain_laws.proofs.LeadingStatements.{one_of, second_some, list, stands_in_two, stands_in_all, stands_nowhere, own_behind_case, own_behind_default, lead_leap, lead_forget, lead_start, lead_copied, lead_list, lead_returned, Comes, silent, comes_block, comes_if, comes_else, comes_labelled}
+use Rattle.flow_lower_plain_works.specs.LeadingPieces.{AreOfObjects}
+use Rattle.flow_lower_plain_works.proofs.LeadingWorks.{Stands, HasOwn, Brings, switches_of, Goes, IsOn, Leading, lead_none, lead_unused, WillMark, makes_this, makes_work, made}
+use Rattle.flow_lower_plain_works.proofs.LeadingTerms.{lead_term, lead_pointer}
+use Rattle.flow_lower_plain_works.proofs.LeadingConditions.{lead_condition_works}
+use Rattle.flow_lower_plain_laws.proofs.LeadingStatements.{list, stands_in_two, stands_in_all, stands_nowhere, own_behind_case, own_behind_default, lead_leap, lead_forget, lead_start, lead_copied, lead_list, lead_returned, Comes, silent, comes_block, comes_if, comes_else, comes_labelled}
 use Rattle.flow_lower_plain_laws.proofs.LeadingSwitches.{own_dispatch, begins_dispatches, own_there, comes_switch}
 
 -- the switches that were begun have the labels that all of them have at last

@@ -1,5 +1,5 @@
 -- The works of plain statements lead on.
-use Rattle.std.proofs.Common.{◌≡◌, ◌≤◌, ◌<◌, ◌⊎◌, inl, inr, ℕ, suc, ◌+◌, ◌==◌, Bool, true, false, cond, nat_le, nat_lt, ◌||◌, List, [], ◌∷◌, length, get_or, Option, Some, None, refl, arith, ap, sym, subst, ◌∙◌}
+use Rattle.std.proofs.Common.{◌≡◌, ◌≤◌, ◌<◌, ◌⊎◌, inl, inr, ℕ, ◌+◌, ◌==◌, Bool, true, false, cond, nat_le, nat_lt, ◌||◌, List, [], ◌∷◌, Option, Some, None, refl, arith, ap, sym, subst, ◌∙◌}
 use Rattle.std.proofs.lemmas.Bool.{leb-true, leb-false}
 use Rattle.cc_base.specs.declared.diagnostics.Place.{Place}
 use Rattle.c_layout.specs.CheckedTrees as tree
@@ -9,7 +9,7 @@ use Rattle.flow_lower_statements.specs.PlainStatements.{stored, all_stored, all_
 use Rattle.flow_lower_statements.specs.Loops.{selection, two_way_selection, part}
 use Rattle.flow_lower_statements.specs.Jumps.{stopped, exit, given, giving, end_behind}
 use Rattle.flow_lower_tasks.specs.Works as jobs
-use Rattle.flow_lower_tasks.specs.Plans.{Plan, with_work, with_labels, with_scope}
+use Rattle.flow_lower_tasks.specs.Plans.{Plan, with_work, with_scope}
 use Rattle.flow_lower_tasks.specs.Scopes.{ScopeView}
 use Rattle.flow_lower_tasks.specs.Settings.{SettingView}
 use Rattle.flow_lower_tasks.specs.declared.template_builder.Dispatch.{Dispatch}
@@ -19,8 +19,8 @@ use Rattle.flow_lower_debts.specs.Marks.{labels_in, all_labels_in, cases_in, all
 use Rattle.flow_lower_plain.specs.PlainTerms.{is_plain_term, is_plain_place, is_plain_option}
 use Rattle.flow_lower_plain.specs.PlainStatements.{is_plain_store, are_plain_stores, stands_or, stands_among, is_plain_statement, are_plain_statements}
 use Rattle.template_runs_scopes.specs.Scopes.{switches_in, all_switches_in}
-use Rattle.flow_lower_plain_laws.specs.SwitchLabels.{LabelsStand, AllLabelsStand}
-use Rattle.flow_lower_plain_laws.proofs.LeadingWorks.{both, Stands, HasOwn, Goes, goes_more, Leading, lead_more, lead_value, lead_unused, lead_do, lead_end, lead_mark, lead_condition, lead_labels, lead_scope, lead_statement, lead_or, works}
+use Rattle.flow_lower_plain_works.specs.SwitchLabels.{LabelsStand, AllLabelsStand}
+use Rattle.flow_lower_plain_works.proofs.LeadingWorks.{both, Stands, HasOwn, Goes, Leading, lead_more, lead_end, lead_mark, lead_condition, lead_labels, lead_scope, lead_statement, lead_or, works}
 
 -- ---- numbers
 

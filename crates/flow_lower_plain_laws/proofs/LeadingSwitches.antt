@@ -1,5 +1,5 @@
 -- The works of plain switches lead on: into the body, or behind it.
-use Rattle.std.proofs.Common.{◌≡◌, ◌≤◌, ◌<◌, ◌⊎◌, inl, inr, ℕ, zero, suc, ◌+◌, ◌-◌, ◌^◌, ℤ, Bool, true, false, cond, List, [], ◌∷◌, ◌++◌, map, length, get_or, Option, Some, None, refl, arith, ap, sym, subst, ◌∙◌, length-append}
+use Rattle.std.proofs.Common.{◌≡◌, ◌≤◌, ◌<◌, ◌⊎◌, inl, inr, ℕ, suc, ◌+◌, ◌-◌, ◌^◌, ℤ, Bool, true, false, cond, List, [], ◌∷◌, ◌++◌, map, length, get_or, Option, Some, None, refl, arith, ap, sym, subst, ◌∙◌, length-append}
 use Rattle.std.proofs.Math.Seq.{get_or-append_seam}
 use Rattle.cc_base.specs.declared.diagnostics.Place.{Place}
 use Rattle.c_layout.specs.CheckedTrees as tree
@@ -12,23 +12,20 @@ use Rattle.flow_lower_conditions.specs.declared.branch_tests.NamedObject.{NamedO
 use Rattle.flow_lower_statements.specs.ScopeJumps.{enters_between, leap}
 use Rattle.flow_lower_statements.specs.Switches.{no_dispatch, choice_at, mention_of, mention_if, switched_object, targeted, edge_target, case_landing, case_arms, case_exit, dispatch_exits, edge_block, edge_blocks, landing_of, other_landing, begin_switch, in_switch, switch}
 use Rattle.flow_lower_statements.specs.declared.switch_statements.CaseArm.{CaseArm}
-use Rattle.flow_lower_tasks.specs.Pieces.{NameView, ExitView, Mark}
+use Rattle.flow_lower_tasks.specs.Pieces.{ExitView, Mark}
 use Rattle.flow_lower_tasks.specs.Works as jobs
-use Rattle.flow_lower_tasks.specs.Works.{Job, behind}
+use Rattle.flow_lower_tasks.specs.Works.{behind}
 use Rattle.flow_lower_tasks.specs.Plans.{Plan, with_work, with_labels, with_dispatch, name_of_object}
 use Rattle.flow_lower_tasks.specs.Settings.{SettingView}
 use Rattle.flow_lower_tasks.specs.declared.template_builder.Dispatch.{Dispatch}
 use Rattle.flow_lower_tasks.specs.declared.pending_works.Landing.{Landing}
 use Rattle.flow_lower_tasks.specs.declared.pending_works.Surroundings.{Surroundings}
 use Rattle.flow_lower_debts.specs.Marks.{labels_in, cases_in, defaults_in}
-use Rattle.flow_lower_plain.specs.PlainTerms.{is_plain_term}
-use Rattle.flow_lower_plain.specs.PlainStatements.{is_plain_statement}
 use Rattle.template_runs_scopes.specs.Scopes.{switches_in}
-use Rattle.template_runs_scopes.specs.SuitedStatements.{HasCases}
-use Rattle.flow_lower_plain_laws.specs.LeadingPieces.{AllTo, AreOfObjects}
-use Rattle.flow_lower_plain_laws.specs.SwitchLabels.{HasDefault, LabelsStand}
-use Rattle.flow_lower_plain_laws.proofs.LeadingWorks.{both, all_more, Stands, HasOwn, Goes, Leading, lead_more, lead_value, lead_end, lead_mark, lead_labels, lead_name, lead_none, lead_statement}
-use Rattle.flow_lower_plain_laws.proofs.LeadingTerms.{object_named}
+use Rattle.flow_lower_plain_works.specs.LeadingPieces.{AllTo, AreOfObjects}
+use Rattle.flow_lower_plain_works.specs.SwitchLabels.{HasDefault, LabelsStand}
+use Rattle.flow_lower_plain_works.proofs.LeadingWorks.{both, all_more, Stands, Goes, Leading, lead_more, lead_value, lead_end, lead_mark, lead_labels, lead_name, lead_none, lead_statement}
+use Rattle.flow_lower_plain_works.proofs.LeadingTerms.{object_named}
 use Rattle.flow_lower_plain_laws.proofs.LeadingStatements.{lead_leap, Comes}
 
 -- ---- blocks of edges

@@ -1,17 +1,17 @@
 -- Templates of plain functions lead on.
-use Rattle.std.proofs.Common.{◌≡◌, ◌≤◌, ◌<◌, ◌⊎◌, inl, inr, ℕ, ◌+◌, ◌-◌, ◌^◌, Bool, true, false, cond, List, [], ◌∷◌, ◌++◌, length, refl, arith, ap, sym, subst, ◌∙◌}
+use Rattle.std.proofs.Common.{◌≡◌, ◌≤◌, ◌⊎◌, inl, inr, ℕ, ◌+◌, ◌-◌, ◌^◌, Bool, true, false, cond, List, [], ◌∷◌, ◌++◌, length, refl, arith, sym, subst, ◌∙◌}
 use Rattle.cc_base.specs.declared.diagnostics.Place.{Place}
 use Rattle.c_layout.specs.Types.{Ty}
 use Rattle.c_layout.specs.CheckedTrees.{statement_trees}
 use Rattle.c_layout.specs.CheckedUnits.{FunctionView}
 use Rattle.c_layout.specs.StructViews.{StructView}
-use Rattle.flow_lower_tasks.specs.Pieces.{PieceView, Mark, TemplateView}
+use Rattle.flow_lower_tasks.specs.Pieces.{PieceView, TemplateView}
 use Rattle.flow_lower_tasks.specs.Works as jobs
 use Rattle.flow_lower_tasks.specs.Works.{Job}
-use Rattle.flow_lower_tasks.specs.Plans.{Plan, with_work, with_labels}
+use Rattle.flow_lower_tasks.specs.Plans.{Plan}
 use Rattle.flow_lower_tasks.specs.Settings.{SettingView}
 use Rattle.flow_lower_tasks.specs.declared.template_builder.Dispatch.{Dispatch}
-use Rattle.flow_lower_statements.specs.ScopeJumps.{all_entered, all_left}
+use Rattle.flow_lower_statements.specs.ScopeJumps.{all_entered}
 use Rattle.flow_lower_functions.specs.Functions.{arguments, argument, result_entered, parameters, outcome, outermost, body, entry, called, function, setting_of, no_plan, IsTemplate}
 use Rattle.flow_lower_functions.specs.Turns.{planless}
 use Rattle.flow_lower_works.specs.Derivations.{parts, Makes, nothing, piece, work}
@@ -21,10 +21,10 @@ use Rattle.flow_lower_debts.specs.Marks.{IsLabelled}
 use Rattle.flow_lower_plain.specs.PlainStatements.{are_plain_statements}
 use Rattle.flow_lower_plain.specs.PlainUnits.{no_label}
 use Rattle.template_runs_scopes.specs.Scopes.{all_switches_in}
-use Rattle.flow_lower_plain_laws.specs.LeadingPieces.{AreOfObjects, Marked, LeadOn, NoLabel, LeadsOn}
-use Rattle.flow_lower_plain_laws.specs.SwitchLabels.{AllLabelsStand}
-use Rattle.flow_lower_plain_laws.proofs.LeadingWorks.{HasOwn, Brings, Brought, switches_of, all_switches_of, AreOn, leading_more, Leading, lead_end, lead_mark, lead_labels, lead_none, lead_do_if_used, works}
-use Rattle.flow_lower_plain_laws.proofs.LeadingStatements.{list, lead_entered, lead_left, GoesAll, lead_statements, Comes}
+use Rattle.flow_lower_plain_works.specs.LeadingPieces.{AreOfObjects, Marked, LeadOn, NoLabel, LeadsOn}
+use Rattle.flow_lower_plain_works.specs.SwitchLabels.{AllLabelsStand}
+use Rattle.flow_lower_plain_works.proofs.LeadingWorks.{HasOwn, Brings, Brought, switches_of, all_switches_of, AreOn, leading_more, Leading, lead_end, lead_mark, lead_labels, lead_none, lead_do_if_used, works}
+use Rattle.flow_lower_plain_laws.proofs.LeadingStatements.{list, lead_entered, lead_left, GoesAll, lead_statements}
 use Rattle.flow_lower_plain_laws.proofs.LeadingForms.{Within, within_before, comes_parts, makes_parts}
 
 -- ---- pieces

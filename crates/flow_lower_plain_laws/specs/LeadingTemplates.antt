@@ -8,8 +8,8 @@ use Rattle.flow_lower_functions.specs.Functions.{setting_of, IsTemplate}
 use Rattle.flow_lower_debts.specs.Marks.{IsLabelled}
 use Rattle.flow_lower_plain.specs.PlainStatements.{are_plain_statements}
 use Rattle.flow_lower_plain.specs.PlainUnits.{no_label}
-use Rattle.flow_lower_plain_laws.specs.LeadingPieces.{LeadsOn}
-use Rattle.flow_lower_plain_laws.specs.SwitchLabels.{AllLabelsStand}
+use Rattle.flow_lower_plain_works.specs.LeadingPieces.{LeadsOn}
+use Rattle.flow_lower_plain_works.specs.SwitchLabels.{AllLabelsStand}
 
 -- in the template of a function whose statements are plain, each of whose labels stands once and the labels of whose switches
 -- stand in their bodies, each edge leads to a label that stands later

@@ -1,3 +1,1 @@
-pub mod LeadingPieces
-pub mod SwitchLabels
 pub mod LeadingTemplates

@@ -1,8 +1,7 @@
 -- The program of a plain unit leads on while it is opened: each of its edges leads to a later block, or to a label that a copy is
 -- still to mark.
-use Rattle.std.proofs.Common.{◌≡◌, ◌≤◌, ◌<◌, ◌⊎◌, inl, inr, ℕ, zero, suc, ◌+◌, ◌-◌, ◌^◌, ◌==◌, Bool, true, false, cond, List, [], ◌∷◌, ◌++◌, length, map, replicate, get_or, Option, Some, None, slice_get, refl, arith, ap, sym, subst, ◌∙◌, length-append}
+use Rattle.std.proofs.Common.{◌≡◌, ◌≤◌, ◌<◌, ◌⊎◌, inl, inr, ℕ, zero, suc, ◌+◌, ◌-◌, ◌^◌, ◌==◌, Bool, true, false, cond, List, [], ◌∷◌, ◌++◌, length, replicate, get_or, Option, Some, None, slice_get, refl, arith, ap, sym, subst, ◌∙◌, length-append}
 use Rattle.std.specs.List.{slice_set}
-use Rattle.std.specs.Option.{option_map}
 use Rattle.std.proofs.lemmas.Bool.{eqb-true, eq-eqb}
 use Rattle.std.proofs.lemmas.List.{get_or-set_same, get_or-set_other, length-set}
 use Rattle.cc_base.specs.declared.diagnostics.Place.{Place}
@@ -21,8 +20,8 @@ use Rattle.flow_lower.specs.Openings as o
 use Rattle.flow_lower.specs.Openings.{Made, CopyView, Placed, Opened, placed, is_none}
 use Rattle.flow_lower_plain.specs.SmallObjects.{has_small_objects}
 use Rattle.flow_lower_plain.specs.PlainUnits.{is_plain_function, is_plain_if_there, is_plain_from}
-use Rattle.flow_lower_plain_laws.specs.LeadingPieces.{is_plain_act, AreOfObjects, AllTo, Marks, Marked, LeadOn, NoLabel, LeadsOn}
-use Rattle.flow_lower_plain_laws.proofs.LeadingWorks.{both}
+use Rattle.flow_lower_plain_works.specs.LeadingPieces.{is_plain_act, AreOfObjects, AllTo, Marks, Marked, LeadOn, NoLabel, LeadsOn}
+use Rattle.flow_lower_plain_works.proofs.LeadingWorks.{both}
 use Rattle.flow_lower_plain_programs.specs.PlainBases.{ArePlainBases}
 use Rattle.flow_lower_plain_programs.proofs.NamedBases.{HasSmall, plain_named, name_at_object}
 

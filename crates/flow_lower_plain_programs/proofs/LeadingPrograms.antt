@@ -1,8 +1,7 @@
 -- In the program of a plain unit each edge leads to a later block, no block is a head, and instructions and bases are plain.
-use Rattle.std.proofs.Common.{◌≡◌, ◌<◌, ◌⊎◌, inl, inr, ℕ, zero, suc, ◌+◌, Bool, true, false, cond, nat_le, List, [], ◌∷◌, get_or, refl, ap, sym, subst, ◌∙◌, arith}
+use Rattle.std.proofs.Common.{◌≡◌, ◌<◌, ◌⊎◌, inl, inr, ℕ, Bool, true, false, cond, nat_le, List, [], ◌∷◌, get_or, refl, ap, sym, subst, ◌∙◌, arith}
 use Rattle.std.proofs.lemmas.Bool.{leb-true}
 use Rattle.c_layout.specs.CheckedUnits.{UnitView}
-use Rattle.flow_lower_tasks.specs.Pieces.{TemplateView}
 use Rattle.flow_program_views.specs.ProgramViews.{BlockView, EdgeView}
 use Rattle.flow_lower.specs.Openings as o
 use Rattle.flow_lower.specs.Openings.{Opened}

@@ -1,5 +1,5 @@
 -- The bases that plain functions name are plain.
-use Rattle.std.proofs.Common.{◌≡◌, ℕ, zero, suc, ◌+◌, ◌-◌, ◌^◌, Bool, true, false, ◌&&◌, List, [], ◌∷◌, ◌++◌, length, get_or, Option, Some, None, slice_get, refl, ap, sym, subst, ◌∙◌, arith}
+use Rattle.std.proofs.Common.{◌≡◌, ℕ, zero, suc, ◌+◌, ◌-◌, ◌^◌, Bool, true, ◌&&◌, List, [], ◌∷◌, ◌++◌, length, get_or, Option, Some, None, slice_get, refl, ap, sym, ◌∙◌, arith}
 use Rattle.std.specs.List.{list_all}
 use Rattle.c_layout.specs.Types.{Ty}
 use Rattle.c_layout.specs.CheckedUnits.{FunctionView, LocalView, StaticView, LiteralView, UnitView}
@@ -12,8 +12,8 @@ use Rattle.flow_lower_functions.specs.Functions.{type_or, local_type}
 use Rattle.flow_lower_tasks.specs.Pieces.{NameView, Local, Outcome, Static, Literal, Allocation}
 use Rattle.flow_lower.specs.BaseTables.{TableView, known, object_added, local_or, local, literal_made, literal_or, object_made, object_or, with_shared, brought, with_all, with_pointed, base}
 use Rattle.flow_lower_plain.specs.SmallObjects.{is_small_within, is_small, is_small_local, is_small_object, is_small_literal, has_small_objects}
-use Rattle.flow_lower_plain_laws.specs.LeadingPieces.{is_of_object, AreOfObjects}
-use Rattle.flow_lower_plain_laws.proofs.LeadingWorks.{both}
+use Rattle.flow_lower_plain_works.specs.LeadingPieces.{is_of_object, AreOfObjects}
+use Rattle.flow_lower_plain_works.proofs.LeadingWorks.{both}
 use Rattle.flow_lower_plain_programs.specs.PlainBases.{IsPlainBase, ArePlainBases}
 use Rattle.flow_lower_plain_programs.proofs.SmallLeaves.{alone_leaves}
 

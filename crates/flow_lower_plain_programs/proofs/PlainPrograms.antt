@@ -1,5 +1,6 @@
 -- A plain unit is lowered to a plain program.
-use Rattle.std.proofs.Common.{◌≡◌, ◌<◌, ℕ, zero, suc, ◌==◌, Bool, true, false, ◌&&◌, List, [], ◌∷◌, map, length, Option, Some, None, slice_get, refl, ap, sym, subst, ◌∙◌}
+use Rattle.std.proofs.Common.{◌≡◌, ◌<◌, ℕ, zero, suc, ◌==◌, true, false, ◌&&◌, List, [], ◌∷◌, map, length, Option, Some, None, slice_get, refl, ap, sym, subst, ◌∙◌}
+use Rattle.std.specs.List.{list_all}
 use Rattle.std.proofs.lemmas.Bool.{and_parts, eqb-true}
 use Rattle.cc_base.specs.declared.limit_table.Limits.{Limits}
 use Rattle.c_layout.specs.CheckedTrees.{statement_trees}
@@ -14,11 +15,9 @@ use Rattle.flow_program.specs.declared.machine_instructions.Instruction.{Instruc
 use Rattle.flow_program.specs.declared.machine_instructions.Operation.{Operation}
 use Rattle.flow_program.specs.declared.machine_instructions.Operation.TheVariants as op
 use Rattle.flow_program.specs.declared.programs.Flow.{Flow}
-use Rattle.flow_program_views.specs.ProgramViews.{FlowView, block, edge, flow_view}
+use Rattle.flow_program_views.specs.ProgramViews.{FlowView, block, edge}
 use Rattle.flow_lower_counts.specs.Preparations.{IsPrepared}
-use Rattle.flow_lower_counts.specs.SettledTemplates.{settled}
 use Rattle.flow_lower_counts.specs.declared.function_counts.FunctionCounts.{FunctionCounts}
-use Rattle.flow_lower_debts.specs.Marks.{IsLabelled}
 use Rattle.flow_lower_marks.specs.MarkedLabels.{LabelsAreMarkedBelow}
 use Rattle.flow_lower_tasks.specs.Acts.{act, step}
 use Rattle.flow_lower_tasks.specs.Pieces.{TemplateView}
@@ -28,16 +27,15 @@ use Rattle.flow_lower_units.specs.RegularStatements.{are_regular_statements}
 use Rattle.flow_lower_units.specs.RegularUnits.{is_regular_function}
 use Rattle.flow_lower_units_laws.specs.LabelsOnce.{FunctionsAreLabelled}
 use Rattle.flow_lower_units_laws.specs.UnitParts.{FunctionsAreRegular}
-use Rattle.flow_lower.specs.Lowerings.{inputs, lowered}
-use Rattle.flow_lower.specs.Openings.{joined, template_at, whole, program}
+use Rattle.flow_lower.specs.Lowerings.{inputs}
+use Rattle.flow_lower.specs.Openings.{joined, whole, program}
 use Rattle.flow_lower_plain.specs.PlainTerms.{is_plain_library}
-use Rattle.flow_lower_plain.specs.SmallObjects.{has_small_objects}
+use Rattle.flow_lower_plain.specs.SmallObjects.{is_small, is_small_local, has_small_objects}
 use Rattle.flow_lower_plain.specs.PlainStatements.{are_plain_statements}
 use Rattle.flow_lower_plain.specs.PlainUnits.{no_label, is_plain_function, is_plain_from, takes_nothing, is_plain_unit}
-use Rattle.flow_lower_plain_laws.specs.LeadingPieces.{is_plain_act}
+use Rattle.flow_lower_plain_works.specs.LeadingPieces.{is_plain_act}
 use Rattle.flow_lower_plain_laws.specs.LeadingTemplates.{TemplatesLeadOn}
 use Rattle.abstract_steps_system.specs.FlowMachines.{is_head_at}
-use Rattle.abstract_steps_covered.specs.SoundEnds.{IsDoneIn}
 use Rattle.abstract_steps_single.specs.SingleLaws.{IsPlainFunction}
 use Rattle.abstract_steps_single_runs.specs.SingleRuns.{IsPlainOperation}
 use Rattle.rule_checks.specs.AdmittedRules.{instructions_in}
@@ -154,7 +152,7 @@ are_templates laws u limits flow o ts table prepared g depth f t is_f is_t plain
     subst (IsPlainTemplate u depth) (sym k.settles) (record { leads = settled_leads k.table k.template once (is_plain_from u depth) leads; room = settled_below k.table k.template once })
   where
     statements : (f : FunctionView) → is_plain_function u (is_plain_from u depth) f ≡ true → are_plain_statements (is_plain_from u depth) no_label false (statement_trees f.body) ≡ true
-    statements f e = (and_parts _ _ e).1
+    statements f e = (and_parts (list_all (is_small_local u.structs) f.locals && is_small u.structs f.returns) (are_plain_statements (is_plain_from u depth) no_label false (statement_trees f.body)) e).1
 
 -- ---- programs
 
@@ -168,7 +166,7 @@ takes_none (Some g) f is e = ap (λ (h : FunctionView). h.parameters) (sym (same
 pub plain_flow : Laws → (u : UnitView) (limits : Limits) (flow : Flow) → IsProgramOf u limits flow → is_plain_unit u ≡ true → IsPlainFlow flow
 plain_flow laws u limits flow o plain =
     let is = o.is in
-    let first = and_parts _ _ plain in
+    let first = and_parts (takes_nothing (slice_get u.functions u.entry)) (has_small_objects u && is_plain_from u (length u.functions) u.entry) plain in
     let rest = and_parts (has_small_objects u) (is_plain_from u (length u.functions) u.entry) first.1 in
     let templates = are_templates laws u limits flow o is.templates is.is_counted.table is.is_counted.is_prepared in
     let p = program u is.templates is.entry.at in

@@ -1,14 +1,13 @@
 -- What leads on does so when it is settled, and a settled template marks no label beyond those that it has.
-use Rattle.std.proofs.Common.{◌≡◌, ◌≤◌, ◌<◌, ◌⊎◌, inl, inr, ℕ, ◌+◌, ◌-◌, ◌==◌, Bool, true, false, cond, List, [], ◌∷◌, length, map, replicate, Option, Some, None, refl, arith, ap, sym, subst, ◌∙◌}
+use Rattle.std.proofs.Common.{◌≡◌, ◌≤◌, ◌<◌, ◌⊎◌, inl, inr, ℕ, ◌+◌, ◌-◌, ◌==◌, Bool, true, false, cond, List, [], ◌∷◌, length, Option, Some, refl, arith, ap, sym, subst, ◌∙◌}
 use Rattle.std.proofs.lemmas.Bool.{eq-eqb, eqb-true}
-use Rattle.std.proofs.lemmas.List.{length-replicate}
 use Rattle.flow_lower_tasks.specs.Pieces.{ExitView, PieceView, Do, DoIfUsed, End, Mark, Call, TemplateView}
 use Rattle.flow_lower_counts.specs.declared.function_counts.FunctionCounts.{FunctionCounts}
 use Rattle.flow_lower_counts.specs.SettledTemplates.{NamesView, is_silent, with_begun, with_label, with_other, with_piece, with_pieces, no_names, renamed, renamed_exits, settled}
 use Rattle.template_runs.specs.TemplateExits.{behind_mark}
 use Rattle.template_runs_settled.specs.SettledRuns.{LabelsStandOnce}
 use Rattle.template_runs_settled.proofs.SettledPieces.{from, Once, once_next, Leads, ahead, here, leads, own, all_once, settled_from}
-use Rattle.flow_lower_plain_laws.specs.LeadingPieces.{AllTo, Marked, LeadOn, NoLabel, LeadsOn}
+use Rattle.flow_lower_plain_works.specs.LeadingPieces.{AllTo, Marked, LeadOn, NoLabel, LeadsOn}
 
 -- ---- marks
 

@@ -1,13 +1,13 @@
 -- A small type has no folded leaf.
-use Rattle.std.proofs.Common.{◌≡◌, ℕ, zero, suc, ◌+◌, ◌*◌, Bool, true, false, ◌&&◌, List, [], ◌∷◌, ◌++◌, length, refl, arith, ap, sym, subst, ◌∙◌}
+use Rattle.std.proofs.Common.{◌≡◌, ℕ, zero, suc, ◌+◌, Bool, true, List, [], ◌∷◌, ◌++◌, length, refl, ap, sym, subst, ◌∙◌}
 use Rattle.std.specs.Prelude.{if◌then◌else◌}
 use Rattle.c_layout.specs.Types.{Ty, Int, Pointer, Array, Struct, Void}
 use Rattle.c_layout.specs.StructViews.{FieldView, StructView, struct_at}
 use Rattle.c_layout.specs.Layout.{size_of_type}
-use Rattle.c_layout.specs.Leaves.{is_short, short_count, behind_short, behind_all, repeated, of_fields, folded_unit, folded_leaves, leaves_of}
+use Rattle.c_layout.specs.Leaves.{short_count, behind_short, behind_all, repeated, of_fields, folded_unit, folded_leaves, leaves_of}
 use Rattle.c_layout.specs.declared.leaf_lists.Leaf.{Leaf}
 use Rattle.flow_lower_plain.specs.SmallObjects.{are_short, are_small, is_small_element, is_small_within, is_small}
-use Rattle.flow_lower_plain_laws.proofs.LeadingWorks.{both}
+use Rattle.flow_lower_plain_works.proofs.LeadingWorks.{both}
 use Rattle.flow_lower_plain_programs.specs.PlainBases.{AreAlone}
 
 alone_append : (xs ys : List Leaf) → AreAlone xs → AreAlone ys → AreAlone (xs ++ ys)

@@ -7,7 +7,7 @@ use Rattle.c_layout.specs.CheckedTrees as tree
 use Rattle.c_layout.specs.CheckedTrees.{StatementTree, StatementTrees, statement_trees}
 use Rattle.c_layout.specs.CheckedUnits.{FunctionView, UnitView}
 use Rattle.c_layout.specs.StructViews.{StructView}
-use Rattle.flow_lower_debts.specs.Marks.{defaults_in, IsLabelled}
+use Rattle.flow_lower_debts.specs.Marks.{IsLabelled}
 use Rattle.flow_lower_functions.specs.Functions.{outcome, outermost, body, entry, called, function, setting_of, no_plan, IsTemplate}
 use Rattle.flow_lower_functions.specs.Turns.{planless}
 use Rattle.flow_lower_statements.specs.ScopeJumps.{left, all_entered, all_left}
@@ -29,7 +29,7 @@ use Rattle.template_runs_noted.proofs.CountedLabels.{default_counted}
 use Rattle.template_runs_noted.proofs.NotedChoices.{noted}
 use Rattle.template_runs_statements.proofs.Sequences.{statement_jobs, listed}
 use Rattle.template_runs_bodies.proofs.CoveredCases.{few_cases}
-use Rattle.flow_lower_plain_laws.specs.SwitchLabels.{HasDefault, LabelsStand, AllLabelsStand}
+use Rattle.flow_lower_plain_works.specs.SwitchLabels.{HasDefault, LabelsStand, AllLabelsStand}
 
 -- ---- labels
 

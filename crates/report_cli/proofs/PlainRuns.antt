@@ -8,13 +8,15 @@ use Rattle.c_layout.specs.CheckedUnits.{UnitView, unit_view}
 use Rattle.c_layout.specs.DeclarationTrees.{unit_tree}
 use Rattle.flow_program.specs.declared.programs.Flow.{Flow}
 use Rattle.syntax_rules.specs.StatementPlaces.{unit_places}
+use Rattle.lib_models_effects.specs.Worlds.{Violation}
 use Rattle.flow_analysis.specs.Analyses.{IsAnalysis}
 use Rattle.abstract_steps_sound_checked_starts.specs.CheckedStarts.{IsUnitOf}
 use Rattle.abstract_steps_single_runs.specs.SingleRuns.{HasTypedAccesses, IsSingleProgram}
-use Rattle.abstract_steps_single_units.specs.SingleUnits.{FindsJustUnitRuns}
+use Rattle.abstract_steps_single_units.specs.SingleUnits.{RunViolates, FindsJustUnitRuns}
 use Rattle.flow_lower_plain_programs.specs.PlainPrograms.{IsPlainFlow, PlainUnitsHavePlainPrograms}
 use Rattle.report_cli_units.specs.Judging.{IsTurned}
 use Rattle.report_cli.specs.DefinedRuns.{TypedUnitsPassLooks}
+use Rattle.report_cli.specs.FoundRuns.{IsViolatedBy}
 use Rattle.report_cli.specs.PlainRuns.{JudgedPairsAreViolated, ReportsHoldJustRuns}
 use Rattle.report_cli.proofs.FoundRuns.{program_of}
 
@@ -26,6 +28,10 @@ PlainUnitsAreTold = (flow : Flow) (list : List ℤ) (found : List Diag) → IsAn
 analysed_itself : (turns : Option ℕ) (flow analysed : Flow) → turns ≡ None → IsTurned turns flow analysed → analysed ≡ flow
 analysed_itself None flow analysed none is = is
 analysed_itself (Some turns) flow analysed none is = cc
+
+-- what the run under no numbers of the outside violates is violated by a run
+by_run : (u : UnitView) (v : Violation) → RunViolates u v → IsViolatedBy u v
+by_run u v h = record { draws = []; turns = h.turns; there = h.there }
 
 -- what a plain unit is lowered to, with its accesses
 single_program : (program : Flow) (u : UnitView) → IsPlainFlow program → HasTypedAccesses program u → IsSingleProgram program u
@@ -42,7 +48,7 @@ judged_pairs pass told lowered unit s j judged none plain d there =
     let looks = pass unit s judged.tree judged.checked judged.parsed judged.typed judged.looked judged.regular in
     elim (Contains-append_cases f.texts f.runs d (subst (λ ds. Contains ds d) f.both there)) [
       | inl text ↦ inl (f.by_texts.made d text)
-      | inr run ↦ inr (let h = (told judged.flow f.list f.runs own u standard_limits is_unit is_program looks single d).0 run in record { draws = []; turns = h.turns; there = h.there })
+      | inr run ↦ inr (by_run u (record { at = d.place; rule = d.rule }) ((told judged.flow f.list f.runs own u standard_limits is_unit is_program looks single d).0 run))
     ]
 
 pub reports_hold_just : JudgedPairsAreViolated → ReportsHoldJustRuns

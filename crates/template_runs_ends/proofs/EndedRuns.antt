@@ -1,5 +1,5 @@
 -- The run of a unit ends where the one over its templates does, which are bounded where its program has no loops.
-use Rattle.std.proofs.Common.{◌≡◌, ◌≤◌, ℕ, ℤ, List, [], refl, arith, ap, sym, subst, ◌∙◌}
+use Rattle.std.proofs.Common.{◌≤◌, ℕ, ℤ, List, [], refl, arith, ap, sym, subst, ◌∙◌}
 use Rattle.cc_base.specs.declared.limit_table.Limits.{Limits}
 use Rattle.c_layout.specs.CheckedUnits.{UnitView}
 use Rattle.flow_program.specs.declared.programs.Flow.{Flow}
@@ -21,7 +21,7 @@ use Rattle.template_runs_fit_units.proofs.FitPieces.{is_made}
 use Rattle.template_runs_units.specs.UnitRuns.{IsProgramOf}
 use Rattle.template_runs_units.proofs.UnitRuns.{Laws, of, plainly, all_follow, entry_follows}
 use Rattle.template_runs_ends.specs.BoundedTemplates.{HasBound, EdgesGoOn}
-use Rattle.template_runs_ends.specs.EndedRuns.{HasStopped, HasNoLoops, UnitsWithoutLoopsEnd}
+use Rattle.template_runs_ends.specs.EndedRuns.{HasStopped, HasNoLoops}
 use Rattle.template_runs_ends.proofs.StoppedTemplates.{HasEnded, Ends, run_ends}
 use Rattle.template_runs_ends.proofs.LaidBounds.{laid_bound}
 use Rattle.template_runs_ends.proofs.MadeBounds.{made_bound}

@@ -1,5 +1,5 @@
 -- The last pieces of others, and bounds of functions from those of the functions that they call.
-use Rattle.std.proofs.Common.{◌≡◌, ◌≤◌, ◌⊎◌, inl, inr, ℕ, zero, suc, ◌+◌, ◌==◌, Bool, true, false, cond, List, [], ◌∷◌, Option, Some, refl, arith, sym, subst}
+use Rattle.std.proofs.Common.{◌≡◌, ◌≤◌, ◌⊎◌, inl, inr, ℕ, zero, suc, ◌+◌, ◌==◌, Bool, true, false, cond, List, [], ◌∷◌, Some, refl, arith, sym, subst}
 use Rattle.flow_lower_tasks.specs.Pieces.{PieceView, Do, DoIfUsed, End, Mark, Call, TemplateView}
 use Rattle.template_runs.specs.TemplateExits.{behind_mark}
 use Rattle.template_runs_ends.specs.BoundedTemplates.{AreLast, GoOn, IsBounded, HasBound}

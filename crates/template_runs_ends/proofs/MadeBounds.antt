@@ -1,10 +1,10 @@
 -- Templates as they are made are bounded where the settled ones are.
-use Rattle.std.proofs.Common.{◌≡◌, ◌≤◌, ◌<◌, ◌⊎◌, inl, inr, ℕ, zero, suc, ◌+◌, Bool, true, false, cond, List, [], ◌∷◌, length, slice_get, Option, Some, None, refl, arith, ap, sym, subst, ◌∙◌}
+use Rattle.std.proofs.Common.{◌≡◌, ◌≤◌, ◌<◌, ◌⊎◌, inl, inr, ℕ, zero, suc, ◌+◌, Bool, true, false, cond, List, [], ◌∷◌, length, slice_get, Option, Some, refl, arith, ap, sym, subst, ◌∙◌}
 use Rattle.c_layout.specs.CheckedUnits.{UnitView}
 use Rattle.flow_lower_tasks.specs.Acts.{Step}
 use Rattle.flow_lower_tasks.specs.Pieces.{ExitView, PieceView, Do, DoIfUsed, End, Mark, Call, TemplateView}
 use Rattle.flow_lower_counts.specs.declared.function_counts.FunctionCounts.{FunctionCounts}
-use Rattle.flow_lower_counts.specs.SettledTemplates.{NamesView, is_silent, renamed, renamed_end, renamed_exits}
+use Rattle.flow_lower_counts.specs.SettledTemplates.{NamesView, is_silent, renamed, renamed_exits}
 use Rattle.flow_lower_counts.specs.Preparations.{Reaches, further, Calls, Counts, counts}
 use Rattle.template_runs.specs.TemplateExits.{behind_mark}
 use Rattle.template_runs_settled.specs.SettledRuns.{Settles}

@@ -5,7 +5,7 @@ use Rattle.flow_lower_tasks.specs.Acts.{Step}
 use Rattle.flow_lower_tasks.specs.Pieces.{NameView, ExitView, PieceView, Do, DoIfUsed, End, Mark, Call}
 use Rattle.flow_lower_tasks.specs.Works as jobs
 use Rattle.flow_lower_tasks.specs.Works.{Job}
-use Rattle.flow_lower_tasks.specs.Plans.{Plan, with_work, with_name, with_labels, with_scope, with_dispatch}
+use Rattle.flow_lower_tasks.specs.Plans.{Plan, with_work, with_name, with_labels, with_scope}
 use Rattle.flow_lower_tasks.specs.Settings.{SettingView}
 use Rattle.flow_lower_tasks.specs.declared.template_builder.Dispatch.{Dispatch}
 use Rattle.flow_lower_tasks.specs.declared.template_pieces.OwnCall.{OwnCall}
@@ -17,8 +17,8 @@ use Rattle.flow_lower_debts.specs.Marks.{labels_in, cases_in, defaults_in}
 use Rattle.flow_lower_plain.specs.PlainTerms.{is_plain_term, is_plain_place}
 use Rattle.flow_lower_plain.specs.PlainStatements.{is_plain_statement}
 use Rattle.template_runs_scopes.specs.Scopes.{switches_in}
-use Rattle.flow_lower_plain_laws.specs.LeadingPieces.{is_plain_act, is_of_object, AreOfObjects, AllTo, Marks, IsLeading, NoLabel}
-use Rattle.flow_lower_plain_laws.specs.SwitchLabels.{LabelsStand}
+use Rattle.flow_lower_plain_works.specs.LeadingPieces.{is_plain_act, is_of_object, AreOfObjects, AllTo, Marks, IsLeading, NoLabel}
+use Rattle.flow_lower_plain_works.specs.SwitchLabels.{LabelsStand}
 
 pub both : (a b : Bool) → (a && b) ≡ true → (a ≡ true) × (b ≡ true)
 both true b e = (refl, e)

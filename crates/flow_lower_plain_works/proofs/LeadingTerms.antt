@@ -1,5 +1,5 @@
 -- The works of plain terms lead on.
-use Rattle.std.proofs.Common.{◌≡◌, ◌⊎◌, inl, inr, ℕ, ◌+◌, Bool, true, false, cond, List, [], Option, refl}
+use Rattle.std.proofs.Common.{◌≡◌, inl, inr, ℕ, ◌+◌, Bool, true, false, List, Option, refl}
 use Rattle.cc_base.specs.declared.diagnostics.Place.{Place}
 use Rattle.cc_base.specs.declared.int_types.IntType.{IntType}
 use Rattle.c_layout.specs.Types.{Ty, Int, Pointer, Array, Struct, Void, same_kind}
@@ -23,9 +23,9 @@ use Rattle.flow_lower_expressions.specs.Branches.{logical, conditional}
 use Rattle.flow_lower_expressions.specs.Calls.{argued, library_call}
 use Rattle.flow_lower_expressions.specs.LvaluePointers.{address}
 use Rattle.flow_lower_expressions.specs.Values.{integer_act, moved_pointer, of_form, term}
-use Rattle.flow_lower_plain.specs.PlainTerms.{is_plain_library, is_plain_term, is_plain_form, are_plain_terms, is_plain_place, is_plain_designator}
-use Rattle.flow_lower_plain_laws.specs.LeadingPieces.{is_plain_act, is_of_object}
-use Rattle.flow_lower_plain_laws.proofs.LeadingWorks.{both, Leading, lead_value, lead_do, lead_end, lead_mark, lead_condition, lead_labels, lead_arm, lead_or, works}
+use Rattle.flow_lower_plain.specs.PlainTerms.{is_plain_library, is_plain_term, is_plain_form, are_plain_terms, is_plain_place}
+use Rattle.flow_lower_plain_works.specs.LeadingPieces.{is_plain_act, is_of_object}
+use Rattle.flow_lower_plain_works.proofs.LeadingWorks.{both, Leading, lead_value, lead_do, lead_end, lead_mark, lead_condition, lead_labels, lead_arm, lead_or, works}
 
 pub object_named : (o : ObjectRef) → is_of_object (name_of_object o) ≡ true
 object_named (ref.Static n) = refl

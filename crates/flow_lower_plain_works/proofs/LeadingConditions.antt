@@ -1,5 +1,5 @@
 -- The works of plain conditions lead on, to their targets.
-use Rattle.std.proofs.Common.{◌≡◌, ◌⊎◌, inl, inr, ℕ, ◌+◌, ℤ, Bool, true, false, cond, List, Option, Some, None, refl, ap, sym, subst, ◌∙◌}
+use Rattle.std.proofs.Common.{◌≡◌, inl, inr, ℕ, ◌+◌, ℤ, Bool, true, false, cond, List, Option, Some, None, refl, ap, sym, subst}
 use Rattle.cc_base.specs.declared.diagnostics.Place.{Place}
 use Rattle.cc_base.specs.declared.integer_operators.Rel.{Rel}
 use Rattle.cc_base.specs.declared.int_types.IntType.{IntType}
@@ -12,7 +12,7 @@ use Rattle.c_layout.specs.declared.syntax_tree.expressions.BinaryOp.{BinaryOp}
 use Rattle.c_layout.specs.declared.syntax_tree.expressions.BinaryOp.TheVariants.{Equal, NotEqual}
 use Rattle.c_layout.specs.declared.syntax_tree.expressions.LogicalOp.{LogicalOp}
 use Rattle.c_layout.specs.declared.syntax_tree.expressions.LogicalOp.TheVariants.{And, Or}
-use Rattle.flow_lower_conditions.specs.Conditions.{LineCallView, line_call_of, line_call_in_form, line_call_in, line_call, line_call_beside, read_test, compared_read, read_by_form, read_by, condition_of_form, condition, leaf_of, test_if, logical_condition}
+use Rattle.flow_lower_conditions.specs.Conditions.{LineCallView, line_call_in_form, line_call_in, line_call, line_call_beside, read_test, compared_read, read_by_form, read_by, condition_of_form, condition, leaf_of, test_if, logical_condition}
 use Rattle.flow_lower_conditions.specs.Tests.{named, constant_of, side_of, right_side, test_with, turned_object_test, turned_test, relation_test_of, named_or_assigned, compared_with_null, null_test, zero_test_of, own_test_of, operator_test, test_of_form, test_of}
 use Rattle.flow_lower_conditions.specs.declared.branch_tests.NamedObject.{NamedObject}
 use Rattle.flow_lower_expressions.specs.Calls.{reads_line}
@@ -27,8 +27,8 @@ use Rattle.flow_lower_tasks.specs.declared.template_builder.Dispatch.{Dispatch}
 use Rattle.flow_lower_tasks.specs.declared.term_kinds.OperatorMeaning.{OperatorMeaning}
 use Rattle.flow_lower_tasks.specs.declared.term_kinds.OperatorMeaning.TheVariants.{Number, Truth}
 use Rattle.flow_lower_plain.specs.PlainTerms.{is_plain_library, is_plain_term, is_plain_form}
-use Rattle.flow_lower_plain_laws.proofs.LeadingWorks.{both, Leading, lead_value, lead_end, lead_mark, lead_condition, lead_labels, lead_name}
-use Rattle.flow_lower_plain_laws.proofs.LeadingTerms.{object_named}
+use Rattle.flow_lower_plain_works.proofs.LeadingWorks.{both, Leading, lead_value, lead_end, lead_mark, lead_condition, lead_labels, lead_name}
+use Rattle.flow_lower_plain_works.proofs.LeadingTerms.{object_named}
 
 -- ---- no line is read
 

@@ -1,11 +1,11 @@
 -- The labels of switches stand in their bodies.
-use Rattle.std.specs.Prelude.{◌≤◌, ℕ, suc, ◌+◌, List, length, Option, Some, None}
+use Rattle.std.specs.Prelude.{◌≤◌, ℕ, suc, ◌+◌, length, Option, Some, None}
 use Rattle.c_layout.specs.CheckedTrees as tree
 use Rattle.c_layout.specs.CheckedTrees.{StatementTree, StatementTrees}
 use Rattle.flow_lower_debts.specs.Marks.{defaults_in}
 use Rattle.flow_lower_statements.specs.Switches.{choice_at}
 use Rattle.flow_lower_tasks.specs.Settings.{SettingView}
-use Rattle.template_runs_scopes.specs.Scopes.{switches_in, all_switches_in}
+use Rattle.template_runs_scopes.specs.Scopes.{switches_in}
 use Rattle.template_runs_scopes.specs.SuitedStatements.{HasCases}
 
 -- a default label that was noted stands there
