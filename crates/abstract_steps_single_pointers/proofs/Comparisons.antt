@@ -76,8 +76,8 @@ use Rattle.abstract_steps_single.proofs.Faults.{met_one}
 use Rattle.abstract_steps_single.proofs.Told.{if_some_told, pointer_told, result_told}
 use Rattle.abstract_steps_single.proofs.ValueSteps.{only_has, negated_truth, tells_truth, truth_put, tells_number, number_put}
 use Rattle.abstract_steps_single.proofs.Violated.{AreViolated, pointing, pointing_violated, never}
-use Rattle.abstract_steps_single_store.proofs.OneBase.{not_empty}
-use Rattle.abstract_steps_single_store.proofs.OneTouch.{one_range}
+use Rattle.abstract_steps_single_places.proofs.OneBase.{not_empty}
+use Rattle.abstract_steps_single_places.proofs.OneTouch.{one_range}
 use Rattle.abstract_steps_single_pointers.proofs.Objects.{same_base}
 use Rattle.abstract_steps_single_pointers.proofs.PointersTold.{rule_told}
 use Rattle.abstract_steps_single_pointers.proofs.SoleBases.{sole_count, sole_meets, sole_within, single_has, sole_apart, sole_none}

@@ -62,8 +62,8 @@ use Rattle.abstract_steps_single.proofs.Faults.{met_one, met_none}
 use Rattle.abstract_steps_single.proofs.NearTells.{near_one}
 use Rattle.abstract_steps_single.proofs.Told.{if_some_told, number_told, pointer_told}
 use Rattle.abstract_steps_single.proofs.Violated.{pointing_violated, never, one_there, behind_there}
-use Rattle.abstract_steps_single_store.proofs.OneBase.{not_empty}
-use Rattle.abstract_steps_single_store.proofs.OneTouch.{one_range}
+use Rattle.abstract_steps_single_places.proofs.OneBase.{not_empty}
+use Rattle.abstract_steps_single_places.proofs.OneTouch.{one_range}
 use Rattle.abstract_steps_single_pointers.proofs.Addresses.{live_tells}
 use Rattle.abstract_steps_single_pointers.proofs.PointersTold.{rule_told, pointer_given}
 

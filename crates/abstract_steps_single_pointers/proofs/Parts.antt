@@ -55,8 +55,8 @@ use Rattle.abstract_steps_single.proofs.Faults.{met_one, met_none}
 use Rattle.abstract_steps_single.proofs.NearTells.{near_one, near_none}
 use Rattle.abstract_steps_single.proofs.Told.{if_some_told, pointer_told}
 use Rattle.abstract_steps_single.proofs.Violated.{AreViolated, pointing, pointing_violated, never}
-use Rattle.abstract_steps_single_store.proofs.OneBase.{not_empty, live_is, none_live, none_freed}
-use Rattle.abstract_steps_single_store.proofs.OneTouch.{one_range}
+use Rattle.abstract_steps_single_places.proofs.OneBase.{not_empty, live_is, none_live, none_freed}
+use Rattle.abstract_steps_single_places.proofs.OneTouch.{one_range}
 use Rattle.abstract_steps_single_pointers.proofs.Addresses.{live_tells, one_is}
 use Rattle.abstract_steps_single_pointers.proofs.PointersTold.{rule_told, nothing_there, pointer_given}
 
