@@ -14,6 +14,8 @@ mod replay_rows;
 #[cfg(test)]
 mod rule_rows;
 #[cfg(test)]
+mod run_rows;
+#[cfg(test)]
 mod taint_rows;
 #[cfg(test)]
 mod text_rule_rows;
