@@ -43,6 +43,25 @@ fn objects(alloc: Global, letter: &str, count: u32, end: &str) -> Result<String,
     Ok(text)
 }
 
+/// A unit whose entry calls so many times a function with so many of a statement.
+fn calling(alloc: Global, statement: &str, count: u32, calls: u32) -> Result<String, Fail> {
+    let body = repeated(alloc, statement, count)?;
+    let called = repeated(alloc, "f();", calls)?;
+    let head = "static void f(void){int i=0;";
+    Ok(format!(in alloc; "{head}{body}}}int main(void){{{called}return 0;}}")?)
+}
+
+/// A unit with 60 arrays of 64 elements and so many loops.
+fn looping(alloc: Global, count: u32) -> Result<String, Fail> {
+    let mut text = String::from_str(alloc, "int main(void){")?;
+    for at in 0..60 {
+        write!(text, "int v{at}[64];")?;
+    }
+    let loops = repeated(alloc, "while(i<9)i++;", count)?;
+    write!(text, "int i=0;{loops}return 0;}}")?;
+    Ok(text)
+}
+
 /// Fails unless the unit is analysed and nothing is found.
 fn pass(rt: &impl Abort, alloc: Global, unit: &String) -> Result<(), Fail> {
     check(rt, alloc, unit.as_str(), 0, NONE)
@@ -107,4 +126,30 @@ fn temporaries(rt: HostRuntime) -> Result<(), Fail> {
     pass(&rt, alloc, &nested(alloc, "1+(", 63)?)?;
     let line = "a.c:1:5: limit: TooLarge temps 65/64\n";
     limit(&rt, alloc, &nested(alloc, "1+(", 64)?, line)
+}
+
+#[test]
+fn blocks(rt: HostRuntime) -> Result<(), Fail> {
+    let alloc = rt.alloc();
+    let line = "a.c:1:4234: limit: TooLarge blocks 12042/8192\n";
+    limit(
+        &rt,
+        alloc,
+        &calling(alloc, "while(i<9)i++;", 300, 20)?,
+        line,
+    )
+}
+
+#[test]
+fn instructions(rt: HostRuntime) -> Result<(), Fail> {
+    let alloc = rt.alloc();
+    let line = "a.c:1:20034: limit: TooLarge instructions 450183/262144\n";
+    limit(&rt, alloc, &calling(alloc, "i=0;", 5000, 30)?, line)
+}
+
+#[test]
+fn values_of_the_pool(rt: HostRuntime) -> Result<(), Fail> {
+    let alloc = rt.alloc();
+    let line = "a.c:1:5: limit: TooLarge pool 4630815/4194304\n";
+    limit(&rt, alloc, &looping(alloc, 600)?, line)
 }
