@@ -1,5 +1,5 @@
 # make                      the program: proved already where `rt ci` has run, else built by tools/build.py
-# make check                everything from nothing: proofs, must-fail edits, tests (`rt ci`)
+# make check                the whole gate: proofs, must-fail edits, tests (`rt ci`), but for what it has kept
 # make docs                 links, names and examples of README.md and docs/ (tools/check-docs.sh)
 # make install PREFIX=DIR   the program, its man page and the examples; DIR from the root
 # make clean                what was made: the program is made anew only where it is not there
