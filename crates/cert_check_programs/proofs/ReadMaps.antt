@@ -1,6 +1,6 @@
 -- What is read of a text, as it is told of a program that was looked at.
 use Rattle.std.specs.Prelude.{◌≡◌, true, List, Option, None}
-use Rattle.std.proofs.Common.{subst}
+use Rattle.std.proofs.Common.{subst, sym}
 use Rattle.cc_base.specs.DiagnosticOrder.{IsOrderedSet}
 use Rattle.flow_program.specs.declared.programs.Flow.{Flow}
 use Rattle.value_domain.specs.declared.row_cells.Cell.{Cell}
@@ -22,11 +22,12 @@ Rows = List (Option (List (Cell Interval)))
 
 -- what is told of the rows of a map that was read
 pub told_of : (flow : Flow) (text : Bytes) (rows : Rows) (told : Told) → IsVerdictOn flow text Yes → rows ≡ map_rows flow text → IsOrderedSet (admitted_pairs flow rows) told.found.items
-    → (told.smaller ≡ None → is_typed_map interval_lattice interval_numbers flow rows ≡ true) → IsToldOf flow text told
-told_of flow text rows told accepted same pairs typed = record {
+    → (told.smaller ≡ None → is_typed_map interval_lattice interval_numbers flow rows ≡ true) → (is_typed_map interval_lattice interval_numbers flow rows ≡ true → told.smaller ≡ None) → IsToldOf flow text told
+told_of flow text rows told accepted same pairs typed kept = record {
   accepted = accepted;
   pairs = subst (λ rs. IsOrderedSet (admitted_pairs flow rs) told.found.items) same pairs;
   typed = λ e. subst (λ rs. is_typed_map interval_lattice interval_numbers flow rs ≡ true) same (typed e);
+  kept = λ e. kept (subst (λ rs. is_typed_map interval_lattice interval_numbers flow rs ≡ true) (sym same) e);
 }
 
 pub typing_of : (flow : Flow) (text : Bytes) (told : Told) → IsToldOf flow text told → told.smaller ≡ None → IsTyping flow text

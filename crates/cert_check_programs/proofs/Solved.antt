@@ -9,7 +9,11 @@ use Rattle.interval_domain.specs.declared.intervals.Interval.{Interval}
 use Rattle.interval_domain.specs.IntervalLattice.{interval_lattice}
 use Rattle.interval_domain.specs.IntervalNumbers.{interval_numbers}
 use Rattle.abstract_steps_system.specs.FlowMachines.{has_start}
+use Rattle.abstract_steps_laws_programs.specs.RegularPrograms.{is_regular}
+use Rattle.abstract_steps_laws_programs.proofs.RegularSystems.{regular_monotone}
+use Rattle.rule_checks_operands.specs.TypedRows.{is_typed_map}
 use Rattle.flow_analysis.specs.Analyses.{row_lattice, machine_of}
+use Rattle.flow_analysis.specs.CheckedPrograms.{IsChecked}
 use Rattle.cert_check_text.specs.LineWords.{Bytes}
 use Rattle.cert_check_maps.specs.MapTexts.{text_of_map}
 use Rattle.cert_check_programs.specs.Certificates.{IsCertificate}
@@ -23,6 +27,19 @@ pub solved_as : (flow flow' : Flow) (list list' : List ℤ) (rows : List (Option
 solved_as flow flow' list list' rows e f i l =
     subst (λ z. IsSolved flow' z rows) f (subst (λ z. IsSolved z list rows) e (record { inductive = i; least = l }))
 
-pub certified : {V E : Type 0} (items : V → Bytes) (flow : Flow) (list : List ℤ) (rows : List (Option (List (Cell Interval)))) → has_start interval_lattice interval_numbers flow ≡ true → IsSolved flow list rows → (result : Result V E) → IfOk result (λ v. items v ≡ text_of_map flow rows) → IfOk result (λ v. IsCertificate flow list (items v))
-certified items flow list rows start s (Ok v) h = record { rows = rows; started = start; inductive = s.inductive; least = s.least; is_text = h }
-certified items flow list rows start s (Err e) h = tt
+module _ (flow : Flow) (list : List ℤ) (rows : List (Option (List (Cell Interval)))) (start : has_start interval_lattice interval_numbers flow ≡ true) (regular : is_regular flow list ≡ true) (checked : IsChecked flow list) (s : IsSolved flow list rows) where
+  certificate_of : (text : Bytes) → is_typed_map interval_lattice interval_numbers flow rows ≡ true → text ≡ text_of_map flow rows → IsCertificate flow list text
+  certificate_of text typed is = record {
+    rows = rows;
+    started = start;
+    regular = regular;
+    checked = checked;
+    inductive = s.inductive;
+    least = s.least (regular_monotone flow list regular);
+    typed = typed;
+    is_text = is;
+  }
+
+  pub certified : {V E : Type 0} (items : V → Bytes) (result : Result V E) → IfOk result (λ v. is_typed_map interval_lattice interval_numbers flow rows ≡ true) → IfOk result (λ v. items v ≡ text_of_map flow rows) → IfOk result (λ v. IsCertificate flow list (items v))
+  certified items (Ok v) typed is = certificate_of (items v) typed is
+  certified items (Err e) typed is = tt

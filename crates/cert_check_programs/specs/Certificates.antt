@@ -1,7 +1,6 @@
 -- Certificates of control-flow programs.
 use Rattle.std.specs.Prelude.{◌≡◌, ◌-◌, ◌^◌, ℤ, pos, negsuc, true, List, [], ◌∷◌, Option}
 use Rattle.cc_base.specs.DiagnosticOrder.{IsOrderedSet}
-use Rattle.cc_base.specs.Machine.{IsMonotone}
 use Rattle.cc_base.specs.InductiveMap.{IsInductive, IsLeast}
 use Rattle.cc_base.specs.declared.diagnostics.Diag.{Diag}
 use Rattle.flow_program.specs.declared.programs.Flow.{Flow}
@@ -22,14 +21,18 @@ use Rattle.cert_check.specs.Verdicts.{IsVerdictOn}
 use Rattle.cert_check_programs.specs.declared.checked_maps.Verified.{Verified}
 use Rattle.cert_check_programs.specs.declared.checked_maps.Verified.TheVariants.{Found, Refused}
 
--- the text is that of an inductive map of the program, with bounds rounded to the numbers of a list at heads; of the least one where
--- each edge makes more of more
+-- the text is that of the least inductive map of the program, with bounds rounded to the numbers of a list at heads; the program is
+-- such as soundness asks, and by the rows of the map operands lie within the types that instructions name
 pub record IsCertificate (flow : Flow) (list : List ℤ) (text : Bytes) : Type 0 where
   pub rows : List (Option (List (Cell Interval)))
-  -- there is a row of the entry
+  -- there is a row of the entry, and rows of the program are cut in order
   pub started : has_start interval_lattice interval_numbers flow ≡ true
+  pub regular : is_regular flow list ≡ true
+  -- what soundness asks beside that
+  pub checked : IsChecked flow list
   pub inductive : IsInductive row_lattice (machine_of flow list) rows
-  pub least : IsMonotone row_lattice (machine_of flow list) → IsLeast row_lattice (machine_of flow list) rows
+  pub least : IsLeast row_lattice (machine_of flow list) rows
+  pub typed : is_typed_map interval_lattice interval_numbers flow rows ≡ true
   pub is_text : text ≡ text_of_map flow rows
 
 -- the text is that of a closed map by whose rows operands lie within the types that instructions name

@@ -34,8 +34,8 @@ pub enum Verified {
     Refused(CertFault),
 }
 
-/// What is told of a closed map: the rules that the program may break by it and, where operands do not
-/// lie within their types by its rows, the text of a smaller map, by whose rows they may.
+/// What is told of a closed map: the rules that the program may break by it and, just where operands do
+/// not lie within their types by its rows, the text of a smaller map, by whose rows they may.
 #[derive(Drop)]
 pub struct Told {
     pub found: Vec<Diag>,
@@ -60,6 +60,7 @@ fn told_by(
     ensures vacant { map.new ≡ replicate (length map.old) None }
     ensures found { IfOk result (λ told. IsOrderedSet (admitted_pairs flow.now (rows_in pool.old map.old)) told.found.items) }
     ensures typed { IfOk result (λ told. told.smaller ≡ None → is_typed_map interval_lattice interval_numbers flow.now (rows_in pool.old map.old) ≡ true) }
+    ensures kept { IfOk result (λ told. is_typed_map interval_lattice interval_numbers flow.now (rows_in pool.old map.old) ≡ true → told.smaller ≡ None) }
 {
     let found = diagnose(alloc, flow, pool, map);
     let smaller = smaller_text(alloc, flow, pool, map);

@@ -73,6 +73,7 @@ pub fn smaller_text(
 ) -> Result<Option<Vec<u8>>, Memory>
     requires { IsHeld pool.old map.now }
     ensures typed { IfOk result (λ smaller. smaller ≡ None → is_typed_map interval_lattice interval_numbers flow.now (rows_in pool.old map.now) ≡ true) }
+    ensures kept { IfOk result (λ smaller. is_typed_map interval_lattice interval_numbers flow.now (rows_in pool.old map.now) ≡ true → smaller ≡ None) }
     ensures held { IsHeld pool.new map.now }
 {
     if is_typed_map(alloc, flow, pool, map)? {

@@ -2,23 +2,49 @@
 ghost use Rattle.std.specs.Prelude.{◌≡◌, ◌+◌, ◌<◌, ◌≤◌, true, length, None, IfOk};
 ghost use Rattle.std.proofs.Common.{replicate};
 ghost use Rattle.row_pool.specs.Pool.{free_count};
+ghost use Rattle.fixpoint_engine.specs.RowMap.{rows_in, IsHeld};
 ghost use Rattle.interval_domain.specs.IntervalLattice.{interval_lattice};
 ghost use Rattle.interval_domain.specs.IntervalNumbers.{interval_numbers};
 ghost use Rattle.abstract_steps_system.specs.SystemChecks.{is_system};
 ghost use Rattle.abstract_steps_system.specs.FlowMachines.{has_start};
+ghost use Rattle.abstract_steps_laws_programs.specs.RegularPrograms.{is_regular};
+ghost use Rattle.rule_checks_operands.specs.TypedRows.{is_typed_map};
+ghost use Rattle.flow_analysis.specs.CheckedPrograms.{IsChecked};
+ghost use Rattle.cert_check_maps.specs.MapTexts.{text_of_map};
 ghost use Rattle.cert_check_programs.specs.Certificates.{IsCertificate};
 
 use abstract_steps_system::{FlowSystem, has_start, is_system, system};
 use cc_base::{Lattice, Memory, Steps, Thresholds};
 use cert_check_maps::write_cert;
 use fixpoint_engine::{drop_map, new_map, release, solve};
+use flow_analysis::{is_regular, see_checked};
 use flow_program::Flow;
 use interval_domain::Interval;
 use row_pool::{Row, RowPool};
+use rule_checks_operands::is_typed_map;
 use std::alloc::Global;
 use std::marker::Brand;
 use std::sync::ledger::{Blank, Ledger};
 use value_domain::Cell;
+
+/// The text of a map by whose rows operands lie within their types. No other map of a program is known
+/// to come.
+fn typed_text(
+    alloc: Global,
+    flow: &Flow,
+    pool: &RowPool<Cell<Interval>>,
+    map: &[Option<Row>],
+) -> Result<Vec<u8>, Memory>
+    requires { IsHeld pool.now map.now }
+    ensures typed { IfOk result (λ _. is_typed_map interval_lattice interval_numbers flow.now (rows_in pool.now map.now) ≡ true) }
+    ensures text { IfOk result (λ text. text.items ≡ text_of_map flow.now (rows_in pool.now map.now)) }
+{
+    if is_typed_map(alloc, flow, pool, map)? {
+        write_cert(alloc, flow, pool, map)
+    } else {
+        Err(Memory)
+    }
+}
 
 /// Fills the map, which holds no row, writes its text, and gives its rows back.
 fn text_by<L: Ledger>(
@@ -31,6 +57,8 @@ fn text_by<L: Ledger>(
 ) -> Result<Vec<u8>, Memory>
     requires valid { is_system flow.now ≡ true }
     requires started { has_start interval_lattice interval_numbers flow.now ≡ true }
+    requires regular { is_regular flow.now list.now ≡ true }
+    requires checked { IsChecked flow.now list.now }
     requires width { pool.old.width ≡ flow.now.width }
     requires vacant { map.old ≡ replicate (length flow.now.blocks.items) None }
     requires room { length flow.now.blocks.items + 2 ≤ free_count pool.old }
@@ -39,7 +67,7 @@ fn text_by<L: Ledger>(
 {
     let equations: FlowSystem<Interval> = system(flow, list);
     solve(&equations, pool, map, steps);
-    let text = write_cert(alloc, flow, pool, map);
+    let text = typed_text(alloc, flow, pool, map);
     release(pool, map);
     text
 }
@@ -53,7 +81,7 @@ pub fn starts(alloc: Global, flow: &Flow) -> Result<bool, Memory>
 }
 
 /// The text for a program whose blocks and edges make a system and whose static initializers have
-/// their places.
+/// their places, where it is regular and as soundness asks.
 #[tactic(auto, using(flow_analysis::specs::Counts::few_blocks))]
 fn text_in<L: Ledger>(
     alloc: Global,
@@ -66,6 +94,8 @@ fn text_in<L: Ledger>(
     requires some { 0 < blank.parts }
     requires valid { is_system flow.now ≡ true }
     requires started { has_start interval_lattice interval_numbers flow.now ≡ true }
+    requires regular { is_regular flow.now list.now ≡ true }
+    requires checked { IsChecked flow.now list.now }
     ensures { IfOk result (λ text. IsCertificate flow.now list.now text.items) }
 {
     let mut steps = Steps::<L>::start(blank);
@@ -77,17 +107,17 @@ fn text_in<L: Ledger>(
     text
 }
 
-/// The text of an inductive map of a program, with intervals whose bounds are rounded to the numbers
-/// of a list at heads.
+/// The text of the least inductive map of a program, with intervals whose bounds are rounded to the
+/// numbers of a list at heads. The program and the map are looked at as in an analysis.
 ///
 /// # Errors
 ///
-/// Out of memory, and a program whose blocks and edges make no system or with a static initializer
-/// that has no place.
+/// Out of memory, to which the programs and lists come to which an analysis answers so.
 pub fn prove_program(alloc: Global, flow: &Flow, list: &Thresholds) -> Result<Vec<u8>, Memory>
     ensures { IfOk result (λ text. IsCertificate flow.now list.now text.items) }
 {
-    if is_system(flow) && starts(alloc, flow)? {
+    if is_system(flow) && (starts(alloc, flow)? && is_regular(alloc, flow, list)?) {
+        see_checked(alloc, flow, list)?;
         text_in::<Brand>(alloc, flow, list, Blank::new(1))
     } else {
         Err(Memory)
