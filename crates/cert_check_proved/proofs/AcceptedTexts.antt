@@ -1,25 +1,25 @@
--- What is written of an inductive map is accepted.
-use Rattle.std.proofs.Common.{◌≡◌, ◌&&◌, ◌+◌, ◌*◌, ◌^◌, ◌<◌, ◌≤◌, ℕ, true, List, Option, Some, None, length, arith, subst, sym}
+-- What is written of the least inductive map is read as that map, and accepted.
+use Rattle.std.proofs.Common.{◌≡◌, ◌&&◌, ◌+◌, ◌*◌, ◌^◌, ◌<◌, ◌≤◌, ℕ, true, List, Option, Some, None, length, arith, subst, sym, ap, ◌∙◌}
 use Rattle.std.specs.Prelude.{ℤ, nat_lt, ◌==◌}
 use Rattle.std.specs.List.{list_all}
 use Rattle.std.proofs.lemmas.Bool.{and_parts, ltb-true}
 use Rattle.std.proofs.Math.Nat.{mul-le-mul_left}
 use Rattle.cc_base.specs.Standard.{standard_limits}
+use Rattle.cc_base.specs.ClosedMap.{IsClosed}
 use Rattle.cc_base.specs.InductiveMap.{IsOwn, row_at}
 use Rattle.flow_program.specs.WellFormed.{names_of, are_blocks, fits_edge, are_placed, all_values, is_initial_object, is_parameter, is_within, is_few, are_few, is_laid_out, is_well_formed}
 use Rattle.flow_program.specs.declared.programs.Flow.{Flow}
 use Rattle.interval_domain.specs.declared.intervals.Interval.{Interval}
 use Rattle.value_domain.specs.declared.row_cells.Cell.{Cell}
 use Rattle.store_domain_sound_programs.proofs.WellFormedPremises.{well_formed_good}
-use Rattle.abstract_steps_laws_programs.specs.RegularPrograms.{is_regular}
 use Rattle.abstract_steps_laws_programs.proofs.RegularPrograms.{regular_of}
-use Rattle.abstract_steps_laws_own_rows.specs.OwnLists.{ReachesTypes}
 use Rattle.cert_check_text.specs.LineWords.{Bytes}
 use Rattle.cert_check_edges.specs.MapFaults.{IsFirstFault}
+use Rattle.cert_check_reading.specs.MapReading.{map_rows}
 use Rattle.cert_check_reading.specs.OwnReading.{IsOwnRow}
 use Rattle.cert_check.specs.declared.verdicts.Verdict.TheVariants.{Yes}
 use Rattle.cert_check.specs.Verdicts.{cert_cells, cert_machine, IsVerdictOn}
-use Rattle.cert_check_round_trip.specs.ReadMaps.{IsSmall}
+use Rattle.cert_check_round_trip.specs.ReadMaps.{IsSmall, IsReadBack}
 use Rattle.cert_check_round_trip.proofs.MapWords.{read_back}
 use Rattle.cert_check_programs.specs.Certificates.{IsCertificate}
 use Rattle.cert_check_proved.proofs.AnalysedMaps.{inductive_closed}
@@ -45,20 +45,27 @@ few_blocks f h =
     let l = and_parts (is_few (length f.blocks.items)) (is_few (length f.edges.items)) k.0 in
     ltb-true (length f.blocks.items) (2 ^ 31) l.0
 
-module _ (flow : Flow) (list : List ℤ) (regular : is_regular flow list ≡ true) (reaches : ReachesTypes list) where
+module _ (flow : Flow) (list : List ℤ) (text : Bytes) (c : IsCertificate flow list text) where
   small : IsSmall flow
   small =
-      let good = (regular_of flow list regular).well_formed in
+      let good = (regular_of flow list c.regular).well_formed in
       let few = few_blocks flow good in
       let width = row_below (length flow.blocks.items) flow.width standard_limits.pool (well_formed_good standard_limits flow good).pool in
       record { blocks = omega (arith, few); width = omega (arith, width) }
+
+  closed : IsClosed cert_cells (cert_machine flow) c.rows
+  closed = inductive_closed flow list c.regular c.checked.reaches c.started c.rows c.inductive
 
   own_row : (row : Option (List (Cell Interval))) → IsOwn (cert_machine flow) row → IsOwnRow flow row
   own_row None own = tt
   own_row (Some row) own = own
 
-  pub proved_accepted : (text : Bytes) → IsCertificate flow list text → IsVerdictOn flow text Yes
-  proved_accepted text c =
-      let closed = inductive_closed flow list regular reaches c.started c.rows c.inductive in
-      let back = read_back flow small c.rows closed.size (λ b. own_row (row_at c.rows b) (closed.own b)) in
-      subst (λ t. IsVerdictOn flow t Yes) (sym c.is_text) (back.whole, subst (λ rs. IsFirstFault cert_cells (cert_machine flow) rs None) (sym back.rows_are) (closed.entry, closed.edge))
+  back : IsReadBack flow c.rows
+  back = read_back flow small c.rows closed.size (λ b. own_row (row_at c.rows b) (closed.own b))
+
+  -- the rows of the text are those of the map
+  pub rows_are : map_rows flow text ≡ c.rows
+  rows_are = ap (map_rows flow) c.is_text ∙ back.rows_are
+
+  pub proved_accepted : IsVerdictOn flow text Yes
+  proved_accepted = subst (λ t. IsVerdictOn flow t Yes) (sym c.is_text) (back.whole, subst (λ rs. IsFirstFault cert_cells (cert_machine flow) rs None) (sym back.rows_are) (closed.entry, closed.edge))

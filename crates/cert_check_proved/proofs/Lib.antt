@@ -1,3 +1,4 @@
 pub mod WiderRows
 pub mod AnalysedMaps
 pub mod AcceptedTexts
+pub mod ProvedTexts

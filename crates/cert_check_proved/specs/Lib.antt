@@ -1,1 +1,2 @@
 pub mod AnalysedMaps
+pub mod ProvedTexts

@@ -6,7 +6,9 @@ ghost use Rattle.interval_domain.specs.IntervalNumbers.{interval_numbers};
 ghost use Rattle.abstract_steps_system.specs.FlowMachines.{has_start};
 ghost use Rattle.abstract_steps_laws_programs.specs.RegularPrograms.{is_regular};
 ghost use Rattle.abstract_steps_laws_own_rows.specs.OwnLists.{ReachesTypes};
-ghost use Rattle.cert_check_proved.specs.AnalysedMaps.{CertificatesAreAccepted, InductiveMapsAreClosed};
+ghost use Rattle.cert_check_proved.specs.AnalysedMaps.{InductiveMapsAreClosed};
+ghost use Rattle.cert_check_proved.specs.ProvedTexts.{CertificatesAreAccepted, ProvedProgramsPass, NothingIsCut};
+ghost use Rattle.cert_check_proved.specs.ProvedTexts.{CertificatesGiveAnalyses, CertificatesShowWhatIsFound};
 
 /// Each inductive map of a regular program's system, as the one that the solver finds, is a closed map of the system of its
 /// certificates.
@@ -14,7 +16,16 @@ pub fn inductive_maps_are_closed()
     ensures { (flow : Flow) (list : List ℤ) → is_regular flow list ≡ true → ReachesTypes list → has_start interval_lattice interval_numbers flow ≡ true → InductiveMapsAreClosed flow list }
 {}
 
-/// The text of such a map, as it is written of the one that the solver finds, is accepted.
+/// The text of the least one, as it is written for a program that was looked at, is accepted. The program passes the looks
+/// of `verify`, and of the map that is read nothing is cut.
 pub fn proved_certificates_are_accepted()
-    ensures { (flow : Flow) (list : List ℤ) → is_regular flow list ≡ true → ReachesTypes list → CertificatesAreAccepted flow list }
+    ensures accepted { CertificatesAreAccepted }
+    ensures passes { ProvedProgramsPass }
+    ensures whole { NothingIsCut }
+{}
+
+/// Such a text is never refused, and what is shown of it is just what an analysis finds.
+pub fn proved_certificates_show_analyses()
+    ensures analyses { CertificatesGiveAnalyses }
+    ensures found { CertificatesShowWhatIsFound }
 {}

@@ -1,5 +1,10 @@
 use Rattle.cert_check_proved.proofs.AcceptedTexts.{proved_accepted}
+use Rattle.cert_check_proved.proofs.ProvedTexts.{looked_at, not_cut}
 use Rattle.cert_check_proved.proofs.theorems.proved_certificates_are_accepted.Goals as goal
 
 pub returns : goal.returns
-returns c = λ flow list regular reaches text certificate. proved_accepted flow list regular reaches text certificate
+returns c = record {
+  accepted = λ flow list text certificate. proved_accepted flow list text certificate;
+  passes = λ flow list text certificate. looked_at flow list text certificate;
+  whole = λ flow list text told certificate read. not_cut flow list text certificate told read;
+}
