@@ -52,7 +52,7 @@ one_text_by bytes a b is also false binary =
     let never : ¬ IsUtf8 bytes = λ text. absurd (cc (sym (is_utf8-from_IsUtf8 bytes text) ∙ binary)) in
     is.binary never ∙ sym (also.binary never)
 
-one_text : (bytes : Bytes) (a b : Result Model ModelFault) → IsModelText bytes a → IsModelText bytes b → a ≡ b
+pub one_text : (bytes : Bytes) (a b : Result Model ModelFault) → IsModelText bytes a → IsModelText bytes b → a ≡ b
 one_text bytes a b is also = one_text_by bytes a b is also (is_utf8 bytes) refl
 
 ok_same : {m n : Model} → (◌≡◌ {A = Result Model ModelFault} (Ok m) (Ok n)) → m ≡ n
