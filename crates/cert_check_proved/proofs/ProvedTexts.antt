@@ -1,5 +1,5 @@
 -- What is written of the least inductive map comes to what an analysis finds.
-use Rattle.std.specs.Prelude.{◌≡◌, ◌&&◌, ℤ, true, List, Option, None, refl}
+use Rattle.std.specs.Prelude.{◌≡◌, ◌&&◌, ℤ, true, List, None, refl}
 use Rattle.std.proofs.Common.{sym, subst}
 use Rattle.std.proofs.lemmas.Bool.{and_parts, and_from}
 use Rattle.cc_base.specs.DiagnosticOrder.{IsOrderedSet}
@@ -7,10 +7,8 @@ use Rattle.cc_base.specs.Standard.{standard_limits}
 use Rattle.cc_base.specs.declared.diagnostics.Diag.{Diag}
 use Rattle.flow_program.specs.WellFormed.{is_well_formed}
 use Rattle.flow_program.specs.declared.programs.Flow.{Flow}
-use Rattle.interval_domain.specs.declared.intervals.Interval.{Interval}
 use Rattle.interval_domain.specs.IntervalLattice.{interval_lattice}
 use Rattle.interval_domain.specs.IntervalNumbers.{interval_numbers}
-use Rattle.value_domain.specs.declared.row_cells.Cell.{Cell}
 use Rattle.abstract_steps_laws_programs.specs.RegularPrograms.{has_scalars, has_initial_bytes, has_apart_members, is_near_list, is_regular}
 use Rattle.rule_checks_operands.specs.TypedRows.{is_typed_map}
 use Rattle.flow_analysis.specs.Analyses.{admitted_pairs, IsAnalysis}
