@@ -43,7 +43,7 @@ pub record IsProgram (unit : Unit7) (s : SettingView) (flow : Flow) : Type 0 whe
   pub lowered : IsLowered checked flow
   pub well_formed : is_well_formed standard_limits flow ≡ true
 
--- the text is that of an inductive map of the program, with bounds rounded to its thresholds, in order, at heads
+-- the text is that of the least inductive map of the program, with bounds rounded to its thresholds, in order, at heads
 pub record IsProvedBy (flow : Flow) (text : Bytes) : Type 0 where
   pub list : List ℤ
   pub thresholds : AreThresholds (limits_of flow.model) (flow_numbers flow) list
