@@ -25,7 +25,7 @@ pub record TellsRuns (seen : Seen) (c : CommandView) (sink : Took) (status : ℕ
   pub holds : HoldsRunsOf (unit_view report.judged.checked) diags
   pub defined : IsNeverStuck (unit_view report.judged.checked)
 
--- the unit was accepted
+-- 0 or 1: of `check`, that the unit was accepted
 abbrev pub IsAccepting : ℕ → Type 0
 IsAccepting status = (status ≡ 0) ⊎ (status ≡ 1)
 

@@ -29,7 +29,18 @@ use std::alloc::Global;
 /// | 8 | a limit is passed |
 /// | 9 | the certificate is refused |
 ///
-/// `runs` is the sentence: where `check` answers 0 or 1, what it has put holds each rule that a run of the unit violates.
+/// What each clause says; of a tree that does not tell its files, or a sink that does not tell its text, none says which
+/// these are.
+///
+/// - `answer`: text and status are those that the definitions call for.
+/// - `runs` is the sentence: where `check` answers 0 or 1, what it has put holds each rule that a run of the unit
+///   violates.
+/// - `gates`: so does what `gate` has put, together with what its baseline holds.
+/// - `verifies`: so does what `verify` has put of a certificate that is accepted.
+/// - `replays`: where `replay` answers 0 or 1, it has put the pairs of one run, and they stand in the unit's reports.
+/// - `complete`: a unit that each stage accepts, with all that the verb reads, is answered and not refused, or a read or
+///   the write failed, or memory ran out.
+/// - `files`, `read_faults`, `write_faults`: the files stay as they are, and no count of faults falls.
 pub fn run<T: Tree, S: Sink>(alloc: Global, words: &[String], tree: &mut T, out: &mut S) -> u8
     ensures answer { Answers (seen_of (T.files tree.old) (T.faults tree.old) (T.faults tree.new) (T.taken tree.old) (T.taken tree.new)) (asked (map string_bytes words.now)) (took (S.written out.old) (S.written out.new) (S.faults out.old) (S.faults out.new) (S.calls out.old) (S.calls out.new)) result }
     ensures runs { RunsAreTold (seen_of (T.files tree.old) (T.faults tree.old) (T.faults tree.new) (T.taken tree.old) (T.taken tree.new)) (asked (map string_bytes words.now)) (took (S.written out.old) (S.written out.new) (S.faults out.old) (S.faults out.new) (S.calls out.old) (S.calls out.new)) result }
