@@ -18,7 +18,7 @@ pub(crate) fn are_bytes(text: &[u8]) -> bool
 }
 
 /// Whether the tokens of a unit are of bytes, so that its constants and literals have values of theirs (6.4.4.4 and
-/// 6.4.5 of ISO/IEC 9899:2011). All tokens are.
+/// 6.4.5 of ISO/IEC 9899:2011).
 pub fn have_byte_texts(unit: &Unit7) -> bool
     ensures { result ≡ spec.have_byte_texts unit.now.tokens }
 {

@@ -133,8 +133,8 @@ fn are_marked_objects(unit: &Checked) -> bool
 
 // ---- units
 
-/// Whether memory has room for the objects of a unit, and addresses in it lie within them. Only a string literal that
-/// is longer than memory has room for fails.
+/// Whether memory has room for the objects of a unit, and addresses in it lie within them. Of checked units only one with
+/// a string literal that is longer than memory may be is known to fail.
 pub fn is_small_unit(unit: &Checked) -> bool
     requires { is_model unit.now.model ≡ true }
     ensures { result ≡ spec.is_small_unit (unit_view unit.now) }

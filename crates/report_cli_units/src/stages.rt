@@ -59,8 +59,8 @@ fn kept_at(stage: Stage, fault: Fault) -> Stop
     }
 }
 
-/// What stops a stage: a refusal of its own. No stage has another one, and none behind the expansion
-/// reads a file, so that what else there is comes to want of memory.
+/// What stops a stage: a refusal of its own. A refusal of another stage, and what speaks of files, come to want of
+/// memory; no stage is known to answer either.
 pub(crate) fn stop_at(stage: Stage, stop: Stop) -> Stop
     ensures { result ≡ spec.stop_at stage stop }
 {

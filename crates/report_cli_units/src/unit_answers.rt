@@ -1,11 +1,12 @@
 //! What a unit that was expanded comes to.
-ghost use Rattle.std.specs.Prelude.{◌≡◌, ◌++◌, IfErr, IfOk, Some, true, length};
+ghost use Rattle.std.specs.Prelude.{◌≡◌, ◌++◌, ◌&&◌, IfErr, IfOk, Some, is_ok, true, length};
 ghost use Rattle.c_layout.specs.CheckedUnits.{unit_view};
 ghost use Rattle.c_layout.specs.Models.{is_model};
 ghost use Rattle.flow_lower_objects.specs.PlainObjects.{has_plain_objects};
 ghost use Rattle.flow_lower_units.specs.RegularUnits.{is_regular_unit};
 ghost use Rattle.flow_program.specs.WellFormed.{base_cells, is_well_formed};
 ghost use Rattle.cc_base.specs.Standard.{standard_limits};
+ghost use Rattle.ref_machine_looks_units.specs.SmallUnits.{have_byte_texts, is_small_unit};
 ghost use Rattle.report_cli_units.specs.Judging.{setting_view, judgement, cells_from, cell_count, IsParsed, IsTyped, IsLooked, IsLowered, IsTurned, IsJudged, IsFound, StopsUnit};
 
 use crate::stages::{Stage, stop_at};
@@ -118,17 +119,19 @@ pub(crate) fn typed(
     }
 }
 
-/// Looks at what typing does not ask, and a run needs in order not to be stuck.
+/// Looks at what typing does not ask, and a run needs in order not to be stuck: whether tokens are of bytes, and memory
+/// has room for the objects of the unit.
 ///
 /// # Errors
 ///
-/// Want of memory where a token is not of bytes, which none is, or where memory has no room for an object of the unit,
-/// which only a string literal may be too long for.
+/// Want of memory exactly where one of the two is not so. That no checked unit comes to that but by a string literal that
+/// is longer than memory may be is no theorem.
 pub(crate) fn looked(unit: &Unit7, checked: &Checked, setting: Setting) -> Result<(), Memory>
     requires proper { is_model setting.model.now ≡ true }
     requires model { unit.now.model ≡ setting.model.now }
     requires typed { checked.now.model ≡ setting.model.now }
-    ensures { IfOk result (λ _. IsLooked unit.now (setting_view setting.entry) checked.now) }
+    ensures looked { IfOk result (λ _. IsLooked unit.now (setting_view setting.entry) checked.now) }
+    ensures exact { is_ok result ≡ (have_byte_texts unit.now.tokens && is_small_unit (unit_view checked.now)) }
 {
     if have_byte_texts(unit) && is_small_unit(checked) {
         Ok(())

@@ -27,7 +27,7 @@ fn is_ascending(numbers: &[i128]) -> bool
     true
 }
 
-/// The thresholds of a program, and that they ascend, as all thresholds do.
+/// The thresholds of a program, and a look whether they ascend.
 ///
 /// # Errors
 ///
