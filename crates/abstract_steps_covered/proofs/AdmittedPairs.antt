@@ -16,7 +16,7 @@ use Rattle.flow_program.specs.declared.programs.Flow.{Flow}
 use Rattle.value_domain.specs.declared.row_cells.Cell.{Cell}
 use Rattle.abstract_steps_checks.specs.ViolationSets.{violates}
 use Rattle.abstract_steps_checks.specs.declared.violation_sets.Violations.{Violations}
-use Rattle.abstract_steps_instructions.specs.StepViolations.{operation_violations}
+use Rattle.abstract_steps_sound.specs.StepViolations.{operation_violations}
 use Rattle.rule_checks.specs.AdmittedRules.{run_rules, with_pair, pairs_among, pairs_of, instructions_of, pairs_at, row_behind, pairs_from, instruction_pairs, block_pairs, entry_pairs, rows_pairs, map_pairs}
 use Rattle.abstract_steps_covered.specs.Covering.{rows_behind, row_before, Admits}
 

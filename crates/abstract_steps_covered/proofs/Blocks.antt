@@ -23,7 +23,7 @@ pub record IsBlock (flow : Flow) (b : ℕ) (bb : BasicBlock) : Type 0 where
   pub body : is_body On bb.instructions.items (take bb.edges (drop bb.first_edge flow.edges.items)) ≡ true
   pub leave : all_leave (length flow.blocks.items) b (take bb.edges (drop bb.first_edge flow.edges.items)) ≡ true
 
-drop_more : {X : Type 0} (a b c : ℕ) (xs : List X) → c ≡ a + b → drop b (drop a xs) ≡ drop c xs
+pub drop_more : {X : Type 0} (a b c : ℕ) (xs : List X) → c ≡ a + b → drop b (drop a xs) ≡ drop c xs
 drop_more zero b c xs e = let f : b ≡ c = omega (arith, e) in ap (λ z. drop z xs) f
 drop_more (suc a) b zero xs e = absurd (omega (arith, e))
 drop_more (suc a) zero (suc c) [] e = refl

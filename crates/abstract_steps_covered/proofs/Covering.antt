@@ -15,7 +15,7 @@ use Rattle.flow_program.specs.declared.machine_instructions.Instruction.{Instruc
 use Rattle.flow_program.specs.declared.programs.Flow.{Flow}
 use Rattle.value_domain.specs.declared.row_cells.Cell.{Cell}
 use Rattle.abstract_steps.specs.Edges.{last_of, last_instruction}
-use Rattle.abstract_steps_instructions.specs.Steps.{operate}
+use Rattle.abstract_steps_sound.specs.Steps.{operate}
 use Rattle.rule_checks.specs.AdmittedRules.{instructions_in, instructions_of, row_behind}
 use Rattle.lib_models_effects.specs.Worlds.{World, Reply, goes, stops, world_of, Violation}
 use Rattle.flow_lower_tasks.specs.Acts.{act, Step}
@@ -24,9 +24,9 @@ use Rattle.flow_program_machine.specs.FlowStates.{Standing, FlowRun, running, st
 use Rattle.flow_program_machine.specs.FlowSteps.{block_of, begun, act_step, violations_at, run_by, instruction_step, flow_step, flow_steps}
 use Rattle.flow_program_machine.specs.FlowStarts.{first_standing, begun_by, flow_begin}
 use Rattle.lib_models_effects.specs.UnitStarts.{start_world}
-use Rattle.store_domain_meaning.specs.ValueMeaning.{Naming}
-use Rattle.store_domain_meaning.specs.RowMeaning.{StandsFor}
-use Rattle.store_domain_meaning.specs.Coverage.{state_of, EachRunIsCovered}
+use Rattle.store_domain_sound.specs.ValueMeaning.{Naming}
+use Rattle.store_domain_sound.specs.RowMeaning.{StandsFor}
+use Rattle.store_domain_sound.specs.Coverage.{state_of, EachRunIsCovered}
 use Rattle.store_domain_sound_programs.proofs.ShapedBases.{all_at}
 use Rattle.abstract_steps_sound.specs.OperandTypes.{HasOperands}
 use Rattle.abstract_steps_sound.specs.SoundSteps.{AreShort, IsReached, StandsBehind}

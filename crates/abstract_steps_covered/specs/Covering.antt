@@ -20,9 +20,9 @@ use Rattle.flow_program_views.specs.ProgramViews.{flow_view}
 use Rattle.flow_program_machine.specs.FlowStates.{Standing, running}
 use Rattle.flow_program_machine.specs.FlowSteps.{flow_steps}
 use Rattle.flow_program_machine.specs.FlowStarts.{flow_begin}
-use Rattle.store_domain_meaning.specs.Coverage.{state_of, EachRunIsCovered}
-use Rattle.store_domain_meaning.specs.RowMeaning.{StandsFor}
-use Rattle.store_domain_meaning.specs.ValueMeaning.{Naming}
+use Rattle.store_domain_sound.specs.Coverage.{state_of, EachRunIsCovered}
+use Rattle.store_domain_sound.specs.RowMeaning.{StandsFor}
+use Rattle.store_domain_sound.specs.ValueMeaning.{Naming}
 use Rattle.abstract_steps_sound.specs.OperandTypes.{HasOperands}
 use Rattle.abstract_steps_sound.specs.SoundSteps.{StandsBehind}
 use Rattle.abstract_steps_covered.specs.SoundEnds.{StepsGoOnSoundly, EndsGoOnSoundly}

@@ -13,8 +13,8 @@ use Rattle.flow_program.specs.declared.machine_instructions.Operation.{Operation
 use Rattle.flow_program.specs.declared.programs.Flow.{Flow}
 use Rattle.value_domain.specs.declared.row_cells.Cell.{Cell}
 use Rattle.abstract_steps_checks.specs.ViolationSets.{violates}
-use Rattle.abstract_steps_instructions.specs.Steps.{operate}
-use Rattle.abstract_steps_instructions.specs.StepViolations.{operation_violations}
+use Rattle.abstract_steps_sound.specs.Steps.{operate}
+use Rattle.abstract_steps_sound.specs.StepViolations.{operation_violations}
 use Rattle.abstract_steps.specs.Edges.{edge, last_instruction}
 use Rattle.rule_checks.specs.AdmittedRules.{instructions_of}
 use Rattle.lib_models_effects.specs.Worlds.{World, goes, world_of}
@@ -22,7 +22,7 @@ use Rattle.flow_lower_tasks.specs.Acts.{act}
 use Rattle.flow_program_views.specs.ProgramViews.{flow_view}
 use Rattle.flow_program_machine.specs.FlowStates.{Standing}
 use Rattle.flow_program_machine.specs.FlowSteps.{act_step}
-use Rattle.store_domain_meaning.specs.ValueMeaning.{Naming}
+use Rattle.store_domain_sound.specs.ValueMeaning.{Naming}
 use Rattle.abstract_steps_sound.specs.SoundSteps.{IsReached, StandsBehind, AreSound}
 
 -- the instruction goes on in its block, or ends it

@@ -50,7 +50,7 @@ use Rattle.abstract_steps_library.specs.Arguments.{argument_value}
 use Rattle.abstract_steps_library.specs.declared.call_plans.Effect.TheVariants as effect
 use Rattle.abstract_steps_library.specs.Effects.{older_of, allocated_at, allocated, apply}
 use Rattle.abstract_steps_library.specs.Planning.{plan_call}
-use Rattle.abstract_steps_instructions.specs.CallSteps.{call_of, call_step}
+use Rattle.abstract_steps_laws.specs.CallSteps.{call_of, call_step}
 use Rattle.abstract_steps_laws_values.specs.RisingRows.{LeftRise, PointersRise, ValuesRise}
 use Rattle.abstract_steps_laws_values.specs.LaidOut.{IsLaidOut}
 use Rattle.abstract_steps_laws_values.specs.ViolationsBelow.{ViolationsBelow}

@@ -24,7 +24,7 @@ use Rattle.abstract_steps_checks.specs.IntegerChecks.{is_no_character}
 use Rattle.abstract_steps_library.specs.Arguments.{argument_value}
 use Rattle.abstract_steps_library.specs.Characters.{is_lower, is_upper, has_class, meets, sum_of, difference_of, tested_number, raised, lowered, answer, plan_in, plan_character}
 use Rattle.abstract_steps_library.specs.Planning.{plan_call}
-use Rattle.abstract_steps_instructions.specs.CallSteps.{call_of}
+use Rattle.abstract_steps_laws.specs.CallSteps.{call_of}
 use Rattle.abstract_steps_laws_values.specs.RisingRows.{ValuesRise}
 use Rattle.abstract_steps_laws_values.specs.LaidOut.{IsLaidOut}
 use Rattle.abstract_steps_laws_values.proofs.Results.{num_rises, labels_rise, number_rises}

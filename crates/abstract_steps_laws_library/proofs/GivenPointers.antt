@@ -29,7 +29,7 @@ use Rattle.abstract_steps_checks.specs.Touches.{into_bases}
 use Rattle.abstract_steps_library.specs.declared.call_plans.Trail.{Trail}
 use Rattle.abstract_steps_library.specs.Arguments.{argument_value}
 use Rattle.abstract_steps_library.specs.Outputs.{has_place, placed, argument_at, given_trail}
-use Rattle.abstract_steps_instructions.specs.CallSteps.{call_of}
+use Rattle.abstract_steps_laws.specs.CallSteps.{call_of}
 use Rattle.abstract_steps_laws_values.specs.RisingRows.{PointersRise}
 use Rattle.abstract_steps_laws_values.specs.LaidOut.{IsLaidOut}
 use Rattle.abstract_steps_laws_values.specs.StepLaws.{FlowRows}

@@ -8,3 +8,9 @@ pub mod Trails
 pub mod GivenPointers
 pub mod Scans
 pub mod StringResults
+pub use Rattle.abstract_steps_laws.proofs.FilledSteps
+pub use Rattle.abstract_steps_laws.proofs.MemorySteps
+pub use Rattle.abstract_steps_laws.proofs.OwnLoads
+pub use Rattle.abstract_steps_laws.proofs.FilledProgram
+pub use Rattle.abstract_steps_laws.proofs.FittedOrder
+pub use Rattle.abstract_steps_laws.proofs.Systems

@@ -32,7 +32,7 @@ use Rattle.abstract_steps_library.specs.Arguments.{value_of_argument, argument_v
 use Rattle.abstract_steps_library.specs.Outputs.{putchar_of}
 use Rattle.abstract_steps_library.specs.Effects.{put_result, apply}
 use Rattle.abstract_steps_library.specs.Planning.{plan_call}
-use Rattle.abstract_steps_instructions.specs.CallSteps.{call_of, call_step}
+use Rattle.abstract_steps_laws.specs.CallSteps.{call_of, call_step}
 use Rattle.abstract_steps_laws_values.specs.RisingRows.{LeftRise, ValuesRise}
 use Rattle.abstract_steps_laws_values.specs.LaidOut.{IsLaidOut}
 use Rattle.abstract_steps_laws_values.specs.ViolationsBelow.{ViolationsBelow}

@@ -35,7 +35,7 @@ use Rattle.abstract_steps_library.specs.Calls.{Call}
 use Rattle.abstract_steps_library.specs.Arguments.{argument_value}
 use Rattle.abstract_steps_library.specs.Outputs.{argument_at, scan_at, given_trail, scan_violations, scanned_trail, has_number, printed_trail_at, text_trail_at, pointer_trails, scan_trails, printf_trail, length_of, strcmp_trail, plan_puts, plan_printf, plan_strlen, plan_strcmp}
 use Rattle.abstract_steps_library.specs.Planning.{plan_call}
-use Rattle.abstract_steps_instructions.specs.CallSteps.{call_of}
+use Rattle.abstract_steps_laws.specs.CallSteps.{call_of}
 use Rattle.abstract_steps_laws.specs.CallLaws.{CallRises}
 use Rattle.abstract_steps_laws_values.specs.RisingRows.{ValuesRise}
 use Rattle.abstract_steps_laws_values.specs.LaidOut.{IsLaidOut}

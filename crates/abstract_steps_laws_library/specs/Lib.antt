@@ -2,3 +2,10 @@ pub mod Sites
 pub mod SimpleCalls
 pub mod AllocationCalls
 pub mod StringCalls
+pub use Rattle.abstract_steps_laws.specs.CallLaws
+pub use Rattle.abstract_steps_laws.specs.FilledRows
+pub use Rattle.abstract_steps_laws.specs.ProgramLaws
+pub use Rattle.abstract_steps_laws.specs.SystemLaws
+pub use Rattle.abstract_steps_laws.specs.BlockPasses
+pub use Rattle.abstract_steps_laws.specs.FlowMachines
+pub use Rattle.abstract_steps_laws.specs.CallSteps

@@ -12,8 +12,8 @@ use Rattle.value_domain.specs.declared.row_cells.Cell.{Cell}
 use Rattle.value_domain.specs.Cells.{cell_lattice}
 use Rattle.abstract_steps_rows.specs.IntervalEnds.{interval_ends}
 use Rattle.abstract_steps_rows.specs.OwnRows.{is_own_row}
-use Rattle.abstract_steps_system.specs.BlockPasses.{edge_end}
-use Rattle.abstract_steps_system.specs.FlowMachines.{edge_at, through, flow_machine}
+use Rattle.abstract_steps_laws.specs.BlockPasses.{edge_end}
+use Rattle.abstract_steps_laws.specs.FlowMachines.{edge_at, through, flow_machine}
 use Rattle.abstract_steps_laws_programs.specs.RegularPrograms.{is_regular}
 use Rattle.abstract_steps_laws_programs.proofs.WellFormed.{laid_out, all_named}
 use Rattle.abstract_steps_laws_programs.proofs.RegularPrograms.{regular_of}

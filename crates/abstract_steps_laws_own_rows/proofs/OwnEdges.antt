@@ -19,8 +19,8 @@ use Rattle.abstract_steps_rows.specs.EndLaws.{EndLaws}
 use Rattle.abstract_steps_rows.specs.OwnRows.{program_bases, reach_of, is_own_row}
 use Rattle.abstract_steps_rows.specs.OwnLaws.{own_cells, fit_own}
 use Rattle.abstract_steps_rows.specs.FittedRows.{row_fit, reached_fit}
-use Rattle.abstract_steps_system.specs.BlockPasses.{edge_end}
-use Rattle.abstract_steps_system.specs.FlowMachines.{edge_at, through, flow_machine}
+use Rattle.abstract_steps_laws.specs.BlockPasses.{edge_end}
+use Rattle.abstract_steps_laws.specs.FlowMachines.{edge_at, through, flow_machine}
 use Rattle.abstract_steps_laws_values.specs.LaidOut.{IsLaidOut}
 use Rattle.abstract_steps_laws_values.proofs.TempPlaces.{row_length}
 use Rattle.abstract_steps_laws.specs.ProgramLaws.{IsNamed, AreRising}

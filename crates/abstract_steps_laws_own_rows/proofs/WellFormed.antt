@@ -11,8 +11,8 @@ use Rattle.value_domain.specs.declared.row_cells.Cell.{Cell}
 use Rattle.value_domain.specs.Cells.{cell_lattice}
 use Rattle.abstract_steps_rows.specs.EndLaws.{EndLaws}
 use Rattle.abstract_steps_rows.specs.OwnRows.{program_bases, is_own_row}
-use Rattle.abstract_steps_system.specs.BlockPasses.{edge_end}
-use Rattle.abstract_steps_system.specs.FlowMachines.{edge_at, through, flow_machine}
+use Rattle.abstract_steps_laws.specs.BlockPasses.{edge_end}
+use Rattle.abstract_steps_laws.specs.FlowMachines.{edge_at, through, flow_machine}
 use Rattle.abstract_steps_laws.specs.ProgramLaws.{AreRising}
 use Rattle.abstract_steps_laws.specs.SystemLaws.{IsNearList}
 use Rattle.abstract_steps_laws_programs.specs.Texts.{HasScalars}

@@ -5,8 +5,8 @@ use Rattle.cc_base.specs.IntegerDomains.{IntegersOf}
 use Rattle.cc_base.specs.Machine.{Machine}
 use Rattle.flow_program.specs.declared.programs.Flow.{Flow}
 use Rattle.value_domain.specs.declared.row_cells.Cell.{Cell}
-use Rattle.abstract_steps_system.specs.BlockPasses.{edge_end}
-use Rattle.abstract_steps_system.specs.FlowMachines.{edge_at, flow_machine}
+use Rattle.abstract_steps_laws.specs.BlockPasses.{edge_end}
+use Rattle.abstract_steps_laws.specs.FlowMachines.{edge_at, flow_machine}
 
 module _ {I : Type 0} where
   -- the system of a program without the fit of what edges leave

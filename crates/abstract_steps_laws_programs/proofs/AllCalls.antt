@@ -16,20 +16,20 @@ use Rattle.abstract_steps_checks.specs.ViolationSets.{no_violations}
 use Rattle.abstract_steps_library.specs.Planning.{plan_call}
 use Rattle.abstract_steps_laws_values.specs.LaidOut.{IsLaidOut}
 use Rattle.abstract_steps_laws_values.proofs.ViolationOrder.{same_below}
-use Rattle.abstract_steps_laws.specs.CallLaws.{CallRises, CopyRises}
-use Rattle.abstract_steps_laws.specs.ProgramLaws.{IsRising, IsRisingEdge, AreRising}
-use Rattle.abstract_steps_laws_library.specs.Sites.{HasSites}
-use Rattle.abstract_steps_laws_library.proofs.ResultCalls.{IsPlanned, planned_call, getchar_rises, putchar_call, exit_rises, abort_rises}
-use Rattle.abstract_steps_laws_library.proofs.CharacterCalls.{isalpha_rises, isdigit_rises, isspace_rises, isupper_rises, islower_rises, isalnum_rises, toupper_rises, tolower_rises}
-use Rattle.abstract_steps_laws_library.proofs.AllocationCalls.{malloc_rises}
-use Rattle.abstract_steps_laws_library.proofs.Products.{calloc_rises}
-use Rattle.abstract_steps_laws_library.proofs.Releases.{realloc_rises, free_rises}
-use Rattle.abstract_steps_laws_library.proofs.StringResults.{strlen_rises, strcmp_rises, puts_rises, printf_rises}
-use Rattle.abstract_steps_laws_writes.proofs.TextCopyCalls.{strcpy_rises, strncpy_rises}
-use Rattle.abstract_steps_laws_writes.proofs.AppendCalls.{strcat_rises}
-use Rattle.abstract_steps_laws_writes.proofs.LineCalls.{lines_rise}
-use Rattle.abstract_steps_laws_writes.proofs.FillCalls.{memset_rises}
-use Rattle.abstract_steps_laws_writes.proofs.CopyCalls.{memcpy_rises, memmove_rises}
+use Rattle.abstract_steps_laws_structs.specs.CallLaws.{CallRises, CopyRises}
+use Rattle.abstract_steps_laws_structs.specs.ProgramLaws.{IsRising, IsRisingEdge, AreRising}
+use Rattle.abstract_steps_laws_structs.specs.Sites.{HasSites}
+use Rattle.abstract_steps_laws_structs.proofs.ResultCalls.{IsPlanned, planned_call, getchar_rises, putchar_call, exit_rises, abort_rises}
+use Rattle.abstract_steps_laws_structs.proofs.CharacterCalls.{isalpha_rises, isdigit_rises, isspace_rises, isupper_rises, islower_rises, isalnum_rises, toupper_rises, tolower_rises}
+use Rattle.abstract_steps_laws_structs.proofs.AllocationCalls.{malloc_rises}
+use Rattle.abstract_steps_laws_structs.proofs.Products.{calloc_rises}
+use Rattle.abstract_steps_laws_structs.proofs.Releases.{realloc_rises, free_rises}
+use Rattle.abstract_steps_laws_structs.proofs.StringResults.{strlen_rises, strcmp_rises, puts_rises, printf_rises}
+use Rattle.abstract_steps_laws_structs.proofs.TextCopyCalls.{strcpy_rises, strncpy_rises}
+use Rattle.abstract_steps_laws_structs.proofs.AppendCalls.{strcat_rises}
+use Rattle.abstract_steps_laws_structs.proofs.LineCalls.{lines_rise}
+use Rattle.abstract_steps_laws_structs.proofs.FillCalls.{memset_rises}
+use Rattle.abstract_steps_laws_structs.proofs.CopyCalls.{memcpy_rises, memmove_rises}
 use Rattle.abstract_steps_laws_structs.proofs.StructCopies.{copies_rise}
 use Rattle.abstract_steps_laws_programs.specs.CopiedStructs.{is_copy, CopiesSpread}
 

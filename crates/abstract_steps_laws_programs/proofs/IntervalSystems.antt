@@ -10,10 +10,10 @@ use Rattle.interval_domain_laws.specs.Operations.{interval_monotone}
 use Rattle.value_domain.specs.Cells.{cell_lattice}
 use Rattle.abstract_steps_rows.specs.IntervalEnds.{interval_ends}
 use Rattle.abstract_steps_rows.specs.OwnRows.{program_bases}
-use Rattle.abstract_steps_system.specs.FlowMachines.{flow_machine}
-use Rattle.abstract_steps_laws.specs.ProgramLaws.{AreRising}
-use Rattle.abstract_steps_laws.specs.SystemLaws.{IsNearList}
-use Rattle.abstract_steps_laws.proofs.Systems.{system_monotone}
+use Rattle.abstract_steps_laws_structs.specs.FlowMachines.{flow_machine}
+use Rattle.abstract_steps_laws_structs.specs.ProgramLaws.{AreRising}
+use Rattle.abstract_steps_laws_structs.specs.SystemLaws.{IsNearList}
+use Rattle.abstract_steps_laws_structs.proofs.Systems.{system_monotone}
 use Rattle.abstract_steps_laws_programs.specs.Texts.{HasScalars}
 use Rattle.abstract_steps_laws_programs.specs.CopiedStructs.{CopiesSpread}
 use Rattle.abstract_steps_laws_programs.proofs.WellFormed.{well_made, laid_out, all_named}

@@ -20,7 +20,7 @@ use Rattle.interval_domain.specs.IntervalLattice.{interval_lattice}
 use Rattle.interval_domain.specs.IntervalNumbers.{interval_numbers}
 use Rattle.string_domain.specs.FirstZeros.{the_end}
 use Rattle.value_domain_laws.proofs.Flags.{or_left, or_right}
-use Rattle.abstract_steps_laws.specs.SystemLaws.{is_near_number, IsNearList}
+use Rattle.abstract_steps_laws_structs.specs.SystemLaws.{is_near_number, IsNearList}
 
 abbrev IsNear : ℤ → Type 0
 IsNear z = (negsuc (2 ^ 64 - 1) ≤ℤ z) × (z ≤ℤ pos (2 ^ 64))

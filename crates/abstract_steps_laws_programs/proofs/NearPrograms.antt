@@ -26,7 +26,7 @@ use Rattle.flow_program.specs.declared.machine_instructions.Operation.{Operation
 use Rattle.flow_program.specs.declared.machine_instructions.Operation.TheVariants as op
 use Rattle.interval_domain.specs.IntervalLattice.{interval_lattice}
 use Rattle.interval_domain.specs.IntervalNumbers.{interval_numbers}
-use Rattle.abstract_steps_laws.specs.SystemLaws.{is_near_number, IsNearList}
+use Rattle.abstract_steps_laws_structs.specs.SystemLaws.{is_near_number, IsNearList}
 use Rattle.abstract_steps_laws_programs.specs.NearNumbers.{HasNearMembers}
 use Rattle.abstract_steps_laws_programs.proofs.WellFormed.{well_made, blocks_fit, has_model}
 use Rattle.abstract_steps_laws_programs.proofs.NearLists.{thresholds_near}

@@ -29,16 +29,16 @@ use Rattle.abstract_steps_rows.specs.ProgramBases.{within_few, below_within}
 use Rattle.abstract_steps_rows.specs.OwnRows.{program_bases, reach_of, is_own_cell, is_own_row}
 use Rattle.abstract_steps_rows.specs.OwnLaws.{own_cells}
 use Rattle.abstract_steps_rows.specs.FittedRows.{cell_made, cell_fit, cells_fit, row_fit, all_cells}
-use Rattle.abstract_steps_system.specs.BlockPasses.{block_end, edge_behind, edge_end}
+use Rattle.abstract_steps_laws_structs.specs.BlockPasses.{block_end, edge_behind, edge_end}
 use Rattle.abstract_steps_laws_values.specs.RisingRows.{LeftRise}
 use Rattle.abstract_steps_laws_values.specs.LaidOut.{IsLaidOut}
 use Rattle.abstract_steps_laws_values.proofs.TempPlaces.{row_length}
-use Rattle.abstract_steps_laws.specs.FilledRows.{IsFilled, AreFilled, IsLeftFilled}
-use Rattle.abstract_steps_laws.specs.ProgramLaws.{IsNamed, AreRising}
-use Rattle.abstract_steps_laws.specs.SystemLaws.{IsNearList}
-use Rattle.abstract_steps_laws.proofs.FilledProgram.{block_fills, edge_fills}
-use Rattle.abstract_steps_laws.proofs.FittedOrder.{top_cell, top_cells, cells_filled, row_top}
-use Rattle.abstract_steps_laws.proofs.Systems.{own_rise, end_rises}
+use Rattle.abstract_steps_laws_structs.specs.FilledRows.{IsFilled, AreFilled, IsLeftFilled}
+use Rattle.abstract_steps_laws_structs.specs.ProgramLaws.{IsNamed, AreRising}
+use Rattle.abstract_steps_laws_structs.specs.SystemLaws.{IsNearList}
+use Rattle.abstract_steps_laws_structs.proofs.FilledProgram.{block_fills, edge_fills}
+use Rattle.abstract_steps_laws_structs.proofs.FittedOrder.{top_cell, top_cells, cells_filled, row_top}
+use Rattle.abstract_steps_laws_structs.proofs.Systems.{own_rise, end_rises}
 use Rattle.abstract_steps_laws_programs.specs.ProgramRows.{IsProgramRow, IsCutValue, IsCutCell, AreCut}
 
 module _ {I : Type 0} {l : LatticeOf I} {n : IntegersOf I} {stands : I → ℤ → Type 0} (o : OrderLaws l) (k : RoundLaws l) (h : HeightLaws l) (b : BoundLaws l n stands) (g : MonotoneLaws l n) (f : RangeLaws l n) (ends : EndLaws l n) (flow : Flow) (list : List ℤ) (near : IsNearList l n list) (laid : IsLaidOut (program_bases (length flow.bases.items)) flow) where

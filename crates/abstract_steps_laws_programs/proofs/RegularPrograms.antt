@@ -24,8 +24,8 @@ use Rattle.interval_domain.specs.IntervalNumbers.{interval_numbers}
 use Rattle.string_domain.specs.FirstZeros.{the_end}
 use Rattle.store_domain_laws.specs.StoreLaws.{AreBytes}
 use Rattle.abstract_steps_rows.specs.FittedRows.{list_ends}
-use Rattle.abstract_steps_laws.specs.ProgramLaws.{HasBytes, HasLeaf, NamesLeaf, TestsLeaves, MatchesLeaf, FollowsLeaves}
-use Rattle.abstract_steps_laws.specs.SystemLaws.{is_near_number, IsNearList}
+use Rattle.abstract_steps_laws_structs.specs.ProgramLaws.{HasBytes, HasLeaf, NamesLeaf, TestsLeaves, MatchesLeaf, FollowsLeaves}
+use Rattle.abstract_steps_laws_structs.specs.SystemLaws.{is_near_number, IsNearList}
 use Rattle.abstract_steps_laws_programs.specs.Texts.{HasScalars}
 use Rattle.abstract_steps_laws_programs.specs.RegularPrograms.{is_byte, has_bytes, has_leaf, names_leaf, tests_leaves, matches_leaf, follows_leaves, has_scalars, has_initial_bytes, has_apart_members, first_number, last_number, is_near_list, is_regular}
 use Rattle.abstract_steps_laws_programs.proofs.NearLists.{round_stays}

@@ -15,8 +15,8 @@ use Rattle.value_domain.specs.Cells.{cell_lattice}
 use Rattle.store_domain_laws_layouts.proofs.LaidApart.{apart_spread}
 use Rattle.abstract_steps_laws_structs.specs.SpreadStructs.{AreSpread}
 use Rattle.abstract_steps_rows.specs.OwnRows.{program_bases}
-use Rattle.abstract_steps_system.specs.FlowMachines.{flow_machine}
-use Rattle.abstract_steps_laws.specs.ProgramLaws.{AreRising}
+use Rattle.abstract_steps_laws_structs.specs.FlowMachines.{flow_machine}
+use Rattle.abstract_steps_laws_structs.specs.ProgramLaws.{AreRising}
 use Rattle.abstract_steps_laws_programs.specs.RegularPrograms.{has_apart_members, is_regular}
 use Rattle.abstract_steps_laws_programs.proofs.WellFormed.{well_made, has_model, laid_out}
 use Rattle.abstract_steps_laws_programs.proofs.Sites.{all_sites}

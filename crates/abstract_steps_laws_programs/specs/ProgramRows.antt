@@ -12,7 +12,7 @@ use Rattle.store_domain_laws.specs.TopRows.{top_row}
 use Rattle.store_domain_laws.specs.ConsistentRows.{AreConsistent}
 use Rattle.abstract_steps_rows.specs.OwnRows.{program_bases}
 use Rattle.abstract_steps_rows.specs.declared.own_cells.Reach.{Reach}
-use Rattle.abstract_steps_laws.specs.FilledRows.{AreFilled}
+use Rattle.abstract_steps_laws_structs.specs.FilledRows.{AreFilled}
 
 module _ {I : Type 0} (l : LatticeOf I) (n : IntegersOf I) where
   -- a row of the program's cells, with bounds from -2^64 to 2^64, into bases of the program

@@ -21,7 +21,7 @@ use Rattle.flow_program.specs.declared.flow_edges.Test.{Test}
 use Rattle.flow_program.specs.declared.machine_instructions.Operation.{Operation}
 use Rattle.flow_program.specs.declared.machine_instructions.Operation.TheVariants as op
 use Rattle.store_domain_laws_layouts.specs.LaidApart.{are_laid_apart}
-use Rattle.abstract_steps_laws.specs.SystemLaws.{is_near_number}
+use Rattle.abstract_steps_laws_structs.specs.SystemLaws.{is_near_number}
 
 -- ---- programs
 

@@ -5,7 +5,7 @@ use Rattle.flow_program.specs.declared.programs.Flow.{Flow}
 use Rattle.flow_program.specs.declared.basic_blocks.BasicBlock.{BasicBlock}
 use Rattle.flow_program.specs.declared.flow_edges.Edge.{Edge}
 use Rattle.flow_program.specs.declared.machine_instructions.Instruction.{Instruction}
-use Rattle.abstract_steps_laws.specs.ProgramLaws.{HasBytes, FollowsLeaves}
+use Rattle.abstract_steps_laws_structs.specs.ProgramLaws.{HasBytes, FollowsLeaves}
 
 pub record HasScalars (flow : Flow) : Type 0 where
   pub texts : (block at : ℕ) (b : BasicBlock) (i : Instruction) → slice_get flow.blocks.items block ≡ Some b → slice_get b.instructions.items at ≡ Some i → HasBytes i.operation

@@ -6,3 +6,17 @@ pub mod StructPadding
 pub mod SharedBytes
 pub mod FilledStructs
 pub mod StructCopies
+pub use Rattle.abstract_steps_laws_writes.proofs.AppendCalls
+pub use Rattle.abstract_steps_laws_writes.proofs.CopyCalls
+pub use Rattle.abstract_steps_laws_writes.proofs.FillCalls
+pub use Rattle.abstract_steps_laws_writes.proofs.LineCalls
+pub use Rattle.abstract_steps_laws_writes.proofs.TextCopyCalls
+pub use Rattle.abstract_steps_laws_writes.proofs.AllocationCalls
+pub use Rattle.abstract_steps_laws_writes.proofs.CharacterCalls
+pub use Rattle.abstract_steps_laws_writes.proofs.FilledProgram
+pub use Rattle.abstract_steps_laws_writes.proofs.FittedOrder
+pub use Rattle.abstract_steps_laws_writes.proofs.Products
+pub use Rattle.abstract_steps_laws_writes.proofs.Releases
+pub use Rattle.abstract_steps_laws_writes.proofs.ResultCalls
+pub use Rattle.abstract_steps_laws_writes.proofs.StringResults
+pub use Rattle.abstract_steps_laws_writes.proofs.Systems

@@ -5,7 +5,7 @@ ghost use Rattle.flow_program.specs.WellFormed.{is_laid_out};
 ghost use Rattle.flow_program.specs.declared.programs.Flow.{Flow};
 ghost use Rattle.pointer_domain.specs.declared.base_sets.Bases.{Bases};
 ghost use Rattle.abstract_steps_laws_values.specs.LaidOut.{IsLaidOut};
-ghost use Rattle.abstract_steps_laws.specs.CallLaws.{CopyRises};
+ghost use Rattle.abstract_steps_laws_writes.specs.CallLaws.{CopyRises};
 ghost use Rattle.abstract_steps_laws_structs.specs.SpreadStructs.{AreSpread};
 
 use cc_base::IntDomain;

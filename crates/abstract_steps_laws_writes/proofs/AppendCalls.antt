@@ -34,8 +34,8 @@ use Rattle.abstract_steps_library.specs.Outputs.{argument_at, scan_at, scanned_t
 use Rattle.abstract_steps_library.specs.MemoryCalls.{room_trail, target_of}
 use Rattle.abstract_steps_library.specs.StringCalls.{one_more, append_start, append_window, appended, append_effect, source_characters, two_given, strcat_need, plan_strcat}
 use Rattle.abstract_steps_library.specs.Planning.{plan_call}
-use Rattle.abstract_steps_instructions.specs.CallSteps.{call_of, call_step}
-use Rattle.abstract_steps_laws.specs.CallLaws.{CallRises}
+use Rattle.abstract_steps_laws_library.specs.CallSteps.{call_of, call_step}
+use Rattle.abstract_steps_laws_library.specs.CallLaws.{CallRises}
 use Rattle.abstract_steps_laws_values.specs.LaidOut.{IsLaidOut}
 use Rattle.abstract_steps_laws_values.specs.StepLaws.{FlowRows}
 use Rattle.abstract_steps_laws_library.proofs.Trails.{TrailsBelow}

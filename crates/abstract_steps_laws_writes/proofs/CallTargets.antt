@@ -31,7 +31,7 @@ use Rattle.abstract_steps_library.specs.Plans.{planned}
 use Rattle.abstract_steps_library.specs.MemoryCalls.{lower_of, is_one_byte, room_trail, target_of}
 use Rattle.abstract_steps_library.specs.Arguments.{room_violations, literal_violations}
 use Rattle.abstract_steps_library.specs.Effects.{apply}
-use Rattle.abstract_steps_instructions.specs.CallSteps.{call_of, goes_on}
+use Rattle.abstract_steps_laws_library.specs.CallSteps.{call_of, goes_on}
 use Rattle.abstract_steps_laws_values.specs.RisingRows.{LeftRise, PointersRise}
 use Rattle.abstract_steps_laws_values.specs.LaidOut.{IsLaidOut}
 use Rattle.abstract_steps_laws_values.proofs.Results.{smaller_own}

@@ -41,10 +41,10 @@ use Rattle.abstract_steps_library.specs.MemoryCalls.{lower_of, room_trail, targe
 use Rattle.abstract_steps_library.specs.Outputs.{argument_at}
 use Rattle.abstract_steps_library.specs.Planning.{plan_call}
 use Rattle.abstract_steps_library.specs.Plans.{trail_of}
-use Rattle.abstract_steps_instructions.specs.CallSteps.{call_of}
-use Rattle.abstract_steps_laws.specs.CallLaws.{CallRises}
-use Rattle.abstract_steps_laws.specs.FilledRows.{IsLeftFilled}
-use Rattle.abstract_steps_laws.proofs.MemorySteps.{row_near}
+use Rattle.abstract_steps_laws_library.specs.CallSteps.{call_of}
+use Rattle.abstract_steps_laws_library.specs.CallLaws.{CallRises}
+use Rattle.abstract_steps_laws_library.specs.FilledRows.{IsLeftFilled}
+use Rattle.abstract_steps_laws_library.proofs.MemorySteps.{row_near}
 use Rattle.abstract_steps_laws_values.specs.RisingRows.{LeftRise, ValuesRise}
 use Rattle.abstract_steps_laws_values.specs.LaidOut.{IsLaidOut}
 use Rattle.abstract_steps_laws_values.specs.StepLaws.{FlowRows}

@@ -47,10 +47,10 @@ use Rattle.abstract_steps_library.specs.MemoryCalls.{sure_window, lower_of, is_z
 use Rattle.abstract_steps_library.specs.Effects.{apply}
 use Rattle.abstract_steps_library.specs.FillWrites.{write_fill}
 use Rattle.abstract_steps_library.specs.Planning.{plan_call}
-use Rattle.abstract_steps_instructions.specs.CallSteps.{call_of, call_step}
-use Rattle.abstract_steps_laws.proofs.MemorySteps.{row_near}
-use Rattle.abstract_steps_laws.specs.CallLaws.{CallRises}
-use Rattle.abstract_steps_laws.specs.FilledRows.{LeavesFilled}
+use Rattle.abstract_steps_laws_library.specs.CallSteps.{call_of, call_step}
+use Rattle.abstract_steps_laws_library.proofs.MemorySteps.{row_near}
+use Rattle.abstract_steps_laws_library.specs.CallLaws.{CallRises}
+use Rattle.abstract_steps_laws_library.specs.FilledRows.{LeavesFilled}
 use Rattle.abstract_steps_laws_values.specs.RisingRows.{LeftRise, PointersRise, ValuesRise}
 use Rattle.abstract_steps_laws_values.specs.LaidOut.{IsLaidOut}
 use Rattle.abstract_steps_laws_values.specs.StepLaws.{FlowRows}

@@ -8,8 +8,8 @@ use Rattle.flow_program.specs.declared.programs.Flow.{Flow}
 use Rattle.store_domain.specs.LeafSelection.{has_stray}
 use Rattle.abstract_steps_library.specs.declared.copied_bytes.CopyWrite.{CopyWrite}
 use Rattle.abstract_steps_library.specs.CopyWrites.{copy_leaf, copy_leaf_of, copy_leaves, copy_class_of, copy_class_cells, copy_base, copy_base_if, copy_in, write_copy}
-use Rattle.abstract_steps_laws.specs.FilledRows.{Fills}
-use Rattle.abstract_steps_laws.proofs.FilledSteps.{fill_if, fill_walk, fill_turns, fill_join, fill_forgotten}
+use Rattle.abstract_steps_laws_library.specs.FilledRows.{Fills}
+use Rattle.abstract_steps_laws_library.proofs.FilledSteps.{fill_if, fill_walk, fill_turns, fill_join, fill_forgotten}
 
 module _ {I : Type 0} (l : LatticeOf I) (n : IntegersOf I) where
   leaves_fill : (m : Model) (base : BaseInfo) (write : CopyWrite I) → Fills (copy_leaves l n m base write)

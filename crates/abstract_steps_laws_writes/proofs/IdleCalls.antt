@@ -19,7 +19,7 @@ use Rattle.abstract_steps_library.specs.declared.call_plans.Effect.TheVariants a
 use Rattle.abstract_steps_library.specs.declared.memory_calls.Target.{Target}
 use Rattle.abstract_steps_library.specs.MemoryCalls.{lower_of, nothing_written}
 use Rattle.abstract_steps_library.specs.Effects.{put_result, apply}
-use Rattle.abstract_steps_instructions.specs.CallSteps.{goes_on}
+use Rattle.abstract_steps_laws_library.specs.CallSteps.{goes_on}
 use Rattle.abstract_steps_laws_values.specs.RisingRows.{LeftRise, PointersRise}
 use Rattle.abstract_steps_laws_values.specs.LaidOut.{IsLaidOut}
 use Rattle.abstract_steps_laws_values.specs.StepLaws.{FlowRows}

@@ -30,3 +30,13 @@ pub mod CopyWrites
 pub mod FilledCopies
 pub mod PlannedWrites
 pub mod CopyCalls
+pub use Rattle.abstract_steps_laws_library.proofs.FilledSteps
+pub use Rattle.abstract_steps_laws_library.proofs.AllocationCalls
+pub use Rattle.abstract_steps_laws_library.proofs.CharacterCalls
+pub use Rattle.abstract_steps_laws_library.proofs.FilledProgram
+pub use Rattle.abstract_steps_laws_library.proofs.FittedOrder
+pub use Rattle.abstract_steps_laws_library.proofs.Products
+pub use Rattle.abstract_steps_laws_library.proofs.Releases
+pub use Rattle.abstract_steps_laws_library.proofs.ResultCalls
+pub use Rattle.abstract_steps_laws_library.proofs.StringResults
+pub use Rattle.abstract_steps_laws_library.proofs.Systems

@@ -32,8 +32,8 @@ use Rattle.abstract_steps_library.specs.Arguments.{argument_value}
 use Rattle.abstract_steps_library.specs.Outputs.{argument_at, given_trail}
 use Rattle.abstract_steps_library.specs.MemoryCalls.{room_trail, target_of}
 use Rattle.abstract_steps_library.specs.StringCalls.{input_characters, line_count, line_trail, line_rule, plan_fgets}
-use Rattle.abstract_steps_instructions.specs.CallSteps.{line_call, write_line}
-use Rattle.abstract_steps_laws.specs.CallLaws.{LineRises}
+use Rattle.abstract_steps_laws_library.specs.CallSteps.{line_call, write_line}
+use Rattle.abstract_steps_laws_library.specs.CallLaws.{LineRises}
 use Rattle.abstract_steps_laws_values.specs.RisingRows.{ValuesRise}
 use Rattle.abstract_steps_laws_values.specs.LaidOut.{IsLaidOut}
 use Rattle.abstract_steps_laws_values.specs.StepLaws.{FlowRows}

@@ -14,9 +14,9 @@ use Rattle.abstract_steps_library.specs.declared.call_plans.Trail.{Trail}
 use Rattle.abstract_steps_library.specs.Plans.{planned}
 use Rattle.abstract_steps_library.specs.Effects.{apply}
 use Rattle.abstract_steps_library.specs.Planning.{plan_call}
-use Rattle.abstract_steps_instructions.specs.CallSteps.{call_of, call_step}
-use Rattle.abstract_steps_laws.specs.CallLaws.{CallRises}
-use Rattle.abstract_steps_laws.specs.FilledRows.{LeavesFilled}
+use Rattle.abstract_steps_laws_library.specs.CallSteps.{call_of, call_step}
+use Rattle.abstract_steps_laws_library.specs.CallLaws.{CallRises}
+use Rattle.abstract_steps_laws_library.specs.FilledRows.{LeavesFilled}
 use Rattle.abstract_steps_laws_values.specs.RisingRows.{LeftRise}
 use Rattle.abstract_steps_laws_values.specs.StepLaws.{FlowRows}
 use Rattle.abstract_steps_laws_values.specs.ViolationsBelow.{ViolationsBelow}

@@ -25,7 +25,7 @@ use Rattle.store_domain_laws.proofs.LiveSets.{has_monotone}
 use Rattle.store_domain_laws.proofs.Loads.{base_monotone, character_monotone}
 use Rattle.store_domain_laws.proofs.PairedSteps.{walk_pair, cond_pair}
 use Rattle.store_domain_laws.proofs.Windows.{WindowsBelow}
-use Rattle.abstract_steps_laws.proofs.OwnLoads.{IsOwnRead, joined_own, one_read, base_own}
+use Rattle.abstract_steps_laws_library.proofs.OwnLoads.{IsOwnRead, joined_own, one_read, base_own}
 use Rattle.abstract_steps_library.specs.Sources.{character_access, read_characters, characters_read, is_blank, is_blank_or, reads_blank, reads_blank_in, number_of, labels_of, characters_of}
 use Rattle.abstract_steps_laws_writes.specs.TextOrder.{CharactersBelow}
 

@@ -20,8 +20,8 @@ use Rattle.abstract_steps_checks.specs.LibraryArguments.{touched_window, within_
 use Rattle.abstract_steps_library.specs.Calls.{Call}
 use Rattle.abstract_steps_library.specs.Outputs.{argument_at, scan_at}
 use Rattle.abstract_steps_library.specs.StringCalls.{source_characters, two_given}
-use Rattle.abstract_steps_instructions.specs.CallSteps.{call_of}
-use Rattle.abstract_steps_laws.proofs.MemorySteps.{row_near}
+use Rattle.abstract_steps_laws_library.specs.CallSteps.{call_of}
+use Rattle.abstract_steps_laws_library.proofs.MemorySteps.{row_near}
 use Rattle.abstract_steps_laws_values.specs.RisingRows.{PointersRise}
 use Rattle.abstract_steps_laws_values.specs.LaidOut.{IsLaidOut}
 use Rattle.abstract_steps_laws_values.specs.StepLaws.{FlowRows}

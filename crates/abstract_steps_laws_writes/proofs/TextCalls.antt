@@ -30,8 +30,8 @@ use Rattle.abstract_steps_library.specs.MemoryCalls.{lower_of, nothing_written}
 use Rattle.abstract_steps_library.specs.StringCalls.{text_effect}
 use Rattle.abstract_steps_library.specs.Effects.{apply}
 use Rattle.abstract_steps_library.specs.TextWrites.{write_text}
-use Rattle.abstract_steps_instructions.specs.CallSteps.{call_of, goes_on}
-use Rattle.abstract_steps_laws.proofs.MemorySteps.{row_near}
+use Rattle.abstract_steps_laws_library.specs.CallSteps.{call_of, goes_on}
+use Rattle.abstract_steps_laws_library.proofs.MemorySteps.{row_near}
 use Rattle.abstract_steps_laws_values.specs.RisingRows.{LeftRise, PointersRise}
 use Rattle.abstract_steps_laws_values.specs.LaidOut.{IsLaidOut}
 use Rattle.abstract_steps_laws_values.specs.StepLaws.{FlowRows}

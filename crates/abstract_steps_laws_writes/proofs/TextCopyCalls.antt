@@ -35,9 +35,9 @@ use Rattle.abstract_steps_library.specs.Outputs.{argument_at, scan_at, scanned_t
 use Rattle.abstract_steps_library.specs.MemoryCalls.{both_given, room_trail, target_of}
 use Rattle.abstract_steps_library.specs.StringCalls.{one_more, one_less, source_characters, two_given, reads_no_string, strncpy_trail, plan_strcpy, plan_strncpy}
 use Rattle.abstract_steps_library.specs.Planning.{plan_call}
-use Rattle.abstract_steps_instructions.specs.CallSteps.{call_of, call_step}
-use Rattle.abstract_steps_laws.proofs.MemorySteps.{row_near}
-use Rattle.abstract_steps_laws.specs.CallLaws.{CallRises}
+use Rattle.abstract_steps_laws_library.specs.CallSteps.{call_of, call_step}
+use Rattle.abstract_steps_laws_library.proofs.MemorySteps.{row_near}
+use Rattle.abstract_steps_laws_library.specs.CallLaws.{CallRises}
 use Rattle.abstract_steps_laws_values.specs.RisingRows.{ValuesRise}
 use Rattle.abstract_steps_laws_values.specs.LaidOut.{IsLaidOut}
 use Rattle.abstract_steps_laws_values.specs.StepLaws.{FlowRows}

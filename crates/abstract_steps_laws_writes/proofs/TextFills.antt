@@ -27,9 +27,9 @@ use Rattle.abstract_steps_library.specs.MemoryCalls.{lower_of, nothing_written}
 use Rattle.abstract_steps_library.specs.StringCalls.{text_effect}
 use Rattle.abstract_steps_library.specs.Effects.{apply}
 use Rattle.abstract_steps_library.specs.TextWrites.{write_leaf, write_leaf_of, write_leaves, write_stray, write_class, write_class_cells, write_zero, write_zeros, write_heap_part, write_base, write_base_if, write_into, write_in, write_text}
-use Rattle.abstract_steps_instructions.specs.CallSteps.{call_of}
-use Rattle.abstract_steps_laws.specs.FilledRows.{IsLeftFilled, Fills, LeavesFilled}
-use Rattle.abstract_steps_laws.proofs.FilledSteps.{fill_set, fill_if, fill_walk, fill_turns, fill_join}
+use Rattle.abstract_steps_laws_library.specs.CallSteps.{call_of}
+use Rattle.abstract_steps_laws_library.specs.FilledRows.{IsLeftFilled, Fills, LeavesFilled}
+use Rattle.abstract_steps_laws_library.proofs.FilledSteps.{fill_set, fill_if, fill_walk, fill_turns, fill_join}
 use Rattle.abstract_steps_laws_values.specs.LaidOut.{IsLaidOut}
 use Rattle.abstract_steps_laws_library.proofs.ResultCalls.{put_fills}
 

@@ -23,8 +23,8 @@ use Rattle.abstract_steps_library.specs.declared.text_writes.ZeroRule.TheVariant
 use Rattle.abstract_steps_library.specs.MemoryCalls.{lower_of, is_one_byte, room_trail, target_of}
 use Rattle.abstract_steps_library.specs.StringCalls.{text_effect, text_from_start}
 use Rattle.abstract_steps_library.specs.Effects.{apply}
-use Rattle.abstract_steps_instructions.specs.CallSteps.{call_of, goes_on}
-use Rattle.abstract_steps_laws.specs.FilledRows.{LeavesFilled}
+use Rattle.abstract_steps_laws_library.specs.CallSteps.{call_of, goes_on}
+use Rattle.abstract_steps_laws_library.specs.FilledRows.{LeavesFilled}
 use Rattle.abstract_steps_laws_values.specs.RisingRows.{LeftRise, PointersRise}
 use Rattle.abstract_steps_laws_values.specs.LaidOut.{IsLaidOut}
 use Rattle.abstract_steps_laws_values.specs.StepLaws.{FlowRows}

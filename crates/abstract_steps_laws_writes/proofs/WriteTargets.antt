@@ -33,7 +33,7 @@ use Rattle.abstract_steps_library.specs.declared.call_plans.Trail.{Trail}
 use Rattle.abstract_steps_library.specs.declared.memory_calls.Target.{Target}
 use Rattle.abstract_steps_library.specs.Arguments.{room_violations, literal_violations}
 use Rattle.abstract_steps_library.specs.MemoryCalls.{room_trail, target_of}
-use Rattle.abstract_steps_instructions.specs.CallSteps.{call_of}
+use Rattle.abstract_steps_laws_library.specs.CallSteps.{call_of}
 use Rattle.abstract_steps_laws_values.specs.RisingRows.{PointersRise}
 use Rattle.abstract_steps_laws_values.specs.LaidOut.{IsLaidOut}
 use Rattle.abstract_steps_laws_values.proofs.LiveParts.{writable_own, writable_empty, literal_more}

@@ -2,3 +2,10 @@ pub mod TextOrder
 pub mod TextCalls
 pub mod CopyOrder
 pub mod MemoryCalls
+pub use Rattle.abstract_steps_laws_library.specs.CallLaws
+pub use Rattle.abstract_steps_laws_library.specs.FilledRows
+pub use Rattle.abstract_steps_laws_library.specs.BlockPasses
+pub use Rattle.abstract_steps_laws_library.specs.FlowMachines
+pub use Rattle.abstract_steps_laws_library.specs.ProgramLaws
+pub use Rattle.abstract_steps_laws_library.specs.Sites
+pub use Rattle.abstract_steps_laws_library.specs.SystemLaws

@@ -4,7 +4,7 @@ use Rattle.cc_base.specs.IntegerDomains.{IntegersOf}
 use Rattle.c_layout.specs.declared.library_functions.LibFn.TheVariants as f
 use Rattle.flow_program.specs.declared.programs.Flow.{Flow}
 use Rattle.pointer_domain.specs.declared.base_sets.Bases.{Bases}
-use Rattle.abstract_steps_laws.specs.CallLaws.{CallRises}
+use Rattle.abstract_steps_laws_library.specs.CallLaws.{CallRises}
 
 pub record TextCallsRise {I : Type 0} (l : LatticeOf I) (n : IntegersOf I) (all : Bases) (flow : Flow) : Type 0 where
   pub strcpy : CallRises l n all flow f.Strcpy

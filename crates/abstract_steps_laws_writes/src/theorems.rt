@@ -4,10 +4,10 @@ ghost use Rattle.flow_program.specs.declared.programs.Flow.{Flow};
 ghost use Rattle.pointer_domain.specs.declared.base_sets.Bases.{Bases};
 ghost use Rattle.abstract_steps_laws_values.specs.LaidOut.{IsLaidOut};
 ghost use Rattle.abstract_steps_laws_writes.specs.TextOrder.{TextsRise, OneTextRises};
-ghost use Rattle.abstract_steps_laws.specs.CallLaws.{LineRises};
+ghost use Rattle.abstract_steps_laws_library.specs.CallLaws.{LineRises};
 ghost use Rattle.abstract_steps_laws_writes.specs.TextCalls.{TextCallsRise};
 ghost use Rattle.c_layout.specs.declared.library_functions.LibFn.TheVariants.{Memset};
-ghost use Rattle.abstract_steps_laws.specs.CallLaws.{CallRises};
+ghost use Rattle.abstract_steps_laws_library.specs.CallLaws.{CallRises};
 ghost use Rattle.abstract_steps_laws_writes.specs.CopyOrder.{CopiesRise};
 ghost use Rattle.abstract_steps_laws_writes.specs.MemoryCalls.{MemoryCallsRise};
 

@@ -56,8 +56,8 @@ use Rattle.lib_models_effects.specs.PointerEffects.{is_ended_life, is_ended, off
 use Rattle.lib_models_effects.specs.Worlds.{Reply, goes, unless}
 use Rattle.flow_program_machine.specs.FlowStates.{Standing}
 use Rattle.flow_program_machine.specs.FlowActs.{giving}
-use Rattle.store_domain_meaning.specs.ValueMeaning.{Naming, StandsInto, StandsByLife, StandsPointer, StandsScalar}
-use Rattle.store_domain_meaning.specs.SoundMemory.{IsWithin, IsPointerIn}
+use Rattle.store_domain_sound.specs.ValueMeaning.{Naming, StandsInto, StandsByLife, StandsPointer, StandsScalar}
+use Rattle.store_domain_sound.specs.SoundMemory.{IsWithin, IsPointerIn}
 use Rattle.store_domain_sound.proofs.OneBases.{one_base}
 use Rattle.store_domain_sound.proofs.Sets.{is_single}
 use Rattle.store_domain_sound.proofs.Slices.{get_there}

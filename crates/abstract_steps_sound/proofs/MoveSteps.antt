@@ -45,9 +45,9 @@ use Rattle.lib_models_effects.specs.Operands.{as_pointer}
 use Rattle.lib_models_effects.specs.Worlds.{World, Reply, noted, unless}
 use Rattle.flow_program_machine.specs.FlowStates.{Standing}
 use Rattle.flow_program_machine.specs.FlowActs.{giving, with_amount}
-use Rattle.store_domain_meaning.specs.SeenLabels.{as_set}
-use Rattle.store_domain_meaning.specs.ValueMeaning.{Naming, StandsInto, StandsByLife, StandsPointer, StandsScalar}
-use Rattle.store_domain_meaning.specs.SoundMemory.{IsWithin, IsPointerIn}
+use Rattle.store_domain_sound.specs.SeenLabels.{as_set}
+use Rattle.store_domain_sound.specs.ValueMeaning.{Naming, StandsInto, StandsByLife, StandsPointer, StandsScalar}
+use Rattle.store_domain_sound.specs.SoundMemory.{IsWithin, IsPointerIn}
 use Rattle.store_domain_sound.proofs.Sets.{none_has}
 use Rattle.store_domain_sound_programs.specs.Premises.{HasPremises}
 use Rattle.abstract_steps_sound.specs.SoundSteps.{IsReached, IsStoodFor, StepIsSound}

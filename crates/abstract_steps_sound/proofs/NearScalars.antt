@@ -15,8 +15,8 @@ use Rattle.store_domain.specs.NearValues.{is_near, near_number, near_pointer, ne
 use Rattle.lib_models_memory.specs.Bytes.{MachinePointer, null, into}
 use Rattle.lib_models_memory.specs.Instances.{Memory, Life, live, ended, freed, bytes_at, life_at}
 use Rattle.lib_models_memory.specs.Scalars.{Scalar, integer, pointer}
-use Rattle.store_domain_meaning.specs.ValueMeaning.{Naming, StandsInto, StandsByLife, StandsPointer, StandsScalar}
-use Rattle.store_domain_meaning.specs.SoundMemory.{IsWithin, IsPointerIn, IsScalarIn, IsMemoryOf}
+use Rattle.store_domain_sound.specs.ValueMeaning.{Naming, StandsInto, StandsByLife, StandsPointer, StandsScalar}
+use Rattle.store_domain_sound.specs.SoundMemory.{IsWithin, IsPointerIn, IsScalarIn, IsMemoryOf}
 
 -- a number from -2^64 to 2^64
 pub record IsNearNumber (z : ℤ) : Type 0 where

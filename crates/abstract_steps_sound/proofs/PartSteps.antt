@@ -39,9 +39,9 @@ use Rattle.lib_models_effects.specs.Operands.{as_pointer}
 use Rattle.lib_models_effects.specs.Worlds.{behind, goes}
 use Rattle.flow_program_machine.specs.FlowStates.{Standing, size_in}
 use Rattle.flow_program_machine.specs.FlowActs.{giving}
-use Rattle.store_domain_meaning.specs.ValueMeaning.{Naming, StandsInto, StandsByLife, StandsPointer, StandsScalar}
-use Rattle.store_domain_meaning.specs.SoundMemory.{IsWithin, IsPointerIn, storage_for}
-use Rattle.store_domain_meaning.specs.Coverage.{state_of}
+use Rattle.store_domain_sound.specs.ValueMeaning.{Naming, StandsInto, StandsByLife, StandsPointer, StandsScalar}
+use Rattle.store_domain_sound.specs.SoundMemory.{IsWithin, IsPointerIn, storage_for}
+use Rattle.store_domain_sound.specs.Coverage.{state_of}
 use Rattle.store_domain_sound.proofs.Freed.{into_freed}
 use Rattle.store_domain_sound.proofs.LoadSound.{instance_there}
 use Rattle.store_domain_sound.proofs.Sets.{none_has}

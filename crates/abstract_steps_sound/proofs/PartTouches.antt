@@ -19,9 +19,9 @@ use Rattle.store_domain.specs.RowPositions.{state_at, state_position}
 use Rattle.store_domain.specs.LiveBases.{most_bases, may_be_live, is_live_in, live_of}
 use Rattle.abstract_steps_checks.specs.Touches.{leaves_bounds_at, span_of, is_nowhere, places_within, touch_violations, touch}
 use Rattle.lib_models_memory.specs.Instances.{live, bytes_at, life_at}
-use Rattle.store_domain_meaning.specs.ValueMeaning.{Naming, StandsInto, StandsState}
-use Rattle.store_domain_meaning.specs.SoundMemory.{IsWithin}
-use Rattle.store_domain_meaning.specs.RowMeaning.{MachineState, StandsFor}
+use Rattle.store_domain_sound.specs.ValueMeaning.{Naming, StandsInto, StandsState}
+use Rattle.store_domain_sound.specs.SoundMemory.{IsWithin}
+use Rattle.store_domain_sound.specs.RowMeaning.{MachineState, StandsFor}
 use Rattle.store_domain_sound.specs.Shapes.{AreShaped}
 use Rattle.store_domain_sound.proofs.Slices.{get_there}
 use Rattle.store_domain_sound.proofs.Windows.{RangeHas, met_has}

@@ -18,8 +18,8 @@ use Rattle.lib_models_memory.specs.Scalars.{pointer}
 use Rattle.lib_models_effects.specs.Worlds.{World, goes, violating, stopped_by}
 use Rattle.flow_program_machine.specs.FlowStates.{Standing}
 use Rattle.flow_program_machine.specs.FlowActs.{giving}
-use Rattle.store_domain_meaning.specs.ValueMeaning.{Naming, StandsInto, StandsByLife, StandsPointer}
-use Rattle.store_domain_meaning.specs.SoundMemory.{IsPointerIn}
+use Rattle.store_domain_sound.specs.ValueMeaning.{Naming, StandsInto, StandsByLife, StandsPointer}
+use Rattle.store_domain_sound.specs.SoundMemory.{IsPointerIn}
 use Rattle.store_domain_sound_programs.specs.Premises.{HasPremises}
 use Rattle.abstract_steps_sound.specs.SoundSteps.{IsReached, IsStoodFor}
 use Rattle.abstract_steps_sound.proofs.Admitted.{AreAdmitted, one_admitted, both_admitted}

@@ -22,9 +22,9 @@ use Rattle.lib_models_memory.specs.Instances.{Memory, bytes_at, life_at}
 use Rattle.lib_models_memory.specs.Scalars.{Scalar, pointer}
 use Rattle.lib_models_memory.specs.Bytes.{MachinePointer}
 use Rattle.lib_models_effects.specs.NumberedTables.{set_at, put_at}
-use Rattle.store_domain_meaning.specs.ValueMeaning.{Naming, StandsScalar, StandsZero, StandsState}
-use Rattle.store_domain_meaning.specs.SoundMemory.{IsScalarIn, IsNamed}
-use Rattle.store_domain_meaning.specs.RowMeaning.{MachineState, array_bytes, StandsLeaf, StandsClass, StandsFor}
+use Rattle.store_domain_sound.specs.ValueMeaning.{Naming, StandsScalar, StandsZero, StandsState}
+use Rattle.store_domain_sound.specs.SoundMemory.{IsScalarIn, IsNamed}
+use Rattle.store_domain_sound.specs.RowMeaning.{MachineState, array_bytes, StandsLeaf, StandsClass, StandsFor}
 use Rattle.store_domain_sound.specs.Scalars.{IsScalarNamed}
 use Rattle.store_domain_sound.proofs.Only.{cell_put}
 use Rattle.store_domain_sound.proofs.Slices.{get_set_other}

@@ -23,7 +23,7 @@ use Rattle.abstract_steps_values.specs.ResultTemps.{put_number, put_truth, put_p
 use Rattle.lib_models_memory.specs.Bytes.{MachinePointer, null, into}
 use Rattle.lib_models_memory.specs.Instances.{Memory, Life, live, ended, freed, life_at}
 use Rattle.lib_models_effects.specs.IntegerEffects.{truth}
-use Rattle.store_domain_meaning.specs.ValueMeaning.{Naming, StandsByLife, StandsPointer, StandsScalar}
+use Rattle.store_domain_sound.specs.ValueMeaning.{Naming, StandsByLife, StandsPointer, StandsScalar}
 use Rattle.abstract_steps_sound.proofs.NearScalars.{IsNearScalar}
 
 pub truth_near : (b : Bool) → IsNearScalar (truth b)

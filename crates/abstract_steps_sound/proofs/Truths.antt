@@ -19,7 +19,7 @@ use Rattle.abstract_steps_values.specs.ResultTemps.{negated}
 use Rattle.lib_models_memory.specs.Bytes.{null, into}
 use Rattle.lib_models_memory.specs.Instances.{Memory, Life, live, ended, freed, life_at}
 use Rattle.lib_models_memory.specs.Scalars.{Scalar, integer, pointer, is_false}
-use Rattle.store_domain_meaning.specs.ValueMeaning.{Naming, StandsByLife, StandsScalar}
+use Rattle.store_domain_sound.specs.ValueMeaning.{Naming, StandsByLife, StandsScalar}
 
 pub negated_holds : (t : Tri) → can_hold (negated t) ≡ can_fail t
 negated_holds Yes = refl

@@ -53,9 +53,9 @@ use Rattle.lib_models_effects.specs.Worlds.{Stuck, Reply, goes, stops, violating
 use Rattle.lib_models_effects.specs.IntegerEffects.{truth, plain_one, is_outside, binary_faults, why_none, computed, binary_numbers, unary_math, overflow_faults, unary_number, pointer_from, convert, fault_if}
 use Rattle.flow_program_machine.specs.FlowStates.{Standing}
 use Rattle.flow_program_machine.specs.FlowActs.{giving, with_amount}
-use Rattle.store_domain_meaning.specs.SeenLabels.{as_set}
-use Rattle.store_domain_meaning.specs.ValueMeaning.{Naming, StandsScalar, StandsPointer}
-use Rattle.store_domain_meaning.specs.SoundMemory.{IsPointerIn, IsScalarIn}
+use Rattle.store_domain_sound.specs.SeenLabels.{as_set}
+use Rattle.store_domain_sound.specs.ValueMeaning.{Naming, StandsScalar, StandsPointer}
+use Rattle.store_domain_sound.specs.SoundMemory.{IsPointerIn, IsScalarIn}
 use Rattle.store_domain_sound.specs.Scalars.{IsOfKind}
 use Rattle.store_domain_sound_programs.specs.Premises.{HasPremises}
 use Rattle.abstract_steps_sound.specs.OperandTypes.{HasNumberOf, HasKind, HasOperands}

@@ -21,12 +21,12 @@ use Rattle.abstract_steps_instructions.specs.StepViolations.{operation_violation
 use Rattle.lib_models_memory.specs.Instances.{Memory, bytes_at}
 use Rattle.lib_models_effects.specs.Worlds.{World, Reply, goes, world_of}
 use Rattle.flow_lower_tasks.specs.Acts.{act}
-use Rattle.flow_program_views.specs.ProgramViews.{flow_view}
+use Rattle.flow_program_machine.specs.ProgramViews.{flow_view}
 use Rattle.flow_program_machine.specs.FlowStates.{Standing}
 use Rattle.flow_program_machine.specs.FlowSteps.{act_step}
-use Rattle.store_domain_meaning.specs.ValueMeaning.{Naming}
-use Rattle.store_domain_meaning.specs.RowMeaning.{StandsFor}
-use Rattle.store_domain_meaning.specs.Coverage.{state_of}
+use Rattle.store_domain_sound.specs.ValueMeaning.{Naming}
+use Rattle.store_domain_sound.specs.RowMeaning.{StandsFor}
+use Rattle.store_domain_sound.specs.Coverage.{state_of}
 use Rattle.store_domain_sound_programs.specs.Premises.{HasPremises}
 use Rattle.abstract_steps_sound.specs.OperandTypes.{HasOperands}
 

@@ -59,8 +59,8 @@ use Rattle.abstract_steps_sound.specs.SoundSteps.{AreShort, IsReached, StandsBeh
 use Rattle.abstract_steps_sound.proofs.Admitted.{AreAdmitted, none_admitted, one_admitted, both_admitted}
 use Rattle.abstract_steps_sound.proofs.PutTemps.{IsResult, put_stands, put_long}
 use Rattle.abstract_steps_sound.proofs.Replies.{stop_good}
-use Rattle.abstract_steps_sound_calls.proofs.Calls.{DrawnEnd, gave, ran_out, drawn_end, clean, GoodPlan, plan_stops}
-use Rattle.abstract_steps_sound_strings.proofs.Trails.{still_told}
+use Rattle.abstract_steps_sound_fills.proofs.Calls.{DrawnEnd, gave, ran_out, drawn_end, clean, GoodPlan, plan_stops}
+use Rattle.abstract_steps_sound_fills.proofs.Trails.{still_told}
 use Rattle.abstract_steps_sound_enter.proofs.GrownMemory.{grows}
 use Rattle.abstract_steps_sound_fills.proofs.WriteCalls.{argument_stands, value_of}
 use Rattle.abstract_steps_sound_allocations.proofs.FreshCells.{untyped_long}

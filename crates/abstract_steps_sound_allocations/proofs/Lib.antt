@@ -10,3 +10,5 @@ pub mod Products
 pub mod AllocationCalls
 pub mod AllocationSteps
 pub mod Counterexamples
+pub use Rattle.abstract_steps_sound_fills.proofs.WriteCalls
+pub use Rattle.abstract_steps_sound_enter.proofs.GrownMemory

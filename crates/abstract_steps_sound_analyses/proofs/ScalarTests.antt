@@ -29,7 +29,7 @@ use Rattle.abstract_steps.specs.Refinements.{named_by}
 use Rattle.store_domain_sound.specs.Scalars.{signed_in}
 use Rattle.store_domain_sound.proofs.Classes.{same_class_is}
 use Rattle.store_domain_sound_programs.proofs.ShapedBases.{all_at}
-use Rattle.abstract_steps_sound_tests.specs.ScalarObjects.{IsScalarObject, NamesScalar, IsCaseObject, IsIntegerTest, IsPointerTest, IsNullTest}
+use Rattle.abstract_steps_sound_programs.specs.ScalarObjects.{IsScalarObject, NamesScalar, IsCaseObject, IsIntegerTest, IsPointerTest, IsNullTest}
 use Rattle.abstract_steps_sound_programs.specs.OpenSteps.{TestIsProved, CaseIsProved, KindIsProved}
 
 -- ---- leaves

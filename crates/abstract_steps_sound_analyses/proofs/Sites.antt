@@ -6,8 +6,8 @@ use Rattle.c_layout.specs.declared.library_functions.LibFn.TheVariants as f
 use Rattle.flow_program.specs.declared.machine_instructions.Operation.TheVariants as op
 use Rattle.flow_program.specs.declared.programs.Flow.{Flow}
 use Rattle.flow_program_objects.specs.Sites.{allocates, has_site, has_sites}
-use Rattle.abstract_steps_sound_allocations.specs.AllocationCalls.{Allocates}
-use Rattle.abstract_steps_sound_reallocations.specs.ReallocationCalls.{Reallocates}
+use Rattle.abstract_steps_sound_programs.specs.AllocationCalls.{Allocates}
+use Rattle.abstract_steps_sound_programs.specs.ReallocationCalls.{Reallocates}
 use Rattle.abstract_steps_sound_programs.specs.OpenSteps.{AllocatesAtSites}
 use Rattle.abstract_steps_sound_analyses.proofs.Instructions.{done_in}
 

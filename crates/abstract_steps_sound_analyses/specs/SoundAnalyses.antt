@@ -12,7 +12,7 @@ use Rattle.flow_program_views.specs.ProgramViews.{flow_view}
 use Rattle.flow_program_machine.specs.FlowStates.{found_in}
 use Rattle.flow_program_machine.specs.FlowSteps.{flow_steps}
 use Rattle.flow_program_machine.specs.FlowStarts.{flow_begin}
-use Rattle.abstract_steps_laws_own_rows.specs.OwnLists.{ReachesTypes}
+use Rattle.abstract_steps_sound_maps.specs.OwnLists.{ReachesTypes}
 use Rattle.abstract_steps_sound.specs.SoundSteps.{AreSound}
 use Rattle.abstract_steps_sound_maps.specs.CarriedMaps.{EntryStands}
 use Rattle.abstract_steps_covered.specs.SoundEnds.{IsDoneIn}

@@ -25,8 +25,8 @@ use Rattle.store_domain_meaning.specs.ValueMeaning.{Naming}
 use Rattle.store_domain_sound_programs.specs.Premises.{HasPremises}
 use Rattle.abstract_steps_sound.specs.SoundSteps.{IsReached, StepIsSound}
 use Rattle.abstract_steps_sound.proofs.Replies.{if_some_good}
-use Rattle.abstract_steps_sound_calls.proofs.Calls.{clean}
-use Rattle.abstract_steps_sound_fills.proofs.WriteCalls.{Good, plain_stop}
+use Rattle.abstract_steps_sound_strings.proofs.Calls.{clean}
+use Rattle.abstract_steps_sound_texts.proofs.WriteCalls.{Good, plain_stop}
 use Rattle.abstract_steps_sound_appends.specs.ApartTexts.{HasApartTexts}
 use Rattle.abstract_steps_sound_appends.specs.AppendCalls.{AppendsText, IsAppendCall}
 use Rattle.abstract_steps_sound_appends.proofs.AppendCalls.{append_call_good}

@@ -43,8 +43,8 @@ use Rattle.store_domain_laws.specs.StoreLaws.{AreBytes}
 use Rattle.store_domain_meaning.specs.ValueMeaning.{Naming}
 use Rattle.store_domain_sound_programs.specs.Premises.{HasPremises}
 use Rattle.store_domain_sound_programs.proofs.ShapedBases.{all_at}
-use Rattle.abstract_steps_laws_programs.specs.RegularPrograms.{is_byte, spells_bytes, begins_with_bytes, has_initial_bytes}
-use Rattle.abstract_steps_sound_start_cells.specs.StaticObjects.{IsTarget, IsValueOf, AreStoresOf}
+use Rattle.abstract_steps_sound_first_memory.specs.RegularPrograms.{is_byte, spells_bytes, begins_with_bytes, has_initial_bytes}
+use Rattle.abstract_steps_sound_starts.specs.StaticObjects.{IsTarget, IsValueOf, AreStoresOf}
 use Rattle.abstract_steps_sound_starts.specs.StartedRows.{HasStart, IsBegun, IsTaken, IsBeginning, IsStartOf}
 use Rattle.abstract_steps_sound_starts.proofs.StaticBytes.{bytes_are_stored}
 use Rattle.abstract_steps_sound_beginnings.specs.TypedInitializers.{IsTypedValue, type_tag, AreTypedStores}

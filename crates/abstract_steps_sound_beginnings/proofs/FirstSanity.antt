@@ -52,7 +52,7 @@ use Rattle.store_domain_sound.proofs.TagPlaces.{is_tagged}
 use Rattle.store_domain_sound_programs.specs.Premises.{HasPremises}
 use Rattle.store_domain_sound_programs.proofs.ShapedBases.{all_at}
 use Rattle.store_domain_sound_programs.proofs.Sizes.{same_bytes}
-use Rattle.abstract_steps_laws_programs.specs.RegularPrograms.{is_byte, spells_bytes, begins_with_bytes, has_initial_bytes}
+use Rattle.abstract_steps_sound_first_memory.specs.RegularPrograms.{is_byte, spells_bytes, begins_with_bytes, has_initial_bytes}
 use Rattle.store_domain.specs.ScalarTypes.{kind_of}
 use Rattle.abstract_steps_sound.specs.SoundSteps.{AreShort}
 use Rattle.abstract_steps.specs.StartRows.{static_class}

@@ -5,7 +5,7 @@ use Rattle.c_layout.specs.CheckedUnits.{UnitView}
 use Rattle.flow_program.specs.WellFormed.{is_well_formed}
 use Rattle.flow_program.specs.declared.programs.Flow.{Flow}
 use Rattle.store_domain_sound_programs.specs.Premises.{HasPremises}
-use Rattle.abstract_steps_laws_programs.specs.RegularPrograms.{has_initial_bytes}
+use Rattle.abstract_steps_sound_first_memory.specs.RegularPrograms.{has_initial_bytes}
 use Rattle.abstract_steps_sound_starts.specs.StartedRows.{HasBeginnings}
 use Rattle.abstract_steps_sound_beginnings.specs.UnitStarts.{StartsAs}
 

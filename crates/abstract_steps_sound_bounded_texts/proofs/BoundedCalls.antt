@@ -84,11 +84,11 @@ use Rattle.store_domain_sound_regions.proofs.Regions.{alike_region}
 use Rattle.abstract_steps_sound.specs.SoundSteps.{IsReached}
 use Rattle.abstract_steps_sound.proofs.Admitted.{AreAdmitted, both_admitted}
 use Rattle.abstract_steps_sound.proofs.PutTemps.{IsResult}
-use Rattle.abstract_steps_sound_calls.proofs.Calls.{clean}
+use Rattle.abstract_steps_sound_strings.proofs.Calls.{clean}
 use Rattle.abstract_steps_sound_strings.proofs.GivenPointers.{reach_of}
 use Rattle.abstract_steps_sound_strings.proofs.Trails.{still_told, told_here, goes_further}
-use Rattle.abstract_steps_sound_fills.proofs.Targets.{alone_is, within_stands, cut_has, room_told, literal_told, is_writable, after_has, start_has, touched_has, least_has, one_has}
-use Rattle.abstract_steps_sound_fills.proofs.WriteCalls.{behind_behind, sink_told, Good, world_with, told_stop, plain_stop, written_good, value_of, given_at, argument_stands, reach_good, given_within, goes_given, given_into}
+use Rattle.abstract_steps_sound_texts.proofs.Targets.{alone_is, within_stands, cut_has, room_told, literal_told, is_writable, after_has, start_has, touched_has, least_has, one_has}
+use Rattle.abstract_steps_sound_texts.proofs.WriteCalls.{behind_behind, sink_told, Good, world_with, told_stop, plain_stop, written_good, value_of, given_at, argument_stands, reach_good, given_within, goes_given, given_into}
 use Rattle.abstract_steps_sound_texts.specs.TextWrites.{IsTextWrite}
 use Rattle.abstract_steps_sound_texts.proofs.SourceCharacters.{source_number, source_labels}
 use Rattle.abstract_steps_sound_texts.proofs.TextWrites.{text_write_stands, text_write_long}

@@ -25,10 +25,10 @@ use Rattle.store_domain_meaning.specs.ValueMeaning.{Naming}
 use Rattle.store_domain_sound_programs.specs.Premises.{HasPremises}
 use Rattle.abstract_steps_sound.specs.SoundSteps.{IsReached, StepIsSound}
 use Rattle.abstract_steps_sound.proofs.Replies.{if_some_good}
-use Rattle.abstract_steps_sound_calls.proofs.Calls.{clean}
+use Rattle.abstract_steps_sound_strings.proofs.Calls.{clean}
 use Rattle.abstract_steps_sound.specs.OperandTypes.{TakesSize, HasOperands}
 use Rattle.abstract_steps_sound_bounded_texts.specs.BoundedCalls.{CopiesBounded, IsBoundedCall}
-use Rattle.abstract_steps_sound_fills.proofs.WriteCalls.{Good, plain_stop, three_sized}
+use Rattle.abstract_steps_sound_texts.proofs.WriteCalls.{Good, plain_stop, three_sized}
 use Rattle.abstract_steps_sound_bounded_texts.proofs.BoundedCalls.{bounded_call_good}
 
 module _ {I : Type 0} {l : LatticeOf I} {n : IntegersOf I} {stands : I → ℤ → Type 0} (o : OrderLaws l) (q : BoundLaws l n stands) (c : SoundLaws l n stands) (flow : Flow) (p : HasPremises flow) (naming : Naming) (row : List (Cell I)) (s : Standing) (r : IsReached l n stands flow naming row s) (to : Option ℕ) (has : has_result (names_of flow) to ≡ true) (newest : Option ℕ) where

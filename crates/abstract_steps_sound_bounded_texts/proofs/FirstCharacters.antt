@@ -5,7 +5,7 @@ use Rattle.lib_models_memory.specs.Labels.{Labels, no_labels}
 use Rattle.lib_models_memory.specs.Bytes.{Content, indeterminate, number, part}
 use Rattle.lib_models_effects.specs.LibraryChecks as machine
 use Rattle.lib_models_effects.specs.StringCalls.{padded}
-use Rattle.abstract_steps_sound_fills.proofs.FillCalls.{replicated}
+use Rattle.abstract_steps_sound_texts.proofs.FillCalls.{replicated}
 
 -- so many bytes were seen to be characters
 pub record IsCounted (size : ℕ) (cs : List Content) (t : ℕ) : Type 0 where

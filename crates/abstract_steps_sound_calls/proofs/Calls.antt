@@ -23,7 +23,7 @@ use Rattle.flow_program_machine.specs.FlowStates.{Standing, and_value, values_of
 use Rattle.flow_program_machine.specs.FlowActs.{calling}
 use Rattle.store_domain_meaning.specs.SeenLabels.{as_set}
 use Rattle.store_domain_meaning.specs.ValueMeaning.{Naming}
-use Rattle.store_domain_sound_programs.specs.Premises.{HasPremises}
+use Rattle.abstract_steps_sound.specs.Premises.{HasPremises}
 use Rattle.abstract_steps_sound.specs.SoundSteps.{IsReached, IsStoodFor}
 use Rattle.abstract_steps_sound.proofs.Admitted.{AreAdmitted, none_admitted, same_admitted}
 use Rattle.abstract_steps_sound.proofs.NearScalars.{IsNearNumber}

@@ -39,9 +39,9 @@ use Rattle.abstract_steps_library.specs.Planning.{plan_call}
 use Rattle.abstract_steps_library.specs.Plans.{planned, trail_of, harmless}
 use Rattle.abstract_steps_library.specs.declared.call_plans.Effect.TheVariants as effect
 use Rattle.abstract_steps_library.specs.declared.call_plans.Plan.{Plan}
-use Rattle.abstract_steps_instructions.specs.CallSteps.{call_of, call_step}
-use Rattle.abstract_steps_instructions.specs.StepViolations.{operation_violations}
-use Rattle.abstract_steps_instructions.specs.Steps.{operate}
+use Rattle.abstract_steps_sound.specs.CallSteps.{call_of, call_step}
+use Rattle.abstract_steps_sound.specs.StepViolations.{operation_violations}
+use Rattle.abstract_steps_sound.specs.Steps.{operate}
 use Rattle.lib_models_memory.specs.Labels.{Labels, input_labels, no_labels}
 use Rattle.lib_models_memory.specs.Scalars.{Scalar, integer, pointer}
 use Rattle.lib_models_effects.specs.CharacterCalls as machine
@@ -54,7 +54,7 @@ use Rattle.flow_program_machine.specs.FlowStates.{Standing, values_of}
 use Rattle.flow_program_machine.specs.FlowActs.{calling}
 use Rattle.store_domain_meaning.specs.SeenLabels.{as_set}
 use Rattle.store_domain_meaning.specs.ValueMeaning.{Naming, StandsScalar}
-use Rattle.store_domain_sound_programs.specs.Premises.{HasPremises}
+use Rattle.abstract_steps_sound.specs.Premises.{HasPremises}
 use Rattle.abstract_steps_sound.specs.SoundSteps.{IsReached, IsStoodFor, StepIsSound}
 use Rattle.abstract_steps_sound.proofs.Admitted.{AreAdmitted, one_admitted, both_admitted}
 use Rattle.abstract_steps_sound.proofs.NearScalars.{IsNearNumber}

@@ -5,14 +5,14 @@ use Rattle.c_layout.specs.CheckedUnits.{UnitView}
 use Rattle.c_layout.specs.DeclarationTrees.{ExternalTree}
 use Rattle.c_layout.specs.StructViews.{structs_view}
 use Rattle.c_layout.specs.declared.data_model.Model.{Model}
-use Rattle.c_types.specs.UnitChecks.{check}
+use Rattle.c_types_laws.specs.UnitChecks.{check}
 use Rattle.struct_nesting.specs.OrderedStructs.{are_ordered}
 use Rattle.flow_program.specs.declared.programs.Flow.{Flow}
 use Rattle.flow_program_views.specs.ProgramViews.{flow_view}
 use Rattle.flow_lower.specs.Lowerings.{IsLowering}
 use Rattle.flow_lower_objects.specs.PlainObjects.{has_plain_objects}
 use Rattle.abstract_steps_laws_programs.specs.RegularPrograms.{is_regular}
-use Rattle.abstract_steps_sound_beginnings.specs.UnitStarts.{StartsAs}
+use Rattle.abstract_steps_sound_lowered_starts.specs.UnitStarts.{StartsAs}
 
 -- the unit that a tree is under a data model and a name of an entry, whose program it is, and whose objects are plain, as `lower` says
 pub record IsUnitOf (u : UnitView) (flow : Flow) : Type 0 where

@@ -30,8 +30,8 @@ use Rattle.store_domain.specs.RowLengths.{clear_keeps}
 use Rattle.store_domain.specs.RowPositions.{leaf_position, zero_position, cell_at, value_in, value_at, zero_at}
 use Rattle.store_domain.specs.Walks.{walk}
 use Rattle.abstract_steps_checks.specs.ViolationSets.{no_violations}
-use Rattle.abstract_steps_instructions.specs.Steps.{operate}
-use Rattle.abstract_steps_instructions.specs.StepViolations.{operation_violations}
+use Rattle.abstract_steps_sound.specs.Steps.{operate}
+use Rattle.abstract_steps_sound.specs.StepViolations.{operation_violations}
 use Rattle.lib_models_memory.specs.Labels.{no_labels}
 use Rattle.lib_models_memory.specs.Bytes.{Content, indeterminate, number, part, Byte}
 use Rattle.lib_models_memory.specs.Instances.{Memory, bytes_of, bytes_at, byte_at}

@@ -20,10 +20,10 @@ use Rattle.lib_models_memory.specs.Instances.{Memory, live, bytes_at, byte_at, l
 use Rattle.lib_models_memory.specs.Tags.{tag_at}
 use Rattle.lib_models_effects.specs.StructCopies.{fits_leaf, may_be_copied, copied_tag}
 use Rattle.lib_models_effects.specs.Touches.{is_allocated, storage_at}
-use Rattle.store_domain_meaning.specs.Places.{IsPlaceOf, OwnedByLeaf}
-use Rattle.store_domain_meaning.specs.SoundMemory.{IsMemoryOf}
-use Rattle.store_domain_meaning.specs.ValueMeaning.{Naming}
-use Rattle.store_domain_meaning.specs.RowMeaning.{IsLiveOf}
+use Rattle.store_domain_sound.specs.Places.{IsPlaceOf, OwnedByLeaf}
+use Rattle.store_domain_sound.specs.SoundMemory.{IsMemoryOf}
+use Rattle.store_domain_sound.specs.ValueMeaning.{Naming}
+use Rattle.store_domain_sound.specs.RowMeaning.{IsLiveOf}
 use Rattle.store_domain_sound.specs.Shapes.{SeesPadding, IsLaidOut}
 use Rattle.store_domain_sound.proofs.Classes.{class_above, same_class_is}
 use Rattle.store_domain_sound.proofs.OneBases.{one_base}

@@ -25,10 +25,10 @@ use Rattle.lib_models_memory.specs.Numbers.{Labelled, number_of}
 use Rattle.lib_models_memory.specs.Tags.{tag_of, tag_at}
 use Rattle.lib_models_effects.specs.StructCopies.{fits_leaf, may_be_copied}
 use Rattle.lib_models_effects.specs.Touches.{is_allocated, storage_at}
-use Rattle.store_domain_meaning.specs.Matching.{Fits, Matched, number_in, Holds}
-use Rattle.store_domain_meaning.specs.Places.{IsPlaceOf, OwnedByLeaf}
-use Rattle.store_domain_meaning.specs.SoundMemory.{IsContentIn}
-use Rattle.store_domain_meaning.specs.ValueMeaning.{Naming, StandsContent}
+use Rattle.store_domain_sound.specs.Matching.{Fits, Matched, number_in, Holds}
+use Rattle.store_domain_sound.specs.Places.{IsPlaceOf, OwnedByLeaf}
+use Rattle.store_domain_sound.specs.SoundMemory.{IsContentIn}
+use Rattle.store_domain_sound.specs.ValueMeaning.{Naming, StandsContent}
 use Rattle.store_domain_sound.specs.Gives.{Gives}
 use Rattle.store_domain_sound.proofs.CharValues.{byte_stands, padding_stands}
 use Rattle.store_domain_sound.proofs.Classes.{same_class_is, class_above}

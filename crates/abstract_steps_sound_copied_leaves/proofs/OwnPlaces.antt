@@ -6,8 +6,8 @@ use Rattle.c_layout.specs.declared.leaf_lists.Class.{Class}
 use Rattle.c_layout.specs.declared.shapes.BaseInfo.{BaseInfo}
 use Rattle.lib_models_memory.specs.Bytes.{Tag}
 use Rattle.lib_models_memory.specs.Tags.{tag_of, tag_at}
-use Rattle.store_domain_meaning.specs.Matching.{Fits}
-use Rattle.store_domain_meaning.specs.Places.{IsPlaceOf, IsLeafPlace}
+use Rattle.store_domain_sound.specs.Matching.{Fits}
+use Rattle.store_domain_sound.specs.Places.{IsPlaceOf, IsLeafPlace}
 use Rattle.store_domain_sound.specs.Shapes.{IsShaped, at_offset}
 use Rattle.store_domain_sound.proofs.Selected.{counted_place}
 use Rattle.store_domain_sound.proofs.TagPlaces.{is_tagged}

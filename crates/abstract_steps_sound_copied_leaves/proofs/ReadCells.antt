@@ -23,7 +23,7 @@ use Rattle.store_domain.specs.RowPositions.{leaf_position, class_position, value
 use Rattle.store_domain.specs.ScalarTypes.{kind_of}
 use Rattle.store_domain.specs.Walks.{turns}
 use Rattle.store_domain.specs.declared.access_windows.Window.{Window}
-use Rattle.store_domain_meaning.specs.Places.{IsPlaceOf, OwnedByLeaf, IsLeafPlace}
+use Rattle.store_domain_sound.specs.Places.{IsPlaceOf, OwnedByLeaf, IsLeafPlace}
 use Rattle.store_domain_sound.specs.Gives.{Gives}
 use Rattle.store_domain_sound.specs.Shapes.{IsShaped, at_offset}
 use Rattle.store_domain_sound.proofs.Classes.{is_same_class}

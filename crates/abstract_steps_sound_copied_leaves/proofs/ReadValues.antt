@@ -25,14 +25,14 @@ use Rattle.lib_models_memory.specs.Bytes.{Content, indeterminate, number, part}
 use Rattle.lib_models_memory.specs.Instances.{Memory}
 use Rattle.lib_models_memory.specs.Labels.{Labels}
 use Rattle.lib_models_memory.specs.Numbers.{Labelled, number_of}
-use Rattle.store_domain_meaning.specs.SeenLabels.{as_set}
-use Rattle.store_domain_meaning.specs.ValueMeaning.{Naming, StandsContent}
+use Rattle.store_domain_sound.specs.SeenLabels.{as_set}
+use Rattle.store_domain_sound.specs.ValueMeaning.{Naming, StandsContent}
 use Rattle.store_domain_sound.proofs.Classes.{class_above, class_size}
 use Rattle.store_domain_sound.proofs.FreshValues.{type_near}
 use Rattle.store_domain_sound.proofs.Near.{IsNearValue, join_near, near_number_from, near_number_none}
 use Rattle.store_domain_sound.proofs.Rereading.{reread}
 use Rattle.store_domain_sound.proofs.Texts.{byte_flag}
-use Rattle.store_domain_sound_chars.proofs.ByteValues.{written_near}
+use Rattle.store_domain_sound_regions.proofs.ByteValues.{written_near}
 
 -- no part of a pointer
 abbrev pub IsNoPart : Content → Type 0

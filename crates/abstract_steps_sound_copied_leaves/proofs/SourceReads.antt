@@ -24,10 +24,10 @@ use Rattle.lib_models_memory.specs.Instances.{Memory, Instance, live, bytes_of, 
 use Rattle.lib_models_memory.specs.Tags.{tag_of, fits_tag, tag_at}
 use Rattle.lib_models_effects.specs.StructCopies.{fits_leaf}
 use Rattle.lib_models_effects.specs.Touches.{is_allocated, storage_of, storage_at}
-use Rattle.store_domain_meaning.specs.Matching.{Fits}
-use Rattle.store_domain_meaning.specs.Places.{OwnedByLeaf, OwnedByClass, IsLeafPlace, IsClassPlace}
-use Rattle.store_domain_meaning.specs.SoundMemory.{IsMemoryOf}
-use Rattle.store_domain_meaning.specs.ValueMeaning.{Naming}
+use Rattle.store_domain_sound.specs.Matching.{Fits}
+use Rattle.store_domain_sound.specs.Places.{OwnedByLeaf, OwnedByClass, IsLeafPlace, IsClassPlace}
+use Rattle.store_domain_sound.specs.SoundMemory.{IsMemoryOf}
+use Rattle.store_domain_sound.specs.ValueMeaning.{Naming}
 use Rattle.store_domain_sound.specs.Gives.{Gives}
 use Rattle.store_domain_sound.specs.Shapes.{IsShaped, SeesPadding, at_offset}
 use Rattle.store_domain_sound.proofs.Classes.{same_class_is, class_small, class_number_back}

@@ -9,7 +9,7 @@ use Rattle.c_layout.specs.declared.leaf_lists.Leaf.{Leaf}
 use Rattle.lib_models_memory.specs.ScalarSizes.{class_bytes}
 use Rattle.lib_models_memory.specs.Bytes.{Tag}
 use Rattle.lib_models_memory.specs.Tags.{tag_of, stride_tag, distance_tag, leaf_tag, or_tag, tag_at}
-use Rattle.store_domain_meaning.specs.Places.{OwnedByLeaf}
+use Rattle.store_domain_sound.specs.Places.{OwnedByLeaf}
 use Rattle.store_domain_sound.proofs.TagPlaces.{is_tagged}
 use Rattle.abstract_steps_sound_copied_leaves.specs.StructLeaves.{IsStruct}
 

@@ -3,7 +3,7 @@ use Rattle.std.specs.Prelude.{◌≡◌, ℕ, ◌+◌, ◌*◌, ◌<◌, ◌≤�
 use Rattle.c_layout.specs.declared.data_model.Model.{Model}
 use Rattle.c_layout.specs.declared.leaf_lists.Leaf.{Leaf}
 use Rattle.lib_models_memory.specs.ScalarSizes.{class_bytes}
-use Rattle.store_domain_meaning.specs.Places.{OwnedByLeaf}
+use Rattle.store_domain_sound.specs.Places.{OwnedByLeaf}
 
 -- a leaf of a base has few places, none of them more than 2^61 bytes off
 pub record IsFew (leaf : Leaf) : Type 0 where

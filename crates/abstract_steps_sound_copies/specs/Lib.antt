@@ -1,1 +1,2 @@
 pub mod CopySteps
+pub use Rattle.abstract_steps_sound_copied_structs.specs.StructTables

@@ -29,8 +29,8 @@ use Rattle.value_domain_laws.proofs.Numbers.{RangeHas, bounds_have}
 use Rattle.abstract_steps.specs.Edges.{last_instruction, deciding_of, deciding_temp, truth_can_be, includes, has_label, is_other_than, can_be, put_kept, refine_if, kept_behind, behind_test, branch_edge, switched, refine_named_case, refine_object, case_edge, follow, follow_if, edge}
 use Rattle.abstract_steps_checks.specs.Temporaries.{temp_value, put_temp}
 use Rattle.abstract_steps_checks.specs.ViolationSets.{no_violations}
-use Rattle.abstract_steps_instructions.specs.Steps.{operate}
-use Rattle.abstract_steps_instructions.specs.StepViolations.{operation_violations}
+use Rattle.abstract_steps_sound.specs.Steps.{operate}
+use Rattle.abstract_steps_sound.specs.StepViolations.{operation_violations}
 use Rattle.lib_models_memory.specs.Labels.{Labels, no_labels}
 use Rattle.lib_models_memory.specs.Scalars.{Scalar, integer, pointer, is_false}
 use Rattle.lib_models_effects.specs.Worlds.{World, Reply, goes, stops, behind, world_of}

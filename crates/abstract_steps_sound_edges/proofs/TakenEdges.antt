@@ -85,7 +85,7 @@ cases_fit (x ∷ (y ∷ ys)) zero e h g = let d : x ≡ e = cc in subst (λ z. F
 cases_fit (x ∷ (y ∷ ys)) (suc j) e h g = cases_fit (y ∷ ys) j e (and_parts (is_case x.kind) (are_cases (y ∷ ys)) h).1 g
 
 -- edges are of the kinds with which their block is ended
-led_fit : (x : Leads) (es : List Edge) (j : ℕ) (e : Edge) → are_led x es ≡ true → slice_get es j ≡ Some e → FitsLead x e.kind
+pub led_fit : (x : Leads) (es : List Edge) (j : ℕ) (e : Edge) → are_led x es ≡ true → slice_get es j ≡ Some e → FitsLead x e.kind
 led_fit On [] j e h g = cc
 led_fit On (a ∷ more) j e h g = absurd (true≢false (sym h))
 led_fit Away [] j e h g = cc

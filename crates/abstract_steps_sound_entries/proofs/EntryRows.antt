@@ -13,7 +13,7 @@ use Rattle.abstract_steps_laws_own_starts.proofs.RegularStarts.{regular_fits}
 use Rattle.abstract_steps_laws_programs.proofs.RegularPrograms.{regular_of}
 use Rattle.store_domain_sound_programs.specs.Premises.{AreHeld}
 use Rattle.store_domain_sound_programs.proofs.WellFormedPremises.{meets_premises}
-use Rattle.abstract_steps_sound_starts.proofs.StartedRows as started
+use Rattle.abstract_steps_sound_beginnings.proofs.StartedRows as started
 use Rattle.abstract_steps_sound_beginnings.proofs.Beginnings.{runs_begin}
 use Rattle.abstract_steps_sound_entries.specs.EntryRows.{EntryRowsStand}
 

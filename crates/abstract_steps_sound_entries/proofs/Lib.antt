@@ -1,1 +1,3 @@
 pub mod EntryRows
+pub use Rattle.abstract_steps_laws_own_starts.proofs.RegularStarts
+pub use Rattle.abstract_steps_sound_beginnings.proofs.Beginnings

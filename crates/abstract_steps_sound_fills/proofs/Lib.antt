@@ -6,3 +6,8 @@ pub mod WriteCalls
 pub mod FillCalls
 pub mod FillSteps
 pub mod Counterexamples
+pub use Rattle.abstract_steps_sound_strings.proofs.Calls
+pub use Rattle.abstract_steps_sound_strings.proofs.GivenPointers
+pub use Rattle.abstract_steps_sound_strings.proofs.Trails
+pub use Rattle.abstract_steps_sound_strings.proofs.Scans
+pub use Rattle.abstract_steps_sound_strings.proofs.StringCalls

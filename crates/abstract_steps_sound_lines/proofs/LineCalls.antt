@@ -85,10 +85,10 @@ use Rattle.abstract_steps_sound_calls.proofs.Calls.{DrawnEnd, gave, ran_out, dra
 use Rattle.abstract_steps_sound_calls.proofs.CharacterNumbers.{number_between}
 use Rattle.abstract_steps_sound_strings.proofs.GivenPointers.{ReachEnd, into_live, into_nothing, into_ended, into_freed, reach_end, reach_of, null_told, ended_told, freed_told}
 use Rattle.abstract_steps_sound_strings.proofs.Trails.{still_told, told_here, goes_further}
-use Rattle.abstract_steps_sound_fills.proofs.Targets.{sat_above, sat_below, alone_is, within_stands, cut_has, room_told, literal_told, is_writable, after_has, start_has, touched_has, one_has}
-use Rattle.abstract_steps_sound_fills.proofs.WriteCalls.{sink_told, world_with, value_of, given_at, argument_stands, given_within, goes_given, given_into}
-use Rattle.abstract_steps_sound_texts.specs.TextWrites.{IsTextWrite}
-use Rattle.abstract_steps_sound_bounded_texts.proofs.BoundedCalls.{first_touched}
+use Rattle.abstract_steps_sound_appends.proofs.Targets.{sat_above, sat_below, alone_is, within_stands, cut_has, room_told, literal_told, is_writable, after_has, start_has, touched_has, one_has}
+use Rattle.abstract_steps_sound_appends.proofs.WriteCalls.{sink_told, world_with, value_of, given_at, argument_stands, given_within, goes_given, given_into}
+use Rattle.abstract_steps_sound_appends.specs.TextWrites.{IsTextWrite}
+use Rattle.abstract_steps_sound_appends.proofs.BoundedCalls.{first_touched}
 use Rattle.abstract_steps_sound_lines.proofs.LineContents.{AreInput, LineEnd, read, no_more, line_end, with_end, IsFirst, first_of, IsWrittenContent, is_input, is_end, written_content}
 use Rattle.abstract_steps_sound_lines.proofs.LineRules.{HasTextFirst, length_count, line_stands, line_long}
 

@@ -37,7 +37,7 @@ use Rattle.store_domain_sound_chars.proofs.ByteArrays.{IsIn, target_is, local_ha
 use Rattle.store_domain_sound_chars.proofs.ByteZeros.{offsets_stand}
 use Rattle.store_domain_sound_regions.specs.RegionWrites.{IsRegion}
 use Rattle.store_domain_sound_regions.proofs.RegionArrays.{starts_in, before_in, array_short, array_before, array_there, IsText, wrote_text}
-use Rattle.abstract_steps_sound_texts.specs.TextWrites.{IsTextWrite}
+use Rattle.abstract_steps_sound_appends.specs.TextWrites.{IsTextWrite}
 use Rattle.abstract_steps_sound_appends.proofs.AppendZeros.{IsRuled, says}
 use Rattle.abstract_steps_sound_appends.proofs.AppendRows.{text_stands, text_long}
 

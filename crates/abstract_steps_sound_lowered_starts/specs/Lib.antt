@@ -1,1 +1,3 @@
 pub mod LoweredStarts
+pub use Rattle.abstract_steps_sound_beginnings.specs.UnitStarts
+pub use Rattle.abstract_steps_sound_beginnings.specs.TypedInitializers

@@ -27,9 +27,9 @@ use Rattle.abstract_steps_checks.specs.ViolationSets.{no_violations, violations_
 use Rattle.abstract_steps_checks.specs.declared.touches.Touched.{Touched}
 use Rattle.abstract_steps_checks.specs.declared.violation_sets.Violations.{Violations}
 use Rattle.abstract_steps_values.specs.Scalars.{class_of, minds_blank}
-use Rattle.abstract_steps_instructions.specs.MemorySteps.{blank_or_freed, put_read, put_loaded, load_step}
-use Rattle.abstract_steps_instructions.specs.Steps.{operate}
-use Rattle.abstract_steps_instructions.specs.StepViolations.{operation_violations}
+use Rattle.abstract_steps_sound.specs.MemorySteps.{blank_or_freed, put_read, put_loaded, load_step}
+use Rattle.abstract_steps_sound.specs.Steps.{operate}
+use Rattle.abstract_steps_sound.specs.StepViolations.{operation_violations}
 use Rattle.lib_models_memory.specs.ScalarSizes as machine
 use Rattle.lib_models_memory.specs.Bytes.{MachinePointer}
 use Rattle.lib_models_memory.specs.Scalars.{Scalar, integer, pointer}
@@ -39,9 +39,9 @@ use Rattle.lib_models_effects.specs.Touches.{Spot, touched}
 use Rattle.lib_models_effects.specs.Worlds.{World, Reply, goes, noted, stopped_by, Left}
 use Rattle.flow_program_machine.specs.FlowStates.{Standing}
 use Rattle.flow_program_machine.specs.FlowActs.{giving}
-use Rattle.store_domain_meaning.specs.ValueMeaning.{Naming, StandsPointer, StandsScalar}
-use Rattle.store_domain_meaning.specs.SoundMemory.{IsPointerIn, IsScalarIn}
-use Rattle.store_domain_meaning.specs.Coverage.{state_of}
+use Rattle.store_domain_sound.specs.ValueMeaning.{Naming, StandsPointer, StandsScalar}
+use Rattle.store_domain_sound.specs.SoundMemory.{IsPointerIn, IsScalarIn}
+use Rattle.store_domain_sound.specs.Coverage.{state_of}
 use Rattle.store_domain_sound.specs.Gives.{Gives}
 use Rattle.store_domain_sound.specs.Scalars.{IsOfKind, signed_in}
 use Rattle.store_domain_sound.proofs.CharSound.{char_stands, char_blank}
@@ -51,7 +51,7 @@ use Rattle.store_domain_sound.proofs.MemorySound.{loads_keep}
 use Rattle.store_domain_sound.proofs.StoreSound.{scalar_named}
 use Rattle.store_domain_sound.proofs.TouchSound.{touch_admitted}
 use Rattle.store_domain_sound.proofs.TouchedRest.{touch_stands}
-use Rattle.store_domain_sound_programs.specs.Premises.{HasPremises}
+use Rattle.abstract_steps_sound.specs.Premises.{HasPremises}
 use Rattle.abstract_steps_sound.specs.SoundSteps.{IsReached, IsStoodFor, StepIsSound}
 use Rattle.abstract_steps_sound.proofs.Admitted.{AreAdmitted, none_admitted, one_admitted, both_admitted, same_admitted}
 use Rattle.abstract_steps_sound.proofs.NearScalars.{IsNearScalar}

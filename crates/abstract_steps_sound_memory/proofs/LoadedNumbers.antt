@@ -19,9 +19,9 @@ use Rattle.lib_models_memory.specs.Scalars.{Scalar, pointer}
 use Rattle.lib_models_effects.specs.ScalarBytes.{region, contents}
 use Rattle.lib_models_effects.specs.Accesses.{class_in, numbers_in, pointer_in, scalar_in, load}
 use Rattle.lib_models_effects.specs.Worlds.{World, goes}
-use Rattle.store_domain_meaning.specs.Matching.{number_in}
-use Rattle.store_domain_meaning.specs.SoundMemory.{IsMemoryOf, IsContentIn}
-use Rattle.store_domain_meaning.specs.ValueMeaning.{Naming}
+use Rattle.store_domain_sound.specs.Matching.{number_in}
+use Rattle.store_domain_sound.specs.SoundMemory.{IsMemoryOf, IsContentIn}
+use Rattle.store_domain_sound.specs.ValueMeaning.{Naming}
 use Rattle.store_domain_sound.specs.Scalars.{IsOfKind}
 use Rattle.store_domain_sound.proofs.Classes.{class_size}
 use Rattle.store_domain_sound.proofs.CellReads.{integer_is, scalar_pointer_is}

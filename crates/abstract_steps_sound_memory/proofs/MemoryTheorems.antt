@@ -10,8 +10,8 @@ use Rattle.flow_program.specs.declared.machine_instructions.Operation.TheVariant
 use Rattle.flow_program.specs.declared.programs.Flow.{Flow}
 use Rattle.value_domain.specs.declared.row_cells.Cell.{Cell}
 use Rattle.flow_program_machine.specs.FlowStates.{Standing}
-use Rattle.store_domain_meaning.specs.ValueMeaning.{Naming}
-use Rattle.store_domain_sound_programs.specs.Premises.{HasPremises}
+use Rattle.store_domain_sound.specs.ValueMeaning.{Naming}
+use Rattle.abstract_steps_sound.specs.Premises.{HasPremises}
 use Rattle.abstract_steps_sound.specs.SoundSteps.{IsReached, StepIsSound}
 use Rattle.abstract_steps_sound_memory.specs.MemorySteps.{IsLoad, IsStore}
 use Rattle.abstract_steps_sound_memory.proofs.LoadSteps.{load_sound}

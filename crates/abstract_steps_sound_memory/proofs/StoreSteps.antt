@@ -27,9 +27,9 @@ use Rattle.abstract_steps_checks.specs.ViolationSets.{violates}
 use Rattle.abstract_steps_checks.specs.declared.touches.Touched.{Touched}
 use Rattle.abstract_steps_checks.specs.declared.violation_sets.Violations.{Violations}
 use Rattle.abstract_steps_values.specs.Scalars.{class_of}
-use Rattle.abstract_steps_instructions.specs.MemorySteps.{move_temp, moved_behind, store_to, store_step}
-use Rattle.abstract_steps_instructions.specs.Steps.{operate}
-use Rattle.abstract_steps_instructions.specs.StepViolations.{operation_violations}
+use Rattle.abstract_steps_sound.specs.MemorySteps.{move_temp, moved_behind, store_to, store_step}
+use Rattle.abstract_steps_sound.specs.Steps.{operate}
+use Rattle.abstract_steps_sound.specs.StepViolations.{operation_violations}
 use Rattle.lib_models_memory.specs.ScalarSizes as machine
 use Rattle.lib_models_memory.specs.Bytes.{MachinePointer}
 use Rattle.lib_models_memory.specs.Instances.{Memory, bytes_at}
@@ -41,10 +41,10 @@ use Rattle.lib_models_effects.specs.Touches.{Spot, touched}
 use Rattle.lib_models_effects.specs.Worlds.{World, Reply, goes, stops, behind, stopped_by, Left, Stuck}
 use Rattle.flow_program_machine.specs.FlowStates.{Standing}
 use Rattle.flow_program_machine.specs.FlowActs.{keeping, storing}
-use Rattle.store_domain_meaning.specs.ValueMeaning.{Naming, StandsPointer, StandsScalar}
-use Rattle.store_domain_meaning.specs.SoundMemory.{IsPointerIn, IsScalarIn}
-use Rattle.store_domain_meaning.specs.Coverage.{state_of}
-use Rattle.store_domain_meaning.specs.RowMeaning.{StandsFor}
+use Rattle.store_domain_sound.specs.ValueMeaning.{Naming, StandsPointer, StandsScalar}
+use Rattle.store_domain_sound.specs.SoundMemory.{IsPointerIn, IsScalarIn}
+use Rattle.store_domain_sound.specs.Coverage.{state_of}
+use Rattle.store_domain_sound.specs.RowMeaning.{StandsFor}
 use Rattle.store_domain_sound.specs.Scalars.{signed_in}
 use Rattle.store_domain_sound.specs.Gives.{Gives}
 use Rattle.store_domain_sound.proofs.MachineStores.{store_goes}
@@ -54,7 +54,7 @@ use Rattle.store_domain_sound_chars.proofs.ByteStores.{byte_goes}
 use Rattle.store_domain_sound_chars.proofs.CharStoreSound.{any_char_store}
 use Rattle.store_domain_sound.proofs.TouchSound.{touch_admitted}
 use Rattle.store_domain_sound.proofs.TouchedRest.{touch_stands}
-use Rattle.store_domain_sound_programs.specs.Premises.{HasPremises}
+use Rattle.abstract_steps_sound.specs.Premises.{HasPremises}
 use Rattle.abstract_steps_sound.specs.SoundSteps.{IsReached, StandsBehind, IsStoodFor, StepIsSound}
 use Rattle.abstract_steps_sound.proofs.Admitted.{AreAdmitted, none_admitted, one_admitted, both_admitted, same_admitted}
 use Rattle.abstract_steps_sound.proofs.MoveSteps.{near_has}

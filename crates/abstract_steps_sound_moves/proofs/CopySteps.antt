@@ -24,7 +24,7 @@ use Rattle.store_domain_meaning.specs.ValueMeaning.{Naming}
 use Rattle.store_domain_sound_programs.specs.Premises.{HasPremises}
 use Rattle.abstract_steps_sound.specs.SoundSteps.{IsReached, StepIsSound}
 use Rattle.abstract_steps_sound.proofs.Replies.{if_some_good}
-use Rattle.abstract_steps_sound_calls.proofs.Calls.{clean}
+use Rattle.abstract_steps_sound_fills.proofs.Calls.{clean}
 use Rattle.abstract_steps_sound.specs.OperandTypes.{TakesSize, HasOperands}
 use Rattle.abstract_steps_sound_moves.specs.CopyCalls.{CopiesBytes, IsCopyCall}
 use Rattle.abstract_steps_sound_fills.proofs.WriteCalls.{Good, plain_stop, three_sized}

@@ -5,3 +5,4 @@ pub mod CopiedRows
 pub mod MovedMemory
 pub mod CopyCalls
 pub mod CopySteps
+pub use Rattle.abstract_steps_sound_fills.proofs.FillSteps

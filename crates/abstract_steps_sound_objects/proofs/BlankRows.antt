@@ -14,7 +14,7 @@ use Rattle.store_domain.specs.NearValues.{near_value}
 use Rattle.store_domain.specs.ObjectLives.{set_values, blank_object}
 use Rattle.store_domain.specs.RowPositions.{leaf_position, zero_position, value_count, cell_at, value_in, value_at}
 use Rattle.store_domain_sound.proofs.StoreRows.{leaf_is, zero_is}
-use Rattle.store_domain_sound_programs.specs.Premises.{HasPremises}
+use Rattle.abstract_steps_sound.specs.Premises.{HasPremises}
 use Rattle.abstract_steps_sound_objects.proofs.SetCells.{set_long, set_keeps, set_puts}
 
 module _ (flow : Flow) (p : HasPremises flow) (b : ℕ) (info : BaseInfo) (at : slice_get flow.bases.items b ≡ Some info) (declared : info.shape.heap ≡ false) where

@@ -22,22 +22,22 @@ use Rattle.store_domain.specs.ObjectLives.{blank_object, at_base, forget}
 use Rattle.store_domain.specs.RowLengths.{forget_keeps}
 use Rattle.store_domain.specs.RowPositions.{leaf_position, zero_position, cell_at, value_at, zero_at}
 use Rattle.abstract_steps_checks.specs.ViolationSets.{no_violations}
-use Rattle.abstract_steps_instructions.specs.Steps.{operate}
-use Rattle.abstract_steps_instructions.specs.StepViolations.{operation_violations}
+use Rattle.abstract_steps_sound.specs.Steps.{operate}
+use Rattle.abstract_steps_sound.specs.StepViolations.{operation_violations}
 use Rattle.lib_models_memory.specs.Bytes.{indeterminate, Byte}
 use Rattle.lib_models_memory.specs.Instances.{Memory, bytes_at, byte_at}
 use Rattle.lib_models_effects.specs.ObjectEffects.{all_of, forgotten}
 use Rattle.lib_models_effects.specs.Touches.{set_bytes}
 use Rattle.lib_models_effects.specs.Worlds.{World}
 use Rattle.flow_program_machine.specs.FlowStates.{Standing}
-use Rattle.store_domain_meaning.specs.FirstZeroBytes.{first_zero}
-use Rattle.store_domain_meaning.specs.Matching.{number_in}
-use Rattle.store_domain_meaning.specs.ValueMeaning.{Naming, StandsContent, StandsZero}
-use Rattle.store_domain_meaning.specs.RowMeaning.{IsLiveOf, StandsLeaf, StandsFor, array_of, array_bytes}
-use Rattle.store_domain_meaning.specs.Coverage.{state_of}
+use Rattle.store_domain_sound.specs.FirstZeroBytes.{first_zero}
+use Rattle.store_domain_sound.specs.Matching.{number_in}
+use Rattle.store_domain_sound.specs.ValueMeaning.{Naming, StandsContent, StandsZero}
+use Rattle.store_domain_sound.specs.RowMeaning.{IsLiveOf, StandsLeaf, StandsFor, array_of, array_bytes}
+use Rattle.store_domain_sound.specs.Coverage.{state_of}
 use Rattle.store_domain_sound.proofs.Classes.{class_above}
 use Rattle.store_domain_sound.proofs.Slices.{get_take, get_drop, get_there}
-use Rattle.store_domain_sound_programs.specs.Premises.{HasPremises}
+use Rattle.abstract_steps_sound.specs.Premises.{HasPremises}
 use Rattle.abstract_steps_sound.specs.SoundSteps.{IsReached, StandsBehind, StepIsSound}
 use Rattle.abstract_steps_sound.proofs.Admitted.{none_admitted, same_admitted}
 use Rattle.abstract_steps_sound.proofs.NearScalars.{near_number_stands}

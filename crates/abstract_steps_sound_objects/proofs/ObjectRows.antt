@@ -21,14 +21,14 @@ use Rattle.abstract_steps_checks.specs.Temporaries.{temp_position, temp_value}
 use Rattle.lib_models_memory.specs.Bytes.{MachinePointer, null, into}
 use Rattle.lib_models_memory.specs.Instances.{Memory, Life, live, ended, freed, bytes_at, byte_at, life_at}
 use Rattle.lib_models_memory.specs.Scalars.{Scalar}
-use Rattle.store_domain_meaning.specs.ValueMeaning.{Naming, StandsScalar, StandsZero, StandsState}
-use Rattle.store_domain_meaning.specs.SoundMemory.{IsMemoryOf, IsNamed}
-use Rattle.store_domain_meaning.specs.RowMeaning.{MachineState, IsLiveOf, StandsCell, StandsLeaf, StandsClass, StandsFor, array_bytes}
+use Rattle.store_domain_sound.specs.ValueMeaning.{Naming, StandsScalar, StandsZero, StandsState}
+use Rattle.store_domain_sound.specs.SoundMemory.{IsMemoryOf, IsNamed}
+use Rattle.store_domain_sound.specs.RowMeaning.{MachineState, IsLiveOf, StandsCell, StandsLeaf, StandsClass, StandsFor, array_bytes}
 use Rattle.store_domain_sound.proofs.Frames.{live_moves, content_moves, scalar_moves, scalar_in_moves}
 use Rattle.store_domain_sound.proofs.StoreRows.{leaf_is, class_is, zero_is}
 use Rattle.store_domain_sound.proofs.StoreValues.{same_value, same_zero, same_state}
 use Rattle.store_domain_sound.proofs.StoreZeros.{same_slices}
-use Rattle.store_domain_sound_programs.specs.Premises.{HasPremises}
+use Rattle.abstract_steps_sound.specs.Premises.{HasPremises}
 use Rattle.abstract_steps_sound_objects.proofs.Rewrites.{IsRewrite}
 
 live_ended : live ≡ ended → ⊥

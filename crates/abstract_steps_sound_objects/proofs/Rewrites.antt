@@ -9,8 +9,8 @@ use Rattle.c_layout.specs.declared.shapes.BaseInfo.{BaseInfo}
 use Rattle.lib_models_memory.specs.Bytes.{Byte}
 use Rattle.lib_models_memory.specs.Instances.{Memory, Instance, bytes_of, bytes_at, byte_at, life_of}
 use Rattle.lib_models_effects.specs.Touches.{storage_of, storage_at, set_bytes}
-use Rattle.store_domain_meaning.specs.ValueMeaning.{Naming}
-use Rattle.store_domain_meaning.specs.SoundMemory.{IsInstanceOf, IsFreedRightly, IsMemoryOf, IsContentIn, IsContentNamed}
+use Rattle.store_domain_sound.specs.ValueMeaning.{Naming}
+use Rattle.store_domain_sound.specs.SoundMemory.{IsInstanceOf, IsFreedRightly, IsMemoryOf, IsContentIn, IsContentNamed}
 use Rattle.store_domain_sound.proofs.Slices.{get_there, get_set_same, get_set_other}
 use Rattle.store_domain_sound.proofs.MachineStores.{set_is}
 use Rattle.store_domain_sound.proofs.Frames.{IsAlike, pointer_in_moves}

@@ -19,12 +19,12 @@ use Rattle.lib_models_memory.specs.Instances.{Memory, Instance, bytes_of, bytes_
 use Rattle.lib_models_effects.specs.ObjectEffects.{holding, all_of}
 use Rattle.lib_models_effects.specs.Touches.{set_bytes}
 use Rattle.flow_program_machine.specs.FlowStates.{Standing}
-use Rattle.store_domain_meaning.specs.ValueMeaning.{Naming}
-use Rattle.store_domain_meaning.specs.RowMeaning.{IsLiveOf}
-use Rattle.store_domain_meaning.specs.Coverage.{state_of}
+use Rattle.store_domain_sound.specs.ValueMeaning.{Naming}
+use Rattle.store_domain_sound.specs.RowMeaning.{IsLiveOf}
+use Rattle.store_domain_sound.specs.Coverage.{state_of}
 use Rattle.store_domain_sound.proofs.LoadSound.{instance_there}
 use Rattle.store_domain_sound.proofs.Slices.{get_map}
-use Rattle.store_domain_sound_programs.specs.Premises.{HasPremises}
+use Rattle.abstract_steps_sound.specs.Premises.{HasPremises}
 use Rattle.abstract_steps_sound.specs.SoundSteps.{AreShort, IsReached}
 use Rattle.abstract_steps_sound_objects.proofs.Rewrites.{HaveTags, IsSet, set_rewrites}
 use Rattle.abstract_steps_sound_objects.proofs.ObjectRows.{own_instance}

@@ -42,7 +42,7 @@ module _ {I : Type 0} (l : LatticeOf I) (n : IntegersOf I) (flow : Flow) where
       let p = and_parts (is_typed_entry l n flow number x) (are_typed_rows l n flow (number + 1) xs) t in
       typed_rows (number + 1) xs b block k i row (omega (arith, d)) e h p.1
 
-  typed_before : (rows : List (Option (List (Cell I)))) (block k : ℕ) (i : Instruction) (row : List (Cell I)) → is_typed_map l n flow rows ≡ true → slice_get (instructions_of flow block) k ≡ Some i → row_before l n flow rows block k ≡ Some row → has_operands l n flow row i.operation ≡ true
+  pub typed_before : (rows : List (Option (List (Cell I)))) (block k : ℕ) (i : Instruction) (row : List (Cell I)) → is_typed_map l n flow rows ≡ true → slice_get (instructions_of flow block) k ≡ Some i → row_before l n flow rows block k ≡ Some row → has_operands l n flow row i.operation ≡ true
   unfolding is_typed_map
   typed_before rows block k i row t e h = typed_rows 0 rows block block k i row (omega arith) e h t
 

@@ -23,7 +23,7 @@ use Rattle.value_domain.specs.declared.row_cells.Cell.{Cell}
 use Rattle.value_domain.specs.declared.values.Value.{Value}
 use Rattle.value_domain_laws.proofs.BaseChanges.{has_none}
 use Rattle.abstract_steps_checks.specs.Temporaries.{temp_value}
-use Rattle.rule_checks_operands.specs.TypedRows.{is_natural, is_within, is_of_kind, is_size_in, has_third_size, takes_size, has_operands}
+use Rattle.rule_checks_operands.specs.TypedRows.{is_natural, is_within, is_of_kind, is_size_in, has_third_size, takes_size, has_right, has_operands}
 use Rattle.lib_models_memory.specs.Bytes.{MachinePointer, null, into}
 use Rattle.lib_models_memory.specs.Instances.{Memory, Life, live, ended, freed, life_at}
 use Rattle.lib_models_memory.specs.Scalars.{Scalar, integer, pointer}
@@ -60,7 +60,7 @@ module _ {I : Type 0} {l : LatticeOf I} {n : IntegersOf I} {stands : I → ℤ �
       let b = q.inside x a there in
       between (least_of kind) (greatest_of kind) b.0 b.1 a (subst (λ z. range_fits kind z ≡ true) b.2 h) b.3 b.4
 
-  within_has : (kind : IntType) (v : Value I) (a : ℤ) → is_within n kind v ≡ true → stands v.num a → in_type kind a ≡ true
+  pub within_has : (kind : IntType) (v : Value I) (a : ℤ) → is_within n kind v ≡ true → stands v.num a → in_type kind a ≡ true
   within_has kind v a h there = range_has kind v.num a (and_parts (is_size kind.bytes) (range_fits kind (n.bounds v.num)) h).1 there
 
   natural_has : (x : I) (a : ℤ) → is_natural (n.bounds x) ≡ true → stands x a → pos 0 ≤ℤ a
@@ -118,7 +118,7 @@ module _ {I : Type 0} {l : LatticeOf I} {n : IntegersOf I} {stands : I → ℤ �
 
     pub operands_have : (o : Operation) → has_operands l n flow row o ≡ true → HasOperands o state.temps
     unfolding has_operands
-    operands_have (op.Binary to o left right kind) h = λ a labels e. within_has kind (temp_value l n flow row left) a h (there.temps left (integer a labels) e).0
+    operands_have (op.Binary to o left right kind) h = λ a labels e. within_has kind (temp_value l n flow row left) a (and_parts (is_within n kind (temp_value l n flow row left)) (has_right l n flow row o kind right) h).0 (there.temps left (integer a labels) e).0
     operands_have (op.Unary to o operand kind) h = λ a labels e. within_has kind (temp_value l n flow row operand) a h (there.temps operand (integer a labels) e).0
     operands_have (op.Convert to operand from kind) h = λ x e. kind_has naming state.memory from (temp_value l n flow row operand) x h (there.temps operand x e)
     operands_have (op.Library to name arguments newest size) h = call_has name arguments.items h

@@ -22,28 +22,28 @@ use Rattle.abstract_steps_sound.proofs.PointerSteps.{pointer_step_sound}
 use Rattle.abstract_steps_sound_memory.proofs.LoadSteps.{load_sound}
 use Rattle.abstract_steps_sound_memory.proofs.StoreSteps.{store_sound}
 use Rattle.abstract_steps_sound_objects.proofs.Forgetting.{forget_sound}
-use Rattle.abstract_steps_sound_clear.proofs.Clearing.{clear_sound}
+use Rattle.abstract_steps_sound_spelling.proofs.Clearing.{clear_sound}
 use Rattle.abstract_steps_sound_spelling.proofs.SpellSteps.{spell_step_sound}
 use Rattle.abstract_steps_sound_enter.proofs.Entering.{enter_sound}
 use Rattle.abstract_steps_sound_leave.proofs.Leaving.{leave_sound}
 use Rattle.abstract_steps_sound_calls.proofs.ResultCalls.{result_call_sound}
-use Rattle.abstract_steps_sound_strings.proofs.StringCalls.{string_call_sound}
+use Rattle.abstract_steps_sound_prints.proofs.StringCalls.{string_call_sound}
 use Rattle.abstract_steps_sound_prints.proofs.PrintCalls.{print_call_sound}
-use Rattle.abstract_steps_sound_frees.proofs.FreeCalls.{free_call_sound}
-use Rattle.abstract_steps_sound_texts.proofs.TextSteps.{text_call_sound}
-use Rattle.abstract_steps_sound_fills.proofs.FillSteps.{fill_call_sound}
+use Rattle.abstract_steps_sound_reallocations.proofs.FreeCalls.{free_call_sound}
+use Rattle.abstract_steps_sound_lines.proofs.TextSteps.{text_call_sound}
+use Rattle.abstract_steps_sound_moves.proofs.FillSteps.{fill_call_sound}
 use Rattle.abstract_steps_sound_copies.proofs.CopySteps.{copy_sound}
 use Rattle.abstract_steps_sound_moves.proofs.CopySteps.{copy_call_sound}
-use Rattle.abstract_steps_sound_bounded_texts.proofs.BoundedSteps.{bounded_call_sound}
-use Rattle.abstract_steps_sound_appends.proofs.ApartTexts.{well_formed_apart}
-use Rattle.abstract_steps_sound_appends.proofs.AppendSteps.{append_call_sound}
-use Rattle.abstract_steps_sound_allocations.proofs.AllocationSteps.{allocation_call_sound}
+use Rattle.abstract_steps_sound_lines.proofs.BoundedSteps.{bounded_call_sound}
+use Rattle.abstract_steps_sound_lines.proofs.ApartTexts.{well_formed_apart}
+use Rattle.abstract_steps_sound_lines.proofs.AppendSteps.{append_call_sound}
+use Rattle.abstract_steps_sound_reallocations.proofs.AllocationSteps.{allocation_call_sound}
 use Rattle.abstract_steps_sound_reallocations.proofs.ReallocationCalls.{reallocation_call_sound}
 use Rattle.abstract_steps_sound_lines.specs.LineEnds.{IsLineEnd}
 use Rattle.abstract_steps_sound_lines.proofs.LineEnds.{line_end_sound}
 use Rattle.abstract_steps_covered.specs.SoundEnds.{IsDoneIn, GoesOn, EndsBlock, EndIsSound, StepsGoOnSoundly, EndsGoOnSoundly}
-use Rattle.abstract_steps_sound_edges.specs.EdgeSteps.{IsPlainEnd, TestIsSound, CaseIsSound, KindIsSound, TestsAreSound}
-use Rattle.abstract_steps_sound_edges.proofs.EdgeSteps.{end_sound}
+use Rattle.abstract_steps_sound_tests.specs.EdgeSteps.{IsPlainEnd, TestIsSound, CaseIsSound, KindIsSound, TestsAreSound}
+use Rattle.abstract_steps_sound_tests.proofs.EdgeSteps.{end_sound}
 use Rattle.abstract_steps_sound_tests.proofs.IntegerTests.{test_sound}
 use Rattle.abstract_steps_sound_tests.proofs.PointerTests.{pointer_test_sound}
 use Rattle.abstract_steps_sound_tests.proofs.NullTests.{null_test_sound}

@@ -1,1 +1,4 @@
 pub mod OpenSteps
+pub use Rattle.abstract_steps_sound_reallocations.specs.ReallocationCalls
+pub use Rattle.abstract_steps_sound_reallocations.specs.AllocationCalls
+pub use Rattle.abstract_steps_sound_tests.specs.ScalarObjects

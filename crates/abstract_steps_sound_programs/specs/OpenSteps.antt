@@ -18,13 +18,13 @@ use Rattle.value_domain.specs.declared.row_cells.Cell.{Cell}
 use Rattle.store_domain_meaning.specs.Coverage.{EachRunIsCovered}
 use Rattle.store_domain_sound_programs.specs.Premises.{AreHeld}
 use Rattle.abstract_steps_sound.specs.SoundSteps.{AreSound}
-use Rattle.abstract_steps_sound_allocations.specs.AllocationCalls.{Allocates}
+use Rattle.abstract_steps_sound_reallocations.specs.AllocationCalls.{Allocates}
 use Rattle.abstract_steps_sound_reallocations.specs.ReallocationCalls.{Reallocates}
 use Rattle.abstract_steps_sound_spelling.specs.SpellSteps.{SpellsBytes}
-use Rattle.abstract_steps_sound_copied_structs.specs.StructTables.{HasStructs}
+use Rattle.abstract_steps_sound_copies.specs.StructTables.{HasStructs}
 use Rattle.abstract_steps_covered.specs.SoundEnds.{IsDoneIn}
 use Rattle.abstract_steps_covered.specs.Covering.{Begins, Carries, HasTypedRuns, row_before, Admits}
-use Rattle.abstract_steps_sound_edges.specs.EdgeSteps.{KindIsSound}
+use Rattle.abstract_steps_sound_tests.specs.EdgeSteps.{KindIsSound}
 use Rattle.abstract_steps_sound_tests.specs.ScalarObjects.{IsIntegerTest, IsPointerTest, IsNullTest, IsCaseObject}
 
 -- `fgets` as any other call, which no program has: its calls end their blocks

@@ -5,3 +5,5 @@ pub mod Resized
 pub mod OldInstances
 pub mod ReallocatedRows
 pub mod ReallocationCalls
+pub use Rattle.abstract_steps_sound_allocations.proofs.AllocationSteps
+pub use Rattle.abstract_steps_sound_frees.proofs.FreeCalls

@@ -58,7 +58,7 @@ use Rattle.store_domain_sound_programs.specs.Premises.{HasPremises}
 use Rattle.store_domain_sound_regions.proofs.RegionArrays.{any_zero_stands}
 use Rattle.abstract_steps_sound.specs.SoundSteps.{IsReached}
 use Rattle.abstract_steps_sound.proofs.PutTemps.{IsResult}
-use Rattle.abstract_steps_sound_enter.proofs.GrownMemory.{grows, naming_too, names_too, content_grows}
+use Rattle.abstract_steps_sound_allocations.proofs.GrownMemory.{grows, naming_too, names_too, content_grows}
 use Rattle.abstract_steps_sound_frees.proofs.FreedCells.{free_keeps_cell, free_frees}
 use Rattle.abstract_steps_sound_frees.proofs.FreedRows.{IsFreeing, freed_stands}
 use Rattle.abstract_steps_sound_frees.proofs.ReleasedMemory.{byte_was, content_stays}

@@ -48,10 +48,10 @@ use Rattle.store_domain_sound_programs.specs.Premises.{HasPremises}
 use Rattle.abstract_steps_sound.specs.SoundSteps.{AreShort, IsReached, StepIsSound}
 use Rattle.abstract_steps_sound.proofs.Admitted.{AreAdmitted, none_admitted, one_admitted, both_admitted}
 use Rattle.abstract_steps_sound.proofs.Replies.{if_some_good}
-use Rattle.abstract_steps_sound_calls.proofs.Calls.{DrawnEnd, gave, ran_out, drawn_end, clean, GoodPlan, plan_stops}
+use Rattle.abstract_steps_sound_strings.proofs.Calls.{DrawnEnd, gave, ran_out, drawn_end, clean, GoodPlan, plan_stops}
 use Rattle.abstract_steps_sound_strings.proofs.Trails.{still_told, told_here, goes_further}
-use Rattle.abstract_steps_sound_enter.proofs.GrownMemory.{grows}
-use Rattle.abstract_steps_sound_fills.proofs.WriteCalls.{argument_stands, value_of, argument_in}
+use Rattle.abstract_steps_sound_allocations.proofs.GrownMemory.{grows}
+use Rattle.abstract_steps_sound_allocations.proofs.WriteCalls.{argument_stands, value_of, argument_in}
 use Rattle.abstract_steps_sound_allocations.proofs.Products.{IsAsked, asked_some, asked_has, asked_small, plain_asked}
 use Rattle.abstract_steps_sound_allocations.proofs.Sites.{IsSiteOf, site_is}
 use Rattle.std.specs.List.{list_all}

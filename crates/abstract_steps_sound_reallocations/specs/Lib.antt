@@ -1,1 +1,2 @@
 pub mod ReallocationCalls
+pub use Rattle.abstract_steps_sound_allocations.specs.AllocationCalls

@@ -5,3 +5,6 @@ pub mod SpelledRows
 pub mod SpellSteps
 pub mod FollowedArrays
 mod Counterexamples
+pub use Rattle.abstract_steps_sound_clear.proofs.Clearing
+pub use Rattle.abstract_steps_sound_clear.proofs.BlankRows
+pub use Rattle.abstract_steps_sound_clear.proofs.FullParts

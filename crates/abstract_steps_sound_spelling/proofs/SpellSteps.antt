@@ -21,8 +21,8 @@ use Rattle.store_domain.specs.RowLengths.{spell_keeps}
 use Rattle.store_domain.specs.ScalarTypes.{kind_of}
 use Rattle.store_domain.specs.Spelling.{written_count, character, spell_object, spell}
 use Rattle.abstract_steps_checks.specs.ViolationSets.{no_violations}
-use Rattle.abstract_steps_instructions.specs.Steps.{operate}
-use Rattle.abstract_steps_instructions.specs.StepViolations.{operation_violations}
+use Rattle.abstract_steps_sound.specs.Steps.{operate}
+use Rattle.abstract_steps_sound.specs.StepViolations.{operation_violations}
 use Rattle.lib_models_memory.specs.Labels.{no_labels}
 use Rattle.lib_models_memory.specs.Bytes.{Byte}
 use Rattle.lib_models_memory.specs.Instances.{Memory, Instance, bytes_of, bytes_at, byte_at, live, ended, life_at}
@@ -46,7 +46,7 @@ use Rattle.abstract_steps_sound.specs.SoundSteps.{AreShort, IsReached, StandsBeh
 use Rattle.abstract_steps_sound.proofs.Admitted.{none_admitted, same_admitted}
 use Rattle.abstract_steps_sound.proofs.PartSteps.{declared_storage}
 use Rattle.abstract_steps_sound.proofs.Replies.{if_some_good}
-use Rattle.abstract_steps_sound_objects.proofs.WholeObjects.{automatic_declared, automatic_storage, some_kind}
+use Rattle.abstract_steps_sound_clear.proofs.WholeObjects.{automatic_declared, automatic_storage, some_kind}
 use Rattle.abstract_steps_sound_clear.proofs.FullParts.{parts_full}
 use Rattle.abstract_steps_sound_spelling.specs.SpellSteps.{SpellsBytes, SpellsCharacters}
 use Rattle.abstract_steps_sound_spelling.proofs.Texts.{contents, contents_long, content_is, byte_small}

@@ -7,3 +7,10 @@ pub mod StoredRows
 pub mod StaticChains
 pub mod TopPrograms
 pub mod OwnCells
+pub use Rattle.abstract_steps_sound_spelling.proofs.SpelledCells
+pub use Rattle.abstract_steps_sound_spelling.proofs.SpelledRows
+pub use Rattle.abstract_steps_sound_spelling.proofs.SpelledZeros
+pub use Rattle.abstract_steps_sound_spelling.proofs.Texts
+pub use Rattle.abstract_steps_sound_spelling.proofs.BlankRows
+pub use Rattle.abstract_steps_sound_spelling.proofs.Clearing
+pub use Rattle.abstract_steps_sound_spelling.proofs.FullParts

@@ -51,10 +51,10 @@ use Rattle.store_domain_sound_programs.proofs.ShapedBases.{all_at}
 use Rattle.store_domain_sound_regions.specs.RegionWrites.{IsRegion, StandsBase}
 use Rattle.store_domain_sound_regions.proofs.Layers.{value_turn, zero_turn, leaf_turn, part_turn, leaves_within, zeros_within}
 use Rattle.store_domain_sound_regions.proofs.RegionArrays.{array_short, any_zero_stands, put_zero_stands}
-use Rattle.abstract_steps_sound_clear.proofs.FullParts.{parts_full}
-use Rattle.abstract_steps_sound_spelling.proofs.Texts.{content_is}
-use Rattle.abstract_steps_sound_spelling.proofs.SpelledCells.{IsText, leaf_spelled}
-use Rattle.abstract_steps_sound_spelling.proofs.SpelledZeros.{ends_inside, zero_spelled}
+use Rattle.abstract_steps_sound_start_cells.proofs.FullParts.{parts_full}
+use Rattle.abstract_steps_sound_start_cells.proofs.Texts.{content_is}
+use Rattle.abstract_steps_sound_start_cells.proofs.SpelledCells.{IsText, leaf_spelled}
+use Rattle.abstract_steps_sound_start_cells.proofs.SpelledZeros.{ends_inside, zero_spelled}
 use Rattle.abstract_steps_sound_starts.specs.Literals.{IsLiteralObject, LiteralsStand}
 use Rattle.abstract_steps_sound_start_cells.proofs.OwnCells.{spelled_leaf, spelled_part}
 use Rattle.abstract_steps_sound_start_cells.proofs.StaticMemory.{own_bytes}

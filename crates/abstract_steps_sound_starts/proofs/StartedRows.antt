@@ -46,7 +46,7 @@ use Rattle.store_domain_sound.proofs.StoreRows as rows
 use Rattle.store_domain_sound_programs.specs.Premises.{HasPremises}
 use Rattle.store_domain_sound_regions.specs.RegionWrites.{StandsBase}
 use Rattle.store_domain_sound_regions.proofs.BaseRows.{same_base}
-use Rattle.abstract_steps_sound_objects.proofs.BlankRows as blank
+use Rattle.abstract_steps_sound_start_cells.proofs.BlankRows as blank
 use Rattle.abstract_steps_sound_starts.specs.Parameters.{IsParameterObject}
 use Rattle.abstract_steps_sound_starts.specs.StartedRows.{HasStart, IsBegun, IsTaken, HasObject, HasParameter, IsBeginning, StartRowsStand, RunsBeginInStartRows}
 use Rattle.abstract_steps_sound_start_cells.proofs.ClearedCells.{clear_only}
@@ -112,27 +112,27 @@ module _ {I : Type 0} {l : LatticeOf I} {n : IntegersOf I} {stands : I → ℤ �
   -- ---- objects in order
 
   -- the position is none of a base
-  abbrev IsOutside : ℕ → ℕ → Type 0
+  abbrev pub IsOutside : ℕ → ℕ → Type 0
   IsOutside x b = (info : BaseInfo) → slice_get flow.bases.items b ≡ Some info → info.first ≤ x → x < info.first + base_values info → ⊥
 
   -- a row behind, as long, with the same cells where something holds of the position
-  record IsKept (row after : List (Cell I)) (Apart : ℕ → Type 0) : Type 0 where
-    long : length after ≡ length row
-    cells : (x : ℕ) → Apart x → cell_at after x ≡ cell_at row x
+  pub record IsKept (row after : List (Cell I)) (Apart : ℕ → Type 0) : Type 0 where
+    pub long : length after ≡ length row
+    pub cells : (x : ℕ) → Apart x → cell_at after x ≡ cell_at row x
 
-  abbrev AreBegun : List InitialObject → Type 0
+  abbrev pub AreBegun : List InitialObject → Type 0
   AreBegun os = (k b : ℕ) (x : InitialObject) → slice_get os k ≡ Some x → x.base ≡ Some b → IsBegun u flow naming memory entered b x
 
-  abbrev IsApart : InitialObject → ℕ → Type 0
+  abbrev pub IsApart : InitialObject → ℕ → Type 0
   IsApart ob x = (b : ℕ) → ob.base ≡ Some b → IsOutside x b
 
-  abbrev AreApart : List InitialObject → ℕ → Type 0
+  abbrev pub AreApart : List InitialObject → ℕ → Type 0
   AreApart os x = (k : ℕ) (ob : InitialObject) → slice_get os k ≡ Some ob → IsApart ob x
 
-  abbrev starts : ℕ → List InitialObject → Option (List (Cell I)) → Option (List (Cell I))
+  abbrev pub starts : ℕ → List InitialObject → Option (List (Cell I)) → Option (List (Cell I))
   starts at os row = walk (object_at l n flow) at os row
 
-  one_kept : (base : Option ℕ) (ob : InitialObject) → ob.base ≡ base → ((b : ℕ) → ob.base ≡ Some b → IsBegun u flow naming memory entered b ob) → (row after : List (Cell I)) → start_object l n flow base ob.size ob.value row ≡ Some after → IsKept row after (IsApart ob)
+  pub one_kept : (base : Option ℕ) (ob : InitialObject) → ob.base ≡ base → ((b : ℕ) → ob.base ≡ Some b → IsBegun u flow naming memory entered b ob) → (row after : List (Cell I)) → start_object l n flow base ob.size ob.value row ≡ Some after → IsKept row after (IsApart ob)
   unfolding start_object
   one_kept None ob is begun row after e = subst (λ z. IsKept row z (IsApart ob)) (same_Some row after e) (record { long = refl; cells = λ x apart. refl })
   one_kept (Some b) ob is begun row after e =
@@ -145,19 +145,19 @@ module _ {I : Type 0} {l : LatticeOf I} {n : IntegersOf I} {stands : I → ℤ �
   none_stays k (s ∷ ss) after e = none_stays (k + 1) ss after e
 
   -- a first object, and those behind it
-  record IsFirst (ob : InitialObject) (at : ℕ) (os : List InitialObject) (row after : List (Cell I)) : Type 0 where
-    now : List (Cell I)
-    made : start_object l n flow ob.base ob.size ob.value row ≡ Some now
-    rest : starts at os (Some now) ≡ Some after
+  pub record IsFirst (ob : InitialObject) (at : ℕ) (os : List InitialObject) (row after : List (Cell I)) : Type 0 where
+    pub now : List (Cell I)
+    pub made : start_object l n flow ob.base ob.size ob.value row ≡ Some now
+    pub rest : starts at os (Some now) ≡ Some after
 
-  first_of : (ob : InitialObject) (at : ℕ) (os : List InitialObject) (row after : List (Cell I)) → starts at (ob ∷ os) (Some row) ≡ Some after → IsFirst ob (at + 1) os row after
+  pub first_of : (ob : InitialObject) (at : ℕ) (os : List InitialObject) (row after : List (Cell I)) → starts at (ob ∷ os) (Some row) ≡ Some after → IsFirst ob (at + 1) os row after
   first_of ob at os row after e = by_row (start_object l n flow ob.base ob.size ob.value row) refl
     where
       by_row : (r : Option (List (Cell I))) → start_object l n flow ob.base ob.size ob.value row ≡ r → IsFirst ob (at + 1) os row after
       by_row None f = absurd (none_stays (at + 1) os after (subst (λ z. starts (at + 1) os z ≡ Some after) f e))
       by_row (Some now) f = record { now = now; made = f; rest = subst (λ z. starts (at + 1) os z ≡ Some after) f e }
 
-  all_kept : (at : ℕ) (os : List InitialObject) → AreBegun os → (row after : List (Cell I)) → starts at os (Some row) ≡ Some after → IsKept row after (AreApart os)
+  pub all_kept : (at : ℕ) (os : List InitialObject) → AreBegun os → (row after : List (Cell I)) → starts at os (Some row) ≡ Some after → IsKept row after (AreApart os)
   all_kept at [] begun row after e = subst (λ z. IsKept row z (AreApart [])) (same_Some row after e) (record { long = refl; cells = λ x apart. refl })
   all_kept at (ob ∷ os) begun row after e =
       let f = first_of ob at os row after e in
@@ -166,7 +166,7 @@ module _ {I : Type 0} {l : LatticeOf I} {n : IntegersOf I} {stands : I → ℤ �
       record { long = more.long ∙ one.long; cells = λ x apart. more.cells x (λ k y h. apart (suc k) y h) ∙ one.cells x (apart 0 ob refl) }
 
   -- cells of a base are none of another one
-  base_apart : (b d : ℕ) (info : BaseInfo) → slice_get flow.bases.items b ≡ Some info → (b ≡ d → ⊥) → (x : ℕ) → info.first ≤ x → x < info.first + base_values info → IsOutside x d
+  pub base_apart : (b d : ℕ) (info : BaseInfo) → slice_get flow.bases.items b ≡ Some info → (b ≡ d → ⊥) → (x : ℕ) → info.first ≤ x → x < info.first + base_values info → IsOutside x d
   base_apart b d info at ne x from to other e f h = elim (p.laid.laid.apart b d info other at e ne) [ inl y ↦ omega (arith, y, to, f) | inr y ↦ omega (arith, y, from, h) ]
 
   made_stands : (b : ℕ) (base : Option ℕ) (ob : InitialObject) → base ≡ Some b → IsBegun u flow naming memory entered b ob → (row now : List (Cell I)) → length row ≡ flow.width → start_object l n flow base ob.size ob.value row ≡ Some now → (info : BaseInfo) → slice_get flow.bases.items b ≡ Some info → StandsBase l n stands flow naming memory b info now
@@ -178,7 +178,7 @@ module _ {I : Type 0} {l : LatticeOf I} {n : IntegersOf I} {stands : I → ℤ �
       let k : start_value l n flow b h.info.size ob.value row ≡ Some now = subst (λ z. start_value l n flow b z ob.value row ≡ Some now) (sym h.size) f in
       subst (λ z. StandsBase l n stands flow naming memory b z now) (same_Some h.info info (sym h.among ∙ at)) (value_stands b h.instance h.info ob.value h.starts row now long k)
 
-  abbrev AreOwn : List InitialObject → Type 0
+  abbrev pub AreOwn : List InitialObject → Type 0
   AreOwn os = (j k b : ℕ) (x y : InitialObject) → slice_get os j ≡ Some x → slice_get os k ≡ Some y → x.base ≡ Some b → y.base ≡ Some b → j ≡ k
 
   all_stand : (at : ℕ) (os : List InitialObject) → AreBegun os → AreOwn os → (row after : List (Cell I)) → length row ≡ flow.width → starts at os (Some row) ≡ Some after → (k b : ℕ) (ob : InitialObject) → slice_get os k ≡ Some ob → ob.base ≡ Some b → (info : BaseInfo) → slice_get flow.bases.items b ≡ Some info → StandsBase l n stands flow naming memory b info after

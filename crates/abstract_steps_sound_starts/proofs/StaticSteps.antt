@@ -68,13 +68,13 @@ use Rattle.store_domain_sound_programs.specs.Premises.{HasPremises}
 use Rattle.store_domain_sound_programs.proofs.ShapedBases.{all_at}
 use Rattle.abstract_steps_sound.specs.SoundSteps.{AreShort, IsReached}
 use Rattle.abstract_steps_sound.proofs.NearScalars.{near_pointer_stands}
-use Rattle.abstract_steps_sound_objects.proofs.BlankRows as blank
-use Rattle.abstract_steps_sound_clear.proofs.Clearing.{cleared_stands}
-use Rattle.abstract_steps_sound_clear.proofs.FullParts.{parts_full}
-use Rattle.abstract_steps_sound_spelling.proofs.Texts.{contents, contents_long, content_is, byte_small}
-use Rattle.abstract_steps_sound_spelling.proofs.SpelledCells.{IsText}
-use Rattle.abstract_steps_sound_spelling.proofs.SpelledZeros.{ends_inside}
-use Rattle.abstract_steps_sound_spelling.proofs.SpelledRows.{IsSpelled, spelled_stands}
+use Rattle.abstract_steps_sound_start_cells.proofs.BlankRows as blank
+use Rattle.abstract_steps_sound_start_cells.proofs.Clearing.{cleared_stands}
+use Rattle.abstract_steps_sound_start_cells.proofs.FullParts.{parts_full}
+use Rattle.abstract_steps_sound_start_cells.proofs.Texts.{contents, contents_long, content_is, byte_small}
+use Rattle.abstract_steps_sound_start_cells.proofs.SpelledCells.{IsText}
+use Rattle.abstract_steps_sound_start_cells.proofs.SpelledZeros.{ends_inside}
+use Rattle.abstract_steps_sound_start_cells.proofs.SpelledRows.{IsSpelled, spelled_stands}
 use Rattle.abstract_steps_sound_start_cells.specs.StaticObjects.{IsStoreOf, AreStoresOf, IsStaticObject, StaticObjectsStand}
 use Rattle.abstract_steps_sound_start_cells.proofs.Cellwise.{spell_cellwise}
 use Rattle.abstract_steps_sound_start_cells.proofs.ClearedCells.{AreAlike, clear_alike, clear_only}

@@ -2,3 +2,4 @@ pub mod Literals
 pub mod Parameters
 pub mod StartedRows
 pub mod StaticBytes
+pub use Rattle.abstract_steps_sound_start_cells.specs.StaticObjects

@@ -30,9 +30,9 @@ use Rattle.lib_models_memory.specs.Scalars.{pointer}
 use Rattle.lib_models_effects.specs.Accesses.{is_freed_life}
 use Rattle.lib_models_effects.specs.LibraryChecks.{Reach, reached}
 use Rattle.lib_models_effects.specs.Worlds.{World, stopped_by}
-use Rattle.store_domain_meaning.specs.SoundMemory.{IsWithin}
-use Rattle.store_domain_meaning.specs.ValueMeaning.{Naming, StandsInto, StandsByLife, StandsPointer, StandsState}
-use Rattle.store_domain_meaning.specs.RowMeaning.{MachineState, StandsFor}
+use Rattle.store_domain_sound.specs.SoundMemory.{IsWithin}
+use Rattle.store_domain_sound.specs.ValueMeaning.{Naming, StandsInto, StandsByLife, StandsPointer, StandsState}
+use Rattle.store_domain_sound.specs.RowMeaning.{MachineState, StandsFor}
 use Rattle.store_domain_sound.specs.Shapes.{AreShaped}
 use Rattle.store_domain_sound.proofs.Freed.{freed_shows}
 use Rattle.store_domain_sound.proofs.LoadSound.{live_if}

@@ -3,3 +3,4 @@ pub mod GivenPointers
 pub mod Scans
 pub mod Trails
 pub mod StringCalls
+pub use Rattle.abstract_steps_sound_calls.proofs.Calls

@@ -5,7 +5,7 @@ use Rattle.std.proofs.lemmas.Option.{same_Some}
 use Rattle.lib_models_memory.specs.Bytes.{Content, indeterminate, number, part, Byte}
 use Rattle.lib_models_effects.specs.LibraryChecks.{Scanned, ends, unended, broken, one_further, scanned}
 use Rattle.lib_models_effects.specs.ScalarBytes.{region, contents}
-use Rattle.store_domain_meaning.specs.FirstZeroBytes.{Seen, unknown, end, character, seen_as, zero_by, first_zero}
+use Rattle.store_domain_sound.specs.FirstZeroBytes.{Seen, unknown, end, character, seen_as, zero_by, first_zero}
 use Rattle.store_domain_sound.proofs.Slices.{get_drop}
 use Rattle.store_domain_sound.proofs.Texts.{more_is}
 

@@ -30,10 +30,10 @@ use Rattle.lib_models_memory.specs.Bytes.{Byte}
 use Rattle.lib_models_memory.specs.Instances.{live, bytes_at, life_at}
 use Rattle.lib_models_effects.specs.LibraryChecks as machine
 use Rattle.lib_models_effects.specs.ScalarBytes.{region, contents}
-use Rattle.store_domain_meaning.specs.FirstZeroBytes.{first_zero, zero_offset}
-use Rattle.store_domain_meaning.specs.SoundMemory.{IsWithin}
-use Rattle.store_domain_meaning.specs.ValueMeaning.{Naming, StandsInto}
-use Rattle.store_domain_meaning.specs.RowMeaning.{MachineState, StandsFor, array_of, array_bytes}
+use Rattle.store_domain_sound.specs.FirstZeroBytes.{first_zero, zero_offset}
+use Rattle.store_domain_sound.specs.SoundMemory.{IsWithin}
+use Rattle.store_domain_sound.specs.ValueMeaning.{Naming, StandsInto}
+use Rattle.store_domain_sound.specs.RowMeaning.{MachineState, StandsFor, array_of, array_bytes}
 use Rattle.store_domain_sound.specs.Shapes.{AreShaped}
 use Rattle.store_domain_sound.proofs.Sets.{if_keeps, if_adds}
 use Rattle.store_domain_sound.proofs.Slices.{get_drop, get_there}

@@ -52,14 +52,14 @@ use Rattle.lib_models_effects.specs.LibraryChecks as machine
 use Rattle.lib_models_effects.specs.StringCalls.{plain, compare_strings, order_in}
 use Rattle.lib_models_effects.specs.Worlds.{World, Why, Reply, goes, stops, behind, stopped_by, Left, Stuck, Violated}
 use Rattle.flow_program_machine.specs.FlowStates.{Standing, and_value, values_of}
-use Rattle.store_domain_meaning.specs.SoundMemory.{IsPointerIn, IsWithin}
-use Rattle.store_domain_meaning.specs.ValueMeaning.{Naming, StandsPointer, StandsScalar}
-use Rattle.store_domain_meaning.specs.Coverage.{state_of}
-use Rattle.store_domain_sound_programs.specs.Premises.{HasPremises}
-use Rattle.abstract_steps_sound.specs.SoundSteps.{IsReached, StepIsSound}
-use Rattle.abstract_steps_sound.proofs.Admitted.{one_admitted, both_admitted}
-use Rattle.abstract_steps_sound.proofs.PutTemps.{IsResult}
-use Rattle.abstract_steps_sound.proofs.Replies.{if_some_good}
+use Rattle.store_domain_sound.specs.SoundMemory.{IsPointerIn, IsWithin}
+use Rattle.store_domain_sound.specs.ValueMeaning.{Naming, StandsPointer, StandsScalar}
+use Rattle.store_domain_sound.specs.Coverage.{state_of}
+use Rattle.abstract_steps_sound_calls.specs.Premises.{HasPremises}
+use Rattle.abstract_steps_sound_calls.specs.SoundSteps.{IsReached, StepIsSound}
+use Rattle.abstract_steps_sound_calls.proofs.Admitted.{one_admitted, both_admitted}
+use Rattle.abstract_steps_sound_calls.proofs.PutTemps.{IsResult}
+use Rattle.abstract_steps_sound_calls.proofs.Replies.{if_some_good}
 use Rattle.abstract_steps_sound_calls.proofs.Calls.{clean, GoodPlan, plan_stops, plan_gives, plan_is, number_result}
 use Rattle.abstract_steps_sound_calls.proofs.CharacterNumbers.{number_between}
 use Rattle.abstract_steps_sound_strings.specs.StringCalls.{ReadsStrings, IsStringCall}

@@ -7,3 +7,5 @@ pub mod IntegerTests
 pub mod CaseSteps
 pub mod PointerTests
 pub mod NullTests
+pub use Rattle.abstract_steps_sound_edges.proofs.EdgeSteps
+pub use Rattle.abstract_steps_sound_edges.proofs.TakenEdges

@@ -1,1 +1,2 @@
 pub mod ScalarObjects
+pub use Rattle.abstract_steps_sound_edges.specs.EdgeSteps

@@ -6,3 +6,6 @@ pub mod TextRules
 pub mod TextWrites
 pub mod TextCalls
 pub mod TextSteps
+pub use Rattle.abstract_steps_sound_fills.proofs.Targets
+pub use Rattle.abstract_steps_sound_fills.proofs.WriteCalls
+pub use Rattle.abstract_steps_sound_fills.proofs.FillCalls

@@ -60,9 +60,9 @@ use Rattle.store_domain_sound_regions.proofs.Regions.{alike_region}
 use Rattle.abstract_steps_sound.specs.SoundSteps.{IsReached}
 use Rattle.abstract_steps_sound.proofs.Admitted.{AreAdmitted}
 use Rattle.abstract_steps_sound.proofs.PutTemps.{IsResult}
-use Rattle.abstract_steps_sound_calls.proofs.Calls.{clean}
-use Rattle.abstract_steps_sound_strings.proofs.GivenPointers.{reach_of}
-use Rattle.abstract_steps_sound_strings.proofs.Trails.{still_told, told_here, goes_further}
+use Rattle.abstract_steps_sound_fills.proofs.Calls.{clean}
+use Rattle.abstract_steps_sound_fills.proofs.GivenPointers.{reach_of}
+use Rattle.abstract_steps_sound_fills.proofs.Trails.{still_told, told_here, goes_further}
 use Rattle.abstract_steps_sound_fills.proofs.Targets.{alone_is, within_stands, cut_has, room_told, literal_told, is_writable, after_has, start_has, touched_has, one_has}
 use Rattle.abstract_steps_sound_fills.proofs.WriteCalls.{behind_behind, Good, told_stop, plain_stop, written_good, given_at, reach_good, given_within, goes_given, given_into}
 use Rattle.std.proofs.lemmas.List.{length-map}
@@ -94,8 +94,8 @@ use Rattle.store_domain_sound.proofs.Slices.{get_map}
 use Rattle.store_domain_sound.proofs.TouchedRest.{near_stands}
 use Rattle.value_domain_laws.proofs.Numbers.{of_range_stands}
 use Rattle.value_domain.specs.LabelSets.{labels_leq}
-use Rattle.abstract_steps_sound_strings.proofs.Scans.{IsScan}
-use Rattle.abstract_steps_sound_strings.proofs.StringCalls as strings
+use Rattle.abstract_steps_sound_fills.proofs.Scans.{IsScan}
+use Rattle.abstract_steps_sound_fills.proofs.StringCalls as strings
 use Rattle.abstract_steps_sound_fills.proofs.Targets.{sat_above, sat_below}
 use Rattle.abstract_steps_sound_texts.specs.TextWrites.{IsTextWrite, IsWrittenText}
 use Rattle.abstract_steps_sound_texts.proofs.SourceCharacters.{source_number, source_labels}

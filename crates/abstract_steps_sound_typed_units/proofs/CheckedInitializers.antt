@@ -22,7 +22,7 @@ use Rattle.c_types_rules.specs.TypeSizes.{array_size, sized}
 use Rattle.c_types_scopes.specs.Known.{Known, size_of}
 use Rattle.c_types_initializers.specs.Subobjects.{SubobjectView, subobject}
 use Rattle.c_types_initializers.specs.Literals.{room_of, character_room}
-use Rattle.c_types_laws_stores.specs.PlacedStores.{IsPart}
+use Rattle.c_types_laws_units.specs.PlacedStores.{IsPart}
 use Rattle.c_types_laws_units.specs.PlacedUnits.{IsValueOf, IsPlacedStore, ArePlacedStores, HasNoBytes, IsPlacedObject, known_of}
 use Rattle.c_types_laws_units.proofs.Units.{initializers_placed}
 use Rattle.flow_lower_objects.specs.PlainObjects.{has_model_kind, has_length, is_plain_struct, is_plain_value, is_plain_store, is_plain_object, has_plain_objects}

@@ -14,7 +14,7 @@ use Rattle.c_layout.specs.Types.{Ty, Int, Pointer, Array, Struct, Void}
 use Rattle.c_types_rules.specs.TypeSizes.{array_size, sized}
 use Rattle.c_types_scopes.specs.Known.{Known, size_of}
 use Rattle.c_types_initializers.specs.Subobjects.{SubobjectView, subobject, is_behind, element_of_size, element, at_offset, member_in, following_of}
-use Rattle.c_types_laws_stores.specs.PlacedStores.{within, part_of, IsPart}
+use Rattle.c_types_laws_units.specs.PlacedStores.{within, part_of, IsPart}
 use Rattle.flow_lower_objects.specs.PlainObjects.{has_length, is_plain_struct}
 use Rattle.store_domain_sound_programs.proofs.ShapedBases.{all_at}
 use Rattle.store_domain_laws_layouts.specs.LaidApart.{has_class_bytes, are_laid_apart}

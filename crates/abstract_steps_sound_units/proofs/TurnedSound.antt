@@ -19,7 +19,7 @@ use Rattle.turn_split_runs.specs.SameRuns.{SameRun}
 use Rattle.turn_split_runs.proofs.LinkedPrograms.{linked}
 use Rattle.turn_split_runs.proofs.SameSteps.{runs_same}
 use Rattle.abstract_steps_sound_analyses.specs.SoundAnalyses.{IsViolatedIn}
-use Rattle.abstract_steps_sound_beginnings.specs.UnitStarts.{StartsAs, AreShared, AreInputs, IsBaseOf}
+use Rattle.abstract_steps_sound_lowered_starts.specs.UnitStarts.{StartsAs, AreShared, AreInputs, IsBaseOf}
 use Rattle.abstract_steps_sound_units.specs.SoundUnits.{FindsPairsOf}
 use Rattle.abstract_steps_sound_units.proofs.SoundUnits.{units_found}
 

@@ -49,7 +49,7 @@ use Rattle.abstract_steps_laws_programs.specs.RegularPrograms.{is_regular}
 use Rattle.flow_analysis.specs.CheckedPrograms.{IsChecked}
 use Rattle.abstract_steps_laws_own_starts.specs.CutStarts.{type_list}
 use Rattle.abstract_steps_sound_analyses.specs.SoundAnalyses.{IsViolatedIn}
-use Rattle.abstract_steps_sound_beginnings.specs.UnitStarts.{IsBaseOf, StartsAs}
+use Rattle.abstract_steps_sound_lowered_starts.specs.UnitStarts.{IsBaseOf, StartsAs}
 
 none_some : {A : Type 0} (x : A) → None ≡ Some x → ⊥
 none_some x e = cc

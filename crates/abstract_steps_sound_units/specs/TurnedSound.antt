@@ -8,7 +8,7 @@ use Rattle.flow_program.specs.declared.programs.Flow.{Flow}
 use Rattle.flow_program_views.specs.ProgramViews.{flow_view}
 use Rattle.flow_analysis.specs.Analyses.{IsAnalysis}
 use Rattle.turn_split.specs.Turns.{split}
-use Rattle.abstract_steps_sound_beginnings.specs.UnitStarts.{StartsAs}
+use Rattle.abstract_steps_sound_lowered_starts.specs.UnitStarts.{StartsAs}
 use Rattle.abstract_steps_sound_units.specs.SoundUnits.{FindsPairsOf}
 
 -- of each unit with whose tables the program begins, in its runs without turns unrolled

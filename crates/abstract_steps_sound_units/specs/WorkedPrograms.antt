@@ -15,7 +15,7 @@ use Rattle.flow_analysis.specs.CheckedPrograms.{IsChecked}
 use Rattle.abstract_steps_system.specs.FlowMachines.{has_start}
 use Rattle.abstract_steps_laws_programs.specs.RegularPrograms.{is_regular}
 use Rattle.abstract_steps_sound_analyses.specs.SoundAnalyses.{IsViolatedIn}
-use Rattle.abstract_steps_sound_beginnings.specs.UnitStarts.{StartsAs}
+use Rattle.abstract_steps_sound_lowered_starts.specs.UnitStarts.{StartsAs}
 
 -- what an analysis asks of its program, in each map of rows, and that the program begins with what is in the unit's tables
 pub record MeetsAllPremises (flow : Flow) (list : List ℤ) (u : UnitView) : Type 0 where

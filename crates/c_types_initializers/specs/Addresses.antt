@@ -50,9 +50,13 @@ is_unbounded _ = false
 abbrev pub reach : Known → Ty → Option ℕ
 reach k t = cond (is_unbounded t) (Some most) (size_of k t)
 
--- a whole object or literal
-abbrev pub whole : Known → StaticBase → Ty → Option Address
-whole k b t = option_map (from_0 b) (reach k t)
+-- a whole object
+abbrev pub whole : Known → ℕ → Ty → Option Address
+whole k n t = option_map (from_0 (base.Object n)) (reach k t)
+
+-- a whole literal, whose size is known
+abbrev pub spelled : Known → ℕ → Ty → Option Address
+spelled k n t = option_map (from_0 (base.Literal n)) (size_of k t)
 
 abbrev pub address_in : PointerConstant → Option Address
 address_in pointer.Null = None
@@ -110,9 +114,9 @@ abbrev mutual
   located k (tree.Designates at t parens f) = located_form k t f
 
   pub located_form : Known → Ty → LvalueFormTree → Option Address
-  located_form k t (tree.Object (object.Static n)) = whole k (base.Object n) t
+  located_form k t (tree.Object (object.Static n)) = whole k n t
   located_form k t (tree.Object (object.Local n)) = None
-  located_form k t (tree.Literal n) = whole k (base.Literal n) t
+  located_form k t (tree.Literal n) = spelled k n t
   located_form k t (tree.Target e) = address (pointed k e)
   located_form k t (tree.Member l distance) = member_at (located k l) distance (size_of k t)
   located_form k t (tree.Copied target source) = None

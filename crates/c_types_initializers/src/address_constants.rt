@@ -102,15 +102,27 @@ fn reach(cx: &Context, t: &CType) -> Option<u64>
     }
 }
 
-/// A whole object or literal.
-fn whole(cx: &Context, base: StaticBase, t: &CType) -> Option<Address>
-    ensures { result ≡ spec.whole (known cx.now) base (view t.now) }
+/// A whole object.
+fn whole(cx: &Context, number: u32, t: &CType) -> Option<Address>
+    ensures { result ≡ spec.whole (known cx.now) number (view t.now) }
 {
     Some(Address {
-        base,
+        base: StaticBase::Object(number),
         offset: 0,
         low: 0,
         high: reach(cx, t)?,
+    })
+}
+
+/// A whole string literal, whose size is known.
+fn spelled(cx: &Context, number: u32, t: &CType) -> Option<Address>
+    ensures { result ≡ spec.spelled (known cx.now) number (view t.now) }
+{
+    Some(Address {
+        base: StaticBase::Literal(number),
+        offset: 0,
+        low: 0,
+        high: cx.size_of(t)?,
     })
 }
 
@@ -148,11 +160,9 @@ fn located(cx: &Context, lvalue: &Lvalue) -> Option<Address>
     ensures { result ≡ spec.located (known cx.now) (lvalue_tree lvalue.now) }
 {
     match &lvalue.form {
-        LvalueForm::Object(ObjectRef::Static(number)) => {
-            whole(cx, StaticBase::Object(*number), &lvalue.ctype)
-        }
+        LvalueForm::Object(ObjectRef::Static(number)) => whole(cx, *number, &lvalue.ctype),
         LvalueForm::Object(ObjectRef::Local(_)) => None,
-        LvalueForm::Literal(number) => whole(cx, StaticBase::Literal(*number), &lvalue.ctype),
+        LvalueForm::Literal(number) => spelled(cx, *number, &lvalue.ctype),
         LvalueForm::Target(pointer) => match pointed(cx, pointer)? {
             PointerConstant::Address(found) => Some(found),
             PointerConstant::Null => None,

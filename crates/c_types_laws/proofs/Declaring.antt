@@ -34,7 +34,7 @@ module _ (R : State → State → Type 0) (has : HasDeclarations R) where
     struct_more = has.struct_more;
     body = has.body;
     member = has.member;
-    completed = has.completed;
+    completed = λ s t owner p made first laid g. has.completed s t owner made first g;
     enumerations = has.enumerations;
   }
 

@@ -11,12 +11,14 @@ use Rattle.c_types_scopes.specs.Refusals.{Ruled}
 use Rattle.c_types_scopes.specs.Answers.{after, kept}
 use Rattle.c_types_scopes.specs.DeclaredTypes.{DeclaredView}
 use Rattle.c_types_scopes.specs.Names.{number_in, found_tag}
+use Rattle.c_types_scopes.specs.Known.{size_of}
 use Rattle.c_types_scopes.specs.States.{State, with_name, with_literal, with_constant, with_call}
 use Rattle.c_types_scopes.specs.declared.meanings.Tag.{Tag}
 use Rattle.c_types_scopes.specs.declared.meanings.Tag.TheVariants as tag
 use Rattle.c_types_primary.specs.Calls as calls
 use Rattle.c_types_primary.specs.declared.calls.Callee.{Callee}
 use Rattle.c_types_primary.specs.declared.calls.Callee.TheVariants as callee
+use Rattle.c_types_primary.specs.Primaries as primaries
 use Rattle.c_types_primary.specs.TypeNames as names
 use Rattle.c_types_primary.specs.TypeNames.{WordsView, with_struct_tag}
 use Rattle.c_types_expressions.specs.Leaves.{callee_of, noted_callee}
@@ -101,13 +103,17 @@ module _ (R : State → State → Type 0) (has : HasSteps R) where
       (step s (names.words_from s at names.nothing_said n.words) (names.words_end at) (words_lead n.words s at names.nothing_said) (λ said t. stays t (names.said_type t.known at said.counts said.named)))
       (λ u t. stays t (names.shaped t.known at n.layers lengths u))
 
+  literal_leads : (s : State) (at : Place) (bytes : List ℕ) (size : Option ℕ) → Leads R s (primaries.literal_of_size s at bytes size)
+  literal_leads s at bytes None = tt
+  literal_leads s at bytes (Some size) = has.literal s at bytes
+
   -- ---- the way down
 
   mutual
     pub typed_leads : (s : State) (e : Tree) → Leads R s (spec.typed s e)
     typed_leads s (syntax.Name at text) = stays s _
     typed_leads s (syntax.Number at c) = has.same s
-    typed_leads s (syntax.Literal at bytes) = has.literal s at bytes
+    typed_leads s (syntax.Literal at bytes) = literal_leads s at bytes (size_of s.known (primaries.literal_type s.known bytes))
     typed_leads s (syntax.Paren at e) = step s (spec.typed s e) _ (typed_leads s e) (λ x t. has.same t)
     typed_leads s (syntax.Subscript at a b) = step s (spec.typed s a) _ (typed_leads s a) (λ x s1. step s1 (spec.typed s1 b) _ (typed_leads s1 b) (λ y t. stays t _))
     typed_leads s (syntax.Call at name es) = step s (noted_callee s at name) _ (callee_leads s at name) (λ c s1. step s1 (spec.operands s1 es) _ (operands_lead s1 es) (λ xs t. stays t _))

@@ -3,6 +3,7 @@ pub mod Expressing
 pub mod Specifying
 pub mod Declaring
 pub mod Initializing
+pub mod Statements
 pub mod Blocks
 pub mod Stating
 pub mod Entries

@@ -44,7 +44,7 @@ pub record HasSpecifiers (R : State → State → Type 0) : Type 0 where
   pub struct_more : (s : State) → R s (with_struct s)
   pub body : (s : State) (owner : ℕ) → R s (with_body s owner)
   pub member : (s : State) (owner name field : ℕ) (e : Option ℕ) → R s (with_member s owner name field e)
-  pub completed : (s t : State) (owner : ℕ) (made : StructView) → types.has_body s.types owner ≡ false → R (with_body s owner) t → R s (with_complete t owner made)
+  pub completed : (s t : State) (owner : ℕ) (p : Partial) (made : StructView) → types.has_body s.types owner ≡ false → finished p ≡ Some made → R (with_body s owner) t → R s (with_complete t owner made)
   pub enumerations : (s : State) (x : List (List ℤ)) → R s (record s { enumerations = x })
 
 module _ (R : State → State → Type 0) (has : HasSpecifiers R) where
@@ -76,7 +76,7 @@ module _ (R : State → State → Type 0) (has : HasSpecifiers R) where
   layer_leads : (s : State) (v : StepsView) (l : DeclaratorLayerView) → Leads R s (declarators.with_layer s v l)
   layer_leads s v l = step s (declarators.with_arrays s v l.arrays) (declarators.pointed (length l.stars)) (arrays_lead l.arrays s v) (λ w t. has.steps.same t)
 
-  layers_lead : (layers : List DeclaratorLayerView) (s : State) → Leads R s (declarators.typed_steps s layers)
+  pub layers_lead : (layers : List DeclaratorLayerView) (s : State) → Leads R s (declarators.typed_steps s layers)
   layers_lead [] s = has.steps.same s
   layers_lead (l ∷ inner) s = step s (declarators.typed_steps s inner) (λ v t. declarators.with_layer t v l) (layers_lead inner s) (λ v t. layer_leads t v l)
 
@@ -155,12 +155,12 @@ module _ (R : State → State → Type 0) (has : HasSpecifiers R) where
       of_laid (Err f) = tt
   laid_body owner at u lay false is h = of_laid (lay (with_body u owner) owner) (h (with_body u owner) owner)
     where
-      of_made : (t : State) (made : Option StructView) → R (with_body u owner) t → Leads R u (bodies.completed at owner made t)
-      of_made t None g = tt
-      of_made t (Some made) g = has.completed u t owner made is g
+      of_made : (p : Partial) (t : State) (made : Option StructView) → finished p ≡ made → R (with_body u owner) t → Leads R u (bodies.completed at owner made t)
+      of_made p t None laid g = tt
+      of_made p t (Some made) laid g = has.completed u t owner p made is laid g
 
       of_laid : (r : Ruled (Partial × State)) → Leads R (with_body u owner) r → Leads R u (after r (bodies.ended (record { owner = owner; at = at; is_repeated = false; number = owner })))
-      of_laid (Ok p) g = of_made p.1 (finished p.0) g
+      of_laid (Ok p) g = of_made p.0 p.1 (finished p.0) refl g
       of_laid (Err f) g = tt
 
   body_leads : (s : State) (at : Place) (t : Option NameView) (lay : State → ℕ → Ruled (Partial × State)) → ((s1 : State) (n : ℕ) → Leads R s1 (lay s1 n)) → Leads R s (after (bodies.begun_body s at t) (λ b s1. after (lay s1 b.number) (bodies.ended b)))
@@ -206,7 +206,7 @@ module _ (R : State → State → Type 0) (has : HasSpecifiers R) where
   enumeration_alone_leads s at (Some t) = enumeration_tag_leads R has.steps s at (spec.name_of t)
 
   mutual
-    read_leads : (s : State) (alone : Bool) (r : ReadingView) (w : SpecTree) → Leads R s (spec.read s alone r w)
+    pub read_leads : (s : State) (alone : Bool) (r : ReadingView) (w : SpecTree) → Leads R s (spec.read s alone r w)
     read_leads s alone r (tree.StorageWord at word) = has.steps.same s
     read_leads s alone r (tree.Qualifier at) = has.steps.same s
     read_leads s alone r (tree.TypeOf at word) = has.steps.same s

@@ -1,1 +1,2 @@
 pub mod IntegerEntries
+pub use Rattle.c_types.specs.UnitChecks

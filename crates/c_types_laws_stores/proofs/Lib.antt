@@ -4,3 +4,9 @@ pub mod Cursors
 pub mod Lists
 pub mod Filling
 pub mod Initials
+pub use Rattle.c_types_laws.proofs.Declaring
+pub use Rattle.c_types_laws.proofs.Entries
+pub use Rattle.c_types_laws.proofs.Expressing
+pub use Rattle.c_types_laws.proofs.Initializing
+pub use Rattle.c_types_laws.proofs.Leading
+pub use Rattle.c_types_laws.proofs.Stating

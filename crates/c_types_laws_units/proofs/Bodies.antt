@@ -20,10 +20,10 @@ use Rattle.c_types_objects.specs.Changes.{changed, changed_at}
 use Rattle.c_types_objects.specs.FileObjects.{number_or}
 use Rattle.c_types_objects.specs.LocalObjects.{typed_object, typed_static, static_declaration, with_static_object, with_static_type}
 use Rattle.c_types_statements.specs.StaticInitializers.{stored_static, with_stores, has_size}
-use Rattle.c_types_laws.proofs.Leading.{Leads}
-use Rattle.c_types_laws.proofs.Expressing.{HasSteps}
-use Rattle.c_types_laws.proofs.Initializing.{initializer_leads}
-use Rattle.c_types_laws.proofs.Stating.{HasBodies, IsNumbered}
+use Rattle.c_types_laws_stores.proofs.Leading.{Leads}
+use Rattle.c_types_laws_stores.proofs.Expressing.{HasSteps}
+use Rattle.c_types_laws_stores.proofs.Initializing.{initializer_leads}
+use Rattle.c_types_laws_stores.proofs.Stating.{HasBodies, IsNumbered}
 use Rattle.c_types_laws_stores.proofs.Growing.{Extends}
 use Rattle.c_types_laws_stores.proofs.Initials.{stores_placed}
 use Rattle.c_types_laws_units.specs.PlacedUnits.{ArePlacedStores, HasNoBytes, IsPlacedObject}

@@ -41,10 +41,10 @@ use Rattle.c_types_file_scope.specs.FunctionDeclarations as functions
 use Rattle.c_types_file_scope.specs.declared.function_declarations.FunctionSlot.{FunctionSlot}
 use Rattle.c_types_file_scope.specs.declared.function_declarations.NameBefore.{NameBefore}
 use Rattle.c_types_file_scope.specs.declared.function_declarations.NameBefore.TheVariants as standing
-use Rattle.c_types_laws.proofs.Leading.{Leads, kept_leads, cond_leads, onward, then}
-use Rattle.c_types_laws.proofs.Declaring.{declared_leads, specifiers_lead}
-use Rattle.c_types_laws.proofs.Initializing.{initializer_leads}
-use Rattle.c_types_laws.proofs.Stating.{IsNumbered, static_leads}
+use Rattle.c_types_laws_stores.proofs.Leading.{Leads, kept_leads, cond_leads, onward, then}
+use Rattle.c_types_laws_stores.proofs.Declaring.{declared_leads, specifiers_lead}
+use Rattle.c_types_laws_stores.proofs.Initializing.{initializer_leads}
+use Rattle.c_types_laws_stores.proofs.Stating.{IsNumbered, static_leads}
 use Rattle.c_types_laws_stores.proofs.Types.{type_is}
 use Rattle.c_types_laws_units.specs.PlacedUnits.{IsPlacedObject}
 use Rattle.c_types_laws_units.proofs.Kept.{get_front, appended_is, AreLinked, IsGoodBy, most, Keeps, later_same, keeps_same, keeps_twice, steps_keep, declarations_keep, at_most}

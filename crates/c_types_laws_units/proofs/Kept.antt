@@ -21,8 +21,8 @@ use Rattle.c_types_scopes.specs.States.{State, is_evaluated, with_name}
 use Rattle.c_types_initializers.specs.Subobjects.{SubobjectView}
 use Rattle.c_types_declarations.specs.ContextSteps.{with_struct, with_body, with_complete}
 use Rattle.c_types_objects.specs.LocalObjects.{static_declaration, with_static_object}
-use Rattle.c_types_laws.proofs.Expressing.{HasSteps}
-use Rattle.c_types_laws.proofs.Declaring.{HasDeclarations}
+use Rattle.c_types_laws_stores.proofs.Expressing.{HasSteps}
+use Rattle.c_types_laws_stores.proofs.Declaring.{HasDeclarations}
 use Rattle.c_types_laws_stores.specs.PlacedStores.{IsPart}
 use Rattle.c_types_laws_stores.proofs.Growing.{Extends, extends_same, extends_twice, size_more, part_stays}
 use Rattle.c_types_laws_units.specs.PlacedUnits.{IsPlacedStore, ArePlacedStores, HasNoBytes, IsPlacedObject}

@@ -54,11 +54,11 @@ use Rattle.c_types.specs.UnitDefinitions as definitions
 use Rattle.c_types.specs.UnitEntries.{judged}
 use Rattle.c_types.specs.FunctionDefinitions as bodies
 use Rattle.c_types.specs.UnitChecks as checks
-use Rattle.c_types_laws.proofs.Leading.{Leads, kept_leads, cond_leads, onward, then}
-use Rattle.c_types_laws.proofs.Declaring.{declared_leads, specifiers_lead}
-use Rattle.c_types_laws.proofs.Initializing.{initializer_leads}
-use Rattle.c_types_laws.proofs.Stating.{Comes, static_leads, items_come, all_labels_lead}
-use Rattle.c_types_laws.proofs.Entries.{same_value}
+use Rattle.c_types_laws_stores.proofs.Leading.{Leads, kept_leads, cond_leads, onward, then}
+use Rattle.c_types_laws_stores.proofs.Declaring.{declared_leads, specifiers_lead}
+use Rattle.c_types_laws_stores.proofs.Initializing.{initializer_leads}
+use Rattle.c_types_laws_stores.proofs.Stating.{Comes, static_leads, items_come, all_labels_lead}
+use Rattle.c_types_laws_stores.proofs.Entries.{same_value}
 use Rattle.c_types_laws_units.specs.PlacedUnits.{IsValueOf, IsPlacedStore, ArePlacedStores, IsPlacedObject, known_of, InitializersArePlaced}
 use Rattle.c_types_laws_units.proofs.Kept.{IsGoodBy, most, Keeps, later_same, keeps_same, keeps_twice, steps_keep, declarations_keep, at_most}
 use Rattle.c_types_laws_units.proofs.Bodies.{declared_good, undefined_good, bodies_keep}

@@ -1,1 +1,2 @@
 pub mod PlacedUnits
+pub use Rattle.c_types_laws_stores.specs.PlacedStores

@@ -1,8 +1,10 @@
 pub mod ModelTypes
 pub mod MadeTerms
+pub mod ProperStores
 pub mod KnownTypes
 pub mod UnitParts
 pub mod MadeLaws
 pub mod ProperTrees
 pub mod TypingLaws
 pub mod ProperStatements
+pub use Rattle.ref_machine_looks_units.specs.LookedStatements

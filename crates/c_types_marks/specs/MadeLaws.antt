@@ -22,7 +22,7 @@ use Rattle.c_types_operators.specs.Choices.{logical, conditional, comma}
 use Rattle.c_types_operators.specs.SizesAndCasts.{size_of_operand, size_of_type, cast}
 use Rattle.c_types_operators.specs.UnaryOperators.{unary, step}
 use Rattle.flow_lower_conditions.specs.Tests.{named}
-use Rattle.ref_machine_looks.specs.LookedTerms.{is_marked_term}
+use Rattle.ref_machine_looks_units.specs.LookedTerms.{is_marked_term}
 use Rattle.ref_machine_looks_units.specs.LookedStatements.{selects_by}
 use Rattle.c_types_marks.specs.ModelTypes.{IsTypeOf, IsGround}
 use Rattle.c_types_marks.specs.MadeTerms.{IsMade, IsMadeOperand, Makes, Gives}

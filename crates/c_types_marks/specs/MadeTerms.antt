@@ -10,8 +10,8 @@ use Rattle.c_layout.specs.declared.checked_tree.checked_terms.ConversionKind.The
 use Rattle.c_types_operands.specs.Operands.{OperandForm, AsValue, AsLvalue, OperandView, term_type, term_constant, lvalue_type, is_scalar, is_void}
 use Rattle.c_types_scopes.specs.Refusals.{Ruled}
 use Rattle.flow_lower_tasks.specs.TermKinds.{is_zero_cast, converted, term_form}
-use Rattle.ref_machine_looks.specs.LookedTerms as look
-use Rattle.ref_machine_looks.specs.LookedTerms.{exact, is_marked_term, is_marked_place, has_tests}
+use Rattle.ref_machine_looks_units.specs.LookedTerms as look
+use Rattle.ref_machine_looks_units.specs.LookedTerms.{exact, is_marked_term, is_marked_place, has_tests}
 use Rattle.c_types_marks.specs.ModelTypes.{IsTypeOf}
 
 -- the number that a term is, which its type has

@@ -6,7 +6,7 @@ use Rattle.c_types_scopes.specs.DeclaredTypes.{ObjectView, SignatureView}
 use Rattle.c_types_scopes.specs.States.{State}
 use Rattle.flow_lower_functions.specs.Functions.{local_type}
 use Rattle.ref_machine.specs.SourceStates.{function_at}
-use Rattle.ref_machine_looks.specs.LookedTypes.{same_mark}
+use Rattle.ref_machine_looks_units.specs.LookedTypes.{same_mark}
 
 -- a function that was declared is there with its result and its parameters
 pub record IsHeadOf (declared : SignatureView) (f : FunctionView) : Type 0 where

@@ -26,7 +26,7 @@ use Rattle.c_types_file_scope.specs.ExternalDeclarations as external
 use Rattle.c_types_file_scope.specs.FunctionDeclarations as functions
 use Rattle.c_types_file_scope.specs.declared.function_declarations.FunctionSlot.{FunctionSlot}
 use Rattle.c_types.specs.FunctionDefinitions as definitions
-use Rattle.c_types_laws.proofs.Leading.{Leads, cond_leads, then}
+use Rattle.c_types_laws_stores.proofs.Leading.{Leads, cond_leads, then}
 use Rattle.ref_machine_looks.specs.LookedTypes.{same_mark}
 use Rattle.flow_lower_functions.specs.Functions.{local_type, type_or}
 use Rattle.c_types_marks.specs.UnitParts.{IsHeadOf}

@@ -20,8 +20,8 @@ use Rattle.c_types_file_scope.specs.FunctionDeclarations as functions
 use Rattle.c_types_file_scope.specs.declared.function_declarations.NameBefore.{NameBefore}
 use Rattle.c_types_file_scope.specs.declared.function_declarations.NameBefore.TheVariants as standing
 use Rattle.c_types_laws_stores.proofs.Types.{type_is}
-use Rattle.c_types_laws_units.proofs.Kept.{appended_is, front_stays, set_other}
-use Rattle.c_types_laws_units.proofs.Bodies.{changed_is}
+use Rattle.c_types_marks_scopes.proofs.Kept.{appended_is, front_stays, set_other}
+use Rattle.c_types_marks_scopes.proofs.Bodies.{changed_is}
 use Rattle.c_types_marks.specs.UnitParts.{IsHeadOf}
 use Rattle.c_types_marks_scopes.proofs.Longer.{Longer, longer_by, last_item}
 use Rattle.c_types_marks_heads.proofs.Numbering.{IsNumbering}

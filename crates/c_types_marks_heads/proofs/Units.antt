@@ -18,8 +18,8 @@ use Rattle.c_types.specs.Streams.{with_stream}
 use Rattle.c_types.specs.UnitDefinitions.{with_externals}
 use Rattle.c_types.specs.FunctionDefinitions.{function_definition}
 use Rattle.c_types.specs.UnitChecks as checks
-use Rattle.c_types_laws.proofs.Leading.{Leads}
-use Rattle.c_types_laws.proofs.Entries.{same_value}
+use Rattle.c_types_laws_stores.proofs.Leading.{Leads}
+use Rattle.c_types_laws_stores.proofs.Entries.{same_value}
 use Rattle.c_types_marks.specs.UnitParts.{IsPartOf, IsThere}
 use Rattle.c_types_marks_heads.specs.HeadLaws.{UnitsHaveHeads}
 use Rattle.c_types_marks_scopes.proofs.Longer.{longer_same}

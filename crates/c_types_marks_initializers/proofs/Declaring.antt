@@ -33,7 +33,7 @@ use Rattle.flow_lower_tasks.specs.TermKinds.{term_type}
 use Rattle.lib_models_effects.specs.LibraryChecks.{most_size}
 use Rattle.ref_machine_looks.specs.LookedTypes.{is_scalar_type}
 use Rattle.ref_machine_looks.specs.LookedTerms.{is_marked_term, is_marked_place}
-use Rattle.ref_machine_looks_units.specs.LookedStatements.{is_marked_store, is_marked_statement, are_marked_statements}
+use Rattle.c_types_marks.specs.LookedStatements.{is_marked_store, is_marked_statement, are_marked_statements}
 use Rattle.c_types_marks.specs.ModelTypes.{IsTypeOf}
 use Rattle.c_types_marks.specs.UnitParts.{IsPartOf}
 use Rattle.c_types_marks.specs.ProperStatements.{AreProperLayers, AreProperSpecs, IsProperInitializer, IsProperInitDeclarator, AreProperInitDeclarators, IsProperLocal}
@@ -50,6 +50,8 @@ use Rattle.c_types_marks_initializers.proofs.Going.{IsPassed, Rules, ground, onw
 use Rattle.c_types_marks_initializers.proofs.Going as going
 use Rattle.c_types_marks_initializers.proofs.ReadySteps.{scoped_passes, named_ready, constant_ready, constant_passes, automatic_ready, automatic_passes, static_ready, static_passes, local_type_ready, local_type_passes, static_type_ready, static_type_passes, stores_ready, stores_pass}
 use Rattle.c_types_marks_initializers.specs.MarkedInitializers.{AreValued, IsInitial}
+use Rattle.c_types_marks_stores.specs.StaticStores.{StoresIf}
+use Rattle.c_types_marks_stores.proofs.Addresses.{static_stores_proper}
 use Rattle.c_types_marks_initializers.proofs.Initializing.{Initializes, initializer_goes}
 
 -- ---- lists
@@ -171,22 +173,29 @@ module _ (laws : HasLaws) (m : Model) where
   abbrev Stores : State → Ruled (Unit {0} × State) → Type 0
   Stores s r = Goes m s going.nothing (λ u x. Unit {0}) r
 
-  stored_goes : (equals : Place) (index number : ℕ) (v : InitializedView) (t : Ty) (s : State) (r : Ruled (List StaticStoreView)) → IsReady m s → IsTypeOf m t → Stores s (after (kept (with_expressions s v) r) (statics.with_initial index number t))
-  stored_goes equals index number v t s (Ok stores) h typed =
+  stored_goes : (equals : Place) (index number : ℕ) (v : InitializedView) (t : Ty) (s : State) (r : Ruled (List StaticStoreView)) → IsReady m s → IsTypeOf m t → StoresIf r → Stores s (after (kept (with_expressions s v) r) (statics.with_initial index number t))
+  stored_goes equals index number v t s (Ok stores) h typed proper =
       let s1 : State = with_expressions s v in
       let h1 = expressions_ready s v h in
       let s2 : State = with_static_type index number t s1 in (
-        stores_ready m s2 (static_type_ready m s1 h1 index number t typed) number stores,
+        stores_ready m s2 (static_type_ready m s1 h1 index number t typed) number stores proper,
         tt,
         λ u part. (expressions_pass s v u (static_type_passes s1 index number t u (stores_pass s2 number stores u part)), tt),
       )
-  stored_goes equals index number v t s (Err f) h typed = tt
+  stored_goes equals index number v t s (Err f) h typed proper = tt
 
   pub static_goes : (s : State) (at : Place) (index number : ℕ) (equals : Place) (t : Ty) (i : InitializerTree) → IsReady m s → IsProperInitializer m i → IsTypeOf m t → Stores s (statics.static_initializer s at index number equals t i)
-  static_goes s at index number equals t i h proper typed = then m s (λ (p : InitializedView × Ty). IsTypeOf m p.1) (λ u p. IsInitial u p.0) going.nothing (λ u x. Unit {0}) (initializer_of s equals t i) (statics.judged_static at index number equals) (initializer_goes laws m s equals t i h proper typed)
-      (λ p s1 ready of. weaker m s1 going.nothing (λ u x. Unit {0}) (λ u x. IsInitial u p.0 → Unit {0}) (statics.judged_static at index number equals p s1)
-      (cond_goes m s1 going.nothing (λ u x. Unit {0}) (has_size s1.known p.1) (statics.store_static equals index number p.0 p.1 s1) (type_fault at) (stored_goes equals index number p.0 p.1 s1 (constant_stores s1.known equals p.0) ready of) tt)
-      (λ u x g k. tt))
+  static_goes s at index number equals t i h proper typed = of_made (initializer_of s equals t i) refl (initializer_goes laws m s equals t i h proper typed)
+    where
+      of_size : (v : InitializedView) (made : Ty) (later : State) → IsReady m later → IsTypeOf m made → StoresIf (constant_stores later.known equals v) → (b : Bool) → Stores later (cond b (statics.store_static equals index number v made later) (type_fault at))
+      of_size v made later ready of proper true = stored_goes equals index number v made later (constant_stores later.known equals v) ready of proper
+      of_size v made later ready of proper false = tt
+
+      of_made : (r : Ruled ((InitializedView × Ty) × State)) → initializer_of s equals t i ≡ r → Initializes laws m s r → Stores s (after r (statics.judged_static at index number equals))
+      of_made (Ok q) is g =
+          onward m s q.1 going.nothing (λ u x. Unit {0}) (statics.judged_static at index number equals q.0 q.1) (λ u part. (g.2 u part).0)
+          (of_size q.0.0 q.0.1 q.1 g.0 g.1 (static_stores_proper m q.1.known s q.1 equals equals t q.0.1 i q.0.0 g.0.types.proper proper is) (has_size q.1.known q.0.1))
+      of_made (Err f) is g = tt
 
   -- ---- objects of blocks
 

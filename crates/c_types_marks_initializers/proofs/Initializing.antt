@@ -4,7 +4,6 @@ use Rattle.std.specs.Prelude.{Bool, true, false, cond}
 use Rattle.cc_base.specs.declared.diagnostics.Place.{Place}
 use Rattle.cc_base.specs.declared.refusals.Fault.{Fault}
 use Rattle.c_layout.specs.Types.{Ty, same_type}
-use Rattle.c_layout.specs.SyntaxTrees as syntax
 use Rattle.c_layout.specs.SyntaxTrees.{Tree}
 use Rattle.c_layout.specs.DeclarationTrees as tree
 use Rattle.c_layout.specs.DeclarationTrees.{InitializerTree, InitializerTrees}
@@ -30,7 +29,7 @@ use Rattle.c_types_braced_lists.specs.Initializers as spec
 use Rattle.flow_lower_tasks.specs.TermKinds.{term_type}
 use Rattle.ref_machine_looks.specs.LookedTypes.{is_scalar_type}
 use Rattle.ref_machine_looks.specs.LookedTerms.{is_marked_term, is_marked_place}
-use Rattle.ref_machine_looks_units.specs.LookedStatements.{are_bytes}
+use Rattle.c_types_marks.specs.LookedStatements.{are_bytes}
 use Rattle.c_types_marks.specs.ModelTypes.{IsTypeOf}
 use Rattle.c_types_marks.specs.MadeTerms.{IsMade, IsMadeOperand, IsMadeForm, Gives}
 use Rattle.c_types_marks.specs.UnitParts.{IsPartOf}
@@ -38,6 +37,7 @@ use Rattle.c_types_marks.specs.ProperTrees.{IsProperTree}
 use Rattle.c_types_marks.specs.ProperStatements.{IsProperInitializer, AreProperInitializers}
 use Rattle.c_types_marks.specs.TypingLaws.{MakesOperand}
 use Rattle.c_types_marks_tests.proofs.ModelKinds.{scalar_there}
+use Rattle.c_types_marks_stores.proofs.Texts.{IsText, bare_text, only_text}
 use Rattle.c_types_marks_layouts.proofs.Expressing.{expressions_lay}
 use Rattle.c_types_marks_initializers.specs.ReadyStates.{IsReady, Goes}
 use Rattle.c_types_marks_initializers.specs.PartLaws.{HasLaws}
@@ -96,37 +96,6 @@ found_valued u k at o v None scalar h all = all
 found_valued u k at o v (Some s) scalar h all = value_valued u k at s o v (is_scalar s.ctype) (scalar s refl) h all
 
 -- ---- literals
-
-abbrev IsText : Option (List ℕ) → Type 0
-IsText None = Unit {0}
-IsText (Some bytes) = are_bytes bytes ≡ true
-
-bare_text : (m : Model) (e : Tree) → IsProperTree m e → IsText (bare_literal e)
-bare_text m (syntax.Literal at bytes) h = h
-bare_text m (syntax.Name at text) h = tt
-bare_text m (syntax.Number at c) h = tt
-bare_text m (syntax.Paren at e) h = tt
-bare_text m (syntax.Subscript at a b) h = tt
-bare_text m (syntax.Call at name es) h = tt
-bare_text m (syntax.Member at e name) h = tt
-bare_text m (syntax.Arrow at e name) h = tt
-bare_text m (syntax.Postfix at op e) h = tt
-bare_text m (syntax.Prefix at op e) h = tt
-bare_text m (syntax.Unary at op e) h = tt
-bare_text m (syntax.SizeofExpr at e) h = tt
-bare_text m (syntax.SizeofType at n es) h = tt
-bare_text m (syntax.Cast at n es e) h = tt
-bare_text m (syntax.Binary at op a b) h = tt
-bare_text m (syntax.Logical at op a b) h = tt
-bare_text m (syntax.Conditional at a b c) h = tt
-bare_text m (syntax.Assign at op a b) h = tt
-bare_text m (syntax.Comma at a b) h = tt
-
-only_text : (m : Model) (list : InitializerTrees) → AreProperInitializers m list → IsText (only_literal list)
-only_text m tree.NoInitializer h = tt
-only_text m (tree.MoreInitializers (tree.Single e) tree.NoInitializer) h = bare_text m e h.0
-only_text m (tree.MoreInitializers (tree.Braces at items) tree.NoInitializer) h = tt
-only_text m (tree.MoreInitializers i (tree.MoreInitializers j items)) h = tt
 
 abbrev IsProperOnly : Model → Option Tree → Type 0
 IsProperOnly m None = Unit {0}

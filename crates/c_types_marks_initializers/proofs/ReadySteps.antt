@@ -16,8 +16,9 @@ use Rattle.c_types_scopes.specs.declared.meanings.Meaning.TheVariants as meaning
 use Rattle.c_types_objects.specs.Changes.{changed, changed_at}
 use Rattle.c_types_objects.specs.LocalObjects.{typed_local, typed_object, typed_static, static_declaration, with_automatic, with_static_object, with_local_type, with_static_type}
 use Rattle.c_types_statements.specs.StaticInitializers.{stored_static, with_stores}
-use Rattle.c_types_laws_units.proofs.Kept.{appended_is, front_stays, set_other}
-use Rattle.c_types_laws_units.proofs.Bodies.{changed_is}
+use Rattle.c_types_marks_layouts.proofs.Kept.{appended_is, front_stays, set_other}
+use Rattle.c_types_marks_layouts.proofs.Bodies.{changed_is}
+use Rattle.c_types_marks.specs.ProperStores.{AreProperStores}
 use Rattle.c_types_marks.specs.ModelTypes.{IsTypeOf, Each}
 use Rattle.c_types_marks.specs.KnownTypes.{IsMeaning}
 use Rattle.c_types_marks_initializers.specs.ReadyStates.{IsReady}
@@ -63,7 +64,7 @@ module _ (m : Model) (s : State) (h : IsReady m s) where
   scoped_ready x same = record {
     numbers = h.numbers;
     evaluated = h.evaluated;
-    types = record { proper = h.types.proper; objects = h.types.objects; locals = h.types.locals; statics = h.types.statics; typedefs = h.types.typedefs; results = h.types.results; parameters = h.types.parameters; fields = h.types.fields; meanings = subst (λ ms. Each (IsMeaning s.known) ms) (sym same) h.types.meanings };
+    types = record { proper = h.types.proper; objects = h.types.objects; locals = h.types.locals; statics = h.types.statics; typedefs = h.types.typedefs; literals = h.types.literals; stores = h.types.stores; results = h.types.results; parameters = h.types.parameters; fields = h.types.fields; meanings = subst (λ ms. Each (IsMeaning s.known) ms) (sym same) h.types.meanings };
     layouts = record { proper = h.layouts.proper; settled = h.layouts.settled; bodies = h.layouts.bodies; laid = h.layouts.laid };
   }
 
@@ -74,7 +75,7 @@ module _ (m : Model) (s : State) (h : IsReady m s) where
   constant_ready e = record {
     numbers = h.numbers;
     evaluated = h.evaluated;
-    types = record { proper = h.types.proper; objects = h.types.objects; locals = h.types.locals; statics = h.types.statics; typedefs = h.types.typedefs; results = h.types.results; parameters = h.types.parameters; fields = h.types.fields; meanings = h.types.meanings };
+    types = record { proper = h.types.proper; objects = h.types.objects; locals = h.types.locals; statics = h.types.statics; typedefs = h.types.typedefs; literals = h.types.literals; stores = h.types.stores; results = h.types.results; parameters = h.types.parameters; fields = h.types.fields; meanings = h.types.meanings };
     layouts = record { proper = h.layouts.proper; settled = h.layouts.settled; bodies = h.layouts.bodies; laid = h.layouts.laid };
   }
 
@@ -92,6 +93,8 @@ module _ (m : Model) (s : State) (h : IsReady m s) where
       locals = each_more (λ (l : LocalView). IsTypeOf s.known.numbers l.ctype) s.body.locals (record { name = n.text; at = n.at; ctype = d.ctype }) h.types.locals (own_type d.ctype typed);
       statics = h.types.statics;
       typedefs = h.types.typedefs;
+      literals = h.types.literals;
+      stores = h.types.stores;
       results = h.types.results;
       parameters = h.types.parameters;
       fields = h.types.fields;
@@ -110,6 +113,8 @@ module _ (m : Model) (s : State) (h : IsReady m s) where
       locals = h.types.locals;
       statics = each_more (λ (o : StaticView). IsTypeOf s.known.numbers o.ctype) s.statics (record { name = n.text; at = n.at; ctype = d.ctype; stores = [] }) h.types.statics (own_type d.ctype typed);
       typedefs = h.types.typedefs;
+      literals = h.types.literals;
+      stores = each_more (λ (o : StaticView). AreProperStores o.stores) s.statics (record { name = n.text; at = n.at; ctype = d.ctype; stores = [] }) h.types.stores tt;
       results = h.types.results;
       parameters = h.types.parameters;
       fields = h.types.fields;
@@ -128,6 +133,8 @@ module _ (m : Model) (s : State) (h : IsReady m s) where
       locals = each_changed (λ (l : LocalView). IsTypeOf s.known.numbers l.ctype) (typed_local t) number s.body.locals (λ l old. own_type t typed) h.types.locals;
       statics = h.types.statics;
       typedefs = h.types.typedefs;
+      literals = h.types.literals;
+      stores = h.types.stores;
       results = h.types.results;
       parameters = h.types.parameters;
       fields = h.types.fields;
@@ -146,6 +153,8 @@ module _ (m : Model) (s : State) (h : IsReady m s) where
       locals = h.types.locals;
       statics = each_changed (λ (o : StaticView). IsTypeOf s.known.numbers o.ctype) (typed_static t) number s.statics (λ o old. own_type t typed) h.types.statics;
       typedefs = h.types.typedefs;
+      literals = h.types.literals;
+      stores = each_changed (λ (o : StaticView). AreProperStores o.stores) (typed_static t) number s.statics (λ o old. old) h.types.stores;
       results = h.types.results;
       parameters = h.types.parameters;
       fields = h.types.fields;
@@ -154,8 +163,8 @@ module _ (m : Model) (s : State) (h : IsReady m s) where
     layouts = record { proper = h.layouts.proper; settled = h.layouts.settled; bodies = h.layouts.bodies; laid = h.layouts.laid };
   }
 
-  pub stores_ready : (number : ℕ) (stores : List StaticStoreView) → IsReady m (with_stores number stores s)
-  stores_ready number stores = record {
+  pub stores_ready : (number : ℕ) (stores : List StaticStoreView) → AreProperStores stores → IsReady m (with_stores number stores s)
+  stores_ready number stores proper = record {
     numbers = h.numbers;
     evaluated = h.evaluated;
     types = record {
@@ -164,6 +173,8 @@ module _ (m : Model) (s : State) (h : IsReady m s) where
       locals = h.types.locals;
       statics = each_changed (λ (o : StaticView). IsTypeOf s.known.numbers o.ctype) (stored_static stores) number s.statics (λ o old. old) h.types.statics;
       typedefs = h.types.typedefs;
+      literals = h.types.literals;
+      stores = each_changed (λ (o : StaticView). AreProperStores o.stores) (stored_static stores) number s.statics (λ o old. proper) h.types.stores;
       results = h.types.results;
       parameters = h.types.parameters;
       fields = h.types.fields;

@@ -8,7 +8,7 @@ use Rattle.c_layout.specs.declared.data_model.Model.{Model}
 use Rattle.c_types_scopes.specs.States.{State}
 use Rattle.c_types_objects.specs.LocalObjects.{PartsView}
 use Rattle.c_types_statements.specs.LocalDeclarations.{local_declaration}
-use Rattle.ref_machine_looks_units.specs.LookedStatements.{are_marked_statements}
+use Rattle.c_types_marks.specs.LookedStatements.{are_marked_statements}
 use Rattle.c_types_marks.specs.ProperStatements.{IsProperLocal}
 use Rattle.c_types_marks_initializers.specs.ReadyStates.{IsReady, Goes}
 use Rattle.c_types_marks_initializers.specs.PartLaws.{HasLaws}

@@ -12,7 +12,7 @@ use Rattle.c_types_braced_lists.specs.Initializers.{initializer_of}
 use Rattle.flow_lower_tasks.specs.TermKinds.{term_type}
 use Rattle.ref_machine_looks.specs.LookedTypes.{is_scalar_type}
 use Rattle.ref_machine_looks.specs.LookedTerms.{is_marked_term, is_marked_place}
-use Rattle.ref_machine_looks_units.specs.LookedStatements.{are_bytes}
+use Rattle.c_types_marks.specs.LookedStatements.{are_bytes}
 use Rattle.c_types_marks.specs.ModelTypes.{IsTypeOf}
 use Rattle.c_types_marks.specs.ProperStatements.{IsProperInitializer}
 use Rattle.c_types_marks_initializers.specs.ReadyStates.{IsReady, Goes}

@@ -8,7 +8,7 @@ use Rattle.c_types_scopes.specs.States.{State}
 use Rattle.c_types_expressions.specs.Expressions as expressions
 use Rattle.c_types_declarations.specs.Declarators as declarators
 use Rattle.c_types_declarations.specs.Declarators.{StepsView, declared_type}
-use Rattle.c_types_laws.proofs.Expressing.{length_leads}
+use Rattle.c_types_laws_units.proofs.Expressing.{length_leads}
 use Rattle.c_types_marks_layouts.specs.LaidStructs.{HasLayouts, DeclaratorsLay}
 use Rattle.c_types_marks_layouts.proofs.Laying.{MayLay, LaidTo, any, lays_same, then, stays, led, steps_lay}
 use Rattle.c_types_marks_layouts.proofs.Expressing.{laid_behind}

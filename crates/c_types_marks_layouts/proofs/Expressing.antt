@@ -4,7 +4,7 @@ use Rattle.c_types_scopes.specs.Refusals.{Ruled}
 use Rattle.c_types_scopes.specs.States.{State}
 use Rattle.c_layout.specs.SyntaxTrees.{Tree}
 use Rattle.c_types_expressions.specs.Expressions.{typed}
-use Rattle.c_types_laws.proofs.Expressing.{typed_leads}
+use Rattle.c_types_laws_units.proofs.Expressing.{typed_leads}
 use Rattle.c_types_marks_layouts.specs.LaidStructs.{HasLayouts, LaidBehind, ExpressionsLay}
 use Rattle.c_types_marks_layouts.proofs.Laying.{MayLay, LaidTo, any, led, steps_lay}
 

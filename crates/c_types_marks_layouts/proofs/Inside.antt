@@ -1,8 +1,8 @@
 -- Members that are laid out one behind the other end within their struct.
-use Rattle.std.proofs.Common.{◌≡◌, ◌<◌, ◌≤◌, ◌+◌, ◌-◌, ◌*◌, ℕ, Bool, true, false, List, length, Option, Some, None, slice_get, arith, refl, ap, subst, sym, ◌∙◌, inl, inr}
+use Rattle.std.proofs.Common.{◌≡◌, ◌<◌, ◌≤◌, ◌+◌, ◌-◌, ◌*◌, ◌^◌, ℕ, Bool, true, false, List, length, Option, Some, None, slice_get, arith, refl, ap, subst, sym, ◌∙◌, inl, inr}
 use Rattle.std.specs.Prelude.{◌&&◌, cond, nat_le, nat_lt, option_and_then}
 use Rattle.std.proofs.Math.Nat.{lt-div-mul-add}
-use Rattle.std.proofs.lemmas.Bool.{and_parts, ltb-true}
+use Rattle.std.proofs.lemmas.Bool.{and_parts, leb-true, ltb-true}
 use Rattle.std.proofs.lemmas.Option.{same_Some}
 use Rattle.c_layout.specs.Layout.{most_bytes, round_up, size_of_type, align_of_type}
 use Rattle.c_layout.specs.Models.{is_model}
@@ -12,7 +12,7 @@ use Rattle.c_layout.specs.Types.{Ty, Int, Pointer, Array, Struct, Void}
 use Rattle.c_layout.specs.declared.data_model.Model.{Model}
 use Rattle.c_types_rules.specs.TypeSizes.{array_size, sized}
 use Rattle.c_types_scopes.specs.Known.{Known, size_of}
-use Rattle.c_types_laws_stores.proofs.Growing.{Extends, size_more}
+use Rattle.c_types_laws_units.proofs.Growing.{Extends, size_more}
 use Rattle.c_types_laws_units.proofs.Kept.{appended_is}
 use Rattle.c_types_marks_layouts.specs.LaidStructs.{IsInside}
 use Rattle.c_types_marks_layouts.proofs.Laying.{none_is, pointer_is}
@@ -34,6 +34,30 @@ sized_is structs pointer (Array t count) n h = by_element (sized structs pointer
     by_element (Some z) e k inner = ap (λ y. count * y) (inner z e) ∙ (cond_is (nat_lt 0 count && nat_le (count * z) most_bytes) (count * z) n k).1
 sized_is structs pointer (Struct i) n h = (cond_is (nat_lt i (length structs) && (((struct_at structs i).complete && nat_lt 0 (struct_at structs i).align) && nat_le (struct_at structs i).size most_bytes)) (struct_at structs i).size n h).1
 sized_is structs pointer Void n h = absurd (cc)
+
+-- no complete type is large
+pub sized_small : (m : Model) (structs : List StructView) → is_model m ≡ true → (t : Ty) (size : ℕ) → sized structs m.pointer t ≡ Some size → size ≤ 2 ^ 30
+sized_small m structs model (Int kind) size h =
+    let a = cond_is (nat_lt 0 kind.bytes && nat_le kind.bytes 8) kind.bytes size h in
+    let b = leb-true kind.bytes 8 (and_parts (nat_lt 0 kind.bytes) (nat_le kind.bytes 8) a.0).1 in
+    let c = a.1 in
+    omega (arith, b, c)
+sized_small m structs model (Pointer t) size h = let e = same_Some m.pointer size h in elim (pointer_is m model) [ inl four ↦ omega (arith, e, four) | inr eight ↦ omega (arith, e, eight) ]
+sized_small m structs model (Array t count) size h = by_element (sized structs m.pointer t) h
+  where
+    by_element : (o : Option ℕ) → option_and_then (array_size count) o ≡ Some size → size ≤ 2 ^ 30
+    by_element None g = none_is size g
+    by_element (Some each) g =
+        let a = cond_is (nat_lt 0 count && nat_le (count * each) most_bytes) (count * each) size g in
+        let b = leb-true (count * each) most_bytes (and_parts (nat_lt 0 count) (nat_le (count * each) most_bytes) a.0).1 in
+        subst (λ n. n ≤ 2 ^ 30) a.1 b
+sized_small m structs model (Struct i) size h =
+    let s : StructView = struct_at structs i in
+    let a = cond_is (nat_lt i (length structs) && ((s.complete && nat_lt 0 s.align) && nat_le s.size most_bytes)) s.size size h in
+    let b = and_parts (nat_lt i (length structs)) ((s.complete && nat_lt 0 s.align) && nat_le s.size most_bytes) a.0 in
+    let c = leb-true s.size most_bytes (and_parts (s.complete && nat_lt 0 s.align) (nat_le s.size most_bytes) b.1).1 in
+    subst (λ n. n ≤ 2 ^ 30) a.1 c
+sized_small m structs model Void size h = none_is size h
 
 some_align : (structs : List StructView) (pointer : ℕ) (t : Ty) (n : ℕ) → 0 < pointer → sized structs pointer t ≡ Some n → 0 < align_of_type structs pointer t
 some_align structs pointer (Int k) n wide h = ltb-true 0 k.bytes (and_parts (nat_lt 0 k.bytes) (nat_le k.bytes 8) (cond_is (nat_lt 0 k.bytes && nat_le k.bytes 8) k.bytes n h).0).0

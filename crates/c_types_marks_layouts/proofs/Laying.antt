@@ -12,9 +12,9 @@ use Rattle.c_types_scopes.specs.StructTables as types
 use Rattle.c_types_scopes.specs.StructTables.{TypesView}
 use Rattle.c_types_scopes.specs.States.{State, is_evaluated}
 use Rattle.c_types_declarations.specs.ContextSteps.{with_types, with_struct, with_body, with_member, with_complete}
-use Rattle.c_types_laws.proofs.Leading.{Leads}
-use Rattle.c_types_laws.proofs.Expressing.{HasSteps}
-use Rattle.c_types_laws_stores.proofs.Growing.{Extends, extends_twice, size_more}
+use Rattle.c_types_laws_units.proofs.Leading.{Leads}
+use Rattle.c_types_laws_units.proofs.Expressing.{HasSteps}
+use Rattle.c_types_laws_units.proofs.Growing.{Extends, extends_twice, size_more}
 use Rattle.c_types_laws_units.proofs.Kept.{appended_is, front_stays, set_other, set_there, keys_more, key_there, apart_bodies, IsLaterBy, later_same, later_twice}
 use Rattle.c_types_marks_layouts.specs.LaidStructs.{IsInside, HasLayouts}
 

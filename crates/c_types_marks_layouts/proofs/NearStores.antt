@@ -1,7 +1,7 @@
 -- The stores of initializers stand within objects of at most the most bytes.
 use Rattle.std.proofs.Common.{◌≡◌, ◌<◌, ◌≤◌, ◌+◌, ◌-◌, ◌*◌, ◌^◌, ℕ, zero, suc, Bool, true, false, List, [], ◌∷◌, length, Option, Some, None, slice_get, arith, refl, ap, subst, sym, ◌∙◌, inl, inr}
 use Rattle.std.specs.Prelude.{◌⊎◌, ◌&&◌, ◌==◌, not, cond, nat_le, nat_lt, is_some, option_map, option_and_then}
-use Rattle.std.proofs.lemmas.Bool.{and_parts, leb-false, leb-true, lt-ltb, ltb-true, eqb-true}
+use Rattle.std.proofs.lemmas.Bool.{and_parts, leb-false, lt-ltb, ltb-true, eqb-true}
 use Rattle.std.proofs.lemmas.Nat.{mul-le}
 use Rattle.std.proofs.lemmas.Option.{same_Some, get_or_from_slice_get}
 use Rattle.c_layout.specs.Layout.{most_bytes}
@@ -13,9 +13,10 @@ use Rattle.c_types_rules.specs.TypeSizes.{array_size, sized}
 use Rattle.c_types_scopes.specs.Known.{Known, size_of}
 use Rattle.c_types_initializers.specs.Subobjects.{SubobjectView, subobject, is_behind, element_of_size, at_offset, member_in, following_of}
 use Rattle.c_types_initializers.specs.Literals.{with_length}
-use Rattle.c_types_laws_stores.specs.PlacedStores.{within, part_of, IsPart, ArePlaced, IsPartFrom, IsPlacedBy}
+use Rattle.c_types_laws_units.specs.PlacedStores.{within, part_of, IsPart, ArePlaced, IsPartFrom, IsPlacedBy}
 use Rattle.c_types_marks_layouts.specs.LaidStructs.{IsInside, AreNear, StoresAreNear}
-use Rattle.c_types_marks_layouts.proofs.Laying.{none_is, pointer_is}
+use Rattle.c_types_marks_layouts.proofs.Inside.{sized_small}
+use Rattle.c_types_marks_layouts.proofs.Laying.{none_is}
 
 cond_is : {A : Type 0} (c : Bool) (a b : A) → cond c (Some a) None ≡ Some b → (c ≡ true) × (a ≡ b)
 cond_is true a b h = (refl, same_Some a b h)
@@ -100,27 +101,7 @@ module _ (k : Known) (laid : AreInside k) where
 
   module _ (model : is_model k.numbers ≡ true) where
     small : (t : Ty) (size : ℕ) → size_of k t ≡ Some size → size ≤ 2 ^ 30
-    small (Int kind) size h =
-        let a = cond_is (nat_lt 0 kind.bytes && nat_le kind.bytes 8) kind.bytes size h in
-        let b = leb-true kind.bytes 8 (and_parts (nat_lt 0 kind.bytes) (nat_le kind.bytes 8) a.0).1 in
-        let c = a.1 in
-        omega (arith, b, c)
-    small (Pointer t) size h = let e = same_Some k.numbers.pointer size h in elim (pointer_is k.numbers model) [ inl four ↦ omega (arith, e, four) | inr eight ↦ omega (arith, e, eight) ]
-    small (Array e count) size h = by_element (size_of k e) h
-      where
-        by_element : (o : Option ℕ) → option_and_then (array_size count) o ≡ Some size → size ≤ 2 ^ 30
-        by_element None g = none_is size g
-        by_element (Some each) g =
-            let a = cond_is (nat_lt 0 count && nat_le (count * each) most_bytes) (count * each) size g in
-            let b = leb-true (count * each) most_bytes (and_parts (nat_lt 0 count) (nat_le (count * each) most_bytes) a.0).1 in
-            subst (λ n. n ≤ 2 ^ 30) a.1 b
-    small (Struct i) size h =
-        let s : StructView = struct_at k.structs i in
-        let a = cond_is (nat_lt i (length k.structs) && ((s.complete && nat_lt 0 s.align) && nat_le s.size most_bytes)) s.size size h in
-        let b = and_parts (nat_lt i (length k.structs)) ((s.complete && nat_lt 0 s.align) && nat_le s.size most_bytes) a.0 in
-        let c = leb-true s.size most_bytes (and_parts (s.complete && nat_lt 0 s.align) (nat_le s.size most_bytes) b.1).1 in
-        subst (λ n. n ≤ 2 ^ 30) a.1 c
-    small Void size h = none_is size h
+    small t size h = sized_small k.numbers k.structs model t size h
 
     -- ---- stores
 

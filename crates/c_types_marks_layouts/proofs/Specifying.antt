@@ -30,7 +30,7 @@ use Rattle.c_types_declarations.specs.Enumerations as enumerations
 use Rattle.c_types_declarations.specs.StructBodies as bodies
 use Rattle.c_types_declarations.specs.Specifiers.{SpecifiedView, ReadingView, nothing_read, said}
 use Rattle.c_types_declarations.specs.SpecifierTrees as spec
-use Rattle.c_types_laws.proofs.Expressing.{struct_tag_leads, enumeration_tag_leads}
+use Rattle.c_types_laws_units.proofs.Expressing.{struct_tag_leads, enumeration_tag_leads}
 use Rattle.c_types_marks_layouts.specs.LaidStructs.{HasLayouts, SpecifiersLay}
 use Rattle.c_types_marks_layouts.proofs.Laying.{Lays, MayLay, LaidTo, any, lays_same, lays_twice, onward, then, stays, cond_laid, led, same_structs, struct_more, body_met, member_named, struct_completed, steps_lay}
 use Rattle.c_types_marks_layouts.proofs.Expressing.{laid_behind, typed_lays}

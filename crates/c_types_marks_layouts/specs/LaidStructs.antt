@@ -15,7 +15,7 @@ use Rattle.c_types_scopes.specs.States.{State}
 use Rattle.c_types_expressions.specs.Expressions.{typed}
 use Rattle.c_types_declarations.specs.Declarators.{declared_type}
 use Rattle.c_types_declarations.specs.SpecifierTrees.{specifiers}
-use Rattle.c_types_laws_stores.specs.PlacedStores.{IsPlacedBy}
+use Rattle.c_types_laws_units.specs.PlacedStores.{IsPlacedBy}
 
 -- a member of a complete type that ends within its struct
 pub record IsInside (k : Known) (v : StructView) (f : FieldView) : Type 0 where

@@ -24,8 +24,8 @@ use Rattle.flow_lower_tasks.specs.TermKinds.{meaning}
 use Rattle.ref_machine_looks.specs.LookedTypes.{counts_as, is_such, is_scalar_type, is_address, is_integer, same_mark, steps_in}
 use Rattle.ref_machine_looks.specs.LookedTerms.{is_marked_term, is_marked_place}
 use Rattle.ref_machine_looks.proofs.Truths.{no_some}
-use Rattle.c_types_marks.specs.ModelTypes.{IsKindOf, IsGround}
-use Rattle.c_types_marks.specs.MadeTerms.{IsMade, IsMadePlace, IsGiven, Gives, IsMadeOperand, Makes}
+use Rattle.c_types_marks_tests.specs.ModelTypes.{IsKindOf, IsGround}
+use Rattle.c_types_marks_tests.specs.MadeTerms.{IsMade, IsMadePlace, IsGiven, Gives, IsMadeOperand, Makes}
 use Rattle.c_types_marks_tests.proofs.ModelKinds.{scalar_there}
 use Rattle.c_types_marks_tests.proofs.MadeTests.{no_tests, assign_tests}
 use Rattle.c_types_marks_rules.proofs.ModelKinds.{mark_same}

@@ -21,8 +21,8 @@ use Rattle.c_types_operators.specs.Choices.{logical_value, are_scalars, logical_
 use Rattle.ref_machine_looks.specs.LookedTypes.{is_truth, same_mark}
 use Rattle.ref_machine_looks.specs.LookedTerms.{is_marked_term, is_marked_place, has_tests}
 use Rattle.ref_machine_looks.proofs.Truths.{never}
-use Rattle.c_types_marks.specs.ModelTypes.{IsKindOf, IsTypeOf, IsGround}
-use Rattle.c_types_marks.specs.MadeTerms.{IsMade, IsMadePlace, IsMadeForm, IsGiven, IsMadeOperand, Makes}
+use Rattle.c_types_marks_tests.specs.ModelTypes.{IsKindOf, IsTypeOf, IsGround}
+use Rattle.c_types_marks_tests.specs.MadeTerms.{IsMade, IsMadePlace, IsMadeForm, IsGiven, IsMadeOperand, Makes}
 use Rattle.c_types_marks_tests.proofs.MadeNumbers.{if_fixed, logical_number, choice_number}
 use Rattle.c_types_marks_tests.proofs.MadeTests.{no_tests, logical_tests, choice_tests, arm_tests}
 use Rattle.c_types_marks_rules.proofs.ModelKinds.{mark_same}

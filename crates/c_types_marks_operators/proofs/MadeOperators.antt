@@ -1,6 +1,6 @@
 -- The rules of operators make what is made of what is made.
 use Rattle.c_types_operands.specs.Operands.{term_of}
-use Rattle.c_types_marks.specs.MadeLaws.{OperatorsMake}
+use Rattle.c_types_marks_tests.specs.MadeLaws.{OperatorsMake}
 use Rattle.c_types_marks_operators.proofs.MadeAssignments.{assignment_made}
 use Rattle.c_types_marks_operators.proofs.MadeChoices.{logical_made, conditional_made, comma_made}
 use Rattle.c_types_marks_rules.proofs.MadeComparisons.{binary_made}

@@ -21,8 +21,8 @@ use Rattle.flow_program.specs.declared.machine_instructions.Scalar.TheVariants a
 use Rattle.ref_machine_looks.specs.LookedTypes.{converts}
 use Rattle.ref_machine_looks.specs.LookedTerms.{is_marked_term}
 use Rattle.ref_machine_looks.proofs.Truths.{never, no_some}
-use Rattle.c_types_marks.specs.ModelTypes.{IsTypeOf, IsGround}
-use Rattle.c_types_marks.specs.MadeTerms.{IsExactly, IsMade, IsMadeOperand, Makes}
+use Rattle.c_types_marks_tests.specs.ModelTypes.{IsTypeOf, IsGround}
+use Rattle.c_types_marks_tests.specs.MadeTerms.{IsExactly, IsMade, IsMadeOperand, Makes}
 use Rattle.c_types_marks_tests.proofs.MadeNumbers.{if_fixed, cast_number, size_number}
 use Rattle.c_types_marks_tests.proofs.ModelKinds.{scalar_there}
 use Rattle.c_types_marks_tests.proofs.MadeTests.{no_tests, cast_null}

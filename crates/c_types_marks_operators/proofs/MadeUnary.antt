@@ -19,8 +19,8 @@ use Rattle.c_types_operands.specs.Arithmetic.{int_kind}
 use Rattle.c_types_operators.specs.UnaryOperators.{integer_step, pointer_kind, step_kind, step_by, step_of, step, address_of, address, promoted_kind, turned_value, arithmetic_in, arithmetic_by, arithmetic, not_value, not_node, not_of, unary}
 use Rattle.ref_machine_looks.specs.LookedTypes.{is_kind, is_address, is_truth, same_mark, steps_in}
 use Rattle.ref_machine_looks.specs.LookedTerms.{is_marked_term, is_marked_place}
-use Rattle.c_types_marks.specs.ModelTypes.{IsKindOf, IsGround}
-use Rattle.c_types_marks.specs.MadeTerms.{IsMade, IsMadePlace, IsGiven, IsMadeOperand, Makes}
+use Rattle.c_types_marks_tests.specs.ModelTypes.{IsKindOf, IsGround}
+use Rattle.c_types_marks_tests.specs.MadeTerms.{IsMade, IsMadePlace, IsGiven, IsMadeOperand, Makes}
 use Rattle.c_types_marks_tests.proofs.MadeNumbers.{if_fixed, turned_number, not_number}
 use Rattle.c_types_marks_tests.proofs.MadeTests.{no_tests, not_tests}
 use Rattle.c_types_marks_tests.proofs.ModelKinds.{same_type_self}

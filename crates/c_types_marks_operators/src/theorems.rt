@@ -1,5 +1,5 @@
 //! What rules of operators make of what is made.
-ghost use Rattle.c_types_marks.specs.MadeLaws.{OperatorsMake};
+ghost use Rattle.c_types_marks_tests.specs.MadeLaws.{OperatorsMake};
 
 /// The rules of operators make marked terms of marked terms.
 pub fn operators_make()

@@ -16,9 +16,9 @@ use Rattle.c_types_operands.specs.declared.arithmetic.KindPair.{KindPair}
 use Rattle.lib_models_effects.specs.LibraryChecks.{most_size}
 use Rattle.ref_machine_looks.specs.LookedTypes.{is_kind, has_truths, is_address, is_integer, subtracts}
 use Rattle.ref_machine_looks.proofs.Truths.{no_some, some_is}
-use Rattle.c_types_marks.specs.ModelTypes.{IsKindOf, IsTypeOf, IsGround}
-use Rattle.c_types_marks.specs.MadeTerms.{IsMade}
-use Rattle.c_types_marks_numbers.proofs.SizeNumbers.{size_fits, sized_small}
+use Rattle.c_types_marks_tests.specs.ModelTypes.{IsKindOf, IsTypeOf, IsGround}
+use Rattle.c_types_marks_tests.specs.MadeTerms.{IsMade}
+use Rattle.c_types_marks_tests.proofs.SizeNumbers.{size_fits, sized_small}
 use Rattle.c_types_marks_tests.proofs.ModelKinds as kinds
 use Rattle.c_types_marks_rules.proofs.ModelKinds.{model_numbers, kind_known, promoted_known, difference_fits}
 

@@ -22,8 +22,8 @@ use Rattle.flow_lower_tasks.specs.declared.term_kinds.OperatorMeaning.TheVariant
 use Rattle.ref_machine_looks.specs.LookedTypes.{is_kind, counts_as, combines}
 use Rattle.ref_machine_looks.specs.LookedTerms.{is_marked_term}
 use Rattle.ref_machine_looks.proofs.Truths.{never}
-use Rattle.c_types_marks.specs.ModelTypes.{IsKindOf, IsGround}
-use Rattle.c_types_marks.specs.MadeTerms.{IsMade, IsGiven, IsMadeOperand, Makes}
+use Rattle.c_types_marks_tests.specs.ModelTypes.{IsKindOf, IsGround}
+use Rattle.c_types_marks_tests.specs.MadeTerms.{IsMade, IsGiven, IsMadeOperand, Makes}
 use Rattle.c_types_marks_tests.proofs.MadeNumbers.{if_fixed, is_relation_meant, is_relation, is_shift_meant, is_shift, operator_number, shift_number}
 use Rattle.c_types_marks_tests.proofs.MadeTests.{is_number_meant, no_tests, integer_tests}
 use Rattle.c_types_marks_tests.proofs.ModelKinds.{same_kind_self}

@@ -19,8 +19,8 @@ use Rattle.c_types_operands.specs.Comparisons.{pointer_comparison, pointer_relat
 use Rattle.c_types_operands.specs.declared.arithmetic.KindPair.{KindPair}
 use Rattle.ref_machine_looks.specs.LookedTypes.{is_address, is_truth}
 use Rattle.ref_machine_looks.specs.LookedTerms.{is_marked_term, has_tests}
-use Rattle.c_types_marks.specs.ModelTypes.{IsGround}
-use Rattle.c_types_marks.specs.MadeTerms.{IsMade, IsGiven, IsMadeOperand, Makes}
+use Rattle.c_types_marks_tests.specs.ModelTypes.{IsGround}
+use Rattle.c_types_marks_tests.specs.MadeTerms.{IsMade, IsGiven, IsMadeOperand, Makes}
 use Rattle.c_types_marks_tests.proofs.MadeNumbers.{is_relation}
 use Rattle.c_types_marks_tests.proofs.MadeTests.{pointer_tests, left_pointer_tests, right_pointer_tests}
 use Rattle.c_types_marks_rules.proofs.GroundKinds.{kinds_are, pointer_scalar, pointer_address, int_there, int_truths}

@@ -23,8 +23,8 @@ use Rattle.ref_machine_looks.specs.LookedTerms as look
 use Rattle.ref_machine_looks.specs.LookedTerms.{is_exact_zero, is_marked_term}
 use Rattle.ref_machine_looks.proofs.Truths.{never, both_true}
 use Rattle.ref_machine_looks.proofs.SameTypes.{type_is}
-use Rattle.c_types_marks.specs.ModelTypes.{IsKindOf, IsTypeOf, IsGround}
-use Rattle.c_types_marks.specs.MadeTerms.{IsExactly, IsMade, IsGiven, Gives}
+use Rattle.c_types_marks_tests.specs.ModelTypes.{IsKindOf, IsTypeOf, IsGround}
+use Rattle.c_types_marks_tests.specs.MadeTerms.{IsExactly, IsMade, IsGiven, Gives}
 use Rattle.c_types_marks_tests.proofs.ModelKinds.{scalar_there}
 use Rattle.c_types_marks_tests.proofs.Rewrapped.{noted_type, noted_exact, noted_marked}
 

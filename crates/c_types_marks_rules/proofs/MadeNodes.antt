@@ -10,8 +10,8 @@ use Rattle.flow_lower_tasks.specs.TermKinds.{converted, is_zero_cast}
 use Rattle.ref_machine_looks.specs.LookedTerms as look
 use Rattle.ref_machine_looks.specs.LookedTerms.{is_marked_term, has_tests}
 use Rattle.ref_machine_looks.proofs.Truths.{never, no_some}
-use Rattle.c_types_marks.specs.ModelTypes.{IsTypeOf}
-use Rattle.c_types_marks.specs.MadeTerms.{IsExactly, is_implicit_form, IsMade, Makes}
+use Rattle.c_types_marks_tests.specs.ModelTypes.{IsTypeOf}
+use Rattle.c_types_marks_tests.specs.MadeTerms.{IsExactly, is_implicit_form, IsMade, Makes}
 
 module _ (u : UnitView) where
   -- a term that is no conversion

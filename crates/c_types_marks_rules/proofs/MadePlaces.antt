@@ -10,8 +10,8 @@ use Rattle.c_types_operands.specs.Operands.{OperandForm, AsValue, AsLvalue, Oper
 use Rattle.c_types_operators.specs.Assignments.{source_form, struct_source}
 use Rattle.ref_machine_looks.specs.LookedTypes.{is_kind, is_address, is_such, steps_in}
 use Rattle.ref_machine_looks.proofs.Truths.{no_some, some_is}
-use Rattle.c_types_marks.specs.ModelTypes.{IsKindOf, IsTypeOf, IsGround}
-use Rattle.c_types_marks.specs.MadeTerms.{IsMadePlace, IsMadeForm, IsMadeOperand}
+use Rattle.c_types_marks_tests.specs.ModelTypes.{IsKindOf, IsTypeOf, IsGround}
+use Rattle.c_types_marks_tests.specs.MadeTerms.{IsMadePlace, IsMadeForm, IsMadeOperand}
 use Rattle.c_types_marks_tests.proofs.ModelKinds.{same_type_self}
 use Rattle.c_types_marks_rules.proofs.GroundKinds.{kind_there}
 

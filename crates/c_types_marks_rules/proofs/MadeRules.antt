@@ -1,7 +1,7 @@
 -- Values of operands are made, conversions give terms of their types, and terms that are not used are marked.
 use Rattle.std.proofs.Common.{not}
 use Rattle.c_types_operands.specs.Operands.{is_void, term_type}
-use Rattle.c_types_marks.specs.MadeLaws.{ValuesAreMade, ConversionsGive, UnusedIsMarked}
+use Rattle.c_types_marks_tests.specs.MadeLaws.{ValuesAreMade, ConversionsGive, UnusedIsMarked}
 use Rattle.c_types_marks_rules.proofs.MadeConversions as conversions
 use Rattle.c_types_marks_rules.proofs.MadeValues.{value_made}
 use Rattle.c_types_marks_rules.proofs.UnusedTerms.{unused_marked}

@@ -20,8 +20,8 @@ use Rattle.ref_machine_looks.specs.LookedTypes.{is_address, adds_to, subtracts}
 use Rattle.ref_machine_looks.specs.LookedTerms.{is_marked_term}
 use Rattle.ref_machine_looks.proofs.Truths.{no_some, some_is}
 use Rattle.ref_machine_looks.proofs.SameTypes.{type_is}
-use Rattle.c_types_marks.specs.ModelTypes.{IsTypeOf, IsGround}
-use Rattle.c_types_marks.specs.MadeTerms.{IsMade, IsMadeOperand, Makes}
+use Rattle.c_types_marks_tests.specs.ModelTypes.{IsTypeOf, IsGround}
+use Rattle.c_types_marks_tests.specs.MadeTerms.{IsMade, IsMadeOperand, Makes}
 use Rattle.c_types_marks_tests.proofs.MadeTests.{no_tests}
 use Rattle.c_types_marks_rules.proofs.GroundKinds.{number_scalar, number_integer, pointer_scalar, pointer_address, target_known, size_there, difference_there}
 use Rattle.c_types_marks_rules.proofs.MadeConversions.{scalar_marked}

@@ -11,8 +11,8 @@ use Rattle.c_types_operands.specs.Operands.{OperandForm, AsValue, AsLvalue, Oper
 use Rattle.ref_machine_looks.specs.LookedTypes.{is_scalar_type, same_mark}
 use Rattle.ref_machine_looks.specs.LookedTerms.{is_marked_term, is_marked_place}
 use Rattle.ref_machine_looks.proofs.Truths.{never}
-use Rattle.c_types_marks.specs.ModelTypes.{IsTypeOf, IsGround}
-use Rattle.c_types_marks.specs.MadeTerms.{IsExactly, IsMade, IsMadePlace, IsMadeForm, IsMadeOperand}
+use Rattle.c_types_marks_tests.specs.ModelTypes.{IsTypeOf, IsGround}
+use Rattle.c_types_marks_tests.specs.MadeTerms.{IsExactly, IsMade, IsMadePlace, IsMadeForm, IsMadeOperand}
 use Rattle.c_types_marks_tests.proofs.MadeTests.{no_tests, load_tests}
 use Rattle.c_types_marks_tests.proofs.ModelKinds.{scalar_there}
 use Rattle.c_types_marks_tests.proofs.Rewrapped.{rewrapped_exact, rewrapped_null, rewrapped_marked, rewrapped_tests, rewrapped_place}

@@ -12,8 +12,8 @@ use Rattle.c_types_rules.specs.declared.integer_kinds.Rank.TheVariants as rank
 use Rattle.lib_models_effects.specs.LibraryChecks.{most_size}
 use Rattle.ref_machine_looks.specs.LookedTypes.{same_mark}
 use Rattle.ref_machine_looks.proofs.Truths.{both_true}
-use Rattle.c_types_marks.specs.ModelTypes.{IsKindOf}
-use Rattle.c_types_marks_numbers.proofs.SizeNumbers.{PointerSize, one_of_two, pointer_size}
+use Rattle.c_types_marks_tests.specs.ModelTypes.{IsKindOf}
+use Rattle.c_types_marks_tests.proofs.SizeNumbers.{PointerSize, one_of_two, pointer_size}
 use Rattle.c_types_marks_tests.proofs.ModelKinds.{same_kind_self}
 
 -- ---- the numbers of a model

@@ -12,8 +12,8 @@ use Rattle.c_types_scopes.specs.Known.{Known}
 use Rattle.c_types_operands.specs.Operands.{term_type, is_scalar, is_null}
 use Rattle.c_types_operands.specs.Conversions.{in_type}
 use Rattle.ref_machine_looks.specs.LookedTypes.{is_address}
-use Rattle.c_types_marks.specs.ModelTypes.{IsTypeOf, IsGround}
-use Rattle.c_types_marks.specs.MadeTerms.{IsMade, IsGiven}
+use Rattle.c_types_marks_tests.specs.ModelTypes.{IsTypeOf, IsGround}
+use Rattle.c_types_marks_tests.specs.MadeTerms.{IsMade, IsGiven}
 use Rattle.c_types_marks_rules.proofs.GroundKinds.{number_scalar, pointer_scalar, pointer_address}
 use Rattle.c_types_marks_rules.proofs.MadeConversions.{IsConverted, type_given, pointer_converted, zero_converted}
 

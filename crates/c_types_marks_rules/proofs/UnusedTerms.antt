@@ -10,7 +10,7 @@ use Rattle.c_types_operands.specs.Conversions.{unused}
 use Rattle.flow_lower_expressions.specs.Calls.{gives}
 use Rattle.flow_lower_tasks.specs.TermKinds.{is_void, scalar_of, term_type}
 use Rattle.ref_machine.specs.SourceStates.{function_at}
-use Rattle.ref_machine_kinds.specs.KindedTerms.{argument_kinds}
+use Rattle.ref_machine_looks.specs.KindedTerms.{argument_kinds}
 use Rattle.ref_machine_looks.specs.LookedTypes.{same_mark}
 use Rattle.ref_machine_operations.specs.TakenKinds.{result_kind}
 use Rattle.ref_machine_looks.specs.LookedTerms.{has_tests, have_parameters, calls, accepts, is_given, calls_library, is_marked_term, are_marked_terms}

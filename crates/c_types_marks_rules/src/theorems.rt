@@ -1,5 +1,5 @@
 //! What rules of typing make of what is made.
-ghost use Rattle.c_types_marks.specs.MadeLaws.{ConversionsGive, UnusedIsMarked, ValuesAreMade};
+ghost use Rattle.c_types_marks_tests.specs.MadeLaws.{ConversionsGive, UnusedIsMarked, ValuesAreMade};
 
 /// The value of an operand is marked.
 pub fn values_are_made()

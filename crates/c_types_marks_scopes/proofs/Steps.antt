@@ -67,7 +67,7 @@ module _ (P : List LocalView → List LocalView → Type 0) (passed : IsPassed P
     struct_more = λ s. goes_same s;
     body = λ s owner. goes_same s;
     member = λ s owner name field e. goes_same s;
-    completed = λ s t owner made first g. g;
+    completed = λ s t owner p made first laid g. g;
     enumerations = λ s x. goes_same s;
   }
 

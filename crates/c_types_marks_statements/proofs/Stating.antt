@@ -40,7 +40,7 @@ use Rattle.flow_lower_tasks.specs.TermKinds.{term_type}
 use Rattle.flow_lower_tasks.specs.TermKinds as kinds
 use Rattle.ref_machine_looks.specs.LookedTypes.{is_scalar_type}
 use Rattle.ref_machine_looks.specs.LookedTerms.{is_marked_term, is_marked_condition, has_tests}
-use Rattle.ref_machine_looks_units.specs.LookedStatements.{is_marked_if, is_marked_step, selects_by, is_marked_return, is_marked_statement, are_marked_statements}
+use Rattle.c_types_marks.specs.LookedStatements.{is_marked_if, is_marked_step, selects_by, is_marked_return, is_marked_statement, are_marked_statements}
 use Rattle.c_types_marks.specs.ModelTypes.{IsTypeOf}
 use Rattle.c_types_marks.specs.MadeTerms.{IsMade, IsMadeOperand}
 use Rattle.c_types_marks.specs.UnitParts.{IsPartOf}

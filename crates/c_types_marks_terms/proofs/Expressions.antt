@@ -1,6 +1,6 @@
 -- Expressions keep what typing knows, and those that are evaluated are made.
-use Rattle.std.proofs.Common.{◌≡◌, ℕ, List, Option, Some, None, Ok, Err, refl, subst, sym, ◌∙◌}
-use Rattle.std.specs.Prelude.{true}
+use Rattle.std.proofs.Common.{◌≡◌, ℕ, List, Option, Some, None, Ok, Err, refl, ap, subst, sym, ◌∙◌}
+use Rattle.std.specs.Prelude.{true, is_some}
 use Rattle.cc_base.specs.declared.diagnostics.Place.{Place}
 use Rattle.c_layout.specs.CheckedUnits.{UnitView}
 use Rattle.c_layout.specs.SyntaxTrees as syntax
@@ -24,10 +24,12 @@ use Rattle.c_types_primary.specs.declared.calls.Callee.{Callee}
 use Rattle.c_types_primary.specs.declared.calls.Callee.TheVariants as callee
 use Rattle.c_types_expressions.specs.Expressions as spec
 use Rattle.c_types_expressions.specs.Leaves.{named, callee_of, noted_callee, first_tree}
+use Rattle.c_types_scopes.specs.Known.{size_of}
+use Rattle.c_types_primary.specs.Primaries as primaries
 use Rattle.c_types_marks.specs.KnownTypes.{HasTypes}
 use Rattle.c_types_marks.specs.MadeLaws.{OperatorsMakeFor, OperatorsMake, ValuesAreMade, ConversionsGive}
 use Rattle.c_types_marks.specs.MadeTerms.{IsMadeOperand, Makes}
-use Rattle.c_types_marks.specs.ProperTrees.{IsProperConstant, IsProperTree, AreProperTrees}
+use Rattle.c_types_marks.specs.ProperTrees.{IsProperConstant, IsProperLiteral, IsProperTree, AreProperTrees}
 use Rattle.c_types_marks.specs.TypingLaws.{Keeps, LeadsOn, MakesOperand, ExpressionsKeep}
 use Rattle.c_types_marks.specs.UnitParts.{IsPartOf}
 use Rattle.c_types_marks.specs.ModelTypes.{IsTypeOf}
@@ -54,8 +56,12 @@ enclosed_text at e (Err f) h = tt
 not_spelled : (e : Tree) (s : State) → ((bytes : List ℕ) → literal_bytes e ≡ Some bytes → ⊥) → Holds (IsTextOf e) (spec.typed s e)
 not_spelled e s h = hold_all (IsTextOf e) (spec.typed s e) (λ p bytes is. absurd (h bytes is))
 
+literal_text : (at : Place) (bytes : List ℕ) (s : State) (size : Option ℕ) → Holds (IsTextOf (syntax.Literal at bytes)) (primaries.literal_of_size s at bytes size)
+literal_text at bytes s None = tt
+literal_text at bytes s (Some size) = λ more is. tt
+
 text_on : (e : Tree) (s : State) → Holds (IsTextOf e) (spec.typed s e)
-text_on (syntax.Literal at bytes) s = λ more is. tt
+text_on (syntax.Literal at bytes) s = literal_text at bytes s (size_of s.known (primaries.literal_type s.known bytes))
 text_on (syntax.Paren at e) s = enclosed_text at e (spec.typed s e) (text_on e s)
 text_on (syntax.Name at text) s = not_spelled (syntax.Name at text) s (λ bytes is. cc)
 text_on (syntax.Number at c) s = not_spelled (syntax.Number at c) s (λ bytes is. cc)
@@ -78,10 +84,10 @@ text_on (syntax.Comma at a b) s = not_spelled (syntax.Comma at a b) s (λ bytes 
 -- ---- under `sizeof`
 
 inside_types : (s : State) → HasTypes s → HasTypes (spec.inside s)
-inside_types s h = record { proper = h.proper; objects = h.objects; locals = h.locals; statics = h.statics; typedefs = h.typedefs; results = h.results; parameters = h.parameters; fields = h.fields; meanings = h.meanings }
+inside_types s h = record { proper = h.proper; objects = h.objects; locals = h.locals; statics = h.statics; typedefs = h.typedefs; literals = h.literals; stores = h.stores; results = h.results; parameters = h.parameters; fields = h.fields; meanings = h.meanings }
 
 outside_types : (s t : State) → HasTypes t → HasTypes (spec.outside s t)
-outside_types s t h = record { proper = h.proper; objects = h.objects; locals = h.locals; statics = h.statics; typedefs = h.typedefs; results = h.results; parameters = h.parameters; fields = h.fields; meanings = h.meanings }
+outside_types s t h = record { proper = h.proper; objects = h.objects; locals = h.locals; statics = h.statics; typedefs = h.typedefs; literals = h.literals; stores = h.stores; results = h.results; parameters = h.parameters; fields = h.fields; meanings = h.meanings }
 
 part_outside : (s t : State) (u : UnitView) → IsPartOf (spec.outside s t) u → IsPartOf t u
 part_outside s t u p = record { model = p.model; objects = p.objects; literals = p.literals; functions = p.functions }
@@ -169,11 +175,15 @@ module _ (E : Type 0) (operators : E → OperatorsMake) (values : E → ValuesAr
   type_named_by : (m : Model) (s : State) (at : Place) (n : TypeNameView) (es : Trees) → IsAt m s → LeadsOn s Anything (spec.lengths s es) → LeadsOn s (λ t v. IsTypeOf m t) (spec.type_named s at n es)
   type_named_by m s at n es a h = then s Anything (λ t v. IsTypeOf m t) (spec.lengths s es) (λ ns s1. names.named_type s1 at n ns) h (λ ns s1 k any. type_name_on m s1 at n ns (at_later m s s1 a k))
 
+  literal_on : (s : State) (at : Place) (bytes : List ℕ) → HasTypes s → IsProperLiteral bytes → (size : Option ℕ) → size_of s.known (primaries.literal_type s.known bytes) ≡ size → LeadsOn s (Is s) (primaries.literal_of_size s at bytes size)
+  literal_on s at bytes types plain None is = tt
+  literal_on s at bytes types plain (Some size) is = (literal_step s at bytes types plain (ap is_some is), λ run u p. literal_made s at bytes u types run.1 p)
+
   mutual
     expression : (m : Model) (s : State) (e : Tree) → IsAt m s → IsProperTree m e → LeadsOn s (Is s) (spec.typed s e)
     expression m s (syntax.Name at text) a proper = rule s s (named s at text) a.types (λ run u p. name_on s u at text a.types run.1 p)
     expression m s (syntax.Number at c) a proper = (keeps_same s a.types, λ run u p. constant_made s u at c p (subst (λ x. IsProperConstant x c) (sym a.same) proper))
-    expression m s (syntax.Literal at bytes) a proper = (literal_step s at bytes a.types, λ run u p. literal_made s at bytes u a.types run.1 p)
+    expression m s (syntax.Literal at bytes) a proper = literal_on s at bytes a.types proper (size_of s.known (primaries.literal_type s.known bytes)) refl
     expression m s (syntax.Paren at e) a proper = then s (Is s) (Is s) (spec.typed s e) spec.enclosed (expression m s e a proper) (λ x t k made. (keeps_same t k.types, λ run u p. (laws t u run.0 k.types p).parenthesized x (made run u p)))
     expression m s (syntax.Subscript at i j) a proper = two s (spec.typed s i) (λ s1. spec.typed s1 j) (λ t x y. subscript t.known at x y) (λ t u e h p x y. (laws t u e h p).subscript at x y) (expression m s i a proper.0) (λ s1 k. expression m s1 j (at_later m s s1 a k) proper.1)
     expression m s (syntax.Call at name es) a proper =

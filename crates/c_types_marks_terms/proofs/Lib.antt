@@ -6,3 +6,4 @@ mod Arguments
 mod LibraryCalls
 mod Calls
 pub mod Expressions
+pub use Rattle.c_types_marks_rules.proofs.ModelKinds

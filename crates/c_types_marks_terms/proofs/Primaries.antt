@@ -1,13 +1,14 @@
 -- Names, constants, literals and members are made.
-use Rattle.std.proofs.Common.{◌≡◌, ◌<◌, ◌+◌, ℕ, List, [], ◌∷◌, ◌++◌, Option, Some, None, Ok, Err, slice_get, length, refl, ap, subst, sym, arith}
-use Rattle.std.specs.Prelude.{ℤ, Bool, true, false, cond, ◌&&◌, is_none, is_some, unwrap_or, option_map}
-use Rattle.std.proofs.lemmas.Bool.{leb-true, le-leb}
+use Rattle.std.proofs.Common.{◌≡◌, ◌<◌, ◌≤◌, ◌+◌, ◌*◌, ◌^◌, ℕ, List, [], ◌∷◌, ◌++◌, Option, Some, None, Ok, Err, slice_get, length, refl, ap, subst, sym, arith, mul-le-mul_left}
+use Rattle.std.specs.Prelude.{ℤ, Bool, true, false, cond, ◌&&◌, is_none, is_some, nat_le, nat_lt, unwrap_or, option_map, option_and_then}
+use Rattle.std.proofs.lemmas.Bool.{and_parts, leb-true, le-leb, ltb-true}
 use Rattle.std.proofs.lemmas.List.{length-append}
 use Rattle.std.proofs.lemmas.Option.{same_Some, slice_get-get_or}
 use Rattle.cc_base.specs.IntegerTypes.{in_type}
 use Rattle.cc_base.specs.declared.diagnostics.Place.{Place}
 use Rattle.cc_base.specs.declared.int_types.IntType.{IntType}
-use Rattle.c_layout.specs.Types.{Ty, Int}
+use Rattle.c_layout.specs.Layout.{most_bytes}
+use Rattle.c_layout.specs.Types.{Ty, Int, Array}
 use Rattle.c_layout.specs.CheckedTrees as tree
 use Rattle.c_layout.specs.CheckedTrees.{LvalueTree}
 use Rattle.c_layout.specs.CheckedUnits.{UnitView, LocalView, LiteralView}
@@ -16,7 +17,9 @@ use Rattle.c_layout.specs.declared.checked_tree.checked_terms.ObjectRef.TheVaria
 use Rattle.c_layout.specs.declared.data_model.Model.{Model}
 use Rattle.c_layout.specs.declared.library_functions.LibFn.{LibFn}
 use Rattle.c_layout.specs.declared.syntax_tree.expressions.Constant.{Constant}
+use Rattle.c_types_rules.specs.TypeSizes.{array_size}
 use Rattle.c_types_rules.specs.declared.integer_kinds.Rank.TheVariants as rank
+use Rattle.c_types_scopes.specs.Known.{Known, size_of}
 use Rattle.c_types_scopes.specs.Refusals.{Ruled, undeclared}
 use Rattle.c_types_scopes.specs.DeclaredTypes.{ObjectView}
 use Rattle.c_types_scopes.specs.Names as scopes
@@ -36,10 +39,11 @@ use Rattle.ref_machine_looks.specs.LookedTerms.{has_tests}
 use Rattle.c_types_marks.specs.KnownTypes.{HasTypes, IsMeaning}
 use Rattle.c_types_marks.specs.MadeTerms.{IsMadePlace, IsMadeForm, IsMadeOperand, Makes}
 use Rattle.c_types_marks.specs.ModelTypes.{IsKindOf, IsTypeOf, Each}
-use Rattle.c_types_marks.specs.ProperTrees.{IsProperConstant}
+use Rattle.c_types_marks.specs.ProperStores.{IsShortLiteral}
+use Rattle.c_types_marks.specs.ProperTrees.{IsProperConstant, IsProperLiteral}
 use Rattle.c_types_marks.specs.TypingLaws.{Keeps}
 use Rattle.c_types_marks.specs.UnitParts.{IsPartOf}
-use Rattle.c_types_marks_terms.proofs.Parts.{HoldsIf, there_if, kind_is, in_model}
+use Rattle.c_types_marks_terms.proofs.Parts.{HoldsIf, there_if, kind_is, in_model, each_more}
 
 -- a type of the model of typing is one of the unit's
 pub in_unit : (s : State) (u : UnitView) (t : Ty) → IsPartOf s u → IsTypeOf s.known.numbers t → IsTypeOf u.model t
@@ -105,22 +109,29 @@ name_made s u at text h ev p = named_made s u at text (meaning_of s text) h ev p
 
 -- ---- literals
 
-more_literals : (s : State) (x : LiteralView) → HasTypes s → Keeps s (record s { literals = s.literals ++ x ∷ [] })
-more_literals s x h = record {
-  model = refl;
-  unevaluated = refl;
-  types = record { proper = h.proper; objects = h.objects; locals = h.locals; statics = h.statics; typedefs = h.typedefs; results = h.results; parameters = h.parameters; fields = h.fields; meanings = h.meanings };
-  parts = λ u p. record {
-    model = p.model;
-    objects = p.objects;
-    literals = let few = leb-true _ _ p.literals in let long = length-append s.literals (x ∷ []) in le-leb _ _ (omega (arith, few, long));
-    functions = p.functions;
-  };
+more_parts : (s : State) (x : LiteralView) (u : UnitView) → IsPartOf (record s { literals = s.literals ++ x ∷ [] }) u → IsPartOf s u
+more_parts s x u p = record {
+  model = p.model;
+  objects = p.objects;
+  literals = let few = leb-true _ _ p.literals in let long = length-append s.literals (x ∷ []) in le-leb _ _ (omega (arith, few, long));
+  functions = p.functions;
 }
 
-literal_keeps : (s : State) (at : Place) (bytes : List ℕ) (b : Bool) → HasTypes s → Keeps s (cond b (record s { literals = s.literals ++ record { at = at; bytes = bytes } ∷ [] }) s)
-literal_keeps s at bytes true h = more_literals s (record { at = at; bytes = bytes }) h
-literal_keeps s at bytes false h = record { model = refl; unevaluated = refl; types = h; parts = λ u p. p }
+literal_parts : (s : State) (x : LiteralView) (b : Bool) (u : UnitView) → IsPartOf (cond b (record s { literals = s.literals ++ x ∷ [] }) s) u → IsPartOf s u
+literal_parts s x true u p = more_parts s x u p
+literal_parts s x false u p = p
+
+more_literals : (s : State) (x : LiteralView) → HasTypes s → IsShortLiteral x → Keeps s (record s { literals = s.literals ++ x ∷ [] })
+more_literals s x h short = record {
+  model = refl;
+  unevaluated = refl;
+  types = record { proper = h.proper; objects = h.objects; locals = h.locals; statics = h.statics; typedefs = h.typedefs; literals = each_more (λ (l : LiteralView). IsShortLiteral l) s.literals x h.literals short; stores = h.stores; results = h.results; parameters = h.parameters; fields = h.fields; meanings = h.meanings };
+  parts = more_parts s x;
+}
+
+literal_keeps : (s : State) (x : LiteralView) (b : Bool) → HasTypes s → IsShortLiteral x → Keeps s (cond b (record s { literals = s.literals ++ x ∷ [] }) s)
+literal_keeps s x true h short = more_literals s x h short
+literal_keeps s x false h short = record { model = refl; unevaluated = refl; types = h; parts = λ u p. p }
 
 there_from : (xs : List LiteralView) (n : ℕ) (x : LiteralView) → n < length xs → is_some (slice_get xs n) ≡ true
 there_from xs n x h = ap is_some (slice_get-get_or xs n x h)
@@ -134,11 +145,30 @@ literal_there s x u false h p = absurd (cc)
 pub literal_made : (s : State) (at : Place) (bytes : List ℕ) (u : UnitView) → HasTypes s → is_evaluated s ≡ true → IsPartOf (with_literal s at bytes) u → IsMadeOperand u (primaries.literal_operand s at bytes)
 literal_made s at bytes u h ev p = record {
   marked = literal_there s (record { at = at; bytes = bytes }) u (is_evaluated s) ev p;
-  typed = in_unit s u (Int (primaries.char_kind s.known)) ((literal_keeps s at bytes (is_evaluated s) h).parts u p) (kind_is s.known.numbers rank.Char _);
+  typed = in_unit s u (Int (primaries.char_kind s.known)) (literal_parts s (record { at = at; bytes = bytes }) (is_evaluated s) u p) (kind_is s.known.numbers rank.Char _);
 }
 
-pub literal_step : (s : State) (at : Place) (bytes : List ℕ) → HasTypes s → Keeps s (with_literal s at bytes)
-literal_step s at bytes h = literal_keeps s at bytes (is_evaluated s) h
+-- an array with a size has few elements
+few_elements : (k : Known) (kind : IntType) (n : ℕ) → is_some (size_of k (Array (Int kind) n)) ≡ true → n ≤ 2 ^ 30
+few_elements k kind n h = by_kind (nat_lt 0 kind.bytes && nat_le kind.bytes 8) refl h
+  where
+    times : (b : ℕ) → 0 < b → n * 1 ≤ n * b
+    times b some = mul-le-mul_left n some
+
+    by_room : (c : Bool) → (nat_lt 0 n && nat_le (n * kind.bytes) most_bytes) ≡ c → 0 < kind.bytes → is_some (cond c (Some (n * kind.bytes)) None) ≡ true → n ≤ 2 ^ 30
+    by_room true is some e =
+        let least = leb-true (n * kind.bytes) most_bytes (and_parts (nat_lt 0 n) (nat_le (n * kind.bytes) most_bytes) is).1 in
+        let more = times kind.bytes some in
+        omega (arith, least, more)
+    by_room false is some e = absurd (cc)
+
+    by_kind : (c : Bool) → (nat_lt 0 kind.bytes && nat_le kind.bytes 8) ≡ c → is_some (option_and_then (array_size n) (cond c (Some kind.bytes) None)) ≡ true → n ≤ 2 ^ 30
+    by_kind true is e = by_room (nat_lt 0 n && nat_le (n * kind.bytes) most_bytes) refl (ltb-true 0 kind.bytes (and_parts (nat_lt 0 kind.bytes) (nat_le kind.bytes 8) is).0) e
+    by_kind false is e = absurd (cc)
+
+pub literal_step : (s : State) (at : Place) (bytes : List ℕ) → HasTypes s → IsProperLiteral bytes → is_some (size_of s.known (primaries.literal_type s.known bytes)) ≡ true → Keeps s (with_literal s at bytes)
+literal_step s at bytes h plain sized =
+    literal_keeps s (record { at = at; bytes = bytes }) (is_evaluated s) h (record { bytes = plain; short = few_elements s.known (primaries.char_kind s.known) (length bytes + 1) sized })
 
 -- ---- members
 

@@ -79,14 +79,14 @@ cond_on s P false x y g h = h
 -- ---- what changes
 
 pub named_keeps : (s : State) (text : List ℕ) → HasTypes s → Keeps s (with_name s text)
-named_keeps s text h = keeps_by s (with_name s text) refl refl refl refl refl (record { proper = h.proper; objects = h.objects; locals = h.locals; statics = h.statics; typedefs = h.typedefs; results = h.results; parameters = h.parameters; fields = h.fields; meanings = h.meanings })
+named_keeps s text h = keeps_by s (with_name s text) refl refl refl refl refl (record { proper = h.proper; objects = h.objects; locals = h.locals; statics = h.statics; typedefs = h.typedefs; literals = h.literals; stores = h.stores; results = h.results; parameters = h.parameters; fields = h.fields; meanings = h.meanings })
 
 pub constant_keeps : (s : State) (e : TermTree) → HasTypes s → Keeps s (with_constant s e)
-constant_keeps s e h = keeps_by s (with_constant s e) refl refl refl refl refl (record { proper = h.proper; objects = h.objects; locals = h.locals; statics = h.statics; typedefs = h.typedefs; results = h.results; parameters = h.parameters; fields = h.fields; meanings = h.meanings })
+constant_keeps s e h = keeps_by s (with_constant s e) refl refl refl refl refl (record { proper = h.proper; objects = h.objects; locals = h.locals; statics = h.statics; typedefs = h.typedefs; literals = h.literals; stores = h.stores; results = h.results; parameters = h.parameters; fields = h.fields; meanings = h.meanings })
 
 either : (s : State) (b : Bool) (x y : State) → Keeps s x → Keeps s y → Keeps s (cond b x y)
 either s true x y g h = g
 either s false x y g h = h
 
 pub called_keeps : (s : State) (callee : ℕ) (at : Place) → HasTypes s → Keeps s (with_call s callee at)
-called_keeps s callee at h = either s (is_evaluated s) _ s (keeps_by s _ refl refl refl refl refl (record { proper = h.proper; objects = h.objects; locals = h.locals; statics = h.statics; typedefs = h.typedefs; results = h.results; parameters = h.parameters; fields = h.fields; meanings = h.meanings })) (keeps_same s h)
+called_keeps s callee at h = either s (is_evaluated s) _ s (keeps_by s _ refl refl refl refl refl (record { proper = h.proper; objects = h.objects; locals = h.locals; statics = h.statics; typedefs = h.typedefs; literals = h.literals; stores = h.stores; results = h.results; parameters = h.parameters; fields = h.fields; meanings = h.meanings })) (keeps_same s h)

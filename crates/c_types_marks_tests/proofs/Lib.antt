@@ -7,3 +7,4 @@ mod IntegerSides
 mod PointerSides
 pub mod MadeTests
 mod SwitchOperands
+pub use Rattle.c_types_marks_numbers.proofs.SizeNumbers

@@ -17,7 +17,7 @@ use Rattle.ref_machine_marks.specs.Marks.{Converted}
 use Rattle.ref_machine_looks.specs.LookedTypes.{is_kind, is_wider, is_integer, converts}
 use Rattle.ref_machine_looks.specs.LookedTests.{same_object, converted_number}
 use Rattle.ref_machine_looks.specs.LookedTerms.{is_marked_term, side, converted_to}
-use Rattle.ref_machine_looks_units.specs.LookedStatements.{is_of_kind, is_within, matches, selects_by}
+use Rattle.c_types_marks.specs.LookedStatements.{is_of_kind, is_within, matches, selects_by}
 use Rattle.c_types_marks.specs.ModelTypes.{IsKindOf, IsTypeOf, IsGround}
 use Rattle.c_types_marks.specs.MadeTerms.{IsMade}
 use Rattle.c_types_marks.specs.MadeLaws.{SwitchesSelect}

@@ -10,9 +10,9 @@ use Rattle.c_types_scopes.specs.declared.meanings.Meaning.{Meaning}
 use Rattle.c_types_scopes.specs.declared.meanings.Tag.{Tag}
 use Rattle.c_types_declarations.specs.ContextSteps.{with_struct, with_body, with_member, with_complete, with_tag, with_meaning}
 use Rattle.c_types_declarations.specs.Parameters.{without_locals}
-use Rattle.c_types_marks.specs.KnownTypes.{HasTypes, HasFields, IsMeaning}
-use Rattle.c_types_marks.specs.ModelTypes.{IsTypeOf, Each}
-use Rattle.c_types_marks.specs.TypingLaws.{Keeps}
+use Rattle.c_types_marks_terms.specs.KnownTypes.{HasTypes, HasFields, IsMeaning}
+use Rattle.c_types_marks_terms.specs.ModelTypes.{IsTypeOf, Each}
+use Rattle.c_types_marks_terms.specs.TypingLaws.{Keeps}
 use Rattle.c_types_marks_terms.proofs.Parts.{none_of, each_none, each_more}
 use Rattle.c_types_marks_terms.proofs.Steps.{keeps_by}
 
@@ -30,6 +30,8 @@ struct_keeps s h = keeps_by s (with_struct s) refl refl refl refl refl (record {
   locals = h.locals;
   statics = h.statics;
   typedefs = h.typedefs;
+  literals = h.literals;
+  stores = h.stores;
   results = h.results;
   parameters = h.parameters;
   fields = each_more (HasFields s.known.numbers) s.types.structs no_struct h.fields (each_none (λ f. IsTypeOf s.known.numbers f.ctype));
@@ -37,10 +39,10 @@ struct_keeps s h = keeps_by s (with_struct s) refl refl refl refl refl (record {
 })
 
 pub body_keeps : (s : State) (owner : ℕ) → HasTypes s → Keeps s (with_body s owner)
-body_keeps s owner h = keeps_by s (with_body s owner) refl refl refl refl refl (record { proper = h.proper; objects = h.objects; locals = h.locals; statics = h.statics; typedefs = h.typedefs; results = h.results; parameters = h.parameters; fields = h.fields; meanings = h.meanings })
+body_keeps s owner h = keeps_by s (with_body s owner) refl refl refl refl refl (record { proper = h.proper; objects = h.objects; locals = h.locals; statics = h.statics; typedefs = h.typedefs; literals = h.literals; stores = h.stores; results = h.results; parameters = h.parameters; fields = h.fields; meanings = h.meanings })
 
 pub member_keeps : (s : State) (owner name field : ℕ) (e : Option ℕ) → HasTypes s → Keeps s (with_member s owner name field e)
-member_keeps s owner name field e h = keeps_by s (with_member s owner name field e) refl refl refl refl refl (record { proper = h.proper; objects = h.objects; locals = h.locals; statics = h.statics; typedefs = h.typedefs; results = h.results; parameters = h.parameters; fields = h.fields; meanings = h.meanings })
+member_keeps s owner name field e h = keeps_by s (with_member s owner name field e) refl refl refl refl refl (record { proper = h.proper; objects = h.objects; locals = h.locals; statics = h.statics; typedefs = h.typedefs; literals = h.literals; stores = h.stores; results = h.results; parameters = h.parameters; fields = h.fields; meanings = h.meanings })
 
 pub complete_keeps : (s : State) (owner : ℕ) (made : StructView) → HasTypes s → HasFields s.known.numbers made → Keeps s (with_complete s owner made)
 complete_keeps s owner made h fields = keeps_by s (with_complete s owner made) refl refl refl refl refl (record {
@@ -49,6 +51,8 @@ complete_keeps s owner made h fields = keeps_by s (with_complete s owner made) r
   locals = h.locals;
   statics = h.statics;
   typedefs = h.typedefs;
+  literals = h.literals;
+  stores = h.stores;
   results = h.results;
   parameters = h.parameters;
   fields = each_set (HasFields s.known.numbers) s.types.structs owner made h.fields fields;
@@ -56,7 +60,7 @@ complete_keeps s owner made h fields = keeps_by s (with_complete s owner made) r
 })
 
 pub tag_keeps : (s : State) (name : ℕ) (t : Tag) → HasTypes s → Keeps s (with_tag s name t)
-tag_keeps s name t h = keeps_by s (with_tag s name t) refl refl refl refl refl (record { proper = h.proper; objects = h.objects; locals = h.locals; statics = h.statics; typedefs = h.typedefs; results = h.results; parameters = h.parameters; fields = h.fields; meanings = h.meanings })
+tag_keeps s name t h = keeps_by s (with_tag s name t) refl refl refl refl refl (record { proper = h.proper; objects = h.objects; locals = h.locals; statics = h.statics; typedefs = h.typedefs; literals = h.literals; stores = h.stores; results = h.results; parameters = h.parameters; fields = h.fields; meanings = h.meanings })
 
 pub meaning_keeps : (s : State) (name : ℕ) (m : Meaning) → HasTypes s → IsMeaning s.known m → Keeps s (with_meaning s name m)
 meaning_keeps s name m h is = keeps_by s (with_meaning s name m) refl refl refl refl refl (record {
@@ -65,6 +69,8 @@ meaning_keeps s name m h is = keeps_by s (with_meaning s name m) refl refl refl 
   locals = h.locals;
   statics = h.statics;
   typedefs = h.typedefs;
+  literals = h.literals;
+  stores = h.stores;
   results = h.results;
   parameters = h.parameters;
   fields = h.fields;
@@ -72,7 +78,7 @@ meaning_keeps s name m h is = keeps_by s (with_meaning s name m) refl refl refl 
 })
 
 pub enumerations_keep : (s : State) (x : List (List ℤ)) → HasTypes s → Keeps s (record s { enumerations = x })
-enumerations_keep s x h = keeps_by s (record s { enumerations = x }) refl refl refl refl refl (record { proper = h.proper; objects = h.objects; locals = h.locals; statics = h.statics; typedefs = h.typedefs; results = h.results; parameters = h.parameters; fields = h.fields; meanings = h.meanings })
+enumerations_keep s x h = keeps_by s (record s { enumerations = x }) refl refl refl refl refl (record { proper = h.proper; objects = h.objects; locals = h.locals; statics = h.statics; typedefs = h.typedefs; literals = h.literals; stores = h.stores; results = h.results; parameters = h.parameters; fields = h.fields; meanings = h.meanings })
 
 pub local_keeps : (s : State) (text : List ℕ) (at : Place) (d : DeclaredView) → HasTypes s → IsTypeOf s.known.numbers d.ctype → Keeps s (with_local s text at d)
 local_keeps s text at d h typed = keeps_by s (with_local s text at d) refl refl refl refl refl (record {
@@ -81,6 +87,8 @@ local_keeps s text at d h typed = keeps_by s (with_local s text at d) refl refl 
   locals = each_more (λ l. IsTypeOf s.known.numbers l.ctype) s.body.locals (record { name = text; at = at; ctype = d.ctype }) h.locals typed;
   statics = h.statics;
   typedefs = h.typedefs;
+  literals = h.literals;
+  stores = h.stores;
   results = h.results;
   parameters = h.parameters;
   fields = h.fields;
@@ -94,6 +102,8 @@ without_locals_keeps s h = keeps_by s (without_locals s) refl refl refl refl ref
   locals = each_none (λ l. IsTypeOf s.known.numbers l.ctype);
   statics = h.statics;
   typedefs = h.typedefs;
+  literals = h.literals;
+  stores = h.stores;
   results = h.results;
   parameters = h.parameters;
   fields = h.fields;

@@ -14,10 +14,10 @@ use Rattle.c_types_scopes.specs.TypeSteps.{declarator_type}
 use Rattle.c_types_scopes.specs.declared.type_steps.TypeStep.{TypeStep}
 use Rattle.c_types_declarations.specs.Declarators as declarators
 use Rattle.c_types_declarations.specs.Declarators.{StepsView, declared_type}
-use Rattle.c_types_marks.specs.ModelTypes.{IsTypeOf}
-use Rattle.c_types_marks.specs.ProperStatements.{IsProperIf, AreProperSuffixes, AreProperLayers}
-use Rattle.c_types_marks.specs.ProperTrees.{IsProperTree}
-use Rattle.c_types_marks.specs.TypingLaws.{LeadsOn}
+use Rattle.c_types_marks_terms.specs.ModelTypes.{IsTypeOf}
+use Rattle.c_types_marks_terms.specs.ProperStatements.{IsProperIf, AreProperSuffixes, AreProperLayers}
+use Rattle.c_types_marks_terms.specs.ProperTrees.{IsProperTree}
+use Rattle.c_types_marks_terms.specs.TypingLaws.{LeadsOn}
 use Rattle.c_types_marks_terms.proofs.Expressions.{lengths_keep}
 use Rattle.c_types_marks_terms.proofs.Parts.{or_fault_holds, steps_hold, in_model}
 use Rattle.c_types_marks_terms.proofs.Steps.{IsAt, keeps_same, at_later, then, weaker, stays, Holds}

@@ -20,10 +20,10 @@ use Rattle.c_types_operands.specs.Operands.{term_of}
 use Rattle.c_types_expressions.specs.Expressions as expressions
 use Rattle.c_types_expressions.specs.Expressions.{typed}
 use Rattle.c_types_declarations.specs.Enumerations as enumerations
-use Rattle.c_types_marks.specs.KnownTypes.{HasTypes, IsMeaning}
-use Rattle.c_types_marks.specs.ProperStatements.{IsProperIf, AreProperEnumerators}
-use Rattle.c_types_marks.specs.ProperTrees.{IsProperTree}
-use Rattle.c_types_marks.specs.TypingLaws.{LeadsOn}
+use Rattle.c_types_marks_terms.specs.KnownTypes.{HasTypes, IsMeaning}
+use Rattle.c_types_marks_terms.specs.ProperStatements.{IsProperIf, AreProperEnumerators}
+use Rattle.c_types_marks_terms.specs.ProperTrees.{IsProperTree}
+use Rattle.c_types_marks_terms.specs.TypingLaws.{LeadsOn}
 use Rattle.c_types_marks_terms.proofs.Expressions.{expressions_keep}
 use Rattle.c_types_marks_terms.proofs.Steps.{IsAt, keeps_same, at_later, onward, then, cond_on, named_keeps, constant_keeps}
 use Rattle.c_types_marks_terms.proofs.TypeNames.{Anything}

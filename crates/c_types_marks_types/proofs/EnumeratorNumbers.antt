@@ -11,7 +11,7 @@ use Rattle.c_layout.specs.declared.data_model.Model.{Model}
 use Rattle.c_types_rules.specs.ConstantFolding.{converted, has_number}
 use Rattle.c_types_rules.specs.IntegerKinds.{kind_of}
 use Rattle.c_types_rules.specs.declared.integer_kinds.Rank.TheVariants as rank
-use Rattle.c_types_marks_rules.proofs.ModelKinds.{model_numbers}
+use Rattle.c_types_marks_terms.proofs.ModelKinds.{model_numbers}
 
 is_le : (a b : ℤ) → int_le a b ≡ true → a ≤ℤ b
 is_le a b h = grind (arith, ints)

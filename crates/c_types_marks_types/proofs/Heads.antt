@@ -22,10 +22,10 @@ use Rattle.c_types_declarations.specs.Parameters as parameters
 use Rattle.c_types_declarations.specs.Specifiers.{SpecifiedView}
 use Rattle.c_types_declarations.specs.SpecifierTrees.{specifiers}
 use Rattle.c_types_declarations.specs.StructBodies.{is_stored}
-use Rattle.c_types_marks.specs.KnownTypes.{HasTypes, IsMeaning}
-use Rattle.c_types_marks.specs.ModelTypes.{IsTypeOf, Each}
-use Rattle.c_types_marks.specs.ProperStatements.{IsProperDeclaratorIf, IsProperParameter, AreProperItems, AreProperParameters, IsProperFunction}
-use Rattle.c_types_marks.specs.TypingLaws.{Keeps, LeadsOn}
+use Rattle.c_types_marks_terms.specs.KnownTypes.{HasTypes, IsMeaning}
+use Rattle.c_types_marks_terms.specs.ModelTypes.{IsTypeOf, Each}
+use Rattle.c_types_marks_terms.specs.ProperStatements.{IsProperDeclaratorIf, IsProperParameter, AreProperItems, AreProperParameters, IsProperFunction}
+use Rattle.c_types_marks_terms.specs.TypingLaws.{Keeps, LeadsOn}
 use Rattle.c_types_marks_terms.proofs.Parts.{each_none, each_first, in_model}
 use Rattle.c_types_marks_terms.proofs.Steps.{IsAt, keeps_same, keeps_twice, at_later, onward, then, weaker, stays, cond_on, Holds, named_keeps}
 use Rattle.c_types_marks_terms.proofs.TypeNames.{IsDeclaredOf, Anything}

@@ -23,9 +23,9 @@ use Rattle.c_types_declarations.specs.Specifiers as said
 use Rattle.c_types_declarations.specs.Specifiers.{SpecifiedView, ReadingView, nothing_read}
 use Rattle.c_types_declarations.specs.SpecifierTrees as spec
 use Rattle.c_types_declarations.specs.StructBodies as bodies
-use Rattle.c_types_marks.specs.ModelTypes.{IsTypeOf}
-use Rattle.c_types_marks.specs.ProperStatements.{IsProperSpec, AreProperSpecs, IsProperMember, AreProperMembers}
-use Rattle.c_types_marks.specs.TypingLaws.{Keeps, LeadsOn}
+use Rattle.c_types_marks_terms.specs.ModelTypes.{IsTypeOf}
+use Rattle.c_types_marks_terms.specs.ProperStatements.{IsProperSpec, AreProperSpecs, IsProperMember, AreProperMembers}
+use Rattle.c_types_marks_terms.specs.TypingLaws.{Keeps, LeadsOn}
 use Rattle.c_types_marks_terms.proofs.Parts.{HoldsIf, IsNamedOf, words_hold, kind_is, in_model, each_none}
 use Rattle.c_types_marks_terms.proofs.Steps.{IsAt, keeps_same, at_later, then, weaker, stays, cond_on, Holds}
 use Rattle.c_types_marks_terms.proofs.TypeNames.{IsDeclaredOf, Anything, struct_tag_on, enumeration_tag_on, typedef_holds}

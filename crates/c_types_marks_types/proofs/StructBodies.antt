@@ -22,10 +22,10 @@ use Rattle.c_types_declarations.specs.Declarators.{declared_type}
 use Rattle.c_types_declarations.specs.Specifiers.{SpecifiedView}
 use Rattle.c_types_declarations.specs.StructBodies as bodies
 use Rattle.c_types_declarations.specs.declared.struct_bodies.OpenBody.{OpenBody}
-use Rattle.c_types_marks.specs.KnownTypes.{HasTypes}
-use Rattle.c_types_marks.specs.ModelTypes.{IsTypeOf, Each}
-use Rattle.c_types_marks.specs.ProperStatements.{AreProperLayers, AreProperDeclarators}
-use Rattle.c_types_marks.specs.TypingLaws.{LeadsOn}
+use Rattle.c_types_marks_terms.specs.KnownTypes.{HasTypes}
+use Rattle.c_types_marks_terms.specs.ModelTypes.{IsTypeOf, Each}
+use Rattle.c_types_marks_terms.specs.ProperStatements.{AreProperLayers, AreProperDeclarators}
+use Rattle.c_types_marks_terms.specs.TypingLaws.{LeadsOn}
 use Rattle.c_types_marks_terms.proofs.Parts.{HoldsIf, each_more}
 use Rattle.c_types_marks_terms.proofs.Steps.{IsAt, keeps_same, keeps_twice, at_later, onward, then, cond_on, named_keeps}
 use Rattle.c_types_marks_terms.proofs.TypeNames.{IsDeclaredOf, Anything}

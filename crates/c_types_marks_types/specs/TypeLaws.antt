@@ -8,10 +8,10 @@ use Rattle.c_types_declarations.specs.Declarators.{declared_type}
 use Rattle.c_types_declarations.specs.FunctionHeads.{HeadView, function_head}
 use Rattle.c_types_declarations.specs.Specifiers.{SpecifiedView}
 use Rattle.c_types_declarations.specs.SpecifierTrees.{specifiers}
-use Rattle.c_types_marks.specs.KnownTypes.{HasTypes}
-use Rattle.c_types_marks.specs.ModelTypes.{IsTypeOf, Each}
-use Rattle.c_types_marks.specs.ProperStatements.{AreProperLayers, AreProperSpecs, IsProperFunction}
-use Rattle.c_types_marks.specs.TypingLaws.{LeadsOn}
+use Rattle.c_types_marks_terms.specs.KnownTypes.{HasTypes}
+use Rattle.c_types_marks_terms.specs.ModelTypes.{IsTypeOf, Each}
+use Rattle.c_types_marks_terms.specs.ProperStatements.{AreProperLayers, AreProperSpecs, IsProperFunction}
+use Rattle.c_types_marks_terms.specs.TypingLaws.{LeadsOn}
 
 abbrev pub HasSpecified : SpecifiedView → State → Type 0
 HasSpecified b t = IsTypeOf t.known.numbers b.declared.ctype

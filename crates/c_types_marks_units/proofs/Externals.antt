@@ -30,12 +30,12 @@ use Rattle.c_types_marks_layouts.specs.LaidStructs.{HasLayouts}
 use Rattle.c_types_marks_layouts.proofs.Laying.{struct_more}
 use Rattle.c_types_marks_types.proofs.Changes.{struct_keeps}
 use Rattle.c_types_marks_types.specs.TypeLaws.{HeadsKeep}
-use Rattle.c_types_marks_initializers.specs.PartLaws.{HasLaws}
-use Rattle.c_types_marks_initializers.specs.ReadyStates.{IsReady, Goes}
-use Rattle.c_types_marks_initializers.proofs.Declaring.{specifiers_go}
-use Rattle.c_types_marks_initializers.proofs.Going as going
-use Rattle.c_types_marks_initializers.proofs.Going.{IsPassed}
-use Rattle.c_types_marks_initializers.proofs.ReadySteps.{named_ready, scoped_ready}
+use Rattle.c_types_marks_statements.specs.PartLaws.{HasLaws}
+use Rattle.c_types_marks_statements.specs.ReadyStates.{IsReady, Goes}
+use Rattle.c_types_marks_statements.proofs.Declaring.{specifiers_go}
+use Rattle.c_types_marks_statements.proofs.Going as going
+use Rattle.c_types_marks_statements.proofs.Going.{IsPassed}
+use Rattle.c_types_marks_statements.proofs.ReadySteps.{named_ready, scoped_ready}
 use Rattle.c_types_marks_units.proofs.FileDeclarations.{Runs, steps, done, choose, typedef_runs, declared_object_runs, object_initializer_runs}
 use Rattle.c_types_marks_units.proofs.FileSteps.{no_item, defined_ready, streamed_ready}
 use Rattle.c_types_marks_units.proofs.Functions.{IsTypedFunction, IsMarkedBody, prototype_runs, function_goes}
@@ -175,6 +175,8 @@ module _ (m : Model) where
       locals = λ i x is. no_item x is;
       statics = λ i x is. no_item x is;
       typedefs = λ i x is. no_item x is;
+      literals = λ i x is. no_item x is;
+      stores = λ i x is. no_item x is;
       results = λ i x is. no_item x is;
       parameters = λ i x is. no_item x is;
       fields = λ i x is. no_item x is;

@@ -29,13 +29,13 @@ use Rattle.c_types_laws_stores.proofs.Types.{type_is}
 use Rattle.c_types_marks.specs.ModelTypes.{IsTypeOf, Each}
 use Rattle.c_types_marks.specs.ProperStatements.{AreProperLayers, AreProperWords, IsProperInitializer, IsProperFunction, IsProperInitDeclarator, AreProperInitDeclarators}
 use Rattle.c_types_marks.specs.UnitParts.{IsPartOf}
-use Rattle.c_types_marks_initializers.specs.PartLaws.{HasLaws}
-use Rattle.c_types_marks_initializers.specs.ReadyStates.{IsReady, Goes}
-use Rattle.c_types_marks_initializers.proofs.Declaring.{specifiers_go, declared_goes, static_goes}
-use Rattle.c_types_marks_initializers.proofs.Going as going
-use Rattle.c_types_marks_initializers.proofs.Going.{IsPassed}
-use Rattle.c_types_marks_initializers.proofs.Initializing.{initializer_goes}
-use Rattle.c_types_marks_initializers.proofs.ReadySteps.{named_ready, scoped_passes, static_type_ready, static_type_passes}
+use Rattle.c_types_marks_statements.specs.PartLaws.{HasLaws}
+use Rattle.c_types_marks_statements.specs.ReadyStates.{IsReady, Goes}
+use Rattle.c_types_marks_statements.proofs.Declaring.{specifiers_go, declared_goes, static_goes}
+use Rattle.c_types_marks_statements.proofs.Going as going
+use Rattle.c_types_marks_statements.proofs.Going.{IsPassed}
+use Rattle.c_types_marks_statements.proofs.Initializing.{initializer_goes}
+use Rattle.c_types_marks_statements.proofs.ReadySteps.{named_ready, scoped_passes, static_type_ready, static_type_passes}
 use Rattle.c_types_marks_units.proofs.FileSteps.{static_more_ready, static_more_passes, declaration_ready, declaration_passes, enumerated_ready, enumerated_passes, initialized_ready, initialized_passes, typedef_ready, typedef_passes}
 
 -- ---- the type of two declarations

@@ -16,13 +16,14 @@ use Rattle.c_types_objects.specs.Changes.{changed}
 use Rattle.c_types_objects.specs.FileObjects as objects
 use Rattle.c_types_file_scope.specs.ExternalDeclarations.{with_typedef}
 use Rattle.c_types_file_scope.specs.FunctionDeclarations as functions
-use Rattle.c_types_laws_units.proofs.Kept.{front_stays}
+use Rattle.c_types_marks_layouts.proofs.Kept.{front_stays}
+use Rattle.c_types_marks.specs.ProperStores.{AreProperStores}
 use Rattle.c_types_marks.specs.ModelTypes.{IsTypeOf, Each}
 use Rattle.c_types_marks.specs.KnownTypes.{HasTypes, IsMeaning, HasResult, HasParameters}
 use Rattle.c_types_marks.specs.UnitParts.{IsPartOf}
-use Rattle.c_types_marks_initializers.specs.ReadyStates.{IsReady}
-use Rattle.c_types_marks_initializers.proofs.Going.{IsPassed}
-use Rattle.c_types_marks_initializers.proofs.ReadySteps.{each_more, each_changed, changed_there}
+use Rattle.c_types_marks_statements.specs.ReadyStates.{IsReady}
+use Rattle.c_types_marks_statements.proofs.Going.{IsPassed}
+use Rattle.c_types_marks_statements.proofs.ReadySteps.{each_more, each_changed, changed_there}
 
 pub no_item : {A P : Type 0} (x : A) → None ≡ Some x → P
 no_item x e = absurd (let d : ⊥ = cc in d)
@@ -47,6 +48,8 @@ module _ (m : Model) (s : State) (h : IsReady m s) where
       locals = h.types.locals;
       statics = h.types.statics;
       typedefs = h.types.typedefs;
+      literals = h.types.literals;
+      stores = h.types.stores;
       results = h.types.results;
       parameters = h.types.parameters;
       fields = h.types.fields;
@@ -65,6 +68,8 @@ module _ (m : Model) (s : State) (h : IsReady m s) where
       locals = h.types.locals;
       statics = h.types.statics;
       typedefs = h.types.typedefs;
+      literals = h.types.literals;
+      stores = h.types.stores;
       results = h.types.results;
       parameters = h.types.parameters;
       fields = h.types.fields;
@@ -83,6 +88,8 @@ module _ (m : Model) (s : State) (h : IsReady m s) where
       locals = λ i l is. absurd (no_item l (ap (λ xs. slice_get xs i) (sym none) ∙ is));
       statics = h.types.statics;
       typedefs = h.types.typedefs;
+      literals = h.types.literals;
+      stores = h.types.stores;
       results = h.types.results;
       parameters = h.types.parameters;
       fields = h.types.fields;
@@ -101,6 +108,8 @@ module _ (m : Model) (s : State) (h : IsReady m s) where
       locals = h.types.locals;
       statics = h.types.statics;
       typedefs = h.types.typedefs;
+      literals = h.types.literals;
+      stores = h.types.stores;
       results = h.types.results;
       parameters = h.types.parameters;
       fields = h.types.fields;
@@ -121,6 +130,8 @@ module _ (m : Model) (s : State) (h : IsReady m s) where
       locals = h.types.locals;
       statics = each_more (λ (o : StaticView). IsTypeOf s.known.numbers o.ctype) s.statics (record { name = n.text; at = n.at; ctype = t; stores = [] }) h.types.statics (at_own t typed);
       typedefs = h.types.typedefs;
+      literals = h.types.literals;
+      stores = each_more (λ (o : StaticView). AreProperStores o.stores) s.statics (record { name = n.text; at = n.at; ctype = t; stores = [] }) h.types.stores tt;
       results = h.types.results;
       parameters = h.types.parameters;
       fields = h.types.fields;
@@ -139,6 +150,8 @@ module _ (m : Model) (s : State) (h : IsReady m s) where
       locals = h.types.locals;
       statics = h.types.statics;
       typedefs = h.types.typedefs;
+      literals = h.types.literals;
+      stores = h.types.stores;
       results = h.types.results;
       parameters = h.types.parameters;
       fields = h.types.fields;
@@ -157,6 +170,8 @@ module _ (m : Model) (s : State) (h : IsReady m s) where
       locals = h.types.locals;
       statics = h.types.statics;
       typedefs = h.types.typedefs;
+      literals = h.types.literals;
+      stores = h.types.stores;
       results = h.types.results;
       parameters = h.types.parameters;
       fields = h.types.fields;
@@ -175,6 +190,8 @@ module _ (m : Model) (s : State) (h : IsReady m s) where
       locals = h.types.locals;
       statics = h.types.statics;
       typedefs = h.types.typedefs;
+      literals = h.types.literals;
+      stores = h.types.stores;
       results = h.types.results;
       parameters = h.types.parameters;
       fields = h.types.fields;
@@ -195,6 +212,8 @@ module _ (m : Model) (s : State) (h : IsReady m s) where
       locals = h.types.locals;
       statics = h.types.statics;
       typedefs = each_more (λ (x : DeclaredView). IsTypeOf s.known.numbers x.ctype) s.typedefs d h.types.typedefs (at_own d.ctype typed);
+      literals = h.types.literals;
+      stores = h.types.stores;
       results = h.types.results;
       parameters = h.types.parameters;
       fields = h.types.fields;
@@ -215,6 +234,8 @@ module _ (m : Model) (s : State) (h : IsReady m s) where
       locals = h.types.locals;
       statics = h.types.statics;
       typedefs = h.types.typedefs;
+      literals = h.types.literals;
+      stores = h.types.stores;
       results = each_more (HasResult s.known.numbers) s.functions (functions.new_signature (function_of s.definitions name)) h.types.results tt;
       parameters = each_more (HasParameters s.known.numbers) s.functions (functions.new_signature (function_of s.definitions name)) h.types.parameters (λ i t is. absurd (no_item t is));
       fields = h.types.fields;
@@ -233,6 +254,8 @@ module _ (m : Model) (s : State) (h : IsReady m s) where
       locals = h.types.locals;
       statics = h.types.statics;
       typedefs = h.types.typedefs;
+      literals = h.types.literals;
+      stores = h.types.stores;
       results = each_changed (HasResult s.known.numbers) (functions.given_signature d ts) number s.functions (λ x old. at_own d.ctype typed) h.types.results;
       parameters = each_changed (HasParameters s.known.numbers) (functions.given_signature d ts) number s.functions (λ x old i t is. at_own t (each i t is)) h.types.parameters;
       fields = h.types.fields;
@@ -251,6 +274,8 @@ module _ (m : Model) (s : State) (h : IsReady m s) where
       locals = h.types.locals;
       statics = h.types.statics;
       typedefs = h.types.typedefs;
+      literals = h.types.literals;
+      stores = h.types.stores;
       results = each_changed (HasResult s.known.numbers) (functions.resulting_signature d) number s.functions (λ x old. at_own d.ctype typed) h.types.results;
       parameters = each_changed (HasParameters s.known.numbers) (functions.resulting_signature d) number s.functions (λ x old. old) h.types.parameters;
       fields = h.types.fields;
@@ -269,6 +294,8 @@ module _ (m : Model) (s : State) (h : IsReady m s) where
       locals = h.types.locals;
       statics = h.types.statics;
       typedefs = h.types.typedefs;
+      literals = h.types.literals;
+      stores = h.types.stores;
       results = each_changed (HasResult s.known.numbers) functions.defined_signature number s.functions (λ x old. old) h.types.results;
       parameters = each_changed (HasParameters s.known.numbers) functions.defined_signature number s.functions (λ x old. old) h.types.parameters;
       fields = h.types.fields;

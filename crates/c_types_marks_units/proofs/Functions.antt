@@ -32,14 +32,14 @@ use Rattle.c_types_marks.specs.UnitParts.{IsPartOf}
 use Rattle.c_types_marks.specs.TypingLaws.{LeadsOn}
 use Rattle.c_types_marks_layouts.specs.LaidStructs.{LaidBehind}
 use Rattle.c_types_marks_types.specs.TypeLaws.{HasHead, HeadsKeep}
-use Rattle.c_types_marks_initializers.specs.PartLaws.{HasLaws}
-use Rattle.c_types_marks_initializers.specs.MarkedDeclarations.{AreMarkedParts}
-use Rattle.c_types_marks_initializers.specs.ReadyStates.{IsReady, Goes}
+use Rattle.c_types_marks_statements.specs.PartLaws.{HasLaws}
+use Rattle.c_types_marks_statements.specs.MarkedDeclarations.{AreMarkedParts}
+use Rattle.c_types_marks_statements.specs.ReadyStates.{IsReady, Goes}
 use Rattle.c_types_marks_statements.proofs.Bodies.{bodies_are_marked}
-use Rattle.c_types_marks_initializers.proofs.Declaring.{specifiers_go}
-use Rattle.c_types_marks_initializers.proofs.Going as going
-use Rattle.c_types_marks_initializers.proofs.Going.{IsPassed}
-use Rattle.c_types_marks_initializers.proofs.ReadySteps.{named_ready, scoped_ready, scoped_passes}
+use Rattle.c_types_marks_statements.proofs.Declaring.{specifiers_go}
+use Rattle.c_types_marks_statements.proofs.Going as going
+use Rattle.c_types_marks_statements.proofs.Going.{IsPassed}
+use Rattle.c_types_marks_statements.proofs.ReadySteps.{named_ready, scoped_ready, scoped_passes}
 use Rattle.c_types_marks_units.proofs.FileDeclarations.{Runs, steps, on, done, choose}
 use Rattle.c_types_marks_units.proofs.FileSteps.{bare_ready, numbered_ready, body_passes, function_ready, given_ready, result_ready, met_ready}
 use Rattle.c_types_marks_units.proofs.HeadLayouts.{heads_lay}

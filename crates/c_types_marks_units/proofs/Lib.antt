@@ -6,3 +6,5 @@ pub mod HeadLayouts
 pub mod Functions
 pub mod Externals
 pub mod Units
+pub use Rattle.c_types_marks_statements.proofs.Declaring
+pub use Rattle.c_types_marks_statements.proofs.ReadySteps

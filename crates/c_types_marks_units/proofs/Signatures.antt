@@ -11,9 +11,9 @@ use Rattle.c_types_declarations.specs.FunctionHeads.{HeadView}
 use Rattle.c_types_objects.specs.Changes.{changed, changed_at}
 use Rattle.c_types_file_scope.specs.FunctionDeclarations as functions
 use Rattle.c_types_laws_stores.proofs.Types.{type_is}
-use Rattle.c_types_laws_units.proofs.Kept.{front_stays, set_other}
+use Rattle.c_types_marks_layouts.proofs.Kept.{front_stays, set_other}
 use Rattle.c_types_marks.specs.UnitParts.{IsHeadOf, IsThere, IsPartOf}
-use Rattle.c_types_marks_initializers.proofs.Going.{IsPassed}
+use Rattle.c_types_marks_statements.proofs.Going.{IsPassed}
 use Rattle.c_types_marks_units.proofs.HeadSteps.{IsSameFile}
 
 -- ---- lists

@@ -39,8 +39,8 @@ use Rattle.c_types_marks.specs.UnitParts.{IsPartOf}
 use Rattle.c_types_marks_tests.proofs.ModelKinds.{kind_there}
 use Rattle.c_types_marks_heads.specs.HeadLaws.{UnitsHaveHeads}
 use Rattle.c_types_marks_types.specs.TypeLaws.{HeadsKeep}
-use Rattle.c_types_marks_initializers.specs.PartLaws.{HasLaws}
-use Rattle.c_types_marks_initializers.specs.ReadyStates.{Goes}
+use Rattle.c_types_marks_statements.specs.PartLaws.{HasLaws}
+use Rattle.c_types_marks_statements.specs.ReadyStates.{Goes}
 use Rattle.c_types_marks_units.specs.MarkedUnits.{ChecksAreMarked}
 use Rattle.c_types_marks_units.proofs.Externals.{AreTypedFunctions, AreMarkedBodies, externals_go, begun_ready}
 use Rattle.c_types_marks_units.proofs.Functions.{IsTypedFunction, IsMarkedBody}

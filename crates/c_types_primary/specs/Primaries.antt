@@ -12,7 +12,7 @@ use Rattle.c_layout.specs.declared.syntax_tree.expressions.Constant.{Constant}
 use Rattle.lib_models.specs.Library.{function_named}
 use Rattle.c_types_rules.specs.IntegerKinds.{kind_of}
 use Rattle.c_types_rules.specs.declared.integer_kinds.Rank.TheVariants as rank
-use Rattle.c_types_scopes.specs.Known.{Known}
+use Rattle.c_types_scopes.specs.Known.{Known, size_of}
 use Rattle.c_types_scopes.specs.Names.{known_in, found}
 use Rattle.c_types_scopes.specs.DeclaredTypes.{ObjectView}
 use Rattle.c_types_scopes.specs.States.{State, is_evaluated, literal_number, with_literal}
@@ -118,6 +118,11 @@ literal_type k bytes = Array (Int (char_kind k)) (length bytes + 1)
 abbrev pub literal_operand : State → Place → List ℕ → OperandView
 literal_operand s at bytes = designated at (literal_type s.known bytes) (tree.Literal (literal_number s)) None
 
--- a literal that is an array of its own, and what is known behind it
+abbrev pub literal_of_size : State → Place → List ℕ → Option ℕ → Ruled (OperandView × State)
+literal_of_size s at bytes None = type_fault at
+literal_of_size s at bytes (Some size) = Ok (literal_operand s at bytes, with_literal s at bytes)
+
+-- a literal that is an array of its own, and what is known behind it; adjacent literals are joined, so that the array may
+-- have more bytes than a type may
 abbrev pub literal : State → Place → List ℕ → Ruled (OperandView × State)
-literal s at bytes = Ok (literal_operand s at bytes, with_literal s at bytes)
+literal s at bytes = literal_of_size s at bytes (size_of s.known (literal_type s.known bytes))

@@ -184,11 +184,15 @@ pub fn literal_type(cx: &Context, bytes: &Text) -> Result<CType, Memory>
     Ok(CType::Array(Box::new(cx.alloc, element)?, count))
 }
 
-/// A string literal that is an array of its own.
+/// A string literal that is an array of its own. Adjacent literals are joined (6.4.5), so that it may be longer than
+/// a type may be: a `TypeFault` at its place.
 pub fn literal(cx: &mut Context, place: Place, bytes: &Text) -> Result<Operand, Stop>
     ensures { Leads operand_view (spec.literal (state cx.old) place bytes.now) result (state cx.new) }
 {
     let ctype = literal_type(cx, bytes)?;
+    if cx.size_of(&ctype).is_none() {
+        return Err(type_fault(place));
+    }
     let form = LvalueForm::Literal(cx.add_literal(place, bytes)?);
     Ok(lvalue_operand(cx.alloc, place, ctype, form, None)?)
 }

@@ -179,7 +179,7 @@ specifiers_stay = record {
   struct_more = λ s. stays_same s;
   body = λ s owner. stays_same s;
   member = λ s owner name field e. stays_same s;
-  completed = λ s t owner made first g. g;
+  completed = λ s t owner p made first laid g. g;
   enumerations = λ s x. stays_same s;
 }
 

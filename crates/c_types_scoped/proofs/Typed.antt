@@ -12,7 +12,7 @@ use Rattle.c_layout.specs.declared.checked_tree.checked_terms.StepTime.TheVarian
 use Rattle.c_layout.specs.declared.library_functions.LibFn.{LibFn}
 use Rattle.c_types_scopes.specs.Answers.{after, kept}
 use Rattle.c_types_scopes.specs.DeclaredTypes.{ObjectView, SignatureView}
-use Rattle.c_types_scopes.specs.Known.{Known}
+use Rattle.c_types_scopes.specs.Known.{Known, size_of}
 use Rattle.c_types_scopes.specs.Refusals.{Ruled, type_fault, undeclared, format_fault}
 use Rattle.c_types_scopes.specs.LibraryTypes.{library_result, library_parameters}
 use Rattle.c_types_scopes.specs.Names.{known_in}
@@ -230,11 +230,15 @@ module _ (alive : List ℕ) where
   type_named_leads : (s : State) (at : Place) (n : TypeNameView) (es : Trees) → SeesAt alive s → Gives alive Any (spec.type_named s at n es)
   type_named_leads s at n es sees = leads_gives alive s (spec.type_named s at n es) (then Stays stays_twice s (spec.lengths s es) (λ ns s1. named_type s1 at n ns) (lengths_lead Stays steps_stay s es) (λ ns s1. type_name_leads Stays steps_stay s1 at n ns)) sees
 
+  literal_scoped : (s : State) (at : Place) (bytes : List ℕ) → SeesAt alive s → (size : Option ℕ) → Gives alive (Scoped alive) (primaries.literal_of_size s at bytes size)
+  literal_scoped s at bytes sees None = tt
+  literal_scoped s at bytes sees (Some size) = (stays_sees alive s (with_literal s at bytes) (steps_stay.literal s at bytes) sees, refl)
+
   mutual
     pub typed_scoped : (s : State) (e : Tree) → SeesAt alive s → Gives alive (Scoped alive) (spec.typed s e)
     typed_scoped s (syntax.Name at text) sees = ruled (Scoped alive) s (named s at text) sees (named_scoped s at text sees)
     typed_scoped s (syntax.Number at c) sees = (sees, refl)
-    typed_scoped s (syntax.Literal at bytes) sees = (stays_sees alive s (with_literal s at bytes) (steps_stay.literal s at bytes) sees, refl)
+    typed_scoped s (syntax.Literal at bytes) sees = literal_scoped s at bytes sees (size_of s.known (primaries.literal_type s.known bytes))
     typed_scoped s (syntax.Paren at e) sees = and_then (Scoped alive) (Scoped alive) (spec.typed s e) _ (typed_scoped s e sees) (λ x t after h. (after, parenthesized_scoped alive x h))
     typed_scoped s (syntax.Subscript at a b) sees = and_then (Scoped alive) (Scoped alive) (spec.typed s a) _ (typed_scoped s a sees) (λ x s1 sees1 g. and_then (Scoped alive) (Scoped alive) (spec.typed s1 b) _ (typed_scoped s1 b sees1) (λ y t after h. ruled (Scoped alive) t _ after (subscript_scoped alive t.known at x y g h)))
     typed_scoped s (syntax.Call at name es) sees = and_then Any (Scoped alive) (noted_callee s at name) _ (callee_leads s at name sees) (λ c s1 sees1 g. and_then (AllScoped alive) (Scoped alive) (spec.operands s1 es) _ (operands_scoped s1 es sees1) (λ xs t after h. ruled (Scoped alive) t _ after (call_scoped t at c (first_tree es) xs h)))

@@ -27,7 +27,7 @@ use Rattle.c_types_statements.specs.StaticInitializers as statics
 use Rattle.c_types_laws.proofs.Initializing.{initializer_leads}
 use Rattle.c_types_laws.proofs.Leading.{Leads, kept_leads, cond_leads, onward, then}
 use Rattle.c_types_laws.proofs.Specifying.{declared_leads, specifiers_lead}
-use Rattle.c_types_laws_units.proofs.Bodies.{changed_long}
+use Rattle.c_types_scoped.proofs.Bodies.{changed_long}
 use Rattle.ref_machine.specs.Scopes.{is_in}
 use Rattle.ref_machine_looks_units.specs.LookedScopes.{is_scoped_term, is_scoped_place, is_scoped_store, is_scoped_statement, are_scoped_statements}
 use Rattle.ref_machine_looks.proofs.Truths.{both_true}

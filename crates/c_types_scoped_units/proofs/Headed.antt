@@ -91,7 +91,7 @@ specifiers_even = record {
   struct_more = λ s. even_same s;
   body = λ s owner. even_same s;
   member = λ s owner name field e. even_same s;
-  completed = λ s t owner made first g. g;
+  completed = λ s t owner p made first laid g. g;
   enumerations = λ s x. even_same s;
 }
 

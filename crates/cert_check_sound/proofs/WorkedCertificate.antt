@@ -61,7 +61,7 @@ use Rattle.store_domain.specs.FirstZeroWrites.{set_zeros}
 use Rattle.store_domain.specs.RowPositions.{value_at}
 use Rattle.flow_analysis.specs.Analyses.{row_lattice, machine_of, admitted_pairs}
 use Rattle.abstract_steps_sound_analyses.specs.SoundAnalyses.{IsViolatedIn}
-use Rattle.abstract_steps_sound_beginnings.specs.UnitStarts.{StartsAs}
+use Rattle.abstract_steps_sound_lowered_starts.specs.UnitStarts.{StartsAs}
 use Rattle.cert_check_text.specs.LineWords.{Bytes, until, behind, first_byte, same_bytes}
 use Rattle.cert_check_text.specs.DecimalWords.{cap, grown, small, capped, number_of, range_of}
 use Rattle.cert_check_text.specs.CellReaders.{labels_given, pointer_given, value_given, first_given, state_given, cell_given}

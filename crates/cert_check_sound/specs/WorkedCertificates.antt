@@ -14,7 +14,7 @@ use Rattle.cert_check_reading.specs.MapReading.{map_rows}
 use Rattle.cert_check_programs.specs.Certificates.{IsVerified}
 use Rattle.cert_check_programs.specs.declared.checked_maps.Verified.TheVariants.{Found}
 use Rattle.abstract_steps_sound_analyses.specs.SoundAnalyses.{IsViolatedIn}
-use Rattle.abstract_steps_sound_beginnings.specs.UnitStarts.{StartsAs}
+use Rattle.abstract_steps_sound_lowered_starts.specs.UnitStarts.{StartsAs}
 
 -- what is found is what an analysis finds, the unit has a run with the violation, and the text is accepted with a row that
 -- is none of the analysis's system

@@ -10,7 +10,7 @@ use Rattle.value_domain.specs.declared.row_cells.Cell.{Cell}
 use Rattle.interval_domain.specs.declared.intervals.Interval.{Interval}
 use Rattle.interval_domain.specs.IntervalLattice.{interval_lattice}
 use Rattle.interval_domain.specs.IntervalNumbers.{interval_numbers}
-use Rattle.flow_analysis.specs.Analyses.{row_lattice, machine_of, admitted_pairs, IsAdmitted, IsAnalysis}
+use Rattle.turn_split_laws.specs.Analyses.{row_lattice, machine_of, admitted_pairs, IsAdmitted, IsAnalysis}
 use Rattle.flow_analysis_laws.proofs.OrderedSets.{one_list}
 use Rattle.flow_analysis_laws_views.proofs.SameSystems.{system_same}
 use Rattle.flow_analysis_laws_views.proofs.SamePairs.{map_same}

@@ -5,7 +5,7 @@ use Rattle.flow_program.specs.declared.programs.Flow.{Flow}
 use Rattle.flow_program_views.specs.ProgramViews.{flow_view}
 use Rattle.value_domain.specs.declared.row_cells.Cell.{Cell}
 use Rattle.interval_domain.specs.declared.intervals.Interval.{Interval}
-use Rattle.flow_analysis.specs.Analyses.{machine_of, admitted_pairs, IsAnalysis}
+use Rattle.turn_split_laws.specs.Analyses.{machine_of, admitted_pairs, IsAnalysis}
 
 abbrev pub OneSystem : Type 0
 OneSystem = (f g : Flow) → flow_view f ≡ flow_view g → (list : List ℤ) → machine_of f list ≡ machine_of g list

@@ -7,7 +7,7 @@ use Rattle.std.specs.Option.{option_and_then}
 use Rattle.c_layout.specs.CheckedTrees as tree
 use Rattle.c_layout.specs.CheckedTrees.{StatementTree, StatementTrees, statement_trees}
 use Rattle.c_layout.specs.CheckedUnits.{FunctionView}
-use Rattle.flow_lower_functions.specs.Functions.{numbers_from}
+use Rattle.ref_machine.specs.Functions.{numbers_from}
 use Rattle.flow_lower_units.specs.ScopeObjects.{marked_by, marked, all_marked, scopes_marked, all_scopes_marked, so_many_marked, parameters_marked, function_marked, has_own_objects}
 use Rattle.ref_machine.specs.Scopes.{is_in}
 use Rattle.template_runs_scopes.specs.SuitedStatements.{AreNew}

@@ -11,7 +11,7 @@ use Rattle.c_layout.specs.CheckedTrees.{TermTree, TermTrees, Typed, LvalueTree, 
 use Rattle.c_layout.specs.CheckedUnits.{FunctionView, UnitView}
 use Rattle.c_layout.specs.declared.checked_tree.checked_terms.ObjectRef.{ObjectRef}
 use Rattle.c_layout.specs.declared.checked_tree.checked_terms.ObjectRef.TheVariants as ref
-use Rattle.flow_lower_functions.specs.Functions.{numbers_from}
+use Rattle.ref_machine.specs.Functions.{numbers_from}
 use Rattle.flow_lower_tasks.specs.Pieces.{NameView, Local, Literal}
 use Rattle.flow_lower_tasks.specs.Plans.{name_of_object}
 use Rattle.flow_lower_tasks.specs.TermKinds.{lvalue_type}
@@ -23,7 +23,7 @@ use Rattle.flow_lower_units.specs.RegularTerms.{has_room, are_behind, is_struct,
 use Rattle.flow_lower_units.specs.RegularStatements.{is_regular_clause, is_regular_result, is_regular_source, is_regular_store, are_plain, is_regular_named, is_regular_switch, is_regular_statement, are_regular_statements}
 use Rattle.flow_lower_units.specs.RegularUnits.{is_regular_function}
 use Rattle.ref_machine.specs.Scopes.{is_in}
-use Rattle.template_runs_openings.specs.NameRanges.{IsNameThere}
+use Rattle.template_runs_layouts.specs.NameRanges.{IsNameThere}
 use Rattle.flow_lower_units_laws.proofs.CountedLabels.{both_true}
 use Rattle.flow_lower_units_laws.proofs.MarkedObjects.{clash, first_in, right_true, Marks, marks_all, FunctionMarks, function_marks}
 

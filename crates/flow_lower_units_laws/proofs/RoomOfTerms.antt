@@ -6,7 +6,7 @@ use Rattle.c_layout.specs.CheckedTrees.{TermTree, TermTrees, Typed, LvalueTree, 
 use Rattle.c_layout.specs.CheckedUnits.{FunctionView, UnitView}
 use Rattle.flow_lower_tasks.specs.TermKinds.{lvalue_type}
 use Rattle.flow_lower_units.specs.RegularTerms.{has_room, is_struct, is_regular_term, is_regular_place, are_regular_terms}
-use Rattle.template_runs_works.specs.Rooms.{larger, both_rooms, room, room_of_place, room_of_all}
+use Rattle.template_runs_scopes.specs.Rooms.{larger, both_rooms, room, room_of_place, room_of_all}
 use Rattle.flow_lower_units_laws.proofs.CountedLabels.{both_true}
 use Rattle.flow_lower_units_laws.proofs.NamesThere.{Behind, behind}
 

@@ -11,7 +11,7 @@ use Rattle.flow_program.specs.declared.machine_instructions.Scalar.{Scalar}
 use Rattle.flow_program.specs.declared.machine_instructions.Scalar.TheVariants as scalar
 use Rattle.flow_lower_conditions.specs.Tests.{named}
 use Rattle.flow_lower_conditions.specs.declared.branch_tests.NamedObject.{NamedObject}
-use Rattle.flow_lower_functions.specs.Functions.{local_type, type_or}
+use Rattle.ref_machine.specs.Functions.{local_type, type_or}
 use Rattle.flow_lower_tasks.specs.Plans.{name_of_object}
 use Rattle.flow_lower_fit_switches.specs.SwitchedTrees.{IsSuchKind, IsSuchObject, SwitchesStatement, SwitchesStatements}
 use Rattle.flow_lower_units.specs.RegularTerms.{is_regular_term}

@@ -8,8 +8,8 @@ use Rattle.flow_lower_fit_switches.specs.SwitchedTrees.{SwitchesStatements}
 use Rattle.flow_lower_units.specs.RegularTerms.{is_regular_term, is_regular_place}
 use Rattle.flow_lower_units.specs.RegularUnits.{is_regular_function}
 use Rattle.template_runs_layouts.specs.FitTemplates.{type_named, IsInteger}
-use Rattle.template_runs_openings.specs.NameRanges.{IsNameThere}
-use Rattle.template_runs_works.specs.Rooms.{room, room_of_place}
+use Rattle.template_runs_layouts.specs.NameRanges.{IsNameThere}
+use Rattle.template_runs_scopes.specs.Rooms.{room, room_of_place}
 
 -- all that a function names is there
 abbrev pub NamesAreThere : Type 0

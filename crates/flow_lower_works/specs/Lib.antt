@@ -1,1 +1,3 @@
 pub mod Derivations
+pub use Rattle.flow_lower_functions.specs.Turns
+pub use Rattle.flow_lower_functions.specs.Functions

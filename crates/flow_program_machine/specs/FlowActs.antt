@@ -7,9 +7,9 @@ use Rattle.c_layout.specs.declared.leaf_lists.Leaf.{Leaf}
 use Rattle.c_layout.specs.declared.shapes.BaseInfo.{BaseInfo}
 use Rattle.flow_program.specs.declared.machine_instructions.Amount.{Amount}
 use Rattle.flow_program.specs.declared.machine_instructions.Amount.TheVariants as amount
-use Rattle.lib_models_memory.specs.Labels.{no_labels}
-use Rattle.lib_models_memory.specs.Bytes.{into}
-use Rattle.lib_models_memory.specs.Scalars.{Scalar, integer, pointer}
+use Rattle.lib_models_effects.specs.Labels.{no_labels}
+use Rattle.lib_models_effects.specs.Bytes.{into}
+use Rattle.lib_models_effects.specs.Scalars.{Scalar, integer, pointer}
 use Rattle.lib_models_effects.specs.NumberedTables.{put_at, clear_at}
 use Rattle.lib_models_effects.specs.Worlds.{World, Reply, goes, behind}
 use Rattle.lib_models_effects.specs.Accesses.{load, store}

@@ -7,8 +7,8 @@ use Rattle.c_layout.specs.declared.shapes.BaseInfo.{BaseInfo}
 use Rattle.flow_program.specs.declared.flow_edges.Side.{Side}
 use Rattle.flow_program.specs.declared.flow_edges.Side.TheVariants as side
 use Rattle.flow_program.specs.declared.flow_edges.Test.{Test}
-use Rattle.lib_models_memory.specs.Labels.{no_labels}
-use Rattle.lib_models_memory.specs.Scalars.{Scalar, integer, pointer, is_false}
+use Rattle.lib_models_effects.specs.Labels.{no_labels}
+use Rattle.lib_models_effects.specs.Scalars.{Scalar, integer, pointer, is_false}
 use Rattle.lib_models_effects.specs.Worlds.{Reply, goes, behind}
 use Rattle.lib_models_effects.specs.Tests.{TestedSide, object, constant, nothing, pass_test, pass_case}
 use Rattle.flow_lower_tasks.specs.Pieces.{Way, Always, When, Case, Other, NoLine, Line}

@@ -1,7 +1,7 @@
 -- Where a run of a control-flow program stands.
 use Rattle.std.specs.Prelude.{ℕ, suc, List, [], ◌∷◌, Option, Some, None, slice_get}
 use Rattle.c_layout.specs.declared.shapes.BaseInfo.{BaseInfo}
-use Rattle.lib_models_memory.specs.Scalars.{Scalar}
+use Rattle.lib_models_effects.specs.Scalars.{Scalar}
 use Rattle.lib_models_effects.specs.NumberedTables.{put_at}
 use Rattle.lib_models_effects.specs.Worlds.{World, Why, Stuck, Reply, goes, stops, Violation}
 use Rattle.flow_program_views.specs.ProgramViews.{FlowView}

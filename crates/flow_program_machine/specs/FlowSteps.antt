@@ -2,8 +2,8 @@
 use Rattle.std.specs.Prelude.{ℕ, zero, suc, pos, false, List, [], ◌∷◌, ◌++◌, map, Option, Some, None, slice_get}
 use Rattle.cc_base.specs.declared.diagnostics.Place.{Place}
 use Rattle.cc_base.specs.declared.diagnostics.Rule.{Rule}
-use Rattle.lib_models_memory.specs.Labels.{no_labels}
-use Rattle.lib_models_memory.specs.Scalars.{Scalar, integer}
+use Rattle.lib_models_effects.specs.Labels.{no_labels}
+use Rattle.lib_models_effects.specs.Scalars.{Scalar, integer}
 use Rattle.lib_models_effects.specs.Worlds.{Ended, Stuck, Reply, goes, stops, behind, unviolated, Violation}
 use Rattle.lib_models_effects.specs.Operands.{with_number}
 use Rattle.lib_models_effects.specs.LibraryCalls.{fgets}

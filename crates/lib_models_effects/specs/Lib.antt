@@ -17,3 +17,6 @@ pub mod StringCalls
 pub mod Characters
 pub mod CharacterCalls
 pub mod LibraryCalls
+pub use Rattle.lib_models_memory.specs.Bytes
+pub use Rattle.lib_models_memory.specs.Labels
+pub use Rattle.lib_models_memory.specs.Scalars

@@ -13,3 +13,4 @@ pub mod CallSteps
 pub mod SourceSteps
 pub mod SourceRuns
 pub mod RunFacts
+pub use Rattle.flow_lower_functions.specs.Functions

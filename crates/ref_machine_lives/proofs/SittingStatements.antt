@@ -5,7 +5,7 @@ use Rattle.c_layout.specs.CheckedTrees as tree
 use Rattle.c_layout.specs.CheckedTrees.{TermTree, StatementTree, StatementTrees, statement_trees, StoreTree, StoreValue, StoreCopy, StoreText}
 use Rattle.c_layout.specs.CheckedUnits.{FunctionView}
 use Rattle.flow_lower_tasks.specs.TermKinds.{is_void}
-use Rattle.flow_lower_functions.specs.Functions.{numbers_from}
+use Rattle.ref_machine.specs.Functions.{numbers_from}
 use Rattle.ref_machine.specs.Items as item
 use Rattle.ref_machine.specs.Items.{Item}
 use Rattle.ref_machine.specs.Scopes.{is_in, all_of, open_scopes}

@@ -1,7 +1,7 @@
 -- Which objects live where a function has some items to do.
 use Rattle.std.specs.Prelude.{◌≡◌, ℕ, Bool, true, false, not, ◌&&◌, ◌||◌, List, [], ◌∷◌, ◌++◌}
 use Rattle.c_layout.specs.CheckedUnits.{FunctionView}
-use Rattle.flow_lower_functions.specs.Functions.{numbers_from}
+use Rattle.ref_machine.specs.Functions.{numbers_from}
 use Rattle.ref_machine.specs.Items as item
 use Rattle.ref_machine.specs.Items.{Item}
 use Rattle.ref_machine.specs.Scopes.{is_in, all_of, open_scopes}

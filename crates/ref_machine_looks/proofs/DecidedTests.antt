@@ -18,8 +18,8 @@ use Rattle.flow_program.specs.declared.machine_instructions.Scalar.TheVariants a
 use Rattle.lib_models_effects.specs.Tests.{turned}
 use Rattle.ref_machine.specs.Items as side
 use Rattle.ref_machine.specs.Items.{NamedSide, NamedTest}
-use Rattle.ref_machine_marks.specs.Marks.{Mark, Ranged, Exactly, Pointing, Naming, Null, Loaded, Converted, Tested}
-use Rattle.ref_machine_marks.specs.MarkOperations.{IsSideOf, ComparesAs, AreWithNull, null_test_of, ConvertsTo}
+use Rattle.ref_machine_marked.specs.Marks.{Mark, Ranged, Exactly, Pointing, Naming, Null, Loaded, Converted, Tested}
+use Rattle.ref_machine_marked.specs.MarkOperations.{IsSideOf, ComparesAs, AreWithNull, null_test_of, ConvertsTo}
 use Rattle.ref_machine_marked.specs.MarkedTerms.{DecidesAlone, Decides}
 use Rattle.ref_machine_looks.specs.LookedTypes.{is_kind, is_wider, is_pointer, same_scalar}
 use Rattle.ref_machine_looks.specs.LookedTests.{same_reference, same_object, same_side, same_relation, same_common, same_test, converted_number, converted_pointer, converted_mark, is_side_of, compares_in, is_null_test, with_loaded, are_with_null, zero_test_in, decides_number, decides_alone, decides_converted, decides}

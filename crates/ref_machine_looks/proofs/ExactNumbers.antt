@@ -13,7 +13,7 @@ use Rattle.c_layout.specs.declared.syntax_tree.expressions.LogicalOp.TheVariants
 use Rattle.flow_lower_tasks.specs.TermKinds.{meaning, is_zero, integer_type, scalar_of}
 use Rattle.flow_lower_tasks.specs.declared.term_kinds.OperatorMeaning.{OperatorMeaning}
 use Rattle.flow_lower_tasks.specs.declared.term_kinds.OperatorMeaning.TheVariants as meant
-use Rattle.ref_machine_marks.specs.MarkOperations.{IsKind, number_of_truth}
+use Rattle.ref_machine_marked.specs.MarkOperations.{IsKind, number_of_truth}
 use Rattle.ref_machine_marked.specs.ExactTerms.{is_true, Results, ExactTerm, NullTerm}
 use Rattle.ref_machine_looks.specs.LookedTypes.{is_kind, is_address}
 use Rattle.ref_machine_looks.specs.LookedTerms.{converted_in, negation, result, results, truth_of, logical, chosen, exact, is_exact_zero, is_null}

@@ -15,9 +15,9 @@ use Rattle.flow_lower_conditions.specs.declared.branch_tests.NamedObject.{NamedO
 use Rattle.flow_program.specs.declared.machine_instructions.Scalar.TheVariants as of
 use Rattle.ref_machine.specs.Items.{NamedTest}
 use Rattle.ref_machine.specs.TermTests.{test_if}
-use Rattle.ref_machine_kinds.specs.KindedTerms.{HasObject}
-use Rattle.ref_machine_marks.specs.Marks.{Mark, Exactly, Null}
-use Rattle.ref_machine_marks.specs.MarkOperations.{ComparesAs, AreWithNull, null_test_of, ConvertsTo}
+use Rattle.ref_machine_marked.specs.KindedTerms.{HasObject}
+use Rattle.ref_machine_marked.specs.Marks.{Mark, Exactly, Null}
+use Rattle.ref_machine_marked.specs.MarkOperations.{ComparesAs, AreWithNull, null_test_of, ConvertsTo}
 use Rattle.ref_machine_marked.specs.MarkedTerms.{IsScalarType, Decides, SideTerm, StoredTerm, Quiet, Operand, TestTerm, HasTest, HasTests}
 use Rattle.ref_machine_looks.specs.LookedTypes.{is_scalar_type}
 use Rattle.ref_machine_looks.specs.LookedTests.{converted_mark, compares, compares_with_null, decides}

@@ -11,16 +11,16 @@ use Rattle.c_layout.specs.declared.library_functions.LibFn.{LibFn}
 use Rattle.c_layout.specs.declared.library_functions.LibFn.TheVariants as f
 use Rattle.flow_lower_expressions.specs.Assignments.{number_operator}
 use Rattle.flow_lower_expressions.specs.Calls.{gives}
-use Rattle.flow_lower_functions.specs.Functions.{local_type}
+use Rattle.ref_machine.specs.Functions.{local_type}
 use Rattle.flow_lower_tasks.specs.TermKinds.{meaning, is_void, scalar_of, integer_type, term_type, lvalue_type}
 use Rattle.flow_program.specs.declared.machine_instructions.Scalar.{Scalar}
 use Rattle.flow_program.specs.declared.machine_instructions.Scalar.TheVariants as of
 use Rattle.ref_machine.specs.SourceStates.{function_at}
-use Rattle.ref_machine_operations.specs.Kinds.{Kind, Number, Address, kind_of}
-use Rattle.ref_machine_operations.specs.TakenKinds.{Accepts, result_kind}
-use Rattle.ref_machine_kinds.specs.KindedTerms.{argument_kinds}
-use Rattle.ref_machine_marks.specs.Marks.{mark_of}
-use Rattle.ref_machine_marks.specs.MarkOperations.{AreOfKinds, least_given, greatest_given, IsGiven}
+use Rattle.ref_machine_marked.specs.Kinds.{Kind, Number, Address, kind_of}
+use Rattle.ref_machine_marked.specs.TakenKinds.{Accepts, result_kind}
+use Rattle.ref_machine_marked.specs.KindedTerms.{argument_kinds}
+use Rattle.ref_machine_marked.specs.Marks.{mark_of}
+use Rattle.ref_machine_marked.specs.MarkOperations.{AreOfKinds, least_given, greatest_given, IsGiven}
 use Rattle.ref_machine_marked.specs.MarkedTerms.{argument_marks, HaveParameters, CallsFunction, CallsLibrary, MarkedTerm, MarkedPlace, MarkedTerms, MarkedCondition}
 use Rattle.ref_machine_looks.specs.LookedTypes.{same_mark}
 use Rattle.ref_machine_looks.specs.LookedTerms.{has_tests, have_parameters, calls, same_kinds, begins_with_address, accepts, is_given, calls_library, is_marked_term, is_marked_place, are_marked_terms, is_marked_condition}

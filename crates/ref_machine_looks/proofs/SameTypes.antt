@@ -16,8 +16,8 @@ use Rattle.flow_program.specs.declared.machine_instructions.Scalar.{Scalar}
 use Rattle.flow_program.specs.declared.machine_instructions.Scalar.TheVariants as of
 use Rattle.lib_models_memory.specs.ScalarSizes.{class_bytes}
 use Rattle.lib_models_effects.specs.LibraryChecks.{most_size}
-use Rattle.ref_machine_marks.specs.Marks.{Pointing, mark_of, mark_of_type}
-use Rattle.ref_machine_marks.specs.MarkOperations.{IsKind, IsScalar, IsWider, HasTruths, CountsAs, ConvertsTo}
+use Rattle.ref_machine_marked.specs.Marks.{Pointing, mark_of, mark_of_type}
+use Rattle.ref_machine_marked.specs.MarkOperations.{IsKind, IsScalar, IsWider, HasTruths, CountsAs, ConvertsTo}
 use Rattle.ref_machine_marked.specs.MarkedTerms.{IsScalarType, IsInteger, IsTruth, Combines, AddsTo, Subtracts, StepsIn, Compounds}
 use Rattle.ref_machine_looks.specs.LookedTypes.{is_kind, is_wider, has_truths, counts_as, is_scalar, is_pointer, same_scalar, is_scalar_type, is_address, same_mark, is_such, is_integer, has_number, is_truth, subtracts, combines, adds_to, steps_in, compounds, converts}
 use Rattle.ref_machine_looks.proofs.Truths.{never, both_true, both, three, one_of}

@@ -1,7 +1,7 @@
 -- What holds where parts of a look hold.
 use Rattle.std.proofs.Common.{◌≡◌, ◌⊎◌, inl, inr, ℕ, zero, suc, Bool, true, false, not, ◌&&◌, ◌||◌, cond, List, [], ◌∷◌, Option, Some, None, slice_get, is_some, refl, subst}
 use Rattle.std.specs.List.{list_all}
-use Rattle.ref_machine_kinds.specs.KindedTerms.{IsThere}
+use Rattle.ref_machine_marked.specs.KindedTerms.{IsThere}
 
 pub never : {P : Type 0} → false ≡ true → P
 never e = absurd (let d : ⊥ = cc in d)

@@ -2,3 +2,8 @@ pub mod LookedTypes
 pub mod LookedTests
 pub mod LookedTerms
 pub mod TermLaws
+pub use Rattle.ref_machine_marked.specs.MarkedStatements
+pub use Rattle.ref_machine_marked.specs.MarkedTerms
+pub use Rattle.ref_machine_marked.specs.KindedStatements
+pub use Rattle.ref_machine_marked.specs.KindedTerms
+pub use Rattle.ref_machine_marked.specs.StandingJumps

@@ -18,7 +18,7 @@ use Rattle.c_layout.specs.declared.syntax_tree.expressions.LogicalOp.{LogicalOp}
 use Rattle.c_layout.specs.declared.syntax_tree.expressions.LogicalOp.TheVariants.{And, Or}
 use Rattle.flow_lower_expressions.specs.Assignments.{number_operator}
 use Rattle.flow_lower_expressions.specs.Calls.{gives}
-use Rattle.flow_lower_functions.specs.Functions.{local_type}
+use Rattle.ref_machine.specs.Functions.{local_type}
 use Rattle.flow_lower_tasks.specs.TermKinds.{meaning, relation, is_void, is_zero, scalar_of, integer_type, term_type, lvalue_type}
 use Rattle.flow_lower_tasks.specs.declared.term_kinds.OperatorMeaning.{OperatorMeaning}
 use Rattle.flow_lower_tasks.specs.declared.term_kinds.OperatorMeaning.TheVariants as meant
@@ -27,11 +27,11 @@ use Rattle.flow_program.specs.declared.machine_instructions.Scalar.TheVariants a
 use Rattle.ref_machine.specs.Items.{NamedTest}
 use Rattle.ref_machine.specs.SourceStates.{function_at}
 use Rattle.ref_machine.specs.TermTests.{test_if}
-use Rattle.ref_machine_operations.specs.Kinds.{Kind, Number, Address}
-use Rattle.ref_machine_operations.specs.TakenKinds.{result_kind}
-use Rattle.ref_machine_kinds.specs.KindedTerms.{argument_kinds}
-use Rattle.ref_machine_marks.specs.Marks.{Mark, Exactly, Null, Loaded}
-use Rattle.ref_machine_marks.specs.MarkOperations.{number_of_truth, least_given, greatest_given}
+use Rattle.ref_machine_marked.specs.Kinds.{Kind, Number, Address}
+use Rattle.ref_machine_marked.specs.TakenKinds.{result_kind}
+use Rattle.ref_machine_marked.specs.KindedTerms.{argument_kinds}
+use Rattle.ref_machine_marked.specs.Marks.{Mark, Exactly, Null, Loaded}
+use Rattle.ref_machine_marked.specs.MarkOperations.{number_of_truth, least_given, greatest_given}
 use Rattle.ref_machine_marked.specs.ExactTerms.{is_true}
 use Rattle.ref_machine_looks.specs.LookedTypes.{is_kind, is_scalar_type, is_address, same_mark, is_integer, has_number, is_such, is_truth, subtracts, combines, adds_to, steps_in, compounds, converts}
 use Rattle.ref_machine_looks.specs.LookedTests.{converted_mark, compares, compares_with_null, decides}

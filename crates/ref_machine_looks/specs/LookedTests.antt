@@ -18,8 +18,8 @@ use Rattle.flow_program.specs.declared.machine_instructions.Scalar.TheVariants a
 use Rattle.lib_models_effects.specs.Tests.{turned}
 use Rattle.ref_machine.specs.Items as side
 use Rattle.ref_machine.specs.Items.{NamedSide, NamedTest}
-use Rattle.ref_machine_marks.specs.Marks.{Mark, Exactly, Null, Loaded, Converted}
-use Rattle.ref_machine_marks.specs.MarkOperations.{null_test_of}
+use Rattle.ref_machine_marked.specs.Marks.{Mark, Exactly, Null, Loaded, Converted}
+use Rattle.ref_machine_marked.specs.MarkOperations.{null_test_of}
 use Rattle.ref_machine_looks.specs.LookedTypes.{is_kind, is_wider, is_pointer, same_scalar}
 
 -- ---- tests that are the same

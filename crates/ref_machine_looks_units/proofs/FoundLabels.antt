@@ -11,7 +11,7 @@ use Rattle.ref_machine.specs.Items.{Item}
 use Rattle.ref_machine.specs.LabelSearch as sought
 use Rattle.ref_machine.specs.LabelSearch.{Sought, first, here_or, found, found_in, found_among, from_label}
 use Rattle.ref_machine.specs.StatementItems.{statements, list_statements, do_test, for_step}
-use Rattle.ref_machine_kinds.specs.KindedTerms.{IsThere}
+use Rattle.ref_machine_looks.specs.KindedTerms.{IsThere}
 use Rattle.ref_machine_looks.proofs.Truths.{never, no_some, both_true}
 
 -- ---- counts

@@ -19,12 +19,12 @@ use Rattle.flow_program.specs.declared.machine_instructions.Scalar.{Scalar}
 use Rattle.flow_program.specs.declared.machine_instructions.Scalar.TheVariants as of
 use Rattle.lib_models_effects.specs.LibraryChecks.{most_size}
 use Rattle.ref_machine.specs.LabelSearch.{from_label}
-use Rattle.ref_machine_kinds.specs.KindedTerms.{IsThere}
-use Rattle.ref_machine_kinds.specs.KindedStatements.{HasCases}
+use Rattle.ref_machine_looks.specs.KindedTerms.{IsThere}
+use Rattle.ref_machine_looks.specs.KindedStatements.{HasCases}
 use Rattle.ref_machine_marks.specs.Marks.{Mark, Ranged, Exactly, Pointing, Naming, Null, Loaded, Converted, Tested}
 use Rattle.ref_machine_marks.specs.MarkOperations.{IsKind, IsWider}
-use Rattle.ref_machine_marked.specs.MarkedTerms.{SideTerm}
-use Rattle.ref_machine_marked.specs.MarkedStatements.{MarkedIf, MarkedStep, Matches, SelectsBy, AreBytes, MarkedStore, MarkedStores, MarkedReturn, MarkedStatement, MarkedStatements}
+use Rattle.ref_machine_looks.specs.MarkedTerms.{SideTerm}
+use Rattle.ref_machine_looks.specs.MarkedStatements.{MarkedIf, MarkedStep, Matches, SelectsBy, AreBytes, MarkedStore, MarkedStores, MarkedReturn, MarkedStatement, MarkedStatements}
 use Rattle.ref_machine_looks.specs.LookedTypes.{is_kind, is_wider, is_scalar_type, is_integer}
 use Rattle.ref_machine_looks.specs.LookedTests.{same_object}
 use Rattle.ref_machine_looks.specs.LookedTerms.{is_marked_term, is_marked_place, is_marked_condition, side}

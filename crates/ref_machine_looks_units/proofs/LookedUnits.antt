@@ -10,7 +10,7 @@ use Rattle.c_layout.specs.declared.checked_tree.checked_units.StaticValue.{Stati
 use Rattle.c_layout.specs.declared.checked_tree.checked_units.StaticValue.TheVariants as static_value
 use Rattle.flow_lower_debts.specs.Marks.{below, all_labels_in}
 use Rattle.flow_lower_debts.proofs.MarkArithmetic.{compared, below_yes}
-use Rattle.flow_lower_functions.specs.Functions.{local_type, type_or}
+use Rattle.ref_machine.specs.Functions.{local_type, type_or}
 use Rattle.flow_lower_tasks.specs.TermKinds.{is_void}
 use Rattle.flow_lower_units.specs.LabelNumbers.{is_numbered}
 use Rattle.flow_lower_units.specs.ScopeObjects.{has_own_objects}
@@ -24,8 +24,8 @@ use Rattle.lib_models_effects.specs.UnitStarts.{entry_parameters}
 use Rattle.ref_machine.specs.Operations.{size_of}
 use Rattle.ref_machine.specs.SourceStates.{function_at}
 use Rattle.ref_machine_marks.specs.MarkOperations.{IsKind}
-use Rattle.ref_machine_marked.specs.MarkedTerms.{IsScalarType}
-use Rattle.ref_machine_marked.specs.MarkedStatements.{MarkedFunction, IsProperValue, IsProperStore, AreProperStores, MarkedStatic, MarkedLiteral, AreIntegers}
+use Rattle.ref_machine_looks.specs.MarkedTerms.{IsScalarType}
+use Rattle.ref_machine_looks.specs.MarkedStatements.{MarkedFunction, IsProperValue, IsProperStore, AreProperStores, MarkedStatic, MarkedLiteral, AreIntegers}
 use Rattle.ref_machine_looks.specs.LookedTypes.{is_scalar_type}
 use Rattle.ref_machine_looks_units.specs.LookedStatements.{are_bytes, are_marked_statements}
 use Rattle.ref_machine_looks_units.specs.LookedUnits.{is_small, is_small_local, are_scalars, is_marked_function, is_proper_value, is_proper_store, is_marked_static, is_marked_literal, is_entered, are_marked_objects, has_entry}

@@ -1,9 +1,9 @@
 -- What the looks at a unit say.
 use Rattle.std.specs.Prelude.{◌≡◌, true}
 use Rattle.c_layout.specs.CheckedUnits.{UnitView}
-use Rattle.ref_machine_returns.specs.StandingJumps.{UnitJumpsStand}
+use Rattle.ref_machine_looks.specs.StandingJumps.{UnitJumpsStand}
 use Rattle.ref_machine_lives.specs.ScopedStatements.{ScopedUnit}
-use Rattle.ref_machine_marked.specs.MarkedStatements.{MarkedUnit}
+use Rattle.ref_machine_looks.specs.MarkedStatements.{MarkedUnit}
 use Rattle.ref_machine_looks_units.specs.LookedUnits.{is_marked}
 use Rattle.ref_machine_looks_units.specs.LookedScopes.{is_scoped}
 

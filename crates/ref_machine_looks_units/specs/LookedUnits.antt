@@ -6,7 +6,7 @@ use Rattle.c_layout.specs.CheckedTrees.{statement_trees}
 use Rattle.c_layout.specs.CheckedUnits.{FunctionView, LocalView, StaticView, StaticStoreView, SetValue, SetText, LiteralView, UnitView}
 use Rattle.c_layout.specs.declared.checked_tree.checked_units.StaticValue.{StaticValue}
 use Rattle.c_layout.specs.declared.checked_tree.checked_units.StaticValue.TheVariants as static_value
-use Rattle.flow_lower_functions.specs.Functions.{local_type}
+use Rattle.ref_machine.specs.Functions.{local_type}
 use Rattle.flow_lower_tasks.specs.TermKinds.{is_void}
 use Rattle.flow_lower_units.specs.RegularUnits.{is_regular_unit}
 use Rattle.lib_models_effects.specs.LibraryChecks.{most_size}

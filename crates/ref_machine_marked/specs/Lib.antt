@@ -3,3 +3,10 @@ pub mod MarkedTerms
 pub mod MarkedStatements
 pub mod MarkedItems
 pub mod MarkedStates
+pub use Rattle.ref_machine_kinds.specs.KindedTerms
+pub use Rattle.ref_machine_marks.specs.MarkOperations
+pub use Rattle.ref_machine_marks.specs.Marks
+pub use Rattle.ref_machine_kinds.specs.Kinds
+pub use Rattle.ref_machine_kinds.specs.TakenKinds
+pub use Rattle.ref_machine_kinds.specs.KindedStatements
+pub use Rattle.ref_machine_kinds.specs.StandingJumps

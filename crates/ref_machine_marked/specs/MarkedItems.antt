@@ -7,7 +7,7 @@ use Rattle.c_layout.specs.CheckedUnits.{FunctionView, UnitView}
 use Rattle.c_layout.specs.declared.checked_tree.checked_statements.CaseLabel.{CaseLabel}
 use Rattle.c_layout.specs.declared.checked_tree.checked_terms.ObjectRef.{ObjectRef}
 use Rattle.flow_lower_conditions.specs.declared.branch_tests.NamedObject.{NamedObject}
-use Rattle.flow_lower_functions.specs.Functions.{local_type}
+use Rattle.ref_machine.specs.Functions.{local_type}
 use Rattle.flow_lower_tasks.specs.TermKinds.{is_void, scalar_of}
 use Rattle.lib_models_effects.specs.LibraryChecks.{most_size}
 use Rattle.ref_machine.specs.Items as item
@@ -17,7 +17,7 @@ use Rattle.ref_machine.specs.SourceStates.{function_at}
 use Rattle.ref_machine_kinds.specs.KindedTerms.{IsThere, HasObject}
 use Rattle.ref_machine_kinds.specs.KindedItems.{ends_loop, ends_turn, Encloses}
 use Rattle.ref_machine_kinds.specs.KindedStatements.{HasCases}
-use Rattle.ref_machine_returns.specs.StandingJumps.{JumpsStand}
+use Rattle.ref_machine_kinds.specs.StandingJumps.{JumpsStand}
 use Rattle.ref_machine_marks.specs.Marks.{Mark, Ranged, Exactly, Pointing, Naming, Tested, mark_of_type, AreStable, AreFree}
 use Rattle.ref_machine_marks.specs.MarkOperations.{IsConstant, number_of_truth, IsScalar, MarkOperates}
 use Rattle.ref_machine_marked.specs.ExactTerms.{is_true}

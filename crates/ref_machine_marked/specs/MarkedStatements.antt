@@ -10,7 +10,7 @@ use Rattle.c_layout.specs.declared.checked_tree.checked_units.StaticValue.{Stati
 use Rattle.c_layout.specs.declared.checked_tree.checked_units.StaticValue.TheVariants as static_value
 use Rattle.flow_lower_conditions.specs.declared.branch_tests.NamedObject.{NamedObject}
 use Rattle.flow_lower_conditions.specs.Tests.{named}
-use Rattle.flow_lower_functions.specs.Functions.{local_type}
+use Rattle.ref_machine.specs.Functions.{local_type}
 use Rattle.flow_lower_tasks.specs.TermKinds.{is_void, term_type}
 use Rattle.flow_program.specs.declared.machine_instructions.Scalar.TheVariants as of
 use Rattle.lib_models_effects.specs.LibraryChecks.{most_size}

@@ -1,7 +1,7 @@
 -- States whose pending values have the marks that what is left to do takes, and whose memory is proper.
 use Rattle.std.specs.Prelude.{◌≡◌, ◌≤◌, ℕ, Bool, List, [], ◌∷◌, ◌++◌, length, Option, Some, slice_get}
 use Rattle.c_layout.specs.CheckedUnits.{FunctionView, StaticView, UnitView}
-use Rattle.flow_lower_functions.specs.Functions.{local_type}
+use Rattle.ref_machine.specs.Functions.{local_type}
 use Rattle.lib_models_memory.specs.Instances.{Memory, bytes_at}
 use Rattle.lib_models_memory.specs.Scalars.{Scalar}
 use Rattle.ref_machine.specs.Items.{Item}

@@ -14,7 +14,7 @@ use Rattle.c_layout.specs.declared.syntax_tree.expressions.LogicalOp.TheVariants
 use Rattle.flow_lower_conditions.specs.declared.branch_tests.NamedObject.{NamedObject}
 use Rattle.flow_lower_expressions.specs.Assignments.{number_operator}
 use Rattle.flow_lower_expressions.specs.Calls.{gives}
-use Rattle.flow_lower_functions.specs.Functions.{local_type}
+use Rattle.ref_machine.specs.Functions.{local_type}
 use Rattle.flow_lower_tasks.specs.TermKinds.{meaning, relation, is_void, scalar_of, integer_type, term_type, lvalue_type}
 use Rattle.flow_lower_tasks.specs.declared.term_kinds.OperatorMeaning.{OperatorMeaning}
 use Rattle.flow_lower_tasks.specs.declared.term_kinds.OperatorMeaning.TheVariants as meant
@@ -25,8 +25,8 @@ use Rattle.ref_machine.specs.Items as side
 use Rattle.ref_machine.specs.Items.{NamedTest}
 use Rattle.ref_machine.specs.TermTests.{test_if}
 use Rattle.ref_machine.specs.SourceStates.{function_at}
-use Rattle.ref_machine_operations.specs.Kinds.{Kind}
-use Rattle.ref_machine_operations.specs.TakenKinds.{Accepts, result_kind}
+use Rattle.ref_machine_kinds.specs.Kinds.{Kind}
+use Rattle.ref_machine_kinds.specs.TakenKinds.{Accepts, result_kind}
 use Rattle.ref_machine_kinds.specs.KindedTerms.{IsThere, HasObject}
 use Rattle.ref_machine_marks.specs.Marks.{Mark, Exactly, Pointing, Null, Loaded, Converted, Tested, mark_of_type}
 use Rattle.ref_machine_marks.specs.MarkOperations.{IsKind, IsScalar, IsWider, HasTruths, CountsAs, ComparesAs, AreWithNull, null_test_of, ConvertsTo, AreOfKinds, IsGiven}

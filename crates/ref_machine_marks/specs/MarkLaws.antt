@@ -5,7 +5,7 @@ use Rattle.lib_models_memory.specs.Instances.{Memory}
 use Rattle.lib_models_memory.specs.Scalars.{Scalar}
 use Rattle.lib_models_effects.specs.Worlds.{World, Reply, goes, stops}
 use Rattle.lib_models_effects.specs.LibraryCalls.{fgets}
-use Rattle.ref_machine.specs.Operations.{Operation, perform}
+use Rattle.ref_machine_operations.specs.Operations.{Operation, perform}
 use Rattle.ref_machine_operations.specs.GoingReplies.{IsDefined}
 use Rattle.ref_machine_marks.specs.Marks.{Mark, Ranged, Pointing, Has, AreMarked}
 use Rattle.ref_machine_marks.specs.ProperMemory.{IsProperMemory, Evolves}

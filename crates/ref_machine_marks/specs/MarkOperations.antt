@@ -20,10 +20,10 @@ use Rattle.lib_models_memory.specs.ScalarSizes.{class_bytes}
 use Rattle.lib_models_effects.specs.LibraryChecks.{most_size}
 use Rattle.lib_models_effects.specs.LibraryCalls.{most_int}
 use Rattle.lib_models_effects.specs.Tests.{turned}
-use Rattle.ref_machine.specs.Items as side
-use Rattle.ref_machine.specs.Items.{NamedSide, NamedTest}
-use Rattle.ref_machine.specs.Operations as op
-use Rattle.ref_machine.specs.Operations.{Operation, Order, LeftFirst, RightFirst}
+use Rattle.ref_machine_operations.specs.Items as side
+use Rattle.ref_machine_operations.specs.Items.{NamedSide, NamedTest}
+use Rattle.ref_machine_operations.specs.Operations as op
+use Rattle.ref_machine_operations.specs.Operations.{Operation, Order, LeftFirst, RightFirst}
 use Rattle.ref_machine_operations.specs.Kinds.{Kind, Number, Address}
 use Rattle.ref_machine_operations.specs.TakenKinds.{Accepts, result_kind}
 use Rattle.ref_machine_marks.specs.Marks.{Mark, Ranged, Exactly, Pointing, Naming, Null, Loaded, Converted, Tested, mark_of, is_stable, AreStable}

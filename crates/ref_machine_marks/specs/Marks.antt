@@ -15,10 +15,10 @@ use Rattle.lib_models_memory.specs.Instances.{Memory, bytes_at}
 use Rattle.lib_models_memory.specs.Scalars.{Scalar, integer, pointer, is_false}
 use Rattle.lib_models_effects.specs.LibraryChecks.{most_size}
 use Rattle.lib_models_effects.specs.Tests.{TestedSide, object, constant, nothing, side_scalar, test_holds}
-use Rattle.ref_machine.specs.BranchSteps.{relation_on}
-use Rattle.ref_machine.specs.Items as item
-use Rattle.ref_machine.specs.Items.{NamedSide, NamedTest}
-use Rattle.ref_machine.specs.SourceStates.{instance_of}
+use Rattle.ref_machine_operations.specs.BranchSteps.{relation_on}
+use Rattle.ref_machine_operations.specs.Items as item
+use Rattle.ref_machine_operations.specs.Items.{NamedSide, NamedTest}
+use Rattle.ref_machine_operations.specs.SourceStates.{instance_of}
 
 pub data Mark : Type 0 where
   -- a number of an integer type, and that number

@@ -4,7 +4,7 @@ use Rattle.cc_base.specs.declared.diagnostics.Place.{Place}
 use Rattle.c_layout.specs.CheckedTrees.{statement_trees}
 use Rattle.c_layout.specs.CheckedUnits.{FunctionView}
 use Rattle.flow_lower_tasks.specs.TermKinds.{is_void}
-use Rattle.flow_lower_functions.specs.Functions.{numbers_from}
+use Rattle.ref_machine.specs.Functions.{numbers_from}
 use Rattle.lib_models_effects.specs.NumberedTables.{empty_table, clear_at}
 use Rattle.ref_machine.specs.Items as item
 use Rattle.ref_machine.specs.Items.{Item}

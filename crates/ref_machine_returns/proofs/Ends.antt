@@ -2,7 +2,7 @@
 use Rattle.std.proofs.Common.{◌≡◌, ◌⊎◌, inl, inr, ℕ, Bool, true, false, cond, List, [], ◌∷◌, ◌++◌, append_assoc}
 use Rattle.c_layout.specs.CheckedUnits.{FunctionView}
 use Rattle.flow_lower_tasks.specs.TermKinds.{is_void}
-use Rattle.flow_lower_functions.specs.Functions.{numbers_from}
+use Rattle.ref_machine.specs.Functions.{numbers_from}
 use Rattle.ref_machine.specs.Items as item
 use Rattle.ref_machine.specs.Items.{Item}
 use Rattle.ref_machine.specs.Scopes.{is_in, all_of, inwards, open_scopes, left_between, entered_between}

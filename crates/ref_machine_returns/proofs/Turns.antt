@@ -11,7 +11,7 @@ use Rattle.flow_program.specs.declared.machine_instructions.Scalar as declared
 use Rattle.flow_program.specs.declared.machine_instructions.Scalar.TheVariants as of
 use Rattle.flow_lower_tasks.specs.TermKinds.{scalar_of}
 use Rattle.flow_lower_conditions.specs.declared.branch_tests.NamedObject.{NamedObject}
-use Rattle.flow_lower_functions.specs.Functions.{local_type}
+use Rattle.ref_machine.specs.Functions.{local_type}
 use Rattle.lib_models_memory.specs.Scalars.{Scalar, is_false}
 use Rattle.lib_models_effects.specs.NumberedTables.{put_at, clear_at}
 use Rattle.lib_models_effects.specs.Worlds.{World, Reply, behind, unviolated}

@@ -16,6 +16,7 @@ use Rattle.report_cli_answers.specs.Verdicts as verdict
 use Rattle.report_cli_answers.specs.Verdicts.{Verdict, report_status, status_of, text_of, Tells, HasModel, RefusesModel, FromFiles, IsReport, AnswersUnit, Under, IsVerdict, check_setting}
 use Rattle.report_cli.specs.DefinedRuns.{RunsAreDefined}
 use Rattle.report_cli.specs.FoundRuns.{ReportsHoldRuns}
+use Rattle.report_cli.specs.PlainRuns.{ReportsHoldJustRuns}
 use Rattle.report_cli.specs.AnsweredRuns.{TellsRuns, IsAccepting, AnswersHoldRuns}
 
 pub past_one : (n : ℕ) → 2 ≤ n → IsAccepting n → ⊥
@@ -80,8 +81,8 @@ of_unit seen c m (verdict.replayed_past file place count limit) h ok = absurd h
 from_earlier : (seen later : Seen) (c : CommandView) (m : Model) (v : Verdict) → later.files ≡ seen.files → Reports later c m v → Reports seen c m v
 from_earlier seen later c m v same r = record { names = r.names; diags = r.diags; is = r.is; report = subst (λ (fs : Option Files). IsReport (FromFiles fs c.dirs m c.unit) (check_setting c m) r.names r.diags) same r.report }
 
-tells : RunsAreDefined → ReportsHoldRuns → (seen : Seen) (c : CommandView) (sink : Took) (status : ℕ) (text : Bytes) (v : Verdict) (m : Model) → HasModel seen.files c.model m → status ≡ status_of v → text ≡ text_of v → PutOnce sink text → Reports seen c m v → TellsRuns seen c sink status
-tells defined holds seen c sink status text v m has by_status by_text put r = record {
+tells : RunsAreDefined → ReportsHoldRuns → ReportsHoldJustRuns → (seen : Seen) (c : CommandView) (sink : Took) (status : ℕ) (text : Bytes) (v : Verdict) (m : Model) → HasModel seen.files c.model m → status ≡ status_of v → text ≡ text_of v → PutOnce sink text → Reports seen c m v → TellsRuns seen c sink status
+tells defined holds just seen c sink status text v m has by_status by_text put r = record {
   model = m;
   has_model = has;
   names = r.names;
@@ -91,17 +92,18 @@ tells defined holds seen c sink status text v m has by_status by_text put r = re
   put = subst (λ (x : Bytes). PutOnce sink x) (by_text ∙ ap (λ (w : Verdict). text_of w) r.is) put;
   holds = holds seen.files c.dirs m c.unit (check_setting c m) r.names r.diags r.report;
   defined = defined.judged r.report.expanded (check_setting c m) r.report.found r.report.judged;
+  plain = just seen.files c.dirs m c.unit (check_setting c m) r.names r.diags r.report;
 }
 
-by_verdict : RunsAreDefined → ReportsHoldRuns → (seen : Seen) (c : CommandView) (sink : Took) (status : ℕ) (text : Bytes) (v : Verdict) → IsVerdict seen (asked.Check c) v → status ≡ status_of v → text ≡ text_of v → PutOnce sink text → IsAccepting status → TellsRuns seen c sink status
-by_verdict defined holds seen c sink status text v (inl refuses) by_status by_text put ok = absurd (no_model seen c.model v refuses (subst IsAccepting by_status ok))
-by_verdict defined holds seen c sink status text v (inr u) by_status by_text put ok = tells defined holds seen c sink status text v u.chosen u.has_model by_status by_text put (from_earlier seen u.later c u.chosen v u.is_later.files (of_unit u.later c u.chosen v u.answered (subst IsAccepting by_status ok)))
+by_verdict : RunsAreDefined → ReportsHoldRuns → ReportsHoldJustRuns → (seen : Seen) (c : CommandView) (sink : Took) (status : ℕ) (text : Bytes) (v : Verdict) → IsVerdict seen (asked.Check c) v → status ≡ status_of v → text ≡ text_of v → PutOnce sink text → IsAccepting status → TellsRuns seen c sink status
+by_verdict defined holds just seen c sink status text v (inl refuses) by_status by_text put ok = absurd (no_model seen c.model v refuses (subst IsAccepting by_status ok))
+by_verdict defined holds just seen c sink status text v (inr u) by_status by_text put ok = tells defined holds just seen c sink status text v u.chosen u.has_model by_status by_text put (from_earlier seen u.later c u.chosen v u.is_later.files (of_unit u.later c u.chosen v u.answered (subst IsAccepting by_status ok)))
 
-by_outcome : RunsAreDefined → ReportsHoldRuns → (seen : Seen) (c : CommandView) (sink : Took) (status : ℕ) (o : Outcome) → status ≡ status_at o → Happened seen (asked.Check c) sink o → IsAccepting status → TellsRuns seen c sink status
-by_outcome defined holds seen c sink status (told answer text) is (t, put) ok = by_verdict defined holds seen c sink status text t.verdict t.called_for (is ∙ t.by_status) t.by_text put ok
-by_outcome defined holds seen c sink status read_fault is happened ok = absurd (past_one 5 (omega arith) (subst IsAccepting is ok))
-by_outcome defined holds seen c sink status (write_fault answer text) is happened ok = absurd (past_one 6 (omega arith) (subst IsAccepting is ok))
-by_outcome defined holds seen c sink status no_memory is happened ok = absurd (past_one 7 (omega arith) (subst IsAccepting is ok))
+by_outcome : RunsAreDefined → ReportsHoldRuns → ReportsHoldJustRuns → (seen : Seen) (c : CommandView) (sink : Took) (status : ℕ) (o : Outcome) → status ≡ status_at o → Happened seen (asked.Check c) sink o → IsAccepting status → TellsRuns seen c sink status
+by_outcome defined holds just seen c sink status (told answer text) is (t, put) ok = by_verdict defined holds just seen c sink status text t.verdict t.called_for (is ∙ t.by_status) t.by_text put ok
+by_outcome defined holds just seen c sink status read_fault is happened ok = absurd (past_one 5 (omega arith) (subst IsAccepting is ok))
+by_outcome defined holds just seen c sink status (write_fault answer text) is happened ok = absurd (past_one 6 (omega arith) (subst IsAccepting is ok))
+by_outcome defined holds just seen c sink status no_memory is happened ok = absurd (past_one 7 (omega arith) (subst IsAccepting is ok))
 
-pub answers_hold : RunsAreDefined → ReportsHoldRuns → AnswersHoldRuns
-answers_hold defined holds seen c sink status is ok = by_outcome defined holds seen c sink status is.outcome is.by_status is.happened ok
+pub answers_hold : RunsAreDefined → ReportsHoldRuns → ReportsHoldJustRuns → AnswersHoldRuns
+answers_hold defined holds just seen c sink status is ok = by_outcome defined holds just seen c sink status is.outcome is.by_status is.happened ok

@@ -17,7 +17,7 @@ use Rattle.flow_program_machine.specs.FlowStarts.{flow_begin}
 use Rattle.flow_lower_units.specs.RegularUnits.{is_regular_unit}
 use Rattle.flow_analysis.specs.Analyses.{IsAnalysis}
 use Rattle.lib_models_effects.specs.Worlds.{Violation}
-use Rattle.template_runs_units.specs.UnitRuns.{IsProgramOf}
+use Rattle.flow_lower_plain_programs.specs.UnitRuns.{IsProgramOf}
 use Rattle.template_runs_looked.specs.LookedRuns.{PassesLooks, LookedRunsAreProgramRuns}
 use Rattle.abstract_steps_sound_units.specs.CheckedUnits.{FindsPairsOfChecked, FindsTurnedPairsOfChecked}
 use Rattle.report_cli_units.specs.Judging.{SettingView, IsTyped, IsLowered, IsTurned}

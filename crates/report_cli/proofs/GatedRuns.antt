@@ -1,5 +1,5 @@
 -- Where `gate` answers 0 or 1, it has told what is fresh of a report, and reports hold what runs violate.
-use Rattle.std.proofs.Common.{◌≡◌, ◌∙◌, inl, inr, ℕ, List, Option, ap, arith, subst}
+use Rattle.std.proofs.Common.{◌≡◌, ◌∙◌, inl, inr, ℕ, List, Option, ap, arith, refl, subst}
 use Rattle.cc_base.specs.Outside.{Files}
 use Rattle.cc_base.specs.declared.diagnostics.Diag.{Diag}
 use Rattle.c_layout.specs.declared.data_model.Model.{Model}
@@ -14,6 +14,7 @@ use Rattle.report_cli_answers.specs.Verdicts as verdict
 use Rattle.report_cli_answers.specs.Verdicts.{Verdict, status_of, text_of, HasModel, RefusesBase, FromFiles, IsFreshReport, AnswersFresh, AnswersGate, IsVerdict, gate_setting}
 use Rattle.report_cli.specs.DefinedRuns.{RunsAreDefined}
 use Rattle.report_cli.specs.FoundRuns.{ReportsHoldRuns}
+use Rattle.report_cli.specs.PlainRuns.{ReportsHoldJustRuns}
 use Rattle.report_cli.specs.AnsweredRuns.{IsAccepting}
 use Rattle.report_cli.specs.GatedRuns.{TellsFreshRuns, GatesHoldRuns}
 use Rattle.report_cli.proofs.AnsweredRuns.{past_one, no_refusal, no_model}
@@ -73,8 +74,8 @@ of_gate seen c base m v (inr fresh) ok = of_fresh seen c base m v fresh ok
 from_earlier : (seen later : Seen) (c : CommandView) (base : Bytes) (m : Model) (v : Verdict) → later.files ≡ seen.files → Freshens later c base m v → Freshens seen c base m v
 from_earlier seen later c base m v same r = record { names = r.names; diags = r.diags; is = r.is; report = subst (λ (fs : Option Files). IsFreshReport (FromFiles fs c.dirs m c.unit) fs base (gate_setting c m) r.names r.diags) same r.report }
 
-tells : RunsAreDefined → ReportsHoldRuns → (seen : Seen) (c : CommandView) (base : Bytes) (sink : Took) (status : ℕ) (text : Bytes) (v : Verdict) (m : Model) → HasModel seen.files c.model m → status ≡ status_of v → text ≡ text_of v → PutOnce sink text → Freshens seen c base m v → TellsFreshRuns seen c base sink status
-tells defined holds seen c base sink status text v m has by_status by_text put r = record {
+tells : RunsAreDefined → ReportsHoldRuns → ReportsHoldJustRuns → (seen : Seen) (c : CommandView) (base : Bytes) (sink : Took) (status : ℕ) (text : Bytes) (v : Verdict) (m : Model) → HasModel seen.files c.model m → status ≡ status_of v → text ≡ text_of v → PutOnce sink text → Freshens seen c base m v → TellsFreshRuns seen c base sink status
+tells defined holds just seen c base sink status text v m has by_status by_text put r = record {
   model = m;
   has_model = has;
   names = r.names;
@@ -86,17 +87,18 @@ tells defined holds seen c base sink status text v m has by_status by_text put r
   by_status = by_status ∙ ap (λ (w : Verdict). status_of w) r.is;
   put = subst (λ (x : Bytes). PutOnce sink x) (by_text ∙ ap (λ (w : Verdict). text_of w) r.is) put;
   defined = defined.judged r.report.report.expanded (gate_setting c m) r.report.report.found r.report.report.judged;
+  plain = just seen.files c.dirs m c.unit (gate_setting c m) r.names r.report.all r.report.report refl;
 }
 
-by_verdict : RunsAreDefined → ReportsHoldRuns → (seen : Seen) (c : CommandView) (base : Bytes) (sink : Took) (status : ℕ) (text : Bytes) (v : Verdict) → IsVerdict seen (asked.Gate c base) v → status ≡ status_of v → text ≡ text_of v → PutOnce sink text → IsAccepting status → TellsFreshRuns seen c base sink status
-by_verdict defined holds seen c base sink status text v (inl refuses) by_status by_text put ok = absurd (no_model seen c.model v refuses (subst IsAccepting by_status ok))
-by_verdict defined holds seen c base sink status text v (inr u) by_status by_text put ok = tells defined holds seen c base sink status text v u.chosen u.has_model by_status by_text put (from_earlier seen u.later c base u.chosen v u.is_later.files (of_gate u.later c base u.chosen v u.answered (subst IsAccepting by_status ok)))
+by_verdict : RunsAreDefined → ReportsHoldRuns → ReportsHoldJustRuns → (seen : Seen) (c : CommandView) (base : Bytes) (sink : Took) (status : ℕ) (text : Bytes) (v : Verdict) → IsVerdict seen (asked.Gate c base) v → status ≡ status_of v → text ≡ text_of v → PutOnce sink text → IsAccepting status → TellsFreshRuns seen c base sink status
+by_verdict defined holds just seen c base sink status text v (inl refuses) by_status by_text put ok = absurd (no_model seen c.model v refuses (subst IsAccepting by_status ok))
+by_verdict defined holds just seen c base sink status text v (inr u) by_status by_text put ok = tells defined holds just seen c base sink status text v u.chosen u.has_model by_status by_text put (from_earlier seen u.later c base u.chosen v u.is_later.files (of_gate u.later c base u.chosen v u.answered (subst IsAccepting by_status ok)))
 
-by_outcome : RunsAreDefined → ReportsHoldRuns → (seen : Seen) (c : CommandView) (base : Bytes) (sink : Took) (status : ℕ) (o : Outcome) → status ≡ status_at o → Happened seen (asked.Gate c base) sink o → IsAccepting status → TellsFreshRuns seen c base sink status
-by_outcome defined holds seen c base sink status (told answer text) is (t, put) ok = by_verdict defined holds seen c base sink status text t.verdict t.called_for (is ∙ t.by_status) t.by_text put ok
-by_outcome defined holds seen c base sink status read_fault is happened ok = absurd (past_one 5 (omega arith) (subst IsAccepting is ok))
-by_outcome defined holds seen c base sink status (write_fault answer text) is happened ok = absurd (past_one 6 (omega arith) (subst IsAccepting is ok))
-by_outcome defined holds seen c base sink status no_memory is happened ok = absurd (past_one 7 (omega arith) (subst IsAccepting is ok))
+by_outcome : RunsAreDefined → ReportsHoldRuns → ReportsHoldJustRuns → (seen : Seen) (c : CommandView) (base : Bytes) (sink : Took) (status : ℕ) (o : Outcome) → status ≡ status_at o → Happened seen (asked.Gate c base) sink o → IsAccepting status → TellsFreshRuns seen c base sink status
+by_outcome defined holds just seen c base sink status (told answer text) is (t, put) ok = by_verdict defined holds just seen c base sink status text t.verdict t.called_for (is ∙ t.by_status) t.by_text put ok
+by_outcome defined holds just seen c base sink status read_fault is happened ok = absurd (past_one 5 (omega arith) (subst IsAccepting is ok))
+by_outcome defined holds just seen c base sink status (write_fault answer text) is happened ok = absurd (past_one 6 (omega arith) (subst IsAccepting is ok))
+by_outcome defined holds just seen c base sink status no_memory is happened ok = absurd (past_one 7 (omega arith) (subst IsAccepting is ok))
 
-pub gates_hold : RunsAreDefined → ReportsHoldRuns → GatesHoldRuns
-gates_hold defined holds seen c base sink status is ok = by_outcome defined holds seen c base sink status is.outcome is.by_status is.happened ok
+pub gates_hold : RunsAreDefined → ReportsHoldRuns → ReportsHoldJustRuns → GatesHoldRuns
+gates_hold defined holds just seen c base sink status is ok = by_outcome defined holds just seen c base sink status is.outcome is.by_status is.happened ok

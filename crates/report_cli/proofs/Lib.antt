@@ -1,6 +1,7 @@
 pub mod LookedUnits
 pub mod DefinedRuns
 pub mod FoundRuns
+pub mod PlainRuns
 pub mod ReplayedRuns
 pub mod CertifiedRuns
 pub mod AnsweredRuns

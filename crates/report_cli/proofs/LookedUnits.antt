@@ -7,13 +7,15 @@ use Rattle.c_parser.specs.Externals.{IsUnit}
 use Rattle.c_types_marks_trees.specs.ByteTokens.{TreesAreProper, TreesDeclareInBlocks}
 use Rattle.c_types_marks_units.specs.MarkedUnits.{ChecksAreMarked}
 use Rattle.c_types_scoped_units.specs.ScopedChecks.{ChecksAreScoped}
+use Rattle.c_types_sizes.specs.SmallChecks.{ChecksAreSmall}
 use Rattle.report_cli.specs.DefinedRuns.{TypedUnitsPassLooks}
 
-pub typed_units_pass : TreesAreProper → TreesDeclareInBlocks → ChecksAreMarked → ChecksAreScoped → TypedUnitsPassLooks
-typed_units_pass proper blocks marked scoped unit s tree checked parsed typed looked regular =
+pub typed_units_pass : TreesAreProper → TreesDeclareInBlocks → ChecksAreMarked → ChecksAreSmall → ChecksAreScoped → TypedUnitsPassLooks
+typed_units_pass proper blocks marked small scoped unit s tree checked parsed typed looked regular =
     let is = subst (λ (m : Model). IsUnit m unit.tokens (unit_tree tree)) looked.model parsed in
     let bytes = proper s.model unit.tokens (unit_tree tree) looked.proper looked.bytes is in
+    let fits = small s.model s.entry (unit_tree tree) (unit_view checked) looked.proper bytes typed.checks in
     record {
-      marked = marked s.model s.entry (unit_tree tree) (unit_view checked) looked.proper bytes typed.checks regular looked.small;
+      marked = marked s.model s.entry (unit_tree tree) (unit_view checked) looked.proper bytes typed.checks regular fits;
       scoped = scoped s.model s.entry (unit_tree tree) (unit_view checked) (blocks s.model unit.tokens (unit_tree tree) is) typed.checks;
     }

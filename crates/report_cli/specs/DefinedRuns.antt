@@ -15,7 +15,7 @@ use Rattle.report_cli_units.specs.Replaying.{RunAnswer, IsReplayed}
 
 -- what typing makes of tokens passes the looks at its terms and scopes, where what it does not ask was looked at
 abbrev pub TypedUnitsPassLooks : Type 0
-TypedUnitsPassLooks = (unit : Unit7) (s : SettingView) (tree : Tree7) (checked : Checked) → IsParsed unit tree → IsTyped s tree checked → IsLooked unit s checked → is_regular_unit (unit_view checked) ≡ true → PassesLooks (unit_view checked)
+TypedUnitsPassLooks = (unit : Unit7) (s : SettingView) (tree : Tree7) (checked : Checked) → IsParsed unit tree → IsTyped s tree checked → IsLooked unit s → is_regular_unit (unit_view checked) ≡ true → PassesLooks (unit_view checked)
 
 -- whatever comes from the outside, and after any number of turns
 abbrev pub IsNeverStuck : UnitView → Type 0

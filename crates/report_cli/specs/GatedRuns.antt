@@ -13,10 +13,12 @@ use Rattle.report_cli_answers.specs.Outcomes.{Took, PutOnce, Answers}
 use Rattle.report_cli_answers.specs.Verdicts.{report_status, HasModel, FromFiles, IsReport, gate_setting}
 use Rattle.report_cli.specs.DefinedRuns.{IsNeverStuck}
 use Rattle.report_cli.specs.FoundRuns.{HoldsRunsOf}
+use Rattle.report_cli.specs.PlainRuns.{HoldsJustRun}
 use Rattle.report_cli.specs.AnsweredRuns.{IsAccepting}
 
 -- the diagnostics of the unit that the baseline does not hold, put whole and in one call; all of them hold each rule that a
--- run of the checked unit violates, at its place, and none of its runs is stuck
+-- run of the checked unit violates, at its place, and none of its runs is stuck; where the unit is plain, each of all of them is that
+-- of a syntactic rule or one that its run violates
 pub record TellsFreshRuns (seen : Seen) (c : CommandView) (base : Bytes) (sink : Took) (status : ℕ) : Type 0 where
   pub model : Model
   pub has_model : HasModel seen.files c.model model
@@ -25,6 +27,7 @@ pub record TellsFreshRuns (seen : Seen) (c : CommandView) (base : Bytes) (sink :
   pub report : IsReport (FromFiles seen.files c.dirs model c.unit) (gate_setting c model) names all
   pub holds : HoldsRunsOf (unit_view report.judged.checked) all
   pub defined : IsNeverStuck (unit_view report.judged.checked)
+  pub plain : HoldsJustRun report.judged.checked report.judged.flow all
   pub diags : List Diag
   pub fresh : IsFreshOf seen.files base names all diags
   pub by_status : status ≡ report_status diags

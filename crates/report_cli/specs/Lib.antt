@@ -1,5 +1,6 @@
 pub mod DefinedRuns
 pub mod FoundRuns
+pub mod PlainRuns
 pub mod ReplayedRuns
 pub mod CertifiedRuns
 pub mod AnsweredRuns

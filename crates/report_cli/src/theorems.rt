@@ -1,6 +1,7 @@
 //! Each rule that a run of a unit violates is told, at its place.
 ghost use Rattle.report_cli.specs.DefinedRuns.{TypedUnitsPassLooks, RunsAreDefined};
 ghost use Rattle.report_cli.specs.FoundRuns.{JudgedRunsAreFound, ReportsHoldRuns};
+ghost use Rattle.report_cli.specs.PlainRuns.{JudgedPairsAreViolated, ReportsHoldJustRuns};
 ghost use Rattle.report_cli.specs.ReplayedRuns.{ReplaysAreTold};
 ghost use Rattle.report_cli.specs.CertifiedRuns.{CertificatesHoldRuns};
 ghost use Rattle.report_cli.specs.AnsweredRuns.{AnswersHoldRuns};
@@ -8,22 +9,26 @@ ghost use Rattle.report_cli.specs.GatedRuns.{GatesHoldRuns};
 ghost use Rattle.report_cli.specs.VerifiedRuns.{VerifiedHoldRuns};
 ghost use Rattle.report_cli.specs.ToldReplays.{ReplaysStandInReports};
 
+use abstract_steps_single_units::plain_units_are_told_exactly;
 use abstract_steps_sound_units::checked_runs_are_found;
 use c_types_marks_trees::{trees_are_proper, trees_declare_in_blocks};
 use c_types_marks_units::checks_are_marked;
 use c_types_scoped_units::checks_are_scoped;
+use c_types_sizes::checks_are_small;
 use cert_check_sound::accepted_certificates_hold_units;
+use flow_lower_plain_programs::plain_units_have_plain_programs;
 use report_cli_laws::one_parse;
 use template_runs_looked::{looked_runs_are_program_runs, looked_units_are_never_stuck};
 
-/// A unit that is typed from its tokens passes the looks at its terms and scopes, where what typing does not ask was looked
-/// at: tokens of bytes, room in memory, and regular functions.
+/// A unit that is typed from its tokens passes the looks at its terms and scopes, where tokens are of bytes and functions
+/// are regular.
 pub fn typed_units_pass_looks()
     ensures { TypedUnitsPassLooks }
 {
     trees_are_proper();
     trees_declare_in_blocks();
     checks_are_marked();
+    checks_are_small();
     checks_are_scoped();
 }
 
@@ -52,6 +57,23 @@ pub fn reports_hold_runs()
     judged_runs_are_found();
 }
 
+/// Where the unit is plain and no turns are unrolled, each pair that is told of it is that of a syntactic rule, or is violated
+/// by the unit's run under no numbers of the outside.
+pub fn judged_pairs_are_violated()
+    ensures { JudgedPairsAreViolated }
+{
+    typed_units_pass_looks();
+    plain_units_are_told_exactly();
+    plain_units_have_plain_programs();
+}
+
+/// So is each diagnostic of its report.
+pub fn reports_hold_just_runs()
+    ensures { ReportsHoldJustRuns }
+{
+    judged_pairs_are_violated();
+}
+
 /// And each pair that a replay of an accepted unit finds is among those that are told of it.
 pub fn replays_are_told()
     ensures { ReplaysAreTold }
@@ -71,12 +93,14 @@ pub fn certificates_hold_runs()
 
 /// The sentence: where `check` answers 0 or 1, it has put the report of the unit whole and in one call, and its diagnostics
 /// hold each rule that a run of the checked unit violates, at its place: whatever comes from the outside, and after any
-/// number of turns. None of its runs is ever stuck.
+/// number of turns. None of its runs is ever stuck. Where the unit is plain and no turns are unrolled, each diagnostic is that of a
+/// syntactic rule, or is violated by its run.
 pub fn answers_hold_runs()
     ensures { AnswersHoldRuns }
 {
     answered_runs_are_defined();
     reports_hold_runs();
+    reports_hold_just_runs();
 }
 
 /// So of `gate`: each such rule is told, or held by the baseline.
@@ -85,6 +109,7 @@ pub fn gates_hold_runs()
 {
     answered_runs_are_defined();
     reports_hold_runs();
+    reports_hold_just_runs();
 }
 
 /// And of `verify`, where it accepts the certificate.

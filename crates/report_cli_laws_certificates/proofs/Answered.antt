@@ -8,9 +8,9 @@ use Rattle.report_cli_words.specs.Requests.{CommandView}
 use Rattle.report_cli_words.specs.Requests as asked
 use Rattle.report_cli_texts.specs.Reports.{Bytes}
 use Rattle.report_cli_texts.specs.Refusals.{refusal_status}
-use Rattle.report_cli_answers.specs.Outcomes.{Took, Outcome, told, read_fault, write_fault, no_memory, status_at, Happened, Answers}
-use Rattle.report_cli_answers.specs.Verdicts as verdict
-use Rattle.report_cli_answers.specs.Verdicts.{Verdict, report_status, status_of, IsVerdict}
+use Rattle.report_cli_laws.specs.Outcomes.{Took, Outcome, told, read_fault, write_fault, no_memory, status_at, Happened, Answers}
+use Rattle.report_cli_laws.specs.Verdicts as verdict
+use Rattle.report_cli_laws.specs.Verdicts.{Verdict, report_status, status_of, IsVerdict}
 use Rattle.report_cli_laws_certificates.specs.ProvedTexts.{HoldsProved}
 use Rattle.report_cli_laws_certificates.proofs.Told.{proved_is_not_refused}
 

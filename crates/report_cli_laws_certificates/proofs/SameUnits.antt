@@ -8,7 +8,7 @@ use Rattle.c_layout.specs.declared.unit_tokens.Unit7.{Unit7}
 use Rattle.c_preproc.specs.Units.{Preprocessed, Refused}
 use Rattle.report_cli_words.specs.Requests.{CommandView}
 use Rattle.report_cli_texts.specs.Reports.{Bytes}
-use Rattle.report_cli_answers.specs.Verdicts.{HasModel, ReadsModel, IsModelText, FromFiles, IsExpanded}
+use Rattle.report_cli_laws.specs.Verdicts.{HasModel, ReadsModel, IsModelText, FromFiles, IsExpanded}
 use Rattle.report_cli_laws.proofs.GivenModels.{one_text}
 use Rattle.report_cli_laws.proofs.OneUnit.{same_unit}
 use Rattle.report_cli_laws_certificates.specs.SameUnits.{GiveOneUnit}

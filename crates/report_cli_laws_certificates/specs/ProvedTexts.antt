@@ -10,8 +10,8 @@ use Rattle.report_cli_words.specs.declared.commands.Format.{Format}
 use Rattle.report_cli_words.specs.Requests.{CommandView}
 use Rattle.report_cli_words.specs.Requests as asked
 use Rattle.report_cli_texts.specs.Reports.{Bytes}
-use Rattle.report_cli_answers.specs.Outcomes.{Took, Answers}
-use Rattle.report_cli_answers.specs.Verdicts.{proved, cert_refused, reported, FromFiles, IsReport, IsVerdict, check_setting}
+use Rattle.report_cli_laws.specs.Outcomes.{Took, Answers}
+use Rattle.report_cli_laws.specs.Verdicts.{proved, cert_refused, reported, FromFiles, IsReport, IsVerdict, check_setting}
 use Rattle.report_cli_laws_certificates.specs.SameUnits.{GiveOneUnit}
 
 -- the files of a call are told and hold, by the name of the certificate, a text that `prove` was called to tell of the same unit

@@ -4,7 +4,7 @@ use Rattle.cc_base.specs.Outside.{Files}
 use Rattle.c_layout.specs.declared.data_model.Model.{Model}
 use Rattle.c_preproc.specs.Units.{unit_from}
 use Rattle.report_cli_words.specs.Requests.{CommandView}
-use Rattle.report_cli_answers.specs.Verdicts.{HasModel}
+use Rattle.report_cli_laws.specs.Verdicts.{HasModel}
 
 -- two sets of files give the same model and the same unit for these words; they may differ in files that are not asked for
 pub record GiveOneUnit (c : CommandView) (held other : Files) : Type 0 where

@@ -15,7 +15,7 @@ use Rattle.turn_split.specs.Turns.{split}
 use Rattle.flow_analysis.specs.Analyses.{IsAnalysis}
 use Rattle.flow_analysis_laws.proofs.OrderedSets as ordered
 use Rattle.flow_analysis_laws_views.proofs.OneAnalysis.{one_analysis}
-use Rattle.report_cli_units.specs.Judging.{SettingView, IsTurned, IsFound, Judgement, cells_from, IsJudged}
+use Rattle.report_cli_laws.specs.Judging.{SettingView, IsTurned, IsFound, Judgement, cells_from, IsJudged}
 use Rattle.report_cli_laws.proofs.OneParse.{one_checked, one_flow}
 
 -- ordered sets of the same pairs are the same

@@ -11,8 +11,8 @@ use Rattle.report_cli_words.specs.Requests.{CommandView}
 use Rattle.report_cli_words.specs.Requests as asked
 use Rattle.report_cli_texts.specs.LoadUnits.{load_of}
 use Rattle.report_cli_texts.specs.Reports.{Bytes}
-use Rattle.report_cli_units.specs.Judging.{SettingView, Judgement, IsJudged}
-use Rattle.report_cli_answers.specs.Verdicts.{Verdict, reported, summed, Gives, FromFiles, FromBytes, IsReport, IsSummary, IsVerdict, check_setting, load_setting}
+use Rattle.report_cli_laws.specs.Judging.{SettingView, Judgement, IsJudged}
+use Rattle.report_cli_laws.specs.Verdicts.{Verdict, reported, summed, Gives, FromFiles, FromBytes, IsReport, IsSummary, IsVerdict, check_setting, load_setting}
 use Rattle.report_cli_laws.specs.Told.{IsAcceptedCheck, IsItsReport}
 use Rattle.report_cli_laws.specs.ToldLoad.{IsAcceptedLoad, IsItsSummary}
 use Rattle.report_cli_laws.proofs.OneUnit.{same_unit}

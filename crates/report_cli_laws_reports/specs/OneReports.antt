@@ -8,8 +8,8 @@ use Rattle.c_preproc.specs.Causes.{Seen}
 use Rattle.report_cli_words.specs.Requests.{CommandView}
 use Rattle.report_cli_words.specs.Requests as asked
 use Rattle.report_cli_texts.specs.Reports.{Bytes}
-use Rattle.report_cli_units.specs.Judging.{SettingView, Judgement, IsJudged}
-use Rattle.report_cli_answers.specs.Verdicts.{Verdict, Gives, FromFiles, FromBytes, IsReport, IsSummary, IsVerdict}
+use Rattle.report_cli_laws.specs.Judging.{SettingView, Judgement, IsJudged}
+use Rattle.report_cli_laws.specs.Verdicts.{Verdict, Gives, FromFiles, FromBytes, IsReport, IsSummary, IsVerdict}
 use Rattle.report_cli_laws.specs.Told.{IsAcceptedCheck}
 use Rattle.report_cli_laws.specs.ToldLoad.{IsAcceptedLoad}
 

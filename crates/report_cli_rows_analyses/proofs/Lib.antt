@@ -1,3 +1,4 @@
 pub mod WorkedProgram
 pub mod WorkedThresholds
 pub mod Lowering
+pub mod WorkedSingle

@@ -14,6 +14,7 @@ use Rattle.flow_lower.specs.Lowerings.{IsLowering}
 use Rattle.interval_domain.specs.declared.intervals.Interval.{Interval}
 use Rattle.value_domain.specs.declared.row_cells.Cell.{Cell}
 use Rattle.flow_analysis.specs.Analyses.{row_lattice, machine_of, IsAnalysis}
+use Rattle.abstract_steps_single_runs.specs.SingleRuns.{IsSingleProgram}
 use Rattle.report_cli_rows_units.specs.WorkedPlaces.{division}
 use Rattle.report_cli_rows_units.specs.WorkedTrees.{checked_unit}
 
@@ -69,3 +70,5 @@ pub record IsWorkedProgram (flow : Flow) (larger : Map) : Type 0 where
   pub listed : IsListOf flow
   pub found : IsFoundAlone flow thresholds
   pub larger_map : IsLarger flow thresholds larger
+  -- and the unit's run passes each block once at most
+  pub single : IsSingleProgram flow checked_unit

@@ -1,3 +1,3 @@
 mod TextPlaces
-mod WorkedReport
 mod WorkedRuns
+mod WorkedReport

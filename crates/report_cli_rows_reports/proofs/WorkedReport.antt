@@ -6,26 +6,29 @@ use Rattle.cc_base.specs.DiagnosticOrder.{IsOrderedSet}
 use Rattle.cc_base.specs.Standard.{standard_limits}
 use Rattle.cc_base.specs.declared.diagnostics.Diag.{Diag}
 use Rattle.c_layout.specs.Models.{lp64}
-use Rattle.c_layout.specs.CheckedUnits.{UnitView}
+use Rattle.c_layout.specs.CheckedUnits.{UnitView, unit_view}
 use Rattle.c_layout.specs.DeclarationTrees.{ExternalTree}
 use Rattle.c_parser.specs.Externals.{IsUnit}
 use Rattle.c_types.specs.UnitChecks.{check}
 use Rattle.flow_lower.specs.Lowerings.{IsLowering}
 use Rattle.flow_lower_objects.specs.PlainObjects.{has_plain_objects}
 use Rattle.flow_lower_units.specs.RegularUnits.{is_regular_unit}
-use Rattle.ref_machine_looks_units.specs.SmallUnits.{have_byte_texts, is_small_unit}
+use Rattle.ref_machine_looks_units.specs.SmallUnits.{have_byte_texts}
 use Rattle.flow_program.specs.declared.programs.Flow.{Flow}
 use Rattle.flow_program_views.specs.ProgramViews.{FlowView, flow_view}
 use Rattle.report_cli_texts.specs.Reports.{Bytes, report_of}
-use Rattle.report_cli_units.specs.Judging.{SettingView, judging, Judgement, IsJudged, IsParsed, IsTyped, IsLooked, IsLowered, IsFound, cell_count}
+use Rattle.report_cli_laws.specs.Judging.{SettingView, judging, Judgement, IsJudged, IsParsed, IsTyped, IsLooked, IsLowered, IsFound, cell_count}
 use Rattle.c_preproc.specs.Causes.{Seen}
 use Rattle.report_cli_words.specs.Requests as asked
 use Rattle.report_cli_words.specs.Requests.{CommandView}
-use Rattle.report_cli_answers.specs.Outcomes as outcome
-use Rattle.report_cli_answers.specs.Outcomes.{Took, PutOnce, Answers}
-use Rattle.report_cli_answers.specs.Verdicts.{report_status, IsVerdict, IsLater}
+use Rattle.report_cli_laws.specs.Outcomes as outcome
+use Rattle.report_cli_laws.specs.Outcomes.{Took, PutOnce, Answers}
+use Rattle.report_cli_laws.specs.Verdicts.{report_status, IsVerdict, IsLater}
 use Rattle.report_cli_laws.specs.Told.{IsAcceptedCheck, ToldReport}
 use Rattle.report_cli_laws_reports.specs.OneReports.{OneReport, OneVerdict}
+use Rattle.flow_lower_plain.specs.PlainUnits.{is_plain_unit}
+use Rattle.report_cli_rows_analyses.specs.PlainUnits.{IsPlainUnit}
+use Rattle.report_cli_rows_analyses.specs.SingleRuns.{HasTypedAccesses}
 use Rattle.report_cli_rows.specs.WorkedAnswers.{IsExpandedFromHeld, IsNamedModel}
 use Rattle.report_cli_rows_analyses.specs.WorkedAnalyses.{Map, thresholds, IsWorkedProgram}
 use Rattle.report_cli_rows_units.specs.WorkedTexts.{held, name, tokens_with, expanded}
@@ -53,11 +56,11 @@ text_is = refl
 bytes : have_byte_texts expanded.tokens ≡ true
 bytes = refl
 
-small : is_small_unit checked_unit ≡ true
-small = refl
-
 plain : has_plain_objects checked_unit ≡ true
 plain = refl
+
+plain_look : is_plain_unit checked_unit ≡ true
+plain_look = refl
 
 regular : is_regular_unit checked_unit ≡ true
 regular = refl
@@ -72,8 +75,8 @@ module _ (some : Flow) (parsed_to : IsParsedTo) (checked_to : IsCheckedTo) (larg
     model = refl;
   }
 
-  looked : IsLooked expanded setting (unit some.blocks)
-  looked = record { proper = refl; model = refl; bytes = bytes; small = ap (λ (u : UnitView). is_small_unit u) (unit_is some.blocks) ∙ small }
+  looked : IsLooked expanded setting
+  looked = record { proper = refl; model = refl; bytes = bytes }
 
   lowered : IsLowered (unit some.blocks) flow
   lowered = record {
@@ -119,6 +122,10 @@ module _ (some : Flow) (parsed_to : IsParsedTo) (checked_to : IsCheckedTo) (larg
   module _ (from_held : IsExpandedFromHeld) (named : IsNamedModel) where
     report : IsReportOf (name ∷ []) lines
     report = record { expanded = expanded; is_expanded = from_held.there; found = judgement; judged = judged; listed = alone_ordered }
+
+    plain_unit : IsPlainUnit (unit_view report.judged.checked) report.judged.flow
+    unfolding report judged
+    plain_unit = record { look = ap (λ (u : UnitView). is_plain_unit u) (unit_is some.blocks) ∙ plain_look; accesses = subst (λ (u : UnitView). HasTypedAccesses flow u) (sym (unit_is some.blocks)) worked.single.steps }
 
     accepted : IsAcceptedCheck seen command
     accepted = record {
@@ -182,6 +189,7 @@ module _ (some : Flow) (parsed_to : IsParsedTo) (checked_to : IsCheckedTo) (larg
         there = there;
         alone = λ sink status a. by_answer sink status (answered sink status a);
         not_silent = λ sink a. not_zero sink 0 refl (by_answer sink 0 (answered sink 0 a));
+        plain = plain_unit;
       }
 
 abbrev AreAnswered : Type 0

@@ -1,14 +1,16 @@
 -- What `check` answers to the held bytes of a unit that divides by 0: one line, and nothing else.
 use Rattle.std.specs.Prelude.{◌≡◌, ◌⊎◌, ℕ, List, [], ◌∷◌, Some, None, codes}
 use Rattle.cc_base.specs.declared.diagnostics.Diag.{Diag}
+use Rattle.c_layout.specs.CheckedUnits.{unit_view}
 use Rattle.c_layout.specs.Models.{lp64}
+use Rattle.report_cli_rows_analyses.specs.PlainUnits.{IsPlainUnit}
 use Rattle.c_preproc.specs.Causes.{Seen, seen_of}
 use Rattle.report_cli_words.specs.Requests as asked
 use Rattle.report_cli_words.specs.Requests.{CommandView}
 use Rattle.report_cli_words.specs.declared.commands.Format.TheVariants as format
 use Rattle.report_cli_texts.specs.Reports.{Bytes}
-use Rattle.report_cli_answers.specs.Outcomes.{Took, PutOnce, Answers}
-use Rattle.report_cli_answers.specs.Verdicts.{Verdict, reported, FromFiles, IsReport, IsVerdict, check_setting}
+use Rattle.report_cli_laws.specs.Outcomes.{Took, PutOnce, Answers}
+use Rattle.report_cli_laws.specs.Verdicts.{Verdict, reported, FromFiles, IsReport, IsVerdict, check_setting}
 use Rattle.report_cli_rows_units.specs.WorkedPlaces.{division}
 use Rattle.report_cli_rows_units.specs.WorkedTexts.{held, name}
 
@@ -42,3 +44,5 @@ pub record IsToldAlone : Type 0 where
   pub there : (sink : Took) → PutOnce sink text → Answers seen (asked.Check command) sink 1
   pub alone : (sink : Took) (status : ℕ) → Answers seen (asked.Check command) sink status → ((status ≡ 1) × PutOnce sink text) ⊎ ((status ≡ 5) ⊎ ((status ≡ 6) ⊎ (status ≡ 7)))
   pub not_silent : (sink : Took) → Answers seen (asked.Check command) sink 0 → ⊥
+  -- the unit is plain, so the clause on plain units says of its line that the run violates it
+  pub plain : IsPlainUnit (unit_view report.judged.checked) report.judged.flow

@@ -12,8 +12,8 @@ use report_cli_rows_analyses::one_division_is_found;
 use report_cli_rows_units::{tokens_are_parsed, trees_are_checked};
 
 /// Where `int main(void){return 1/0;}` is held, `check` answers 1 and puts one line, or a device gives out, or memory: no
-/// other report of it, no other verdict and no other answer meets the clause of the program. The unit's values are built in
-/// the memory of some program.
+/// other report of it, no other verdict and no other answer meets the clause of the program. It is a plain unit. The unit's
+/// values are built in the memory of some program.
 pub fn one_line_is_told()
     ensures { Flow → IsToldAlone }
 {

@@ -37,7 +37,7 @@ pub record IsProgram (unit : Unit7) (s : SettingView) (flow : Flow) : Type 0 whe
   pub parsed : IsParsed unit tree
   pub checked : Checked
   pub typed : IsTyped s tree checked
-  pub looked : IsLooked unit s checked
+  pub looked : IsLooked unit s
   pub plain : has_plain_objects (unit_view checked) ≡ true
   pub regular : is_regular_unit (unit_view checked) ≡ true
   pub lowered : IsLowered checked flow

@@ -25,7 +25,7 @@ use Rattle.flow_program.specs.ThresholdNumbers.{limits_of}
 use Rattle.flow_program.specs.StructNumbers.{flow_numbers}
 use Rattle.flow_lower_objects.specs.PlainObjects.{has_plain_objects}
 use Rattle.flow_lower_units.specs.RegularUnits.{is_regular_unit}
-use Rattle.ref_machine_looks_units.specs.SmallUnits.{have_byte_texts, is_small_unit}
+use Rattle.ref_machine_looks_units.specs.SmallUnits.{have_byte_texts}
 use Rattle.flow_lower.specs.Lowerings as lowering
 use Rattle.flow_lower.specs.Lowerings.{IsLowering}
 use Rattle.flow_analysis.specs.Analyses.{IsAnalysis}
@@ -63,13 +63,11 @@ pub record IsTyped (s : SettingView) (tree : Tree7) (checked : Checked) : Type 0
   pub checks : check s.model s.entry (unit_tree tree) ≡ Ok (unit_view checked)
   pub model : checked.model ≡ s.model
 
--- what typing does not ask, and a run needs in order not to be stuck: the model is one, the tokens are of bytes, and memory has
--- room for the objects of the checked unit
-pub record IsLooked (unit : Unit7) (s : SettingView) (checked : Checked) : Type 0 where
+-- what typing does not ask, and a run needs in order not to be stuck: the model is one, and the tokens are of bytes
+pub record IsLooked (unit : Unit7) (s : SettingView) : Type 0 where
   pub proper : is_model s.model ≡ true
   pub model : unit.model ≡ s.model
   pub bytes : have_byte_texts unit.tokens ≡ true
-  pub small : is_small_unit (unit_view checked) ≡ true
 
 -- the program of a checked unit
 pub record IsLowered (checked : Checked) (flow : Flow) : Type 0 where
@@ -117,7 +115,7 @@ pub record IsJudged (unit : Unit7) (s : SettingView) (j : Judgement) : Type 0 wh
   pub parsed : IsParsed unit tree
   pub checked : Checked
   pub typed : IsTyped s tree checked
-  pub looked : IsLooked unit s checked
+  pub looked : IsLooked unit s
   pub plain : has_plain_objects (unit_view checked) ≡ true
   pub regular : is_regular_unit (unit_view checked) ≡ true
   pub flow : Flow

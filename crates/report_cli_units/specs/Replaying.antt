@@ -49,7 +49,7 @@ pub record IsReplayed (unit : Unit7) (s : SettingView) (draws : List ℤ) (steps
   pub parsed : IsParsed unit tree
   pub checked : Checked
   pub typed : IsTyped s tree checked
-  pub looked : IsLooked unit s checked
+  pub looked : IsLooked unit s
   pub regular : is_regular_unit (unit_view checked) ≡ true
   pub flow : Flow
   pub lowered : IsLowered checked flow

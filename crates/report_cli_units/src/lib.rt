@@ -1,6 +1,7 @@
 //! What a unit that was expanded comes to: its diagnostics, its certificate, or one run of it.
 #![tactic(auto)]
 
+mod byte_texts;
 mod stages;
 mod unit_answers;
 mod unit_certificates;

@@ -1,14 +1,15 @@
 //! What a unit that was expanded comes to.
-ghost use Rattle.std.specs.Prelude.{◌≡◌, ◌++◌, ◌&&◌, IfErr, IfOk, Some, is_ok, true, length};
+ghost use Rattle.std.specs.Prelude.{◌≡◌, ◌++◌, IfErr, IfOk, Some, is_ok, true, length};
 ghost use Rattle.c_layout.specs.CheckedUnits.{unit_view};
 ghost use Rattle.c_layout.specs.Models.{is_model};
 ghost use Rattle.flow_lower_objects.specs.PlainObjects.{has_plain_objects};
 ghost use Rattle.flow_lower_units.specs.RegularUnits.{is_regular_unit};
 ghost use Rattle.flow_program.specs.WellFormed.{base_cells, is_well_formed};
 ghost use Rattle.cc_base.specs.Standard.{standard_limits};
-ghost use Rattle.ref_machine_looks_units.specs.SmallUnits.{have_byte_texts, is_small_unit};
+ghost use Rattle.ref_machine_looks_units.specs.SmallUnits.{have_byte_texts};
 ghost use Rattle.report_cli_units.specs.Judging.{setting_view, judgement, cells_from, cell_count, IsParsed, IsTyped, IsLooked, IsLowered, IsTurned, IsJudged, IsFound, StopsUnit};
 
+use crate::byte_texts::have_byte_texts;
 use crate::stages::{Stage, stop_at};
 use crate::unit_thresholds::unit_thresholds;
 use c_layout::{BaseInfo, Checked, Model, Tree7, Unit7};
@@ -19,7 +20,6 @@ use flow_analysis::analyse;
 use flow_lower::lower;
 use flow_lower_counts::capped_sum;
 use flow_program::Flow;
-use report_cli_looks::{have_byte_texts, is_small_unit};
 use std::alloc::{AllocError, Global};
 use syntax_rules::syntactic;
 use turn_split::split;
@@ -119,21 +119,18 @@ pub(crate) fn typed(
     }
 }
 
-/// Looks at what typing does not ask, and a run needs in order not to be stuck: whether tokens are of bytes, and memory
-/// has room for the objects of the unit.
+/// Looks at what typing does not ask, and a run needs in order not to be stuck: whether tokens are of bytes.
 ///
 /// # Errors
 ///
-/// Want of memory exactly where one of the two is not so. That no checked unit comes to that but by a string literal that
-/// is longer than memory may be is no theorem.
-pub(crate) fn looked(unit: &Unit7, checked: &Checked, setting: Setting) -> Result<(), Memory>
+/// Want of memory exactly where one is not.
+pub(crate) fn looked(unit: &Unit7, setting: Setting) -> Result<(), Memory>
     requires proper { is_model setting.model.now ≡ true }
     requires model { unit.now.model ≡ setting.model.now }
-    requires typed { checked.now.model ≡ setting.model.now }
-    ensures looked { IfOk result (λ _. IsLooked unit.now (setting_view setting.entry) checked.now) }
-    ensures exact { is_ok result ≡ (have_byte_texts unit.now.tokens && is_small_unit (unit_view checked.now)) }
+    ensures looked { IfOk result (λ _. IsLooked unit.now (setting_view setting.entry)) }
+    ensures exact { is_ok result ≡ have_byte_texts unit.now.tokens }
 {
-    if have_byte_texts(unit) && is_small_unit(checked) {
+    if have_byte_texts(unit) {
         Ok(())
     } else {
         Err(Memory)
@@ -195,7 +192,7 @@ pub fn judge_unit(alloc: Global, unit: &Unit7, setting: Setting) -> Result<Judge
     let tree = parsed(alloc, unit, setting)?;
     let checked = typed(alloc, unit, &tree, setting)?;
     let flow = lowered(alloc, unit, &tree, &checked, setting)?;
-    looked(unit, &checked, setting)?;
+    looked(unit, setting)?;
     match setting.turns {
         None => Ok(judge_program(alloc, &checked, &flow, &flow)?),
         Some(turns) => {

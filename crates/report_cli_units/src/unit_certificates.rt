@@ -23,7 +23,7 @@ fn program_of(alloc: Global, unit: &Unit7, setting: Setting) -> Result<Flow, Sto
     let tree = parsed(alloc, unit, setting)?;
     let checked = typed(alloc, unit, &tree, setting)?;
     let flow = lowered(alloc, unit, &tree, &checked, setting)?;
-    looked(unit, &checked, setting)?;
+    looked(unit, setting)?;
     Ok(flow)
 }
 

@@ -86,7 +86,7 @@ pub fn replay_unit(
     let tree = parsed(alloc, unit, setting)?;
     let checked = typed(alloc, unit, &tree, setting)?;
     let place = entry_place(alloc, unit, &tree, &checked, setting)?;
-    looked(unit, &checked, setting)?;
+    looked(unit, setting)?;
     let replayed = run(alloc, &checked, place, draws, steps)?;
     Ok(replayed)
 }

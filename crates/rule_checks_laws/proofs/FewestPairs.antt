@@ -22,7 +22,7 @@ use Rattle.abstract_steps_checks.specs.ViolationSets.{violates}
 use Rattle.abstract_steps_instructions.specs.StepViolations.{operation_violations}
 use Rattle.abstract_steps_rows.specs.EndLaws.{EndLaws}
 use Rattle.abstract_steps_rows.specs.OwnRows.{program_bases}
-use Rattle.abstract_steps_system.specs.FlowMachines.{flow_machine}
+use Rattle.abstract_steps_laws.specs.FlowMachines.{flow_machine}
 use Rattle.rule_checks.specs.AdmittedRules.{run_rules, pairs_among, pairs_of, instructions_in, instructions_of, pairs_at, row_behind, pairs_from, instruction_pairs, block_pairs, entry_pairs, rows_pairs, map_pairs}
 use Rattle.abstract_steps_laws_values.specs.RisingRows.{LeftRise}
 use Rattle.abstract_steps_laws_values.specs.LaidOut.{IsLaidOut}

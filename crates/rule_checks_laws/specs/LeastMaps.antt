@@ -8,7 +8,7 @@ use Rattle.value_domain.specs.Cells.{cell_lattice}
 use Rattle.interval_domain.specs.declared.intervals.Interval.{Interval}
 use Rattle.interval_domain.specs.IntervalLattice.{interval_lattice}
 use Rattle.interval_domain.specs.IntervalNumbers.{interval_numbers}
-use Rattle.abstract_steps_system.specs.FlowMachines.{flow_machine}
+use Rattle.abstract_steps_laws.specs.FlowMachines.{flow_machine}
 use Rattle.rule_checks.specs.AdmittedRules.{map_pairs}
 
 -- each pair that the least inductive map of intervals admits, each inductive map admits

@@ -6,8 +6,12 @@ use Rattle.cc_base.specs.IntegerDomains.{IntegersOf}
 use Rattle.cc_base.specs.IntegerTypes.{is_size}
 use Rattle.cc_base.specs.NumberRanges.{Range}
 use Rattle.cc_base.specs.declared.int_types.IntType.{IntType}
+use Rattle.cc_base.specs.declared.integer_operators.IntOp.{IntOp}
+use Rattle.cc_base.specs.declared.integer_operators.IntOp.TheVariants.{Shl, Shr}
 use Rattle.c_layout.specs.declared.library_functions.LibFn.{LibFn}
 use Rattle.c_layout.specs.declared.library_functions.LibFn.TheVariants as f
+use Rattle.flow_program.specs.declared.machine_instructions.Amount.{Amount}
+use Rattle.flow_program.specs.declared.machine_instructions.Amount.TheVariants as amount
 use Rattle.flow_program.specs.declared.machine_instructions.Instruction.{Instruction}
 use Rattle.flow_program.specs.declared.machine_instructions.Operation.{Operation}
 use Rattle.flow_program.specs.declared.machine_instructions.Operation.TheVariants as op
@@ -54,10 +58,21 @@ module _ {I : Type 0} where
   takes_size l n flow row f.Strncpy arguments = has_third_size l n flow row arguments
   takes_size l n flow row _ arguments = true
 
-  -- the left operand of an operator lies in the operator's type, what is converted is of the type from which it is
-  -- converted, and no size is negative
+  -- the 1 of `++` and `--` is of each type
+  abbrev pub is_amount_within : LatticeOf I → IntegersOf I → Flow → List (Cell I) → IntType → Amount → Bool
+  is_amount_within l n flow row kind (amount.Temp temp) = is_within n kind (temp_value l n flow row temp)
+  is_amount_within l n flow row kind amount.One = true
+
+  -- the count of a shift may be of another type
+  abbrev pub has_right : LatticeOf I → IntegersOf I → Flow → List (Cell I) → IntOp → IntType → Amount → Bool
+  has_right l n flow row Shl kind right = true
+  has_right l n flow row Shr kind right = true
+  has_right l n flow row _ kind right = is_amount_within l n flow row kind right
+
+  -- the operands of an operator lie in the operator's type, but for the count of a shift; what is converted is of the
+  -- type from which it is converted, and no size is negative
   unfoldable pub has_operands : LatticeOf I → IntegersOf I → Flow → List (Cell I) → Operation → Bool
-  has_operands l n flow row (op.Binary to o left right kind) = is_within n kind (temp_value l n flow row left)
+  has_operands l n flow row (op.Binary to o left right kind) = is_within n kind (temp_value l n flow row left) && has_right l n flow row o kind right
   has_operands l n flow row (op.Unary to o operand kind) = is_within n kind (temp_value l n flow row operand)
   has_operands l n flow row (op.Convert to operand from kind) = is_of_kind n from (temp_value l n flow row operand)
   has_operands l n flow row (op.Library to name arguments newest size) = takes_size l n flow row name arguments.items

@@ -8,8 +8,8 @@ ghost use Rattle.rule_checks_operands.specs.TypedRows as spec;
 use abstract_steps_checks::temp_value;
 use abstract_steps_instructions::operate;
 use c_layout::LibFn;
-use cc_base::{IntDomain, IntType};
-use flow_program::{Flow, Instruction, Operation, Scalar};
+use cc_base::{IntDomain, IntOp, IntType};
+use flow_program::{Amount, Flow, Instruction, Operation, Scalar};
 use value_domain::{Cell, Value, range_fits};
 
 /// Whether no number of a range is negative.
@@ -83,13 +83,42 @@ fn takes_size<I: IntDomain>(flow: &Flow, row: &[Cell<I>], name: LibFn, temps: &[
     }
 }
 
+/// Whether an amount is of a type; the 1 of `++` and `--` is of each.
+fn is_amount_within<I: IntDomain>(flow: &Flow, row: &[Cell<I>], kind: IntType, by: Amount) -> bool
+    ensures { result ≡ spec.is_amount_within I.lattice I.numbers flow.now row.now kind by }
+{
+    match by {
+        Amount::Temp(temp) => is_within(kind, temp_value(flow, row, temp)),
+        Amount::One => true,
+    }
+}
+
+/// Whether a right operand is of its operator's type; the count of a shift may be of another.
+fn has_right<I: IntDomain>(
+    flow: &Flow,
+    row: &[Cell<I>],
+    operator: IntOp,
+    kind: IntType,
+    right: Amount,
+) -> bool
+    ensures { result ≡ spec.has_right I.lattice I.numbers flow.now row.now operator kind right }
+{
+    match operator {
+        IntOp::Shl | IntOp::Shr => true,
+        _ => is_amount_within(flow, row, kind, right),
+    }
+}
+
 /// Whether the operands of an instruction lie within the types that it names, in the row before it.
 #[tactic(auto, unfolding(crate::specs::TypedRows::has_operands))]
 pub fn has_operands<I: IntDomain>(flow: &Flow, row: &[Cell<I>], operation: &Operation) -> bool
     ensures { result ≡ spec.has_operands I.lattice I.numbers flow.now row.now operation.now }
 {
     match operation {
-        Operation::Binary(_, _, left, _, kind) => is_within(*kind, temp_value(flow, row, *left)),
+        Operation::Binary(_, operator, left, right, kind) => {
+            is_within(*kind, temp_value(flow, row, *left))
+                && has_right(flow, row, *operator, *kind, *right)
+        }
         Operation::Unary(_, _, operand, kind) => is_within(*kind, temp_value(flow, row, *operand)),
         Operation::Convert(_, operand, from, _) => {
             is_of_kind(*from, temp_value(flow, row, *operand))

@@ -6,10 +6,10 @@ use Rattle.cc_base.specs.IntegerDomains.{IntegersOf}
 use Rattle.cc_base.specs.declared.diagnostics.Place.{Place}
 use Rattle.cc_base.specs.declared.diagnostics.Rule.{Rule}
 use Rattle.c_layout.specs.CheckedUnits.{UnitView}
-use Rattle.flow_program.specs.declared.programs.Flow.{Flow}
+use Rattle.flow_program_machine.specs.Flow.{Flow}
 use Rattle.value_domain.specs.declared.row_cells.Cell.{Cell}
-use Rattle.lib_models_effects.specs.Worlds.{Violation}
-use Rattle.flow_program_views.specs.ProgramViews.{flow_view}
+use Rattle.flow_program_machine.specs.Worlds.{Violation}
+use Rattle.flow_program_machine.specs.ProgramViews.{flow_view}
 use Rattle.flow_program_machine.specs.FlowStates.{Standing, FlowRun, running, found_in}
 use Rattle.flow_program_machine.specs.FlowSteps.{flow_steps}
 use Rattle.flow_program_machine.specs.FlowStarts.{flow_begin}

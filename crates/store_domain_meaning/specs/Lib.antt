@@ -6,3 +6,6 @@ pub mod ValueMeaning
 pub mod SoundMemory
 pub mod RowMeaning
 pub mod Coverage
+pub use Rattle.abstract_steps_checks.specs.Temporaries
+pub use Rattle.abstract_steps_checks.specs.Touches
+pub use Rattle.abstract_steps_checks.specs.ViolationSets

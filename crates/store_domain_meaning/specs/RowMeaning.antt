@@ -6,7 +6,7 @@ use Rattle.c_layout.specs.declared.leaf_lists.Class.{Class}
 use Rattle.c_layout.specs.declared.leaf_lists.Leaf.{Leaf}
 use Rattle.c_layout.specs.declared.shapes.BaseInfo.{BaseInfo}
 use Rattle.c_layout.specs.declared.shapes.ZeroPart.{ZeroPart}
-use Rattle.flow_program.specs.declared.programs.Flow.{Flow}
+use Rattle.flow_program_machine.specs.Flow.{Flow}
 use Rattle.value_domain.specs.declared.values.Value.{Value}
 use Rattle.value_domain.specs.declared.row_cells.Cell.{Cell}
 use Rattle.store_domain.specs.ClassNumbers.{class_at}

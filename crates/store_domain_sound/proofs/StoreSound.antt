@@ -46,7 +46,7 @@ use Rattle.c_layout.specs.declared.shapes.ZeroPart.{ZeroPart}
 use Rattle.c_layout.specs.declared.shapes.BaseKind.{BaseKind}
 use Rattle.pointer_domain.specs.declared.pointer_sets.Pointers.{Pointers}
 use Rattle.pointer_domain.specs.BaseSets.{bases_has, bases_count, bases_within}
-use Rattle.abstract_steps_checks.specs.Temporaries.{temp_position, temp_value}
+use Rattle.store_domain_meaning.specs.Temporaries.{temp_position, temp_value}
 use Rattle.value_domain.specs.declared.alloc_states.AllocState.{AllocState}
 use Rattle.lib_models_memory.specs.Tags.{tag_of}
 use Rattle.lib_models_effects.specs.Worlds.{World, goes}

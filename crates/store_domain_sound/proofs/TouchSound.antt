@@ -23,8 +23,8 @@ use Rattle.pointer_domain.specs.PointerTables.{length_above}
 use Rattle.value_domain.specs.declared.row_cells.Cell.{Cell}
 use Rattle.store_domain.specs.RowPositions.{state_at, state_position}
 use Rattle.store_domain.specs.LiveBases.{has_base, most_bases, may_be_live, live_of, any_freed, is_literal_kind}
-use Rattle.abstract_steps_checks.specs.Touches.{leaves_bounds_at, span_of, is_literal_or, any_literal, is_nowhere, places_within, touched_inside, touch_violations, touch}
-use Rattle.abstract_steps_checks.specs.ViolationSets.{violates}
+use Rattle.store_domain_meaning.specs.Touches.{leaves_bounds_at, span_of, is_literal_or, any_literal, is_nowhere, places_within, touched_inside, touch_violations, touch}
+use Rattle.store_domain_meaning.specs.ViolationSets.{violates}
 use Rattle.lib_models_memory.specs.ScalarSizes.{class_bytes}
 use Rattle.lib_models_memory.specs.Bytes.{MachinePointer, null, into}
 use Rattle.lib_models_memory.specs.Instances.{Life, live, ended, freed, bytes_at, life_at}

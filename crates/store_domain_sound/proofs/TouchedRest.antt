@@ -18,7 +18,7 @@ use Rattle.pointer_domain.specs.PointerTables.{length_above}
 use Rattle.value_domain.specs.declared.row_cells.Cell.{Cell}
 use Rattle.store_domain.specs.NearValues.{is_near, near_number}
 use Rattle.store_domain.specs.LiveBases.{most_bases, is_live_in, live_of, is_literal_kind, may_be_live}
-use Rattle.abstract_steps_checks.specs.Touches.{is_nowhere, places_within, kept_of, touch}
+use Rattle.store_domain_meaning.specs.Touches.{is_nowhere, places_within, kept_of, touch}
 use Rattle.lib_models_memory.specs.Bytes.{MachinePointer}
 use Rattle.lib_models_memory.specs.Instances.{live, bytes_at, life_at}
 use Rattle.lib_models_memory.specs.Scalars.{Scalar}

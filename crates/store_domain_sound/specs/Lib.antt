@@ -4,3 +4,13 @@ pub mod Shapes
 pub mod MemoryStatements
 pub mod Statements
 pub mod TouchStatements
+pub use Rattle.store_domain_meaning.specs.Places
+pub use Rattle.store_domain_meaning.specs.SoundMemory
+pub use Rattle.store_domain_meaning.specs.Coverage
+pub use Rattle.store_domain_meaning.specs.RowMeaning
+pub use Rattle.store_domain_meaning.specs.SeenLabels
+pub use Rattle.store_domain_meaning.specs.ValueMeaning
+pub use Rattle.store_domain_meaning.specs.FirstZeroBytes
+pub use Rattle.store_domain_meaning.specs.Matching
+pub use Rattle.store_domain_meaning.specs.Temporaries
+pub use Rattle.lib_models_effects.specs.Touches

@@ -8,8 +8,8 @@ use Rattle.flow_program.specs.declared.machine_instructions.Scalar as declared
 use Rattle.flow_program.specs.declared.programs.Flow.{Flow}
 use Rattle.pointer_domain.specs.declared.pointer_sets.Pointers.{Pointers}
 use Rattle.value_domain.specs.declared.row_cells.Cell.{Cell}
-use Rattle.abstract_steps_checks.specs.Touches.{touch}
-use Rattle.abstract_steps_checks.specs.ViolationSets.{violates}
+use Rattle.store_domain_meaning.specs.Touches.{touch}
+use Rattle.store_domain_meaning.specs.ViolationSets.{violates}
 use Rattle.lib_models_memory.specs.ScalarSizes.{class_bytes}
 use Rattle.lib_models_memory.specs.Bytes.{MachinePointer}
 use Rattle.lib_models_memory.specs.Scalars.{Scalar, pointer}

@@ -11,7 +11,7 @@ use Rattle.store_domain.specs.AccessWindows.{window_from, window_lies_within, wi
 use Rattle.store_domain.specs.FirstZeroWrites.{last_of, has_no_bytes, zero_target}
 use Rattle.lib_models_memory.specs.Bytes.{Content, Byte}
 use Rattle.lib_models_memory.specs.Instances.{Memory, bytes_at, byte_at}
-use Rattle.store_domain_meaning.specs.RowMeaning.{array_of, array_bytes}
+use Rattle.store_domain_sound.specs.RowMeaning.{array_of, array_bytes}
 use Rattle.store_domain_sound.proofs.Slices.{get_drop, get_set_same, get_set_other}
 use Rattle.store_domain_sound.proofs.StoreZeros.{same_slices, take_by}
 use Rattle.store_domain_sound_chars.proofs.ByteStores.{IsByteStore}

@@ -13,9 +13,9 @@ use Rattle.lib_models_memory.specs.ScalarSizes.{class_bytes}
 use Rattle.lib_models_memory.specs.Bytes.{Content}
 use Rattle.lib_models_memory.specs.Instances.{Memory, bytes_at}
 use Rattle.lib_models_memory.specs.Numbers.{Labelled, number_of}
-use Rattle.store_domain_meaning.specs.Matching.{Fits, Matched, number_in, Holds}
-use Rattle.store_domain_meaning.specs.ValueMeaning.{Naming, StandsContent}
-use Rattle.store_domain_meaning.specs.RowMeaning.{IsLiveOf, StandsCell}
+use Rattle.store_domain_sound.specs.Matching.{Fits, Matched, number_in, Holds}
+use Rattle.store_domain_sound.specs.ValueMeaning.{Naming, StandsContent}
+use Rattle.store_domain_sound.specs.RowMeaning.{IsLiveOf, StandsCell}
 use Rattle.store_domain_sound.proofs.Larger.{ValueBelow, content_larger}
 use Rattle.store_domain_sound.proofs.Frames.{live_moves, content_moves}
 use Rattle.store_domain_sound_chars.proofs.ByteStores.{IsByteStore, here_or_not, matched_out, matched_in}

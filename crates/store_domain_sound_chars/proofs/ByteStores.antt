@@ -15,8 +15,8 @@ use Rattle.lib_models_memory.specs.ScalarSizes.{class_bytes}
 use Rattle.lib_models_memory.specs.Bytes.{MachinePointer, into, Content, number, Tag, Byte}
 use Rattle.lib_models_memory.specs.Instances.{Memory, Instance, live, bytes_of, bytes_at, byte_at, life_at}
 use Rattle.lib_models_memory.specs.Scalars.{Scalar, integer, pointer}
-use Rattle.store_domain_meaning.specs.SoundMemory.{IsPointerIn, IsWithin}
-use Rattle.store_domain_meaning.specs.Matching.{Fits, Matched}
+use Rattle.store_domain_sound.specs.SoundMemory.{IsPointerIn, IsWithin}
+use Rattle.store_domain_sound.specs.Matching.{Fits, Matched}
 use Rattle.lib_models_effects.specs.Worlds.{World, Reply, goes, stops, Stuck}
 use Rattle.lib_models_effects.specs.ScalarBytes.{number_bytes, bits_in, scalar_bytes, filled, tagged_from, replaced, refilled}
 use Rattle.lib_models_effects.specs.Touches.{Spot, touched, is_allocated, is_literal, storage_of, storage_at, set_bytes}

@@ -8,7 +8,7 @@ use Rattle.std.proofs.lemmas.List.{length-set}
 use Rattle.std.proofs.lemmas.Option.{same_Some}
 use Rattle.string_domain.specs.FirstZeros.{the_end}
 use Rattle.lib_models_memory.specs.Bytes.{Content, Byte}
-use Rattle.store_domain_meaning.specs.FirstZeroBytes.{Seen, unknown, end, character, seen_as, one_more, zero_by, first_zero, zero_offset}
+use Rattle.store_domain_sound.specs.FirstZeroBytes.{Seen, unknown, end, character, seen_as, one_more, zero_by, first_zero, zero_offset}
 use Rattle.store_domain_sound.proofs.StoreZeros.{zero_small}
 use Rattle.value_domain_laws.specs.ZeroMeaning.{WroteZero, WroteOther}
 

@@ -30,9 +30,9 @@ use Rattle.lib_models_memory.specs.Instances.{Memory}
 use Rattle.lib_models_memory.specs.Numbers.{Labelled, unsigned_of, signed_of, number_of}
 use Rattle.lib_models_memory.specs.Scalars.{integer}
 use Rattle.lib_models_effects.specs.ScalarBytes.{number_bytes, bits_in, scalar_bytes}
-use Rattle.store_domain_meaning.specs.Matching.{Matched, number_in, Holds}
-use Rattle.store_domain_meaning.specs.SeenLabels.{as_set}
-use Rattle.store_domain_meaning.specs.ValueMeaning.{Naming, StandsContent}
+use Rattle.store_domain_sound.specs.Matching.{Matched, number_in, Holds}
+use Rattle.store_domain_sound.specs.SeenLabels.{as_set}
+use Rattle.store_domain_sound.specs.ValueMeaning.{Naming, StandsContent}
 use Rattle.store_domain_sound.proofs.Classes.{integer_class, class_above, class_size}
 use Rattle.store_domain_sound.proofs.Rereading.{halves, unsigned_below}
 use Rattle.store_domain_sound.proofs.FreshValues.{cell_of, as_labels, number_stands, type_near}

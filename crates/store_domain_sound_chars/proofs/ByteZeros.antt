@@ -15,7 +15,7 @@ use Rattle.store_domain.specs.declared.first_zero_writes.ZeroTarget.{ZeroTarget}
 use Rattle.store_domain.specs.FirstZeroWrites.{offsets_of, sure_or_joined, put_at}
 use Rattle.lib_models_memory.specs.Bytes.{Content, number, Byte}
 use Rattle.lib_models_memory.specs.Labels.{Labels}
-use Rattle.store_domain_meaning.specs.FirstZeroBytes.{first_zero, zero_offset}
+use Rattle.store_domain_sound.specs.FirstZeroBytes.{first_zero, zero_offset}
 use Rattle.store_domain_sound.proofs.Near.{near_number_from}
 use Rattle.store_domain_sound.proofs.StoreZeros.{between_stands, some_between}
 use Rattle.value_domain_laws.specs.ZeroLaws.{IsCount}

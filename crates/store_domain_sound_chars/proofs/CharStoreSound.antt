@@ -52,14 +52,14 @@ use Rattle.lib_models_effects.specs.Accesses.{class_in, store}
 use Rattle.lib_models_effects.specs.ScalarBytes.{bits_in}
 use Rattle.lib_models_effects.specs.Touches.{is_literal, storage_of, storage_at}
 use Rattle.lib_models_effects.specs.Worlds.{World, goes}
-use Rattle.abstract_steps_checks.specs.Temporaries.{temp_position, temp_value}
-use Rattle.store_domain_meaning.specs.FirstZeroBytes.{first_zero, zero_offset}
-use Rattle.store_domain_meaning.specs.Matching.{number_in}
-use Rattle.store_domain_meaning.specs.Places.{IsPlaceOf, OwnedByLeaf, IsLeafPlace}
-use Rattle.store_domain_meaning.specs.SeenLabels.{as_set}
-use Rattle.store_domain_meaning.specs.SoundMemory.{IsWithin, IsPointerIn, IsMemoryOf, IsInstanceOf, storage_for}
-use Rattle.store_domain_meaning.specs.ValueMeaning.{Naming, StandsScalar, StandsInto, StandsPointer, StandsState, StandsZero}
-use Rattle.store_domain_meaning.specs.RowMeaning.{IsLiveOf, MachineState, StandsFor, array_of, array_bytes}
+use Rattle.store_domain_sound.specs.Temporaries.{temp_position, temp_value}
+use Rattle.store_domain_sound.specs.FirstZeroBytes.{first_zero, zero_offset}
+use Rattle.store_domain_sound.specs.Matching.{number_in}
+use Rattle.store_domain_sound.specs.Places.{IsPlaceOf, OwnedByLeaf, IsLeafPlace}
+use Rattle.store_domain_sound.specs.SeenLabels.{as_set}
+use Rattle.store_domain_sound.specs.SoundMemory.{IsWithin, IsPointerIn, IsMemoryOf, IsInstanceOf, storage_for}
+use Rattle.store_domain_sound.specs.ValueMeaning.{Naming, StandsScalar, StandsInto, StandsPointer, StandsState, StandsZero}
+use Rattle.store_domain_sound.specs.RowMeaning.{IsLiveOf, MachineState, StandsFor, array_of, array_bytes}
 use Rattle.store_domain_sound.specs.Gives.{Gives}
 use Rattle.store_domain_sound.specs.Scalars.{signed_in, IsOfKind}
 use Rattle.store_domain_sound.specs.Shapes.{IsShaped, AreShaped, AreLaid, HasTexts, SeesPadding}

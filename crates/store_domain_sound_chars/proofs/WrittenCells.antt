@@ -25,11 +25,11 @@ use Rattle.lib_models_memory.specs.Labels.{Labels}
 use Rattle.lib_models_memory.specs.ScalarSizes.{class_bytes}
 use Rattle.lib_models_memory.specs.Instances.{Memory, bytes_at}
 use Rattle.lib_models_memory.specs.Numbers.{Labelled, number_of}
-use Rattle.store_domain_meaning.specs.Matching.{Fits, number_in, Holds}
-use Rattle.store_domain_meaning.specs.SeenLabels.{as_set}
-use Rattle.store_domain_meaning.specs.SoundMemory.{IsMemoryOf}
-use Rattle.store_domain_meaning.specs.ValueMeaning.{Naming}
-use Rattle.store_domain_meaning.specs.RowMeaning.{IsLiveOf, StandsCell}
+use Rattle.store_domain_sound.specs.Matching.{Fits, number_in, Holds}
+use Rattle.store_domain_sound.specs.SeenLabels.{as_set}
+use Rattle.store_domain_sound.specs.SoundMemory.{IsMemoryOf}
+use Rattle.store_domain_sound.specs.ValueMeaning.{Naming}
+use Rattle.store_domain_sound.specs.RowMeaning.{IsLiveOf, StandsCell}
 use Rattle.store_domain_sound.proofs.Larger.{ValueBelow, value_below, content_larger}
 use Rattle.store_domain_sound.proofs.Near.{IsNearValue, near_is, value_at_near, join_near}
 use Rattle.store_domain_sound.proofs.FreshValues.{cell_of, cell_near}

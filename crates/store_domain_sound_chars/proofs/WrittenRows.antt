@@ -32,11 +32,11 @@ use Rattle.store_domain.specs.Stores.{stored_value, cell_value, is_strong, store
 use Rattle.lib_models_memory.specs.Labels.{Labels}
 use Rattle.lib_models_memory.specs.ScalarSizes.{class_bytes}
 use Rattle.lib_models_memory.specs.Instances.{Memory, live, ended, life_at}
-use Rattle.store_domain_meaning.specs.Places.{IsPlaceOf, IsLeafPlace, OwnedByLeaf, OwnedByClass, IsClassPlace}
-use Rattle.store_domain_meaning.specs.SeenLabels.{as_set}
-use Rattle.store_domain_meaning.specs.SoundMemory.{IsMemoryOf}
-use Rattle.store_domain_meaning.specs.ValueMeaning.{Naming}
-use Rattle.store_domain_meaning.specs.RowMeaning.{IsLiveOf, StandsCell, StandsLeaf, StandsClass, MachineState, StandsFor}
+use Rattle.store_domain_sound.specs.Places.{IsPlaceOf, IsLeafPlace, OwnedByLeaf, OwnedByClass, IsClassPlace}
+use Rattle.store_domain_sound.specs.SeenLabels.{as_set}
+use Rattle.store_domain_sound.specs.SoundMemory.{IsMemoryOf}
+use Rattle.store_domain_sound.specs.ValueMeaning.{Naming}
+use Rattle.store_domain_sound.specs.RowMeaning.{IsLiveOf, StandsCell, StandsLeaf, StandsClass, MachineState, StandsFor}
 use Rattle.store_domain_sound.specs.Shapes.{AreShaped, AreLaid, at_offset}
 use Rattle.store_domain_sound.proofs.Classes.{is_same_class, same_class_is, class_small, class_number_back, class_above, integer_class}
 use Rattle.store_domain_sound.proofs.Selected.{place_selected, is_stray, counted_place, single_in}

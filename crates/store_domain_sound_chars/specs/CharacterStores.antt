@@ -15,9 +15,9 @@ use Rattle.lib_models_memory.specs.Bytes.{MachinePointer}
 use Rattle.lib_models_memory.specs.Scalars.{Scalar, pointer}
 use Rattle.lib_models_effects.specs.Worlds.{World, goes}
 use Rattle.lib_models_effects.specs.Accesses.{class_in, store}
-use Rattle.store_domain_meaning.specs.ValueMeaning.{Naming, StandsPointer, StandsScalar}
-use Rattle.store_domain_meaning.specs.SoundMemory.{IsPointerIn}
-use Rattle.store_domain_meaning.specs.RowMeaning.{StandsFor}
+use Rattle.store_domain_sound.specs.ValueMeaning.{Naming, StandsPointer, StandsScalar}
+use Rattle.store_domain_sound.specs.SoundMemory.{IsPointerIn}
+use Rattle.store_domain_sound.specs.RowMeaning.{StandsFor}
 use Rattle.store_domain_sound.specs.Gives.{Gives}
 use Rattle.store_domain_sound.specs.Scalars.{signed_in}
 use Rattle.store_domain_sound.specs.Shapes.{SeesPadding, IsLaidOut}

@@ -14,7 +14,7 @@ use Rattle.flow_program.specs.ApartLeaves.{HasByte}
 use Rattle.lib_models_memory.specs.ScalarSizes.{class_bytes}
 use Rattle.lib_models_memory.specs.Bytes.{Tag}
 use Rattle.lib_models_memory.specs.Tags.{tag_of, leaf_tag, or_tag, tag_at}
-use Rattle.store_domain_meaning.specs.Places.{OwnedByLeaf}
+use Rattle.store_domain_sound.specs.Places.{OwnedByLeaf}
 use Rattle.store_domain_sound.proofs.Classes.{same_class_is}
 use Rattle.store_domain_sound.proofs.TagPlaces.{is_tagged}
 use Rattle.store_domain_sound_programs.proofs.Sizes.{same_bytes}

@@ -14,8 +14,8 @@ use Rattle.c_layout.specs.Models.{is_model}
 use Rattle.flow_program.specs.ModelKinds as program
 use Rattle.flow_program.specs.BaseShapes.{is_extent, are_leaves, are_parts, lie_over, is_whole_part, are_whole, is_heap, is_single, is_heap_base, is_declared_base, is_shaped}
 use Rattle.flow_program.specs.ApartLeaves.{HasByte}
-use Rattle.lib_models_effects.specs.Touches.{is_allocated}
-use Rattle.store_domain_meaning.specs.SoundMemory.{storage_for}
+use Rattle.store_domain_sound.specs.Touches.{is_allocated}
+use Rattle.store_domain_sound.specs.SoundMemory.{storage_for}
 use Rattle.store_domain_sound.specs.Shapes.{at_offset, IsShaped, CountsOnce, HasTexts}
 use Rattle.store_domain_sound.proofs.Classes.{class_above}
 use Rattle.store_domain_sound_programs.proofs.Sizes.{same_bytes}

@@ -14,11 +14,11 @@ use Rattle.store_domain.specs.ClassNumbers.{class_at}
 use Rattle.store_domain.specs.LiveBases.{has_base}
 use Rattle.store_domain.specs.RowPositions.{leaf_position, class_position, zero_position, state_position, cell_at, zero_at, state_at}
 use Rattle.store_domain.specs.Walks.{walk}
-use Rattle.abstract_steps_checks.specs.Temporaries.{temp_position, temp_value}
+use Rattle.store_domain_sound.specs.Temporaries.{temp_position, temp_value}
 use Rattle.lib_models_memory.specs.Instances.{Memory, Life, live, ended, freed, bytes_at, byte_at, life_at}
-use Rattle.store_domain_meaning.specs.SoundMemory.{IsMemoryOf}
-use Rattle.store_domain_meaning.specs.ValueMeaning.{Naming, StandsScalar, StandsZero, StandsState}
-use Rattle.store_domain_meaning.specs.RowMeaning.{MachineState, array_bytes, StandsLeaf, StandsClass, StandsFor}
+use Rattle.store_domain_sound.specs.SoundMemory.{IsMemoryOf}
+use Rattle.store_domain_sound.specs.ValueMeaning.{Naming, StandsScalar, StandsZero, StandsState}
+use Rattle.store_domain_sound.specs.RowMeaning.{MachineState, array_bytes, StandsLeaf, StandsClass, StandsFor}
 use Rattle.store_domain_sound.specs.Shapes.{IsLaidOut}
 use Rattle.store_domain_sound.proofs.Frames.{live_moves, scalar_in_moves, scalar_moves}
 use Rattle.store_domain_sound.proofs.StoreRows.{Fits, leaf_is, class_is, zero_is}

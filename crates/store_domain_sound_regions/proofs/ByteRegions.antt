@@ -20,9 +20,9 @@ use Rattle.store_domain.specs.NearValues.{near_value}
 use Rattle.store_domain.specs.RowPositions.{value_at, value_in, join_value, write_value}
 use Rattle.lib_models_memory.specs.ScalarSizes.{class_bytes}
 use Rattle.lib_models_memory.specs.Instances.{Memory}
-use Rattle.store_domain_meaning.specs.Places.{IsPlaceOf, OwnedByLeaf, OwnedByClass, IsClassPlace, IsLeafPlace}
-use Rattle.store_domain_meaning.specs.ValueMeaning.{Naming}
-use Rattle.store_domain_meaning.specs.RowMeaning.{StandsLeaf, StandsClass}
+use Rattle.store_domain_sound.specs.Places.{IsPlaceOf, OwnedByLeaf, OwnedByClass, IsClassPlace, IsLeafPlace}
+use Rattle.store_domain_sound.specs.ValueMeaning.{Naming}
+use Rattle.store_domain_sound.specs.RowMeaning.{StandsLeaf, StandsClass}
 use Rattle.store_domain_sound.specs.Shapes.{IsShaped, at_offset}
 use Rattle.store_domain_sound.proofs.Classes.{class_above}
 use Rattle.store_domain_sound.proofs.Only.{Only, only_put, cell_put}

@@ -10,8 +10,8 @@ use Rattle.lib_models_memory.specs.Bytes.{Content, number, Byte}
 use Rattle.lib_models_memory.specs.Instances.{Memory, Instance, bytes_of, bytes_at, byte_at}
 use Rattle.lib_models_effects.specs.ScalarBytes.{filled, refilled}
 use Rattle.lib_models_effects.specs.Touches.{set_bytes}
-use Rattle.store_domain_meaning.specs.SoundMemory.{IsMemoryOf}
-use Rattle.store_domain_meaning.specs.ValueMeaning.{Naming}
+use Rattle.store_domain_sound.specs.SoundMemory.{IsMemoryOf}
+use Rattle.store_domain_sound.specs.ValueMeaning.{Naming}
 use Rattle.store_domain_sound.proofs.Slices.{get_drop, get_there, get_set_same, get_set_other}
 use Rattle.store_domain_sound.proofs.MachineStores.{front_at, back_at, set_is}
 use Rattle.store_domain_sound.proofs.Refills.{is_refill, refill_sane}

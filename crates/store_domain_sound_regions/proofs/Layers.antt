@@ -17,8 +17,8 @@ use Rattle.store_domain.specs.ClassNumbers.{class_at}
 use Rattle.store_domain.specs.RowPositions.{leaf_position, class_position, zero_position, state_position, cell_at, value_at, zero_at, state_at}
 use Rattle.store_domain.specs.Walks.{walk, turns}
 use Rattle.lib_models_memory.specs.Instances.{Memory, bytes_at, life_at}
-use Rattle.store_domain_meaning.specs.ValueMeaning.{Naming, StandsZero, StandsState}
-use Rattle.store_domain_meaning.specs.RowMeaning.{array_bytes, IsLiveOf, StandsLeaf, StandsClass}
+use Rattle.store_domain_sound.specs.ValueMeaning.{Naming, StandsZero, StandsState}
+use Rattle.store_domain_sound.specs.RowMeaning.{array_bytes, IsLiveOf, StandsLeaf, StandsClass}
 use Rattle.store_domain_sound.proofs.Only.{Leaves, Only, only_leaves, only_more, only_same, only_then, only_walk, Turned, walk_turn}
 use Rattle.store_domain_sound.proofs.StoreRows.{Fits, leaf_is, class_is, zero_is}
 use Rattle.store_domain_sound.proofs.StoreValues.{same_value, same_zero, same_state}

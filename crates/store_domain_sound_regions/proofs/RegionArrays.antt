@@ -17,9 +17,9 @@ use Rattle.store_domain.specs.NearValues.{near_number}
 use Rattle.store_domain.specs.RowPositions.{zero_at, zero_in, put_zero}
 use Rattle.lib_models_memory.specs.Bytes.{Byte}
 use Rattle.lib_models_memory.specs.Instances.{Memory, bytes_at, byte_at}
-use Rattle.store_domain_meaning.specs.FirstZeroBytes.{Seen, unknown, end, character, seen_as, one_more, zero_by, first_zero, zero_offset}
-use Rattle.store_domain_meaning.specs.ValueMeaning.{Naming, StandsZero}
-use Rattle.store_domain_meaning.specs.RowMeaning.{array_of, array_bytes}
+use Rattle.store_domain_sound.specs.FirstZeroBytes.{Seen, unknown, end, character, seen_as, one_more, zero_by, first_zero, zero_offset}
+use Rattle.store_domain_sound.specs.ValueMeaning.{Naming, StandsZero}
+use Rattle.store_domain_sound.specs.RowMeaning.{array_of, array_bytes}
 use Rattle.store_domain_sound.proofs.Only.{cell_put}
 use Rattle.store_domain_sound.proofs.Slices.{get_drop}
 use Rattle.store_domain_sound.proofs.StoreZeros.{same_slices, take_by, zero_small, offset_near, some_between, any_stands}

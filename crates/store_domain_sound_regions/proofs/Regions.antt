@@ -18,11 +18,11 @@ use Rattle.lib_models_memory.specs.Labels.{Labels}
 use Rattle.lib_models_memory.specs.Bytes.{Content, number, Byte}
 use Rattle.lib_models_memory.specs.Instances.{Memory, bytes_at, byte_at}
 use Rattle.lib_models_memory.specs.Numbers.{Labelled, number_of}
-use Rattle.store_domain_meaning.specs.Matching.{Matched, number_in, Holds}
-use Rattle.store_domain_meaning.specs.SeenLabels.{as_set}
-use Rattle.store_domain_meaning.specs.SoundMemory.{IsMemoryOf}
-use Rattle.store_domain_meaning.specs.ValueMeaning.{Naming, StandsContent}
-use Rattle.store_domain_meaning.specs.RowMeaning.{IsLiveOf, StandsCell}
+use Rattle.store_domain_sound.specs.Matching.{Matched, number_in, Holds}
+use Rattle.store_domain_sound.specs.SeenLabels.{as_set}
+use Rattle.store_domain_sound.specs.SoundMemory.{IsMemoryOf}
+use Rattle.store_domain_sound.specs.ValueMeaning.{Naming, StandsContent}
+use Rattle.store_domain_sound.specs.RowMeaning.{IsLiveOf, StandsCell}
 use Rattle.store_domain_sound_regions.specs.RegionWrites.{IsRegion}
 use Rattle.store_domain_sound.proofs.Frames.{IsAlike, live_moves, content_moves, in_or_out}
 use Rattle.store_domain_sound.proofs.Larger.{ValueBelow, value_below, content_larger}

@@ -14,9 +14,9 @@ use Rattle.store_domain.specs.LiveBases.{has_base}
 use Rattle.store_domain.specs.RowPositions.{leaf_position, class_position, zero_position, state_position, cell_at, value_at, zero_at, state_at}
 use Rattle.store_domain.specs.Walks.{walk}
 use Rattle.lib_models_memory.specs.Instances.{Memory, bytes_at, byte_at, life_at}
-use Rattle.store_domain_meaning.specs.SoundMemory.{IsMemoryOf}
-use Rattle.store_domain_meaning.specs.ValueMeaning.{Naming, StandsZero, StandsState}
-use Rattle.store_domain_meaning.specs.RowMeaning.{MachineState, array_bytes, IsLiveOf, StandsLeaf, StandsClass, StandsFor}
+use Rattle.store_domain_sound.specs.SoundMemory.{IsMemoryOf}
+use Rattle.store_domain_sound.specs.ValueMeaning.{Naming, StandsZero, StandsState}
+use Rattle.store_domain_sound.specs.RowMeaning.{MachineState, array_bytes, IsLiveOf, StandsLeaf, StandsClass, StandsFor}
 use Rattle.store_domain_sound.specs.Shapes.{IsLaidOut}
 
 -- memory in which some bytes of an instance, from an offset on, were written

@@ -12,7 +12,7 @@ use Rattle.store_domain.specs.ClassNumbers.{same_class}
 use Rattle.store_domain.specs.LeafSelection.{has_place_in}
 use Rattle.store_domain.specs.RowPositions.{capped}
 use Rattle.store_domain.specs.ScalarTypes.{class_bytes}
-use Rattle.store_domain_meaning.specs.Places.{IsPlaceOf, OwnedByLeaf}
+use Rattle.store_domain_sound.specs.Places.{IsPlaceOf, OwnedByLeaf}
 use Rattle.store_domain_sound.proofs.Selected.{place_selected}
 use Rattle.store_domain_structs.specs.CopyPlaces.{any_below, shifted, span_width, is_apart, all_in_one, span_joined, span_window, span_raised, leaf_raised, one_place_meets, alike_meets, window_meets, each_meets, several_meet, joined_meet, meets, is_reached, is_touched}
 use Rattle.store_domain_structs.specs.declared.copy_places.Span.{Span}

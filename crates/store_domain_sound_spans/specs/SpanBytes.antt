@@ -5,7 +5,7 @@ use Rattle.c_layout.specs.declared.leaf_lists.Class.{Class}
 use Rattle.c_layout.specs.declared.leaf_lists.Class.TheVariants.{Char}
 use Rattle.c_layout.specs.declared.leaf_lists.Leaf.{Leaf}
 use Rattle.store_domain.specs.ClassNumbers.{same_class}
-use Rattle.store_domain_meaning.specs.Places.{IsPlaceOf, OwnedByLeaf}
+use Rattle.store_domain_sound.specs.Places.{IsPlaceOf, OwnedByLeaf}
 use Rattle.store_domain_structs.specs.CopyPlaces.{is_reached, is_touched}
 use Rattle.store_domain_structs.specs.declared.copy_places.Span.{Span}
 

@@ -8,7 +8,7 @@ use Rattle.lib_models_effects.specs.Worlds.{World, Reply, goes, stops, behind, S
 use Rattle.flow_lower_tasks.specs.Acts as act
 use Rattle.flow_lower_tasks.specs.Acts.{Act}
 use Rattle.flow_lower_tasks.specs.Pieces.{NameView, Local, Outcome, Static, Literal, Allocation}
-use Rattle.flow_program_views.specs.ProgramViews.{FlowView}
+use Rattle.flow_program_machine.specs.ProgramViews.{FlowView}
 use Rattle.flow_program_machine.specs.FlowStates as flow
 use Rattle.flow_program_machine.specs.FlowActs as flow_acts
 use Rattle.ref_machine.specs.Items.{Change, Forget, Clear, Spell}

@@ -14,8 +14,8 @@ use Rattle.flow_lower_tasks.specs.Acts as act
 use Rattle.flow_program_machine.specs.FlowStates as flow
 use Rattle.flow_program_machine.specs.FlowStates.{and_value, values_of}
 use Rattle.flow_program_machine.specs.FlowActs.{calling}
-use Rattle.ref_machine.specs.Operations as op
-use Rattle.ref_machine.specs.Operations.{newest, target_size, pushing_result}
+use Rattle.template_runs.specs.Operations as op
+use Rattle.template_runs.specs.Operations.{newest, target_size, pushing_result}
 use Rattle.template_runs.specs.TemplateStates.{Templates, Standing}
 use Rattle.template_runs.specs.TemplateActs.{in_flow, from_flow, perform}
 use Rattle.template_runs_acts.specs.Acts as acts

@@ -22,8 +22,8 @@ use Rattle.flow_lower_tasks.specs.Acts.{Act}
 use Rattle.flow_program_machine.specs.FlowStates as flow
 use Rattle.flow_program_machine.specs.FlowActs as flow_acts
 use Rattle.flow_program_machine.specs.FlowActs.{giving, storing}
-use Rattle.ref_machine.specs.Operations as op
-use Rattle.ref_machine.specs.Operations.{Operation, pushing, LeftFirst, RightFirst}
+use Rattle.template_runs.specs.Operations as op
+use Rattle.template_runs.specs.Operations.{Operation, pushing, LeftFirst, RightFirst}
 use Rattle.template_runs.specs.TemplateStates.{Templates, Standing}
 use Rattle.template_runs.specs.TemplateActs.{in_flow, from_flow, perform}
 use Rattle.template_runs_acts.specs.Acts as acts

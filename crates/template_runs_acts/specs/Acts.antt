@@ -13,10 +13,10 @@ use Rattle.lib_models_memory.specs.Scalars.{Scalar}
 use Rattle.lib_models_effects.specs.Worlds.{World, Why, Reply, goes, stops}
 use Rattle.flow_lower_tasks.specs.Acts as act
 use Rattle.flow_lower_tasks.specs.Acts.{Act}
-use Rattle.ref_machine.specs.Operations as op
+use Rattle.template_runs.specs.Operations as op
 use Rattle.flow_lower_expressions.specs.Calls.{gives, result_temp}
 use Rattle.flow_program_machine.specs.FlowStates.{values_of}
-use Rattle.ref_machine.specs.Operations.{Operation, LeftFirst, RightFirst, newest, target_size}
+use Rattle.template_runs.specs.Operations.{Operation, LeftFirst, RightFirst, newest, target_size}
 use Rattle.template_runs.specs.TemplateStates.{Templates, Standing}
 use Rattle.template_runs.specs.TemplateActs as template
 

@@ -29,7 +29,7 @@ use Rattle.template_runs_scopes.proofs.Positions.{position, numbers}
 use Rattle.template_runs_scopes.proofs.ScopeTrees.{of_function}
 use Rattle.template_runs_labels.proofs.FoundLabels.{found_there}
 use Rattle.template_runs_noted.proofs.NotedChoices.{noted}
-use Rattle.template_runs_gotos.specs.Gotos.{HasLabels}
+use Rattle.template_runs_dispatches.specs.Gotos.{HasLabels}
 use Rattle.template_runs_statements.proofs.Sequences.{statement_jobs}
 use Rattle.template_runs_statements.proofs.Selections.{count_terms}
 use Rattle.template_runs_bodies.proofs.CoveredCases.{few_cases}

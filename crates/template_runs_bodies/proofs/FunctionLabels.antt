@@ -21,8 +21,8 @@ use Rattle.template_runs_scopes.specs.Contexts.{LabelsReach, LabelsReachBefore, 
 use Rattle.template_runs_scopes.specs.SuitedStatements.{not_enclosed, AllSuitIn}
 use Rattle.template_runs_scopes.proofs.FunctionBodies.{same_found}
 use Rattle.template_runs_scopes.proofs.Positions.{position, numbers}
-use Rattle.template_runs_choices.specs.Choices.{AllHaveChoices}
-use Rattle.template_runs_gotos.specs.Gotos.{HasLabels}
+use Rattle.template_runs_noted.specs.Choices.{AllHaveChoices}
+use Rattle.template_runs_dispatches.specs.Gotos.{HasLabels}
 use Rattle.template_runs_statements.proofs.Sequences.{statement_jobs}
 use Rattle.template_runs_dispatches.specs.LabelMarks.{of_label}
 use Rattle.template_runs_bodies.proofs.Statements.{all_about, all_finds}

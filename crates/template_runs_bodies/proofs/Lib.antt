@@ -7,3 +7,4 @@ pub mod Statements
 pub mod FunctionLabels
 pub mod CoveredCases
 pub mod Bodies
+pub use Rattle.template_runs_statements.proofs.Sequences

@@ -19,10 +19,10 @@ use Rattle.template_runs_scopes.specs.Contexts.{Within}
 use Rattle.template_runs_scopes.specs.SuitedStatements.{Enclosure}
 use Rattle.template_runs_scopes.proofs.Positions.{Position, past, past_none, none_past}
 use Rattle.template_runs_scopes.proofs.InScopes.{Goes}
-use Rattle.template_runs_gotos.specs.Gotos.{HasLabels}
+use Rattle.template_runs_dispatches.specs.Gotos.{HasLabels}
 use Rattle.template_runs_statements.proofs.Declarations.{of_stores, of_list, of_forget, of_value, of_nothing}
-use Rattle.template_runs_jumps.proofs.Jumps.{breaks, continues, goes_to}
-use Rattle.template_runs_jumps.proofs.Returns.{returns}
+use Rattle.template_runs_dispatches.proofs.Jumps.{breaks, continues, goes_to}
+use Rattle.template_runs_dispatches.proofs.Returns.{returns}
 use Rattle.template_runs_statements.proofs.Sequences.{AboutStatement, AboutStatements, of_none, of_more}
 use Rattle.template_runs_statements.proofs.Selections.{of_block, of_if, of_if_else}
 use Rattle.template_runs_statements.proofs.Loops.{of_while, of_do}

@@ -49,8 +49,8 @@ use Rattle.template_runs_scopes.proofs.Ways.{chain_there}
 use Rattle.template_runs_labels.specs.LabelScopes as labels
 use Rattle.template_runs_labels.specs.LabelScopes.{stands_in, IsFound}
 use Rattle.template_runs_labels.proofs.LabelScopes.{in_scopes}
-use Rattle.template_runs_choices.specs.Choices.{IsChoice}
-use Rattle.template_runs_gotos.specs.Gotos.{HasLabels}
+use Rattle.template_runs_noted.specs.Choices.{IsChoice}
+use Rattle.template_runs_dispatches.specs.Gotos.{HasLabels}
 use Rattle.template_runs_switches.specs.SwitchTargets.{IsTarget, HasTargets}
 use Rattle.template_runs_switches.proofs.SwitchTargets.{switch_follows}
 use Rattle.template_runs_statements.proofs.Sequences.{HasParts, AboutStatement}

@@ -16,8 +16,8 @@ use Rattle.template_runs_works.specs.TemplateParts.{IsOfUnit, IsKnown, Stands, E
 use Rattle.template_runs_scopes.specs.Contexts.{Reaches, Within}
 use Rattle.template_runs_scopes.specs.Scopes.{HasScopes}
 use Rattle.template_runs_scopes.specs.SuitedStatements.{Enclosure, SuitsIn}
-use Rattle.template_runs_choices.specs.Choices.{HasChoices}
-use Rattle.template_runs_gotos.specs.Gotos.{HasLabels}
+use Rattle.template_runs_noted.specs.Choices.{HasChoices}
+use Rattle.template_runs_dispatches.specs.Gotos.{HasLabels}
 use Rattle.template_runs_dispatches.specs.LabelMarks.{IsMark}
 
 -- where the works of a statement come to pieces, its items follow in these, whatever comes behind

@@ -6,7 +6,7 @@ use Rattle.flow_lower_statements.specs.Switches.{choice_at, case_scope}
 use Rattle.flow_lower_tasks.specs.Settings.{SettingView}
 use Rattle.ref_machine.specs.LabelSearch as sought
 use Rattle.template_runs_labels.specs.LabelScopes.{stands_in}
-use Rattle.template_runs_scopes.specs.Scopes.{scopes_in, all_scopes_in, switches_in, all_switches_in}
+use Rattle.template_runs_labels.specs.Scopes.{scopes_in, all_scopes_in, switches_in, all_switches_in}
 
 -- of a switch the scopes of so many cases and of its default label are noted, where its body stands in a scope and the
 -- scopes in it have the numbers from another one on

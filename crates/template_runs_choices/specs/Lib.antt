@@ -1,1 +1,2 @@
 pub mod Choices
+pub use Rattle.template_runs_labels.specs.LabelScopes

@@ -3,3 +3,5 @@ pub mod SwitchArms
 pub mod SwitchBlocks
 pub mod SwitchGoals
 pub mod SwitchPlans
+pub use Rattle.template_runs_jumps.proofs.Jumps
+pub use Rattle.template_runs_jumps.proofs.Returns

@@ -14,7 +14,7 @@ use Rattle.flow_lower_expressions.specs.Branches as branches
 use Rattle.flow_lower_statements.specs.ScopeJumps.{enters_between, leap, all_entered, is_empty}
 use Rattle.flow_lower_statements.specs.Switches.{Targeted, targeted, edge_target, case_scope, case_landing, case_arms, edge_block}
 use Rattle.flow_lower_statements.specs.declared.switch_statements.CaseArm.{CaseArm}
-use Rattle.template_runs_terms.proofs.Choices.{jumping}
+use Rattle.template_runs_jumps.proofs.Choices.{jumping}
 use Rattle.template_runs_works.proofs.Assignments.{one_more_job}
 use Rattle.template_runs_scopes.proofs.KeptScopes.{AreTerms}
 use Rattle.template_runs_scopes.proofs.Objects.{object_jobs, objects_are_terms, entered_planned, locals}

@@ -25,7 +25,7 @@ use Rattle.template_runs_follow.specs.Follows.{Leads, Follows}
 use Rattle.template_runs_works.specs.TemplateParts.{IsOfUnit, IsKnown, Stands}
 use Rattle.template_runs_works.proofs.Runs.{Runs, headed, known_before, then_ends, stands_after, stands_behind, split}
 use Rattle.template_runs_works.proofs.Laying.{led}
-use Rattle.template_runs_terms.proofs.Choices.{jumping, hops}
+use Rattle.template_runs_jumps.proofs.Choices.{jumping, hops}
 use Rattle.template_runs_scopes.specs.Contexts.{Reaches}
 use Rattle.template_runs_scopes.proofs.KeptScopes.{AreTerms}
 use Rattle.template_runs_scopes.proofs.Objects as objects

@@ -1,1 +1,2 @@
 pub mod LabelMarks
+pub use Rattle.template_runs_jumps.specs.Gotos

@@ -39,7 +39,7 @@ use Rattle.template_runs_scopes.proofs.KeptScopes.{AreTerms}
 use Rattle.template_runs_scopes.proofs.ScopesOfTerms.{scopes_kept}
 use Rattle.template_runs_scopes.proofs.Objects.{object_jobs, objects_are_terms, leaves, named_from, locals}
 use Rattle.template_runs_scopes.proofs.Positions.{position, numbers}
-use Rattle.template_runs_statements.proofs.Sequences.{statement_jobs}
+use Rattle.template_runs_bodies.proofs.Sequences.{statement_jobs}
 use Rattle.template_runs_bodies.proofs.Bodies.{body_items, has_labels, body_from}
 use Rattle.template_runs_entry.specs.Entries.{IsMade, AreMade, EntryIsNotCalled}
 use Rattle.template_runs_entry.proofs.Bodies.{body_is}

@@ -22,7 +22,7 @@ use Rattle.flow_lower_functions.specs.Functions.{local_type}
 use Rattle.template_runs_follow.specs.Follows.{at_place}
 use Rattle.template_runs_scopes.proofs.Objects.{object_jobs, Planned, entered_planned, left_planned, locals}
 use Rattle.template_runs_scopes.proofs.Positions.{position}
-use Rattle.template_runs_statements.proofs.Sequences.{statement_jobs}
+use Rattle.template_runs_bodies.proofs.Sequences.{statement_jobs}
 
 -- a plan has such works and names more than another one
 pub record Adds (js : List Job) (ns : List NameView) (p q : Plan) : Type 0 where

@@ -37,7 +37,7 @@ use Rattle.template_runs_works.proofs.Assignments.{one_more_job}
 use Rattle.template_runs_works.proofs.Laying.{known_between}
 use Rattle.template_runs_scopes.proofs.Objects.{object_jobs, entered_planned, left_planned, named_from, locals}
 use Rattle.template_runs_scopes.proofs.Positions.{position, numbers}
-use Rattle.template_runs_statements.proofs.Sequences.{statement_jobs, listed}
+use Rattle.template_runs_bodies.proofs.Sequences.{statement_jobs, listed}
 use Rattle.template_runs_bodies.proofs.Bodies.{body_items, body_jobs, has_labels, body_from}
 use Rattle.template_runs_entry.specs.Entries.{IsEntry}
 use Rattle.template_runs_entry.proofs.Bodies.{work_names, work_scopes, body_is}

@@ -3,3 +3,4 @@ pub mod CalledPlans
 pub mod CalledFollows
 pub mod CalledFunctions
 pub mod EntryFollows
+pub use Rattle.template_runs_bodies.proofs.CoveredCases

@@ -5,7 +5,7 @@ use Rattle.std.proofs.lemmas.Option.{slice_get_past}
 use Rattle.c_layout.specs.DeclarationTrees.{ExternalTree}
 use Rattle.c_layout.specs.CheckedUnits.{LocalView, FunctionView, UnitView}
 use Rattle.c_layout.specs.declared.data_model.Model.{Model}
-use Rattle.c_types.specs.UnitChecks.{check}
+use Rattle.c_types_laws.specs.UnitChecks.{check}
 use Rattle.c_types_laws.specs.IntegerEntries.{TakesIntegers}
 use Rattle.c_types_laws.proofs.Entries.{entries_take_integers}
 

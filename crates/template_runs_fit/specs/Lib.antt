@@ -1,2 +1,3 @@
 pub mod LowPrograms
 pub mod EntryLocals
+pub use Rattle.c_types_laws.specs.UnitChecks

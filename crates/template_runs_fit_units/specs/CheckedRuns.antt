@@ -5,7 +5,7 @@ use Rattle.c_layout.specs.DeclarationTrees.{ExternalTree}
 use Rattle.c_layout.specs.CheckedTrees.{statement_trees}
 use Rattle.c_layout.specs.CheckedUnits.{FunctionView, UnitView}
 use Rattle.c_layout.specs.declared.data_model.Model.{Model}
-use Rattle.c_types.specs.UnitChecks.{check}
+use Rattle.template_runs_fit.specs.UnitChecks.{check}
 use Rattle.flow_program.specs.declared.programs.Flow.{Flow}
 use Rattle.flow_program.specs.WellFormed.{is_well_formed}
 use Rattle.flow_program_views.specs.ProgramViews.{flow_view}

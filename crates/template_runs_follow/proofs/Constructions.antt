@@ -17,7 +17,7 @@ use Rattle.flow_lower_tasks.specs.Acts.{Act}
 use Rattle.flow_lower_tasks.specs.Pieces.{Local, Literal, Outcome, PieceView, ExitView, DoIfUsed, End, Call, When, Always, NoLine, Line}
 use Rattle.flow_lower_tasks.specs.Plans.{name_of_object}
 use Rattle.flow_lower_tasks.specs.TermKinds.{scalar_of}
-use Rattle.flow_lower_functions.specs.Functions.{local_type}
+use Rattle.ref_machine.specs.Functions.{local_type}
 use Rattle.flow_lower_conditions.specs.declared.branch_tests.NamedObject.{NamedObject}
 use Rattle.ref_machine.specs.Items as item
 use Rattle.ref_machine.specs.Items.{Item, Items, listed, NamedTest, Change}

@@ -25,7 +25,7 @@ use Rattle.flow_lower_tasks.specs.Pieces.{NameView, Local, Outcome, Literal, Pie
 use Rattle.flow_lower_tasks.specs.declared.template_pieces.OwnCall.{OwnCall}
 use Rattle.flow_lower_tasks.specs.Plans.{name_of_object}
 use Rattle.flow_lower_tasks.specs.TermKinds.{integer_type, is_void, scalar_of}
-use Rattle.flow_lower_functions.specs.Functions.{local_type}
+use Rattle.ref_machine.specs.Functions.{local_type}
 use Rattle.lib_models_memory.specs.Labels.{Labels}
 use Rattle.lib_models_memory.specs.Scalars.{integer}
 use Rattle.ref_machine.specs.Items as item
@@ -42,8 +42,8 @@ use Rattle.ref_machine.specs.CallSteps.{prologue, behind_body}
 use Rattle.ref_machine.specs.SourceStates.{Frame, function_at, static_type, local_of, result_object}
 use Rattle.ref_machine.specs.SourceSteps.{place_of}
 use Rattle.lib_models_effects.specs.Tests.{opposite}
-use Rattle.template_runs.specs.TemplateStates.{Templates}
-use Rattle.template_runs.specs.TemplateExits.{behind_mark, exit_taken}
+use Rattle.template_runs_acts.specs.TemplateStates.{Templates}
+use Rattle.template_runs_acts.specs.TemplateExits.{behind_mark, exit_taken}
 use Rattle.template_runs_acts.specs.Acts.{IsAct, IsActBehind, temps_from, behind_call}
 use Rattle.template_runs_follow.specs.Activations.{Activation, of_entry, activation}
 

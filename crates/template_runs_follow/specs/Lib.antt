@@ -1,2 +1,10 @@
 pub mod Activations
 pub mod Follows
+pub use Rattle.template_runs_acts.specs.Acts
+pub use Rattle.template_runs_acts.specs.TemplateExits
+pub use Rattle.ref_machine.specs.CallSteps
+pub use Rattle.ref_machine.specs.ConditionItems
+pub use Rattle.ref_machine.specs.Items
+pub use Rattle.ref_machine.specs.Operations
+pub use Rattle.ref_machine.specs.SourceStates
+pub use Rattle.ref_machine.specs.TermItems

@@ -10,7 +10,7 @@ use Rattle.ref_machine.specs.LabelSearch as sought
 use Rattle.ref_machine.specs.LabelSearch.{Sought, is_label, is_case, is_other, first, here_or, found, found_in, from_label}
 use Rattle.ref_machine.specs.Scopes.{open_scopes}
 use Rattle.ref_machine.specs.StatementItems.{statements, do_test, for_step}
-use Rattle.template_runs_follow.specs.Activations.{Activation}
+use Rattle.template_runs_scopes.specs.Activations.{Activation}
 use Rattle.template_runs_scopes.specs.Scopes.{scopes_in, all_scopes_in, IsScope, HasScopes, AllHaveScopes}
 use Rattle.template_runs_scopes.proofs.FunctionBodies.{same_found}
 use Rattle.template_runs_scopes.proofs.QuietItems.{statements_quiet, condition_quiet}

@@ -7,7 +7,7 @@ use Rattle.flow_lower_tasks.specs.Settings.{SettingView}
 use Rattle.ref_machine.specs.Items.{Item}
 use Rattle.ref_machine.specs.LabelSearch.{Sought, label, is_label, is_case, is_other, found, from_label}
 use Rattle.ref_machine.specs.Scopes.{open_scopes}
-use Rattle.template_runs_follow.specs.Activations.{Activation}
+use Rattle.template_runs_scopes.specs.Activations.{Activation}
 use Rattle.template_runs_scopes.specs.Scopes.{scopes_in, all_scopes_in, IsScope, HasScopes, AllHaveScopes}
 use Rattle.template_runs_scopes.specs.Chains.{Chain}
 

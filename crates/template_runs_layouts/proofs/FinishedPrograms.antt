@@ -6,8 +6,8 @@ use Rattle.flow_lower_tasks.specs.Acts.{Step}
 use Rattle.flow_program_views.specs.ProgramViews.{BlockView, EdgeView, FlowView}
 use Rattle.flow_program_machine.specs.FlowEdges.{edges_of}
 use Rattle.flow_program_machine.specs.FlowSteps.{block_of, block_or}
-use Rattle.flow_lower.specs.Lowerings.{lowered}
-use Rattle.flow_lower.specs.Openings.{Made, as_head, head_set, head_if, with_heads, resolved_edge, resolved, finished}
+use Rattle.template_runs_openings.specs.Lowerings.{lowered}
+use Rattle.template_runs_openings.specs.Openings.{Made, as_head, head_set, head_if, with_heads, resolved_edge, resolved, finished}
 use Rattle.template_runs_openings.proofs.ListPlaces.{some_same, none_is_not, at_more}
 use Rattle.template_runs_openings.proofs.MadeParts.{lines, At, EdgesAt}
 

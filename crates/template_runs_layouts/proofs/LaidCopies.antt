@@ -14,11 +14,11 @@ use Rattle.flow_lower_tasks.specs.declared.template_pieces.OwnCall.{OwnCall}
 use Rattle.flow_program_views.specs.ProgramViews.{BlockView, EdgeView, FlowView}
 use Rattle.flow_program_machine.specs.FlowEdges.{edges_of}
 use Rattle.flow_program_machine.specs.FlowSteps.{block_of}
-use Rattle.flow_lower.specs.MovedActs.{own_base}
-use Rattle.flow_lower.specs.BaseTables.{known}
-use Rattle.flow_lower.specs.Lowerings.{lowered}
-use Rattle.flow_lower.specs.Openings.{Made, CopyView, Placed, placed, with_locals, with_rest, with_ready, instruction, with_edge, edge_to, ended, is_none, jumped, jumped_if, labelled, marked, with_mark, with_act, with_own, with_exits, block_ended, closed, with_act_if_used, with_piece, with_labels, copied, template_at, inner, resolved, finished}
-use Rattle.flow_lower.proofs.CountedCalls.{CalledIs, AllCalled}
+use Rattle.template_runs_openings.specs.MovedActs.{own_base}
+use Rattle.template_runs_openings.specs.BaseTables.{known}
+use Rattle.template_runs_openings.specs.Lowerings.{lowered}
+use Rattle.template_runs_openings.specs.Openings.{Made, CopyView, Placed, placed, with_locals, with_rest, with_ready, instruction, with_edge, edge_to, ended, is_none, jumped, jumped_if, labelled, marked, with_mark, with_act, with_own, with_exits, block_ended, closed, with_act_if_used, with_piece, with_labels, copied, template_at, inner, resolved, finished}
+use Rattle.template_runs_openings.proofs.CountedCalls.{CalledIs, AllCalled}
 use Rattle.template_runs_laid.specs.Copies.{Opened, Copy, IsLocal, IsCopy, Apart, AllApart}
 use Rattle.template_runs_laid.specs.Layouts as layouts
 use Rattle.template_runs_laid.specs.Layouts.{Laid, IsPut, AreLed, edges_at}

@@ -15,17 +15,17 @@ use Rattle.flow_program.specs.declared.flow_edges.CaseTest.{CaseTest}
 use Rattle.flow_program.specs.declared.flow_edges.Side.{Side}
 use Rattle.flow_program.specs.declared.flow_edges.Side.TheVariants as side
 use Rattle.flow_program.specs.declared.flow_edges.Test.{Test}
-use Rattle.flow_lower_functions.specs.Functions.{local_type}
+use Rattle.ref_machine.specs.Functions.{local_type}
 use Rattle.flow_lower_tasks.specs.Acts as acts
 use Rattle.flow_lower_tasks.specs.Acts.{Act, Step}
 use Rattle.flow_lower_tasks.specs.Pieces.{NameView, Local, Outcome, Static, Literal, Allocation, Way, Always, When, Case, Other, NoLine, Line, ExitView, TemplateView}
 use Rattle.flow_program_views.specs.ProgramViews.{BlockView, EdgeView, FlowView}
 use Rattle.flow_program_machine.specs.FlowEdges.{first_signed}
 use Rattle.ref_machine.specs.SourceStates.{function_at, static_type, local_of}
-use Rattle.flow_lower.specs.MovedActs.{own_base, moved}
-use Rattle.flow_lower.specs.BaseTables.{known}
-use Rattle.flow_lower.specs.Lowerings.{lowered}
-use Rattle.flow_lower.specs.Openings.{Made, CopyView, Placed, placed, with_locals, with_rest, name_at, base_number, with_base, own_number, with_own, instruction, with_ready, with_step, with_act, side_moved, with_side, both_moved, test_moved, with_test, object_moved, case_moved, way_moved, with_way, edge_to, with_edge, add_edge, with_exit, with_exits, resolved_edge, resolved, finished}
+use Rattle.template_runs_openings.specs.MovedActs.{own_base, moved}
+use Rattle.template_runs_openings.specs.BaseTables.{known}
+use Rattle.template_runs_openings.specs.Lowerings.{lowered}
+use Rattle.template_runs_openings.specs.Openings.{Made, CopyView, Placed, placed, with_locals, with_rest, name_at, base_number, with_base, own_number, with_own, instruction, with_ready, with_step, with_act, side_moved, with_side, both_moved, test_moved, with_test, object_moved, case_moved, way_moved, with_way, edge_to, with_edge, add_edge, with_exit, with_exits, resolved_edge, resolved, finished}
 use Rattle.template_runs_laid.specs.Shifts.{named_base, shifted}
 use Rattle.template_runs_laid.specs.Copies.{Opened, Copy, StandsFor, StandsForIt, name_of, IsBase, IsOwnBase, IsResult, result_type, type_if, IsSwitched, IsSwitchedObject}
 use Rattle.template_runs_laid.specs.Layouts as layouts

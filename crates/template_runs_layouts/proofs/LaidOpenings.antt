@@ -6,9 +6,9 @@ use Rattle.c_layout.specs.CheckedUnits.{FunctionView, UnitView}
 use Rattle.flow_lower_tasks.specs.Acts.{Step}
 use Rattle.flow_lower_tasks.specs.Pieces.{NameView, PieceView, Do, DoIfUsed, End, Mark, Call, TemplateView}
 use Rattle.flow_lower_tasks.specs.declared.template_pieces.OwnCall.{OwnCall}
-use Rattle.flow_lower.specs.BaseTables.{known}
-use Rattle.flow_lower.specs.Lowerings.{lowered}
-use Rattle.flow_lower.specs.Openings.{Made, CopyView, Placed, placed, with_locals, with_rest, with_act, with_piece, with_labels, template_at, finished}
+use Rattle.template_runs_openings.specs.BaseTables.{known}
+use Rattle.template_runs_openings.specs.Lowerings.{lowered}
+use Rattle.template_runs_openings.specs.Openings.{Made, CopyView, Placed, placed, with_locals, with_rest, with_act, with_piece, with_labels, template_at, finished}
 use Rattle.template_runs_laid.specs.Copies.{Opened, Copy, IsLocal, IsCopy, AllApart}
 use Rattle.template_runs_laid.specs.Layouts as layouts
 use Rattle.template_runs_laid.specs.Layouts.{Laid, IsPut}

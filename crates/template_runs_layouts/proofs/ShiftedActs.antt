@@ -5,7 +5,7 @@ use Rattle.flow_program.specs.declared.machine_instructions.Amount.{Amount}
 use Rattle.flow_program.specs.declared.machine_instructions.Amount.TheVariants as amount
 use Rattle.flow_lower_tasks.specs.Acts as acts
 use Rattle.flow_lower_tasks.specs.Acts.{Act}
-use Rattle.flow_lower.specs.MovedActs.{temp, amount_moved, kept_moved, put_moved, named, own_base, moved}
+use Rattle.template_runs_openings.specs.MovedActs.{temp, amount_moved, kept_moved, put_moved, named, own_base, moved}
 use Rattle.template_runs_laid.specs.Shifts.{shift, amount_shifted, kept_shifted, put_shifted, base_shifted, named_base, shifted}
 use Rattle.template_runs_layouts.specs.LowTemporaries.{IsLow, AreLow, IsAmountLow, IsKeptLow, IsResultLow, IsActLow, IsPutLow}
 

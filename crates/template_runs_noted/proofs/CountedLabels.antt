@@ -5,7 +5,7 @@ use Rattle.c_layout.specs.CheckedTrees.{StatementTree, StatementTrees}
 use Rattle.flow_lower_debts.specs.Marks.{cases_in, all_cases_in, defaults_in, all_defaults_in}
 use Rattle.ref_machine.specs.LabelSearch.{case}
 use Rattle.ref_machine.specs.LabelSearch as sought
-use Rattle.template_runs_labels.specs.LabelScopes.{either, this_or, stands_in, all_stand_in}
+use Rattle.template_runs_choices.specs.LabelScopes.{either, this_or, stands_in, all_stand_in}
 use Rattle.template_runs_scopes.specs.Scopes.{scopes_in, all_scopes_in}
 use Rattle.template_runs_scopes.specs.SuitedStatements.{IsPlain, ArePlain}
 

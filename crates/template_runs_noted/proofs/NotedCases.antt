@@ -10,7 +10,7 @@ use Rattle.flow_lower_statements.specs.Switches.{no_choice}
 use Rattle.flow_lower_tasks.specs.Scopes.{TreeView, with_new_scope, with_case, with_default, with_label, scoped, all_scoped, case_place, case_noted}
 use Rattle.flow_lower_tasks.specs.declared.scope_trees.Choice.{Choice}
 use Rattle.ref_machine.specs.LabelSearch.{case}
-use Rattle.template_runs_labels.specs.LabelScopes.{either, this_or, stands_in, all_stand_in}
+use Rattle.template_runs_choices.specs.LabelScopes.{either, this_or, stands_in, all_stand_in}
 use Rattle.template_runs_scopes.specs.Scopes.{scopes_in, all_scopes_in, switches_in, all_switches_in}
 use Rattle.template_runs_scopes.proofs.ScopeTrees.{scoped_more, all_more, length_new, length_more}
 use Rattle.template_runs_noted.proofs.CountedLabels.{case_counted}

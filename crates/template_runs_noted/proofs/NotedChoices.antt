@@ -12,7 +12,7 @@ use Rattle.flow_lower_tasks.specs.Settings.{SettingView}
 use Rattle.flow_lower_tasks.specs.declared.scope_trees.Choice.{Choice}
 use Rattle.ref_machine.specs.LabelSearch.{case}
 use Rattle.ref_machine.specs.LabelSearch as sought
-use Rattle.template_runs_labels.specs.LabelScopes.{either, stands_in}
+use Rattle.template_runs_choices.specs.LabelScopes.{either, stands_in}
 use Rattle.template_runs_scopes.specs.Scopes.{scopes_in, all_scopes_in, switches_in, all_switches_in}
 use Rattle.template_runs_scopes.specs.SuitedStatements.{Enclosure, by_loop, by_switch, not_enclosed, SuitsIn, AllSuitIn}
 use Rattle.template_runs_scopes.proofs.ScopeTrees.{scoped_more, all_more, length_new, length_more}

@@ -2,4 +2,4 @@ mod FitSettled
 mod StartNames
 mod WholePrograms
 mod LaidPrograms
-mod LoweredPrograms
+pub mod LoweredPrograms

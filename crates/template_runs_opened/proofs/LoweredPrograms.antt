@@ -133,9 +133,28 @@ module _ (u : UnitView) (limits : Limits) (f : FlowView) (o : IsOpened u limits 
       (is_laid_out u ts entry o.is.is_counted.is_entry o.few first_known.template first_known.is_there ends o.is.ends (Reaches u) there first_known.calls of o.is.counts.temps low entry_fits.is entry_fits.fit entry_fits.once fits)
       draws n left)
 
+  -- the settled templates are laid out in the program
+  pub record AreLaidOut : Type 0 where
+    pub opened : copies.Opened
+    pub first : copies.Copy
+    pub is : IsLaidOut opened first
+    pub of : opened.of ≡ settled_of o.is.templates
+    pub unit : opened.unit ≡ u
+    pub program : opened.program ≡ f
+
+  pub are_laid_out : AreLaidOut
+  are_laid_out = record {
+    opened = laid.program u ts entry o.is.is_counted.is_entry o.few first_known.template first_known.is_there ends o.is.ends (Reaches u) there first_known.calls of o.is.counts.temps low entry_fits.is entry_fits.fit entry_fits.once fits;
+    first = laid.first u ts entry o.is.is_counted.is_entry o.few first_known.template first_known.is_there ends o.is.ends (Reaches u) there first_known.calls of o.is.counts.temps low entry_fits.is entry_fits.fit entry_fits.once fits;
+    is = is_laid_out u ts entry o.is.is_counted.is_entry o.few first_known.template first_known.is_there ends o.is.ends (Reaches u) there first_known.calls of o.is.counts.temps low entry_fits.is entry_fits.fit entry_fits.once fits;
+    of = refl;
+    unit = refl;
+    program = sym o.is.opens;
+  }
+
   -- ---- templates as they are made
 
-  settles_at : (n : ℕ) → Reaches u n → Settles u n (o.made n) (settled_of ts n)
+  pub settles_at : (n : ℕ) → Reaches u n → Settles u n (o.made n) (settled_of ts n)
   settles_at n r =
       let (s, c, there_s, is) = prepared.all n r in
       let x = prepared.are_settled n s there_s in

@@ -4,3 +4,4 @@ pub mod MadeParts
 pub mod NamedPlaces
 pub mod OpenedPieces
 pub mod OpenedCopies
+pub use Rattle.flow_lower.proofs.CountedCalls

@@ -1,1 +1,5 @@
 pub mod NameRanges
+pub use Rattle.flow_lower.specs.BaseTables
+pub use Rattle.flow_lower.specs.Lowerings
+pub use Rattle.flow_lower.specs.MovedActs
+pub use Rattle.flow_lower.specs.Openings

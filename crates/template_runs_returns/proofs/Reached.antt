@@ -291,6 +291,9 @@ module _ (t : Templates) (all : AllFollow t) where
             split : (n q s : ℕ) → q ≤ s → n + suc s ≡ (n + suc q) + (s - q)
             split n q s le = omega (arith, le)
 
+    pub source_stands : (j : ℕ) → (turn : ℕ) × Alike t 0 (Run t.unit draws turn) (steps_from t j (template_begin t draws))
+    source_stands j = let x = (reached j).at 0 in (x.turn, x.both)
+
     pub returns_followed : (Q : (ℕ → Option ℕ) → Type 0) → ((n : ℕ) → EndsWith Q (Run t.unit draws n)) → (j : ℕ) → ReturnsWith Q (steps_from t j (template_begin t draws))
     returns_followed Q ends j =
         let r = reached j in

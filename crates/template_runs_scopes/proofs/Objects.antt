@@ -12,10 +12,10 @@ use Rattle.flow_lower_tasks.specs.Works.{Job}
 use Rattle.flow_lower_statements.specs.ScopeJumps.{entered, left, all_entered, all_left}
 use Rattle.ref_machine.specs.Items as item
 use Rattle.ref_machine.specs.Items.{Item}
-use Rattle.template_runs_follow.specs.Activations.{Activation}
-use Rattle.template_runs_follow.specs.Follows as follows
-use Rattle.template_runs_follow.specs.Follows.{Names, Follows, at_place, own}
-use Rattle.template_runs_follow.proofs.Constructions.{gives_enter, gives_leave, gives_no_enters, gives_no_leaves}
+use Rattle.template_runs_works.specs.Activations.{Activation}
+use Rattle.template_runs_works.specs.Follows as follows
+use Rattle.template_runs_works.specs.Follows.{Names, Follows, at_place, own}
+use Rattle.template_runs_works.proofs.Constructions.{gives_enter, gives_leave, gives_no_enters, gives_no_leaves}
 use Rattle.template_runs_works.specs.TemplateParts.{IsOfUnit, IsKnown, Stands}
 use Rattle.template_runs_works.proofs.Runs.{Runs, headed, none_made, stands_after}
 use Rattle.template_runs_scopes.proofs.Positions.{position}

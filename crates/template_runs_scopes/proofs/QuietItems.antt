@@ -10,7 +10,7 @@ use Rattle.ref_machine.specs.ConditionItems as source
 use Rattle.ref_machine.specs.Scopes.{open_scopes, behind_loop, behind_turn}
 use Rattle.ref_machine.specs.StatementItems.{statements}
 use Rattle.ref_machine.specs.TermItems.{arguments}
-use Rattle.template_runs_follow.specs.Activations.{Activation}
+use Rattle.template_runs_works.specs.Activations.{Activation}
 
 -- nothing is opened or left by some items, and no end of a loop or turn is among them
 pub record IsQuiet (xs : List Item) : Type 0 where

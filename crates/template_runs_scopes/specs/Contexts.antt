@@ -9,8 +9,8 @@ use Rattle.ref_machine.specs.Items.{Item}
 use Rattle.ref_machine.specs.LabelSearch.{from_label}
 use Rattle.ref_machine.specs.Scopes.{is_in, all_of, open_scopes, without, inwards, behind_loop, behind_turn}
 use Rattle.ref_machine.specs.SourceStates.{function_at}
-use Rattle.template_runs_follow.specs.Activations.{Activation}
-use Rattle.template_runs_follow.specs.Follows.{Leads, Follows}
+use Rattle.template_runs_works.specs.Activations.{Activation}
+use Rattle.template_runs_works.specs.Follows.{Leads, Follows}
 use Rattle.template_runs_scopes.specs.Chains.{Chain}
 use Rattle.template_runs_scopes.specs.Scopes.{IsScope}
 use Rattle.template_runs_scopes.specs.SuitedStatements.{Enclosure}

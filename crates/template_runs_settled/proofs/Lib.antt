@@ -1,6 +1,6 @@
 pub mod SettledPieces
-mod QuietFunctions
-mod SameActs
+pub mod QuietFunctions
+pub mod SameActs
 mod SettledSteps
 mod QuietRuns
 pub mod SettledReturns

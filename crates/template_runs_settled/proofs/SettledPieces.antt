@@ -112,7 +112,7 @@ kept table l (p ∷ ps) n none =
 number_of_next : (table : List (Option FunctionCounts)) (l : ℕ) (ps : List PieceView) (n : NamesView) → Once (length n.to) (Mark l ∷ ps) → renamed (with_pieces table (Mark l ∷ ps) n) l ≡ (with_begun n).count - 1
 number_of_next table l ps n once = kept table l ps (with_label l n) (none_behind (length n.to) l ps once) ∙ numbered l n (has_number (length n.to) l ps once)
 
-once_next : (table : List (Option FunctionCounts)) (p : PieceView) (ps : List PieceView) (n : NamesView) → Once (length n.to) (p ∷ ps) → Once (length (with_piece table p n).to) ps
+pub once_next : (table : List (Option FunctionCounts)) (p : PieceView) (ps : List PieceView) (n : NamesView) → Once (length n.to) (p ∷ ps) → Once (length (with_piece table p n).to) ps
 once_next table (Do s) ps n once = once_behind (length n.to) (Do s) ps once
 once_next table (DoIfUsed s) ps n once = once_behind (length n.to) (DoIfUsed s) ps once
 once_next table (End s exits) ps n once = once_behind (length n.to) (End s exits) ps once
@@ -221,7 +221,7 @@ module _ (table : List (Option FunctionCounts)) where
   -- ---- a label leads to the same pieces
 
   -- where a label leads, among pieces behind so many labels: to a label among them, or right to their beginning
-  data Leads (e : NamesView) (r count : ℕ) (behind : Bool) (ps rest : List PieceView) : Type 0 where
+  pub data Leads (e : NamesView) (r count : ℕ) (behind : Bool) (ps rest : List PieceView) : Type 0 where
     ahead : (k : ℕ) (b : Bool) → count ≤ r → behind_mark r (from table e count behind ps) ≡ Some (from table e k b rest) → Leads e r count behind ps rest
     here : (k : ℕ) (b : Bool) → behind ≡ true → r ≡ count - 1 → from table e count behind ps ≡ from table e k b rest → Leads e r count behind ps rest
 
@@ -248,7 +248,7 @@ module _ (table : List (Option FunctionCounts)) where
       by false e = e
       by true e = absurd (no (eqb-true r k e))
 
-  leads : (e n : NamesView) (l : ℕ) (ps rest : List PieceView) (m : NamesView) → n ≡ with_pieces table ps m → Once (length m.to) ps → behind_mark l ps ≡ Some rest → Leads e (renamed n l) m.count m.is_behind ps rest
+  pub leads : (e n : NamesView) (l : ℕ) (ps rest : List PieceView) (m : NamesView) → n ≡ with_pieces table ps m → Once (length m.to) ps → behind_mark l ps ≡ Some rest → Leads e (renamed n l) m.count m.is_behind ps rest
   leads e n l [] rest m is once found = cc
   leads e n l (Do s ∷ ps) rest m is once found = leads_over e (renamed n l) m.count m.is_behind (Do s) (Do s) ps rest (λ xs. refl) refl (leads e n l ps rest (with_other false m) is (once_next table (Do s) ps m once) found)
   leads e n l (DoIfUsed s ∷ ps) rest m is once found = leads_over e (renamed n l) m.count m.is_behind (DoIfUsed s) (DoIfUsed s) ps rest (λ xs. refl) refl (leads e n l ps rest (with_other false m) is (once_next table (DoIfUsed s) ps m once) found)
@@ -330,7 +330,7 @@ module _ (table : List (Option FunctionCounts)) (t : TemplateView) (once : Once 
   abbrev pub own : NamesView
   own = renaming table t.pieces t.labels
 
-  all_once : Once (length (no_names t.labels).to) t.pieces
+  pub all_once : Once (length (no_names t.labels).to) t.pieces
   all_once = subst (λ k. Once k t.pieces) (sym (length-replicate t.labels 0)) once
 
   pub settled_from : (settled table t).pieces ≡ from table own 0 false t.pieces

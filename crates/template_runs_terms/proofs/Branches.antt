@@ -16,10 +16,10 @@ use Rattle.flow_lower_expressions.specs.declared.branched_values.Known.{Known}
 use Rattle.ref_machine.specs.Items as item
 use Rattle.ref_machine.specs.Items.{Item, Items, items_of, listed}
 use Rattle.ref_machine.specs.ConditionItems as source
-use Rattle.template_runs_follow.specs.Activations.{Activation}
-use Rattle.template_runs_follow.specs.Follows as follows
-use Rattle.template_runs_follow.specs.Follows.{own, Leads, IsEdge, Follows}
-use Rattle.template_runs_follow.proofs.Constructions.{gives_edges}
+use Rattle.template_runs_works.specs.Activations.{Activation}
+use Rattle.template_runs_works.specs.Follows as follows
+use Rattle.template_runs_works.specs.Follows.{own, Leads, IsEdge, Follows}
+use Rattle.template_runs_works.proofs.Constructions.{gives_edges}
 use Rattle.template_runs_works.specs.TemplateParts.{IsOfUnit, Stands}
 use Rattle.template_runs_works.proofs.Runs.{Runs, stands_behind, stands_after}
 use Rattle.template_runs_works.proofs.About.{Valued}

@@ -12,10 +12,10 @@ use Rattle.flow_lower_expressions.specs.Branches as lowered
 use Rattle.ref_machine.specs.Items as item
 use Rattle.ref_machine.specs.Items.{Item}
 use Rattle.ref_machine.specs.ConditionItems as source
-use Rattle.template_runs_follow.specs.Activations.{Activation}
-use Rattle.template_runs_follow.specs.Follows as follows
-use Rattle.template_runs_follow.specs.Follows.{own, Leads, Follows}
-use Rattle.template_runs_follow.proofs.Constructions.{gives_hop}
+use Rattle.template_runs_works.specs.Activations.{Activation}
+use Rattle.template_runs_works.specs.Follows as follows
+use Rattle.template_runs_works.specs.Follows.{own, Leads, Follows}
+use Rattle.template_runs_works.proofs.Constructions.{gives_hop}
 use Rattle.template_runs_works.specs.TemplateParts.{IsOfUnit, Stands}
 use Rattle.template_runs_works.proofs.Runs.{Runs, stands_behind, stands_after}
 use Rattle.template_runs_works.proofs.About.{Decided}

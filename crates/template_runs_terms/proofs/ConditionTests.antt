@@ -26,9 +26,9 @@ use Rattle.lib_models_effects.specs.Tests as tests
 use Rattle.ref_machine.specs.Items as item
 use Rattle.ref_machine.specs.Items.{NamedSide, NamedTest}
 use Rattle.ref_machine.specs.TermTests as source
-use Rattle.template_runs_follow.specs.Activations.{Activation}
-use Rattle.template_runs_follow.specs.Follows as follows
-use Rattle.template_runs_follow.specs.Follows.{Names, SameSide, SameTest}
+use Rattle.template_runs_works.specs.Activations.{Activation}
+use Rattle.template_runs_works.specs.Follows as follows
+use Rattle.template_runs_works.specs.Follows.{Names, SameSide, SameTest}
 use Rattle.template_runs_works.specs.TemplateParts.{IsOfUnit, IsKnown}
 use Rattle.template_runs_works.proofs.Runs.{known_before, known_name}
 

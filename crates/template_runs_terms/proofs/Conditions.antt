@@ -27,10 +27,10 @@ use Rattle.ref_machine.specs.Items as item
 use Rattle.ref_machine.specs.Items.{Item, Items, items_of, listed}
 use Rattle.ref_machine.specs.ConditionItems as source
 use Rattle.ref_machine.specs.TermTests as source_tests
-use Rattle.template_runs_follow.specs.Activations.{Activation}
-use Rattle.template_runs_follow.specs.Follows as follows
-use Rattle.template_runs_follow.specs.Follows.{Leads, Follows}
-use Rattle.template_runs_follow.proofs.Constructions.{gives_choice}
+use Rattle.template_runs_works.specs.Activations.{Activation}
+use Rattle.template_runs_works.specs.Follows as follows
+use Rattle.template_runs_works.specs.Follows.{Leads, Follows}
+use Rattle.template_runs_works.proofs.Constructions.{gives_choice}
 use Rattle.template_runs_works.specs.Rooms.{room, room_of_all}
 use Rattle.template_runs_works.specs.TemplateParts.{IsOfUnit, IsKnown, Stands}
 use Rattle.template_runs_works.proofs.Runs.{opened, then_ends, stands_behind, stands_after}

@@ -44,9 +44,9 @@ use Rattle.ref_machine.specs.TermItems as operands
 use Rattle.ref_machine.specs.ConditionItems as source
 use Rattle.ref_machine.specs.ConditionItems.{term_items}
 use Rattle.template_runs_acts.specs.Acts as acts
-use Rattle.template_runs_follow.specs.Activations.{Activation}
-use Rattle.template_runs_follow.specs.Follows.{at_place, Follows, CallsThere, behind_own, pieces}
-use Rattle.template_runs_follow.proofs.Constructions.{gives_value, gives_unused, gives_drop, gives_own_call}
+use Rattle.template_runs_works.specs.Activations.{Activation}
+use Rattle.template_runs_works.specs.Follows.{at_place, Follows, CallsThere, behind_own, pieces}
+use Rattle.template_runs_works.proofs.Constructions.{gives_value, gives_unused, gives_drop, gives_own_call}
 use Rattle.template_runs_works.specs.Rooms.{room, room_of_place, room_of_all, larger, both_rooms}
 use Rattle.template_runs_works.specs.SuitedTerms.{Suits, SuitAll, IsOwnCall}
 use Rattle.template_runs_works.specs.TemplateParts.{IsOfUnit, Stands}

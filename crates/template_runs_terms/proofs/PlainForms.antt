@@ -35,9 +35,9 @@ use Rattle.ref_machine.specs.ConditionItems as source
 use Rattle.ref_machine.specs.ConditionItems.{term_items}
 use Rattle.template_runs_acts.specs.Acts as acts
 use Rattle.template_runs_acts.specs.Acts.{IsAct}
-use Rattle.template_runs_follow.specs.Activations.{Activation}
-use Rattle.template_runs_follow.specs.Follows.{Names, Follows, at_place}
-use Rattle.template_runs_follow.proofs.Constructions.{gives_address, gives_object, gives_literal}
+use Rattle.template_runs_works.specs.Activations.{Activation}
+use Rattle.template_runs_works.specs.Follows.{Names, Follows, at_place}
+use Rattle.template_runs_works.proofs.Constructions.{gives_address, gives_object, gives_literal}
 use Rattle.template_runs_works.specs.Rooms.{room, room_of_place, room_of_all}
 use Rattle.template_runs_works.specs.SuitedTerms.{Suits}
 use Rattle.template_runs_works.specs.TemplateParts.{IsOfUnit}

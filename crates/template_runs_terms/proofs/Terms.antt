@@ -4,7 +4,7 @@ use Rattle.c_layout.specs.CheckedTrees as tree
 use Rattle.c_layout.specs.CheckedTrees.{TermTree, TermTrees, Typed, LvalueTree, Designates}
 use Rattle.c_layout.specs.declared.checked_tree.checked_terms.ConversionKind.TheVariants.{Implicit, Cast}
 use Rattle.flow_lower_tasks.specs.Settings.{SettingView}
-use Rattle.template_runs_follow.specs.Activations.{Activation}
+use Rattle.template_runs_works.specs.Activations.{Activation}
 use Rattle.template_runs_works.specs.TemplateParts.{IsOfUnit}
 use Rattle.template_runs_works.proofs.About.{About, AboutPlace, AboutAll}
 use Rattle.template_runs_works.proofs.Arguments.{about_none, about_more}

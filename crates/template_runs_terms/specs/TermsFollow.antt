@@ -9,8 +9,8 @@ use Rattle.flow_lower_tasks.specs.declared.pending_works.Decision.{Decision}
 use Rattle.flow_lower_works.specs.Derivations.{Makes}
 use Rattle.ref_machine.specs.Items.{Item, Value, Unused}
 use Rattle.ref_machine.specs.ConditionItems.{condition}
-use Rattle.template_runs_follow.specs.Activations.{Activation}
-use Rattle.template_runs_follow.specs.Follows.{Leads, Follows}
+use Rattle.template_runs_works.specs.Activations.{Activation}
+use Rattle.template_runs_works.specs.Follows.{Leads, Follows}
 use Rattle.template_runs_works.specs.Rooms.{room}
 use Rattle.template_runs_works.specs.SuitedTerms.{Suits}
 use Rattle.template_runs_works.specs.TemplateParts.{IsOfUnit, IsKnown, Stands}

@@ -1,2 +1,3 @@
 pub mod MadeTemplates
 pub mod UnitRuns
+pub use Rattle.template_runs_entry.proofs.CoveredCases

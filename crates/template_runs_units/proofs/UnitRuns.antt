@@ -33,7 +33,7 @@ use Rattle.template_runs.specs.TemplateSteps.{template_begin, steps_from}
 use Rattle.template_runs_settled.specs.SettledRuns.{templates, ReturnsWith, NamesNothing}
 use Rattle.template_runs_laid.specs.LaidRuns as laid
 use Rattle.template_runs_follow.specs.Activations.{entry_of}
-use Rattle.template_runs_follow.specs.Follows.{Follows, Reached, entry, called, pieces}
+use Rattle.template_runs_follow.specs.Follows.{Follows, AllFollow, Reached, entry, called, pieces}
 use Rattle.template_runs_turns.specs.Alike as followed
 use Rattle.template_runs_suited.specs.RegularFunctions.{RegularFunctionsSuit}
 use Rattle.template_runs_entry.specs.Entries.{IsMade, IsEntry, AreMade, EntryIsNotCalled, FunctionsAreFollowed, EntriesAreFollowed}
@@ -106,10 +106,10 @@ owned u f e =
 -- ---- the templates of a unit
 
 module _ (laws : Laws) (u : UnitView) (limits : Limits) (program : Flow) (o : IsProgramOf u limits program) where
-  abbrev of : ℕ → TemplateView
+  abbrev pub of : ℕ → TemplateView
   of = made o.is.is_counted.is_prepared
 
-  abbrev t : Templates
+  abbrev pub t : Templates
   t = templates u of
 
   is_fresh : (n : ℕ) → Reaches u n → IsFresh u n (of n)
@@ -118,7 +118,7 @@ module _ (laws : Laws) (u : UnitView) (limits : Limits) (program : Flow) (o : Is
   is_regular : (n : ℕ) (f : FunctionView) → function_at u n ≡ Some f → is_regular_function u f ≡ true
   is_regular n f is = laws.regular u n f o.regular is
 
-  plainly : (n : ℕ) → Reaches u n → IsPlainlyMade u n (of n)
+  pub plainly : (n : ℕ) → Reaches u n → IsPlainlyMade u n (of n)
   plainly n r =
       let x = is_fresh n r in
       let e = is_regular n x.function x.is_template.stands in
@@ -153,6 +153,12 @@ module _ (laws : Laws) (u : UnitView) (limits : Limits) (program : Flow) (o : Is
 
   first_made : IsEntry t o.is.entry
   first_made = is_made u.entry o.is.entry true (itself u.entry) begun o.is.is_counted.is_entry
+
+  pub all_follow : AllFollow t
+  all_follow = laws.functions t never are_made
+
+  pub entry_follows : (n : ℕ) → Follows (entry_of t) n 0 (body_of (function_at t.unit t.unit.entry)) (pieces (entry_of t))
+  entry_follows n = laws.start t o.is.entry first_made n
 
   -- ---- runs
 

@@ -4,7 +4,7 @@ use Rattle.cc_base.specs.declared.limit_table.Limits.{Limits}
 use Rattle.c_layout.specs.DeclarationTrees.{ExternalTree}
 use Rattle.c_layout.specs.CheckedUnits.{UnitView}
 use Rattle.c_layout.specs.declared.data_model.Model.{Model}
-use Rattle.c_types.specs.UnitChecks.{check}
+use Rattle.template_runs_fit_units.specs.UnitChecks.{check}
 use Rattle.flow_program.specs.declared.programs.Flow.{Flow}
 use Rattle.flow_program.specs.WellFormed.{is_well_formed}
 use Rattle.flow_program_views.specs.ProgramViews.{flow_view}

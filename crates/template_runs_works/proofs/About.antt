@@ -10,10 +10,10 @@ use Rattle.flow_lower_tasks.specs.Works.{Job, behind}
 use Rattle.flow_lower_tasks.specs.declared.pending_works.Decision.{Decision}
 use Rattle.flow_lower_conditions.specs.Conditions.{LineCallView, line_call}
 use Rattle.flow_lower_works.specs.Derivations.{parts, Makes}
-use Rattle.ref_machine.specs.Items as item
-use Rattle.ref_machine.specs.Items.{Item}
-use Rattle.ref_machine.specs.TermItems.{address_items, arguments, argument_count}
-use Rattle.ref_machine.specs.ConditionItems.{term_items, condition}
+use Rattle.template_runs_follow.specs.Items as item
+use Rattle.template_runs_follow.specs.Items.{Item}
+use Rattle.template_runs_follow.specs.TermItems.{address_items, arguments, argument_count}
+use Rattle.template_runs_follow.specs.ConditionItems.{term_items, condition}
 use Rattle.template_runs_follow.specs.Activations.{Activation}
 use Rattle.template_runs_follow.specs.Follows.{Leads, Follows}
 use Rattle.template_runs_follow.proofs.Constructions.{gives_value, gives_unused, gives_address}

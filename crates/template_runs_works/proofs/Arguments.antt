@@ -14,11 +14,11 @@ use Rattle.flow_lower_tasks.specs.Works as jobs
 use Rattle.flow_lower_tasks.specs.Works.{Job, behind}
 use Rattle.flow_lower_expressions.specs.Calls as calls
 use Rattle.flow_lower_expressions.specs.Calls.{argued, argument_temps, gives, is_allocation, sited, allocated, library_at, result_temp}
-use Rattle.ref_machine.specs.Items as item
-use Rattle.ref_machine.specs.Items.{Item}
-use Rattle.ref_machine.specs.Operations as op
-use Rattle.ref_machine.specs.TermItems.{arguments, argument_count, left_if}
-use Rattle.template_runs_acts.specs.Acts.{temps_from, behind_call}
+use Rattle.template_runs_follow.specs.Items as item
+use Rattle.template_runs_follow.specs.Items.{Item}
+use Rattle.template_runs_follow.specs.Operations as op
+use Rattle.template_runs_follow.specs.TermItems.{arguments, argument_count, left_if}
+use Rattle.template_runs_follow.specs.Acts.{temps_from, behind_call}
 use Rattle.template_runs_follow.specs.Activations.{Activation}
 use Rattle.template_runs_follow.specs.Follows.{at_place}
 use Rattle.template_runs_follow.proofs.Constructions.{gives_call}

@@ -15,12 +15,12 @@ use Rattle.flow_lower_tasks.specs.Settings.{SettingView}
 use Rattle.flow_lower_tasks.specs.Works as jobs
 use Rattle.flow_lower_tasks.specs.Works.{Job, behind}
 use Rattle.flow_lower_expressions.specs.Assignments as lowered
-use Rattle.ref_machine.specs.Items as item
-use Rattle.ref_machine.specs.Items.{Item}
-use Rattle.ref_machine.specs.Operations as op
-use Rattle.ref_machine.specs.Operations.{Operation}
-use Rattle.template_runs_acts.specs.Acts as acts
-use Rattle.template_runs_acts.specs.Acts.{IsAct, IsActBehind}
+use Rattle.template_runs_follow.specs.Items as item
+use Rattle.template_runs_follow.specs.Items.{Item}
+use Rattle.template_runs_follow.specs.Operations as op
+use Rattle.template_runs_follow.specs.Operations.{Operation}
+use Rattle.template_runs_follow.specs.Acts as acts
+use Rattle.template_runs_follow.specs.Acts.{IsAct, IsActBehind}
 use Rattle.template_runs_follow.specs.Activations.{Activation}
 use Rattle.template_runs_follow.specs.Follows.{at_place, Follows}
 use Rattle.template_runs_follow.proofs.Constructions.{gives_store, gives_again}

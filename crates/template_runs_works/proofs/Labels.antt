@@ -3,7 +3,7 @@ use Rattle.std.proofs.Common.{◌≡◌, ◌≤◌, ℕ, ◌+◌, ◌==◌, Bool
 use Rattle.std.proofs.lemmas.Bool.{eq-eqb}
 use Rattle.flow_lower_tasks.specs.Pieces.{PieceView, Do, DoIfUsed, End, Mark, Call}
 use Rattle.flow_lower_debts.specs.Marks.{one, all_marked}
-use Rattle.template_runs.specs.TemplateExits.{behind_mark}
+use Rattle.template_runs_follow.specs.TemplateExits.{behind_mark}
 use Rattle.template_runs_follow.specs.Activations.{Activation}
 use Rattle.template_runs_follow.specs.Follows.{Leads, pieces}
 use Rattle.template_runs_works.specs.TemplateParts.{Stands}

@@ -5,13 +5,13 @@ use Rattle.flow_lower_tasks.specs.Plans.{Plan, with_labels}
 use Rattle.flow_lower_tasks.specs.Settings.{SettingView}
 use Rattle.flow_lower_tasks.specs.Works as jobs
 use Rattle.flow_lower_tasks.specs.Works.{Job}
-use Rattle.flow_lower_functions.specs.Turns.{planless}
+use Rattle.flow_lower_works.specs.Turns.{planless}
 use Rattle.flow_lower_works.specs.Derivations.{parts, Makes}
 use Rattle.flow_lower_works.proofs.Derivations.{parted}
-use Rattle.flow_lower_growth.specs.Growth.{Grows}
-use Rattle.flow_lower_growth.proofs.Growth.{grows_on}
-use Rattle.flow_lower_growth.proofs.GrowingWorks.{grows, jobs_none, planless_grows}
-use Rattle.ref_machine.specs.Items.{Item}
+use Rattle.flow_lower_debts.specs.Growth.{Grows}
+use Rattle.flow_lower_debts.proofs.Growth.{grows_on}
+use Rattle.flow_lower_debts.proofs.GrowingWorks.{grows, jobs_none, planless_grows}
+use Rattle.template_runs_follow.specs.Items.{Item}
 use Rattle.template_runs_follow.specs.Activations.{Activation}
 use Rattle.template_runs_follow.specs.Follows.{Follows, Leads}
 use Rattle.template_runs_works.specs.TemplateParts.{IsOfUnit, IsKnown, Stands}

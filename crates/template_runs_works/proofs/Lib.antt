@@ -7,3 +7,6 @@ pub mod Steps
 pub mod Laying
 pub mod Arguments
 pub mod LineCalls
+pub use Rattle.template_runs_follow.proofs.Constructions
+pub use Rattle.template_runs_follow.proofs.FewerTurns
+pub use Rattle.flow_lower_debts.proofs.GrowingWorks

@@ -12,10 +12,10 @@ use Rattle.flow_lower_tasks.specs.Works as jobs
 use Rattle.flow_lower_tasks.specs.Works.{Job, behind}
 use Rattle.flow_lower_expressions.specs.Calls.{line_value}
 use Rattle.flow_lower_works.specs.Derivations.{Makes}
-use Rattle.ref_machine.specs.Items as item
-use Rattle.ref_machine.specs.Items.{Item, Items, listed}
-use Rattle.ref_machine.specs.Operations as op
-use Rattle.ref_machine.specs.TermItems.{arguments, argument_count}
+use Rattle.template_runs_follow.specs.Items as item
+use Rattle.template_runs_follow.specs.Items.{Item, Items, listed}
+use Rattle.template_runs_follow.specs.Operations as op
+use Rattle.template_runs_follow.specs.TermItems.{arguments, argument_count}
 use Rattle.template_runs_follow.specs.Activations.{Activation}
 use Rattle.template_runs_follow.specs.Follows.{Leads, Follows}
 use Rattle.template_runs_follow.proofs.Constructions.{gives_read, gives_line}

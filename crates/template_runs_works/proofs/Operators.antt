@@ -14,13 +14,13 @@ use Rattle.flow_lower_tasks.specs.declared.term_kinds.OperatorMeaning.TheVariant
 use Rattle.flow_lower_tasks.specs.Works as jobs
 use Rattle.flow_lower_tasks.specs.Works.{Job, behind}
 use Rattle.flow_lower_expressions.specs.Values.{integer_act, moved_pointer}
-use Rattle.ref_machine.specs.Items as item
-use Rattle.ref_machine.specs.Items.{Item}
-use Rattle.ref_machine.specs.Operations as op
-use Rattle.ref_machine.specs.Operations.{Operation, size_of}
-use Rattle.ref_machine.specs.TermItems.{operating, order_of}
-use Rattle.template_runs_acts.specs.Acts as acts
-use Rattle.template_runs_acts.specs.Acts.{IsAct}
+use Rattle.template_runs_follow.specs.Items as item
+use Rattle.template_runs_follow.specs.Items.{Item}
+use Rattle.template_runs_follow.specs.Operations as op
+use Rattle.template_runs_follow.specs.Operations.{Operation, size_of}
+use Rattle.template_runs_follow.specs.TermItems.{operating, order_of}
+use Rattle.template_runs_follow.specs.Acts as acts
+use Rattle.template_runs_follow.specs.Acts.{IsAct}
 use Rattle.template_runs_follow.specs.Activations.{Activation}
 use Rattle.template_runs_follow.specs.Follows.{at_place}
 use Rattle.template_runs_works.specs.Rooms.{larger, both_rooms}

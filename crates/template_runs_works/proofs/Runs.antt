@@ -10,15 +10,15 @@ use Rattle.flow_lower_tasks.specs.Plans.{Plan, with_work}
 use Rattle.flow_lower_tasks.specs.Settings.{SettingView}
 use Rattle.flow_lower_tasks.specs.Works as jobs
 use Rattle.flow_lower_tasks.specs.Works.{Job, behind}
-use Rattle.flow_lower_functions.specs.Turns.{planless}
+use Rattle.flow_lower_works.specs.Turns.{planless}
 use Rattle.flow_lower_works.specs.Derivations.{is_piece, parts, Makes, nothing, piece, work}
 use Rattle.flow_lower_works.proofs.Derivations.{parted}
-use Rattle.flow_lower_growth.specs.Growth.{Grows}
-use Rattle.flow_lower_growth.proofs.GrowingWorks.{grows, jobs_none}
-use Rattle.ref_machine.specs.Items as item
-use Rattle.ref_machine.specs.Items.{Item}
-use Rattle.ref_machine.specs.Operations.{Operation}
-use Rattle.template_runs_acts.specs.Acts.{IsAct}
+use Rattle.flow_lower_debts.specs.Growth.{Grows}
+use Rattle.flow_lower_debts.proofs.GrowingWorks.{grows, jobs_none}
+use Rattle.template_runs_follow.specs.Items as item
+use Rattle.template_runs_follow.specs.Items.{Item}
+use Rattle.template_runs_follow.specs.Operations.{Operation}
+use Rattle.template_runs_follow.specs.Acts.{IsAct}
 use Rattle.template_runs_follow.specs.Activations.{Activation}
 use Rattle.template_runs_follow.specs.Follows.{Names, Follows, at_place}
 use Rattle.template_runs_follow.proofs.Constructions.{gives_step, gives_drop}

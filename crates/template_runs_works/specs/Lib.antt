@@ -1,3 +1,6 @@
 pub mod Rooms
 pub mod SuitedTerms
 pub mod TemplateParts
+pub use Rattle.flow_lower_debts.specs.Marks
+pub use Rattle.template_runs_follow.specs.Activations
+pub use Rattle.template_runs_follow.specs.Follows

@@ -8,7 +8,7 @@ use Rattle.c_layout.specs.CheckedUnits.{FunctionView, UnitView}
 use Rattle.c_layout.specs.declared.library_functions.LibFn.{LibFn}
 use Rattle.flow_lower_tasks.specs.TermKinds.{struct_number, lvalue_type}
 use Rattle.flow_lower_expressions.specs.Calls.{gives, reads_line}
-use Rattle.ref_machine.specs.TermItems.{argument_count}
+use Rattle.template_runs_follow.specs.TermItems.{argument_count}
 use Rattle.template_runs_follow.specs.Follows.{IsCalled}
 
 -- a call whose value is used gives one

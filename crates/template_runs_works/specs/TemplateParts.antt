@@ -4,10 +4,10 @@ use Rattle.c_layout.specs.CheckedUnits.{FunctionView}
 use Rattle.flow_lower_tasks.specs.Pieces.{NameView, PieceView}
 use Rattle.flow_lower_tasks.specs.Plans.{Plan}
 use Rattle.flow_lower_tasks.specs.Settings.{SettingView}
-use Rattle.flow_lower_functions.specs.Functions.{numbers_from}
+use Rattle.flow_lower_works.specs.Functions.{numbers_from}
 use Rattle.flow_lower_debts.specs.Marks.{all_marked}
-use Rattle.ref_machine.specs.CallSteps.{epilogue}
-use Rattle.ref_machine.specs.SourceStates.{Frame}
+use Rattle.template_runs_follow.specs.CallSteps.{epilogue}
+use Rattle.template_runs_follow.specs.SourceStates.{Frame}
 use Rattle.template_runs_follow.specs.Activations.{Activation}
 use Rattle.template_runs_follow.specs.Follows.{Names, Leads, Follows, own, pieces}
 

@@ -1,6 +1,6 @@
 use Rattle.std.specs.Prelude.{length}
 use Rattle.abstract_steps_rows.specs.OwnRows.{program_bases}
-use Rattle.abstract_steps_laws.proofs.Systems.{system_monotone}
+use Rattle.abstract_steps_laws_structs.proofs.Systems.{system_monotone}
 use Rattle.abstract_steps_laws_programs.proofs.WellFormed.{well_made, laid_out, all_named}
 use Rattle.abstract_steps_laws_programs.proofs.Sites.{all_sites}
 use Rattle.abstract_steps_laws_programs.proofs.AllCalls.{all_rise}

@@ -1,4 +1,4 @@
-use Rattle.abstract_steps_laws.proofs.Systems.{system_monotone}
+use Rattle.abstract_steps_laws_structs.proofs.Systems.{system_monotone}
 use Rattle.abstract_steps_laws_programs.proofs.WellFormed.{laid_out, all_named}
 use Rattle.abstract_steps_laws_programs.proofs.theorems.well_formed_programs_are_monotone.Goals as goal
 

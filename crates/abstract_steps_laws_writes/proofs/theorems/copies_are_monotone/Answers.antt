@@ -1,7 +1,7 @@
 use Rattle.std.specs.Prelude.{true}
 use Rattle.store_domain_laws.specs.TopRows.{top_row}
 use Rattle.store_domain_laws.proofs.Together.{each}
-use Rattle.abstract_steps_laws.proofs.MemorySteps.{row_near}
+use Rattle.abstract_steps_laws_library.proofs.MemorySteps.{row_near}
 use Rattle.abstract_steps_laws_writes.proofs.CopyWrites.{copy_step}
 use Rattle.abstract_steps_laws_writes.proofs.theorems.copies_are_monotone.Goals as goal
 

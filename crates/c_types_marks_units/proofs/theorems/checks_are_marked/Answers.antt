@@ -1,4 +1,4 @@
-use Rattle.c_types_marks_initializers.specs.PartLaws.{HasLaws}
+use Rattle.c_types_marks_statements.specs.PartLaws.{HasLaws}
 use Rattle.c_types_marks_units.proofs.Units.{checks_marked}
 use Rattle.c_types_marks_units.proofs.theorems.checks_are_marked.Goals as goal
 

@@ -1,4 +1,5 @@
 use Rattle.report_cli_rows_analyses.proofs.WorkedProgram.{program, larger, well_formed, larger_map, found_alone}
+use Rattle.report_cli_rows_analyses.proofs.WorkedSingle.{single}
 use Rattle.report_cli_rows_analyses.proofs.WorkedThresholds.{list_of}
 use Rattle.report_cli_rows_analyses.proofs.Lowering.{lowered_to}
 use Rattle.report_cli_rows_analyses.proofs.theorems.one_division_is_found.Goals as goal
@@ -13,5 +14,6 @@ returns c = λ some. (
     listed = list_of some;
     found = found_alone some c.least_maps_are_exact.ensures c.two_solvers_agree.ensures.answers;
     larger_map = larger_map some;
+    single = single some;
   },
 )

@@ -1,0 +1,203 @@
+-- The laws on single instructions hold of intervals; so an analysis of a plain program finds just what its run violates.
+use Rattle.std.specs.Prelude.{◌≡◌, ◌&&◌, ℕ, ℤ, true, Option, Some, None, List, [], ◌∷◌, map, replicate, slice_get}
+use Rattle.std.specs.List.{Contains}
+use Rattle.std.proofs.Common.{arith, refl, ap, ◌∙◌, inl, inr}
+use Rattle.std.proofs.lemmas.List.{length-replicate}
+use Rattle.std.proofs.lemmas.Bool.{and_parts}
+use Rattle.cc_base.specs.Standard.{standard_limits}
+use Rattle.cc_base.specs.declared.diagnostics.Diag.{Diag}
+use Rattle.c_layout.specs.CheckedUnits.{LocalView, UnitView}
+use Rattle.c_layout.specs.Types.{Int}
+use Rattle.flow_program.specs.FlowSystems.{well_formed_system}
+use Rattle.flow_program.specs.WellFormed.{is_well_formed}
+use Rattle.flow_program.specs.declared.flow_edges.Edge.{Edge}
+use Rattle.flow_program.specs.declared.flow_edges.EdgeKind.{EdgeKind}
+use Rattle.flow_program.specs.declared.flow_edges.EdgeKind.TheVariants as kind
+use Rattle.flow_program.specs.declared.flow_edges.Test.{Test}
+use Rattle.flow_program.specs.declared.programs.Flow.{Flow}
+use Rattle.flow_program.specs.declared.programs.ParameterInput.{ParameterInput}
+use Rattle.value_domain.specs.declared.row_cells.Cell.TheVariants.{Nothing}
+use Rattle.lib_models_effects.specs.UnitStarts.{with_parameters, entry_parameters, world_before}
+use Rattle.flow_program_objects.specs.Sites.{has_sites, ends_with_lines}
+use Rattle.flow_program_objects.specs.SpelledTexts.{spells_over_characters}
+use Rattle.flow_program_objects.specs.ScalarTests.{all_follow_scalars}
+use Rattle.interval_domain.specs.Spans.{Stands}
+use Rattle.interval_domain.specs.IntervalLattice.{interval_lattice, interval_order, interval_rounding, interval_heights}
+use Rattle.interval_domain.specs.IntervalNumbers.{interval_numbers, interval_bounding, interval_ranges}
+use Rattle.interval_domain_laws.specs.Operations.{interval_monotone, interval_sound}
+use Rattle.flow_program_views.specs.ProgramViews.{flow_view}
+use Rattle.flow_program_machine.specs.FlowStates.{Standing, running}
+use Rattle.flow_program_machine.specs.FlowStarts.{first_standing, begun_by, flow_begin}
+use Rattle.store_domain_meaning.specs.Coverage.{state_of}
+use Rattle.store_domain_sound_programs.specs.Premises.{HasPremises}
+use Rattle.store_domain_sound_programs.proofs.WellFormedPremises.{meets_premises}
+use Rattle.abstract_steps_rows.specs.IntervalEnds.{interval_ends}
+use Rattle.abstract_steps_rows.specs.OwnRows.{program_bases}
+use Rattle.abstract_steps_system.specs.FlowLaws.{flow-laws}
+use Rattle.abstract_steps_system.specs.FlowMachines.{start_of}
+use Rattle.abstract_steps_laws_programs.specs.RegularPrograms.{has_scalars, has_initial_bytes, has_apart_members, is_near_list, is_regular}
+use Rattle.abstract_steps_laws_programs.proofs.WellFormed.{laid_out, all_named}
+use Rattle.abstract_steps_laws_programs.proofs.RegularPrograms.{Regular, regular_of}
+use Rattle.abstract_steps_laws_programs.proofs.RegularSystems.{regular_rising}
+use Rattle.abstract_steps_laws_own_rows.proofs.OwnEdges.{fit_nothing, leaves_own}
+use Rattle.abstract_steps_sound_copied_structs.specs.StructTables.{HasStructs}
+use Rattle.abstract_steps_sound_ordered_structs.proofs.OrderedStructs.{has_structs}
+use Rattle.abstract_steps_sound.specs.SoundSteps.{StandsBehind}
+use Rattle.abstract_steps_single_runs.specs.OpenSteps.{TestIsProved, CaseIsProved, KindIsProved}
+use Rattle.abstract_steps_single_runs.proofs.AllSteps.{tests_sound}
+use Rattle.abstract_steps_sound_analyses.specs.SoundAnalyses.{Suffices}
+use Rattle.abstract_steps_sound_analyses.proofs.SoundAnalyses.{standard_held, steps, ends, typed_runs, covered}
+use Rattle.abstract_steps_sound_analyses.proofs.FoundRuns.{suffices, finds_each_pair}
+use Rattle.abstract_steps_sound_analyses.proofs.ScalarTests.{kinds_proved}
+use Rattle.abstract_steps_sound_entries.specs.CarriedMaps.{EntryStands}
+use Rattle.flow_analysis.specs.Analyses.{IsAnalysis}
+use Rattle.flow_analysis.specs.CheckedPrograms.{IsChecked}
+use Rattle.abstract_steps_sound_entries.specs.UnitStarts.{StartsAs}
+use Rattle.abstract_steps_sound_entries.proofs.Beginnings.{runs_begin}
+use Rattle.abstract_steps_sound_entries.proofs.EntryRows.{entry_stands}
+use Rattle.abstract_steps_sound_checked_starts.proofs.CheckedStarts.{sound_structs, unit_starts}
+use Rattle.abstract_steps_sound_entries.proofs.RegularStarts.{regular_fits}
+use Rattle.abstract_steps_single.specs.SingleRows.{IsPlainProgram, TellsState}
+use Rattle.abstract_steps_single_store.specs.TypedAccesses.{HasObjects}
+use Rattle.abstract_steps_single.proofs.ExactIntervals.{intervals_exact}
+use Rattle.abstract_steps_single.proofs.ValueSteps.{value_step_told}
+use Rattle.abstract_steps_single_pointers.proofs.PointerSteps.{pointer_step_told}
+use Rattle.abstract_steps_single_calls.proofs.PlainCalls.{call_told}
+use Rattle.abstract_steps_single_store.proofs.ToldLoads.{load_step_told}
+use Rattle.abstract_steps_single_store.proofs.ToldStores.{store_step_told}
+use Rattle.abstract_steps_single_store.proofs.ToldForgets.{forget_step_told}
+use Rattle.abstract_steps_single_store.proofs.ToldClears.{clear_step_told}
+use Rattle.abstract_steps_single_lives.proofs.ToldEnters.{enter_step_told}
+use Rattle.abstract_steps_single_lives.proofs.ToldLeaves.{leave_step_told}
+use Rattle.abstract_steps_single_starts.proofs.ToldSpells.{spell_step_told}
+use Rattle.abstract_steps_single_ways.specs.WayLaws.{TestIsTold, CaseIsTold, KindIsTold, TestsAreTold}
+use Rattle.abstract_steps_single_ways.proofs.WaysTold.{way_told}
+use Rattle.abstract_steps_single_ways.proofs.PointerTests.{pointer_test_told}
+use Rattle.abstract_steps_single_ways.proofs.NullTests.{null_test_told}
+use Rattle.abstract_steps_single_ways.proofs.CaseTests.{case_test_told}
+use Rattle.abstract_steps_single_copied.proofs.ToldCopies.{copy_step_told}
+use Rattle.abstract_steps_single_tests.proofs.IntegerTests.{integer_test_told}
+use Rattle.abstract_steps_single_starts.proofs.ToldStarts.{start_is_told}
+use Rattle.abstract_steps_single_runs.specs.SingleRuns.{SingleLaws, SwitchesAreApart, IsNeverStuck, IsSingleProgram, IsViolatedAlone}
+use Rattle.abstract_steps_single_analyses.specs.SingleAnalyses.{FindsJustRunOf, FindsJustRunsOfChecked}
+use Rattle.abstract_steps_single_runs.proofs.PassedBlocks.{both}
+use Rattle.abstract_steps_single_analyses.proofs.PlainObjects.{has_objects}
+use Rattle.abstract_steps_single_analyses.proofs.RightOperands.{rights_of}
+use Rattle.abstract_steps_single_runs.proofs.SingleRuns.{admits_only_run}
+
+module _ (flow : Flow) where
+  laws : SingleLaws interval_lattice interval_numbers Stands flow standard_limits
+  laws = record {
+    values = λ p naming row s o is fits typed right r t d. value_step_told interval_bounding interval_sound interval_ranges intervals_exact flow p naming row s r t o is fits typed right d;
+    pointers = λ p plain naming row s o is fits typed right r t d. pointer_step_told interval_bounding intervals_exact flow p plain naming row s r t o is fits d;
+    calls = λ p naming row s o is fits typed right r t d. call_told interval_bounding intervals_exact flow p naming row s r t o is fits d;
+    loads = λ p objects plain naming row s o is fits typed r t d. load_step_told interval_bounding flow p objects plain naming row s r t o is fits d;
+    stores = λ p objects plain naming row s o is fits typed r t d. store_step_told interval_order interval_bounding interval_sound interval_ranges intervals_exact flow p objects plain naming row s r t o is fits d;
+    copies = λ structs p objects plain naming row s o is fits typed r t d. copy_step_told interval_order interval_bounding interval_ranges intervals_exact flow p objects plain structs naming row s r t o is fits d;
+    spells = λ p objects plain naming row s o is fits typed r t d. spell_step_told interval_bounding flow p objects plain naming row s r t o is fits d;
+    enters = λ p objects plain naming row s o is fits typed r t d. enter_step_told interval_bounding flow p objects plain naming row s r t o is fits d;
+    leaves = λ p objects plain naming row s o is fits typed r t d. leave_step_told flow p plain naming row s r t o is fits d;
+    forgets = λ p objects plain naming row s o is fits typed r t d. forget_step_told interval_bounding flow p objects plain naming row s r t o is fits d;
+    clears = λ p objects plain naming row s o is fits typed r t d. clear_step_told interval_bounding flow p objects plain naming row s r t o is fits d;
+    ways = λ p apart tests told good naming row s i last is r t d. way_told interval_bounding interval_sound intervals_exact flow p naming row s r t standard_limits good apart tests told i last is d;
+  }
+
+  module _ (p : HasPremises flow) where
+    test_told : (test : Option Test) → TestIsProved flow test → TestIsTold interval_lattice interval_numbers Stands flow test
+    test_told None h = tt
+    test_told (Some test) h = elim h [
+      | inl k ↦ (λ naming row s r t d. integer_test_told interval_order interval_bounding interval_sound intervals_exact flow p naming row s r t test k d)
+      | inr other ↦ elim other [
+        | inl k ↦ (λ naming row s r t d. pointer_test_told _ _ flow row s t test k d)
+        | inr k ↦ (λ naming row s r t d. null_test_told interval_bounding flow p naming row s r t test k d)
+      ]
+    ]
+
+    case_told : (value : ℤ) (base : Option ℕ) → CaseIsProved flow base → CaseIsTold interval_lattice interval_numbers Stands flow value base
+    case_told value None h = tt
+    case_told value (Some b) h = λ naming row s r t d. case_test_told interval_order interval_bounding flow p naming row s r t value b h d
+
+    kind_told : (k : EdgeKind) → KindIsProved flow k → KindIsTold interval_lattice interval_numbers Stands flow k
+    kind_told (kind.When truth test kept) h = test_told test h
+    kind_told (kind.Case test) h = case_told test.value test.object h
+    kind_told kind.Jump h = tt
+    kind_told (kind.Other values) h = tt
+    kind_told kind.NoLine h = tt
+    kind_told kind.Line h = tt
+
+module _ (flow : Flow) (list : List ℤ) (found : List Diag) (a : IsAnalysis flow list found) where
+  enough : Suffices flow list
+  enough = suffices flow list a.regular a.checked
+
+  regular : Regular flow list
+  regular = regular_of flow list a.regular
+
+  p : HasPremises flow
+  p = meets_premises standard_limits flow standard_held regular.well_formed
+
+  structs : HasStructs flow
+  structs =
+      let w = and_parts (is_well_formed standard_limits flow) (has_scalars flow && (has_initial_bytes flow && (has_apart_members flow && is_near_list list))) a.regular in
+      let b = and_parts (has_scalars flow) (has_initial_bytes flow && (has_apart_members flow && is_near_list list)) w.1 in
+      let i = and_parts (has_initial_bytes flow) (has_apart_members flow && is_near_list list) b.1 in
+      let m = and_parts (has_apart_members flow) (is_near_list list) i.1 in
+      has_structs standard_limits flow regular.well_formed m.0 a.checked.structs
+
+  kinds : (number : ℕ) (e : Edge) → slice_get flow.edges.items number ≡ Some e → KindIsProved flow e.kind
+  kinds =
+      let s = and_parts (has_sites flow) (ends_with_lines flow && (spells_over_characters flow && all_follow_scalars flow)) a.checked.parts in
+      let e = and_parts (ends_with_lines flow) (spells_over_characters flow && all_follow_scalars flow) s.1 in
+      let t = and_parts (spells_over_characters flow) (all_follow_scalars flow) e.1 in
+      kinds_proved flow t.1
+
+  objects : IsPlainProgram flow → HasObjects flow
+  objects plain = has_objects standard_limits flow regular.well_formed plain
+
+  module _ (u : UnitView) (starts : StartsAs u flow) where
+    stand : EntryStands interval_lattice interval_numbers Stands flow list u
+    stand = entry_stands flow list a.regular enough.reaches a.started u starts
+
+    -- a unit whose program takes no numbers begins
+    none_taken : {X Y : Type 0} (f : X → Y) (xs : List X) → map f xs ≡ [] → xs ≡ []
+    none_taken f [] e = refl
+    none_taken f (x ∷ xs) e = cc
+
+    begin : Standing
+    begin = first_standing u (flow_view flow) (world_before u [])
+
+    begins : flow.parameters.items ≡ [] → flow_begin u (flow_view flow) [] ≡ running begin []
+    unfolding begin
+    begins none =
+        let own : entry_parameters u ≡ [] = none_taken (λ (x : LocalView). x.ctype) (entry_parameters u) (starts.inputs.types ∙ ap (map (λ (x : ParameterInput). Int x.kind)) none) in
+        ap (λ z. begun_by u (flow_view flow) (with_parameters u z (world_before u []))) own
+
+    tells : (single : IsSingleProgram flow u) → TellsState interval_lattice interval_numbers flow (start_of interval_lattice interval_numbers flow list) (state_of begin)
+    tells single =
+        start_is_told interval_order interval_bounding interval_sound interval_ranges intervals_exact flow standard_limits regular.well_formed p (objects single.plain) single.plain single.parameters u starts.model
+        (runs_begin flow standard_limits regular.well_formed regular.initial p u starts)
+        (replicate flow.width Nothing) (start_of interval_lattice interval_numbers flow list) (length-replicate flow.width Nothing) (regular_fits flow list a.regular enough.reaches a.started) [] begin (begins single.parameters)
+
+    only_run : SwitchesAreApart flow → IsNeverStuck flow u → IsSingleProgram flow u → (d : Diag) → Contains found d → IsViolatedAlone flow u d.place d.rule
+    only_run apart unstuck single d there =
+        let laid = laid_out standard_limits flow regular.well_formed (omega (arith)) in
+        let named = all_named standard_limits flow regular.well_formed regular.scalars in
+        let rising = regular_rising flow list a.regular in
+        let near = regular.near in
+        let behind = stand [] begin (begins single.parameters) in
+        let typed = typed_runs flow list a.regular enough u stand a.rows a.inductive a.typed in
+        let rights = rights_of flow u a.rows a.typed (covered flow list a.regular enough u stand typed a.rows a.inductive) in
+        admits_only_run interval_order flow list standard_limits regular.well_formed p (steps flow list a.regular enough) (ends flow list a.regular enough)
+        (tests_sound interval_order interval_bounding interval_sound interval_ranges flow p enough.tests)
+        (laws flow) (λ number e is. kind_told flow p e.kind (kinds number e is))
+        (λ number row own. fit_nothing interval_order interval_rounding interval_heights interval_bounding interval_monotone interval_ranges interval_ends flow list near enough.reaches laid named rising number row own)
+        (λ block number row x own e. leaves_own interval_order interval_rounding interval_heights interval_bounding interval_monotone interval_ranges interval_ends flow list near enough.reaches laid named rising block number row x own e)
+        ((flow-laws interval_order interval_rounding interval_heights interval_bounding interval_ends flow list (well_formed_system standard_limits flow regular.well_formed)).start_attained)
+        structs enough.texts (objects single.plain) apart u typed rights unstuck single begin (begins single.parameters)
+        (both interval_lattice interval_numbers flow Stands (Some (start_of interval_lattice interval_numbers flow list)) begin behind (record { row = start_of interval_lattice interval_numbers flow list; is = refl; tells = tells single }))
+        d.place d.rule (λ rows closed. a.made d there rows closed)
+
+    pub finds_run : FindsJustRunOf flow found u
+    finds_run apart unstuck single d = (λ there. only_run apart unstuck single d there, λ v. finds_each_pair flow list found a u stand (record { at = d.place; rule = d.rule }) (record { draws = []; steps = v.count; there = v.there }))
+
+  pub finds_checked_run : FindsJustRunsOfChecked flow found
+  finds_checked_run u is = finds_run u (unit_starts u flow (sound_structs flow list a.regular a.checked.structs) is)

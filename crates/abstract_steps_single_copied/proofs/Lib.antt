@@ -1,0 +1,3 @@
+pub mod ToldTouches
+pub mod MadeCopies
+pub mod ToldCopies

@@ -1,0 +1,11 @@
+pub mod OneTurn
+pub mod OneBase
+pub mod OneTouch
+pub mod OneLeaf
+pub mod OneLoad
+pub mod OneInstance
+pub mod OneStore
+pub mod HeldReads
+pub mod Written
+pub mod Touching
+pub use Rattle.abstract_steps_sound_copied_leaves.proofs.Structs

@@ -1,0 +1,1 @@
+pub use Rattle.abstract_steps_sound_copied_leaves.specs.StructLeaves

@@ -1,0 +1,13 @@
+-- Plain units: those that pass a look that computes, and whose one run accesses memory by the types of what lies there.
+use Rattle.std.specs.Prelude.{◌≡◌, true}
+use Rattle.c_layout.specs.CheckedUnits.{UnitView}
+use Rattle.flow_program.specs.declared.programs.Flow.{Flow}
+use Rattle.flow_lower_plain.specs.PlainUnits.{is_plain_unit}
+use Rattle.abstract_steps_single_runs.specs.SingleRuns.{HasTypedAccesses}
+
+-- a unit without loops and jumps back, parameters of the entry and arrays of more than 64 elements, which calls of the library but
+-- exit, abort, putchar and the functions of <ctype.h> alone; and in whose run under no numbers of the outside each access of memory
+-- is of the type of what lies there (6.5p7)
+pub record IsPlainUnit (u : UnitView) (program : Flow) : Type 0 where
+  pub look : is_plain_unit u ≡ true
+  pub accesses : HasTypedAccesses program u

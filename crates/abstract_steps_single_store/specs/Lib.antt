@@ -1,0 +1,2 @@
+pub mod TypedAccesses
+pub mod StoreLaws

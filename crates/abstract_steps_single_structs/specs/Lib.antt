@@ -1,0 +1,2 @@
+pub use Rattle.abstract_steps_single_copies.specs.CopyLaws
+pub use Rattle.abstract_steps_single_copies.specs.TypedCopies

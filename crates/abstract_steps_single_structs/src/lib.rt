@@ -1,0 +1,2 @@
+//! Copies of structs on rows that tell the state.
+#![tactic(auto)]

@@ -1,0 +1,2 @@
+pub mod DistinctCases
+pub mod DistinctChecks

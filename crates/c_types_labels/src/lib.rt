@@ -1,0 +1,6 @@
+//! The case labels of each switch of a checked unit have distinct values.
+#![tactic(auto)]
+
+mod theorems;
+
+pub use theorems::checked_cases_are_distinct;

@@ -1,0 +1,7 @@
+//! Static initializers.
+ghost use Rattle.c_types_marks_stores.specs.StaticStores.{StaticStoresAreProper};
+
+/// The texts that static initializers store are of bytes, and addresses of literals lie within them.
+pub fn static_stores_are_proper()
+    ensures { StaticStoresAreProper }
+{}

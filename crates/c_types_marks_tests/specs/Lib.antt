@@ -1,0 +1,3 @@
+pub use Rattle.c_types_marks.specs.MadeLaws
+pub use Rattle.c_types_marks.specs.MadeTerms
+pub use Rattle.c_types_marks.specs.ModelTypes

@@ -1,0 +1,2 @@
+pub mod FitTypes
+pub mod SmallChecks

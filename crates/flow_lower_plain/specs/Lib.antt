@@ -1,0 +1,4 @@
+pub mod SmallObjects
+pub mod PlainTerms
+pub mod PlainStatements
+pub mod PlainUnits

@@ -1,0 +1,4 @@
+pub mod LeadingStatements
+pub mod LeadingSwitches
+pub mod LeadingForms
+pub mod LeadingTemplates

@@ -1,0 +1,6 @@
+//! Laws on the templates of plain functions.
+#![tactic(auto)]
+
+mod theorems;
+
+pub use theorems::templates_lead_on;

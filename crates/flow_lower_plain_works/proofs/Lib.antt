@@ -1,0 +1,3 @@
+pub mod LeadingWorks
+pub mod LeadingTerms
+pub mod LeadingConditions

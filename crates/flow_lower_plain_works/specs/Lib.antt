@@ -1,0 +1,2 @@
+pub mod LeadingPieces
+pub mod SwitchLabels

@@ -1,0 +1,9 @@
+mod Rows
+pub mod ApartLabels
+pub mod ApartWorks
+pub mod ApartConditions
+pub mod ApartStatements
+pub mod ApartTemplates
+pub mod SettledApart
+pub mod ApartRuns
+pub mod ApartPrograms

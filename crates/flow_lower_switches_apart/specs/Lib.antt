@@ -1,0 +1,2 @@
+pub mod ApartSwitches
+pub mod ApartEdges

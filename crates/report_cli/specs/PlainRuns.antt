@@ -1,0 +1,31 @@
+-- Of a plain unit no line is false: each is that of a syntactic rule, or a run of the unit violates it.
+use Rattle.std.specs.Prelude.{◌≡◌, ◌⊎◌, List, Option, None}
+use Rattle.std.specs.List.{Contains}
+use Rattle.cc_base.specs.Outside.{Files}
+use Rattle.cc_base.specs.declared.diagnostics.Diag.{Diag}
+use Rattle.c_layout.specs.CheckedUnits.{UnitView, unit_view}
+use Rattle.c_layout.specs.declared.checked_tree.checked_units.Checked.{Checked}
+use Rattle.c_layout.specs.declared.data_model.Model.{Model}
+use Rattle.c_layout.specs.declared.unit_tokens.Unit7.{Unit7}
+use Rattle.syntax_rules.specs.StatementPlaces.{unit_places}
+use Rattle.flow_program.specs.declared.programs.Flow.{Flow}
+use Rattle.flow_lower_plain_programs.specs.PlainUnits.{IsPlainUnit}
+use Rattle.report_cli_texts.specs.Reports.{Bytes}
+use Rattle.report_cli_units.specs.Judging.{SettingView, Judgement, IsJudged}
+use Rattle.report_cli_answers.specs.Verdicts.{FromFiles, IsReport}
+use Rattle.report_cli.specs.FoundRuns.{IsViolatedBy}
+
+-- each pair is one that the syntactic rules find in the unit, or one that a run violates, where the unit is plain
+abbrev pub HoldsJustRun : Checked → Flow → List Diag → Type 0
+HoldsJustRun checked program pairs =
+    IsPlainUnit (unit_view checked) program → (d : Diag) → Contains pairs d → Contains (unit_places checked) d ⊎ IsViolatedBy (unit_view checked) (record { at = d.place; rule = d.rule })
+
+-- so are the pairs of a unit that is judged with no turns unrolled
+abbrev pub JudgedPairsAreViolated : Type 0
+JudgedPairsAreViolated = (unit : Unit7) (s : SettingView) (j : Judgement) (judged : IsJudged unit s j) → s.turns ≡ None → HoldsJustRun judged.checked judged.flow j.pairs
+
+-- and the diagnostics of a report of a unit that is read from files
+abbrev pub ReportsHoldJustRuns : Type 0
+ReportsHoldJustRuns =
+    (files : Option Files) (dirs : List Bytes) (model : Model) (main : Bytes) (s : SettingView) (names : List Bytes) (diags : List Diag) (report : IsReport (FromFiles files dirs model main) s names diags) → s.turns ≡ None
+    → HoldsJustRun report.judged.checked report.judged.flow diags

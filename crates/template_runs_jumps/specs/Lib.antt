@@ -1,0 +1,1 @@
+pub use Rattle.template_runs_gotos.specs.Gotos
