@@ -1,3 +1,3 @@
 pub mod SingleRuns
-pub mod PlainUnits
+pub mod PlainUnitRuns
 pub use Rattle.abstract_steps_sound_programs.specs.OpenSteps

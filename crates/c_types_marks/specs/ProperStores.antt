@@ -1,5 +1,5 @@
 -- Literals that memory has room for, and what objects of static storage begin with: texts of bytes, and addresses of
--- literals within them.
+-- literals with offsets and bounds of at most 2^30.
 use Rattle.std.specs.Prelude.{◌≡◌, ◌≤◌, ◌+◌, ◌^◌, ℕ, true, List, [], ◌∷◌, length}
 use Rattle.c_layout.specs.CheckedUnits.{StaticStoreView, SetValue, SetText, LiteralView}
 use Rattle.c_layout.specs.declared.checked_tree.checked_units.StaticBase.{StaticBase}

@@ -1,4 +1,4 @@
-//! What static initializers store is proper: texts of bytes, and addresses of literals that lie within them.
+//! What static initializers store is proper: texts of bytes, and addresses with offsets and bounds of at most 2^30.
 #![tactic(auto)]
 
 mod theorems;

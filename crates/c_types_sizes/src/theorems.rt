@@ -1,4 +1,4 @@
-//! Sizes.
+//! Memory has room for what a checked unit has.
 ghost use Rattle.c_types_sizes.specs.SmallChecks.{ChecksAreSmall};
 
 use c_types_marks_operators::operators_make;
@@ -7,7 +7,8 @@ use c_types_marks_terms::expressions_are_made;
 use c_types_marks_tests::switches_select;
 use c_types_marks_types::{declarators_keep, heads_keep, specifiers_keep};
 
-/// Memory has room for the objects of each checked unit, and addresses in them lie within them.
+/// Memory has room for the objects of each checked unit of a proper tree, under a model that is one; what its static
+/// objects begin with has offsets and bounds that memory may have.
 pub fn checks_are_small()
     ensures { ChecksAreSmall }
 {

@@ -1,5 +1,5 @@
 -- Of a plain unit each pair is that of a syntactic rule, or is violated by the unit's own run.
-use Rattle.std.proofs.Common.{◌≡◌, ◌⊎◌, inl, inr, ℕ, ℤ, [], List, Option, Some, None, subst}
+use Rattle.std.proofs.Common.{◌≡◌, inl, inr, ℕ, ℤ, List, Option, Some, None, subst}
 use Rattle.std.specs.List.{Contains}
 use Rattle.std.proofs.lemmas.List.Elements.{Contains-append_cases}
 use Rattle.cc_base.specs.Standard.{standard_limits}
@@ -8,15 +8,13 @@ use Rattle.c_layout.specs.CheckedUnits.{UnitView, unit_view}
 use Rattle.c_layout.specs.DeclarationTrees.{unit_tree}
 use Rattle.flow_program.specs.declared.programs.Flow.{Flow}
 use Rattle.syntax_rules.specs.StatementPlaces.{unit_places}
-use Rattle.lib_models_effects.specs.Worlds.{Violation}
 use Rattle.flow_analysis.specs.Analyses.{IsAnalysis}
 use Rattle.abstract_steps_single_units.specs.CheckedStarts.{IsUnitOf}
 use Rattle.flow_lower_plain_programs.specs.SingleRuns.{HasTypedAccesses, IsSingleProgram}
-use Rattle.abstract_steps_single_units.specs.SingleUnits.{RunViolates, FindsJustUnitRuns}
+use Rattle.abstract_steps_single_units.specs.SingleUnits.{FindsJustUnitRuns}
 use Rattle.flow_lower_plain_programs.specs.PlainPrograms.{IsPlainFlow, PlainUnitsHavePlainPrograms}
 use Rattle.report_cli_units.specs.Judging.{IsTurned}
 use Rattle.report_cli.specs.DefinedRuns.{TypedUnitsPassLooks}
-use Rattle.report_cli.specs.FoundRuns.{IsViolatedBy}
 use Rattle.report_cli.specs.PlainRuns.{JudgedPairsAreViolated, ReportsHoldJustRuns}
 use Rattle.report_cli.proofs.FoundRuns.{program_of}
 
@@ -28,10 +26,6 @@ PlainUnitsAreTold = (flow : Flow) (list : List ℤ) (found : List Diag) → IsAn
 analysed_itself : (turns : Option ℕ) (flow analysed : Flow) → turns ≡ None → IsTurned turns flow analysed → analysed ≡ flow
 analysed_itself None flow analysed none is = is
 analysed_itself (Some turns) flow analysed none is = cc
-
--- what the run under no numbers of the outside violates is violated by a run
-by_run : (u : UnitView) (v : Violation) → RunViolates u v → IsViolatedBy u v
-by_run u v h = record { draws = []; turns = h.turns; there = h.there }
 
 -- what a plain unit is lowered to, with its accesses
 single_program : (program : Flow) (u : UnitView) → IsPlainFlow program → HasTypedAccesses program u → IsSingleProgram program u
@@ -48,7 +42,7 @@ judged_pairs pass told lowered unit s j judged none plain d there =
     let looks = pass unit s judged.tree judged.checked judged.parsed judged.typed judged.looked judged.regular in
     elim (Contains-append_cases f.texts f.runs d (subst (λ ds. Contains ds d) f.both there)) [
       | inl text ↦ inl (f.by_texts.made d text)
-      | inr run ↦ inr (by_run u (record { at = d.place; rule = d.rule }) ((told judged.flow f.list f.runs own u standard_limits is_unit is_program looks single d).0 run))
+      | inr run ↦ inr ((told judged.flow f.list f.runs own u standard_limits is_unit is_program looks single d).0 run)
     ]
 
 pub reports_hold_just : JudgedPairsAreViolated → ReportsHoldJustRuns

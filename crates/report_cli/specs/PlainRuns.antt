@@ -1,4 +1,4 @@
--- Of a plain unit no line is false: each is that of a syntactic rule, or a run of the unit violates it.
+-- Of a plain unit no line is false: each is that of a syntactic rule, or the unit's run violates it.
 use Rattle.std.specs.Prelude.{◌≡◌, ◌⊎◌, List, Option, None}
 use Rattle.std.specs.List.{Contains}
 use Rattle.cc_base.specs.Outside.{Files}
@@ -9,16 +9,17 @@ use Rattle.c_layout.specs.declared.data_model.Model.{Model}
 use Rattle.c_layout.specs.declared.unit_tokens.Unit7.{Unit7}
 use Rattle.syntax_rules.specs.StatementPlaces.{unit_places}
 use Rattle.flow_program.specs.declared.programs.Flow.{Flow}
-use Rattle.flow_lower_plain_programs.specs.PlainUnits.{IsPlainUnit}
+use Rattle.flow_lower_plain_programs.specs.PlainUnitRuns.{IsPlainUnit}
+use Rattle.abstract_steps_single_units.specs.SingleUnits.{RunViolates}
 use Rattle.report_cli_texts.specs.Reports.{Bytes}
 use Rattle.report_cli_units.specs.Judging.{SettingView, Judgement, IsJudged}
 use Rattle.report_cli_answers.specs.Verdicts.{FromFiles, IsReport}
-use Rattle.report_cli.specs.FoundRuns.{IsViolatedBy}
 
--- each pair is one that the syntactic rules find in the unit, or one that a run violates, where the unit is plain
+-- each pair is one that the syntactic rules find in the unit, or one that its run under no numbers of the outside violates, where
+-- the unit is plain
 abbrev pub HoldsJustRun : Checked → Flow → List Diag → Type 0
 HoldsJustRun checked program pairs =
-    IsPlainUnit (unit_view checked) program → (d : Diag) → Contains pairs d → Contains (unit_places checked) d ⊎ IsViolatedBy (unit_view checked) (record { at = d.place; rule = d.rule })
+    IsPlainUnit (unit_view checked) program → (d : Diag) → Contains pairs d → Contains (unit_places checked) d ⊎ RunViolates (unit_view checked) (record { at = d.place; rule = d.rule })
 
 -- so are the pairs of a unit that is judged with no turns unrolled
 abbrev pub JudgedPairsAreViolated : Type 0

@@ -27,7 +27,7 @@ use Rattle.report_cli_laws.specs.Verdicts.{report_status, IsVerdict, IsLater}
 use Rattle.report_cli_laws.specs.Told.{IsAcceptedCheck, ToldReport}
 use Rattle.report_cli_laws_reports.specs.OneReports.{OneReport, OneVerdict}
 use Rattle.flow_lower_plain.specs.PlainUnits.{is_plain_unit}
-use Rattle.report_cli_rows_analyses.specs.PlainUnits.{IsPlainUnit}
+use Rattle.report_cli_rows_analyses.specs.PlainUnitRuns.{IsPlainUnit}
 use Rattle.report_cli_rows_analyses.specs.SingleRuns.{HasTypedAccesses}
 use Rattle.report_cli_rows.specs.WorkedAnswers.{IsExpandedFromHeld, IsNamedModel}
 use Rattle.report_cli_rows_analyses.specs.WorkedAnalyses.{Map, thresholds, IsWorkedProgram}
