@@ -17,8 +17,8 @@ use Rattle.value_domain.specs.declared.row_cells.Cell.TheVariants.{Value}
 use Rattle.value_domain.specs.LabelSets.{all_labels}
 use Rattle.value_domain.specs.Values.{value_lattice, value_order}
 use Rattle.value_domain_laws.proofs.Parts.{value_parts, value_below}
-use Rattle.store_domain.specs.declared.access_windows.Window.{Window}
-use Rattle.store_domain.specs.declared.cell_reads.Access.{Access}
+use Rattle.store_domain_cells.specs.declared.access_windows.Window.{Window}
+use Rattle.store_domain_cells.specs.declared.cell_reads.Access.{Access}
 use Rattle.store_domain.specs.ScalarTypes.{kind_of, class_bytes}
 use Rattle.store_domain.specs.ClassNumbers.{class_number, class_at, same_class, is_pointer}
 use Rattle.store_domain.specs.RowPositions.{cell_at, leaf_position, class_position, value_at}

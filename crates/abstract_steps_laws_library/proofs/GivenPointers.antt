@@ -15,7 +15,7 @@ use Rattle.value_domain.specs.declared.row_cells.Cell.{Cell}
 use Rattle.value_domain_laws.proofs.Bases.{empty_below}
 use Rattle.value_domain_laws.proofs.Flags.{Sets, or_sets, not_sets, flag_sets}
 use Rattle.value_domain_laws.proofs.Parts.{PointersBelow, pointer_parts}
-use Rattle.store_domain.specs.declared.access_windows.Window.{Window}
+use Rattle.store_domain_cells.specs.declared.access_windows.Window.{Window}
 use Rattle.store_domain.specs.AccessWindows.{window_within}
 use Rattle.store_domain.specs.LiveBases.{live_of, any_freed}
 use Rattle.store_domain_laws.specs.TopCells.{top_value}

@@ -18,7 +18,7 @@ use Rattle.pointer_domain.specs.PointerTables.{offsets, is_any}
 use Rattle.string_domain.specs.FirstZeros.{the_end}
 use Rattle.value_domain.specs.declared.values.Value.{Value}
 use Rattle.value_domain.specs.declared.row_cells.Cell.{Cell}
-use Rattle.store_domain.specs.declared.allocation.Fresh.TheVariants as fresh
+use Rattle.store_domain_objects.specs.declared.allocation.Fresh.TheVariants as fresh
 use Rattle.store_domain.specs.LiveBases.{live_of, is_live_in, any_freed}
 use Rattle.value_domain_laws.proofs.Bases.{empty_below}
 use Rattle.value_domain_laws.proofs.Flags.{Sets, flag_sets, or_sets, and_sets, not_sets}

@@ -27,7 +27,7 @@ use Rattle.value_domain_laws.proofs.Flags.{Sets, flag_sets, or_sets, and_sets, n
 use Rattle.value_domain_laws.proofs.Moves as moves
 use Rattle.value_domain_laws.proofs.Parts.{PointersBelow, pointer_parts}
 use Rattle.value_domain_laws.proofs.Ranges.{RangeBelow, range_refl, difference_monotone, met_monotone, bounds_monotone, of_range_monotone}
-use Rattle.store_domain.specs.declared.access_windows.Window.{Window}
+use Rattle.store_domain_cells.specs.declared.access_windows.Window.{Window}
 use Rattle.store_domain.specs.FirstZeroWrites.{covering_part, offsets_of}
 use Rattle.store_domain.specs.LiveBases.{has_base, only_base}
 use Rattle.store_domain.specs.NearValues.{near_number}

@@ -27,9 +27,9 @@ use Rattle.value_domain.specs.declared.row_cells.Cell.TheVariants as cell
 use Rattle.value_domain.specs.LabelSets.{no_labels, all_labels}
 use Rattle.value_domain.specs.Values.{value_lattice}
 use Rattle.value_domain.specs.ValueTables.{number_value, pointer_value}
-use Rattle.store_domain.specs.declared.access_windows.Window.{Window}
-use Rattle.store_domain.specs.declared.allocation.Fresh.{Fresh}
-use Rattle.store_domain.specs.declared.cell_reads.Access.{Access}
+use Rattle.store_domain_cells.specs.declared.access_windows.Window.{Window}
+use Rattle.store_domain_objects.specs.declared.allocation.Fresh.{Fresh}
+use Rattle.store_domain_cells.specs.declared.cell_reads.Access.{Access}
 use Rattle.store_domain.specs.AccessWindows.{window_within}
 use Rattle.store_domain.specs.Allocations.{site_of, renewed_pointer}
 use Rattle.store_domain.specs.ClassNumbers.{class_at, is_pointer}

@@ -18,8 +18,8 @@ use Rattle.value_domain.specs.declared.row_cells.Cell.{Cell}
 use Rattle.value_domain.specs.declared.row_cells.Cell.TheVariants.{Nothing, Value, First, State, Mixed}
 use Rattle.value_domain.specs.Values.{value_lattice}
 use Rattle.value_domain.specs.ValueTables.{blank_value}
-use Rattle.store_domain.specs.declared.allocation.Fresh.{Fresh}
-use Rattle.store_domain.specs.declared.allocation.Fresh.TheVariants.{Blank, Zero, Old}
+use Rattle.store_domain_objects.specs.declared.allocation.Fresh.{Fresh}
+use Rattle.store_domain_objects.specs.declared.allocation.Fresh.TheVariants.{Blank, Zero, Old}
 use Rattle.store_domain.specs.Allocations.{is_named, site_of, renamed, renamed_cell, join_cell, join_values, join_part, join_zeros, join_state, join_base, in_target, class_cell, joined_if, class_leaf, class_values, old_more, old_value, fresh_value, fresh_cell, fresh_leaf, fresh_leaves, fresh_class, fresh_classes, fresh_values, make_instance, make_nothing, make_of, make_fresh, free_old, replaced, renew_site, renew_found, renew, is_fresh, fresh_pointer, renewed_pointer}
 use Rattle.store_domain.specs.ByteWrites.{null_pointer}
 use Rattle.store_domain.specs.ClassNumbers.{class_number, class_at, same_class}

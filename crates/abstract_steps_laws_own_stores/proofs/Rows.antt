@@ -9,8 +9,8 @@ use Rattle.value_domain.specs.declared.values.Value as values
 use Rattle.value_domain.specs.declared.row_cells.Cell.{Cell}
 use Rattle.value_domain.specs.declared.row_cells.Cell.TheVariants.{Value, First}
 use Rattle.value_domain.specs.Values.{value_lattice}
-use Rattle.store_domain.specs.declared.access_windows.Window.{Window}
-use Rattle.store_domain.specs.declared.first_zero_writes.ZeroTarget.{ZeroTarget}
+use Rattle.store_domain_cells.specs.declared.access_windows.Window.{Window}
+use Rattle.store_domain_cells.specs.declared.first_zero_writes.ZeroTarget.{ZeroTarget}
 use Rattle.store_domain.specs.FirstZeroWrites.{zero_target, put_target, put_part, put_character, forget_target, forget_part, forget_zeros, set_part, set_zeros}
 use Rattle.store_domain.specs.RowPositions.{value_at, join_value, write_value}
 use Rattle.store_domain.specs.Walks.{walk, turns}

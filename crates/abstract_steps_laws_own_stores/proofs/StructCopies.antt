@@ -15,7 +15,7 @@ use Rattle.value_domain.specs.LabelSets.{all_labels}
 use Rattle.value_domain.specs.declared.values.Value.{Value}
 use Rattle.value_domain.specs.declared.row_cells.Cell.{Cell}
 use Rattle.value_domain.specs.declared.row_cells.Cell.TheVariants.{First}
-use Rattle.store_domain.specs.declared.access_windows.Window.{Window}
+use Rattle.store_domain_cells.specs.declared.access_windows.Window.{Window}
 use Rattle.store_domain.specs.AccessWindows.{window_of}
 use Rattle.store_domain.specs.CellReads.{whole_range, as_stored}
 use Rattle.store_domain.specs.ClassNumbers.{class_number, class_at, same_class, is_pointer}

@@ -9,7 +9,7 @@ use Rattle.c_layout.specs.declared.shapes.BaseInfo.{BaseInfo}
 use Rattle.pointer_domain.specs.declared.pointer_sets.Pointers.{Pointers}
 use Rattle.value_domain.specs.declared.values.Value.{Value}
 use Rattle.value_domain.specs.declared.row_cells.Cell.{Cell}
-use Rattle.store_domain.specs.declared.allocation.Fresh.{Fresh}
+use Rattle.store_domain_objects.specs.declared.allocation.Fresh.{Fresh}
 use Rattle.store_domain.specs.Loads.{load}
 use Rattle.store_domain.specs.Stores.{store}
 use Rattle.store_domain.specs.Freeing.{free}

@@ -13,8 +13,8 @@ use Rattle.value_domain.specs.declared.row_cells.Cell.{Cell}
 use Rattle.value_domain.specs.declared.row_cells.Cell.TheVariants.{First}
 use Rattle.value_domain.specs.Cells.{cell_leq, cell_order}
 use Rattle.value_domain_laws.proofs.Flags.{Sets}
-use Rattle.store_domain.specs.declared.access_windows.Window.{Window}
-use Rattle.store_domain.specs.declared.first_zero_writes.ZeroTarget.{ZeroTarget}
+use Rattle.store_domain_cells.specs.declared.access_windows.Window.{Window}
+use Rattle.store_domain_cells.specs.declared.first_zero_writes.ZeroTarget.{ZeroTarget}
 use Rattle.store_domain.specs.FirstZeroWrites.{zero_target, any_zero}
 use Rattle.store_domain.specs.RowPositions.{cell_at, zero_position, zero_at, put_zero}
 use Rattle.store_domain_laws.specs.Placements.{WindowWithin, IsPlaced}

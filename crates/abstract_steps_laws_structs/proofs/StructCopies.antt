@@ -27,7 +27,7 @@ use Rattle.value_domain_laws.specs.Consistency.{is_consistent, is_nowhere, is_so
 use Rattle.value_domain_laws.proofs.Bases.{one_base, no_count}
 use Rattle.value_domain_laws.proofs.Parts.{PointersBelow, pointer_parts}
 use Rattle.value_domain_laws.proofs.Ranges.{RangeBelow, met_monotone, upper_monotone, bounds_monotone}
-use Rattle.store_domain.specs.declared.access_windows.Window.{Window}
+use Rattle.store_domain_cells.specs.declared.access_windows.Window.{Window}
 use Rattle.store_domain.specs.AccessWindows.{added_ranges, last_place, access_range, window_of, window_within, window_is_one}
 use Rattle.store_domain.specs.LiveBases.{has_base, is_one_instance, single_bases}
 use Rattle.store_domain.specs.RowPositions.{capped}

@@ -16,7 +16,7 @@ use Rattle.value_domain.specs.LabelSets.{all_labels, labels_order}
 use Rattle.value_domain.specs.Values.{value_order}
 use Rattle.value_domain_laws.specs.Consistency.{AreWords}
 use Rattle.value_domain_laws.proofs.Parts.{value_below}
-use Rattle.store_domain.specs.declared.access_windows.Window.{Window}
+use Rattle.store_domain_cells.specs.declared.access_windows.Window.{Window}
 use Rattle.store_domain.specs.AccessWindows.{window_between, window_met}
 use Rattle.store_domain.specs.CellReads.{whole_range}
 use Rattle.store_domain.specs.ClassNumbers.{class_at, is_pointer}

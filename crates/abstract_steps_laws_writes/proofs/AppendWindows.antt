@@ -15,7 +15,7 @@ use Rattle.string_domain.specs.FirstZeros.{the_end}
 use Rattle.value_domain_laws.proofs.Flags.{Sets}
 use Rattle.value_domain_laws.proofs.Parts.{PointersBelow}
 use Rattle.value_domain_laws.proofs.Ranges.{RangeBelow}
-use Rattle.store_domain.specs.declared.access_windows.Window.{Window}
+use Rattle.store_domain_cells.specs.declared.access_windows.Window.{Window}
 use Rattle.store_domain.specs.AccessWindows.{last_offset, window_between, window_within, window_met, added_ranges}
 use Rattle.store_domain_laws.specs.Placements.{WindowWithin}
 use Rattle.store_domain_laws.specs.TopCells.{top_value}

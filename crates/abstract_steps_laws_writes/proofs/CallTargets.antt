@@ -15,7 +15,7 @@ use Rattle.value_domain.specs.declared.row_cells.Cell.{Cell}
 use Rattle.value_domain_laws.proofs.Flags.{Sets}
 use Rattle.value_domain_laws.proofs.Parts.{PointersBelow, pointer_parts}
 use Rattle.value_domain_laws.proofs.Ranges.{RangeBelow, range_refl}
-use Rattle.store_domain.specs.declared.access_windows.Window.{Window}
+use Rattle.store_domain_cells.specs.declared.access_windows.Window.{Window}
 use Rattle.store_domain.specs.AccessWindows.{window_within}
 use Rattle.store_domain.specs.LiveBases.{writable_of}
 use Rattle.store_domain_laws.specs.Placements.{WindowWithin}

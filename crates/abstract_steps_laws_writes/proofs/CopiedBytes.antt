@@ -18,7 +18,7 @@ use Rattle.value_domain.specs.LabelSets.{all_labels, labels_join, labels_order}
 use Rattle.value_domain_laws.specs.Consistency.{AreWords}
 use Rattle.value_domain_laws.proofs.Flags.{Sets, flag_sets, or_sets, or_left}
 use Rattle.value_domain_laws.proofs.Parts.{pointer_parts, value_parts}
-use Rattle.store_domain.specs.declared.access_windows.Window.{Window}
+use Rattle.store_domain_cells.specs.declared.access_windows.Window.{Window}
 use Rattle.store_domain.specs.ClassNumbers.{class_at, is_pointer}
 use Rattle.store_domain.specs.LeafSelection.{is_overlapped, has_stray, meets_padding}
 use Rattle.store_domain.specs.LiveBases.{has_base}

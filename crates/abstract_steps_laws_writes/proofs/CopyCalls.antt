@@ -17,7 +17,7 @@ use Rattle.value_domain.specs.ValueTables.{pointer_value}
 use Rattle.value_domain_laws.proofs.Flags.{Sets}
 use Rattle.value_domain_laws.proofs.Parts.{pointer_parts}
 use Rattle.value_domain_laws.proofs.Ranges.{RangeBelow, range_refl, bounds_monotone}
-use Rattle.store_domain.specs.declared.access_windows.Window.{Window}
+use Rattle.store_domain_cells.specs.declared.access_windows.Window.{Window}
 use Rattle.store_domain.specs.AccessWindows.{window_within}
 use Rattle.store_domain.specs.LiveBases.{writable_of}
 use Rattle.store_domain_laws.specs.Placements.{EachFrom, WindowWithin, IsPlaced, IsRegular}

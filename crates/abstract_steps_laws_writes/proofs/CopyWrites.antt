@@ -16,8 +16,8 @@ use Rattle.value_domain.specs.declared.row_cells.Cell.TheVariants.{Value, First}
 use Rattle.value_domain_laws.specs.Consistency.{AreWords}
 use Rattle.value_domain_laws.proofs.Flags.{Sets, sets_flag}
 use Rattle.value_domain_laws.proofs.Parts.{value_below}
-use Rattle.store_domain.specs.declared.access_windows.Window.{Window}
-use Rattle.store_domain.specs.declared.first_zero_writes.ZeroTarget.{ZeroTarget}
+use Rattle.store_domain_cells.specs.declared.access_windows.Window.{Window}
+use Rattle.store_domain_cells.specs.declared.first_zero_writes.ZeroTarget.{ZeroTarget}
 use Rattle.store_domain.specs.ByteWrites.{null_pointer}
 use Rattle.store_domain.specs.CellReads.{whole_range}
 use Rattle.store_domain.specs.ClassNumbers.{class_at, is_pointer}

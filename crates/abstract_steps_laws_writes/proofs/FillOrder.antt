@@ -3,7 +3,7 @@ use Rattle.std.specs.Prelude.{◌≡◌, ◌⊎◌, ◌≤◌, pos, ◌≤ℤ◌
 use Rattle.pointer_domain.specs.BaseSets.{bases_within}
 use Rattle.value_domain.specs.LabelSets.{labels_leq}
 use Rattle.value_domain_laws.proofs.Flags.{Sets}
-use Rattle.store_domain.specs.declared.access_windows.Window.{Window}
+use Rattle.store_domain_cells.specs.declared.access_windows.Window.{Window}
 use Rattle.store_domain_laws.specs.Placements.{WindowWithin}
 use Rattle.store_domain_laws.proofs.Windows.{WindowsBelow}
 use Rattle.abstract_steps_library.specs.declared.fill_writes.FillWrite.{FillWrite}

@@ -22,7 +22,7 @@ use Rattle.value_domain.specs.Values.{value_lattice, value_order}
 use Rattle.value_domain.specs.ValueTables.{number_value}
 use Rattle.value_domain_laws.proofs.Flags.{Sets}
 use Rattle.value_domain_laws.proofs.Parts.{value_below}
-use Rattle.store_domain.specs.declared.access_windows.Window.{Window}
+use Rattle.store_domain_cells.specs.declared.access_windows.Window.{Window}
 use Rattle.store_domain.specs.AccessWindows.{last_offset, window_between}
 use Rattle.store_domain.specs.ByteWrites.{labelled_null, byte_written}
 use Rattle.store_domain.specs.CellReads.{whole_range}

@@ -21,8 +21,8 @@ use Rattle.value_domain.specs.declared.row_cells.Cell.TheVariants.{Value}
 use Rattle.value_domain.specs.Values.{value_lattice}
 use Rattle.value_domain_laws.proofs.Flags.{Sets, and_sets}
 use Rattle.value_domain_laws.proofs.Ranges.{RangeBelow, bounds_monotone}
-use Rattle.store_domain.specs.declared.access_windows.Window.{Window}
-use Rattle.store_domain.specs.declared.first_zero_writes.ZeroTarget.{ZeroTarget}
+use Rattle.store_domain_cells.specs.declared.access_windows.Window.{Window}
+use Rattle.store_domain_cells.specs.declared.first_zero_writes.ZeroTarget.{ZeroTarget}
 use Rattle.store_domain.specs.AccessWindows.{last_offset}
 use Rattle.store_domain.specs.ByteWrites.{byte_written}
 use Rattle.store_domain.specs.ClassNumbers.{class_at}

@@ -12,8 +12,8 @@ use Rattle.string_domain.specs.ZeroTables as zeros
 use Rattle.string_domain.specs.declared.first_zeros.FirstZero.{FirstZero}
 use Rattle.value_domain_laws.proofs.Flags.{Sets, and_sets}
 use Rattle.value_domain_laws.proofs.Ranges.{RangeBelow, bounds_monotone}
-use Rattle.store_domain.specs.declared.access_windows.Window.{Window}
-use Rattle.store_domain.specs.declared.first_zero_writes.ZeroTarget.{ZeroTarget}
+use Rattle.store_domain_cells.specs.declared.access_windows.Window.{Window}
+use Rattle.store_domain_cells.specs.declared.first_zero_writes.ZeroTarget.{ZeroTarget}
 use Rattle.store_domain.specs.AccessWindows.{last_offset, window_is_one}
 use Rattle.store_domain.specs.FirstZeroWrites.{any_zero, offsets_of, sure_or_joined}
 use Rattle.store_domain_laws.specs.Placements.{WindowWithin}

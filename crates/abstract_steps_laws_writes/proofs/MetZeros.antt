@@ -11,7 +11,7 @@ use Rattle.value_domain.specs.declared.row_cells.Cell.{Cell}
 use Rattle.value_domain.specs.declared.row_cells.Cell.TheVariants.{First}
 use Rattle.value_domain.specs.Cells.{cell_leq, cell_order}
 use Rattle.value_domain_laws.proofs.Flags.{Sets}
-use Rattle.store_domain.specs.declared.first_zero_writes.ZeroTarget.{ZeroTarget}
+use Rattle.store_domain_cells.specs.declared.first_zero_writes.ZeroTarget.{ZeroTarget}
 use Rattle.store_domain.specs.AccessWindows.{last_offset}
 use Rattle.store_domain.specs.FirstZeroWrites.{any_zero, sure_or_joined}
 use Rattle.store_domain.specs.RowPositions.{cell_at, zero_at, put_zero}

@@ -13,7 +13,7 @@ use Rattle.value_domain.specs.declared.values.Value.{Value}
 use Rattle.value_domain.specs.declared.row_cells.Cell.{Cell}
 use Rattle.value_domain_laws.proofs.Flags.{Sets, flag_sets, or_sets, and_sets}
 use Rattle.value_domain_laws.proofs.Parts.{value_parts}
-use Rattle.store_domain.specs.declared.access_windows.Window.{Window}
+use Rattle.store_domain_cells.specs.declared.access_windows.Window.{Window}
 use Rattle.store_domain.specs.CellReads.{joined}
 use Rattle.store_domain.specs.LiveBases.{has_base}
 use Rattle.store_domain.specs.Loads.{load_base, load_character}

@@ -14,7 +14,7 @@ use Rattle.string_domain.specs.FirstZeros.{the_end}
 use Rattle.value_domain_laws.proofs.Flags.{Sets}
 use Rattle.value_domain_laws.proofs.Parts.{PointersBelow}
 use Rattle.value_domain_laws.proofs.Ranges.{RangeBelow}
-use Rattle.store_domain.specs.declared.access_windows.Window.{Window}
+use Rattle.store_domain_cells.specs.declared.access_windows.Window.{Window}
 use Rattle.store_domain.specs.AccessWindows.{last_offset, window_within}
 use Rattle.store_domain.specs.NearValues.{near_number, near_pointer}
 use Rattle.store_domain_laws.specs.TopCells.{top_number, top_value}

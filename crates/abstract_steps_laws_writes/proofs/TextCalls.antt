@@ -13,7 +13,7 @@ use Rattle.value_domain.specs.ValueTables.{pointer_value}
 use Rattle.value_domain_laws.proofs.Flags.{Sets}
 use Rattle.value_domain_laws.proofs.Parts.{pointer_parts}
 use Rattle.value_domain_laws.proofs.Ranges.{RangeBelow}
-use Rattle.store_domain.specs.declared.access_windows.Window.{Window}
+use Rattle.store_domain_cells.specs.declared.access_windows.Window.{Window}
 use Rattle.store_domain.specs.LiveBases.{writable_of}
 use Rattle.store_domain_laws.specs.TopRows.{top_row}
 use Rattle.store_domain_laws.proofs.LiveBases.{writable_monotone}

@@ -12,7 +12,7 @@ use Rattle.string_domain.specs.declared.first_zeros.FirstZero.{FirstZero}
 use Rattle.value_domain_laws.proofs.Flags.{Sets}
 use Rattle.value_domain_laws.proofs.Ranges.{RangeBelow, bounds_monotone, of_range_monotone}
 use Rattle.value_domain_laws.proofs.Zeros.{text_monotone}
-use Rattle.store_domain.specs.declared.access_windows.Window.{Window}
+use Rattle.store_domain_cells.specs.declared.access_windows.Window.{Window}
 use Rattle.store_domain.specs.AccessWindows.{added_ranges, last_offset}
 use Rattle.store_domain.specs.FirstZeroWrites.{offsets_of}
 use Rattle.store_domain.specs.LiveBases.{has_base}

@@ -19,7 +19,7 @@ use Rattle.value_domain.specs.Values.{value_lattice}
 use Rattle.value_domain.specs.declared.row_cells.Cell.{Cell}
 use Rattle.value_domain_laws.proofs.Flags.{Sets}
 use Rattle.value_domain_laws.proofs.Parts.{value_below}
-use Rattle.store_domain.specs.declared.first_zero_writes.ZeroTarget.{ZeroTarget}
+use Rattle.store_domain_cells.specs.declared.first_zero_writes.ZeroTarget.{ZeroTarget}
 use Rattle.store_domain.specs.AccessWindows.{last_offset}
 use Rattle.store_domain.specs.ByteWrites.{byte_written}
 use Rattle.store_domain.specs.ClassNumbers.{class_at}

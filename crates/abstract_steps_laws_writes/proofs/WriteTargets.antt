@@ -19,7 +19,7 @@ use Rattle.value_domain_laws.proofs.Flags.{Sets, and_sets, not_sets}
 use Rattle.value_domain_laws.proofs.Moves.{offsets_monotone}
 use Rattle.value_domain_laws.proofs.Parts.{PointersBelow, pointer_parts}
 use Rattle.value_domain_laws.proofs.Ranges.{RangeBelow, met_monotone, bounds_monotone, upper_monotone}
-use Rattle.store_domain.specs.declared.access_windows.Window.{Window}
+use Rattle.store_domain_cells.specs.declared.access_windows.Window.{Window}
 use Rattle.store_domain.specs.AccessWindows.{last_offset, window_between, window_of_range, window_within}
 use Rattle.store_domain.specs.LiveBases.{has_base, only_base, is_writable_in, add_writable, with_base_if, writable_of}
 use Rattle.store_domain_laws.specs.TopCells.{top_value}

@@ -8,7 +8,7 @@ use Rattle.pointer_domain.specs.BaseSets.{bases_within, bases_empty}
 use Rattle.string_domain.specs.FirstZeros.{the_end}
 use Rattle.value_domain.specs.LabelSets.{labels_leq}
 use Rattle.value_domain.specs.declared.row_cells.Cell.{Cell}
-use Rattle.store_domain.specs.declared.access_windows.Window.{Window}
+use Rattle.store_domain_cells.specs.declared.access_windows.Window.{Window}
 use Rattle.store_domain_laws.specs.Placements.{WindowWithin}
 use Rattle.store_domain_laws.specs.TopCells.{top_number}
 use Rattle.abstract_steps_library.specs.declared.source_bytes.Characters.{Characters}

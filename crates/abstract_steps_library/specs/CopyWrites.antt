@@ -14,7 +14,7 @@ use Rattle.pointer_domain.specs.PointerLattice.{no_pointer, pointer_lattice}
 use Rattle.value_domain.specs.declared.values.Value.{Value}
 use Rattle.value_domain.specs.declared.row_cells.Cell.{Cell}
 use Rattle.value_domain.specs.LabelSets.{no_labels, all_labels, labels_join}
-use Rattle.store_domain.specs.declared.access_windows.Window.{Window}
+use Rattle.store_domain_cells.specs.declared.access_windows.Window.{Window}
 use Rattle.store_domain.specs.ByteWrites.{null_pointer}
 use Rattle.store_domain.specs.CellReads.{whole_range}
 use Rattle.store_domain.specs.ClassNumbers.{class_at, is_pointer}

@@ -6,8 +6,8 @@ use Rattle.flow_program.specs.declared.programs.Flow.{Flow}
 use Rattle.value_domain.specs.declared.values.Value.{Value}
 use Rattle.value_domain.specs.declared.row_cells.Cell.{Cell}
 use Rattle.value_domain.specs.ValueTables.{pointer_value}
-use Rattle.store_domain.specs.declared.allocation.Fresh.{Fresh}
-use Rattle.store_domain.specs.declared.allocation.Fresh.TheVariants as fresh
+use Rattle.store_domain_objects.specs.declared.allocation.Fresh.{Fresh}
+use Rattle.store_domain_objects.specs.declared.allocation.Fresh.TheVariants as fresh
 use Rattle.store_domain.specs.Allocations.{renew, renewed_pointer, site_of}
 use Rattle.store_domain.specs.Freeing.{free}
 use Rattle.store_domain.specs.NearValues.{near_number}

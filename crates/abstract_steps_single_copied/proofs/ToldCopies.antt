@@ -22,7 +22,7 @@ use Rattle.pointer_domain.specs.BaseSets.{bases_empty}
 use Rattle.pointer_domain.specs.declared.pointer_sets.Pointers.{Pointers}
 use Rattle.value_domain.specs.ValueTables.{pointer_value}
 use Rattle.value_domain.specs.declared.row_cells.Cell.{Cell}
-use Rattle.store_domain.specs.declared.access_windows.Window.{Window}
+use Rattle.store_domain_cells.specs.declared.access_windows.Window.{Window}
 use Rattle.store_domain.specs.AccessWindows.{window_of}
 use Rattle.abstract_steps_checks.specs.Temporaries.{temp_value, put_temp}
 use Rattle.abstract_steps_checks.specs.Touches.{touch}

@@ -11,7 +11,7 @@ use Rattle.c_layout.specs.declared.shapes.BaseInfo.{BaseInfo}
 use Rattle.pointer_domain.specs.declared.pointer_sets.Pointers.{Pointers}
 use Rattle.value_domain.specs.declared.values.Value.{Value}
 use Rattle.value_domain.specs.declared.row_cells.Cell.{Cell}
-use Rattle.store_domain.specs.declared.cell_reads.Access.{Access}
+use Rattle.store_domain_cells.specs.declared.cell_reads.Access.{Access}
 use Rattle.store_domain.specs.ScalarTypes.{class_bytes}
 use Rattle.store_domain.specs.ClassNumbers.{same_class, is_pointer}
 use Rattle.store_domain.specs.RowPositions.{leaf_position, value_at}

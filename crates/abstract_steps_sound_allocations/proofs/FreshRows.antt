@@ -17,7 +17,7 @@ use Rattle.value_domain.specs.declared.alloc_states.AllocState.{AllocState}
 use Rattle.value_domain.specs.declared.values.Value as values
 use Rattle.value_domain.specs.declared.row_cells.Cell.{Cell}
 use Rattle.value_domain.specs.declared.row_cells.Cell.TheVariants.{Value, First, State}
-use Rattle.store_domain.specs.declared.allocation.Fresh.{Fresh}
+use Rattle.store_domain_objects.specs.declared.allocation.Fresh.{Fresh}
 use Rattle.c_layout.specs.declared.leaf_lists.Class.{Class}
 use Rattle.store_domain.specs.Allocations.{fresh_value, fresh_cell, fresh_leaf, fresh_leaves, fresh_class, fresh_classes, fresh_values, fresh_zero, make_instance, make_nothing, make_of, make_fresh}
 use Rattle.store_domain.specs.ClassNumbers.{class_at}

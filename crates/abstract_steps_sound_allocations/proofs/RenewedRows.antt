@@ -15,8 +15,8 @@ use Rattle.pointer_domain.specs.declared.pointer_sets.Pointers.{Pointers}
 use Rattle.value_domain.specs.ValueTables.{pointer_value, blank_value}
 use Rattle.value_domain.specs.declared.values.Value as values
 use Rattle.value_domain.specs.declared.row_cells.Cell.{Cell}
-use Rattle.store_domain.specs.declared.allocation.Fresh.{Fresh}
-use Rattle.store_domain.specs.declared.allocation.Fresh.TheVariants as fresh
+use Rattle.store_domain_objects.specs.declared.allocation.Fresh.{Fresh}
+use Rattle.store_domain_objects.specs.declared.allocation.Fresh.TheVariants as fresh
 use Rattle.c_layout.specs.declared.leaf_lists.Class.{Class}
 use Rattle.store_domain.specs.AccessWindows.{last_offset}
 use Rattle.store_domain.specs.Allocations.{site_of, renamed_cell, renamed_fresh, join_base, fresh_value, fresh_zero, make_fresh, free_old, replaced, renew_site, renew_found, renew, is_fresh, fresh_pointer, renewed_pointer}

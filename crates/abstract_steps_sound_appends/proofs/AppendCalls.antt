@@ -20,7 +20,7 @@ use Rattle.value_domain.specs.LabelSets.{labels_leq}
 use Rattle.value_domain.specs.ValueTables.{pointer_value}
 use Rattle.value_domain.specs.declared.row_cells.Cell.{Cell}
 use Rattle.value_domain_laws.proofs.Numbers.{RangeHas, bounds_have}
-use Rattle.store_domain.specs.declared.access_windows.Window.{Window}
+use Rattle.store_domain_cells.specs.declared.access_windows.Window.{Window}
 use Rattle.store_domain.specs.AccessWindows.{window_within, added_ranges}
 use Rattle.store_domain.specs.LiveBases.{most_bases, has_base, writable_of, is_one_instance}
 use Rattle.abstract_steps_checks.specs.LibraryArguments.{writes_literal, after_write, within_bases, passes_room, cut_by_room, touched_window}

@@ -10,7 +10,7 @@ use Rattle.flow_program.specs.declared.programs.Flow.{Flow}
 use Rattle.pointer_domain.specs.PointerTables.{offsets}
 use Rattle.pointer_domain.specs.declared.pointer_sets.Pointers.{Pointers}
 use Rattle.value_domain_laws.proofs.Numbers.{RangeHas, bounds_have, met_has, of_range_stands, sum_has, upper_above}
-use Rattle.store_domain.specs.declared.access_windows.Window.{Window}
+use Rattle.store_domain_cells.specs.declared.access_windows.Window.{Window}
 use Rattle.store_domain.specs.AccessWindows.{window_between, window_within}
 use Rattle.abstract_steps_library.specs.MemoryCalls.{lower_of}
 use Rattle.abstract_steps_library.specs.StringCalls.{less_one, window_from_place, window_from_offset, window_behind, most_appended, one_more, append_start, appended}

@@ -10,7 +10,7 @@ use Rattle.c_layout.specs.declared.shapes.ZeroPart.{ZeroPart}
 use Rattle.flow_program.specs.declared.programs.Flow.{Flow}
 use Rattle.string_domain.specs.declared.first_zeros.FirstZero.{FirstZero}
 use Rattle.value_domain.specs.declared.row_cells.Cell.{Cell}
-use Rattle.store_domain.specs.declared.first_zero_writes.ZeroTarget.{ZeroTarget}
+use Rattle.store_domain_cells.specs.declared.first_zero_writes.ZeroTarget.{ZeroTarget}
 use Rattle.store_domain.specs.FirstZeroWrites.{zero_target, any_zero}
 use Rattle.store_domain.specs.RowPositions.{zero_position, zero_at}
 use Rattle.abstract_steps_library.specs.TextWrites.{is_whole, text_lies_in_array, zero_after, sure_zero, zero_met_at, zero_met, write_zero_at, write_zero}

@@ -14,7 +14,7 @@ use Rattle.pointer_domain.specs.BaseSets.{bases_has}
 use Rattle.pointer_domain.specs.declared.base_sets.Bases.{Bases}
 use Rattle.value_domain.specs.declared.values.Value.{Value}
 use Rattle.value_domain.specs.declared.row_cells.Cell.{Cell}
-use Rattle.store_domain.specs.declared.access_windows.Window.{Window}
+use Rattle.store_domain_cells.specs.declared.access_windows.Window.{Window}
 use Rattle.store_domain.specs.CellReads.{joined}
 use Rattle.store_domain.specs.LiveBases.{has_base, is_live_in, may_be_live}
 use Rattle.store_domain.specs.Loads.{is_text, load_character, determinate_if, load_base, read_base, load_bases}

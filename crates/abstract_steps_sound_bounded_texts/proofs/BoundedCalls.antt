@@ -22,7 +22,7 @@ use Rattle.value_domain.specs.ValueTables.{pointer_value}
 use Rattle.value_domain.specs.declared.values.Value.{Value}
 use Rattle.value_domain.specs.declared.row_cells.Cell.{Cell}
 use Rattle.value_domain_laws.proofs.Numbers.{RangeHas, bounds_have, upper_above}
-use Rattle.store_domain.specs.declared.access_windows.Window.{Window}
+use Rattle.store_domain_cells.specs.declared.access_windows.Window.{Window}
 use Rattle.store_domain.specs.AccessWindows.{window_within}
 use Rattle.store_domain.specs.LiveBases.{most_bases, has_base, writable_of, is_one_instance}
 use Rattle.abstract_steps_checks.specs.IntegerChecks.{sink_violations}

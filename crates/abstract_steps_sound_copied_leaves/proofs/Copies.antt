@@ -11,7 +11,7 @@ use Rattle.flow_program.specs.WellFormed.{base_cells}
 use Rattle.flow_program.specs.declared.programs.Flow.{Flow}
 use Rattle.pointer_domain.specs.BaseSets.{bases_has, bases_count, bases_within}
 use Rattle.pointer_domain.specs.declared.base_sets.Bases.{Bases}
-use Rattle.store_domain.specs.declared.access_windows.Window.{Window}
+use Rattle.store_domain_cells.specs.declared.access_windows.Window.{Window}
 use Rattle.store_domain.specs.LiveBases.{most_bases, has_base, single_bases, is_one_instance}
 use Rattle.store_domain.specs.RowPositions.{leaf_position}
 use Rattle.lib_models_memory.specs.ScalarSizes.{class_bytes, same_class}

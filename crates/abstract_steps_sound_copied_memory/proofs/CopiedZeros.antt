@@ -10,8 +10,8 @@ use Rattle.flow_program.specs.WellFormed.{base_values, base_cells}
 use Rattle.string_domain.specs.declared.first_zeros.FirstZero.{FirstZero}
 use Rattle.value_domain.specs.declared.row_cells.Cell.{Cell}
 use Rattle.value_domain.specs.declared.row_cells.Cell.TheVariants.{First}
-use Rattle.store_domain.specs.declared.access_windows.Window.{Window}
-use Rattle.store_domain.specs.declared.first_zero_writes.ZeroTarget.{ZeroTarget}
+use Rattle.store_domain_cells.specs.declared.access_windows.Window.{Window}
+use Rattle.store_domain_cells.specs.declared.first_zero_writes.ZeroTarget.{ZeroTarget}
 use Rattle.store_domain.specs.FirstZeroWrites.{last_of, has_no_bytes, zero_target, any_zero}
 use Rattle.store_domain.specs.RowPositions.{capped, zero_position, zero_at, put_zero}
 use Rattle.lib_models_memory.specs.Instances.{Memory, bytes_at, byte_at}

@@ -7,7 +7,7 @@ use Rattle.c_layout.specs.declared.shapes.ZeroPart.{ZeroPart}
 use Rattle.value_domain.specs.declared.row_cells.Cell.{Cell}
 use Rattle.flow_program.specs.WellFormed.{base_values}
 use Rattle.store_domain.specs.RowPositions.{zero_position, zero_at}
-use Rattle.store_domain.specs.declared.access_windows.Window.{Window}
+use Rattle.store_domain_cells.specs.declared.access_windows.Window.{Window}
 use Rattle.lib_models_memory.specs.Bytes.{Byte}
 use Rattle.lib_models_memory.specs.Instances.{Memory, bytes_at, byte_at}
 use Rattle.store_domain_meaning.specs.RowMeaning.{array_bytes, IsLiveOf}

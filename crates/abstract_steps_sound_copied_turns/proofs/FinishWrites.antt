@@ -9,7 +9,7 @@ use Rattle.c_layout.specs.declared.shapes.BaseInfo.{BaseInfo}
 use Rattle.c_layout.specs.declared.shapes.ZeroPart.{ZeroPart}
 use Rattle.flow_program.specs.WellFormed.{base_cells}
 use Rattle.value_domain.specs.declared.row_cells.Cell.TheVariants.{First}
-use Rattle.store_domain.specs.declared.access_windows.Window.{Window}
+use Rattle.store_domain_cells.specs.declared.access_windows.Window.{Window}
 use Rattle.store_domain.specs.ClassNumbers.{class_at}
 use Rattle.store_domain.specs.FirstZeroWrites.{any_zero, zero_target, last_of}
 use Rattle.store_domain.specs.RowPositions.{leaf_position, class_position, zero_position, join_value, put_zero}

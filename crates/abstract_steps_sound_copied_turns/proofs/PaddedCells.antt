@@ -15,7 +15,7 @@ use Rattle.value_domain.specs.LabelSets.{all_labels, labels_leq}
 use Rattle.value_domain.specs.declared.values.Value as values
 use Rattle.value_domain.specs.declared.row_cells.Cell.{Cell}
 use Rattle.value_domain.specs.declared.row_cells.Cell.TheVariants.{First}
-use Rattle.store_domain.specs.declared.access_windows.Window.{Window}
+use Rattle.store_domain_cells.specs.declared.access_windows.Window.{Window}
 use Rattle.store_domain.specs.ByteWrites.{byte_written}
 use Rattle.store_domain.specs.ClassNumbers.{class_at, is_pointer}
 use Rattle.store_domain.specs.FirstZeroWrites.{any_zero, zero_target, last_of}

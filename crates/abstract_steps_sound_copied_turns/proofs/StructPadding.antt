@@ -8,7 +8,7 @@ use Rattle.c_layout.specs.declared.leaf_lists.Leaf.{Leaf}
 use Rattle.c_layout.specs.declared.shapes.BaseInfo.{BaseInfo}
 use Rattle.c_layout.specs.declared.shapes.BaseKind.TheVariants.{Static}
 use Rattle.flow_program.specs.declared.programs.Flow.{Flow}
-use Rattle.store_domain.specs.declared.access_windows.Window.{Window}
+use Rattle.store_domain_cells.specs.declared.access_windows.Window.{Window}
 use Rattle.store_domain.specs.AccessWindows.{window_between}
 use Rattle.store_domain.specs.LeafSelection.{bytes_below, covered_more, covered_bytes, window_end, meets_padding}
 use Rattle.store_domain.specs.RowPositions.{capped}

@@ -16,7 +16,7 @@ use Rattle.value_domain.specs.LabelSets.{labels_leq}
 use Rattle.value_domain.specs.ValueTables.{number_value}
 use Rattle.value_domain.specs.declared.values.Value as values
 use Rattle.value_domain.specs.declared.row_cells.Cell.{Cell}
-use Rattle.store_domain.specs.declared.access_windows.Window.{Window}
+use Rattle.store_domain_cells.specs.declared.access_windows.Window.{Window}
 use Rattle.store_domain.specs.ByteWrites.{byte_written}
 use Rattle.store_domain.specs.ClassNumbers.{is_pointer}
 use Rattle.store_domain.specs.LeafSelection.{is_overlapped, has_stray}

@@ -18,7 +18,7 @@ use Rattle.pointer_domain.specs.declared.base_sets.Bases.{Bases}
 use Rattle.pointer_domain.specs.declared.pointer_sets.Pointers.{Pointers}
 use Rattle.value_domain_laws.proofs.Numbers.{RangeHas, difference_has, upper_above, bounds_have}
 use Rattle.value_domain_laws.proofs.Numbers as numbers
-use Rattle.store_domain.specs.declared.access_windows.Window.{Window}
+use Rattle.store_domain_cells.specs.declared.access_windows.Window.{Window}
 use Rattle.store_domain.specs.AccessWindows.{last_offset, window_between, window_within}
 use Rattle.store_domain.specs.LiveBases.{most_bases, has_base, is_literal_kind, is_writable_in, add_writable, writable_of, single_bases, is_one_instance}
 use Rattle.abstract_steps_checks.specs.LibraryArguments.{is_above_room, cut_by, may_be_none, writes_literal, kept_after, after_write, difference_of, last_touched, touched_from, within_bases, passes_room, cut_by_room, end_of, touched_window}

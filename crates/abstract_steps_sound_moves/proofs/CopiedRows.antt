@@ -13,7 +13,7 @@ use Rattle.flow_program.specs.WellFormed.{base_values, base_cells}
 use Rattle.flow_program.specs.declared.programs.Flow.{Flow}
 use Rattle.value_domain.specs.declared.row_cells.Cell.{Cell}
 use Rattle.value_domain.specs.declared.row_cells.Cell.TheVariants.{First}
-use Rattle.store_domain.specs.declared.first_zero_writes.ZeroTarget.{ZeroTarget}
+use Rattle.store_domain_cells.specs.declared.first_zero_writes.ZeroTarget.{ZeroTarget}
 use Rattle.store_domain.specs.ClassNumbers.{class_at}
 use Rattle.store_domain.specs.FirstZeroWrites.{zero_target, any_zero, forget_target, forget_part, forget_zeros}
 use Rattle.store_domain.specs.LeafSelection.{is_overlapped, has_stray}

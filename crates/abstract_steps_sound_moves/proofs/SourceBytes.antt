@@ -14,7 +14,7 @@ use Rattle.pointer_domain.specs.BaseSets.{bases_has}
 use Rattle.pointer_domain.specs.declared.base_sets.Bases.{Bases}
 use Rattle.value_domain.specs.LabelSets.{labels_leq, all_labels}
 use Rattle.value_domain.specs.declared.row_cells.Cell.{Cell}
-use Rattle.store_domain.specs.declared.access_windows.Window.{Window}
+use Rattle.store_domain_cells.specs.declared.access_windows.Window.{Window}
 use Rattle.store_domain.specs.AccessWindows.{window_between}
 use Rattle.store_domain.specs.ClassNumbers.{class_at, class_number}
 use Rattle.store_domain.specs.LeafSelection.{is_overlapped, has_stray, meets_padding}

@@ -22,7 +22,7 @@ use Rattle.value_domain.specs.ValueTables.{pointer_value, blank_value}
 use Rattle.value_domain.specs.declared.values.Value as values
 use Rattle.value_domain.specs.declared.row_cells.Cell.{Cell}
 use Rattle.value_domain.specs.declared.row_cells.Cell.TheVariants.{State}
-use Rattle.store_domain.specs.declared.allocation.Fresh.TheVariants as fresh
+use Rattle.store_domain_objects.specs.declared.allocation.Fresh.TheVariants as fresh
 use Rattle.store_domain.specs.AccessWindows.{last_offset}
 use Rattle.store_domain.specs.Allocations.{site_of, renamed, renamed_cell, join_base, old_value, fresh_value, make_fresh, free_old, replaced, renew_site, renew_found, renew, is_fresh, fresh_pointer, renewed_pointer}
 use Rattle.store_domain.specs.ByteWrites.{null_pointer}

@@ -80,7 +80,7 @@ use Rattle.abstract_steps_sound_frees.proofs.FreedRows.{IsFreeing, freed_short}
 use Rattle.abstract_steps_sound_frees.proofs.Releases.{misplaced, heap_there, rest_bases, rest_any}
 use Rattle.cc_base.specs.IntegerLaws.{SoundLaws}
 use Rattle.std.proofs.lemmas.List.{length-set}
-use Rattle.store_domain.specs.declared.allocation.Fresh.TheVariants as fresh
+use Rattle.store_domain_objects.specs.declared.allocation.Fresh.TheVariants as fresh
 use Rattle.store_domain.specs.RowPositions.{state_position, state_at, put_state}
 use Rattle.store_domain.specs.Walks.{walk}
 use Rattle.pointer_domain.specs.declared.base_sets.Bases.{Bases}

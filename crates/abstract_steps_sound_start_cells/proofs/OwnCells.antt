@@ -18,9 +18,9 @@ use Rattle.pointer_domain.specs.declared.base_sets.Bases.{Bases}
 use Rattle.value_domain.specs.declared.values.Value as values
 use Rattle.value_domain.specs.declared.row_cells.Cell.{Cell}
 use Rattle.value_domain.specs.declared.row_cells.Cell.TheVariants.{Value, First}
-use Rattle.store_domain.specs.declared.access_windows.Window.{Window}
-use Rattle.store_domain.specs.declared.cell_reads.Access.{Access}
-use Rattle.store_domain.specs.declared.first_zero_writes.ZeroTarget.{ZeroTarget}
+use Rattle.store_domain_cells.specs.declared.access_windows.Window.{Window}
+use Rattle.store_domain_cells.specs.declared.cell_reads.Access.{Access}
+use Rattle.store_domain_cells.specs.declared.first_zero_writes.ZeroTarget.{ZeroTarget}
 use Rattle.store_domain.specs.declared.stores.Write.{Write}
 use Rattle.store_domain.specs.FirstZeroWrites.{put_at, put_target, put_part, put_character, zero_target}
 use Rattle.store_domain.specs.LiveBases.{only_base, has_base}

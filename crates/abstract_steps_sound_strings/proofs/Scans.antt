@@ -23,7 +23,7 @@ use Rattle.store_domain.specs.FirstZeroWrites.{offsets_of, covering_part}
 use Rattle.store_domain.specs.LiveBases.{most_bases, has_base, only_base}
 use Rattle.store_domain.specs.NearValues.{near_number}
 use Rattle.store_domain.specs.RowPositions.{zero_at, zero_position}
-use Rattle.store_domain.specs.declared.access_windows.Window.{Window}
+use Rattle.store_domain_cells.specs.declared.access_windows.Window.{Window}
 use Rattle.abstract_steps_checks.specs.StringScans.{scan_start, last_of_room, unknown_length, length_in, length_at, length_from, known_length, known_or, scan_base, with_base, with_base_if, scan_more, nothing_scanned, scan_bases, scan}
 use Rattle.abstract_steps_checks.specs.declared.string_scans.Scanned.{Scanned}
 use Rattle.lib_models_memory.specs.Bytes.{Byte}

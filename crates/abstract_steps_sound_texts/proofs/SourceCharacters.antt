@@ -18,8 +18,8 @@ use Rattle.value_domain.specs.LabelSets.{labels_leq, labels_order}
 use Rattle.value_domain.specs.Values.{value_lattice, value_order}
 use Rattle.value_domain.specs.declared.values.Value.{Value}
 use Rattle.value_domain.specs.declared.row_cells.Cell.{Cell}
-use Rattle.store_domain.specs.declared.access_windows.Window.{Window}
-use Rattle.store_domain.specs.declared.cell_reads.Access.{Access}
+use Rattle.store_domain_cells.specs.declared.access_windows.Window.{Window}
+use Rattle.store_domain_cells.specs.declared.cell_reads.Access.{Access}
 use Rattle.store_domain.specs.CellReads.{joined_with, joined}
 use Rattle.store_domain.specs.LiveBases.{has_base, is_live_in, may_be_live}
 use Rattle.store_domain.specs.Loads.{load_base, read_base, load_bases}

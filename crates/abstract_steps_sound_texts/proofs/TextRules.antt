@@ -15,8 +15,8 @@ use Rattle.string_domain.specs.ZeroTables.{is_start, is_before, ends_text_behind
 use Rattle.string_domain.specs.declared.first_zeros.FirstZero.{FirstZero}
 use Rattle.value_domain_laws.specs.ZeroMeaning.{WroteText}
 use Rattle.value_domain_laws.proofs.Numbers.{RangeHas, bounds_have, of_range_stands}
-use Rattle.store_domain.specs.declared.access_windows.Window.{Window}
-use Rattle.store_domain.specs.declared.first_zero_writes.ZeroTarget.{ZeroTarget}
+use Rattle.store_domain_cells.specs.declared.access_windows.Window.{Window}
+use Rattle.store_domain_cells.specs.declared.first_zero_writes.ZeroTarget.{ZeroTarget}
 use Rattle.store_domain.specs.FirstZeroWrites.{zero_target, offsets_of}
 use Rattle.store_domain.specs.NearValues.{near_number}
 use Rattle.lib_models_memory.specs.Bytes.{Byte}

@@ -13,15 +13,15 @@ use Rattle.value_domain.specs.declared.values.Value as values
 use Rattle.value_domain.specs.declared.row_cells.Cell.TheVariants.{Value, First}
 use Rattle.value_domain.specs.ValueTables.{blank_value}
 use Rattle.store_domain.specs.declared.stores.Write.{Write}
-use Rattle.store_domain.specs.AccessWindows.{window_between, window_within}
+use Rattle.store_domain_cells.specs.AccessWindows.{window_between, window_within}
 use Rattle.store_domain.specs.LeafSelection.{has_place_in, is_overlapped, has_stray, meets_padding}
-use Rattle.store_domain.specs.RowPositions.{join_value, write_value}
-use Rattle.store_domain.specs.FirstZeroWrites.{zero_target, set_zeros, no_zero}
-use Rattle.store_domain.specs.ScalarTypes.{kind_of}
+use Rattle.store_domain_cells.specs.RowPositions.{join_value, write_value}
+use Rattle.store_domain_cells.specs.FirstZeroWrites.{zero_target, set_zeros, no_zero}
+use Rattle.store_domain_cells.specs.ScalarTypes.{kind_of}
 use Rattle.store_domain.specs.Stores.{cell_value, store_leaf_at}
-use Rattle.store_domain.specs.ObjectLives.{forget, blank_object, set_values}
+use Rattle.store_domain_objects.specs.ObjectLives.{forget, blank_object, set_values}
 use Rattle.store_domain.specs.Spelling.{character_number, text_length}
-use Rattle.store_domain.specs.Freeing.{freed_state}
+use Rattle.store_domain_objects.specs.Freeing.{freed_state}
 
 -- ---- windows and leaves
 

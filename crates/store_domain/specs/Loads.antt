@@ -13,17 +13,17 @@ use Rattle.value_domain.specs.declared.values.Value.{Value}
 use Rattle.value_domain.specs.declared.label_sets.Labels.{Labels}
 use Rattle.value_domain.specs.declared.row_cells.Cell.{Cell}
 use Rattle.value_domain.specs.LabelSets.{no_labels, all_labels}
-use Rattle.store_domain.specs.declared.access_windows.Window.{Window}
-use Rattle.store_domain.specs.declared.cell_reads.Access.{Access}
-use Rattle.store_domain.specs.ScalarTypes.{kind_of, class_bytes}
-use Rattle.store_domain.specs.ClassNumbers.{class_number, class_at, same_class, is_pointer}
-use Rattle.store_domain.specs.Walks.{walk, turns}
-use Rattle.store_domain.specs.RowPositions.{leaf_position, class_position, zero_position, value_at, zero_at}
-use Rattle.store_domain.specs.AccessWindows.{window_of}
+use Rattle.store_domain_cells.specs.declared.access_windows.Window.{Window}
+use Rattle.store_domain_cells.specs.declared.cell_reads.Access.{Access}
+use Rattle.store_domain_cells.specs.ScalarTypes.{kind_of, class_bytes}
+use Rattle.store_domain_cells.specs.ClassNumbers.{class_number, class_at, same_class, is_pointer}
+use Rattle.store_domain_cells.specs.Walks.{walk, turns}
+use Rattle.store_domain_cells.specs.RowPositions.{leaf_position, class_position, zero_position, value_at, zero_at}
+use Rattle.store_domain_cells.specs.AccessWindows.{window_of}
 use Rattle.store_domain.specs.LeafSelection.{is_selected, is_other, has_stray, meets_padding}
-use Rattle.store_domain.specs.CellReads.{joined, whole_range, as_read, byte_read}
-use Rattle.store_domain.specs.FirstZeroWrites.{covering_part, is_determinate_before}
-use Rattle.store_domain.specs.LiveBases.{is_live_in}
+use Rattle.store_domain_cells.specs.CellReads.{joined, whole_range, as_read, byte_read}
+use Rattle.store_domain_cells.specs.FirstZeroWrites.{covering_part, is_determinate_before}
+use Rattle.store_domain_objects.specs.LiveBases.{is_live_in}
 
 -- the access reaches the class cell of a heap base
 abbrev pub reaches_class : BaseInfo → Access → Bool

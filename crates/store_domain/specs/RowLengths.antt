@@ -23,29 +23,29 @@ use Rattle.value_domain.specs.declared.row_cells.Cell.TheVariants.{Value, First,
 use Rattle.value_domain.specs.Values.{value_lattice}
 use Rattle.value_domain.specs.AllocStates.{state_lattice}
 use Rattle.value_domain.specs.ValueTables.{blank_value}
-use Rattle.store_domain.specs.declared.access_windows.Window.{Window}
-use Rattle.store_domain.specs.declared.cell_reads.Access.{Access}
-use Rattle.store_domain.specs.ScalarTypes.{class_bytes}
-use Rattle.store_domain.specs.AccessWindows.{window_of}
-use Rattle.store_domain.specs.declared.first_zero_writes.ZeroTarget.{ZeroTarget}
+use Rattle.store_domain_cells.specs.declared.access_windows.Window.{Window}
+use Rattle.store_domain_cells.specs.declared.cell_reads.Access.{Access}
+use Rattle.store_domain_cells.specs.ScalarTypes.{class_bytes}
+use Rattle.store_domain_cells.specs.AccessWindows.{window_of}
+use Rattle.store_domain_cells.specs.declared.first_zero_writes.ZeroTarget.{ZeroTarget}
 use Rattle.store_domain.specs.declared.stores.Write.{Write}
-use Rattle.store_domain.specs.declared.allocation.Fresh.{Fresh}
-use Rattle.store_domain.specs.declared.allocation.Fresh.TheVariants.{Blank, Zero, Old}
-use Rattle.store_domain.specs.declared.allocation.Site.{Site}
-use Rattle.store_domain.specs.declared.allocation.Target.{Target}
-use Rattle.store_domain.specs.ClassNumbers.{class_number, class_at, same_class}
-use Rattle.store_domain.specs.Walks.{walk, turns}
-use Rattle.store_domain.specs.RowPositions.{leaf_position, class_position, zero_position, state_position, value_count, value_at, zero_at, state_at, join_value, join_zero, write_value, put_value, put_state}
+use Rattle.store_domain_objects.specs.declared.allocation.Fresh.{Fresh}
+use Rattle.store_domain_objects.specs.declared.allocation.Fresh.TheVariants.{Blank, Zero, Old}
+use Rattle.store_domain_objects.specs.declared.allocation.Site.{Site}
+use Rattle.store_domain_objects.specs.declared.allocation.Target.{Target}
+use Rattle.store_domain_cells.specs.ClassNumbers.{class_number, class_at, same_class}
+use Rattle.store_domain_cells.specs.Walks.{walk, turns}
+use Rattle.store_domain_cells.specs.RowPositions.{leaf_position, class_position, zero_position, state_position, value_count, value_at, zero_at, state_at, join_value, join_zero, write_value, put_value, put_state}
 use Rattle.store_domain.specs.LeafSelection.{is_selected, is_other}
-use Rattle.store_domain.specs.ByteWrites.{byte_written}
-use Rattle.store_domain.specs.FirstZeroWrites.{zero_target, put_at, put_target, put_part, put_character, any_zero, forget_target, forget_part, forget_zeros, set_part, set_zeros, no_zero, zero_first}
-use Rattle.store_domain.specs.LiveBases.{has_base, is_one_instance}
+use Rattle.store_domain_cells.specs.ByteWrites.{byte_written}
+use Rattle.store_domain_cells.specs.FirstZeroWrites.{zero_target, put_at, put_target, put_part, put_character, any_zero, forget_target, forget_part, forget_zeros, set_part, set_zeros, no_zero, zero_first}
+use Rattle.store_domain_objects.specs.LiveBases.{has_base, is_one_instance}
 use Rattle.store_domain.specs.Loads.{reaches_class}
 use Rattle.store_domain.specs.Stores.{cell_value, is_strong, store_leaf_at, store_leaf, store_leaves, store_class_cell, store_other_leaf_at, store_other_leaf, store_other_leaves, store_other_class, store_other_classes, store_other_bytes, store_own, store_character, store_wider, store_base, store_if, store_to, store_all, write_to, can_store, store_access, reached_of, store_within, store}
-use Rattle.store_domain.specs.ObjectLives.{set_cell, set_values, blank_object, at_base, forget, zero_value, clear_leaf, clear_leaves, clear_object, clear, ended_cell, leave_object, leave}
+use Rattle.store_domain_objects.specs.ObjectLives.{set_cell, set_values, blank_object, at_base, forget, zero_value, clear_leaf, clear_leaves, clear_object, clear, ended_cell, leave_object, leave}
 use Rattle.store_domain.specs.Spelling.{is_one_place, one_character, characters, is_spelled, written_count, spell_cell, spell_leaf_at, spell_leaf, spell_leaves, first_zero_of, spell_part, spell_zero, spell_object, spell}
-use Rattle.store_domain.specs.Freeing.{is_heap_in, freed_state, free_base_if, free_base, free_bases, free}
-use Rattle.store_domain.specs.Allocations.{renamed_cell, renamed_fresh, join_cell, join_values, join_part, join_zeros, join_state, join_base, leaf_target, class_target, fresh_value, fresh_cell, fresh_leaf, fresh_leaves, fresh_class, fresh_classes, fresh_values, fresh_zero, make_instance, make_nothing, make_of, make_fresh, free_old, replaced, renew_site, renew_found, site_of, renew}
+use Rattle.store_domain_objects.specs.Freeing.{is_heap_in, freed_state, free_base_if, free_base, free_bases, free}
+use Rattle.store_domain_objects.specs.Allocations.{renamed_cell, renamed_fresh, join_cell, join_values, join_part, join_zeros, join_state, join_base, leaf_target, class_target, fresh_value, fresh_cell, fresh_leaf, fresh_leaves, fresh_class, fresh_classes, fresh_values, fresh_zero, make_instance, make_nothing, make_of, make_fresh, free_old, replaced, renew_site, renew_found, site_of, renew}
 
 -- ---- what holds of each step holds of all
 

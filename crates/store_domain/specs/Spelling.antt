@@ -12,13 +12,13 @@ use Rattle.value_domain.specs.declared.values.Value as values
 use Rattle.value_domain.specs.declared.row_cells.Cell.{Cell}
 use Rattle.value_domain.specs.LabelSets.{no_labels}
 use Rattle.value_domain.specs.ValueTables.{number_value}
-use Rattle.store_domain.specs.declared.access_windows.Window.{Window}
-use Rattle.store_domain.specs.Walks.{walk, turns}
-use Rattle.store_domain.specs.RowPositions.{capped, leaf_position, zero_position, put_value, join_value, put_zero}
-use Rattle.store_domain.specs.AccessWindows.{window_between}
+use Rattle.store_domain_cells.specs.declared.access_windows.Window.{Window}
+use Rattle.store_domain_cells.specs.Walks.{walk, turns}
+use Rattle.store_domain_cells.specs.RowPositions.{capped, leaf_position, zero_position, put_value, join_value, put_zero}
+use Rattle.store_domain_cells.specs.AccessWindows.{window_between}
 use Rattle.store_domain.specs.LeafSelection.{has_place_in, is_selected}
-use Rattle.store_domain.specs.FirstZeroWrites.{no_zero}
-use Rattle.store_domain.specs.ObjectLives.{at_base}
+use Rattle.store_domain_cells.specs.FirstZeroWrites.{no_zero}
+use Rattle.store_domain_objects.specs.ObjectLives.{at_base}
 
 -- how many characters are written: the text and the closing zero, as far as they fit
 abbrev pub written_count : ℕ → List ℕ → ℕ

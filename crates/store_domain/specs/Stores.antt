@@ -14,19 +14,19 @@ use Rattle.pointer_domain.specs.PointerTables.{is_any}
 use Rattle.value_domain.specs.declared.values.Value.{Value}
 use Rattle.value_domain.specs.declared.label_sets.Labels.{Labels}
 use Rattle.value_domain.specs.declared.row_cells.Cell.{Cell}
-use Rattle.store_domain.specs.declared.access_windows.Window.{Window}
-use Rattle.store_domain.specs.declared.cell_reads.Access.{Access}
+use Rattle.store_domain_cells.specs.declared.access_windows.Window.{Window}
+use Rattle.store_domain_cells.specs.declared.cell_reads.Access.{Access}
 use Rattle.store_domain.specs.declared.stores.Write.{Write}
-use Rattle.store_domain.specs.ScalarTypes.{class_bytes}
-use Rattle.store_domain.specs.ClassNumbers.{class_number, class_at, same_class, is_pointer}
-use Rattle.store_domain.specs.Walks.{walk, turns}
-use Rattle.store_domain.specs.RowPositions.{leaf_position, class_position, join_value, write_value}
-use Rattle.store_domain.specs.AccessWindows.{window_of, window_is_one}
+use Rattle.store_domain_cells.specs.ScalarTypes.{class_bytes}
+use Rattle.store_domain_cells.specs.ClassNumbers.{class_number, class_at, same_class, is_pointer}
+use Rattle.store_domain_cells.specs.Walks.{walk, turns}
+use Rattle.store_domain_cells.specs.RowPositions.{leaf_position, class_position, join_value, write_value}
+use Rattle.store_domain_cells.specs.AccessWindows.{window_of, window_is_one}
 use Rattle.store_domain.specs.LeafSelection.{is_selected, selected_count, is_other, meets_padding}
-use Rattle.store_domain.specs.CellReads.{as_stored}
-use Rattle.store_domain.specs.ByteWrites.{byte_written}
-use Rattle.store_domain.specs.FirstZeroWrites.{put_character, forget_zeros}
-use Rattle.store_domain.specs.LiveBases.{has_base, is_one_instance, live_of, writable_of}
+use Rattle.store_domain_cells.specs.CellReads.{as_stored}
+use Rattle.store_domain_cells.specs.ByteWrites.{byte_written}
+use Rattle.store_domain_cells.specs.FirstZeroWrites.{put_character, forget_zeros}
+use Rattle.store_domain_objects.specs.LiveBases.{has_base, is_one_instance, live_of, writable_of}
 use Rattle.store_domain.specs.Loads.{reaches_class, labels_of}
 
 -- ---- whether there is a place

@@ -1,12 +1,10 @@
 //! Which cells an access reaches.
 ghost use Rattle.std.specs.Prelude.{◌≡◌, ◌<◌, ◌≤◌, ◌-◌, ◌*◌, ◌/◌, ◌%◌};
-ghost use Rattle.store_domain.specs.RowPositions.{capped};
+ghost use Rattle.store_domain_cells.specs.RowPositions.{capped};
 ghost use Rattle.store_domain.specs.LeafSelection.{has_place_in, turns_into, places_before, is_selected, is_overlapped, is_other, selected_count, has_stray, turn_bytes, bytes_behind, bytes_below, covered_more, covered_bytes, window_end, meets_padding};
 
-use crate::access_windows::Window;
-use crate::class_numbers::same_class;
-use crate::scalar_types::bytes_of;
 use c_layout::{Class, Leaf, Model};
+use store_domain_cells::{Window, bytes_of, same_class};
 
 /// Whether one of the places of a leaf lies in the window.
 pub fn has_place_in(leaf: Leaf, window: Window) -> bool

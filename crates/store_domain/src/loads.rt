@@ -1,20 +1,19 @@
 //! Loads.
 ghost use Rattle.std.specs.Prelude.{◌≡◌, ◌<◌};
 ghost use Rattle.pointer_domain.specs.PointerTables.{IsNearPointer};
-ghost use Rattle.store_domain.specs.RowPositions.{value_at};
+ghost use Rattle.store_domain_cells.specs.RowPositions.{value_at};
 ghost use Rattle.store_domain.specs.Loads.{reaches_class, joined_leaf, load_leaves, load_class_cell, joined_other_leaf, load_other_leaves, read_class_cell, load_other_class_cells, load_padding, load_other_bytes, is_text, determinate_if, load_own, load_others, load_character, load_base, read_base, read_base_if, load_bases, labels_of, loaded, load};
 
-use crate::access_windows::{Window, window_of};
-use crate::cell_reads::{Access, as_read, byte_read, joined, whole_range};
-use crate::class_numbers::{class_at, class_number, is_pointer, same_class};
-use crate::first_zero_writes::{covering_part, is_determinate_before};
 use crate::leaf_selection::{has_stray, is_other, is_selected, meets_padding};
-use crate::live_bases::{has_base, may_be_live};
-use crate::row_positions::{class_position, leaf_position, value_at, zero_at, zero_position};
-use crate::scalar_types::{bytes_of, kind_of};
 use c_layout::{BaseInfo, Class, Leaf, Model};
 use cc_base::IntDomain;
 use pointer_domain::{Bases, Pointers};
+use store_domain_cells::{
+    Access, Window, as_read, byte_read, bytes_of, class_at, class_number, class_position,
+    covering_part, is_determinate_before, is_pointer, joined, kind_of, leaf_position, same_class,
+    value_at, whole_range, window_of, zero_at, zero_position,
+};
+use store_domain_objects::{has_base, may_be_live};
 use value_domain::{Cell, Labels, Value};
 
 /// The value that a load of a class and a signedness gets through the pointers: the join of the cells
@@ -320,7 +319,7 @@ fn load_padding<I: IntDomain>(model: &Model, base: &BaseInfo, access: Access) ->
 }
 
 /// The class cells of all classes but that of characters, which is the first.
-#[tactic(auto, using(crate::specs::TurnLaws::turns_next), unfolding(crate::specs::Loads::load_other_class_cells))]
+#[tactic(auto, using(store_domain_cells::specs::TurnLaws::turns_next), unfolding(crate::specs::Loads::load_other_class_cells))]
 fn load_other_class_cells<I: IntDomain>(
     model: &Model,
     base: &BaseInfo,

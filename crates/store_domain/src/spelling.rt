@@ -2,12 +2,12 @@
 ghost use Rattle.std.specs.Prelude.{◌≡◌, length};
 ghost use Rattle.store_domain.specs.Spelling.{written_count, character, character_number, written_window, begins_at, text_length, number_of, hull_more, hull, is_one_place, one_character, characters, spell_cell, is_spelled, spell_leaf_at, spell_leaves, first_zero_of, spell_part_at, spell_zero, spell_object, spell};
 
-use crate::access_windows::Window;
-use crate::first_zero_writes::no_zero;
 use crate::leaf_selection::{has_place_in, is_selected};
-use crate::row_positions::{join_value, leaf_position, put_value, put_zero, zero_position};
 use c_layout::{BaseInfo, Class, Leaf, ZeroPart};
 use cc_base::{IntDomain, Lattice};
+use store_domain_cells::{
+    Window, join_value, leaf_position, no_zero, put_value, put_zero, zero_position,
+};
 use string_domain::FirstZero;
 use value_domain::{Cell, Labels, Value};
 
@@ -199,7 +199,7 @@ fn begins_at(leaf: Leaf, offset: u64) -> bool
 }
 
 /// The least value that has each character written to a place of the leaf.
-#[tactic(auto, using(crate::specs::TurnLaws::turns_next), unfolding(crate::specs::Spelling::hull))]
+#[tactic(auto, using(store_domain_cells::specs::TurnLaws::turns_next), unfolding(crate::specs::Spelling::hull))]
 fn hull<I: IntDomain>(leaf: Leaf, offset: u64, count: u64, text: &[u8]) -> I
     ensures { result ≡ hull I.lattice I.numbers leaf offset count text.now }
 {

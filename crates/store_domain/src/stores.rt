@@ -4,20 +4,17 @@ ghost use Rattle.cc_base.specs.IntegerDomains.{IsNear};
 ghost use Rattle.pointer_domain.specs.PointerTables.{IsNearPointer};
 ghost use Rattle.store_domain.specs.Stores.{is_other_or, any_other, has_other_place, has_own_place, has_place, has_place_or, any_place, can_store, is_nothing, stored_value, cell_value, is_strong, store_leaf_at, store_leaves, store_class_cell, store_other_leaf_at, store_other_leaves, store_other_class, store_other_classes, store_other_bytes, store_own, store_character, store_wider, store_base, store_if, store_all, write_to, store_access, reached_of, store};
 
-use crate::access_windows::{Window, window_of};
-use crate::byte_writes::byte_written;
-use crate::cell_reads::{Access, as_stored};
-use crate::cell_writes::write_value;
-use crate::class_numbers::{class_at, class_number, is_pointer, same_class};
-use crate::first_zero_writes::{forget_zeros, put_character};
 use crate::leaf_selection::{is_other, is_selected, meets_padding, selected_count};
-use crate::live_bases::{has_base, is_one_instance, live_of, writable_of};
 use crate::loads::{loaded_labels, reaches_class};
-use crate::row_positions::{class_position, join_value, leaf_position};
-use crate::scalar_types::bytes_of;
 use c_layout::{BaseInfo, Class, Leaf, Model};
 use cc_base::{IntDomain, Rel};
 use pointer_domain::{Bases, Pointers};
+use store_domain_cells::{
+    Access, Window, as_stored, byte_written, bytes_of, class_at, class_number, class_position,
+    forget_zeros, is_pointer, join_value, leaf_position, put_character, same_class, window_of,
+    write_value,
+};
+use store_domain_objects::{has_base, is_one_instance, live_of, writable_of};
 use value_domain::{Cell, Labels, Value};
 
 /// A store of a value, and whether its pointer has one base that stands for one instance.
@@ -427,7 +424,7 @@ fn store_other_leaf<I: IntDomain>(
 }
 
 /// Stores a character to bytes of the class cells of all classes but that of characters.
-#[tactic(auto, using(crate::specs::TurnLaws::turns_next), unfolding(crate::specs::Stores::store_other_classes))]
+#[tactic(auto, using(store_domain_cells::specs::TurnLaws::turns_next), unfolding(crate::specs::Stores::store_other_classes))]
 fn store_other_classes<I: IntDomain>(
     model: &Model,
     base: &BaseInfo,

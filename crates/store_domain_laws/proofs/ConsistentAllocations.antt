@@ -18,8 +18,8 @@ use Rattle.value_domain.specs.declared.row_cells.Cell.TheVariants.{Nothing, Valu
 use Rattle.value_domain.specs.AllocStates.{state_lattice}
 use Rattle.value_domain.specs.Values.{value_lattice}
 use Rattle.value_domain.specs.ValueTables.{blank_value}
-use Rattle.store_domain.specs.declared.allocation.Fresh.{Fresh}
-use Rattle.store_domain.specs.declared.allocation.Fresh.TheVariants.{Blank, Zero, Old}
+use Rattle.store_domain_objects.specs.declared.allocation.Fresh.{Fresh}
+use Rattle.store_domain_objects.specs.declared.allocation.Fresh.TheVariants.{Blank, Zero, Old}
 use Rattle.store_domain.specs.ClassNumbers.{class_number, class_at, same_class, is_pointer}
 use Rattle.store_domain.specs.LiveBases.{has_base}
 use Rattle.store_domain.specs.Freeing.{free_base, free_bases}

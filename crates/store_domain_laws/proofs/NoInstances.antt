@@ -17,7 +17,7 @@ use Rattle.value_domain.specs.declared.row_cells.Cell.{Cell}
 use Rattle.value_domain.specs.declared.row_cells.Cell.TheVariants.{Value, State}
 use Rattle.value_domain.specs.Values.{value_lattice, value_order}
 use Rattle.value_domain.specs.Cells.{cell_leq}
-use Rattle.store_domain.specs.declared.allocation.Fresh.{Fresh}
+use Rattle.store_domain_objects.specs.declared.allocation.Fresh.{Fresh}
 use Rattle.store_domain.specs.ClassNumbers.{class_at}
 use Rattle.store_domain.specs.Walks.{walk, turns}
 use Rattle.store_domain.specs.RowPositions.{capped, cell_at, leaf_position, class_position, state_position, value_count}

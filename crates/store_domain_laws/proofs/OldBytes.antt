@@ -13,8 +13,8 @@ use Rattle.value_domain.specs.declared.values.Value as values
 use Rattle.value_domain.specs.declared.row_cells.Cell.{Cell}
 use Rattle.value_domain.specs.Values.{value_lattice, value_order}
 use Rattle.value_domain.specs.ValueTables.{blank_value}
-use Rattle.store_domain.specs.declared.allocation.Fresh.{Fresh}
-use Rattle.store_domain.specs.declared.allocation.Fresh.TheVariants.{Blank, Zero, Old}
+use Rattle.store_domain_objects.specs.declared.allocation.Fresh.{Fresh}
+use Rattle.store_domain_objects.specs.declared.allocation.Fresh.TheVariants.{Blank, Zero, Old}
 use Rattle.c_layout.specs.declared.leaf_lists.Class.{Class}
 use Rattle.store_domain.specs.ClassNumbers.{class_number, same_class}
 use Rattle.store_domain.specs.LiveBases.{has_base}

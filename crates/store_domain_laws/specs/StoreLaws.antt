@@ -19,11 +19,11 @@ use Rattle.store_domain.specs.Freeing.{free}
 use Rattle.store_domain.specs.ObjectLives.{forget, clear, leave}
 use Rattle.store_domain.specs.Spelling.{spell}
 use Rattle.store_domain.specs.Allocations.{renew}
-use Rattle.store_domain.specs.declared.allocation.Fresh.{Fresh}
+use Rattle.store_domain_objects.specs.declared.allocation.Fresh.{Fresh}
 use Rattle.store_domain.specs.RowPositions.{value_count}
 use Rattle.string_domain.specs.FirstZeros.{the_end}
 use Rattle.value_domain_laws.specs.Consistency.{AreWords, is_consistent}
-use Rattle.store_domain.specs.declared.allocation.Fresh.TheVariants.{Blank, Zero, Old}
+use Rattle.store_domain_objects.specs.declared.allocation.Fresh.TheVariants.{Blank, Zero, Old}
 use Rattle.pointer_domain.specs.BaseSets.{bases_has}
 use Rattle.store_domain_laws.specs.TopCells.{top_value}
 use Rattle.store_domain_laws.specs.TopRows.{top_row}

@@ -4,7 +4,7 @@ use Rattle.std.proofs.Common.{arith, sym, subst, inl, inr, ◌∙◌}
 use Rattle.std.proofs.lemmas.Nat.{le-div, div_below}
 use Rattle.std.proofs.lemmas.Bool.{cases_Bool, cases_lt, and_from, or_from, or_left, or_right, or_cases, le-leb, lt-ltb, le-ltb, leb-false, ne_eqb, cond-false}
 use Rattle.c_layout.specs.declared.leaf_lists.Leaf.{Leaf}
-use Rattle.store_domain.specs.declared.access_windows.Window.{Window}
+use Rattle.store_domain_cells.specs.declared.access_windows.Window.{Window}
 use Rattle.store_domain.specs.LeafSelection.{places_before, turns_into, has_place_in}
 use Rattle.store_domain_laws.proofs.PlacesOfLeaves.{Place, place_of_test}
 use Rattle.store_domain_structs.specs.CopyPlaces.{any_below}

@@ -4,7 +4,7 @@ use Rattle.c_layout.specs.StructViews.{StructView}
 use Rattle.c_layout.specs.declared.data_model.Model.{Model}
 use Rattle.c_layout.specs.declared.leaf_lists.Leaf.{Leaf}
 use Rattle.flow_program.specs.BaseShapes.{is_extent, are_leaves}
-use Rattle.store_domain.specs.declared.access_windows.Window.{Window}
+use Rattle.store_domain_cells.specs.declared.access_windows.Window.{Window}
 use Rattle.store_domain.specs.AccessWindows.{window_between}
 use Rattle.store_domain_structs.specs.LeafNumbers.{struct_leaf}
 use Rattle.store_domain_structs.specs.PaddingWrites.{Padded, leaf_bytes}

@@ -11,7 +11,7 @@ use Rattle.value_domain.specs.LabelSets.{all_labels}
 use Rattle.value_domain.specs.Values.{value_lattice}
 use Rattle.value_domain.specs.declared.values.Value.{Value}
 use Rattle.value_domain.specs.declared.row_cells.Cell.{Cell}
-use Rattle.store_domain.specs.declared.cell_reads.Access.{Access}
+use Rattle.store_domain_cells.specs.declared.cell_reads.Access.{Access}
 use Rattle.store_domain.specs.AccessWindows.{window_between}
 use Rattle.store_domain.specs.CellReads.{whole_range, byte_read}
 use Rattle.store_domain.specs.ClassNumbers.{same_class, class_at}

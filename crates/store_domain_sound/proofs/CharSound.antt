@@ -21,7 +21,7 @@ use Rattle.value_domain.specs.LabelSets.{all_labels}
 use Rattle.value_domain.specs.Values.{value_lattice}
 use Rattle.value_domain.specs.declared.values.Value.{Value}
 use Rattle.value_domain.specs.declared.row_cells.Cell.{Cell}
-use Rattle.store_domain.specs.declared.cell_reads.Access.{Access}
+use Rattle.store_domain_cells.specs.declared.cell_reads.Access.{Access}
 use Rattle.store_domain.specs.CellReads.{as_read, whole_range, byte_read}
 use Rattle.store_domain.specs.ClassNumbers.{same_class, class_number, class_at}
 use Rattle.lib_models_memory.specs.ScalarSizes.{class_bytes}

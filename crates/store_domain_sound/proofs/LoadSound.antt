@@ -20,7 +20,7 @@ use Rattle.value_domain.specs.LabelSets.{labels_leq, no_labels}
 use Rattle.value_domain.specs.Values.{value_lattice}
 use Rattle.value_domain.specs.declared.values.Value.{Value}
 use Rattle.value_domain.specs.declared.row_cells.Cell.{Cell}
-use Rattle.store_domain.specs.declared.cell_reads.Access.{Access}
+use Rattle.store_domain_cells.specs.declared.cell_reads.Access.{Access}
 use Rattle.store_domain.specs.CellReads.{as_read, same_sign}
 use Rattle.store_domain.specs.ClassNumbers.{same_class, class_number, is_pointer}
 use Rattle.lib_models_memory.specs.ScalarSizes.{class_bytes}

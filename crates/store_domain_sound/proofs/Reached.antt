@@ -11,7 +11,7 @@ use Rattle.pointer_domain.specs.declared.base_sets.Bases.{Bases}
 use Rattle.value_domain.specs.Values.{value_lattice}
 use Rattle.value_domain.specs.declared.values.Value.{Value}
 use Rattle.value_domain.specs.declared.row_cells.Cell.{Cell}
-use Rattle.store_domain.specs.declared.cell_reads.Access.{Access}
+use Rattle.store_domain_cells.specs.declared.cell_reads.Access.{Access}
 use Rattle.store_domain.specs.CellReads.{as_read}
 use Rattle.store_domain.specs.ClassNumbers.{same_class, class_number}
 use Rattle.store_domain.specs.RowPositions.{leaf_position, class_position, value_at}

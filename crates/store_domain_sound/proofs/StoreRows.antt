@@ -16,8 +16,8 @@ use Rattle.value_domain.specs.Values.{value_lattice}
 use Rattle.value_domain.specs.declared.values.Value as values
 use Rattle.value_domain.specs.declared.row_cells.Cell.{Cell}
 use Rattle.value_domain.specs.declared.row_cells.Cell.TheVariants.{Value, First}
-use Rattle.store_domain.specs.declared.access_windows.Window.{Window}
-use Rattle.store_domain.specs.declared.cell_reads.Access.{Access}
+use Rattle.store_domain_cells.specs.declared.access_windows.Window.{Window}
+use Rattle.store_domain_cells.specs.declared.cell_reads.Access.{Access}
 use Rattle.store_domain.specs.declared.stores.Write.{Write}
 use Rattle.store_domain.specs.ClassNumbers.{same_class, class_number}
 use Rattle.store_domain.specs.RowPositions.{leaf_position, class_position, zero_position, state_position, cell_at, value_at, join_value, write_value}

@@ -11,7 +11,7 @@ use Rattle.string_domain.specs.declared.first_zeros.FirstZero.{FirstZero}
 use Rattle.string_domain.specs.FirstZeros.{the_end, zero_of}
 use Rattle.value_domain.specs.declared.row_cells.Cell.{Cell}
 use Rattle.value_domain.specs.declared.row_cells.Cell.TheVariants.{First}
-use Rattle.store_domain.specs.declared.access_windows.Window.{Window}
+use Rattle.store_domain_cells.specs.declared.access_windows.Window.{Window}
 use Rattle.store_domain.specs.AccessWindows.{last_offset}
 use Rattle.store_domain.specs.NearValues.{near_number}
 use Rattle.store_domain.specs.RowPositions.{cell_at, zero_in, zero_at, put_zero}

@@ -10,7 +10,7 @@ use Rattle.c_layout.specs.declared.leaf_lists.Class.{Class}
 use Rattle.c_layout.specs.declared.leaf_lists.Leaf.{Leaf}
 use Rattle.c_layout.specs.declared.shapes.BaseInfo.{BaseInfo}
 use Rattle.store_domain.specs.ClassNumbers.{same_class}
-use Rattle.store_domain.specs.declared.access_windows.Window.{Window}
+use Rattle.store_domain_cells.specs.declared.access_windows.Window.{Window}
 use Rattle.store_domain.specs.LeafSelection.{covered_bytes, meets_padding}
 use Rattle.store_domain.specs.LiveBases.{most_bases}
 use Rattle.store_domain_meaning.specs.SoundMemory.{storage_for}

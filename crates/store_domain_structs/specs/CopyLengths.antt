@@ -24,7 +24,7 @@ use Rattle.store_domain.specs.RowLengths.{walk_keeps, turns_keep, cond_keeps, so
 use Rattle.store_domain_structs.specs.declared.leaf_copies.LeafAccess.{LeafAccess}
 use Rattle.store_domain_structs.specs.CopyPlaces.{is_reached, is_touched}
 use Rattle.store_domain_structs.specs.LeafCopies.{any_place, reaches_class, with_flag, is_strong, write_leaf_at, write_own_leaf, write_class_cell, write_leaves, write_own, write_other_at, write_other_leaf, write_other_leaves, write_class_byte, write_class_bytes, write_bytes, write_others, write_base, write_base_if, write_to, write_all, write_leaf}
-use Rattle.store_domain.specs.declared.access_windows.Window.{Window}
+use Rattle.store_domain_cells.specs.declared.access_windows.Window.{Window}
 use Rattle.store_domain.specs.FirstZeroWrites.{any_zero, zero_target, last_of}
 use Rattle.store_domain_structs.specs.CopyZeros.{Exact, copied_window, zero_copied, copy_part_at, copy_part, copy_zeros}
 use Rattle.store_domain_structs.specs.PaddingWrites.{Padded, has_padding, padding_meets, meets_leaf, unknown_value, pad_leaf_at, pad_leaf, pad_leaves, pad_class, pad_classes, pad_part_at, pad_part, pad_zeros, pad_cells, write_padding}

@@ -11,7 +11,7 @@ use Rattle.c_layout.specs.declared.shapes.ZeroPart.{ZeroPart}
 use Rattle.value_domain.specs.declared.values.Value.{Value}
 use Rattle.value_domain.specs.declared.row_cells.Cell.{Cell}
 use Rattle.value_domain.specs.LabelSets.{all_labels}
-use Rattle.store_domain.specs.declared.access_windows.Window.{Window}
+use Rattle.store_domain_cells.specs.declared.access_windows.Window.{Window}
 use Rattle.store_domain.specs.ScalarTypes.{class_bytes, kind_of}
 use Rattle.store_domain.specs.ClassNumbers.{class_at, is_pointer}
 use Rattle.store_domain.specs.Walks.{walk, turns}

@@ -172,7 +172,7 @@ fn read_padding<I: IntDomain>(
 }
 
 /// The class cells of all classes but that of characters, which is the first.
-#[tactic(auto, using(store_domain::specs::TurnLaws::turns_next), unfolding(crate::specs::LeafCopies::read_class_bytes))]
+#[tactic(auto, using(store_domain_cells::specs::TurnLaws::turns_next), unfolding(crate::specs::LeafCopies::read_class_bytes))]
 fn read_class_bytes<I: IntDomain>(
     model: &Model,
     base: &BaseInfo,
@@ -458,7 +458,7 @@ fn write_bytes<I: IntDomain>(model: &Model, base: &BaseInfo, row: &mut [Cell<I>]
 }
 
 /// Writes to bytes of the class cells of all classes but that of characters.
-#[tactic(auto, using(store_domain::specs::TurnLaws::turns_next), unfolding(crate::specs::LeafCopies::write_class_bytes))]
+#[tactic(auto, using(store_domain_cells::specs::TurnLaws::turns_next), unfolding(crate::specs::LeafCopies::write_class_bytes))]
 fn write_class_bytes<I: IntDomain>(
     model: &Model,
     base: &BaseInfo,

@@ -100,7 +100,7 @@ fn covered_by(model: &Model, lo: u64, end: u64, leaf: Option<Leaf>, covered: u64
 }
 
 /// How many bytes of the struct's leaves lie in a window.
-#[tactic(auto, using(store_domain::specs::TurnLaws::turns_next), unfolding(crate::specs::PaddingWrites::leaf_bytes))]
+#[tactic(auto, using(store_domain_cells::specs::TurnLaws::turns_next), unfolding(crate::specs::PaddingWrites::leaf_bytes))]
 fn leaf_bytes(model: &Model, padded: Padded, window: Window) -> u64
     ensures { result ≡ leaf_bytes model.now (padded_view padded.entry) window }
 {
@@ -235,7 +235,7 @@ fn pad_class<I: IntDomain>(model: &Model, base: &BaseInfo, row: &mut [Cell<I>], 
     );
 }
 
-#[tactic(auto, using(store_domain::specs::TurnLaws::turns_next), unfolding(crate::specs::PaddingWrites::pad_classes))]
+#[tactic(auto, using(store_domain_cells::specs::TurnLaws::turns_next), unfolding(crate::specs::PaddingWrites::pad_classes))]
 fn pad_classes<I: IntDomain>(model: &Model, base: &BaseInfo, row: &mut [Cell<I>])
     ensures length { length row.new ≡ length row.old }
     ensures row { row.new ≡ pad_classes I.lattice I.numbers model.now base.now row.old }

@@ -164,7 +164,7 @@ fn copy_batch<I: IntDomain>(
     }
 }
 
-#[tactic(auto, using(store_domain::specs::TurnLaws::turns_next), unfolding(crate::specs::StructCopies::copy_all))]
+#[tactic(auto, using(store_domain_cells::specs::TurnLaws::turns_next), unfolding(crate::specs::StructCopies::copy_all))]
 fn copy_all<I: IntDomain>(route: Route, row: &mut [Cell<I>], count: u64) -> bool
     ensures length { length row.new ≡ length row.old }
     ensures row { reached_row result row.new ≡ copy_all I.lattice I.numbers (route_view route.entry) count row.old }

@@ -1,5 +1,5 @@
 use Rattle.std.proofs.Common.{◌≡◌, drop}
-use Rattle.store_domain.specs.Walks.{walk}
+use Rattle.store_domain_cells.specs.Walks.{walk}
 use Rattle.store_domain.specs.LeafSelection.{covered_more}
 use Rattle.store_domain.proofs.leaf_selection.covered_bytes.Given as goal
 

@@ -1,5 +1,5 @@
 use Rattle.std.proofs.Common.{◌≡◌, drop, None}
-use Rattle.store_domain.specs.Walks.{walk}
+use Rattle.store_domain_cells.specs.Walks.{walk}
 use Rattle.store_domain.specs.Loads.{read_base}
 use Rattle.store_domain.proofs.loads.load_bases.Given as goal
 

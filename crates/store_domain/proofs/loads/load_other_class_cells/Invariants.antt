@@ -1,5 +1,5 @@
 use Rattle.std.proofs.Common.{◌≡◌, None}
-use Rattle.store_domain.specs.Walks.{turns}
+use Rattle.store_domain_cells.specs.Walks.{turns}
 use Rattle.store_domain.specs.Loads.{read_class_cell}
 use Rattle.store_domain.proofs.loads.load_other_class_cells.Given as goal
 

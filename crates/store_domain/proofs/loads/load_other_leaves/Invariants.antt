@@ -1,5 +1,5 @@
 use Rattle.std.proofs.Common.{◌≡◌, drop, None}
-use Rattle.store_domain.specs.Walks.{walk}
+use Rattle.store_domain_cells.specs.Walks.{walk}
 use Rattle.store_domain.specs.Loads.{read_other_leaf}
 use Rattle.store_domain.proofs.loads.load_other_leaves.Given as goal
 

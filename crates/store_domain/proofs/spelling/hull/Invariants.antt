@@ -1,5 +1,5 @@
 use Rattle.std.proofs.Common.{◌≡◌}
-use Rattle.store_domain.specs.Walks.{turns}
+use Rattle.store_domain_cells.specs.Walks.{turns}
 use Rattle.store_domain.specs.Spelling.{hull_more}
 use Rattle.store_domain.proofs.spelling.hull.Given as goal
 

@@ -1,5 +1,5 @@
 use Rattle.std.proofs.Common.{◌≡◌, drop, false}
-use Rattle.store_domain.specs.Walks.{walk}
+use Rattle.store_domain_cells.specs.Walks.{walk}
 use Rattle.store_domain.specs.Stores.{has_place_or}
 use Rattle.store_domain.proofs.stores.any_place.Given as goal
 

@@ -1,5 +1,5 @@
 use Rattle.std.proofs.Common.{◌≡◌}
-use Rattle.store_domain.specs.Walks.{turns}
+use Rattle.store_domain_cells.specs.Walks.{turns}
 use Rattle.store_domain.specs.Stores.{store_other_class}
 use Rattle.store_domain.proofs.stores.store_other_classes.Given as goal
 

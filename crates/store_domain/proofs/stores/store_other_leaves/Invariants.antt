@@ -1,5 +1,5 @@
 use Rattle.std.proofs.Common.{◌≡◌, drop}
-use Rattle.store_domain.specs.Walks.{walk}
+use Rattle.store_domain_cells.specs.Walks.{walk}
 use Rattle.store_domain.specs.Stores.{store_other_leaf}
 use Rattle.store_domain.proofs.stores.store_other_leaves.Given as goal
 

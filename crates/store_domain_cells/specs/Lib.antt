@@ -1,0 +1,10 @@
+pub mod ScalarTypes
+pub mod ClassNumbers
+pub mod Walks
+pub mod TurnLaws
+pub mod NearValues
+pub mod RowPositions
+pub mod AccessWindows
+pub mod CellReads
+pub mod ByteWrites
+pub mod FirstZeroWrites

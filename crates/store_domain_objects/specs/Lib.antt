@@ -1,0 +1,4 @@
+pub mod LiveBases
+pub mod ObjectLives
+pub mod Freeing
+pub mod Allocations
