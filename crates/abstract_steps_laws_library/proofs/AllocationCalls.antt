@@ -47,7 +47,7 @@ use Rattle.abstract_steps_checks.specs.ViolationSets.{no_violations}
 use Rattle.abstract_steps_checks.specs.AllocationChecks.{is_too_small, allocation_violations}
 use Rattle.abstract_steps_library.specs.Allocations.{sized_trail, instance_size, plan_malloc}
 use Rattle.abstract_steps_library.specs.Arguments.{argument_value}
-use Rattle.abstract_steps_library.specs.declared.call_plans.Effect.TheVariants as effect
+use Rattle.abstract_steps_library_plans.specs.declared.call_plans.Effect.TheVariants as effect
 use Rattle.abstract_steps_library.specs.Effects.{older_of, allocated_at, allocated, apply}
 use Rattle.abstract_steps_library.specs.Planning.{plan_call}
 use Rattle.abstract_steps_laws.specs.CallSteps.{call_of, call_step}

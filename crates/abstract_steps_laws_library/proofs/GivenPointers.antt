@@ -26,7 +26,7 @@ use Rattle.store_domain_laws.proofs.Windows.{WindowsBelow, within_monotone}
 use Rattle.abstract_steps_checks.specs.declared.library_arguments.Argument.{Argument}
 use Rattle.abstract_steps_checks.specs.LibraryArguments.{within_bases, check_argument}
 use Rattle.abstract_steps_checks.specs.Touches.{into_bases}
-use Rattle.abstract_steps_library.specs.declared.call_plans.Trail.{Trail}
+use Rattle.abstract_steps_library_plans.specs.declared.call_plans.Trail.{Trail}
 use Rattle.abstract_steps_library.specs.Arguments.{argument_value}
 use Rattle.abstract_steps_library.specs.Outputs.{has_place, placed, argument_at, given_trail}
 use Rattle.abstract_steps_laws.specs.CallSteps.{call_of}

@@ -38,8 +38,8 @@ use Rattle.abstract_steps_checks.specs.Touches.{into_bases}
 use Rattle.abstract_steps_checks.specs.ViolationSets.{no_violations, violations_union}
 use Rattle.abstract_steps_library.specs.Allocations.{instance_size, released, plan_realloc, plan_free}
 use Rattle.abstract_steps_library.specs.Arguments.{argument_value}
-use Rattle.abstract_steps_library.specs.declared.call_plans.Trail.{Trail}
-use Rattle.abstract_steps_library.specs.declared.call_plans.Effect.TheVariants as effect
+use Rattle.abstract_steps_library_plans.specs.declared.call_plans.Trail.{Trail}
+use Rattle.abstract_steps_library_plans.specs.declared.call_plans.Effect.TheVariants as effect
 use Rattle.abstract_steps_library.specs.Effects.{apply}
 use Rattle.abstract_steps_library.specs.Planning.{plan_call}
 use Rattle.abstract_steps_laws.specs.CallSteps.{call_of, call_step}

@@ -24,9 +24,9 @@ use Rattle.store_domain_laws.proofs.CellReads.{size_is}
 use Rattle.store_domain_laws.proofs.StorePlaces.{bounds_some}
 use Rattle.abstract_steps_checks.specs.ViolationSets.{no_violations}
 use Rattle.abstract_steps_checks.specs.IntegerChecks.{is_no_character}
-use Rattle.abstract_steps_library.specs.declared.call_plans.Effect.{Effect}
-use Rattle.abstract_steps_library.specs.declared.call_plans.Effect.TheVariants as effect
-use Rattle.abstract_steps_library.specs.declared.call_plans.Plan.{Plan}
+use Rattle.abstract_steps_library_plans.specs.declared.call_plans.Effect.{Effect}
+use Rattle.abstract_steps_library_plans.specs.declared.call_plans.Effect.TheVariants as effect
+use Rattle.abstract_steps_library_plans.specs.declared.call_plans.Plan.{Plan}
 use Rattle.abstract_steps_library.specs.Plans.{harmless}
 use Rattle.abstract_steps_library.specs.Arguments.{value_of_argument, argument_value}
 use Rattle.abstract_steps_library.specs.Outputs.{putchar_of}

@@ -3,7 +3,7 @@ use Rattle.std.specs.Prelude.{◌≡◌, Bool, true, false, cond, refl}
 use Rattle.value_domain_laws.proofs.Flags.{Sets}
 use Rattle.abstract_steps_checks.specs.declared.violation_sets.Violations.{Violations}
 use Rattle.abstract_steps_checks.specs.ViolationSets.{violations_union}
-use Rattle.abstract_steps_library.specs.declared.call_plans.Trail.{Trail}
+use Rattle.abstract_steps_library_plans.specs.declared.call_plans.Trail.{Trail}
 use Rattle.abstract_steps_library.specs.Plans.{trail_of, checked}
 use Rattle.abstract_steps_laws_values.specs.ViolationsBelow.{ViolationsBelow}
 use Rattle.abstract_steps_laws_values.proofs.ViolationOrder.{union_below, union_left}

@@ -43,14 +43,14 @@ use Rattle.abstract_steps_checks.specs.declared.library_arguments.Argument.{Argu
 use Rattle.abstract_steps_checks.specs.declared.string_scans.Scanned.{Scanned}
 use Rattle.abstract_steps_checks.specs.LibraryArguments.{after_write, within_bases, check_argument, touched_window, cut_by_room}
 use Rattle.abstract_steps_checks.specs.Temporaries.{temp_position}
-use Rattle.abstract_steps_library.specs.declared.call_plans.Effect.{Effect}
-use Rattle.abstract_steps_library.specs.declared.call_plans.Effect.TheVariants.{Unreached, Result, Text, Fill, Copy, Allocate, Reallocate, Free}
-use Rattle.abstract_steps_library.specs.declared.copied_bytes.CopiedBytes.{CopiedBytes}
+use Rattle.abstract_steps_library_plans.specs.declared.call_plans.Effect.{Effect}
+use Rattle.abstract_steps_library_plans.specs.declared.call_plans.Effect.TheVariants.{Unreached, Result, Text, Fill, Copy, Allocate, Reallocate, Free}
+use Rattle.abstract_steps_library_writes.specs.declared.copied_bytes.CopiedBytes.{CopiedBytes}
 use Rattle.abstract_steps_library.specs.declared.memory_calls.Target.{Target}
-use Rattle.abstract_steps_library.specs.declared.source_bytes.Characters.{Characters}
-use Rattle.abstract_steps_library.specs.declared.call_plans.Trail.{Trail}
-use Rattle.abstract_steps_library.specs.declared.text_writes.ZeroRule.{ZeroRule}
-use Rattle.abstract_steps_library.specs.declared.text_writes.ZeroRule.TheVariants as zero
+use Rattle.abstract_steps_library_writes.specs.declared.source_bytes.Characters.{Characters}
+use Rattle.abstract_steps_library_plans.specs.declared.call_plans.Trail.{Trail}
+use Rattle.abstract_steps_library_writes.specs.declared.text_writes.ZeroRule.{ZeroRule}
+use Rattle.abstract_steps_library_writes.specs.declared.text_writes.ZeroRule.TheVariants as zero
 use Rattle.abstract_steps_library.specs.Allocations.{products, instance_size, plan_malloc, plan_calloc, plan_realloc, plan_free}
 use Rattle.abstract_steps_library.specs.Arguments.{value_of_argument, argument_value}
 use Rattle.abstract_steps_library.specs.Calls.{Call}

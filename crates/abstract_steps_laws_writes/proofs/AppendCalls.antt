@@ -24,11 +24,11 @@ use Rattle.store_domain_laws.proofs.Windows.{within_monotone}
 use Rattle.abstract_steps_checks.specs.declared.library_arguments.Argument.{Argument}
 use Rattle.abstract_steps_checks.specs.declared.string_scans.Scanned.{Scanned}
 use Rattle.abstract_steps_checks.specs.LibraryArguments.{touched_window, cut_by_room}
-use Rattle.abstract_steps_library.specs.declared.call_plans.Trail.{Trail}
+use Rattle.abstract_steps_library_plans.specs.declared.call_plans.Trail.{Trail}
 use Rattle.abstract_steps_library.specs.declared.memory_calls.Target.{Target}
-use Rattle.abstract_steps_library.specs.declared.source_bytes.Characters.{Characters}
-use Rattle.abstract_steps_library.specs.declared.text_writes.ZeroRule.{ZeroRule}
-use Rattle.abstract_steps_library.specs.declared.text_writes.ZeroRule.TheVariants as zero
+use Rattle.abstract_steps_library_writes.specs.declared.source_bytes.Characters.{Characters}
+use Rattle.abstract_steps_library_writes.specs.declared.text_writes.ZeroRule.{ZeroRule}
+use Rattle.abstract_steps_library_writes.specs.declared.text_writes.ZeroRule.TheVariants as zero
 use Rattle.abstract_steps_library.specs.Calls.{Call}
 use Rattle.abstract_steps_library.specs.Outputs.{argument_at, scan_at, scanned_trail}
 use Rattle.abstract_steps_library.specs.MemoryCalls.{room_trail, target_of}

@@ -23,9 +23,9 @@ use Rattle.store_domain_laws.specs.TopCells.{top_value}
 use Rattle.store_domain_laws.specs.TopRows.{top_row}
 use Rattle.store_domain_laws.proofs.Windows.{WindowsBelow, within_monotone}
 use Rattle.abstract_steps_checks.specs.LibraryArguments.{after_write, writes_literal, last_touched, touched_from, end_of, touched_window, passes_room, cut_by_room}
-use Rattle.abstract_steps_library.specs.declared.call_plans.Effect.{Effect}
-use Rattle.abstract_steps_library.specs.declared.call_plans.Effect.TheVariants as effect
-use Rattle.abstract_steps_library.specs.declared.call_plans.Trail.{Trail}
+use Rattle.abstract_steps_library_plans.specs.declared.call_plans.Effect.{Effect}
+use Rattle.abstract_steps_library_plans.specs.declared.call_plans.Effect.TheVariants as effect
+use Rattle.abstract_steps_library_plans.specs.declared.call_plans.Trail.{Trail}
 use Rattle.abstract_steps_library.specs.declared.memory_calls.Target.{Target}
 use Rattle.abstract_steps_library.specs.Plans.{planned}
 use Rattle.abstract_steps_library.specs.MemoryCalls.{lower_of, is_one_byte, room_trail, target_of}

@@ -31,7 +31,7 @@ use Rattle.store_domain_laws.proofs.Consistent.{even_join}
 use Rattle.store_domain_laws.proofs.LiveSets.{has_monotone}
 use Rattle.store_domain_laws.proofs.PairedSteps.{Step, walk_step, turns_step, then_step, if_step, same_step, numbers_below}
 use Rattle.store_domain_laws.proofs.Windows.{WindowsBelow, overlapped_monotone}
-use Rattle.abstract_steps_library.specs.declared.copied_bytes.CopiedBytes.{CopiedBytes}
+use Rattle.abstract_steps_library_writes.specs.declared.copied_bytes.CopiedBytes.{CopiedBytes}
 use Rattle.abstract_steps_library.specs.CopyWrites.{no_bytes, with_cell, with_padding, with_leaf, with_leaves, is_read_class, with_class, with_class_cells, as_numbers, with_rest, with_base, with_base_if, with_base_of, bytes_of_source}
 use Rattle.abstract_steps_laws_values.specs.RisingRows.{PointersRise, ValuesRise, RowsRise}
 use Rattle.abstract_steps_laws_values.proofs.OwnBases.{words_less}

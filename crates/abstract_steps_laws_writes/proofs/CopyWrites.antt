@@ -35,8 +35,8 @@ use Rattle.store_domain_laws.proofs.LiveSets.{has_monotone}
 use Rattle.store_domain_laws.proofs.PairedSteps.{Step, walk_pair, walk_step, turns_step, then_step, if_step, same_step, numbers_below, any_each}
 use Rattle.store_domain_laws.proofs.Windows.{overlapped_monotone}
 use Rattle.store_domain_laws.proofs.ZeroTargets.{forget_step}
-use Rattle.abstract_steps_library.specs.declared.copied_bytes.CopiedBytes.{CopiedBytes}
-use Rattle.abstract_steps_library.specs.declared.copied_bytes.CopyWrite.{CopyWrite}
+use Rattle.abstract_steps_library_writes.specs.declared.copied_bytes.CopiedBytes.{CopiedBytes}
+use Rattle.abstract_steps_library_writes.specs.declared.copied_bytes.CopyWrite.{CopyWrite}
 use Rattle.abstract_steps_library.specs.CopyWrites.{is_read_class, with_null, copied_value, copy_leaf, copy_leaf_of, copy_leaves, copy_class_of, copy_class_cells, copy_heap_part, copy_base, copy_base_if, copy_in, write_copy}
 use Rattle.abstract_steps_laws_values.specs.RisingRows.{PointersRise, ValuesRise, RowsRise}
 use Rattle.abstract_steps_laws_values.proofs.OwnBases.{words_less}

@@ -34,10 +34,10 @@ use Rattle.abstract_steps_checks.specs.declared.library_arguments.Argument.{Argu
 use Rattle.abstract_steps_checks.specs.IntegerChecks.{sink_violations}
 use Rattle.abstract_steps_checks.specs.LibraryArguments.{after_write, writes_literal, touched_window, passes_room, cut_by, cut_by_room}
 use Rattle.abstract_steps_checks.specs.ViolationSets.{no_violations}
-use Rattle.abstract_steps_library.specs.declared.call_plans.Effect.{Effect}
-use Rattle.abstract_steps_library.specs.declared.call_plans.Effect.TheVariants as effect
-use Rattle.abstract_steps_library.specs.declared.call_plans.Trail.{Trail}
-use Rattle.abstract_steps_library.specs.declared.fill_writes.FillWrite.{FillWrite}
+use Rattle.abstract_steps_library_plans.specs.declared.call_plans.Effect.{Effect}
+use Rattle.abstract_steps_library_plans.specs.declared.call_plans.Effect.TheVariants as effect
+use Rattle.abstract_steps_library_plans.specs.declared.call_plans.Trail.{Trail}
+use Rattle.abstract_steps_library_writes.specs.declared.fill_writes.FillWrite.{FillWrite}
 use Rattle.abstract_steps_library.specs.declared.memory_calls.Target.{Target}
 use Rattle.abstract_steps_library.specs.Plans.{trail_of, checked}
 use Rattle.abstract_steps_library.specs.Calls.{Call}

@@ -6,7 +6,7 @@ use Rattle.value_domain_laws.proofs.Flags.{Sets}
 use Rattle.store_domain_cells.specs.declared.access_windows.Window.{Window}
 use Rattle.store_domain_laws.specs.Placements.{WindowWithin}
 use Rattle.store_domain_laws.proofs.Windows.{WindowsBelow}
-use Rattle.abstract_steps_library.specs.declared.fill_writes.FillWrite.{FillWrite}
+use Rattle.abstract_steps_library_writes.specs.declared.fill_writes.FillWrite.{FillWrite}
 use Rattle.abstract_steps_laws_writes.specs.TextOrder.{StartsBelow}
 
 -- nothing surely is written

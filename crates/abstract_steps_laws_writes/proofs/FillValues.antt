@@ -33,7 +33,7 @@ use Rattle.store_domain_laws.specs.TopCells.{top_value}
 use Rattle.store_domain_laws.proofs.CellReads.{written_monotone, written_top}
 use Rattle.store_domain_laws.proofs.Consistent.{IsEven, even_bare}
 use Rattle.store_domain_laws.proofs.Windows.{WindowsBelow}
-use Rattle.abstract_steps_library.specs.declared.fill_writes.FillWrite.{FillWrite}
+use Rattle.abstract_steps_library_writes.specs.declared.fill_writes.FillWrite.{FillWrite}
 use Rattle.abstract_steps_library.specs.FillWrites.{last_byte, is_covered_by, is_covered, zeroed, covered_value}
 use Rattle.abstract_steps_laws_writes.proofs.WrittenCells.{bytes_even}
 use Rattle.abstract_steps_laws_writes.proofs.FillOrder.{IsWeak, FillStarts, FillBelow}

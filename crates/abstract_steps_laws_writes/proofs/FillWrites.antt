@@ -41,7 +41,7 @@ use Rattle.store_domain_laws.proofs.LiveSets.{has_monotone}
 use Rattle.store_domain_laws.proofs.PairedSteps.{Step, walk_step, turns_step, then_step, if_step, same_step, numbers_below}
 use Rattle.store_domain_laws.proofs.Windows.{overlapped_monotone}
 use Rattle.store_domain_laws.proofs.ZeroTargets.{TargetBelow, target_monotone}
-use Rattle.abstract_steps_library.specs.declared.fill_writes.FillWrite.{FillWrite}
+use Rattle.abstract_steps_library_writes.specs.declared.fill_writes.FillWrite.{FillWrite}
 use Rattle.abstract_steps_library.specs.TextWrites.{is_whole, lies_in_array}
 use Rattle.abstract_steps_library.specs.FillWrites.{is_covered, holds_whole, is_from_start, covered_value, fill_leaf, fill_leaf_of, fill_leaves, clears_instance, class_value, fill_stray, fill_class, fill_classes, fill_class_cells, zero_met_at, fill_zero, fill_zeros, fill_heap_part, fill_base, fill_base_if, fill_in, write_fill}
 use Rattle.abstract_steps_laws_values.specs.RisingRows.{RowsRise}

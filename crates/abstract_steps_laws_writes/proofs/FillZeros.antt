@@ -19,7 +19,7 @@ use Rattle.store_domain.specs.FirstZeroWrites.{any_zero, offsets_of, sure_or_joi
 use Rattle.store_domain_laws.specs.Placements.{WindowWithin}
 use Rattle.store_domain_laws.proofs.PutZeros.{put_monotone, put_top}
 use Rattle.store_domain_laws.proofs.ZeroTargets.{offsets_monotone, offsets_top}
-use Rattle.abstract_steps_library.specs.declared.fill_writes.FillWrite.{FillWrite}
+use Rattle.abstract_steps_library_writes.specs.declared.fill_writes.FillWrite.{FillWrite}
 use Rattle.abstract_steps_library.specs.TextWrites.{lies_in_array}
 use Rattle.abstract_steps_library.specs.FillWrites.{is_up_to_range, is_up_to, zero_met_at}
 use Rattle.abstract_steps_laws_writes.proofs.MetZeros.{met}

@@ -11,7 +11,7 @@ use Rattle.store_domain.specs.FirstZeroWrites.{zero_target}
 use Rattle.store_domain.specs.LeafSelection.{is_overlapped, has_stray}
 use Rattle.store_domain.specs.LiveBases.{has_base, is_one_instance}
 use Rattle.store_domain.specs.RowPositions.{leaf_position, class_position, zero_position}
-use Rattle.abstract_steps_library.specs.declared.fill_writes.FillWrite.{FillWrite}
+use Rattle.abstract_steps_library_writes.specs.declared.fill_writes.FillWrite.{FillWrite}
 use Rattle.abstract_steps_library.specs.FillWrites.{is_covered, fill_leaf, fill_leaf_of, fill_leaves, clears_instance, fill_stray, fill_class, fill_class_cells, fill_zero, fill_zeros, fill_heap_part, fill_base, fill_base_if, fill_in, write_fill}
 use Rattle.abstract_steps_laws_library.specs.FilledRows.{Fills}
 use Rattle.abstract_steps_laws_library.proofs.FilledSteps.{fill_set, fill_if, fill_walk, fill_turns, fill_join, fill_write}

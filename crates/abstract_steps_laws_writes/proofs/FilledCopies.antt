@@ -6,7 +6,7 @@ use Rattle.c_layout.specs.declared.leaf_lists.Class.TheVariants.{Char}
 use Rattle.c_layout.specs.declared.shapes.BaseInfo.{BaseInfo}
 use Rattle.flow_program.specs.declared.programs.Flow.{Flow}
 use Rattle.store_domain.specs.LeafSelection.{has_stray}
-use Rattle.abstract_steps_library.specs.declared.copied_bytes.CopyWrite.{CopyWrite}
+use Rattle.abstract_steps_library_writes.specs.declared.copied_bytes.CopyWrite.{CopyWrite}
 use Rattle.abstract_steps_library.specs.CopyWrites.{copy_leaf, copy_leaf_of, copy_leaves, copy_class_of, copy_class_cells, copy_base, copy_base_if, copy_in, write_copy}
 use Rattle.abstract_steps_laws_library.specs.FilledRows.{Fills}
 use Rattle.abstract_steps_laws_library.proofs.FilledSteps.{fill_if, fill_walk, fill_turns, fill_join, fill_forgotten}

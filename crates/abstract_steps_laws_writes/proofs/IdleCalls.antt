@@ -14,8 +14,8 @@ use Rattle.value_domain.specs.ValueTables.{pointer_value}
 use Rattle.value_domain_laws.proofs.Flags.{Sets}
 use Rattle.value_domain_laws.proofs.Ranges.{RangeBelow}
 use Rattle.store_domain_laws.specs.TopRows.{top_row}
-use Rattle.abstract_steps_library.specs.declared.call_plans.Effect.{Effect}
-use Rattle.abstract_steps_library.specs.declared.call_plans.Effect.TheVariants as effect
+use Rattle.abstract_steps_library_plans.specs.declared.call_plans.Effect.{Effect}
+use Rattle.abstract_steps_library_plans.specs.declared.call_plans.Effect.TheVariants as effect
 use Rattle.abstract_steps_library.specs.declared.memory_calls.Target.{Target}
 use Rattle.abstract_steps_library.specs.MemoryCalls.{lower_of, nothing_written}
 use Rattle.abstract_steps_library.specs.Effects.{put_result, apply}

@@ -23,9 +23,9 @@ use Rattle.abstract_steps_checks.specs.declared.library_arguments.Argument.{Argu
 use Rattle.abstract_steps_checks.specs.IntegerChecks.{sink_violations}
 use Rattle.abstract_steps_checks.specs.LibraryArguments.{cut_by_room}
 use Rattle.abstract_steps_checks.specs.ViolationSets.{no_violations}
-use Rattle.abstract_steps_library.specs.declared.call_plans.Trail.{Trail}
+use Rattle.abstract_steps_library_plans.specs.declared.call_plans.Trail.{Trail}
 use Rattle.abstract_steps_library.specs.declared.memory_calls.Target.{Target}
-use Rattle.abstract_steps_library.specs.declared.text_writes.ZeroRule.{ZeroRule}
+use Rattle.abstract_steps_library_writes.specs.declared.text_writes.ZeroRule.{ZeroRule}
 use Rattle.abstract_steps_library.specs.Plans.{trail_of}
 use Rattle.abstract_steps_library.specs.Calls.{Call}
 use Rattle.abstract_steps_library.specs.Arguments.{argument_value}

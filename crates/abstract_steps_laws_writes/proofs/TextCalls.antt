@@ -19,13 +19,13 @@ use Rattle.store_domain_laws.specs.TopRows.{top_row}
 use Rattle.store_domain_laws.proofs.LiveBases.{writable_monotone}
 use Rattle.store_domain_laws.proofs.Together.{each}
 use Rattle.store_domain_laws.proofs.Windows.{WindowsBelow}
-use Rattle.abstract_steps_library.specs.declared.call_plans.Effect.{Effect}
-use Rattle.abstract_steps_library.specs.declared.call_plans.Effect.TheVariants as effect
+use Rattle.abstract_steps_library_plans.specs.declared.call_plans.Effect.{Effect}
+use Rattle.abstract_steps_library_plans.specs.declared.call_plans.Effect.TheVariants as effect
 use Rattle.abstract_steps_library.specs.declared.memory_calls.Target.{Target}
-use Rattle.abstract_steps_library.specs.declared.source_bytes.Characters.{Characters}
-use Rattle.abstract_steps_library.specs.declared.text_writes.TextWrite.{TextWrite}
-use Rattle.abstract_steps_library.specs.declared.text_writes.ZeroRule.{ZeroRule}
-use Rattle.abstract_steps_library.specs.declared.text_writes.ZeroRule.TheVariants.{Any}
+use Rattle.abstract_steps_library_writes.specs.declared.source_bytes.Characters.{Characters}
+use Rattle.abstract_steps_library_writes.specs.declared.text_writes.TextWrite.{TextWrite}
+use Rattle.abstract_steps_library_writes.specs.declared.text_writes.ZeroRule.{ZeroRule}
+use Rattle.abstract_steps_library_writes.specs.declared.text_writes.ZeroRule.TheVariants.{Any}
 use Rattle.abstract_steps_library.specs.MemoryCalls.{lower_of, nothing_written}
 use Rattle.abstract_steps_library.specs.StringCalls.{text_effect}
 use Rattle.abstract_steps_library.specs.Effects.{apply}

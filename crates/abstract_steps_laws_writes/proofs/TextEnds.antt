@@ -26,8 +26,8 @@ use Rattle.store_domain_laws.proofs.NearCells.{near_is}
 use Rattle.store_domain_laws.proofs.ZeroTargets.{offsets_monotone, offsets_top}
 use Rattle.abstract_steps_laws_writes.specs.TextOrder.{HasLength, RuleBelow}
 use Rattle.abstract_steps_library.specs.TextWrites.{up_to_end_of, up_to_end, zero_after, rule_in}
-use Rattle.abstract_steps_library.specs.declared.text_writes.ZeroRule.{ZeroRule}
-use Rattle.abstract_steps_library.specs.declared.text_writes.ZeroRule.TheVariants.{Text, Append, Any}
+use Rattle.abstract_steps_library_writes.specs.declared.text_writes.ZeroRule.{ZeroRule}
+use Rattle.abstract_steps_library_writes.specs.declared.text_writes.ZeroRule.TheVariants.{Text, Append, Any}
 
 module _ {I : Type 0} (l : LatticeOf I) (n : IntegersOf I) where
   -- in one base

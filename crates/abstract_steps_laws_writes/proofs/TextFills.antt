@@ -15,13 +15,13 @@ use Rattle.store_domain.specs.FirstZeroWrites.{zero_target}
 use Rattle.store_domain.specs.LeafSelection.{is_overlapped, has_stray}
 use Rattle.store_domain.specs.LiveBases.{has_base, is_one_instance}
 use Rattle.store_domain.specs.RowPositions.{leaf_position, class_position, zero_position}
-use Rattle.abstract_steps_library.specs.declared.call_plans.Effect.{Effect}
-use Rattle.abstract_steps_library.specs.declared.call_plans.Effect.TheVariants as effect
-use Rattle.abstract_steps_library.specs.declared.call_plans.Trail.{Trail}
+use Rattle.abstract_steps_library_plans.specs.declared.call_plans.Effect.{Effect}
+use Rattle.abstract_steps_library_plans.specs.declared.call_plans.Effect.TheVariants as effect
+use Rattle.abstract_steps_library_plans.specs.declared.call_plans.Trail.{Trail}
 use Rattle.abstract_steps_library.specs.declared.memory_calls.Target.{Target}
-use Rattle.abstract_steps_library.specs.declared.source_bytes.Characters.{Characters}
-use Rattle.abstract_steps_library.specs.declared.text_writes.TextWrite.{TextWrite}
-use Rattle.abstract_steps_library.specs.declared.text_writes.ZeroRule.{ZeroRule}
+use Rattle.abstract_steps_library_writes.specs.declared.source_bytes.Characters.{Characters}
+use Rattle.abstract_steps_library_writes.specs.declared.text_writes.TextWrite.{TextWrite}
+use Rattle.abstract_steps_library_writes.specs.declared.text_writes.ZeroRule.{ZeroRule}
 use Rattle.abstract_steps_library.specs.Plans.{planned}
 use Rattle.abstract_steps_library.specs.MemoryCalls.{lower_of, nothing_written}
 use Rattle.abstract_steps_library.specs.StringCalls.{text_effect}

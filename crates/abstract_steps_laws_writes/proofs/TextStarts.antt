@@ -15,11 +15,11 @@ use Rattle.value_domain_laws.proofs.Ranges.{RangeBelow}
 use Rattle.store_domain.specs.AccessWindows.{window_within}
 use Rattle.store_domain_laws.specs.TopRows.{top_row}
 use Rattle.abstract_steps_checks.specs.LibraryArguments.{touched_window, cut_by_room}
-use Rattle.abstract_steps_library.specs.declared.call_plans.Trail.{Trail}
+use Rattle.abstract_steps_library_plans.specs.declared.call_plans.Trail.{Trail}
 use Rattle.abstract_steps_library.specs.declared.memory_calls.Target.{Target}
-use Rattle.abstract_steps_library.specs.declared.source_bytes.Characters.{Characters}
-use Rattle.abstract_steps_library.specs.declared.text_writes.ZeroRule.{ZeroRule}
-use Rattle.abstract_steps_library.specs.declared.text_writes.ZeroRule.TheVariants.{Any}
+use Rattle.abstract_steps_library_writes.specs.declared.source_bytes.Characters.{Characters}
+use Rattle.abstract_steps_library_writes.specs.declared.text_writes.ZeroRule.{ZeroRule}
+use Rattle.abstract_steps_library_writes.specs.declared.text_writes.ZeroRule.TheVariants.{Any}
 use Rattle.abstract_steps_library.specs.MemoryCalls.{lower_of, is_one_byte, room_trail, target_of}
 use Rattle.abstract_steps_library.specs.StringCalls.{text_effect, text_from_start}
 use Rattle.abstract_steps_library.specs.Effects.{apply}

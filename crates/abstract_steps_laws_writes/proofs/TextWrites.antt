@@ -38,9 +38,9 @@ use Rattle.store_domain_laws.proofs.LiveSets.{has_monotone}
 use Rattle.store_domain_laws.proofs.PairedSteps.{Step, walk_step, turns_step, then_step, if_step, same_step, numbers_below}
 use Rattle.store_domain_laws.proofs.Windows.{overlapped_monotone}
 use Rattle.store_domain_laws.proofs.ZeroTargets.{target_monotone}
-use Rattle.abstract_steps_library.specs.declared.source_bytes.Characters.{Characters}
-use Rattle.abstract_steps_library.specs.declared.text_writes.TextWrite.{TextWrite}
-use Rattle.abstract_steps_library.specs.declared.text_writes.ZeroRule.TheVariants.{Any}
+use Rattle.abstract_steps_library_writes.specs.declared.source_bytes.Characters.{Characters}
+use Rattle.abstract_steps_library_writes.specs.declared.text_writes.TextWrite.{TextWrite}
+use Rattle.abstract_steps_library_writes.specs.declared.text_writes.ZeroRule.TheVariants.{Any}
 use Rattle.abstract_steps_library.specs.TextWrites.{is_whole, text_lies_in_array, character_value, value_of_class, leaf_value, write_leaf, write_leaf_of, write_leaves, write_stray, write_class, write_class_cells, zero_after, zero_met_at, write_zero, write_zeros, write_heap_part, write_base, write_base_if, rule_in, write_into, write_in, write_text}
 use Rattle.abstract_steps_laws_values.specs.RisingRows.{RowsRise}
 use Rattle.abstract_steps_laws_writes.proofs.WrittenCells.{join_rises, zero_rises, bytes_even}

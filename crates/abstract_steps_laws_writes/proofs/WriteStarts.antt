@@ -13,8 +13,8 @@ use Rattle.store_domain.specs.FirstZeroWrites.{last_of, has_no_bytes, target_at,
 use Rattle.store_domain_laws.specs.Placements.{WindowWithin}
 use Rattle.store_domain_laws.proofs.ZeroTargets.{TargetBelow, target_monotone}
 use Rattle.abstract_steps_library.specs.TextWrites.{is_whole, lies_in_array, text_lies_in_array}
-use Rattle.abstract_steps_library.specs.declared.text_writes.ZeroRule.{ZeroRule}
-use Rattle.abstract_steps_library.specs.declared.text_writes.ZeroRule.TheVariants.{Text, Append, Any}
+use Rattle.abstract_steps_library_writes.specs.declared.text_writes.ZeroRule.{ZeroRule}
+use Rattle.abstract_steps_library_writes.specs.declared.text_writes.ZeroRule.TheVariants.{Text, Append, Any}
 use Rattle.abstract_steps_laws_writes.specs.TextOrder.{RuleBelow}
 use Rattle.abstract_steps_laws_writes.proofs.MetZeros.{IsNearTarget}
 

@@ -29,7 +29,7 @@ use Rattle.store_domain_laws.proofs.LiveBases.{writable_monotone}
 use Rattle.store_domain_laws.proofs.PairedSteps.{walk_pair, any_each}
 use Rattle.store_domain_laws.proofs.Windows.{WindowsBelow, within_monotone}
 use Rattle.abstract_steps_checks.specs.LibraryArguments.{may_be_none, writes_literal, kept_after, after_write, sum_of, difference_of, last_touched, touched_from, end_of, touched_window, is_above_room, cut_by, passes_room, cut_by_room}
-use Rattle.abstract_steps_library.specs.declared.call_plans.Trail.{Trail}
+use Rattle.abstract_steps_library_plans.specs.declared.call_plans.Trail.{Trail}
 use Rattle.abstract_steps_library.specs.declared.memory_calls.Target.{Target}
 use Rattle.abstract_steps_library.specs.Arguments.{room_violations, literal_violations}
 use Rattle.abstract_steps_library.specs.MemoryCalls.{room_trail, target_of}

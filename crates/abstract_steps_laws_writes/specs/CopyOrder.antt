@@ -8,8 +8,8 @@ use Rattle.pointer_domain.specs.BaseSets.{bases_within}
 use Rattle.value_domain.specs.LabelSets.{labels_leq}
 use Rattle.value_domain.specs.declared.row_cells.Cell.{Cell}
 use Rattle.store_domain_laws.specs.Placements.{WindowWithin}
-use Rattle.abstract_steps_library.specs.declared.copied_bytes.CopiedBytes.{CopiedBytes}
-use Rattle.abstract_steps_library.specs.declared.copied_bytes.CopyWrite.{CopyWrite}
+use Rattle.abstract_steps_library_writes.specs.declared.copied_bytes.CopiedBytes.{CopiedBytes}
+use Rattle.abstract_steps_library_writes.specs.declared.copied_bytes.CopyWrite.{CopyWrite}
 use Rattle.abstract_steps_library.specs.CopyWrites.{write_copy}
 use Rattle.abstract_steps_laws_values.specs.RisingRows.{PointersRise}
 use Rattle.abstract_steps_laws_values.specs.StepLaws.{FlowRows}

@@ -11,10 +11,10 @@ use Rattle.value_domain.specs.declared.row_cells.Cell.{Cell}
 use Rattle.store_domain_cells.specs.declared.access_windows.Window.{Window}
 use Rattle.store_domain_laws.specs.Placements.{WindowWithin}
 use Rattle.store_domain_laws.specs.TopCells.{top_number}
-use Rattle.abstract_steps_library.specs.declared.source_bytes.Characters.{Characters}
-use Rattle.abstract_steps_library.specs.declared.text_writes.TextWrite.{TextWrite}
-use Rattle.abstract_steps_library.specs.declared.text_writes.ZeroRule.{ZeroRule}
-use Rattle.abstract_steps_library.specs.declared.text_writes.ZeroRule.TheVariants.{Text, Append, Any}
+use Rattle.abstract_steps_library_writes.specs.declared.source_bytes.Characters.{Characters}
+use Rattle.abstract_steps_library_writes.specs.declared.text_writes.TextWrite.{TextWrite}
+use Rattle.abstract_steps_library_writes.specs.declared.text_writes.ZeroRule.{ZeroRule}
+use Rattle.abstract_steps_library_writes.specs.declared.text_writes.ZeroRule.TheVariants.{Text, Append, Any}
 use Rattle.abstract_steps_library.specs.TextWrites.{write_text}
 use Rattle.abstract_steps_laws_values.specs.StepLaws.{FlowRows}
 

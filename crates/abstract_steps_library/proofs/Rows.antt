@@ -21,21 +21,21 @@ use Rattle.abstract_steps_checks.specs.LibraryArguments.{within_bases}
 use Rattle.abstract_steps_checks.specs.declared.library_arguments.Argument.{Argument}
 use Rattle.abstract_steps_checks.specs.declared.violation_sets.Violations.{Violations}
 use Rattle.abstract_steps_checks.specs.ViolationSets.{no_violations}
-use Rattle.abstract_steps_library.specs.Allocations.{products}
-use Rattle.abstract_steps_library.specs.Calls.{Call}
-use Rattle.abstract_steps_library.specs.FillWrites.{holds_whole}
+use Rattle.abstract_steps_library_plans.specs.Allocations.{products}
+use Rattle.abstract_steps_library_plans.specs.Calls.{Call}
+use Rattle.abstract_steps_library_writes.specs.FillWrites.{holds_whole}
 use Rattle.abstract_steps_library.specs.MemoryCalls.{nothing_written}
-use Rattle.abstract_steps_library.specs.Outputs.{has_place, placed, printed_trail}
-use Rattle.abstract_steps_library.specs.Plans.{trail_of}
+use Rattle.abstract_steps_library_plans.specs.Outputs.{has_place, placed, printed_trail}
+use Rattle.abstract_steps_library_plans.specs.Plans.{trail_of}
 use Rattle.abstract_steps_library.specs.StringCalls.{most_appended, reads_no_string, window_from_offset}
-use Rattle.abstract_steps_library.specs.TextWrites.{rule_in, zero_after, zero_met}
-use Rattle.abstract_steps_library.specs.declared.call_plans.Effect.TheVariants as effect
-use Rattle.abstract_steps_library.specs.declared.call_plans.Trail.{Trail}
+use Rattle.abstract_steps_library_writes.specs.TextWrites.{rule_in, zero_after, zero_met}
+use Rattle.abstract_steps_library_plans.specs.declared.call_plans.Effect.TheVariants as effect
+use Rattle.abstract_steps_library_plans.specs.declared.call_plans.Trail.{Trail}
 use Rattle.abstract_steps_library.specs.declared.memory_calls.Target.{Target}
-use Rattle.abstract_steps_library.specs.declared.source_bytes.Characters.{Characters}
-use Rattle.abstract_steps_library.specs.declared.text_writes.TextWrite.{TextWrite}
-use Rattle.abstract_steps_library.specs.declared.text_writes.ZeroRule.{ZeroRule}
-use Rattle.abstract_steps_library.specs.declared.text_writes.ZeroRule.TheVariants.{Text, Append, Any}
+use Rattle.abstract_steps_library_writes.specs.declared.source_bytes.Characters.{Characters}
+use Rattle.abstract_steps_library_writes.specs.declared.text_writes.TextWrite.{TextWrite}
+use Rattle.abstract_steps_library_writes.specs.declared.text_writes.ZeroRule.{ZeroRule}
+use Rattle.abstract_steps_library_writes.specs.declared.text_writes.ZeroRule.TheVariants.{Text, Append, Any}
 
 -- ---- calloc
 

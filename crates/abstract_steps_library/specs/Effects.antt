@@ -12,11 +12,11 @@ use Rattle.store_domain.specs.Allocations.{renew, renewed_pointer, site_of}
 use Rattle.store_domain.specs.Freeing.{free}
 use Rattle.store_domain.specs.NearValues.{near_number}
 use Rattle.abstract_steps_checks.specs.Temporaries.{put_temp}
-use Rattle.abstract_steps_library.specs.declared.call_plans.Effect.{Effect}
-use Rattle.abstract_steps_library.specs.declared.call_plans.Effect.TheVariants.{Unreached, Result, Text, Fill, Copy, Allocate, Reallocate, Free}
-use Rattle.abstract_steps_library.specs.TextWrites.{write_text}
-use Rattle.abstract_steps_library.specs.FillWrites.{write_fill}
-use Rattle.abstract_steps_library.specs.CopyWrites.{write_copy}
+use Rattle.abstract_steps_library_plans.specs.declared.call_plans.Effect.{Effect}
+use Rattle.abstract_steps_library_plans.specs.declared.call_plans.Effect.TheVariants.{Unreached, Result, Text, Fill, Copy, Allocate, Reallocate, Free}
+use Rattle.abstract_steps_library_writes.specs.TextWrites.{write_text}
+use Rattle.abstract_steps_library_writes.specs.FillWrites.{write_fill}
+use Rattle.abstract_steps_library_writes.specs.CopyWrites.{write_copy}
 
 abbrev pub older_of : ℕ → ℕ
 older_of newest = min (newest + 1) (2 ^ 32 - 1)

@@ -18,16 +18,16 @@ use Rattle.abstract_steps_checks.specs.declared.library_arguments.Argument.{Argu
 use Rattle.abstract_steps_checks.specs.IntegerChecks.{sink_violations}
 use Rattle.abstract_steps_checks.specs.ViolationSets.{no_violations}
 use Rattle.abstract_steps_checks.specs.LibraryArguments.{cut_by_room, passes_room, after_write, writes_literal, within_bases, touched_window}
-use Rattle.abstract_steps_library.specs.Calls.{Call}
-use Rattle.abstract_steps_library.specs.declared.call_plans.Effect.{Effect}
-use Rattle.abstract_steps_library.specs.declared.call_plans.Effect.TheVariants as effect
-use Rattle.abstract_steps_library.specs.declared.call_plans.Plan.{Plan}
-use Rattle.abstract_steps_library.specs.declared.call_plans.Trail.{Trail}
+use Rattle.abstract_steps_library_plans.specs.Calls.{Call}
+use Rattle.abstract_steps_library_plans.specs.declared.call_plans.Effect.{Effect}
+use Rattle.abstract_steps_library_plans.specs.declared.call_plans.Effect.TheVariants as effect
+use Rattle.abstract_steps_library_plans.specs.declared.call_plans.Plan.{Plan}
+use Rattle.abstract_steps_library_plans.specs.declared.call_plans.Trail.{Trail}
 use Rattle.abstract_steps_library.specs.declared.memory_calls.Target.{Target}
-use Rattle.abstract_steps_library.specs.Plans.{trail_of, checked, planned}
-use Rattle.abstract_steps_library.specs.Arguments.{argument_value, room_violations, literal_violations}
-use Rattle.abstract_steps_library.specs.Outputs.{argument_at, given_trail}
-use Rattle.abstract_steps_library.specs.CopyWrites.{bytes_of_source}
+use Rattle.abstract_steps_library_plans.specs.Plans.{trail_of, checked, planned}
+use Rattle.abstract_steps_library_plans.specs.Arguments.{argument_value, room_violations, literal_violations}
+use Rattle.abstract_steps_library_plans.specs.Outputs.{argument_at, given_trail}
+use Rattle.abstract_steps_library_writes.specs.CopyWrites.{bytes_of_source}
 
 -- the bytes that are surely touched: from the last place where the write can begin to the first one
 -- where it can end

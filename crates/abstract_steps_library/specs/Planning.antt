@@ -5,16 +5,16 @@ use Rattle.cc_base.specs.IntegerDomains.{IntegersOf}
 use Rattle.c_layout.specs.declared.library_functions.LibFn.{LibFn}
 use Rattle.c_layout.specs.declared.library_functions.LibFn.TheVariants as f
 use Rattle.value_domain.specs.declared.row_cells.Cell.{Cell}
-use Rattle.abstract_steps_library.specs.Calls.{Call}
-use Rattle.abstract_steps_library.specs.declared.call_plans.Effect.TheVariants as effect
-use Rattle.abstract_steps_library.specs.declared.call_plans.Plan.{Plan}
-use Rattle.abstract_steps_library.specs.Plans.{harmless}
-use Rattle.abstract_steps_library.specs.Arguments.{argument_value}
-use Rattle.abstract_steps_library.specs.Allocations.{plan_malloc, plan_calloc, plan_realloc, plan_free}
+use Rattle.abstract_steps_library_plans.specs.Calls.{Call}
+use Rattle.abstract_steps_library_plans.specs.declared.call_plans.Effect.TheVariants as effect
+use Rattle.abstract_steps_library_plans.specs.declared.call_plans.Plan.{Plan}
+use Rattle.abstract_steps_library_plans.specs.Plans.{harmless}
+use Rattle.abstract_steps_library_plans.specs.Arguments.{argument_value}
+use Rattle.abstract_steps_library_plans.specs.Allocations.{plan_malloc, plan_calloc, plan_realloc, plan_free}
 use Rattle.abstract_steps_library.specs.MemoryCalls.{plan_copy, plan_fill}
-use Rattle.abstract_steps_library.specs.Outputs.{plan_getchar, plan_putchar, plan_puts, plan_printf, plan_strlen, plan_strcmp}
+use Rattle.abstract_steps_library_plans.specs.Outputs.{plan_getchar, plan_putchar, plan_puts, plan_printf, plan_strlen, plan_strcmp}
 use Rattle.abstract_steps_library.specs.StringCalls.{plan_strcpy, plan_strncpy, plan_strcat}
-use Rattle.abstract_steps_library.specs.Characters.{plan_character}
+use Rattle.abstract_steps_library_plans.specs.Characters.{plan_character}
 
 module _ {I : Type 0} where
   -- a call that tests or maps a character

@@ -25,20 +25,20 @@ use Rattle.abstract_steps_checks.specs.declared.string_scans.Scanned.{Scanned}
 use Rattle.abstract_steps_checks.specs.IntegerChecks.{sink_violations}
 use Rattle.abstract_steps_checks.specs.LibraryArguments.{cut_by_room, passes_room, within_bases, touched_window}
 use Rattle.abstract_steps_checks.specs.ViolationSets.{no_violations}
-use Rattle.abstract_steps_library.specs.Calls.{Call}
-use Rattle.abstract_steps_library.specs.declared.call_plans.Effect.{Effect}
-use Rattle.abstract_steps_library.specs.declared.call_plans.Effect.TheVariants as effect
-use Rattle.abstract_steps_library.specs.declared.call_plans.Plan.{Plan}
-use Rattle.abstract_steps_library.specs.declared.call_plans.Trail.{Trail}
+use Rattle.abstract_steps_library_plans.specs.Calls.{Call}
+use Rattle.abstract_steps_library_plans.specs.declared.call_plans.Effect.{Effect}
+use Rattle.abstract_steps_library_plans.specs.declared.call_plans.Effect.TheVariants as effect
+use Rattle.abstract_steps_library_plans.specs.declared.call_plans.Plan.{Plan}
+use Rattle.abstract_steps_library_plans.specs.declared.call_plans.Trail.{Trail}
 use Rattle.abstract_steps_library.specs.declared.memory_calls.Target.{Target}
-use Rattle.abstract_steps_library.specs.declared.source_bytes.Characters.{Characters}
-use Rattle.abstract_steps_library.specs.declared.text_writes.ZeroRule.{ZeroRule}
-use Rattle.abstract_steps_library.specs.declared.text_writes.ZeroRule.TheVariants as zero
-use Rattle.abstract_steps_library.specs.Plans.{trail_of, checked, planned}
-use Rattle.abstract_steps_library.specs.Arguments.{argument_value, string_violations}
-use Rattle.abstract_steps_library.specs.Outputs.{argument_at, scan_at, given_trail, scanned_trail}
+use Rattle.abstract_steps_library_writes.specs.declared.source_bytes.Characters.{Characters}
+use Rattle.abstract_steps_library_writes.specs.declared.text_writes.ZeroRule.{ZeroRule}
+use Rattle.abstract_steps_library_writes.specs.declared.text_writes.ZeroRule.TheVariants as zero
+use Rattle.abstract_steps_library_plans.specs.Plans.{trail_of, checked, planned}
+use Rattle.abstract_steps_library_plans.specs.Arguments.{argument_value, string_violations}
+use Rattle.abstract_steps_library_plans.specs.Outputs.{argument_at, scan_at, given_trail, scanned_trail}
 use Rattle.abstract_steps_library.specs.MemoryCalls.{room_trail, target_of, both_given, is_one_byte, lower_of, nothing_written}
-use Rattle.abstract_steps_library.specs.Sources.{characters_of, reads_blank_in}
+use Rattle.abstract_steps_library_writes.specs.Sources.{characters_of, reads_blank_in}
 
 abbrev pub less_one : ℤ → ℤ
 less_one x = saturate_signed w128 (x -ℤ pos 1)

@@ -3,11 +3,9 @@ ghost use Rattle.std.specs.Prelude.{◌≡◌, true, false, Some, None, length};
 ghost use Rattle.abstract_steps_library.specs.Effects.{put_result, allocated, apply, is_write};
 ghost use Rattle.cc_base.specs.IntegerDomains.{IsNear};
 
-use crate::call_plans::Effect;
-use crate::copied_bytes::write_copy;
-use crate::fill_writes::write_fill;
-use crate::text_writes::write_text;
 use abstract_steps_checks::put_temp;
+use abstract_steps_library_plans::Effect;
+use abstract_steps_library_writes::{write_copy, write_fill, write_text};
 use cc_base::IntDomain;
 use flow_program::Flow;
 use store_domain::{Fresh, free, near_number, renew};

@@ -1,19 +1,19 @@
 //! `memcpy`, `memmove` and `memset`.
 ghost use Rattle.std.specs.Prelude.{◌≡◌};
 ghost use Rattle.abstract_steps_checks.specs.LibraryArguments.{cut_by_room};
-ghost use Rattle.abstract_steps_library.specs.Calls.{call_view};
+ghost use Rattle.abstract_steps_library_plans.specs.Calls.{call_view};
 ghost use Rattle.abstract_steps_library.specs.MemoryCalls.{room_trail, target_of, nothing_written, plan_copy, sure_window, is_zero_byte, is_one_byte, lower_of, fill_trail, fill_effect, fill_in_window, fill_to, fill_given, plan_fill, copy_in_window, copy_to, both_given, copy_both};
 ghost use Rattle.pointer_domain.specs.PointerTables.{IsNearPointer};
 
-use crate::call_arguments::{Call, argument_value, literal_violations, room_violations};
-use crate::call_plans::{Effect, Plan, Trail, planned};
-use crate::copied_bytes::{CopyWrite, bytes_of_source};
-use crate::fill_writes::FillWrite;
-use crate::output_calls::{argument_at, given_trail};
 use abstract_steps_checks::{
     Argument, Violations, after_write, cut_by_room, passes_room, sink_violations, touched_window,
     within_bases, writes_literal,
 };
+use abstract_steps_library_plans::{
+    Call, Effect, Plan, Trail, argument_at, argument_value, given_trail, literal_violations,
+    planned, room_violations,
+};
+use abstract_steps_library_writes::{CopyWrite, FillWrite, bytes_of_source};
 use cc_base::{IntDomain, upper_or};
 use pointer_domain::{Bases, Pointers};
 use store_domain::{Window, window_within, writable_of};

@@ -1,18 +1,16 @@
 //! The plan of each library function.
 ghost use Rattle.std.specs.Prelude.{◌≡◌};
 ghost use Rattle.abstract_steps_library.specs.Planning.{plan_call, plan_test};
-ghost use Rattle.abstract_steps_library.specs.Calls.{call_view};
+ghost use Rattle.abstract_steps_library_plans.specs.Calls.{call_view};
 ghost use Rattle.abstract_steps_library.specs.StringCalls.{plan_fgets};
 
-use crate::allocation_calls::{plan_calloc, plan_free, plan_malloc, plan_realloc};
-use crate::call_arguments::{Call, argument_value};
-use crate::call_plans::{Effect, Plan, harmless};
-use crate::character_calls::plan_character;
 use crate::memory_calls::{plan_copy, plan_fill};
-use crate::output_calls::{
-    plan_getchar, plan_printf, plan_putchar, plan_puts, plan_strcmp, plan_strlen,
-};
 use crate::string_calls::{plan_fgets, plan_strcat, plan_strcpy, plan_strncpy};
+use abstract_steps_library_plans::{
+    Call, Effect, Plan, argument_value, harmless, plan_calloc, plan_character, plan_free,
+    plan_getchar, plan_malloc, plan_printf, plan_putchar, plan_puts, plan_realloc, plan_strcmp,
+    plan_strlen,
+};
 use c_layout::LibFn;
 use cc_base::IntDomain;
 use value_domain::Cell;

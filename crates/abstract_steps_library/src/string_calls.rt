@@ -1,21 +1,21 @@
 //! `strcpy`, `strncpy`, `strcat` and `fgets`.
 ghost use Rattle.std.specs.Prelude.{◌≡◌, Some};
-ghost use Rattle.abstract_steps_library.specs.Calls.{call_view};
+ghost use Rattle.abstract_steps_library_plans.specs.Calls.{call_view};
 ghost use Rattle.abstract_steps_library.specs.StringCalls.{one_more, one_less, text_effect, text_from_start, two_given, source_characters, strcpy_scanned, plan_strcpy, append_start, window_from_place, window_from_offset, append_window, most_appended, appended, append_effect, strcat_of, strcat_to, strcat_place, strcat_scanned, plan_strcat, line_count, line_trail, line_rule, fgets_given, reads_no_string, plan_strncpy, input_characters, plan_fgets};
 ghost use Rattle.pointer_domain.specs.PointerTables.{IsNearPointer};
 ghost use Rattle.cc_base.specs.IntegerDomains.{IsNear};
 
-use crate::call_arguments::{Call, argument_value, string_violations};
-use crate::call_plans::{Effect, Plan, Trail, planned};
 use crate::memory_calls::{
     Target, check_literals, check_room, is_one_byte, lower_of, nothing_written,
 };
-use crate::output_calls::{argument_at, given_trail, scan_at, scanned_trail};
-use crate::source_bytes::{Characters, characters_of, reads_blank};
-use crate::text_writes::{TextWrite, ZeroRule};
 use abstract_steps_checks::{
     Argument, Scanned, Violations, passes_room, sink_violations, touched_window, within_bases,
 };
+use abstract_steps_library_plans::{
+    Call, Effect, Plan, Trail, argument_at, argument_value, given_trail, planned, scan_at,
+    scanned_trail, string_violations,
+};
+use abstract_steps_library_writes::{Characters, TextWrite, ZeroRule, characters_of, reads_blank};
 use c_layout::{Class, Model};
 use cc_base::{IntDomain, between_or_bottom, of_range, range_met, upper_or};
 use pointer_domain::{Bases, Pointers};

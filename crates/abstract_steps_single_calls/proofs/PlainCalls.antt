@@ -36,8 +36,8 @@ use Rattle.abstract_steps_library.specs.Effects.{apply, put_result}
 use Rattle.abstract_steps_library.specs.Outputs.{putchar_of, plan_putchar}
 use Rattle.abstract_steps_library.specs.Planning.{plan_call}
 use Rattle.abstract_steps_library.specs.Plans.{planned, trail_of, harmless}
-use Rattle.abstract_steps_library.specs.declared.call_plans.Effect.TheVariants as effect
-use Rattle.abstract_steps_library.specs.declared.call_plans.Plan.{Plan}
+use Rattle.abstract_steps_library_plans.specs.declared.call_plans.Effect.TheVariants as effect
+use Rattle.abstract_steps_library_plans.specs.declared.call_plans.Plan.{Plan}
 use Rattle.abstract_steps_instructions.specs.CallSteps.{call_of, call_step}
 use Rattle.abstract_steps_instructions.specs.StepViolations.{operation_violations}
 use Rattle.abstract_steps_instructions.specs.Steps.{operate}

@@ -10,7 +10,7 @@ use Rattle.flow_program.specs.WellFormed.{is_site}
 use Rattle.flow_program.specs.declared.programs.Flow.{Flow}
 use Rattle.value_domain.specs.declared.row_cells.Cell.{Cell}
 use Rattle.abstract_steps_library.specs.Effects.{apply}
-use Rattle.abstract_steps_library.specs.declared.call_plans.Effect.TheVariants as effect
+use Rattle.abstract_steps_library_plans.specs.declared.call_plans.Effect.TheVariants as effect
 use Rattle.lib_models_effects.specs.LibraryChecks.{size_of}
 
 machine_takes_five : size_of (negsuc 4) ≡ 5

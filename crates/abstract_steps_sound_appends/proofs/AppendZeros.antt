@@ -14,8 +14,8 @@ use Rattle.store_domain_cells.specs.declared.first_zero_writes.ZeroTarget.{ZeroT
 use Rattle.store_domain.specs.FirstZeroWrites.{zero_target, any_zero}
 use Rattle.store_domain.specs.RowPositions.{zero_position, zero_at}
 use Rattle.abstract_steps_library.specs.TextWrites.{is_whole, text_lies_in_array, zero_after, sure_zero, zero_met_at, zero_met, write_zero_at, write_zero}
-use Rattle.abstract_steps_library.specs.declared.text_writes.TextWrite.{TextWrite}
-use Rattle.abstract_steps_library.specs.declared.text_writes.ZeroRule.TheVariants.{Any}
+use Rattle.abstract_steps_library_writes.specs.declared.text_writes.TextWrite.{TextWrite}
+use Rattle.abstract_steps_library_writes.specs.declared.text_writes.ZeroRule.TheVariants.{Any}
 use Rattle.lib_models_memory.specs.Instances.{Memory, bytes_at}
 use Rattle.store_domain_meaning.specs.SoundMemory.{IsMemoryOf}
 use Rattle.store_domain_meaning.specs.ValueMeaning.{Naming, StandsZero}

@@ -9,8 +9,8 @@ use Rattle.pointer_domain.specs.declared.base_sets.Bases.{Bases}
 use Rattle.value_domain.specs.declared.row_cells.Cell.{Cell}
 use Rattle.store_domain.specs.LiveBases.{has_base, is_one_instance}
 use Rattle.abstract_steps_library.specs.TextWrites.{write_text}
-use Rattle.abstract_steps_library.specs.declared.text_writes.TextWrite.{TextWrite}
-use Rattle.abstract_steps_library.specs.declared.text_writes.ZeroRule.TheVariants.{Append}
+use Rattle.abstract_steps_library_writes.specs.declared.text_writes.TextWrite.{TextWrite}
+use Rattle.abstract_steps_library_writes.specs.declared.text_writes.ZeroRule.TheVariants.{Append}
 use Rattle.lib_models_memory.specs.Instances.{Memory, bytes_at}
 use Rattle.store_domain_meaning.specs.FirstZeroBytes.{first_zero}
 use Rattle.store_domain_meaning.specs.SoundMemory.{IsMemoryOf}

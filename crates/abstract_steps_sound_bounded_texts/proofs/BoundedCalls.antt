@@ -39,14 +39,14 @@ use Rattle.abstract_steps_library.specs.Plans.{trail_of, checked}
 use Rattle.abstract_steps_library.specs.Sources.{characters_of, reads_blank_in}
 use Rattle.abstract_steps_library.specs.StringCalls.{text_effect, text_from_start, source_characters, reads_no_string, plan_strncpy}
 use Rattle.abstract_steps_library.specs.TextWrites.{character_value, write_text}
-use Rattle.abstract_steps_library.specs.declared.call_plans.Effect.{Effect}
-use Rattle.abstract_steps_library.specs.declared.call_plans.Effect.TheVariants as effect
-use Rattle.abstract_steps_library.specs.declared.call_plans.Plan.{Plan}
-use Rattle.abstract_steps_library.specs.declared.call_plans.Trail.{Trail}
+use Rattle.abstract_steps_library_plans.specs.declared.call_plans.Effect.{Effect}
+use Rattle.abstract_steps_library_plans.specs.declared.call_plans.Effect.TheVariants as effect
+use Rattle.abstract_steps_library_plans.specs.declared.call_plans.Plan.{Plan}
+use Rattle.abstract_steps_library_plans.specs.declared.call_plans.Trail.{Trail}
 use Rattle.abstract_steps_library.specs.declared.memory_calls.Target.{Target}
-use Rattle.abstract_steps_library.specs.declared.source_bytes.Characters.{Characters}
-use Rattle.abstract_steps_library.specs.declared.text_writes.TextWrite.{TextWrite}
-use Rattle.abstract_steps_library.specs.declared.text_writes.ZeroRule.TheVariants as zero_rule
+use Rattle.abstract_steps_library_writes.specs.declared.source_bytes.Characters.{Characters}
+use Rattle.abstract_steps_library_writes.specs.declared.text_writes.TextWrite.{TextWrite}
+use Rattle.abstract_steps_library_writes.specs.declared.text_writes.ZeroRule.TheVariants as zero_rule
 use Rattle.abstract_steps_instructions.specs.CallSteps.{call_of}
 use Rattle.lib_models_memory.specs.Labels.{Labels, no_labels, is_unlabelled}
 use Rattle.lib_models_memory.specs.Bytes.{MachinePointer, into, Content, indeterminate, number, part, Byte}

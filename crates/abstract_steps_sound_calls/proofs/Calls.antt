@@ -14,8 +14,8 @@ use Rattle.value_domain.specs.declared.values.Value.{Value}
 use Rattle.value_domain.specs.declared.row_cells.Cell.{Cell}
 use Rattle.abstract_steps_checks.specs.declared.violation_sets.Violations.{Violations}
 use Rattle.abstract_steps_library.specs.Effects.{put_result, apply}
-use Rattle.abstract_steps_library.specs.declared.call_plans.Effect.TheVariants as effect
-use Rattle.abstract_steps_library.specs.declared.call_plans.Plan.{Plan}
+use Rattle.abstract_steps_library_plans.specs.declared.call_plans.Effect.TheVariants as effect
+use Rattle.abstract_steps_library_plans.specs.declared.call_plans.Plan.{Plan}
 use Rattle.lib_models_memory.specs.Labels.{Labels}
 use Rattle.lib_models_memory.specs.Scalars.{Scalar, integer}
 use Rattle.lib_models_effects.specs.Worlds.{World, Why, Reply, goes, stops, drawn, drawn_from, drawn_in, OutOfDraws, Stuck}

@@ -37,8 +37,8 @@ use Rattle.abstract_steps_library.specs.Effects.{apply}
 use Rattle.abstract_steps_library.specs.Outputs.{putchar_of, plan_getchar, plan_putchar}
 use Rattle.abstract_steps_library.specs.Planning.{plan_call}
 use Rattle.abstract_steps_library.specs.Plans.{planned, trail_of, harmless}
-use Rattle.abstract_steps_library.specs.declared.call_plans.Effect.TheVariants as effect
-use Rattle.abstract_steps_library.specs.declared.call_plans.Plan.{Plan}
+use Rattle.abstract_steps_library_plans.specs.declared.call_plans.Effect.TheVariants as effect
+use Rattle.abstract_steps_library_plans.specs.declared.call_plans.Plan.{Plan}
 use Rattle.abstract_steps_sound.specs.CallSteps.{call_of, call_step}
 use Rattle.abstract_steps_sound.specs.StepViolations.{operation_violations}
 use Rattle.abstract_steps_sound.specs.Steps.{operate}

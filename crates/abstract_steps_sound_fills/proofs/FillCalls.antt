@@ -31,11 +31,11 @@ use Rattle.abstract_steps_library.specs.Effects.{apply}
 use Rattle.abstract_steps_library.specs.FillWrites.{write_fill}
 use Rattle.abstract_steps_library.specs.MemoryCalls.{sure_window, lower_of, is_zero_range, is_one_byte, room_trail, target_of, is_zero_byte, fill_in_window, plan_fill}
 use Rattle.abstract_steps_library.specs.Plans.{planned, trail_of, checked}
-use Rattle.abstract_steps_library.specs.declared.call_plans.Effect.{Effect}
-use Rattle.abstract_steps_library.specs.declared.call_plans.Effect.TheVariants as effect
-use Rattle.abstract_steps_library.specs.declared.call_plans.Plan.{Plan}
-use Rattle.abstract_steps_library.specs.declared.call_plans.Trail.{Trail}
-use Rattle.abstract_steps_library.specs.declared.fill_writes.FillWrite.{FillWrite}
+use Rattle.abstract_steps_library_plans.specs.declared.call_plans.Effect.{Effect}
+use Rattle.abstract_steps_library_plans.specs.declared.call_plans.Effect.TheVariants as effect
+use Rattle.abstract_steps_library_plans.specs.declared.call_plans.Plan.{Plan}
+use Rattle.abstract_steps_library_plans.specs.declared.call_plans.Trail.{Trail}
+use Rattle.abstract_steps_library_writes.specs.declared.fill_writes.FillWrite.{FillWrite}
 use Rattle.abstract_steps_library.specs.declared.memory_calls.Target.{Target}
 use Rattle.abstract_steps_sound.specs.CallSteps.{call_of}
 use Rattle.lib_models_memory.specs.Labels.{Labels, is_unlabelled}

@@ -22,7 +22,7 @@ use Rattle.store_domain.specs.ClassNumbers.{is_pointer}
 use Rattle.store_domain.specs.LeafSelection.{is_overlapped, has_stray}
 use Rattle.store_domain.specs.RowPositions.{leaf_position, class_position, state_position, value_at, state_at, join_value, write_value}
 use Rattle.abstract_steps_library.specs.FillWrites.{last_byte, is_covered_by, is_covered, holds_whole, is_from_start, covered_value, fill_leaf, fill_leaf_of, clears_instance, class_value, fill_stray}
-use Rattle.abstract_steps_library.specs.declared.fill_writes.FillWrite.{FillWrite}
+use Rattle.abstract_steps_library_writes.specs.declared.fill_writes.FillWrite.{FillWrite}
 use Rattle.lib_models_memory.specs.Labels.{Labels}
 use Rattle.lib_models_memory.specs.ScalarSizes.{class_bytes}
 use Rattle.lib_models_memory.specs.Bytes.{Content, number, Byte}

@@ -20,7 +20,7 @@ use Rattle.store_domain.specs.LiveBases.{has_base, is_one_instance}
 use Rattle.store_domain.specs.RowPositions.{leaf_position, class_position, zero_position, state_position, value_at, zero_at, state_at}
 use Rattle.store_domain.specs.Walks.{walk, turns}
 use Rattle.abstract_steps_library.specs.FillWrites.{is_covered, covered_value, fill_leaf, fill_leaf_of, fill_leaves, clears_instance, class_value, fill_stray, fill_class, fill_classes, fill_class_cells, fill_heap_part, zero_met, fill_zero, fill_zeros, fill_base, fill_base_if, write_fill}
-use Rattle.abstract_steps_library.specs.declared.fill_writes.FillWrite.{FillWrite}
+use Rattle.abstract_steps_library_writes.specs.declared.fill_writes.FillWrite.{FillWrite}
 use Rattle.lib_models_memory.specs.Instances.{Memory, bytes_at, life_at}
 use Rattle.store_domain.specs.ByteWrites.{byte_written}
 use Rattle.store_domain_meaning.specs.SoundMemory.{IsMemoryOf}

@@ -18,7 +18,7 @@ use Rattle.store_domain.specs.FirstZeroWrites.{zero_target, any_zero, put_at}
 use Rattle.store_domain.specs.RowPositions.{zero_position, zero_at}
 use Rattle.abstract_steps_library.specs.FillWrites.{is_up_to, zero_inside, zero_met_at, zero_met, fill_zero_at, fill_zero}
 use Rattle.abstract_steps_library.specs.TextWrites.{is_whole, lies_in_array}
-use Rattle.abstract_steps_library.specs.declared.fill_writes.FillWrite.{FillWrite}
+use Rattle.abstract_steps_library_writes.specs.declared.fill_writes.FillWrite.{FillWrite}
 use Rattle.lib_models_memory.specs.Bytes.{number, Byte}
 use Rattle.lib_models_memory.specs.Labels.{no_labels}
 use Rattle.lib_models_memory.specs.Instances.{Memory, bytes_at, byte_at}

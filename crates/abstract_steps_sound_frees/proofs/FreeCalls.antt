@@ -29,7 +29,7 @@ use Rattle.abstract_steps_library.specs.Allocations.{plan_free}
 use Rattle.abstract_steps_library.specs.Arguments.{argument_value, value_of_argument}
 use Rattle.abstract_steps_library.specs.Effects.{apply}
 use Rattle.abstract_steps_library.specs.Planning.{plan_call}
-use Rattle.abstract_steps_library.specs.declared.call_plans.Plan.{Plan}
+use Rattle.abstract_steps_library_plans.specs.declared.call_plans.Plan.{Plan}
 use Rattle.abstract_steps_instructions.specs.CallSteps.{call_of, call_step}
 use Rattle.abstract_steps_instructions.specs.StepViolations.{operation_violations}
 use Rattle.abstract_steps_instructions.specs.Steps.{operate}

@@ -24,7 +24,7 @@ use Rattle.abstract_steps.specs.Edges.{last_instruction, line_call_of, put_null,
 use Rattle.abstract_steps.specs.Edges as edges
 use Rattle.abstract_steps_instructions.specs.CallSteps.{planned_line, goes_on, write_line}
 use Rattle.abstract_steps_library.specs.StringCalls.{plan_fgets}
-use Rattle.abstract_steps_library.specs.declared.call_plans.Plan.{Plan}
+use Rattle.abstract_steps_library_plans.specs.declared.call_plans.Plan.{Plan}
 use Rattle.abstract_steps_instructions.specs.StepViolations.{operation_violations}
 use Rattle.abstract_steps_instructions.specs.Steps.{operate}
 use Rattle.abstract_steps_library.specs.Effects.{put_result, apply}

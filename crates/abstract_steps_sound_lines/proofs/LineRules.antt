@@ -20,8 +20,8 @@ use Rattle.store_domain.specs.FirstZeroWrites.{zero_target, offsets_of}
 use Rattle.store_domain.specs.LiveBases.{has_base, is_one_instance}
 use Rattle.store_domain.specs.NearValues.{near_number}
 use Rattle.abstract_steps_library.specs.TextWrites.{zero_after, rule_in, write_into, write_text}
-use Rattle.abstract_steps_library.specs.declared.text_writes.TextWrite.{TextWrite}
-use Rattle.abstract_steps_library.specs.declared.text_writes.ZeroRule.TheVariants.{Text}
+use Rattle.abstract_steps_library_writes.specs.declared.text_writes.TextWrite.{TextWrite}
+use Rattle.abstract_steps_library_writes.specs.declared.text_writes.ZeroRule.TheVariants.{Text}
 use Rattle.lib_models_memory.specs.Bytes.{Byte}
 use Rattle.lib_models_memory.specs.Instances.{Memory, bytes_at, byte_at}
 use Rattle.store_domain_meaning.specs.FirstZeroBytes.{end, character, seen_as, first_zero, zero_offset}

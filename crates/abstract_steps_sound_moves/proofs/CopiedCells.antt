@@ -24,8 +24,8 @@ use Rattle.store_domain.specs.LeafSelection.{is_overlapped, has_stray}
 use Rattle.store_domain.specs.RowPositions.{leaf_position, class_position, value_at, join_value}
 use Rattle.store_domain.specs.ScalarTypes.{kind_of}
 use Rattle.abstract_steps_library.specs.CopyWrites.{is_read_class, with_null, copied_value, copy_leaf, copy_leaf_of, copy_class, copy_class_of}
-use Rattle.abstract_steps_library.specs.declared.copied_bytes.CopiedBytes.{CopiedBytes}
-use Rattle.abstract_steps_library.specs.declared.copied_bytes.CopyWrite.{CopyWrite}
+use Rattle.abstract_steps_library_writes.specs.declared.copied_bytes.CopiedBytes.{CopiedBytes}
+use Rattle.abstract_steps_library_writes.specs.declared.copied_bytes.CopyWrite.{CopyWrite}
 use Rattle.lib_models_memory.specs.ScalarSizes.{class_bytes}
 use Rattle.lib_models_memory.specs.Bytes.{Content, indeterminate, number, part, Byte}
 use Rattle.lib_models_memory.specs.Instances.{Memory, byte_at}

@@ -21,7 +21,7 @@ use Rattle.store_domain.specs.LiveBases.{has_base}
 use Rattle.store_domain.specs.RowPositions.{leaf_position, class_position, zero_position, value_at, zero_at, put_zero}
 use Rattle.store_domain.specs.Walks.{walk, turns}
 use Rattle.abstract_steps_library.specs.CopyWrites.{is_read_class, copied_value, copy_leaf, copy_leaf_of, copy_leaves, copy_class_of, copy_class_cells, copy_heap_part, copy_base, copy_base_if, write_copy}
-use Rattle.abstract_steps_library.specs.declared.copied_bytes.CopyWrite.{CopyWrite}
+use Rattle.abstract_steps_library_writes.specs.declared.copied_bytes.CopyWrite.{CopyWrite}
 use Rattle.lib_models_memory.specs.Instances.{Memory, bytes_at}
 use Rattle.store_domain_meaning.specs.SoundMemory.{IsMemoryOf}
 use Rattle.store_domain_meaning.specs.ValueMeaning.{Naming, StandsZero}

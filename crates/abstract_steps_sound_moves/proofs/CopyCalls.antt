@@ -27,10 +27,10 @@ use Rattle.abstract_steps_library.specs.Calls.{Call}
 use Rattle.abstract_steps_library.specs.Effects.{apply}
 use Rattle.abstract_steps_library.specs.MemoryCalls.{lower_of, room_trail, target_of}
 use Rattle.abstract_steps_library.specs.Plans.{planned, trail_of}
-use Rattle.abstract_steps_library.specs.declared.call_plans.Effect.{Effect}
-use Rattle.abstract_steps_library.specs.declared.call_plans.Effect.TheVariants as effect
-use Rattle.abstract_steps_library.specs.declared.call_plans.Plan.{Plan}
-use Rattle.abstract_steps_library.specs.declared.call_plans.Trail.{Trail}
+use Rattle.abstract_steps_library_plans.specs.declared.call_plans.Effect.{Effect}
+use Rattle.abstract_steps_library_plans.specs.declared.call_plans.Effect.TheVariants as effect
+use Rattle.abstract_steps_library_plans.specs.declared.call_plans.Plan.{Plan}
+use Rattle.abstract_steps_library_plans.specs.declared.call_plans.Trail.{Trail}
 use Rattle.abstract_steps_library.specs.declared.memory_calls.Target.{Target}
 use Rattle.abstract_steps_instructions.specs.CallSteps.{call_of}
 use Rattle.lib_models_memory.specs.Labels.{Labels, is_unlabelled}
@@ -65,8 +65,8 @@ use Rattle.abstract_steps_sound_fills.proofs.Targets.{within_stands, cut_has, ro
 use Rattle.abstract_steps_sound_fills.proofs.WriteCalls.{behind_behind, sink_told, Good, world_with, told_stop, written_good, value_of, given_at, argument_stands, reach_good, given_within, goes_given, given_into}
 use Rattle.store_domain_sound.proofs.Windows.{WindowHas}
 use Rattle.abstract_steps_library.specs.CopyWrites.{bytes_of_source, write_copy}
-use Rattle.abstract_steps_library.specs.declared.copied_bytes.CopiedBytes.{CopiedBytes}
-use Rattle.abstract_steps_library.specs.declared.copied_bytes.CopyWrite.{CopyWrite}
+use Rattle.abstract_steps_library_writes.specs.declared.copied_bytes.CopiedBytes.{CopiedBytes}
+use Rattle.abstract_steps_library_writes.specs.declared.copied_bytes.CopyWrite.{CopyWrite}
 use Rattle.abstract_steps_library.specs.MemoryCalls.{copy_in_window, plan_copy}
 use Rattle.abstract_steps_library.specs.Outputs.{given_trail}
 use Rattle.lib_models_effects.specs.MemoryCalls.{may_all_come, come_over, with_region, bytes_copied, copy_memory}

@@ -14,7 +14,7 @@ use Rattle.value_domain.specs.ValueTables.{pointer_value}
 use Rattle.value_domain.specs.declared.values.Value.{Value}
 use Rattle.store_domain.specs.ClassNumbers.{is_pointer}
 use Rattle.abstract_steps_library.specs.CopyWrites.{no_bytes, with_cell, with_padding}
-use Rattle.abstract_steps_library.specs.declared.copied_bytes.CopiedBytes.{CopiedBytes}
+use Rattle.abstract_steps_library_writes.specs.declared.copied_bytes.CopiedBytes.{CopiedBytes}
 use Rattle.lib_models_memory.specs.Bytes.{Content, indeterminate, number, part, Tag}
 use Rattle.lib_models_memory.specs.Instances.{Memory}
 use Rattle.lib_models_memory.specs.Tags.{tag_of}

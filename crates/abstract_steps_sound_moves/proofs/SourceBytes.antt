@@ -22,7 +22,7 @@ use Rattle.store_domain.specs.LiveBases.{has_base}
 use Rattle.store_domain.specs.RowPositions.{leaf_position, class_position, value_at}
 use Rattle.store_domain.specs.Walks.{turns}
 use Rattle.abstract_steps_library.specs.CopyWrites.{is_read_class, no_bytes, with_cell, with_padding, with_leaf, with_leaves, with_class, as_numbers, with_class_cells, with_base, with_base_if, with_base_of, bytes_of_source}
-use Rattle.abstract_steps_library.specs.declared.copied_bytes.CopiedBytes.{CopiedBytes}
+use Rattle.abstract_steps_library_writes.specs.declared.copied_bytes.CopiedBytes.{CopiedBytes}
 use Rattle.lib_models_memory.specs.ScalarSizes.{class_bytes}
 use Rattle.lib_models_memory.specs.Labels.{Labels}
 use Rattle.lib_models_memory.specs.Bytes.{Content, indeterminate, number, part, Tag, Byte}

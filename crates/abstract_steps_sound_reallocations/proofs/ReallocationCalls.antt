@@ -27,9 +27,9 @@ use Rattle.abstract_steps_checks.specs.ViolationSets.{no_violations, violates}
 use Rattle.abstract_steps_library.specs.Allocations.{sized_trail, instance_size, plan_realloc}
 use Rattle.abstract_steps_library.specs.Effects.{older_of, put_result, apply}
 use Rattle.abstract_steps_library.specs.Plans.{trail_of, planned, checked}
-use Rattle.abstract_steps_library.specs.declared.call_plans.Effect.{Effect}
-use Rattle.abstract_steps_library.specs.declared.call_plans.Effect.TheVariants as effect
-use Rattle.abstract_steps_library.specs.declared.call_plans.Plan.{Plan}
+use Rattle.abstract_steps_library_plans.specs.declared.call_plans.Effect.{Effect}
+use Rattle.abstract_steps_library_plans.specs.declared.call_plans.Effect.TheVariants as effect
+use Rattle.abstract_steps_library_plans.specs.declared.call_plans.Plan.{Plan}
 use Rattle.abstract_steps_instructions.specs.CallSteps.{call_of, call_step}
 use Rattle.lib_models_memory.specs.Labels.{Labels, is_unlabelled}
 use Rattle.lib_models_memory.specs.Bytes.{null, into, MachinePointer, Byte}
@@ -85,7 +85,7 @@ use Rattle.store_domain.specs.RowPositions.{state_position, state_at, put_state}
 use Rattle.store_domain.specs.Walks.{walk}
 use Rattle.pointer_domain.specs.declared.base_sets.Bases.{Bases}
 use Rattle.value_domain.specs.declared.row_cells.Cell.TheVariants.{State}
-use Rattle.abstract_steps_library.specs.declared.call_plans.Trail.{Trail}
+use Rattle.abstract_steps_library_plans.specs.declared.call_plans.Trail.{Trail}
 use Rattle.abstract_steps_sound.specs.OperandTypes.{HasSizes, HasOperands}
 use Rattle.abstract_steps_sound_allocations.proofs.AllocationCalls.{given_good, most_is, labels_told, by_sign}
 use Rattle.abstract_steps_sound_allocations.proofs.AllocationSteps.{sized_at}

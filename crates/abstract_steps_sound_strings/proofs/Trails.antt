@@ -6,7 +6,7 @@ use Rattle.cc_base.specs.declared.diagnostics.Rule.TheVariants.{Accfree, Boolasg
 use Rattle.abstract_steps_checks.specs.ViolationSets.{violations_union, violates}
 use Rattle.abstract_steps_checks.specs.declared.violation_sets.Violations.{Violations}
 use Rattle.abstract_steps_library.specs.Plans.{checked}
-use Rattle.abstract_steps_library.specs.declared.call_plans.Trail.{Trail}
+use Rattle.abstract_steps_library_plans.specs.declared.call_plans.Trail.{Trail}
 use Rattle.abstract_steps_laws_values.proofs.ViolationOrder.{same_below, union_left}
 
 told_right : (u v : Violations) (r : Rule) → violates v r ≡ true → violates (violations_union u v) r ≡ true

@@ -19,7 +19,7 @@ use Rattle.store_domain.specs.NearValues.{near_value}
 use Rattle.store_domain.specs.RowPositions.{leaf_position, class_position, value_at, join_value}
 use Rattle.store_domain.specs.ScalarTypes.{kind_of}
 use Rattle.abstract_steps_library.specs.TextWrites.{character_value, value_of_class, leaf_value, write_leaf, write_leaf_of, write_stray, write_class}
-use Rattle.abstract_steps_library.specs.declared.text_writes.TextWrite.{TextWrite}
+use Rattle.abstract_steps_library_writes.specs.declared.text_writes.TextWrite.{TextWrite}
 use Rattle.lib_models_memory.specs.ScalarSizes.{class_bytes}
 use Rattle.lib_models_memory.specs.Bytes.{Content, indeterminate, number, part, Byte}
 use Rattle.lib_models_memory.specs.Instances.{Memory, bytes_at, byte_at}

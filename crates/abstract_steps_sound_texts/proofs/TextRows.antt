@@ -21,7 +21,7 @@ use Rattle.store_domain.specs.LiveBases.{has_base, is_one_instance}
 use Rattle.store_domain.specs.RowPositions.{leaf_position, class_position, zero_position, value_at, zero_at}
 use Rattle.store_domain.specs.Walks.{walk, turns}
 use Rattle.abstract_steps_library.specs.TextWrites.{character_value, leaf_value, write_leaf, write_leaf_of, write_leaves, write_stray, write_class, write_class_cells, write_heap_part, zero_met, write_zero, write_zeros, write_base, write_base_if, write_into, write_text}
-use Rattle.abstract_steps_library.specs.declared.text_writes.TextWrite.{TextWrite}
+use Rattle.abstract_steps_library_writes.specs.declared.text_writes.TextWrite.{TextWrite}
 use Rattle.lib_models_memory.specs.Instances.{Memory, bytes_at}
 use Rattle.store_domain_meaning.specs.SoundMemory.{IsMemoryOf}
 use Rattle.store_domain_meaning.specs.ValueMeaning.{Naming, StandsZero}

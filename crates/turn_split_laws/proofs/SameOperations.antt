@@ -32,8 +32,8 @@ use Rattle.abstract_steps_checks.specs.Temporaries.{temp_value}
 use Rattle.abstract_steps_values.specs.ResultTemps.{put_number, put_truth, put_pointer}
 use Rattle.abstract_steps_values.specs.IntegerSteps.{constant_step, binary_step, binary_checks, unary_step, unary_checks, compare_step, not_step, put_converted, convert_value, convert_step}
 use Rattle.abstract_steps_values.specs.PointerSteps.{address_step, narrow_touched, narrow_step, narrow_violations, put_moved, shift_by, shift_step, shift_checks, difference_step, comparison_violations, relation_step}
-use Rattle.abstract_steps_library.specs.declared.call_plans.Effect.{Effect}
-use Rattle.abstract_steps_library.specs.declared.call_plans.Plan.{Plan}
+use Rattle.abstract_steps_library_plans.specs.declared.call_plans.Effect.{Effect}
+use Rattle.abstract_steps_library_plans.specs.declared.call_plans.Plan.{Plan}
 use Rattle.abstract_steps_library.specs.Arguments.{argument_value}
 use Rattle.abstract_steps_library.specs.Effects.{apply}
 use Rattle.abstract_steps_library.specs.TextWrites.{write_text}

@@ -1,7 +1,7 @@
 use Rattle.std.proofs.Common.{◌∙◌, ap}
-use Rattle.abstract_steps_library.specs.Calls.{call_view}
-use Rattle.abstract_steps_library.specs.Arguments.{argument_value}
-use Rattle.abstract_steps_library.specs.Outputs.{argument_at}
+use Rattle.abstract_steps_library_plans.specs.Calls.{call_view}
+use Rattle.abstract_steps_library_plans.specs.Arguments.{argument_value}
+use Rattle.abstract_steps_library_plans.specs.Outputs.{argument_at}
 use Rattle.abstract_steps_library.specs.MemoryCalls.{copy_both, plan_copy}
 use Rattle.abstract_steps_library.proofs.memory_calls.plan_copy.Goals as goal
 

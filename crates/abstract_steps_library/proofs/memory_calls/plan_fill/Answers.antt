@@ -1,6 +1,6 @@
 use Rattle.std.proofs.Common.{◌∙◌, ap}
-use Rattle.abstract_steps_library.specs.Calls.{call_view}
-use Rattle.abstract_steps_library.specs.Arguments.{argument_value}
+use Rattle.abstract_steps_library_plans.specs.Calls.{call_view}
+use Rattle.abstract_steps_library_plans.specs.Arguments.{argument_value}
 use Rattle.abstract_steps_library.specs.MemoryCalls.{fill_given, plan_fill}
 use Rattle.abstract_steps_library.proofs.memory_calls.plan_fill.Goals as goal
 

@@ -1,6 +1,6 @@
 use Rattle.std.proofs.Common.{◌∙◌, ap}
-use Rattle.abstract_steps_library.specs.Calls.{call_view}
-use Rattle.abstract_steps_library.specs.Arguments.{argument_value}
+use Rattle.abstract_steps_library_plans.specs.Calls.{call_view}
+use Rattle.abstract_steps_library_plans.specs.Arguments.{argument_value}
 use Rattle.abstract_steps_library.specs.StringCalls.{fgets_given, plan_fgets}
 use Rattle.abstract_steps_library.proofs.string_calls.plan_fgets.Goals as goal
 

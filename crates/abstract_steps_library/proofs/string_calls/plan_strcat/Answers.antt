@@ -1,6 +1,6 @@
 use Rattle.std.proofs.Common.{◌∙◌, ap}
-use Rattle.abstract_steps_library.specs.Calls.{call_view}
-use Rattle.abstract_steps_library.specs.Outputs.{argument_at, scan_at}
+use Rattle.abstract_steps_library_plans.specs.Calls.{call_view}
+use Rattle.abstract_steps_library_plans.specs.Outputs.{argument_at, scan_at}
 use Rattle.abstract_steps_library.specs.StringCalls.{strcat_scanned, strcat_given, plan_strcat}
 use Rattle.abstract_steps_library.proofs.string_calls.plan_strcat.Goals as goal
 

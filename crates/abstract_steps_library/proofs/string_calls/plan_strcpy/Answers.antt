@@ -1,6 +1,6 @@
 use Rattle.std.proofs.Common.{◌∙◌, ap}
-use Rattle.abstract_steps_library.specs.Calls.{call_view}
-use Rattle.abstract_steps_library.specs.Outputs.{argument_at}
+use Rattle.abstract_steps_library_plans.specs.Calls.{call_view}
+use Rattle.abstract_steps_library_plans.specs.Outputs.{argument_at}
 use Rattle.abstract_steps_library.specs.StringCalls.{strcpy_scanned, strcpy_given, plan_strcpy}
 use Rattle.abstract_steps_library.proofs.string_calls.plan_strcpy.Goals as goal
 

@@ -1,0 +1,4 @@
+pub mod Sources
+pub mod TextWrites
+pub mod FillWrites
+pub mod CopyWrites
