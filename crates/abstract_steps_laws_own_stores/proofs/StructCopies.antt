@@ -25,7 +25,7 @@ use Rattle.store_domain.specs.NearValues.{near_value}
 use Rattle.store_domain.specs.RowPositions.{capped, leaf_position, class_position}
 use Rattle.store_domain.specs.ScalarTypes.{kind_of}
 use Rattle.store_domain.specs.Walks.{turns}
-use Rattle.store_domain_structs.specs.declared.leaf_copies.LeafAccess.{LeafAccess}
+use Rattle.store_domain_structs_leaves.specs.declared.leaf_copies.LeafAccess.{LeafAccess}
 use Rattle.store_domain_structs.specs.CopyPlaces.{is_reached, is_touched}
 use Rattle.store_domain_structs.specs.CopyZeros.{Exact, copied_window, copy_part_at, copy_part, copy_zeros}
 use Rattle.store_domain_structs.specs.LeafCopies.{reaches_class, is_strong, any_place, write_leaf_at, write_own_leaf, write_class_cell, write_leaves, write_own, write_other_at, write_other_leaf, write_class_byte, write_class_bytes, write_bytes, write_other_leaves, write_others, write_base, write_base_if, write_to, write_all, write_leaf}

@@ -15,7 +15,7 @@ use Rattle.store_domain.specs.ClassNumbers.{class_number, class_at, same_class}
 use Rattle.store_domain.specs.LiveBases.{has_base}
 use Rattle.store_domain.specs.RowPositions.{leaf_position, class_position, value_at}
 use Rattle.store_domain.specs.ScalarTypes.{kind_of}
-use Rattle.store_domain_structs.specs.declared.leaf_copies.LeafAccess.{LeafAccess}
+use Rattle.store_domain_structs_leaves.specs.declared.leaf_copies.LeafAccess.{LeafAccess}
 use Rattle.store_domain_structs.specs.CopyPlaces.{is_reached, is_touched}
 use Rattle.store_domain_structs.specs.LeafCopies.{span_meets_padding, reaches_class, own_leaf, read_own_leaf, read_class_cell, read_own, other_leaf, read_other_leaf, read_class_byte, read_class_bytes, read_padding, read_bytes, read_others, read_base, read_base_if, read_from, read_leaf}
 use Rattle.abstract_steps_laws_own_stores.specs.Floors.{IsReadFrom, AreFrom}

@@ -25,8 +25,8 @@ use Rattle.store_domain_laws.proofs.LiveSets.{has_monotone}
 use Rattle.store_domain_laws.proofs.Loads.{class_small}
 use Rattle.store_domain_laws.proofs.PairedSteps.{walk_pair, turns_pair, cond_pair, cond_pair_if, same_pair, numbers_below}
 use Rattle.store_domain_laws.proofs.Together.{both_each}
-use Rattle.store_domain_structs.specs.declared.copy_places.Span.{Span}
-use Rattle.store_domain_structs.specs.declared.leaf_copies.LeafAccess.{LeafAccess}
+use Rattle.store_domain_structs_leaves.specs.declared.copy_places.Span.{Span}
+use Rattle.store_domain_structs_leaves.specs.declared.leaf_copies.LeafAccess.{LeafAccess}
 use Rattle.store_domain_structs.specs.CopyPlaces.{is_reached, is_touched, span_has_stray}
 use Rattle.store_domain_structs.specs.LeafCopies.{span_meets_padding, reaches_class, own_leaf, read_own_leaf, read_class_cell, read_own, other_leaf, read_other_leaf, read_class_byte, read_class_bytes, read_padding, read_bytes, read_others, read_base, read_base_if, read_from, read_leaf}
 use Rattle.store_domain_laws_structs.specs.LargerSpans.{SpanWithin, IsMetToo, ReachesMore}

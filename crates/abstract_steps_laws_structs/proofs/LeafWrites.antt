@@ -32,8 +32,8 @@ use Rattle.store_domain_laws.proofs.Loads.{class_small}
 use Rattle.store_domain_laws.proofs.NearCells.{near_value_is}
 use Rattle.store_domain_laws.proofs.PairedSteps.{Step, walk_pair, walk_step, turns_step, then_step, if_step, same_step}
 use Rattle.store_domain_laws.proofs.Windows.{window_is}
-use Rattle.store_domain_structs.specs.declared.copy_places.Span.{Span}
-use Rattle.store_domain_structs.specs.declared.leaf_copies.LeafAccess.{LeafAccess}
+use Rattle.store_domain_structs_leaves.specs.declared.copy_places.Span.{Span}
+use Rattle.store_domain_structs_leaves.specs.declared.leaf_copies.LeafAccess.{LeafAccess}
 use Rattle.store_domain_structs.specs.CopyPlaces.{span_is_one, is_reached, is_touched, reached_count}
 use Rattle.store_domain_structs.specs.LeafCopies.{reaches_class, is_touched_or, any_touched, has_own_place, has_other_place, has_place, has_place_or, any_place, is_strong, with_flag, write_leaf_at, write_own_leaf, write_class_cell, write_leaves, write_own, write_other_at, write_other_leaf, write_class_byte, write_class_bytes, write_bytes, write_other_leaves, write_others, write_base, write_base_if, write_to, write_all, write_leaf}
 use Rattle.store_domain_laws_structs.specs.LargerSpans.{SpanWithin, IsMetToo, ReachesMore}

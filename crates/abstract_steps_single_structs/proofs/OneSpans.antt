@@ -18,7 +18,7 @@ use Rattle.store_domain_sound.proofs.Classes.{class_above, is_same_class}
 use Rattle.store_domain_sound.proofs.Selected.{single_in}
 use Rattle.store_domain_structs.specs.CopyPlaces.{any_below, span_of_leaf, is_apart, all_in_one, span_joined, span_raised, leaf_raised, span_window, joined_meet, meets, is_reached, is_touched}
 use Rattle.store_domain_structs.specs.LeafCopies.{window_padded, any_padded, span_meets_padding}
-use Rattle.store_domain_structs.specs.declared.copy_places.Span.{Span}
+use Rattle.store_domain_structs_leaves.specs.declared.copy_places.Span.{Span}
 use Rattle.abstract_steps_sound_copied_leaves.specs.StructLeaves.{IsStruct}
 use Rattle.abstract_steps_single_places.proofs.OneLeaf.{same_size, owned, own_selected, other_unselected, no_padding}
 

@@ -20,7 +20,7 @@ use Rattle.store_domain_sound.proofs.Near.{value_at_near}
 use Rattle.store_domain_sound.proofs.Walks.{walk_keeps, turns_keep}
 use Rattle.store_domain_structs.specs.CopyPlaces.{is_reached, is_touched}
 use Rattle.store_domain_structs.specs.LeafCopies.{span_meets_padding, reaches_class, own_leaf, read_own_leaf, read_class_cell, read_own, other_leaf, read_other_leaf, read_class_byte, read_class_bytes, read_padding, read_bytes, read_others, read_base, read_base_if, read_from, read_leaf}
-use Rattle.store_domain_structs.specs.declared.leaf_copies.LeafAccess.{LeafAccess}
+use Rattle.store_domain_structs_leaves.specs.declared.leaf_copies.LeafAccess.{LeafAccess}
 use Rattle.abstract_steps_sound_copied_leaves.proofs.ReadValues.{NearFound, joined_near, if_near, read_near, range_near, byte_near}
 
 module _ {I : Type 0} {l : LatticeOf I} {n : IntegersOf I} {stands : I → ℤ → Type 0} (o : OrderLaws l) (q : BoundLaws l n stands) (r : RangeLaws l n) (m : Model) (row : List (Cell I)) (access : LeafAccess) where

@@ -15,7 +15,7 @@ use Rattle.store_domain.specs.ScalarTypes.{class_bytes}
 use Rattle.store_domain_sound.specs.Places.{IsPlaceOf, OwnedByLeaf}
 use Rattle.store_domain_sound.proofs.Selected.{place_selected}
 use Rattle.store_domain_structs.specs.CopyPlaces.{any_below, shifted, span_width, is_apart, all_in_one, span_joined, span_window, span_raised, leaf_raised, one_place_meets, alike_meets, window_meets, each_meets, several_meet, joined_meet, meets, is_reached, is_touched}
-use Rattle.store_domain_structs.specs.declared.copy_places.Span.{Span}
+use Rattle.store_domain_structs_leaves.specs.declared.copy_places.Span.{Span}
 use Rattle.store_domain_sound_spans.specs.SpanBytes.{IsInSpan, IsShortSpan, SpansSee}
 
 any_at : (p : ℕ → Bool) (k count : ℕ) → k < count → p k ≡ true → any_below p count ≡ true

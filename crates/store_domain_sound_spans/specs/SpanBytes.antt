@@ -7,7 +7,7 @@ use Rattle.c_layout.specs.declared.leaf_lists.Leaf.{Leaf}
 use Rattle.store_domain.specs.ClassNumbers.{same_class}
 use Rattle.store_domain_sound.specs.Places.{IsPlaceOf, OwnedByLeaf}
 use Rattle.store_domain_structs.specs.CopyPlaces.{is_reached, is_touched}
-use Rattle.store_domain_structs.specs.declared.copy_places.Span.{Span}
+use Rattle.store_domain_structs_leaves.specs.declared.copy_places.Span.{Span}
 
 -- an offset of one of the windows
 pub record IsInSpan (s : Span) (x : ℕ) : Type 0 where

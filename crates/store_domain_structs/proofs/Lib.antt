@@ -1,3 +1,3 @@
+pub use Rattle.store_domain_structs_leaves.proofs.Somewhere
 pub mod Batches
 pub mod MemberDepths
-pub mod Somewhere

@@ -21,9 +21,9 @@ use Rattle.store_domain.specs.CellReads.{as_stored}
 use Rattle.store_domain.specs.ByteWrites.{byte_written}
 use Rattle.store_domain.specs.LiveBases.{has_base}
 use Rattle.store_domain.specs.RowLengths.{walk_keeps, turns_keep, cond_keeps, some_keeps, join_value_keeps, write_value_keeps}
-use Rattle.store_domain_structs.specs.declared.leaf_copies.LeafAccess.{LeafAccess}
-use Rattle.store_domain_structs.specs.CopyPlaces.{is_reached, is_touched}
-use Rattle.store_domain_structs.specs.LeafCopies.{any_place, reaches_class, with_flag, is_strong, write_leaf_at, write_own_leaf, write_class_cell, write_leaves, write_own, write_other_at, write_other_leaf, write_other_leaves, write_class_byte, write_class_bytes, write_bytes, write_others, write_base, write_base_if, write_to, write_all, write_leaf}
+use Rattle.store_domain_structs_leaves.specs.declared.leaf_copies.LeafAccess.{LeafAccess}
+use Rattle.store_domain_structs_leaves.specs.CopyPlaces.{is_reached, is_touched}
+use Rattle.store_domain_structs_leaves.specs.LeafCopies.{any_place, reaches_class, with_flag, is_strong, write_leaf_at, write_own_leaf, write_class_cell, write_leaves, write_own, write_other_at, write_other_leaf, write_other_leaves, write_class_byte, write_class_bytes, write_bytes, write_others, write_base, write_base_if, write_to, write_all, write_leaf}
 use Rattle.store_domain_cells.specs.declared.access_windows.Window.{Window}
 use Rattle.store_domain.specs.FirstZeroWrites.{any_zero, zero_target, last_of}
 use Rattle.store_domain_structs.specs.CopyZeros.{Exact, copied_window, zero_copied, copy_part_at, copy_part, copy_zeros}

@@ -1,5 +1,5 @@
-pub mod CopyPlaces
-pub mod LeafCopies
+pub use Rattle.store_domain_structs_leaves.specs.CopyPlaces
+pub use Rattle.store_domain_structs_leaves.specs.LeafCopies
 pub mod CopyZeros
 pub mod LeafCounts
 pub mod LeafNumbers

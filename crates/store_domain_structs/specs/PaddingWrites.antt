@@ -22,7 +22,7 @@ use Rattle.store_domain.specs.CellReads.{whole_range}
 use Rattle.store_domain.specs.ByteWrites.{null_pointer}
 use Rattle.store_domain.specs.FirstZeroWrites.{last_of, any_zero}
 use Rattle.store_domain_structs.specs.declared.padding_writes.Padded as code
-use Rattle.store_domain_structs.specs.CopyPlaces.{any_below}
+use Rattle.store_domain_structs_leaves.specs.CopyPlaces.{any_below}
 use Rattle.store_domain_structs.specs.LeafNumbers.{struct_leaf}
 
 -- a struct whose bytes are copied: the unit's structs, its number, its size, how many leaves it has, and where the copy can begin

@@ -16,11 +16,11 @@ use Rattle.store_domain.specs.Walks.{walk, turns}
 use Rattle.store_domain.specs.RowPositions.{capped}
 use Rattle.store_domain.specs.AccessWindows.{window_of, window_is_one}
 use Rattle.store_domain.specs.LiveBases.{has_base, is_one_instance}
-use Rattle.store_domain_structs.specs.declared.leaf_copies.LeafAccess.{LeafAccess}
+use Rattle.store_domain_structs_leaves.specs.declared.leaf_copies.LeafAccess.{LeafAccess}
 use Rattle.store_domain_structs.specs.declared.struct_copy.Route as code
-use Rattle.store_domain_structs.specs.CopyPlaces.{span_of_leaf}
+use Rattle.store_domain_structs_leaves.specs.CopyPlaces.{span_of_leaf}
 use Rattle.store_domain_structs.specs.CopyZeros.{Exact, copied_window, copy_zeros}
-use Rattle.store_domain_structs.specs.LeafCopies.{read_leaf, write_leaf}
+use Rattle.store_domain_structs_leaves.specs.LeafCopies.{read_leaf, write_leaf}
 use Rattle.store_domain_structs.specs.LeafNumbers.{struct_leaf}
 use Rattle.store_domain_structs.specs.PaddingWrites.{Padded, has_padding, write_padding}
 

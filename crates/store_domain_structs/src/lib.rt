@@ -1,9 +1,7 @@
 //! Copies of structs in the abstract store, leaf by leaf.
 #![tactic(auto)]
 
-mod copy_places;
 mod copy_zeros;
-mod leaf_copies;
 mod leaf_counts;
 mod leaf_numbers;
 mod padding_writes;

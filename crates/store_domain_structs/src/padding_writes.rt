@@ -184,7 +184,7 @@ fn place_padded(model: &Model, padded: Padded, leaf: Leaf, place: u64) -> bool
 }
 
 /// Whether a byte of padding may stand at a byte of the leaf.
-#[tactic(auto, using(crate::proofs::Somewhere::nowhere_next), unfolding(crate::specs::PaddingWrites::meets_leaf))]
+#[tactic(auto, using(store_domain_structs_leaves::proofs::Somewhere::nowhere_next), unfolding(crate::specs::PaddingWrites::meets_leaf))]
 fn meets_leaf(model: &Model, padded: Padded, leaf: Leaf) -> bool
     ensures { result ≡ meets_leaf model.now (padded_view padded.entry) leaf }
 {

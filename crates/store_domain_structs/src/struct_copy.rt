@@ -6,9 +6,7 @@ ghost use Rattle.store_domain_structs.specs.CopyZeros.{exact_view};
 ghost use Rattle.store_domain_structs.specs.PaddingWrites.{padded_view};
 ghost use Rattle.store_domain_structs.specs.StructCopies.{route_view, leaf_access, route_for, is_declared_in, first_declared, one_declared, is_exact, exact_copy, most_at_once, batch_first, batch_count, reached_row, read_source, write_target, copy_step, copy_leaves, copy_batch, copy_all, pad_if, finish_base, finish_if, finish_all, finish, padded_of, finish_reached, copy_route, copy_between, copy_struct};
 
-use crate::copy_places::Span;
 use crate::copy_zeros::{ExactCopy, copied_window, copy_zeros};
-use crate::leaf_copies::{LeafAccess, Side, read_leaf, write_leaf};
 use crate::leaf_counts::Table;
 use crate::leaf_numbers::struct_leaf;
 use crate::padding_writes::{Padded, has_padding, write_padding};
@@ -16,6 +14,7 @@ use c_layout::{BaseInfo, Leaf, Model, StructType, Structs};
 use cc_base::IntDomain;
 use pointer_domain::{Bases, Pointers};
 use store_domain::{Window, has_base, is_one_instance, window_of};
+use store_domain_structs_leaves::{LeafAccess, Side, Span, read_leaf, write_leaf};
 use value_domain::{Cell, Value};
 
 /// The most leaves that are all read before one is written.

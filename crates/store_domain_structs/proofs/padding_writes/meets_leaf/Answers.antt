@@ -1,6 +1,6 @@
 use Rattle.std.proofs.Common.{◌≡◌, true, sym}
 use Rattle.store_domain_structs.specs.PaddingWrites.{padded_view, place_padded, meets_leaf}
-use Rattle.store_domain_structs.proofs.Somewhere.{somewhere}
+use Rattle.store_domain_structs_leaves.proofs.Somewhere.{somewhere}
 use Rattle.store_domain_structs.proofs.padding_writes.meets_leaf.Goals as goal
 
 pub returns-then-place_padded : goal.returns-then-place_padded

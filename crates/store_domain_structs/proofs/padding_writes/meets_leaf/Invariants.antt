@@ -1,5 +1,5 @@
 use Rattle.std.proofs.Common.{◌≡◌, false}
-use Rattle.store_domain_structs.specs.CopyPlaces.{any_below}
+use Rattle.store_domain_structs_leaves.specs.CopyPlaces.{any_below}
 use Rattle.store_domain_structs.specs.PaddingWrites.{padded_view, place_padded}
 use Rattle.store_domain_structs.proofs.padding_writes.meets_leaf.Given as goal
 

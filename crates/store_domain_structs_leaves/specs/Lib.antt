@@ -1,0 +1,2 @@
+pub mod CopyPlaces
+pub mod LeafCopies
