@@ -7,7 +7,7 @@ use Rattle.c_layout.specs.DeclarationTrees.{NameView, DeclaratorView, SpecTree, 
 use Rattle.c_parser_tokens.specs.declared.terminals.Terminal.{Terminal}
 use Rattle.c_parser_tokens.specs.declared.terminals.Keyword.TheVariants as k
 use Rattle.c_parser_tokens.specs.declared.terminals.Punctuator.TheVariants as p
-use Rattle.c_parser_expressions.specs.declared.specifier_words.SpecifierCounts.{SpecifierCounts}
+use Rattle.c_parser_expressions_grammar.specs.declared.specifier_words.SpecifierCounts.{SpecifierCounts}
 use Rattle.c_parser_expressions.specs.Fronts.{first_place, IsSign, IsWord}
 use Rattle.c_parser_expressions.specs.TypeNames.{is_one_type, no_words}
 use Rattle.c_parser_declarations.specs.Declarators.{declarator_height}

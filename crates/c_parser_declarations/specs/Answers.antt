@@ -3,7 +3,7 @@ use Rattle.std.specs.Prelude.{List, map, reverse}
 use Rattle.std.specs.Option.{option_map}
 use Rattle.c_layout.specs.DeclarationTrees.{name_view, suffix_view, declarator_layer_view}
 use Rattle.c_parser_tokens.specs.declared.terminals.Terminal.{Terminal}
-use Rattle.c_parser_expressions.specs.declared.heights.Parsed.{Parsed}
+use Rattle.c_parser_expressions_grammar.specs.declared.heights.Parsed.{Parsed}
 use Rattle.c_parser_declarations.specs.declared.declarator_layers.DeclaratorParts.{DeclaratorParts}
 use Rattle.c_parser_declarations.specs.declared.declarator_layers.Suffixes.{Suffixes}
 use Rattle.c_parser_declarations.specs.DeclaratorReaders.{GotParts, GotSuffixes, parts_of}

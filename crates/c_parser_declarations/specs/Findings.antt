@@ -5,7 +5,7 @@ use Rattle.c_layout.specs.DeclarationTrees.{NameView, SuffixView, DeclaratorLaye
 use Rattle.c_parser_tokens.specs.declared.terminals.Terminal.{Terminal}
 use Rattle.c_parser_tokens.specs.declared.terminals.Punctuator.TheVariants as p
 use Rattle.c_parser_tokens.specs.declared.terminals.Keyword.{Keyword}
-use Rattle.c_parser_expressions.specs.declared.specifier_words.SpecifierCounts.{SpecifierCounts}
+use Rattle.c_parser_expressions_grammar.specs.declared.specifier_words.SpecifierCounts.{SpecifierCounts}
 use Rattle.c_parser_expressions.specs.Fronts.{first_place, IsSign, IsWord}
 use Rattle.c_parser_expressions.specs.Spans as spans
 use Rattle.c_parser_expressions.specs.Spans.{Chain, Span}

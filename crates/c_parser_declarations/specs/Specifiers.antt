@@ -6,7 +6,7 @@ use Rattle.c_parser_tokens.specs.declared.terminals.Terminal.{Terminal}
 use Rattle.c_parser_tokens.specs.declared.terminals.Keyword.{Keyword}
 use Rattle.c_parser_tokens.specs.declared.terminals.Keyword.TheVariants as k
 use Rattle.c_parser_tokens.specs.declared.terminals.Punctuator.TheVariants as p
-use Rattle.c_parser_expressions.specs.declared.specifier_words.SpecifierCounts.{SpecifierCounts}
+use Rattle.c_parser_expressions_grammar.specs.declared.specifier_words.SpecifierCounts.{SpecifierCounts}
 use Rattle.c_parser_expressions.specs.Expressions.{Derives, height_of}
 use Rattle.c_parser_expressions.specs.Fronts.{first_place, IsSign, IsWord, IsName, IsTypedefName}
 use Rattle.c_parser_expressions.specs.TypeNames.{type_word_of, is_qualifier, is_one_type, no_words, with_type, with_storage, with_other}

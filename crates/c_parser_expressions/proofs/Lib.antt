@@ -1,3 +1,4 @@
+pub use Rattle.c_parser_expressions_grammar.proofs.NameTexts
 pub mod Arguments
 pub mod Climbing
 pub mod Layers
@@ -5,7 +6,6 @@ pub mod Listing
 pub mod Productions
 mod Rows
 pub mod Suffixes
-pub mod NameTexts
 pub mod Signs
 pub mod Turns
 pub mod Prefixes

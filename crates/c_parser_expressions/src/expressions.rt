@@ -1,17 +1,17 @@
 //! Expressions from the comma operator down to the binary operators (6.5.5 to 6.5.17).
 ghost use Rattle.std.specs.Prelude.{◌≡◌, ◌<◌, ◌≤◌, IfOk};
 ghost use Rattle.c_layout.specs.SyntaxTrees.{tree_of};
-ghost use Rattle.c_parser_expressions.specs.Findings.{Found, FoundLevel, is_unary};
-ghost use Rattle.c_parser_expressions.specs.Readings.{got};
-ghost use Rattle.c_parser_expressions.specs.ReadingResults.{Reads};
-ghost use Rattle.c_parser_expressions.specs.TypeNameReaders.{all_readers};
+ghost use Rattle.c_parser_expressions_grammar.specs.Findings.{Found, FoundLevel, is_unary};
+ghost use Rattle.c_parser_expressions_grammar.specs.Readings.{got};
+ghost use Rattle.c_parser_expressions_grammar.specs.ReadingResults.{Reads};
+ghost use Rattle.c_parser_expressions_grammar.specs.TypeNameReaders.{all_readers};
 
-use crate::expression_nodes::{assign_node, comma_node, conditional_node, infix_node};
-use crate::heights::{Parsed, Trouble, inner};
-use crate::operators::{LOGICAL_OR, assign_at, assign_sign, infix_from, infix_level, infix_sign};
-use crate::terminal_reader::{Reader, Scope};
 use crate::unary_expressions::cast;
 use c_layout::Expr;
+use c_parser_expressions_grammar::{
+    LOGICAL_OR, Parsed, Reader, Scope, Trouble, assign_at, assign_node, assign_sign, comma_node,
+    conditional_node, infix_from, infix_level, infix_node, infix_sign, inner,
+};
 use c_parser_tokens::Punctuator;
 
 /// An expression of a level from logical-OR-expression to cast-expression. Operators group from the

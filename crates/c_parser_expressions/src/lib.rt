@@ -3,24 +3,15 @@
 #![tactic(auto)]
 
 mod abstract_layers;
-mod expression_nodes;
 mod expressions;
-mod heights;
-mod operators;
 mod pointer_stars;
 mod postfix_expressions;
-mod postfix_operators;
-mod specifier_words;
-mod terminal_reader;
-mod type_name_parts;
-mod type_name_words;
 mod type_names;
-mod typedef_names;
 mod unary_expressions;
 
+pub use c_parser_expressions_grammar::{
+    GREATEST_HEIGHT, Parsed, Reader, Scope, SpecifierCounts, Trouble, TypedefNames, inner,
+    is_qualifier, made, type_word,
+};
 pub use expressions::{assignment, conditional, expression};
-pub use heights::{GREATEST_HEIGHT, Parsed, Trouble, inner, made};
 pub use pointer_stars::{is_one_star, stars};
-pub use specifier_words::{SpecifierCounts, is_qualifier, type_word};
-pub use terminal_reader::{Reader, Scope};
-pub use typedef_names::TypedefNames;

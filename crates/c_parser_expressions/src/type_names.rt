@@ -1,23 +1,22 @@
 //! Type names and abstract declarators (6.7.7).
 ghost use Rattle.std.specs.Prelude.{◌≡◌, true, length, map, List, Option, IfOk, MatchResult};
 ghost use Rattle.c_layout.specs.SyntaxTrees.{trees, tree_of, layer_view, type_name_view};
-ghost use Rattle.c_parser_expressions.specs.Findings.{FoundPair, FoundArrays, FoundLayers, FoundNested, FoundTypeName};
-ghost use Rattle.c_parser_expressions.specs.Spans.{Chain};
-ghost use Rattle.c_parser_expressions.specs.TypeNames.{IsTypeNameWord, type_word_of, words_height, is_one_type, counts_of};
-ghost use Rattle.c_parser_expressions.specs.Fronts.{first_symbol};
-ghost use Rattle.c_parser_expressions.specs.ReadingResults.{Reads, Refuses, bracketed, with_pair, arrays_got, layers_got};
-ghost use Rattle.c_parser_expressions.specs.TypeNameReaders.{GotArrays, other_word, keyword_word, word_by, words, after_words, of_one_type, pair, after_arrays, pairs, nested, begins_abstract, all_readers, readers_inside};
+ghost use Rattle.c_parser_expressions_grammar.specs.Findings.{FoundPair, FoundArrays, FoundLayers, FoundNested, FoundTypeName};
+ghost use Rattle.c_parser_expressions_grammar.specs.Spans.{Chain};
+ghost use Rattle.c_parser_expressions_grammar.specs.TypeNames.{IsTypeNameWord, type_word_of, words_height, is_one_type, counts_of};
+ghost use Rattle.c_parser_expressions_grammar.specs.Fronts.{first_symbol};
+ghost use Rattle.c_parser_expressions_grammar.specs.ReadingResults.{Reads, Refuses, bracketed, with_pair, arrays_got, layers_got};
+ghost use Rattle.c_parser_expressions_grammar.specs.TypeNameReaders.{GotArrays, other_word, keyword_word, word_by, words, after_words, of_one_type, pair, after_arrays, pairs, nested, begins_abstract, all_readers, readers_inside};
 ghost use Rattle.c_parser_tokens.specs.declared.terminals.Terminal.{Terminal};
 
 use crate::abstract_layers::{add_brackets, declared_name, layered, plain_name};
 use crate::expressions::conditional;
-use crate::heights::{Parsed, Trouble, inner};
 use crate::pointer_stars::stars;
-use crate::specifier_words::{SpecifierCounts, is_qualifier, is_storage, type_word};
-use crate::terminal_reader::{Reader, Scope};
-use crate::type_name_parts::{AbstractParts, ArrayLength, ArrayParts, TypeNameParts};
-use crate::type_name_words::{count_word, words_height};
 use c_layout::TypeNameWord;
+use c_parser_expressions_grammar::{
+    AbstractParts, ArrayLength, ArrayParts, Parsed, Reader, Scope, SpecifierCounts, Trouble,
+    TypeNameParts, count_word, inner, is_qualifier, is_storage, type_word, words_height,
+};
 use c_parser_tokens::{Keyword, Punctuator, Symbol};
 
 /// `struct` or `enum` with a tag and no body.

@@ -1,21 +1,21 @@
 //! Casts and unary expressions (6.5.3, 6.5.4).
 ghost use Rattle.std.specs.Prelude.{◌≡◌, ◌≤◌, IfOk, Some, None};
 ghost use Rattle.c_layout.specs.SyntaxTrees.{tree_of};
-ghost use Rattle.c_parser_expressions.specs.Findings.{Found};
-ghost use Rattle.c_parser_expressions.specs.Fronts.{first_symbol};
-ghost use Rattle.c_parser_expressions.specs.Levels.{step_of, unary_of};
-ghost use Rattle.c_parser_expressions.specs.Readings.{got, expect, is_sizeof, is_left_parenthesis};
-ghost use Rattle.c_parser_expressions.specs.ReadingResults.{Reads};
-ghost use Rattle.c_parser_expressions.specs.ExpressionReaders.{size_of_type, size_of_expression, unary_by, cast_to};
-ghost use Rattle.c_parser_expressions.specs.TypeNameReaders.{all_readers, readers_inside};
+ghost use Rattle.c_parser_expressions_grammar.specs.Findings.{Found};
+ghost use Rattle.c_parser_expressions_grammar.specs.Fronts.{first_symbol};
+ghost use Rattle.c_parser_expressions_grammar.specs.Levels.{step_of, unary_of};
+ghost use Rattle.c_parser_expressions_grammar.specs.Readings.{got, expect, is_sizeof, is_left_parenthesis};
+ghost use Rattle.c_parser_expressions_grammar.specs.ReadingResults.{Reads};
+ghost use Rattle.c_parser_expressions_grammar.specs.ExpressionReaders.{size_of_type, size_of_expression, unary_by, cast_to};
+ghost use Rattle.c_parser_expressions_grammar.specs.TypeNameReaders.{all_readers, readers_inside};
 
-use crate::expression_nodes::{cast_node, prefix_node, sizeof_node, sizeof_type_node, unary_node};
-use crate::heights::{Parsed, Trouble, inner};
-use crate::operators::{step_at, step_sign, unary_at, unary_sign};
 use crate::postfix_expressions::postfix;
-use crate::terminal_reader::{Reader, Scope};
 use crate::type_names::type_name;
 use c_layout::{Expr, StepOp, UnaryOp};
+use c_parser_expressions_grammar::{
+    Parsed, Reader, Scope, Trouble, cast_node, inner, prefix_node, sizeof_node, sizeof_type_node,
+    step_at, step_sign, unary_at, unary_node, unary_sign,
+};
 use c_parser_tokens::{Keyword, Punctuator};
 
 /// `sizeof` of a type name.

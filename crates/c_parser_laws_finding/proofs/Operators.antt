@@ -9,7 +9,7 @@ use Rattle.c_layout.specs.declared.syntax_tree.expressions.BinaryOp.TheVariants 
 use Rattle.c_layout.specs.declared.syntax_tree.expressions.LogicalOp.{LogicalOp}
 use Rattle.c_parser_tokens.specs.declared.terminals.Terminal.{Terminal}
 use Rattle.c_parser_tokens.specs.declared.terminals.Punctuator.{Punctuator}
-use Rattle.c_parser_expressions.specs.declared.operators.Infix.TheVariants as between
+use Rattle.c_parser_expressions_grammar.specs.declared.operators.Infix.TheVariants as between
 use Rattle.c_parser_expressions.specs.Expressions.{Derives, height_of}
 use Rattle.c_parser_expressions.specs.Findings.{is_unary}
 use Rattle.c_parser_expressions.specs.Fronts.{first_symbol, behind_first, IsSign}

@@ -24,7 +24,7 @@ pub enum Trouble {
 
 impl From<AllocError> for Trouble {
     ghost use Rattle.std.specs.Prelude.{◌≡◌};
-    ghost use Rattle.c_parser_expressions.specs.declared.heights.Trouble.TheVariants as trouble;
+    ghost use Rattle.c_parser_expressions_grammar.specs.declared.heights.Trouble.TheVariants as trouble;
 
     ghost from_gives = { λ _ e. e ≡ trouble.Memory };
 
@@ -35,7 +35,7 @@ impl From<AllocError> for Trouble {
 
 impl<T: Drop> From<AllocFailed<T>> for Trouble {
     ghost use Rattle.std.specs.Prelude.{◌≡◌};
-    ghost use Rattle.c_parser_expressions.specs.declared.heights.Trouble.TheVariants as trouble;
+    ghost use Rattle.c_parser_expressions_grammar.specs.declared.heights.Trouble.TheVariants as trouble;
 
     ghost from_gives = { λ _ e. e ≡ trouble.Memory };
 

@@ -3,17 +3,17 @@
 use Rattle.std.specs.Prelude.{◌≡◌, ℕ, cond, max, map, reverse, List, ◌∷◌, Option, Some, None, Result, MatchResult}
 use Rattle.c_layout.specs.SyntaxTrees.{Tree, trees, tree_of, layer_view}
 use Rattle.c_parser_tokens.specs.declared.terminals.Terminal.{Terminal}
-use Rattle.c_parser_expressions.specs.declared.heights.Parsed.{Parsed}
-use Rattle.c_parser_expressions.specs.declared.heights.Trouble.{Trouble}
-use Rattle.c_parser_expressions.specs.declared.heights.Trouble.TheVariants as trouble
-use Rattle.c_parser_expressions.specs.declared.postfix_operators.Suffix.{Suffix}
-use Rattle.c_parser_expressions.specs.declared.type_name_parts.AbstractParts.{AbstractParts}
-use Rattle.c_parser_expressions.specs.declared.type_name_parts.ArrayLength.{ArrayLength}
-use Rattle.c_parser_expressions.specs.declared.type_name_parts.ArrayParts.{ArrayParts}
-use Rattle.c_parser_expressions.specs.Findings.{suffixed, lengths_of, brackets_of}
-use Rattle.c_parser_expressions.specs.Fronts.{first_symbol}
-use Rattle.c_parser_expressions.specs.Readings.{Reading, GotLayers, is_left_bracket, made}
-use Rattle.c_parser_expressions.specs.TypeNameReaders.{GotArrays, both}
+use Rattle.c_parser_expressions_grammar.specs.declared.heights.Parsed.{Parsed}
+use Rattle.c_parser_expressions_grammar.specs.declared.heights.Trouble.{Trouble}
+use Rattle.c_parser_expressions_grammar.specs.declared.heights.Trouble.TheVariants as trouble
+use Rattle.c_parser_expressions_grammar.specs.declared.postfix_operators.Suffix.{Suffix}
+use Rattle.c_parser_expressions_grammar.specs.declared.type_name_parts.AbstractParts.{AbstractParts}
+use Rattle.c_parser_expressions_grammar.specs.declared.type_name_parts.ArrayLength.{ArrayLength}
+use Rattle.c_parser_expressions_grammar.specs.declared.type_name_parts.ArrayParts.{ArrayParts}
+use Rattle.c_parser_expressions_grammar.specs.Findings.{suffixed, lengths_of, brackets_of}
+use Rattle.c_parser_expressions_grammar.specs.Fronts.{first_symbol}
+use Rattle.c_parser_expressions_grammar.specs.Readings.{Reading, GotLayers, is_left_bracket, made}
+use Rattle.c_parser_expressions_grammar.specs.TypeNameReaders.{GotArrays, both}
 
 -- what is so unless memory ran out
 abbrev pub OnSyntax : Type 0 → Trouble → Type 0

@@ -1,7 +1,7 @@
 use Rattle.std.proofs.Common.{◌∙◌, ap, map, vec_items}
-use Rattle.c_parser_expressions.specs.Fronts.{with_text}
-use Rattle.c_parser_expressions.proofs.NameTexts.{name_added}
-use Rattle.c_parser_expressions.proofs.typedef_names.TypedefNames.add.Goals as goal
+use Rattle.c_parser_expressions_grammar.specs.Fronts.{with_text}
+use Rattle.c_parser_expressions_grammar.proofs.NameTexts.{name_added}
+use Rattle.c_parser_expressions_grammar.proofs.typedef_names.TypedefNames.add.Goals as goal
 
 pub returns : goal.returns
 returns c =

@@ -4,7 +4,7 @@ use Rattle.std.proofs.lemmas.List.{map-append}
 use Rattle.std.specs.List.{list_any}
 use Rattle.std.specs.Cmp.Lexicographic.{pointwise}
 use Rattle.indexmap.specs.IndexSet.{insert_key}
-use Rattle.c_parser_expressions.specs.Fronts.{with_text}
+use Rattle.c_parser_expressions_grammar.specs.Fronts.{with_text}
 
 abbrev same : List ℕ → Vec ℕ Global → Bool
 same text k = pointwise nat_eq text k.items

@@ -4,9 +4,9 @@
 //! conditional-expression, 3 logical-OR-expression and so on to 12 multiplicative-expression, 13
 //! cast-expression, 14 unary-expression, 15 postfix-expression, 16 primary-expression.
 ghost use Rattle.std.specs.Prelude.{◌≡◌, ◌≤◌, ◌<◌, IfSome, MatchOption};
-ghost use Rattle.c_parser_expressions.specs.Levels.{binary_sign, binary_level, logical_sign, logical_level, unary_sign, step_sign, compound_sign, assign_sign, op_sign, op_level, sign_level, symbol_level, step_of, unary_of, assign_of_sign, assign_of};
-ghost use Rattle.c_parser_expressions.specs.Continuations.{continuation_of_sign, continuation_of};
-ghost use Rattle.c_parser_expressions.specs.ExpressionReaders.{infix_of, keep_from};
+ghost use Rattle.c_parser_expressions_grammar.specs.Levels.{binary_sign, binary_level, logical_sign, logical_level, unary_sign, step_sign, compound_sign, assign_sign, op_sign, op_level, sign_level, symbol_level, step_of, unary_of, assign_of_sign, assign_of};
+ghost use Rattle.c_parser_expressions_grammar.specs.Continuations.{continuation_of_sign, continuation_of};
+ghost use Rattle.c_parser_expressions_grammar.specs.ExpressionReaders.{infix_of, keep_from};
 
 use c_layout::{AssignOp, BinaryOp, LogicalOp, StepOp, UnaryOp};
 use c_parser_tokens::{Punctuator, Symbol};

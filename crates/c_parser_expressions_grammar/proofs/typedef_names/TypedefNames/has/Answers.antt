@@ -1,7 +1,7 @@
 use Rattle.std.proofs.Common.{◌∙◌, ap}
-use Rattle.c_parser_expressions.specs.Fronts.{is_typedef}
-use Rattle.c_parser_expressions.proofs.NameTexts.{any_name}
-use Rattle.c_parser_expressions.proofs.typedef_names.TypedefNames.has.Goals as goal
+use Rattle.c_parser_expressions_grammar.specs.Fronts.{is_typedef}
+use Rattle.c_parser_expressions_grammar.proofs.NameTexts.{any_name}
+use Rattle.c_parser_expressions_grammar.proofs.typedef_names.TypedefNames.has.Goals as goal
 
 pub returns : goal.returns
 returns c =

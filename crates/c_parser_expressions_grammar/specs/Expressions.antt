@@ -6,10 +6,10 @@ use Rattle.c_parser_tokens.specs.declared.terminals.Terminal.{Terminal}
 use Rattle.c_parser_tokens.specs.declared.terminals.Keyword.TheVariants as k
 use Rattle.c_parser_tokens.specs.declared.terminals.Punctuator.{Punctuator}
 use Rattle.c_parser_tokens.specs.declared.terminals.Punctuator.TheVariants as p
-use Rattle.c_parser_expressions.specs.Fronts.{first_place, IsSign, IsWord, IsName, IsConstant, IsLiteral}
-use Rattle.c_parser_expressions.specs.Levels.{binary_sign, binary_level, logical_sign, logical_level, unary_sign, step_sign, assign_sign}
-use Rattle.c_parser_expressions.specs.Spans.{Span, Separated}
-use Rattle.c_parser_expressions.specs.TypeNames.{IsTypeName, greatest, type_name_height}
+use Rattle.c_parser_expressions_grammar.specs.Fronts.{first_place, IsSign, IsWord, IsName, IsConstant, IsLiteral}
+use Rattle.c_parser_expressions_grammar.specs.Levels.{binary_sign, binary_level, logical_sign, logical_level, unary_sign, step_sign, assign_sign}
+use Rattle.c_parser_expressions_grammar.specs.Spans.{Span, Separated}
+use Rattle.c_parser_expressions_grammar.specs.TypeNames.{IsTypeName, greatest, type_name_height}
 
 abbrev mutual
   pub Derives : Tree → List (List ℕ) → ℕ → List Terminal → List Terminal → Type 0

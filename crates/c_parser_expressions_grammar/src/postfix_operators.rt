@@ -1,8 +1,8 @@
 //! What stands behind the operand of a postfix expression (6.5.2).
 ghost use Rattle.std.specs.Prelude.{◌≡◌, ◌+◌, ◌≤◌, max, IfOk, IfErr};
 ghost use Rattle.c_layout.specs.SyntaxTrees.{tree_of};
-ghost use Rattle.c_parser_expressions.specs.Findings.{suffixed};
-ghost use Rattle.c_parser_expressions.specs.ReadingResults.{OnSyntax};
+ghost use Rattle.c_parser_expressions_grammar.specs.Findings.{suffixed};
+ghost use Rattle.c_parser_expressions_grammar.specs.ReadingResults.{OnSyntax};
 
 use crate::heights::{Parsed, Trouble, made};
 use c_layout::{Expr, Name, StepOp};

@@ -14,9 +14,9 @@ use Rattle.c_parser_tokens.specs.declared.terminals.Keyword.TheVariants as k
 use Rattle.c_parser_tokens.specs.declared.terminals.Symbol.{Symbol}
 use Rattle.c_parser_tokens.specs.declared.terminals.Symbol.TheVariants as symbol
 use Rattle.c_parser_tokens.specs.declared.terminals.Punctuator.TheVariants as p
-use Rattle.c_parser_expressions.specs.declared.specifier_words.SpecifierCounts.{SpecifierCounts}
-use Rattle.c_parser_expressions.specs.Fronts.{first_symbol, first_place, behind_first, IsSign, IsWord, IsName, IsTypedefName}
-use Rattle.c_parser_expressions.specs.Spans.{Span, Chain}
+use Rattle.c_parser_expressions_grammar.specs.declared.specifier_words.SpecifierCounts.{SpecifierCounts}
+use Rattle.c_parser_expressions_grammar.specs.Fronts.{first_symbol, first_place, behind_first, IsSign, IsWord, IsName, IsTypedefName}
+use Rattle.c_parser_expressions_grammar.specs.Spans.{Span, Chain}
 
 -- ---- words
 

@@ -12,8 +12,8 @@ use Rattle.c_layout.specs.declared.syntax_tree.expressions.LogicalOp.{LogicalOp}
 use Rattle.c_layout.specs.declared.syntax_tree.expressions.LogicalOp.TheVariants as logical
 use Rattle.c_layout.specs.declared.syntax_tree.expressions.AssignOp.{AssignOp}
 use Rattle.c_layout.specs.declared.syntax_tree.expressions.AssignOp.TheVariants as assign
-use Rattle.c_parser_expressions.specs.declared.operators.Infix.{Infix}
-use Rattle.c_parser_expressions.specs.declared.operators.Infix.TheVariants as between
+use Rattle.c_parser_expressions_grammar.specs.declared.operators.Infix.{Infix}
+use Rattle.c_parser_expressions_grammar.specs.declared.operators.Infix.TheVariants as between
 use Rattle.c_parser_tokens.specs.declared.terminals.Symbol.{Symbol}
 use Rattle.c_parser_tokens.specs.declared.terminals.Symbol.TheVariants as symbol
 use Rattle.c_parser_tokens.specs.declared.terminals.Punctuator.{Punctuator}

@@ -9,13 +9,13 @@ use Rattle.c_parser_tokens.specs.declared.terminals.Terminal.{Terminal}
 use Rattle.c_parser_tokens.specs.declared.terminals.Punctuator.TheVariants as p
 use Rattle.c_parser_tokens.specs.declared.terminals.Symbol.{Symbol}
 use Rattle.c_parser_tokens.specs.declared.terminals.Symbol.TheVariants as symbol
-use Rattle.c_parser_expressions.specs.declared.operators.Infix.{Infix}
-use Rattle.c_parser_expressions.specs.declared.operators.Infix.TheVariants as between
-use Rattle.c_parser_expressions.specs.Findings.{infix_tree, is_unary}
-use Rattle.c_parser_expressions.specs.Fronts.{first_symbol, first_place, first_text, behind_first, is_typedef, is_identifier_first, begins_specifiers}
-use Rattle.c_parser_expressions.specs.Levels.{op_level, step_of, unary_of, assign_of, goes_on}
-use Rattle.c_parser_expressions.specs.Continuations.{Continuation, With, Joined, continuation_of}
-use Rattle.c_parser_expressions.specs.Readings.{Got, GotSome, GotName, GotLayers, Reading, got, after, after_some, after_name, is_left_parenthesis, is_right_parenthesis, is_left_bracket, is_right_bracket, is_question, is_colon, is_comma, is_sizeof, expect, made}
+use Rattle.c_parser_expressions_grammar.specs.declared.operators.Infix.{Infix}
+use Rattle.c_parser_expressions_grammar.specs.declared.operators.Infix.TheVariants as between
+use Rattle.c_parser_expressions_grammar.specs.Findings.{infix_tree, is_unary}
+use Rattle.c_parser_expressions_grammar.specs.Fronts.{first_symbol, first_place, first_text, behind_first, is_typedef, is_identifier_first, begins_specifiers}
+use Rattle.c_parser_expressions_grammar.specs.Levels.{op_level, step_of, unary_of, assign_of, goes_on}
+use Rattle.c_parser_expressions_grammar.specs.Continuations.{Continuation, With, Joined, continuation_of}
+use Rattle.c_parser_expressions_grammar.specs.Readings.{Got, GotSome, GotName, GotLayers, Reading, got, after, after_some, after_name, is_left_parenthesis, is_right_parenthesis, is_left_bracket, is_right_bracket, is_question, is_colon, is_comma, is_sizeof, expect, made}
 
 -- the readers of one budget
 pub record Readers : Type 0 where

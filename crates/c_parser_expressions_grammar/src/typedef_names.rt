@@ -1,6 +1,6 @@
 //! The typedef names in force.
 ghost use Rattle.std.specs.Prelude.{◌≡◌, [], IfOk};
-ghost use Rattle.c_parser_expressions.specs.Fronts.{is_typedef, with_text};
+ghost use Rattle.c_parser_expressions_grammar.specs.Fronts.{is_typedef, with_text};
 
 use indexmap::IndexSet;
 use std::alloc::{AllocError, Global};

@@ -1,7 +1,7 @@
 //! Words of type names, counted and measured (6.7.7).
 ghost use Rattle.std.specs.Prelude.{◌≡◌, ◌≤◌, cond};
 ghost use Rattle.std.specs.List.{list_any};
-ghost use Rattle.c_parser_expressions.specs.TypeNames.{counted, is_tagged, words_height};
+ghost use Rattle.c_parser_expressions_grammar.specs.TypeNames.{counted, is_tagged, words_height};
 
 use crate::specifier_words::SpecifierCounts;
 use c_layout::TypeNameWord;

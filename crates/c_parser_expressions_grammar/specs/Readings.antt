@@ -6,7 +6,7 @@ use Rattle.c_parser_tokens.specs.declared.terminals.Keyword.TheVariants as k
 use Rattle.c_parser_tokens.specs.declared.terminals.Punctuator.TheVariants as p
 use Rattle.c_parser_tokens.specs.declared.terminals.Symbol.{Symbol}
 use Rattle.c_parser_tokens.specs.declared.terminals.Symbol.TheVariants as symbol
-use Rattle.c_parser_expressions.specs.Fronts.{first_symbol, behind_first}
+use Rattle.c_parser_expressions_grammar.specs.Fronts.{first_symbol, behind_first}
 
 -- a tree, the height of its derivation, and the terminals behind it
 pub record Got : Type 0 where

@@ -2,8 +2,8 @@
 ghost use Rattle.std.specs.Prelude.{◌≡◌, ◌+◌, ◌≤◌, [], ◌∷◌, ◌++◌, max, map, IfOk, IfErr};
 ghost use Rattle.c_layout.specs.SyntaxTrees as tree;
 ghost use Rattle.c_layout.specs.SyntaxTrees.{tree_of, trees, type_name_view};
-ghost use Rattle.c_parser_expressions.specs.Findings.{infix_tree};
-ghost use Rattle.c_parser_expressions.specs.ReadingResults.{OnSyntax};
+ghost use Rattle.c_parser_expressions_grammar.specs.Findings.{infix_tree};
+ghost use Rattle.c_parser_expressions_grammar.specs.ReadingResults.{OnSyntax};
 
 use crate::heights::{Parsed, Trouble, made};
 use crate::operators::Infix;

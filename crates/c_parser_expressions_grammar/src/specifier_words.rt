@@ -1,6 +1,6 @@
 //! Which lists of specifiers name one type (6.7.2).
 ghost use Rattle.std.specs.Prelude.{◌≡◌};
-ghost use Rattle.c_parser_expressions.specs.TypeNames.{up, no_words, with_type, with_storage, with_other, is_word_type, has_no_word_type, is_one_type, type_word_of, is_storage, is_qualifier};
+ghost use Rattle.c_parser_expressions_grammar.specs.TypeNames.{up, no_words, with_type, with_storage, with_other, is_word_type, has_no_word_type, is_one_type, type_word_of, is_storage, is_qualifier};
 
 use c_layout::TypeWord;
 use c_parser_tokens::Keyword;

@@ -12,10 +12,10 @@ use Rattle.c_parser_tokens.specs.declared.terminals.Punctuator.TheVariants as p
 use Rattle.c_parser_tokens.specs.declared.terminals.Symbol.{Symbol}
 use Rattle.c_parser_tokens.specs.declared.terminals.Symbol.TheVariants as symbol
 use Rattle.c_parser_tokens.specs.declared.terminals.Terminal.{Terminal}
-use Rattle.c_parser_expressions.specs.Fronts.{first_symbol, first_place, first_text, behind_first, is_typedef_first, is_identifier_first, begins_specifiers}
-use Rattle.c_parser_expressions.specs.TypeNames.{type_word_of, is_storage, is_qualifier, is_pointer_qualifier, is_something, is_lone_star, is_one_type, counts_of, words_height}
-use Rattle.c_parser_expressions.specs.Readings.{Got, GotName, GotLayers, Reading, after_layers, is_left_parenthesis, is_right_parenthesis, is_left_bracket, is_right_bracket}
-use Rattle.c_parser_expressions.specs.ExpressionReaders.{Readers, NameReaders, readers, inside}
+use Rattle.c_parser_expressions_grammar.specs.Fronts.{first_symbol, first_place, first_text, behind_first, is_typedef_first, is_identifier_first, begins_specifiers}
+use Rattle.c_parser_expressions_grammar.specs.TypeNames.{type_word_of, is_storage, is_qualifier, is_pointer_qualifier, is_something, is_lone_star, is_one_type, counts_of, words_height}
+use Rattle.c_parser_expressions_grammar.specs.Readings.{Got, GotName, GotLayers, Reading, after_layers, is_left_parenthesis, is_right_parenthesis, is_left_bracket, is_right_bracket}
+use Rattle.c_parser_expressions_grammar.specs.ExpressionReaders.{Readers, NameReaders, readers, inside}
 
 -- ---- words
 

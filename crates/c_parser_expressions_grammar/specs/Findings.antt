@@ -8,16 +8,16 @@ use Rattle.c_layout.specs.declared.syntax_tree.expressions.Brackets.{Brackets}
 use Rattle.c_parser_tokens.specs.declared.terminals.Terminal.{Terminal}
 use Rattle.c_parser_tokens.specs.declared.terminals.Punctuator.TheVariants as p
 use Rattle.c_layout.specs.declared.syntax_tree.expressions.Expr.{Expr}
-use Rattle.c_parser_expressions.specs.declared.type_name_parts.ArrayLength.{ArrayLength}
-use Rattle.c_parser_expressions.specs.declared.operators.Infix.{Infix}
-use Rattle.c_parser_expressions.specs.declared.operators.Infix.TheVariants as between
-use Rattle.c_parser_expressions.specs.declared.postfix_operators.Suffix.{Suffix}
-use Rattle.c_parser_expressions.specs.declared.postfix_operators.Suffix.TheVariants as suffix
-use Rattle.c_parser_expressions.specs.Expressions.{Derives, DeriveEach, height_of, heights_of}
-use Rattle.c_parser_expressions.specs.Fronts.{first_symbol, first_place, IsSign, IsName}
-use Rattle.c_parser_expressions.specs.Levels.{step_sign, symbol_level}
-use Rattle.c_parser_expressions.specs.Spans.{Span, Trailed, Separated}
-use Rattle.c_parser_expressions.specs.TypeNames.{IsTypeName, IsBrackets, Arrays, is_something, Nested, Declarator, greatest, nested_height, is_lone_star, type_name_height}
+use Rattle.c_parser_expressions_grammar.specs.declared.type_name_parts.ArrayLength.{ArrayLength}
+use Rattle.c_parser_expressions_grammar.specs.declared.operators.Infix.{Infix}
+use Rattle.c_parser_expressions_grammar.specs.declared.operators.Infix.TheVariants as between
+use Rattle.c_parser_expressions_grammar.specs.declared.postfix_operators.Suffix.{Suffix}
+use Rattle.c_parser_expressions_grammar.specs.declared.postfix_operators.Suffix.TheVariants as suffix
+use Rattle.c_parser_expressions_grammar.specs.Expressions.{Derives, DeriveEach, height_of, heights_of}
+use Rattle.c_parser_expressions_grammar.specs.Fronts.{first_symbol, first_place, IsSign, IsName}
+use Rattle.c_parser_expressions_grammar.specs.Levels.{step_sign, symbol_level}
+use Rattle.c_parser_expressions_grammar.specs.Spans.{Span, Trailed, Separated}
+use Rattle.c_parser_expressions_grammar.specs.TypeNames.{IsTypeName, IsBrackets, Arrays, is_something, Nested, Declarator, greatest, nested_height, is_lone_star, type_name_height}
 
 -- a tree that derives at the level, of a height within the budget
 pub record Found (known : List (List ℕ)) (l budget : ℕ) (e : Tree) (high : ℕ) (ts rest : List Terminal) : Type 0 where

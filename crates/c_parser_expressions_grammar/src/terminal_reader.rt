@@ -1,9 +1,9 @@
 //! The terminals that are still to be read.
 ghost use Rattle.std.specs.Prelude.{◌≡◌, ◌≢◌, false, length, IfOk, IfErr, IsTrue, ◌↔◌};
 ghost use Rattle.std.specs.Bool.{OnTrue, OnFalse};
-ghost use Rattle.c_parser_expressions.specs.Fronts.{first_symbol, first_place, first_text, behind_first, is_identifier, is_typedef_first, is_identifier_first, is_specifier, begins_specifiers, IsSign, IsWord, IsName, IsTypedefName, IsConstant, IsLiteral};
-ghost use Rattle.c_parser_expressions.specs.ExpressionReaders.{opens_type_name};
-ghost use Rattle.c_parser_expressions.specs.ReadingResults.{OnSyntax};
+ghost use Rattle.c_parser_expressions_grammar.specs.Fronts.{first_symbol, first_place, first_text, behind_first, is_identifier, is_typedef_first, is_identifier_first, is_specifier, begins_specifiers, IsSign, IsWord, IsName, IsTypedefName, IsConstant, IsLiteral};
+ghost use Rattle.c_parser_expressions_grammar.specs.ExpressionReaders.{opens_type_name};
+ghost use Rattle.c_parser_expressions_grammar.specs.ReadingResults.{OnSyntax};
 
 use crate::heights::Trouble;
 use crate::typedef_names::TypedefNames;

@@ -2,7 +2,7 @@
 use Rattle.std.specs.Prelude.{◌≡◌, List, [], ◌∷◌}
 use Rattle.c_parser_tokens.specs.declared.terminals.Terminal.{Terminal}
 use Rattle.c_parser_tokens.specs.declared.terminals.Punctuator.TheVariants as p
-use Rattle.c_parser_expressions.specs.Fronts.{IsSign}
+use Rattle.c_parser_expressions_grammar.specs.Fronts.{IsSign}
 
 -- the terminals from the first of an item on, and those behind its last
 pub record Span : Type 0 where

@@ -1,0 +1,11 @@
+pub mod Continuations
+pub mod ExpressionReaders
+pub mod Expressions
+pub mod Findings
+pub mod Fronts
+pub mod Levels
+pub mod ReadingResults
+pub mod Readings
+pub mod Spans
+pub mod TypeNameReaders
+pub mod TypeNames
