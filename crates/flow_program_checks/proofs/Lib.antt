@@ -1,6 +1,3 @@
-pub mod KindReads
 pub mod Bodies
 pub mod Heads
 pub mod Blocks
-pub mod SameLengths
-pub mod PartsLeft

@@ -1,11 +1,11 @@
 //! The bodies of blocks, and the edges with which they end.
 ghost use Rattle.std.specs.Prelude.{◌≡◌, true, false};
-ghost use Rattle.flow_program.specs.BaseShapes.{same_truth};
 ghost use Rattle.flow_program.specs.WellFormed as spec;
 ghost use Rattle.flow_program.specs.WellFormed.{On, Once, TwoWays, ByCases, ByLine};
 ghost use Rattle.flow_program_checks.specs.Bodies.{is_on};
 
 use flow_program::{Edge, EdgeKind, Instruction, Operation};
+use flow_program_checks_bases::same_truth;
 
 fn is_jump(kind: &EdgeKind) -> bool
     ensures { result ≡ spec.is_jump kind.now }
@@ -14,13 +14,6 @@ fn is_jump(kind: &EdgeKind) -> bool
         EdgeKind::Jump => true,
         _ => false,
     }
-}
-
-/// Whether two truths are the same.
-pub fn same_truth(a: bool, b: bool) -> bool
-    ensures { result ≡ same_truth a b }
-{
-    if a { b } else { !b }
 }
 
 /// Whether an edge is that of a branch with this truth.

@@ -4,10 +4,9 @@ ghost use Rattle.std.specs.List.{list_all};
 ghost use Rattle.flow_program.specs.WellFormed as spec;
 ghost use Rattle.flow_program.specs.WellFormed.{names_of};
 
-use crate::base_kinds::is_declared;
 use crate::operations::has_temp;
-use crate::value_ranges::{is_common, is_number, is_scalar};
 use flow_program::{EdgeKind, Flow, Side, Test};
+use flow_program_checks_bases::{is_common, is_declared, is_number, is_scalar};
 
 fn fits_side(flow: &Flow, side: Side) -> bool
     ensures { result ≡ spec.fits_side (names_of flow.now) side }

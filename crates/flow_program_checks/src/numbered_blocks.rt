@@ -4,10 +4,11 @@ ghost use Rattle.flow_program.specs.WellFormed as spec;
 ghost use Rattle.flow_program.specs.WellFormed.{names_of};
 ghost use Rattle.flow_program_checks.specs.NumberedBlocks.{is_marked_block, are_marked_blocks};
 
-use crate::block_bodies::{is_body, same_truth};
+use crate::block_bodies::is_body;
 use crate::entered_blocks::{entered_blocks, is_entered};
 use crate::operations::fit_operations;
 use flow_program::{BasicBlock, Edge, Flow};
+use flow_program_checks_bases::same_truth;
 use std::alloc::{AllocError, Global};
 
 /// Whether edges leave one block and enter blocks that are there.

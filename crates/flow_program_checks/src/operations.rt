@@ -6,11 +6,12 @@ ghost use Rattle.flow_program.specs.ModelKinds.{is_int_type};
 ghost use Rattle.flow_program.specs.WellFormed as spec;
 ghost use Rattle.flow_program.specs.WellFormed.{names_of};
 
-use crate::base_kinds::{is_automatic, is_declared, is_site};
-use crate::base_places;
-use crate::value_ranges::{is_extent, is_int_type, is_number, is_optional_extent, is_scalar};
 use cc_base::IntType;
 use flow_program::{Amount, Flow, Instruction, Operation, Scalar};
+use flow_program_checks_bases::{
+    is_automatic, is_declared, is_extent, is_int_type, is_number, is_optional_extent, is_scalar,
+    is_site,
+};
 
 /// Whether a temporary is there.
 pub fn has_temp(flow: &Flow, temp: u32) -> bool
@@ -81,7 +82,7 @@ fn has_site(flow: &Flow, site: Option<u32>) -> bool
 fn has_offset(flow: &Flow, base: u32, at: u64) -> bool
     ensures { result ≡ spec.reaches at (slice_get flow.now.bases.items base) }
 {
-    base_places::reaches(flow.bases.as_slice(), base, at)
+    flow_program_checks_bases::reaches(flow.bases.as_slice(), base, at)
 }
 
 /// Whether a text may be spelled into so many bytes at an offset of an object.
@@ -89,7 +90,7 @@ fn has_room(flow: &Flow, base: u32, at: u64, room: u64) -> bool
     ensures { result ≡ ((is_extent at && is_extent room) && has_room at room (slice_get flow.now.bases.items base)) }
 {
     (is_extent(at) && is_extent(room))
-        && base_places::has_room(flow.bases.as_slice(), base, at, room)
+        && flow_program_checks_bases::has_room(flow.bases.as_slice(), base, at, room)
 }
 
 fn has_type(flow: &Flow, kind: IntType) -> bool
@@ -119,7 +120,7 @@ fn fits_call(flow: &Flow, arguments: &[u32], site: Option<u32>, size: Option<u64
 }
 
 /// Whether an instruction names only what is there, in its kind and its range.
-#[tactic(auto, using(crate::proofs::KindReads::both_there, crate::proofs::KindReads::not_both))]
+#[tactic(auto, using(flow_program_checks_bases::proofs::KindReads::both_there, flow_program_checks_bases::proofs::KindReads::not_both))]
 fn fits_operation(flow: &Flow, operation: &Operation) -> bool
     ensures { result ≡ spec.fits_operation (names_of flow.now) operation.now }
 {

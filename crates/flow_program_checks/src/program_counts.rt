@@ -2,9 +2,9 @@
 ghost use Rattle.std.specs.Prelude.{◌≡◌, ◌+◌, ◌*◌, IfOk, length};
 ghost use Rattle.flow_program.specs.WellFormed as spec;
 
-use crate::base_tables::all_cells;
 use cc_base::Limits;
 use flow_program::{BasicBlock, Flow};
+use flow_program_checks_bases::all_cells;
 use std::alloc::AllocError;
 
 /// How many instructions blocks have together.

@@ -2,16 +2,16 @@
 ghost use Rattle.std.specs.Prelude.{◌≡◌, IfOk, true};
 ghost use Rattle.flow_program.specs.WellFormed as spec;
 
-use crate::base_shapes::are_shaped;
-use crate::base_tables::{are_initial_objects, are_parameters, are_placed, is_width};
 use crate::data_models::is_model;
 use crate::edge_kinds::fit_edges;
 use crate::numbered_blocks::are_blocks;
 use crate::program_counts::is_within;
-use crate::static_starts::are_started;
 use crate::struct_counts::are_counted;
 use cc_base::Limits;
 use flow_program::Flow;
+use flow_program_checks_bases::{
+    are_initial_objects, are_parameters, are_placed, are_shaped, are_started, is_width,
+};
 use std::alloc::{AllocError, Global};
 
 fn is_few(count: usize) -> bool

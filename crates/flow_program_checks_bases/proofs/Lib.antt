@@ -1,0 +1,3 @@
+pub mod KindReads
+pub mod SameLengths
+pub mod PartsLeft
