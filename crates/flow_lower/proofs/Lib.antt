@@ -1,6 +1,4 @@
-pub mod Stacks
 pub mod Heads
-pub mod SharedTurns
 pub mod OpeningTurns
 pub mod ExitTurns
 pub mod Lowered

@@ -12,7 +12,7 @@ use Rattle.c_layout.specs.declared.shapes.BaseKind.TheVariants as kind
 use Rattle.flow_lower_tasks.specs.Acts.{Act, Enter, Leave, Jump, Stop, Step}
 use Rattle.flow_lower_tasks.specs.Pieces.{Local, Static, Allocation, Always, Do, End, Mark, Call, TemplateView}
 use Rattle.flow_lower_tasks.specs.declared.template_pieces.OwnCall.{OwnCall}
-use Rattle.flow_lower.specs.BaseTables.{TableView, base}
+use Rattle.flow_lower_bases.specs.BaseTables.{TableView, base}
 use Rattle.flow_program_views.specs.ProgramViews.{BlockView}
 use Rattle.flow_lower.specs.Openings.{edge_to, nothing_made, program}
 

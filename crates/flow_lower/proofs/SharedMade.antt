@@ -16,8 +16,8 @@ use Rattle.flow_lower_tasks.specs.Pieces.{NameView, Local, Outcome, Static, Lite
 use Rattle.flow_lower_tasks.specs.declared.template_pieces.OwnCall.{OwnCall}
 use Rattle.flow_lower_counts.specs.SharedObjects.{literal_type, Sharing, bases_named, template_bases, all_bases}
 use Rattle.flow_lower.specs.MovedActs.{own_base}
-use Rattle.flow_lower.specs.BaseTables as bases
-use Rattle.flow_lower.specs.BaseTables.{TableView, info, added, found_in, known, local_or, literal_made, literal_or, object_made, object_or, with_shared, brought, with_all, base}
+use Rattle.flow_lower_bases.specs.BaseTables as bases
+use Rattle.flow_lower_bases.specs.BaseTables.{TableView, info, added, found_in, known, local_or, literal_made, literal_or, object_made, object_or, with_shared, brought, with_all, base}
 use Rattle.flow_lower.specs.Openings as o
 use Rattle.flow_lower.specs.Openings.{Made, CopyView, Placed, Opened, placed, is_none, name_at, joined, template_at}
 use Rattle.flow_lower.proofs.WellMadeEdges.{cond_keeps}

@@ -13,7 +13,7 @@ use Rattle.flow_lower_counts.specs.PieceCounts.{counted}
 use Rattle.flow_lower_counts.specs.BaseCounts.{bases_of}
 use Rattle.flow_lower_laws.specs.NamedBases.{maybe, named_by, named_in_side, named_in_test, named_on_way, named_on_exits}
 use Rattle.flow_lower.specs.MovedActs.{own_base}
-use Rattle.flow_lower.specs.BaseTables.{base}
+use Rattle.flow_lower_bases.specs.BaseTables.{base}
 use Rattle.flow_lower.specs.Openings as o
 use Rattle.flow_lower.specs.Openings.{Made, CopyView, Placed, Opened, placed, opened, name_at, is_none}
 use Rattle.flow_lower.proofs.CountedCalls.{CalledIs}

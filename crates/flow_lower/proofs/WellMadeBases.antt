@@ -10,7 +10,7 @@ use Rattle.c_layout.specs.declared.shapes.BaseKind.TheVariants as kind
 use Rattle.c_layout.specs.declared.shapes.Shape.{Shape}
 use Rattle.flow_program.specs.WellFormed.{base_values, all_values}
 use Rattle.flow_lower_tasks.specs.Pieces.{NameView, Local, Outcome, Static, Literal, Allocation}
-use Rattle.flow_lower.specs.BaseTables.{TableView, width_of, info, added, local_or, known, literal_made, literal_or, object_made, object_or, with_shared, brought, with_all, base}
+use Rattle.flow_lower_bases.specs.BaseTables.{TableView, width_of, info, added, local_or, known, literal_made, literal_or, object_made, object_or, with_shared, brought, with_all, base}
 use Rattle.flow_lower.specs.WellMade.{Follow}
 
 -- bases that follow each other, and how many values they have

@@ -1,6 +1,6 @@
+pub use Rattle.flow_lower_bases.specs.BaseTables
+pub use Rattle.flow_lower_bases.specs.InitialBytes
 pub mod MovedActs
-pub mod BaseTables
-pub mod InitialBytes
 pub mod Openings
 pub mod Lowerings
 pub mod WellMade

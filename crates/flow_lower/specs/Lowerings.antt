@@ -19,7 +19,7 @@ use Rattle.flow_lower_counts.specs.Preparations.{IsPrepared}
 use Rattle.flow_lower_counts.specs.SharedObjects.{shared_bases}
 use Rattle.flow_lower_counts.specs.declared.function_counts.FunctionCounts.{FunctionCounts}
 use Rattle.flow_program_views.specs.ProgramViews.{FlowView}
-use Rattle.flow_lower.specs.InitialBytes.{initial_objects}
+use Rattle.flow_lower_bases.specs.InitialBytes.{initial_objects}
 use Rattle.flow_lower.specs.Openings.{ProgramView, program, unfinished}
 
 -- the type of an entry's parameter, which is an integer

@@ -13,7 +13,7 @@ use Rattle.flow_lower_tasks.specs.declared.template_pieces.OwnCall.{OwnCall}
 use Rattle.flow_lower_tasks.specs.Works.{behind}
 use Rattle.flow_program_views.specs.ProgramViews.{BlockView, block, EdgeView, edge}
 use Rattle.flow_lower.specs.MovedActs.{own_base, put_moved, moved}
-use Rattle.flow_lower.specs.BaseTables.{TableView, table, Named, base}
+use Rattle.flow_lower_bases.specs.BaseTables.{TableView, table, Named, base}
 use Rattle.flow_lower.specs.declared.opened_program.CallCopy.{CallCopy}
 use Rattle.flow_lower.specs.declared.opened_program.Making.{Making}
 use Rattle.flow_lower.specs.declared.opened_program.Opening.{Opening}

@@ -2,10 +2,8 @@
 #![tactic(auto)]
 
 mod counted_bases;
-mod initial_objects;
 mod moved_operations;
 mod opened_program;
-mod program_bases;
 mod resolved_edges;
 mod theorems;
 mod unit_lowering;

@@ -6,17 +6,17 @@ ghost use Rattle.flow_lower_tasks.specs.Acts as acts;
 ghost use Rattle.flow_lower_tasks.specs.Acts.{act, step};
 ghost use Rattle.flow_lower_tasks.specs.Pieces.{name_view, way, exit_view, exits_view, piece_view, template_view};
 ghost use Rattle.flow_lower.specs.MovedActs.{own_base};
-ghost use Rattle.flow_lower.specs.BaseTables.{table};
+ghost use Rattle.flow_lower_bases.specs.BaseTables.{table};
 ghost use Rattle.flow_program_views.specs.ProgramViews.{block, edge};
 ghost use Rattle.flow_lower.specs.Openings as spec;
 ghost use Rattle.flow_lower_counts.specs.Preparations.{templates_view};
 ghost use Rattle.flow_lower.specs.Openings.{made, copy_view, placed, opened, opening};
 
 use crate::moved_operations::{Shifted, own_base};
-use crate::program_bases::BaseTable;
 use crate::resolved_edges::{note_heads, resolved};
 use c_layout::{Checked, Function};
 use cc_base::Place;
+use flow_lower_bases::BaseTable;
 use flow_lower_functions::{BaseName, Exit, OwnCall, Piece, Template};
 use flow_lower_tasks::behind;
 use flow_program::{BasicBlock, CaseTest, Edge, EdgeKind, Instruction, Operation, Side, Test};
@@ -469,7 +469,7 @@ fn inner<'a, 't>(call: OwnCall, caller: &CallCopy<'a, 't>) -> OwnCall
 
 impl<'a, 't> Opening<'a, 't> {
     /// Puts a copy of a function's pieces for a call on the stack.
-    #[tactic(auto, using(crate::proofs::Stacks::top))]
+    #[tactic(auto, using(flow_lower_bases::proofs::Stacks::top))]
     fn enter(
         &mut self,
         call: OwnCall,
@@ -513,7 +513,7 @@ impl<'a, 't> Opening<'a, 't> {
     }
 
     /// Adds a piece that is no call, and puts its copy back.
-    #[tactic(auto, using(crate::proofs::Stacks::top))]
+    #[tactic(auto, using(flow_lower_bases::proofs::Stacks::top))]
     fn add(
         &mut self,
         unit: &'a Checked,
@@ -527,7 +527,7 @@ impl<'a, 't> Opening<'a, 't> {
     }
 
     /// Puts a copy back, and a copy for a call in it on top.
-    #[tactic(auto, using(crate::proofs::Stacks::top))]
+    #[tactic(auto, using(flow_lower_bases::proofs::Stacks::top))]
     fn call(
         &mut self,
         unit: &'a Checked,
@@ -562,7 +562,7 @@ impl<'a, 't> Opening<'a, 't> {
     }
 
     /// Adds the next piece of a copy; a copy without further pieces is finished.
-    #[tactic(auto, using(crate::proofs::Stacks::rest_at, crate::proofs::Stacks::rest_none))]
+    #[tactic(auto, using(flow_lower_bases::proofs::Stacks::rest_at, flow_lower_bases::proofs::Stacks::rest_none))]
     fn advance(
         &mut self,
         unit: &'a Checked,
@@ -582,7 +582,7 @@ impl<'a, 't> Opening<'a, 't> {
     }
 
     /// Makes all turns, or those until no copy is left.
-    #[tactic(auto, using(crate::proofs::Stacks::top, crate::proofs::OpeningTurns::no_copy))]
+    #[tactic(auto, using(flow_lower_bases::proofs::Stacks::top, crate::proofs::OpeningTurns::no_copy))]
     fn run_turns(
         &mut self,
         unit: &'a Checked,

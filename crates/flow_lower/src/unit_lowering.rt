@@ -16,10 +16,10 @@ ghost use Rattle.flow_lower.specs.Lowerings.{AreUnitCounts, IsLowering, Refuses}
 ghost use Rattle.flow_lower.specs.AsCounted.{HasJust};
 
 use crate::counted_bases::with_counted_bases;
-use crate::initial_objects::initial_objects;
 use crate::opened_program::{OpenedProgram, opened};
 use c_layout::{CType, Checked, Function};
 use cc_base::{Count, IntType, Limits, Stop};
+use flow_lower_bases::initial_objects::initial_objects;
 use flow_lower_counts::{
     PreparedUnit, UnitCounts, all_within, counts_at, pool_values, prepared, shared_bases,
     unit_counts, within,

@@ -2,7 +2,7 @@ use Rattle.std.proofs.Common.{◌-◌, ◌^◌, ◌∷◌, map, reverse, ap, ◌
 use Rattle.c_layout.specs.CheckedUnits.{unit_view}
 use Rattle.flow_lower_counts.specs.Preparations.{templates_view}
 use Rattle.flow_lower.specs.Openings.{copy_view, made, placed, opening}
-use Rattle.flow_lower.proofs.Stacks.{top_view}
+use Rattle.flow_lower_bases.proofs.Stacks.{top_view}
 use Rattle.flow_lower.proofs.OpeningTurns.{run_at, run_from}
 use Rattle.flow_lower.proofs.opened_program.Opening.run_entry.Goals as goal
 

@@ -2,7 +2,7 @@ use Rattle.std.proofs.Common.{map, reverse, ap, sym, ◌∙◌}
 use Rattle.c_layout.specs.CheckedUnits.{unit_view}
 use Rattle.flow_lower_counts.specs.Preparations.{templates_view}
 use Rattle.flow_lower.specs.Openings.{copy_view, opening}
-use Rattle.flow_lower.proofs.Stacks.{top_view}
+use Rattle.flow_lower_bases.proofs.Stacks.{top_view}
 use Rattle.flow_lower.proofs.OpeningTurns.{one_turn, no_turns}
 use Rattle.flow_lower.proofs.opened_program.Opening.run_turns.Goals as goal
 

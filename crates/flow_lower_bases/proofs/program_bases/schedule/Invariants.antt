@@ -1,5 +1,5 @@
 use Rattle.std.proofs.Common.{◌≡◌, ◌++◌, reverse, vec_len}
-use Rattle.flow_lower.proofs.program_bases.schedule.Given as goal
+use Rattle.flow_lower_bases.proofs.program_bases.schedule.Given as goal
 
 abbrev pub invariant-loop-base : goal.invariant-loop-base
 invariant-loop-base l = l.stack.items ++ reverse l.bases.items ≡ l.initial.stack.items ++ reverse l.initial.bases.items

@@ -4,7 +4,7 @@ use Rattle.c_layout.specs.Layout.{size_of_type}
 use Rattle.c_layout.specs.CheckedUnits.{StaticView, LiteralView, UnitView}
 use Rattle.c_layout.specs.declared.checked_tree.checked_units.StaticBase.TheVariants as shared
 use Rattle.flow_program_views.specs.ProgramViews.{Stored, Spelled, InitialView}
-use Rattle.flow_lower.specs.BaseTables.{TableView, known}
+use Rattle.flow_lower_bases.specs.BaseTables.{TableView, known}
 
 abbrev pub initial_object : UnitView → TableView → ℕ → StaticView → InitialView
 initial_object u b n o = record { object = shared.Object n; size = size_of_type u.structs u.model.pointer o.ctype; base = known b.objects n; first = Stored o.stores }

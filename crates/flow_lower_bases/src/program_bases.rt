@@ -6,8 +6,8 @@ ghost use Rattle.flow_lower_tasks.specs.Pieces.{name_view, target_view};
 ghost use Rattle.flow_lower_counts.specs.SharedObjects.{all_pointed};
 ghost use Rattle.c_layout.specs.declared.checked_tree.checked_units.StaticBase.TheVariants as shared;
 ghost use Rattle.c_layout.specs.declared.shapes.BaseKind.TheVariants as kind;
-ghost use Rattle.flow_lower.specs.BaseTables as spec;
-ghost use Rattle.flow_lower.specs.BaseTables.{table, named};
+ghost use Rattle.flow_lower_bases.specs.BaseTables as spec;
+ghost use Rattle.flow_lower_bases.specs.BaseTables.{table, named};
 
 use c_layout::{
     BaseInfo, BaseKind, CType, Checked, Function, Shape, StaticBase, StaticStore, StringLiteral,

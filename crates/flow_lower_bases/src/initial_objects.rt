@@ -1,8 +1,8 @@
 //! The first bytes of the objects of static storage and the literals.
 ghost use Rattle.std.specs.Prelude.{◌≡◌, ◌++◌, IfOk, map};
 ghost use Rattle.c_layout.specs.CheckedUnits.{unit_view, static_view, literal_view};
-ghost use Rattle.flow_lower.specs.BaseTables.{table};
-ghost use Rattle.flow_lower.specs.InitialBytes as spec;
+ghost use Rattle.flow_lower_bases.specs.BaseTables.{table};
+ghost use Rattle.flow_lower_bases.specs.InitialBytes as spec;
 ghost use Rattle.flow_program_views.specs.ProgramViews.{initial};
 
 use crate::program_bases::{BaseTable, known};

@@ -1,9 +1,9 @@
 use Rattle.std.proofs.Common.{reverse, ap, sym, ◌∙◌}
 use Rattle.c_layout.specs.CheckedUnits.{unit_view}
-use Rattle.flow_lower.specs.BaseTables.{table}
-use Rattle.flow_lower.proofs.Stacks.{top}
-use Rattle.flow_lower.proofs.SharedTurns.{one_turn, no_turns}
-use Rattle.flow_lower.proofs.program_bases.BaseTable.make_all.Goals as goal
+use Rattle.flow_lower_bases.specs.BaseTables.{table}
+use Rattle.flow_lower_bases.proofs.Stacks.{top}
+use Rattle.flow_lower_bases.proofs.SharedTurns.{one_turn, no_turns}
+use Rattle.flow_lower_bases.proofs.program_bases.BaseTable.make_all.Goals as goal
 
 pub loop-turn-preserved : goal.loop-turn-preserved
 loop-turn-preserved c =

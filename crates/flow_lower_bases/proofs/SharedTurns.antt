@@ -2,7 +2,7 @@
 use Rattle.std.proofs.Common.{◌≡◌, ◌<◌, ◌≤◌, ◌-◌, ◌+◌, ℕ, List, [], ◌∷◌, ◌++◌, reverse, refl, zero, suc, arith, ap, sym, ◌∙◌}
 use Rattle.c_layout.specs.CheckedUnits.{UnitView}
 use Rattle.c_layout.specs.declared.checked_tree.checked_units.StaticBase.{StaticBase}
-use Rattle.flow_lower.specs.BaseTables.{TableView, with_all, with_shared, brought}
+use Rattle.flow_lower_bases.specs.BaseTables.{TableView, with_all, with_shared, brought}
 
 pub nothing_left : (u : UnitView) (n : ℕ) (b : TableView) → with_all u n [] b ≡ b
 nothing_left u zero b = refl

@@ -1,0 +1,2 @@
+pub mod BaseTables
+pub mod InitialBytes
