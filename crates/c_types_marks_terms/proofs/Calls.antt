@@ -26,8 +26,8 @@ use Rattle.c_types_primary.specs.PrintfFormats.{wanted_by}
 use Rattle.c_types_primary.specs.Primaries.{no_number}
 use Rattle.c_types_primary.specs.declared.calls.Callee.{Callee}
 use Rattle.c_types_primary.specs.declared.calls.Callee.TheVariants as callee
-use Rattle.c_types_primary.specs.declared.printf_formats.Wanted.{Wanted}
-use Rattle.c_types_primary.specs.declared.printf_formats.Wanted.TheVariants as want
+use Rattle.c_types_primary_formats.specs.declared.printf_formats.Wanted.{Wanted}
+use Rattle.c_types_primary_formats.specs.declared.printf_formats.Wanted.TheVariants as want
 use Rattle.flow_lower_functions.specs.Functions.{local_type}
 use Rattle.flow_lower_tasks.specs.TermKinds as flow
 use Rattle.ref_machine_kinds.specs.KindedTerms.{argument_kinds}

@@ -1,6 +1,4 @@
 pub mod LibraryNames
-pub mod Formats
-pub mod Flags
 pub mod Words
 pub mod Layers
 pub mod Arguments

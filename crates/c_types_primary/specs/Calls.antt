@@ -26,11 +26,11 @@ use Rattle.c_types_operands.specs.Arithmetic.{int_kind}
 use Rattle.c_types_operators.specs.UnaryOperators.{promoted_kind}
 use Rattle.c_types_primary.specs.Lists.{if_first}
 use Rattle.c_types_primary.specs.Primaries.{no_number, is_missing, char_kind, library_named, meaning_of}
-use Rattle.c_types_primary.specs.PrintfFormats.{wanted_by}
-use Rattle.c_types_primary.specs.declared.printf_formats.Length.{Length}
-use Rattle.c_types_primary.specs.declared.printf_formats.Length.TheVariants as size
-use Rattle.c_types_primary.specs.declared.printf_formats.Wanted.{Wanted}
-use Rattle.c_types_primary.specs.declared.printf_formats.Wanted.TheVariants as want
+use Rattle.c_types_primary_formats.specs.PrintfFormats.{wanted_by}
+use Rattle.c_types_primary_formats.specs.declared.printf_formats.Length.{Length}
+use Rattle.c_types_primary_formats.specs.declared.printf_formats.Length.TheVariants as size
+use Rattle.c_types_primary_formats.specs.declared.printf_formats.Wanted.{Wanted}
+use Rattle.c_types_primary_formats.specs.declared.printf_formats.Wanted.TheVariants as want
 use Rattle.c_types_primary.specs.declared.calls.Callee.{Callee}
 use Rattle.c_types_primary.specs.declared.calls.Callee.TheVariants as callee
 

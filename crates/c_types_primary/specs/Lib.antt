@@ -1,6 +1,6 @@
+pub use Rattle.c_types_primary_formats.specs.PrintfFormats
 pub mod Lists
 pub mod Primaries
 pub mod Members
-pub mod PrintfFormats
 pub mod TypeNames
 pub mod Calls

@@ -33,7 +33,7 @@ use Rattle.c_types_primary.specs.PrintfFormats.{wanted_by}
 use Rattle.c_types_primary.specs.TypeNames.{named_type}
 use Rattle.c_types_primary.specs.declared.calls.Callee.{Callee}
 use Rattle.c_types_primary.specs.declared.calls.Callee.TheVariants as callee
-use Rattle.c_types_primary.specs.declared.printf_formats.Wanted.{Wanted}
+use Rattle.c_types_primary_formats.specs.declared.printf_formats.Wanted.{Wanted}
 use Rattle.c_types_expressions.specs.Leaves.{named, callee_of, noted_callee, first_tree}
 use Rattle.c_types_expressions.specs.Expressions as spec
 use Rattle.c_types_laws.proofs.Expressing.{typed_leads, lengths_lead, type_name_leads}

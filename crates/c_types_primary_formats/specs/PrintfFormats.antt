@@ -1,12 +1,12 @@
 -- The formats of `printf` (7.21.6.1).
 use Rattle.std.specs.Prelude.{ℕ, zero, suc, ◌==◌, Bool, true, false, ◌||◌, cond, List, [], ◌∷◌, length, Option, Some, None, option_map}
 use Rattle.std.specs.Char.{is_ascii_digit}
-use Rattle.c_types_primary.specs.declared.printf_formats.Length.{Length}
-use Rattle.c_types_primary.specs.declared.printf_formats.Length.TheVariants as size
-use Rattle.c_types_primary.specs.declared.printf_formats.Wanted.{Wanted}
-use Rattle.c_types_primary.specs.declared.printf_formats.Wanted.TheVariants as want
-use Rattle.c_types_primary.specs.declared.printf_formats.Piece.{Piece}
-use Rattle.c_types_primary.specs.declared.printf_formats.Piece.TheVariants as pieces
+use Rattle.c_types_primary_formats.specs.declared.printf_formats.Length.{Length}
+use Rattle.c_types_primary_formats.specs.declared.printf_formats.Length.TheVariants as size
+use Rattle.c_types_primary_formats.specs.declared.printf_formats.Wanted.{Wanted}
+use Rattle.c_types_primary_formats.specs.declared.printf_formats.Wanted.TheVariants as want
+use Rattle.c_types_primary_formats.specs.declared.printf_formats.Piece.{Piece}
+use Rattle.c_types_primary_formats.specs.declared.printf_formats.Piece.TheVariants as pieces
 
 -- `-`, `+`, a space, `0` or `#`
 abbrev pub is_flag : ℕ → Bool

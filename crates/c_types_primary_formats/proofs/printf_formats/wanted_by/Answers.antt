@@ -1,8 +1,8 @@
 use Rattle.std.proofs.Common.{◌∙◌, sym, ap, arith, length}
-use Rattle.c_types_primary.specs.PrintfFormats.{piece_view}
-use Rattle.c_types_primary.proofs.Formats.{passes, takes, ends, over}
-use Rattle.c_types_primary.proofs.printf_formats.wanted_by.Goals as goal
-use Rattle.c_types_primary.proofs.printf_formats.wanted_by.Goals.{in-Passes, in-Takes+in_ok-push-in-Takes}
+use Rattle.c_types_primary_formats.specs.PrintfFormats.{piece_view}
+use Rattle.c_types_primary_formats.proofs.Formats.{passes, takes, ends, over}
+use Rattle.c_types_primary_formats.proofs.printf_formats.wanted_by.Goals as goal
+use Rattle.c_types_primary_formats.proofs.printf_formats.wanted_by.Goals.{in-Passes, in-Takes+in_ok-push-in-Takes}
 
 pub returns-in-Ends : goal.returns-in-Ends
 returns-in-Ends c =

@@ -1,7 +1,7 @@
 //! The formats of `printf` (7.21.6.1 of ISO/IEC 9899:2011).
 ghost use Rattle.std.specs.Prelude.{◌≡◌, IfOk, option_map, vec_items};
-ghost use Rattle.c_types_primary.specs.PrintfFormats as spec;
-ghost use Rattle.c_types_primary.specs.PrintfFormats.{length_view, piece_view};
+ghost use Rattle.c_types_primary_formats.specs.PrintfFormats as spec;
+ghost use Rattle.c_types_primary_formats.specs.PrintfFormats.{length_view, piece_view};
 
 use std::alloc::{AllocError, Global};
 

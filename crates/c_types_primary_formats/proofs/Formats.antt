@@ -1,8 +1,8 @@
 -- The pieces of a format, turn by turn.
 use Rattle.std.proofs.Common.{◌≡◌, ◌<◌, ◌≤◌, ◌-◌, ◌+◌, ℕ, zero, suc, List, [], ◌∷◌, ◌++◌, length, Option, Some, None, option_map, refl, sym, ◌∙◌, ap, arith}
 use Rattle.std.proofs.lemmas.List.{append-nil, append_assoc}
-use Rattle.c_types_primary.specs.declared.printf_formats.Wanted.{Wanted}
-use Rattle.c_types_primary.specs.PrintfFormats.{PieceView, Ends, Passes, Takes, Faults, first_piece, with_wanted, wanted_from, wanted_within}
+use Rattle.c_types_primary_formats.specs.declared.printf_formats.Wanted.{Wanted}
+use Rattle.c_types_primary_formats.specs.PrintfFormats.{PieceView, Ends, Passes, Takes, Faults, first_piece, with_wanted, wanted_from, wanted_within}
 
 -- what is wanted behind this
 abbrev pub with_all : List Wanted → Option (List Wanted) → Option (List Wanted)

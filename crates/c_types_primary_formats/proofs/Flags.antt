@@ -1,7 +1,7 @@
 -- Flags and widths of a conversion, byte by byte.
 use Rattle.std.proofs.Common.{◌≡◌, ◌≤◌, ◌+◌, ℕ, true, false, cond, List, [], ◌∷◌, length, refl, sym, ◌∙◌, ap, arith}
 use Rattle.std.specs.Char.{is_ascii_digit}
-use Rattle.c_types_primary.specs.PrintfFormats.{is_flag, behind_flags, behind_width}
+use Rattle.c_types_primary_formats.specs.PrintfFormats.{is_flag, behind_flags, behind_width}
 
 pub flag_passes : (b : ℕ) (more text : List ℕ) → is_flag b ≡ true → behind_flags (b ∷ more) ≡ behind_flags text → behind_flags more ≡ behind_flags text
 unfolding behind_flags
