@@ -13,7 +13,7 @@ use Rattle.flow_lower_shapes.specs.HeapBases.{heap_shape}
 use Rattle.flow_lower_shapes.specs.FirstZeros.{object_shape}
 use Rattle.flow_lower_tasks.specs.Pieces.{NameView, Local, Outcome, Static, Literal, Allocation}
 use Rattle.flow_lower_functions.specs.Functions.{local_type}
-use Rattle.flow_lower_counts.specs.SharedObjects.{literal_type, all_pointed}
+use Rattle.flow_lower_counts_parts.specs.SharedObjects.{literal_type, all_pointed}
 use Rattle.flow_lower_bases.specs.declared.program_bases.BaseTable.{BaseTable}
 
 -- the bases so far, how many values a row has so far, and which bases the objects of static storage and

@@ -3,7 +3,7 @@ ghost use Rattle.std.specs.Prelude.{◌≡◌, ◌++◌, ◌-◌, ◌^◌, IfOk,
 ghost use Rattle.c_layout.specs.Types.{view};
 ghost use Rattle.c_layout.specs.CheckedUnits.{function_view, unit_view, static_view, static_store_view, literal_view};
 ghost use Rattle.flow_lower_tasks.specs.Pieces.{name_view, target_view};
-ghost use Rattle.flow_lower_counts.specs.SharedObjects.{all_pointed};
+ghost use Rattle.flow_lower_counts_parts.specs.SharedObjects.{all_pointed};
 ghost use Rattle.c_layout.specs.declared.checked_tree.checked_units.StaticBase.TheVariants as shared;
 ghost use Rattle.c_layout.specs.declared.shapes.BaseKind.TheVariants as kind;
 ghost use Rattle.flow_lower_bases.specs.BaseTables as spec;
@@ -12,7 +12,7 @@ ghost use Rattle.flow_lower_bases.specs.BaseTables.{table, named};
 use c_layout::{
     BaseInfo, BaseKind, CType, Checked, Function, Shape, StaticBase, StaticStore, StringLiteral,
 };
-use flow_lower_counts::{all_pointed, literal_type, local_type};
+use flow_lower_counts_parts::{all_pointed, literal_type, local_type};
 use flow_lower_functions::BaseName;
 use flow_lower_shapes::{heap_shape, object_shape};
 use flow_program::type_bytes;

@@ -5,13 +5,13 @@ use Rattle.std.specs.List.{slice_get}
 use Rattle.c_layout.specs.CheckedUnits.{FunctionView, UnitView}
 use Rattle.c_layout.specs.StructViews.{StructView}
 use Rattle.flow_lower_tasks.specs.Pieces.{PieceView, Do, DoIfUsed, End, Mark, Call, TemplateView}
-use Rattle.flow_lower_counts.specs.declared.function_counts.BlockExtent.{BlockExtent}
-use Rattle.flow_lower_counts.specs.declared.function_counts.FunctionCounts.{FunctionCounts}
-use Rattle.flow_lower_counts.specs.declared.object_counts.BaseCount.{BaseCount}
-use Rattle.flow_lower_counts.specs.Extents.{with_call}
-use Rattle.flow_lower_counts.specs.PieceCounts as pieces
-use Rattle.flow_lower_counts.specs.PieceCounts.{counts_of, counted, called_temps}
-use Rattle.flow_lower_counts.specs.BaseCounts as bases
+use Rattle.flow_lower_counts_parts.specs.declared.function_counts.BlockExtent.{BlockExtent}
+use Rattle.flow_lower_counts_parts.specs.declared.function_counts.FunctionCounts.{FunctionCounts}
+use Rattle.flow_lower_counts_parts.specs.declared.object_counts.BaseCount.{BaseCount}
+use Rattle.flow_lower_counts_parts.specs.Extents.{with_call}
+use Rattle.flow_lower_counts_parts.specs.PieceCounts as pieces
+use Rattle.flow_lower_counts_parts.specs.PieceCounts.{counts_of, counted, called_temps}
+use Rattle.flow_lower_counts_parts.specs.BaseCounts as bases
 use Rattle.flow_lower_counts.specs.FunctionTotals.{is_nothing, function_counts}
 use Rattle.flow_lower_counts.specs.SettledTemplates as settling
 use Rattle.flow_lower_counts.specs.SettledTemplates.{NamesView, SettlingView, settled}

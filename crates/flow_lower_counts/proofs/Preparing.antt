@@ -6,7 +6,7 @@ use Rattle.c_layout.specs.CheckedUnits.{FunctionView, UnitView}
 use Rattle.flow_lower_tasks.specs.Pieces.{PieceView, TemplateView}
 use Rattle.flow_lower_functions.proofs.OneTemplate.{one_finish}
 use Rattle.flow_lower_functions.specs.Functions.{setting_of, function, no_plan}
-use Rattle.flow_lower_counts.specs.declared.function_counts.FunctionCounts.{FunctionCounts}
+use Rattle.flow_lower_counts_parts.specs.declared.function_counts.FunctionCounts.{FunctionCounts}
 use Rattle.flow_lower_counts.specs.Preparations.{IsTemplateOf, called, Calls, Reaches, begun, further, is_there, is_counted, are_counted, Counts, counts, AreCounts, IsSettled, IsPrepared}
 use Rattle.flow_lower_counts.specs.PreparingSteps.{CallsOf, IsMade, IsReached, AreMade, Progress, IsSettling, AreSettled}
 use Rattle.flow_lower_counts.proofs.Tables.{set_here, set_cases, set_filled, all_empty}

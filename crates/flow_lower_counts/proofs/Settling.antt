@@ -2,7 +2,7 @@
 use Rattle.std.proofs.Common.{◌≡◌, List, [], ◌∷◌, ◌++◌, Option, map, refl, ap, sym, subst, ◌∙◌}
 use Rattle.std.proofs.lemmas.List.{map-append}
 use Rattle.flow_lower_tasks.specs.Pieces.{PieceView}
-use Rattle.flow_lower_counts.specs.declared.function_counts.FunctionCounts.{FunctionCounts}
+use Rattle.flow_lower_counts_parts.specs.declared.function_counts.FunctionCounts.{FunctionCounts}
 use Rattle.flow_lower_counts.specs.SettledTemplates.{NamesView, SettlingView, with_if, with_all, nothing_settled}
 
 pub one_more : (table : List (Option FunctionCounts)) (n : NamesView) (ps : List PieceView) (p : PieceView) (g : SettlingView) → with_all table n (ps ++ p ∷ []) g ≡ with_if table n p (with_all table n ps g)

@@ -7,10 +7,10 @@ use Rattle.cc_base.specs.declared.refusals.Refusal.{Refusal}
 use Rattle.cc_base.specs.declared.refusals.Refusal.TheVariants as refusal
 use Rattle.cc_base.specs.declared.refusals.Stop.{Stop}
 use Rattle.cc_base.specs.declared.refusals.Stop.TheVariants as stop
-use Rattle.flow_lower_counts.specs.declared.function_counts.FunctionCounts.{FunctionCounts}
-use Rattle.flow_lower_counts.specs.declared.object_counts.BaseCount.{BaseCount}
+use Rattle.flow_lower_counts_parts.specs.declared.function_counts.FunctionCounts.{FunctionCounts}
+use Rattle.flow_lower_counts_parts.specs.declared.object_counts.BaseCount.{BaseCount}
 use Rattle.flow_lower_counts.specs.declared.count_limits.UnitCounts.{UnitCounts}
-use Rattle.flow_lower_counts.specs.Extents.{capped}
+use Rattle.flow_lower_counts_parts.specs.Extents.{capped}
 use Rattle.flow_lower_counts.specs.SizeRefusals.{limit_of}
 
 -- the refusal for a count, where it passes its limit

@@ -4,10 +4,10 @@ use Rattle.c_layout.specs.StructViews.{StructView}
 use Rattle.c_layout.specs.CheckedUnits.{FunctionView}
 use Rattle.flow_lower_tasks.specs.Pieces.{TemplateView}
 use Rattle.flow_lower_tasks.specs.TermKinds.{is_void}
-use Rattle.flow_lower_counts.specs.declared.function_counts.BlockExtent.{BlockExtent}
-use Rattle.flow_lower_counts.specs.declared.function_counts.FunctionCounts.{FunctionCounts}
-use Rattle.flow_lower_counts.specs.PieceCounts.{extent, temps, if_used}
-use Rattle.flow_lower_counts.specs.BaseCounts.{both, own_bases, inner_bases, no_bases}
+use Rattle.flow_lower_counts_parts.specs.declared.function_counts.BlockExtent.{BlockExtent}
+use Rattle.flow_lower_counts_parts.specs.declared.function_counts.FunctionCounts.{FunctionCounts}
+use Rattle.flow_lower_counts_parts.specs.PieceCounts.{extent, temps, if_used}
+use Rattle.flow_lower_counts_parts.specs.BaseCounts.{both, own_bases, inner_bases, no_bases}
 
 -- whether a call adds nothing: begun in an empty block it has no instruction, and it has no parameter
 -- and no result

@@ -1,10 +1,10 @@
+pub use Rattle.flow_lower_counts_parts.specs.Extents
+pub use Rattle.flow_lower_counts_parts.specs.PieceCounts
+pub use Rattle.flow_lower_counts_parts.specs.BaseCounts
+pub use Rattle.flow_lower_counts_parts.specs.SharedObjects
 pub mod SizeRefusals
-pub mod Extents
-pub mod PieceCounts
 pub mod FirstOver
-pub mod BaseCounts
 pub mod FunctionTotals
 pub mod SettledTemplates
-pub mod SharedObjects
 pub mod Preparations
 pub mod PreparingSteps

@@ -6,7 +6,7 @@ use Rattle.c_layout.specs.CheckedUnits.{FunctionView, UnitView}
 use Rattle.flow_lower_tasks.specs.Pieces.{PieceView, Do, DoIfUsed, End, Mark, Call, TemplateView, template_view}
 use Rattle.flow_lower_tasks.specs.declared.template_pieces.Template.{Template}
 use Rattle.flow_lower_functions.specs.Functions.{IsTemplate}
-use Rattle.flow_lower_counts.specs.declared.function_counts.FunctionCounts.{FunctionCounts}
+use Rattle.flow_lower_counts_parts.specs.declared.function_counts.FunctionCounts.{FunctionCounts}
 use Rattle.flow_lower_counts.specs.FunctionTotals.{function_counts}
 use Rattle.flow_lower_counts.specs.SettledTemplates.{settled}
 

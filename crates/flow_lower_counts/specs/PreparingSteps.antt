@@ -3,7 +3,7 @@ use Rattle.std.specs.Prelude.{◌≡◌, ◌≤◌, ◌<◌, ◌-◌, ◌^◌, �
 use Rattle.c_layout.specs.CheckedUnits.{FunctionView, UnitView}
 use Rattle.flow_lower_tasks.specs.Pieces.{TemplateView}
 use Rattle.flow_lower_tasks.specs.declared.template_pieces.Template.{Template}
-use Rattle.flow_lower_counts.specs.declared.function_counts.FunctionCounts.{FunctionCounts}
+use Rattle.flow_lower_counts_parts.specs.declared.function_counts.FunctionCounts.{FunctionCounts}
 use Rattle.flow_lower_counts.specs.declared.prepared_functions.PreparedUnit.{PreparedUnit}
 use Rattle.flow_lower_counts.specs.SettledTemplates.{settled}
 use Rattle.flow_lower_counts.specs.Preparations.{templates_view, IsTemplateOf, Calls, Reaches, are_counted, counts_from, AreCounts, IsSettled}

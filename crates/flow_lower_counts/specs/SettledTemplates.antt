@@ -2,10 +2,10 @@
 use Rattle.std.specs.Prelude.{ℕ, ◌+◌, ◌-◌, Bool, true, false, cond, ◌==◌, List, [], ◌∷◌, ◌++◌, map, replicate, slice_set, get_or, Option, Some, None}
 use Rattle.flow_lower_tasks.specs.Acts.{Step}
 use Rattle.flow_lower_tasks.specs.Pieces.{ExitView, PieceView, Do, DoIfUsed, End, Mark, Call, piece_view, TemplateView}
-use Rattle.flow_lower_counts.specs.declared.function_counts.FunctionCounts.{FunctionCounts}
+use Rattle.flow_lower_counts_parts.specs.declared.function_counts.FunctionCounts.{FunctionCounts}
 use Rattle.flow_lower_counts.specs.declared.settled_templates.LabelNames.{LabelNames}
 use Rattle.flow_lower_counts.specs.declared.settled_templates.Settling.{Settling}
-use Rattle.flow_lower_counts.specs.PieceCounts.{counted}
+use Rattle.flow_lower_counts_parts.specs.PieceCounts.{counted}
 
 -- whether a call of a function adds nothing
 abbrev pub is_silent : List (Option FunctionCounts) → ℕ → Bool

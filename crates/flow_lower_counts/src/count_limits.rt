@@ -3,9 +3,8 @@ ghost use Rattle.std.specs.Prelude.{◌≡◌, ◌≤◌, IfErr, IfOk, Some, Non
 ghost use Rattle.flow_lower_counts.specs.SizeRefusals.{limit_of, IsTooLarge};
 ghost use Rattle.flow_lower_counts.specs.FirstOver.{over, first_over, refusal_in, unit_counts, pool};
 
-use crate::function_counts::{FunctionCounts, capped_product, capped_sum};
-use crate::object_counts::BaseCount;
 use cc_base::{Count, Fault, Limits, Place, Refusal, Stop};
+use flow_lower_counts_parts::{BaseCount, FunctionCounts, capped_product, capped_sum};
 
 /// The counts that are known before the program is made, each the exact one or 10 to the 18 where that
 /// is less.

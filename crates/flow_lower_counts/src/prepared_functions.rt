@@ -3,16 +3,17 @@ ghost use Rattle.std.specs.Prelude.{◌≡◌, ◌<◌, IfOk, IfSome, Some, None
 ghost use Rattle.c_layout.specs.StructViews.{structs_view};
 ghost use Rattle.c_layout.specs.CheckedUnits.{function_view, unit_view};
 ghost use Rattle.flow_lower_tasks.specs.Pieces.{piece_view, template_view};
-ghost use Rattle.flow_lower_counts.specs.declared.function_counts.FunctionCounts.{FunctionCounts};
+ghost use Rattle.flow_lower_counts_parts.specs.declared.function_counts.FunctionCounts.{FunctionCounts};
 ghost use Rattle.flow_lower_counts.specs.FunctionTotals.{is_nothing, function_counts};
 ghost use Rattle.flow_lower_counts.specs.Preparations as spec;
 ghost use Rattle.flow_lower_counts.specs.Preparations.{templates_view, IsPrepared};
 ghost use Rattle.flow_lower_counts.specs.PreparingSteps.{progress, CallsOf, IsMade, AreMade, IsCounting, IsSettling, AreSettled};
 
-use crate::function_counts::{BlockExtent, FunctionCounts, counts_at, extent, if_used, temps};
-use crate::object_counts::{both, inner_bases, own_bases};
 use crate::settled_templates::settled;
 use c_layout::{Checked, Function};
+use flow_lower_counts_parts::{
+    BlockExtent, FunctionCounts, both, counts_at, extent, if_used, inner_bases, own_bases, temps,
+};
 use flow_lower_functions::{Piece, Template, template};
 use flow_lower_tasks::is_void;
 use std::alloc::{AllocError, Global};

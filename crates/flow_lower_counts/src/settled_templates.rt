@@ -5,7 +5,7 @@ ghost use Rattle.flow_lower_tasks.specs.Pieces.{piece_view, exits_view, template
 ghost use Rattle.flow_lower_counts.specs.SettledTemplates as spec;
 ghost use Rattle.flow_lower_counts.specs.SettledTemplates.{names_of, settling};
 
-use crate::function_counts::FunctionCounts;
+use flow_lower_counts_parts::FunctionCounts;
 use flow_lower_functions::{Exit, Piece, Template};
 use flow_program::Instruction;
 use std::alloc::{AllocError, Global};

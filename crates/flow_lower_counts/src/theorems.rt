@@ -2,7 +2,7 @@
 ghost use Rattle.std.specs.Prelude.{◌≡◌, ℕ};
 ghost use Rattle.c_layout.specs.CheckedUnits.{UnitView};
 ghost use Rattle.flow_lower_tasks.specs.Pieces.{TemplateView};
-ghost use Rattle.flow_lower_counts.specs.declared.function_counts.FunctionCounts.{FunctionCounts};
+ghost use Rattle.flow_lower_counts_parts.specs.declared.function_counts.FunctionCounts.{FunctionCounts};
 ghost use Rattle.flow_lower_counts.specs.Preparations.{Counts, IsSettled};
 
 /// A function has one row of counts and one settled template at most, whatever tables they are made from.

@@ -4,7 +4,7 @@ ghost use Rattle.c_layout.specs.CheckedUnits.{FunctionView};
 ghost use Rattle.c_layout.specs.StructViews.{StructView};
 ghost use Rattle.flow_lower_tasks.specs.Pieces.{TemplateView};
 ghost use Rattle.flow_lower_functions.specs.Functions.{IsTemplate};
-ghost use Rattle.flow_lower_counts.specs.declared.function_counts.FunctionCounts.{FunctionCounts};
+ghost use Rattle.flow_lower_counts_parts.specs.declared.function_counts.FunctionCounts.{FunctionCounts};
 ghost use Rattle.flow_lower_counts.specs.SettledTemplates.{settled};
 ghost use Rattle.flow_lower_laws.specs.NamedBases.{AreNamed};
 ghost use Rattle.flow_lower_laws.specs.PieceOrder.{AreFollowed};

@@ -17,7 +17,7 @@ use Rattle.flow_program.specs.declared.machine_instructions.Operation.TheVariant
 use Rattle.flow_program.specs.declared.programs.Flow.{Flow}
 use Rattle.flow_program_views.specs.ProgramViews.{FlowView, block, edge}
 use Rattle.flow_lower_counts.specs.Preparations.{IsPrepared}
-use Rattle.flow_lower_counts.specs.declared.function_counts.FunctionCounts.{FunctionCounts}
+use Rattle.flow_lower_counts_parts.specs.declared.function_counts.FunctionCounts.{FunctionCounts}
 use Rattle.flow_lower_marks.specs.MarkedLabels.{LabelsAreMarkedBelow}
 use Rattle.flow_lower_tasks.specs.Acts.{act, step}
 use Rattle.flow_lower_tasks.specs.Pieces.{TemplateView}

@@ -6,7 +6,7 @@ use Rattle.std.proofs.lemmas.Option.{same_Some}
 use Rattle.c_layout.specs.CheckedUnits.{FunctionView, UnitView}
 use Rattle.c_types_labels.specs.DistinctCases.{is_distinct_function, is_distinct_unit}
 use Rattle.flow_lower_tasks.specs.Pieces.{TemplateView}
-use Rattle.flow_lower_counts.specs.declared.function_counts.FunctionCounts.{FunctionCounts}
+use Rattle.flow_lower_counts_parts.specs.declared.function_counts.FunctionCounts.{FunctionCounts}
 use Rattle.flow_lower_counts.specs.Preparations.{IsPrepared}
 use Rattle.flow_program_views.specs.ProgramViews.{EdgeView}
 use Rattle.flow_lower.specs.Openings.{joined, template_at, whole, resolved_edge, resolved}

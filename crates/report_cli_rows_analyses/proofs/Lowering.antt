@@ -18,7 +18,7 @@ use Rattle.flow_lower_counts.specs.FirstOver.{unit_counts}
 use Rattle.flow_lower_counts.specs.Preparations.{Calls, called, IsTemplateOf, Reaches, begun, further, Counts, counts, counts_from, AreCounts, IsSettled, IsPrepared}
 use Rattle.flow_lower_counts.specs.SettledTemplates.{settled, with_if}
 use Rattle.flow_lower_counts.specs.SharedObjects.{shared_bases}
-use Rattle.flow_lower_counts.specs.declared.function_counts.FunctionCounts.{FunctionCounts}
+use Rattle.flow_lower_counts_parts.specs.declared.function_counts.FunctionCounts.{FunctionCounts}
 use Rattle.flow_lower_counts.specs.declared.count_limits.UnitCounts.{UnitCounts}
 use Rattle.flow_lower.specs.Lowerings.{IsCounted, IsLowering}
 use Rattle.flow_program_views.specs.ProgramViews.{FlowView, flow_view}

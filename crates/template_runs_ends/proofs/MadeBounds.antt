@@ -3,7 +3,7 @@ use Rattle.std.proofs.Common.{◌≡◌, ◌≤◌, ◌<◌, ◌⊎◌, inl, inr
 use Rattle.c_layout.specs.CheckedUnits.{UnitView}
 use Rattle.flow_lower_tasks.specs.Acts.{Step}
 use Rattle.flow_lower_tasks.specs.Pieces.{ExitView, PieceView, Do, DoIfUsed, End, Mark, Call, TemplateView}
-use Rattle.flow_lower_counts.specs.declared.function_counts.FunctionCounts.{FunctionCounts}
+use Rattle.flow_lower_counts_parts.specs.declared.function_counts.FunctionCounts.{FunctionCounts}
 use Rattle.flow_lower_counts.specs.SettledTemplates.{NamesView, is_silent, renamed, renamed_exits}
 use Rattle.flow_lower_counts.specs.Preparations.{Reaches, further, Calls, Counts, counts}
 use Rattle.template_runs.specs.TemplateExits.{behind_mark}

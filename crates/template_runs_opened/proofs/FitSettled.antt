@@ -3,7 +3,7 @@ use Rattle.std.proofs.Common.{◌≡◌, ◌<◌, ◌≤◌, ℕ, zero, suc, ◌
 use Rattle.std.proofs.lemmas.Bool.{eqb-true}
 use Rattle.c_layout.specs.CheckedUnits.{FunctionView, UnitView}
 use Rattle.flow_lower_tasks.specs.Pieces.{NameView, ExitView, PieceView, Do, DoIfUsed, End, Mark, Call, TemplateView}
-use Rattle.flow_lower_counts.specs.declared.function_counts.FunctionCounts.{FunctionCounts}
+use Rattle.flow_lower_counts_parts.specs.declared.function_counts.FunctionCounts.{FunctionCounts}
 use Rattle.flow_lower_counts.specs.SettledTemplates.{NamesView, is_silent, with_begun, with_label, with_other, with_piece, with_pieces, no_names, renaming, renamed_exits, settled}
 use Rattle.template_runs_settled.specs.SettledRuns.{LabelsStandOnce}
 use Rattle.template_runs_settled.proofs.SettledPieces.{from, own, settled_from}

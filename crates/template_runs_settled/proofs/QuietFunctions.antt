@@ -4,8 +4,8 @@ use Rattle.std.specs.List.{slice_get}
 use Rattle.std.proofs.lemmas.Bool.{eqb-true}
 use Rattle.c_layout.specs.CheckedUnits.{FunctionView, UnitView}
 use Rattle.flow_lower_tasks.specs.Pieces.{PieceView, Do, DoIfUsed, End, Mark, Call, TemplateView}
-use Rattle.flow_lower_counts.specs.declared.function_counts.BlockExtent.{BlockExtent}
-use Rattle.flow_lower_counts.specs.declared.function_counts.FunctionCounts.{FunctionCounts}
+use Rattle.flow_lower_counts_parts.specs.declared.function_counts.BlockExtent.{BlockExtent}
+use Rattle.flow_lower_counts_parts.specs.declared.function_counts.FunctionCounts.{FunctionCounts}
 use Rattle.flow_lower_counts.specs.Extents.{capped, with_instruction, with_end, with_mark, added_by, with_call}
 use Rattle.flow_lower_counts.specs.PieceCounts.{nothing, counts_of, counted, with_piece, with_pieces, extent}
 use Rattle.flow_lower_tasks.specs.TermKinds.{is_void}

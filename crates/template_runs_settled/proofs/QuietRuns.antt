@@ -5,7 +5,7 @@ use Rattle.lib_models_memory.specs.Scalars.{Scalar}
 use Rattle.lib_models_effects.specs.NumberedTables.{empty_table}
 use Rattle.lib_models_effects.specs.Worlds.{World, unviolated, Violation}
 use Rattle.flow_lower_tasks.specs.Pieces.{PieceView, Do, DoIfUsed, End, Mark, Call, TemplateView}
-use Rattle.flow_lower_counts.specs.declared.function_counts.FunctionCounts.{FunctionCounts}
+use Rattle.flow_lower_counts_parts.specs.declared.function_counts.FunctionCounts.{FunctionCounts}
 use Rattle.flow_lower_counts.specs.Preparations.{Reaches, Calls, Counts, counts}
 use Rattle.template_runs.specs.TemplateStates.{Templates, Frame, Standing, TemplateRun, running}
 use Rattle.template_runs.specs.TemplateSteps as runs

@@ -3,7 +3,7 @@ use Rattle.std.proofs.Common.{◌≡◌, ◌≤◌, ◌<◌, ℕ, ◌+◌, ◌-�
 use Rattle.std.proofs.lemmas.Bool.{eq-eqb, eqb-true, ltb-true, ltb-false}
 use Rattle.std.proofs.lemmas.List.{append-nil, get_or-set_same, get_or-set_other, length-set, length-replicate}
 use Rattle.flow_lower_tasks.specs.Pieces.{PieceView, Do, DoIfUsed, End, Mark, Call, TemplateView}
-use Rattle.flow_lower_counts.specs.declared.function_counts.FunctionCounts.{FunctionCounts}
+use Rattle.flow_lower_counts_parts.specs.declared.function_counts.FunctionCounts.{FunctionCounts}
 use Rattle.flow_lower_counts.specs.SettledTemplates.{NamesView, SettlingView, is_silent, with_begun, with_label, with_other, with_piece, with_pieces, no_names, renaming, renamed, renamed_end, is_last, with_mark, with_settled, with_if, with_all, nothing_settled, settled}
 use Rattle.flow_lower_debts.specs.Marks.{one, below, marked, all_marked}
 use Rattle.flow_lower_debts.proofs.MarkArithmetic.{one_yes, below_no, at_most_one}

@@ -3,7 +3,7 @@ use Rattle.std.proofs.Common.{◌≡◌, ◌<◌, ◌≤◌, ℕ, zero, suc, ◌
 use Rattle.c_layout.specs.CheckedUnits.{UnitView}
 use Rattle.lib_models_effects.specs.Worlds.{Violation}
 use Rattle.flow_lower_tasks.specs.Pieces.{PieceView, Do, DoIfUsed, End, Mark, Call, TemplateView}
-use Rattle.flow_lower_counts.specs.declared.function_counts.FunctionCounts.{FunctionCounts}
+use Rattle.flow_lower_counts_parts.specs.declared.function_counts.FunctionCounts.{FunctionCounts}
 use Rattle.flow_lower_counts.specs.SettledTemplates.{NamesView, is_silent, renamed_end}
 use Rattle.flow_lower_counts.specs.Preparations.{Reaches, Calls}
 use Rattle.template_runs.specs.TemplateStates.{Templates, Frame, Standing, TemplateRun, running}

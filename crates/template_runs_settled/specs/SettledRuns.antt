@@ -3,7 +3,7 @@ use Rattle.std.specs.Prelude.{◌≡◌, ◌≤◌, ◌<◌, ◌⊎◌, ℕ, ℤ
 use Rattle.c_layout.specs.CheckedUnits.{FunctionView, UnitView}
 use Rattle.lib_models_effects.specs.Worlds.{Stuck}
 use Rattle.flow_lower_tasks.specs.Pieces.{TemplateView}
-use Rattle.flow_lower_counts.specs.declared.function_counts.FunctionCounts.{FunctionCounts}
+use Rattle.flow_lower_counts_parts.specs.declared.function_counts.FunctionCounts.{FunctionCounts}
 use Rattle.flow_lower_counts.specs.Preparations.{IsTemplateOf, Reaches, are_counted, AreCounts}
 use Rattle.flow_lower_counts.specs.SettledTemplates.{settled}
 use Rattle.flow_lower_debts.specs.Marks.{below, all_marked}

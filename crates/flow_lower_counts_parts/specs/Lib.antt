@@ -1,0 +1,4 @@
+pub mod Extents
+pub mod PieceCounts
+pub mod BaseCounts
+pub mod SharedObjects
