@@ -21,8 +21,8 @@ use Rattle.ref_machine.specs.SourceSteps.{Turned, turn}
 use Rattle.replay_run_machine.specs.Asked.{named_size, made_by, IsMadeBy}
 use Rattle.replay_run_machine.specs.MachineViews.{state_view}
 use Rattle.replay_run_machine.specs.Moves.{Moves, CountsAs, TurnsTo}
-use Rattle.replay_run_machine.specs.declared.machines.Machine.{Machine}
-use Rattle.replay_run_machine.specs.declared.item_turns.Turned7.{Turned7}
+use Rattle.replay_run_machine_items.specs.declared.machines.Machine.{Machine}
+use Rattle.replay_run_machine_items.specs.declared.item_turns.Turned7.{Turned7}
 use Rattle.replay_run.specs.Following.{violation_of, run_view, counted_if, GoesOn, StaysWithin, told_of}
 use Rattle.replay_run.proofs.Allocations.{nothing_passes}
 use Rattle.replay_run.proofs.Growth.{turn_passes, made_anyway}

@@ -11,9 +11,9 @@ use Rattle.ref_machine.specs.SourceStates.{function_at}
 use Rattle.ref_machine.specs.StatementItems.{body}
 use Rattle.replay_run_items.specs.Standings.{standing}
 use Rattle.replay_run_operations.specs.Pending.{pending}
-use Rattle.replay_run_machine.specs.MachineViews.{names_view, frame_view, state_view}
-use Rattle.replay_run_machine.specs.declared.machines.Machine.{Machine}
-use Rattle.replay_run_machine.proofs.MovedStates.{with_parts}
+use Rattle.replay_run_machine_items.specs.MachineViews.{names_view, frame_view, state_view}
+use Rattle.replay_run_machine_items.specs.declared.machines.Machine.{Machine}
+use Rattle.replay_run_machine_items.proofs.MovedStates.{with_parts}
 
 pub begun : (u : UnitView) (w : World) (m : Machine) → m.function ≡ u.entry → names_view m.names.items ≡ name_parameters u 0 (entry_parameters u) → (standing u m.control.items).items ≡ body_of (function_at u u.entry) → m.values.items ≡ [] → m.frames.items ≡ [] → world_view m.world ≡ w → state_view u m ≡ first_state u w
 begun u w m function names control values frames world = with_parts u m (first_state u w) function names control (ap pending values) (ap (λ fs. reverse (map (frame_view u) fs)) frames) world

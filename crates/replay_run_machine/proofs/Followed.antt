@@ -12,8 +12,8 @@ use Rattle.ref_machine.specs.ObjectSteps.{on}
 use Rattle.ref_machine.specs.SourceStates.{State, first_do}
 use Rattle.ref_machine.specs.SourceSteps.{turn_by}
 use Rattle.replay_run_items.specs.Standings.{Standing, on_line}
-use Rattle.replay_run_machine.specs.Moves.{Moves, holds_on}
-use Rattle.replay_run_machine.specs.declared.machines.Machine.{Machine}
+use Rattle.replay_run_machine_items.specs.Moves.{Moves, holds_on}
+use Rattle.replay_run_machine_items.specs.declared.machines.Machine.{Machine}
 
 listed_items : (xs : List Item) → listed (items_of xs) ≡ xs
 listed_items [] = refl

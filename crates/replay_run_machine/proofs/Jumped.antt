@@ -16,10 +16,10 @@ use Rattle.ref_machine.specs.SourceStates.{State, if_some, stuck_at}
 use Rattle.ref_machine.specs.SourceSteps.{jump_to}
 use Rattle.replay_run_items.specs.Jumps.{jump_from, entering_from}
 use Rattle.replay_run_statements.specs.LabelViews.{Finds}
-use Rattle.replay_run_machine.specs.MachineViews.{state_view}
-use Rattle.replay_run_machine.specs.Moves.{Moves, JumpsTo, LandsOn}
-use Rattle.replay_run_machine.specs.declared.machines.Machine.{Machine}
-use Rattle.replay_run_machine.proofs.ToldTurns.{moves_stuck}
+use Rattle.replay_run_machine_items.specs.MachineViews.{state_view}
+use Rattle.replay_run_machine_items.specs.Moves.{Moves, JumpsTo, LandsOn}
+use Rattle.replay_run_machine_items.specs.declared.machines.Machine.{Machine}
+use Rattle.replay_run_machine_items.proofs.ToldTurns.{moves_stuck}
 
 -- ---- jumps
 

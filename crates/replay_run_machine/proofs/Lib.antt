@@ -1,10 +1,5 @@
-pub mod Names
-pub mod MovedStates
 pub mod ParameterNames
-pub mod Entries
 pub mod Followed
-pub mod ToldTurns
 pub mod Jumped
 pub mod Selected
 pub mod Begun
-pub mod Invoked

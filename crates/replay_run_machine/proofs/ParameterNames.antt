@@ -7,8 +7,8 @@ use Rattle.c_layout.specs.CheckedUnits.{UnitView}
 use Rattle.lib_models_effects.specs.NumberedTables.{set_at}
 use Rattle.lib_models_effects.specs.UnitStarts.{parameter_instance}
 use Rattle.ref_machine.specs.SourceRuns.{name_parameters}
-use Rattle.replay_run_machine.proofs.Names.{set_here, set_elsewhere}
-use Rattle.replay_run_machine.specs.MachineViews.{names_view, parameters_named}
+use Rattle.replay_run_machine_items.proofs.Names.{set_here, set_elsewhere}
+use Rattle.replay_run_machine_items.specs.MachineViews.{names_view, parameters_named}
 
 set_below : (f : ℕ → Option ℕ) (at n : ℕ) (x : Option ℕ) → n < at → set_at f at x n ≡ f n
 set_below f at n x h = set_elsewhere f at n x (grind (arith, nat_tests))

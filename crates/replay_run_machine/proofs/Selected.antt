@@ -12,9 +12,9 @@ use Rattle.lib_models_replay.specs.declared.worlds.Halt.{Halt}
 use Rattle.ref_machine.specs.BranchSteps.{on_case, land, select}
 use Rattle.ref_machine.specs.LabelSearch.{Sought, case_of}
 use Rattle.ref_machine.specs.SourceStates.{State, stuck_at}
-use Rattle.replay_run_machine.specs.Moves.{Moves}
-use Rattle.replay_run_machine.specs.declared.machines.Machine.{Machine}
-use Rattle.replay_run_machine.proofs.ToldTurns.{moves_same}
+use Rattle.replay_run_machine_items.specs.Moves.{Moves}
+use Rattle.replay_run_machine_items.specs.declared.machines.Machine.{Machine}
+use Rattle.replay_run_machine_items.proofs.ToldTurns.{moves_same}
 
 pub selects_nothing : (u : UnitView) (o : Option NamedObject) (labels : List CaseLabel) (body : StatementTree) (s : State) (vs : List Scalar) → vs ≡ [] → select u o labels body s vs ≡ stuck_at s
 selects_nothing u o labels body s vs e = ap (select u o labels body s) e

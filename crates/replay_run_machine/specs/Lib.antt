@@ -1,3 +1,3 @@
-pub mod MachineViews
-pub mod Moves
-pub mod Asked
+pub use Rattle.replay_run_machine_items.specs.MachineViews
+pub use Rattle.replay_run_machine_items.specs.Moves
+pub use Rattle.replay_run_machine_items.specs.Asked

@@ -18,11 +18,10 @@ ghost use Rattle.replay_run_items.specs.Standings.{on_term, on_line, on_statemen
 ghost use Rattle.replay_run_items.specs.TestViews as tests;
 ghost use Rattle.replay_run_items.specs.declared.items.Use7.TheVariants as use_of;
 ghost use Rattle.replay_run_items.specs.declared.items.Way7.TheVariants as way;
-ghost use Rattle.replay_run_machine.specs.MachineViews.{state_view};
-ghost use Rattle.replay_run_machine.specs.Moves.{Moves, LandsOn, holds_on, tested_as};
+ghost use Rattle.replay_run_machine_items.specs.MachineViews.{state_view};
+ghost use Rattle.replay_run_machine_items.specs.Moves.{Moves, LandsOn, holds_on, tested_as};
 ghost use Rattle.replay_run_statements.specs.LabelViews.{sought_view};
 
-use crate::machines::{Machine, instance_of};
 use c_layout::{Checked, CheckedStatement, CheckedTerm};
 use cc_base::Rel;
 use flow_lower_conditions::{NamedObject, named};
@@ -34,6 +33,7 @@ use lib_models_replay_tests::{Side7, Test7, opposite, pass_case, pass_test};
 use replay_run_items::{
     Item7, NamedSide7, NamedTest7, drop_loop, enter_first, open_scopes, test_of,
 };
+use replay_run_machine_items::{Machine, instance_of};
 use replay_run_operations::pop_value;
 use replay_run_statements::{Sought7, case_of, find, follow, is_in};
 

@@ -6,13 +6,13 @@ ghost use Rattle.ref_machine.specs.ObjectSteps.{on};
 ghost use Rattle.ref_machine.specs.Scopes as scopes;
 ghost use Rattle.ref_machine.specs.SourceSteps as machine;
 ghost use Rattle.replay_run_items.specs.Standings.{standing};
-ghost use Rattle.replay_run_machine.specs.MachineViews.{state_view};
-ghost use Rattle.replay_run_machine.specs.Moves.{JumpsTo, Moves};
+ghost use Rattle.replay_run_machine_items.specs.MachineViews.{state_view};
+ghost use Rattle.replay_run_machine_items.specs.Moves.{JumpsTo, Moves};
 
-use crate::machines::{Machine, function_at};
 use c_layout::{Checked, Function};
 use lib_models_replay::{Cause, Halt};
 use replay_run_items::{Item7, drop_loop, drop_turn, jump, open_scopes};
+use replay_run_machine_items::{Machine, function_at};
 use replay_run_statements::{find_label, has_label};
 use std::alloc::{AllocError, Global};
 

@@ -2,16 +2,10 @@
 #![tactic(auto)]
 
 mod branch_turns;
-mod call_turns;
-mod item_turns;
 mod jump_turns;
-mod machines;
-mod object_turns;
 mod sizes;
-mod store_turns;
 mod turns;
 
-pub use item_turns::Turned7;
-pub use machines::{Frame7, Machine, next_item};
+pub use replay_run_machine_items::{Frame7, Machine, Turned7, next_item};
 pub use sizes::asked_bytes;
 pub use turns::{begin, turn};

@@ -8,16 +8,15 @@ ghost use Rattle.lib_models_replay.specs.WorldViews.{world_view};
 ghost use Rattle.lib_models_replay.specs.declared.worlds.Halt.TheVariants as halt;
 ghost use Rattle.ref_machine.specs.SourceStates as machine;
 ghost use Rattle.replay_run_items.specs.Standings.{standing};
-ghost use Rattle.replay_run_machine.specs.Asked.{type_size, entered_size, first_of, answers_yes, given_size, may_be_freed, called_size, IsMadeBy};
-ghost use Rattle.replay_run_machine.specs.MachineViews.{items_with, state_view};
+ghost use Rattle.replay_run_machine_items.specs.Asked.{type_size, entered_size, first_of, answers_yes, given_size, may_be_freed, called_size, IsMadeBy};
+ghost use Rattle.replay_run_machine_items.specs.MachineViews.{items_with, state_view};
 
-use crate::machines::{Machine, function_at, local_type, name_of};
-use crate::object_turns::ends_objects;
 use c_layout::{Checked, LibFn};
 use flow_program::type_bytes;
 use lib_models_instances::{InstKind, InstState, Pointer7, Value7};
 use lib_models_replay::{Halt, World7, most_size};
 use replay_run_items::{Item7, Operation7};
+use replay_run_machine_items::{Machine, ends_objects, function_at, local_type, name_of};
 use replay_run_operations::newest;
 
 // ---- objects

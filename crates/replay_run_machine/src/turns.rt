@@ -9,23 +9,22 @@ ghost use Rattle.ref_machine.specs.SourceSteps as machine;
 ghost use Rattle.ref_machine.specs.SourceSteps.{turn_by};
 ghost use Rattle.replay_run_items.specs.Standings.{on_statement, standing};
 ghost use Rattle.replay_run_items.specs.declared.items.Way7.TheVariants as way;
-ghost use Rattle.replay_run_machine.specs.MachineViews.{names_view, parameters_named, state_view, state_with};
-ghost use Rattle.replay_run_machine.specs.Moves.{HeldAs, TurnsTo, turn_of};
+ghost use Rattle.replay_run_machine_items.specs.MachineViews.{names_view, parameters_named, state_view, state_with};
+ghost use Rattle.replay_run_machine_items.specs.Moves.{HeldAs, TurnsTo, turn_of};
 
 use crate::branch_turns::{choose, read_line, select};
-use crate::call_turns::{back_to, bind_parameter, end_body, invoke, leave_function};
-use crate::item_turns::{
-    Turned7, again, bind_first, drop_one, drop_value, enter_all, enter_below, first_statement,
-    first_store, first_value, held, leave_all, leave_below, own_place, quiet, step,
-};
 use crate::jump_turns::{break_out, go_to, next_turn};
-use crate::machines::{Machine, at_rest, set_name};
-use crate::object_turns::{change, leave_outcome, point_to, point_to_literal, point_to_outcome};
 use c_layout::{Checked, CheckedStatement};
 use cc_base::Place;
 use lib_models_replay::{Cause, Halt, World7, truth_value};
 use lib_models_replay_inputs::entry_parameters;
 use replay_run_items::{Item7, Use7, Way7};
+use replay_run_machine_items::{
+    Machine, Turned7, again, at_rest, back_to, bind_first, bind_parameter, change, drop_one,
+    drop_value, end_body, enter_all, enter_below, first_statement, first_store, first_value, held,
+    invoke, leave_all, leave_below, leave_function, leave_outcome, own_place, point_to,
+    point_to_literal, point_to_outcome, quiet, set_name, step,
+};
 use replay_run_operations::{perform, push_value};
 use replay_run_statements::{push_body, push_loop, push_statement};
 use replay_run_terms::{push_address, push_term};

@@ -6,7 +6,7 @@ use Rattle.lib_models_replay.specs.WorldViews.{world_view}
 use Rattle.ref_machine.specs.TermTests.{test_if}
 use Rattle.replay_run_items.specs.Standings.{standing}
 use Rattle.replay_run_operations.specs.Pending.{pending}
-use Rattle.replay_run_machine.specs.MachineViews.{state_view}
+use Rattle.replay_run_machine_items.specs.MachineViews.{state_view}
 use Rattle.replay_run_machine.proofs.Followed.{chosen}
 use Rattle.replay_run_machine.proofs.branch_turns.choose.Goals as goal
 

@@ -4,8 +4,8 @@ use Rattle.lib_models_instances.specs.ByteViews.{scalar_view}
 use Rattle.lib_models_replay.specs.WorldViews.{world_view}
 use Rattle.replay_run_items.specs.Standings.{standing}
 use Rattle.replay_run_operations.specs.Pending.{pending}
-use Rattle.replay_run_machine.specs.MachineViews.{state_view}
-use Rattle.replay_run_machine.specs.Moves.{holds_on}
+use Rattle.replay_run_machine_items.specs.MachineViews.{state_view}
+use Rattle.replay_run_machine_items.specs.Moves.{holds_on}
 use Rattle.replay_run_machine.proofs.Followed.{line_turn}
 use Rattle.replay_run_machine.proofs.branch_turns.read_line.Goals as goal
 

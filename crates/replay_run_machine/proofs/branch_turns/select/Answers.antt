@@ -20,9 +20,9 @@ use Rattle.replay_run_items.specs.Standings.{on_statement, standing}
 use Rattle.replay_run_items.specs.declared.items.Way7.TheVariants as way
 use Rattle.replay_run_operations.specs.Pending.{pending}
 use Rattle.replay_run_statements.specs.LabelViews.{sought_view}
-use Rattle.replay_run_machine.specs.MachineViews.{state_view}
+use Rattle.replay_run_machine_items.specs.MachineViews.{state_view}
 use Rattle.replay_run_machine.proofs.Selected.{selects_by, selected}
-use Rattle.replay_run_machine.proofs.ToldTurns.{moves_same}
+use Rattle.replay_run_machine_items.proofs.ToldTurns.{moves_same}
 use Rattle.replay_run_machine.proofs.branch_turns.select.Goals as goal
 
 pub returns-in_ok-on_case-in-Int : goal.returns-in_ok-on_case-in-Int

@@ -3,8 +3,8 @@ use Rattle.std.specs.Option.{option_map}
 use Rattle.std.proofs.lemmas.Result.{err_from_is_err_and}
 use Rattle.lib_models_effects.specs.Tests.{object}
 use Rattle.replay_run_items.specs.TestViews as tests
-use Rattle.replay_run_machine.specs.MachineViews.{state_view}
-use Rattle.replay_run_machine.specs.Moves.{tested_as}
+use Rattle.replay_run_machine_items.specs.MachineViews.{state_view}
+use Rattle.replay_run_machine_items.specs.Moves.{tested_as}
 use Rattle.replay_run_machine.proofs.branch_turns.tested_side.Goals as goal
 
 pub returns-in_err-side-in-Object : goal.returns-in_err-side-in-Object

@@ -8,8 +8,8 @@ use Rattle.lib_models_replay_tests.specs.SideViews.{side_view}
 use Rattle.ref_machine.specs.BranchSteps as machine
 use Rattle.ref_machine.specs.SourceStates.{State}
 use Rattle.replay_run_items.specs.TestViews as tests
-use Rattle.replay_run_machine.specs.MachineViews.{state_view}
-use Rattle.replay_run_machine.proofs.ToldTurns.{moves_same, moves_stuck, moves_in_world, named_there, named_lost, side_there, side_lost}
+use Rattle.replay_run_machine_items.specs.MachineViews.{state_view}
+use Rattle.replay_run_machine_items.proofs.ToldTurns.{moves_same, moves_stuck, moves_in_world, named_there, named_lost, side_there, side_lost}
 use Rattle.replay_run_machine.proofs.branch_turns.testing.Goals as goal
 
 pub returns-in_err-left : goal.returns-in_err-left

@@ -3,8 +3,8 @@ use Rattle.flow_lower_functions.specs.Functions.{numbers_from}
 use Rattle.replay_run_items.specs.Standings.{Standing, standing}
 use Rattle.replay_run_items.proofs.Stacks.{standing_none}
 use Rattle.replay_run_items.specs.declared.items.Item7.TheVariants as held
-use Rattle.replay_run_machine.specs.Asked.{first_of}
-use Rattle.replay_run_machine.proofs.Entries.{entry_is, entry_below, first_number}
+use Rattle.replay_run_machine_items.specs.Asked.{first_of}
+use Rattle.replay_run_machine_items.proofs.Entries.{entry_is, entry_below, first_number}
 use Rattle.replay_run_machine.proofs.sizes.first_below.Goals as goal
 
 pub returns-in-Also-clause-first : goal.returns-in-Also-clause-first

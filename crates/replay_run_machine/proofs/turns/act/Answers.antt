@@ -1,8 +1,8 @@
 use Rattle.std.proofs.Common.{None, refl, sym, ap}
 use Rattle.c_layout.specs.CheckedUnits.{unit_view}
 use Rattle.replay_run_items.specs.declared.items.Item7.TheVariants as held
-use Rattle.replay_run_machine.specs.Moves.{turn_of}
-use Rattle.replay_run_machine.proofs.ToldTurns.{turns_by, turns_same}
+use Rattle.replay_run_machine_items.specs.Moves.{turn_of}
+use Rattle.replay_run_machine_items.proofs.ToldTurns.{turns_by, turns_same}
 use Rattle.replay_run_machine.proofs.turns.act.Goals as goal
 
 pub returns-in-Again : goal.returns-in-Again

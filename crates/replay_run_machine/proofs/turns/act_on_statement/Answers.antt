@@ -1,10 +1,10 @@
 use Rattle.std.proofs.Common.{Some, sym, ap}
 use Rattle.c_layout.specs.CheckedUnits.{unit_view}
 use Rattle.replay_run_items.specs.declared.items.Item7.TheVariants as held
-use Rattle.replay_run_machine.specs.Moves.{turn_of}
-use Rattle.replay_run_machine.proofs.ToldTurns.{turns_by, turns_same, line_counted}
+use Rattle.replay_run_machine_items.specs.Moves.{turn_of}
+use Rattle.replay_run_machine_items.proofs.ToldTurns.{turns_by, turns_same, line_counted}
 use Rattle.replay_run_items.specs.Standings.{standing}
-use Rattle.replay_run_machine.specs.MachineViews.{state_view}
+use Rattle.replay_run_machine_items.specs.MachineViews.{state_view}
 use Rattle.replay_run_machine.proofs.turns.act_on_statement.Goals as goal
 
 pub returns-in-ReadLine : goal.returns-in-ReadLine

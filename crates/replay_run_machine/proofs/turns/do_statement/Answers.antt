@@ -5,9 +5,9 @@ use Rattle.ref_machine.specs.SourceSteps.{is_entry, turn_by}
 use Rattle.ref_machine.specs.StatementItems.{of_statement}
 use Rattle.replay_run_items.specs.Standings.{Adds, on_statement, standing}
 use Rattle.replay_run_items.specs.declared.items.Way7.TheVariants as way
-use Rattle.replay_run_machine.specs.MachineViews.{state_view}
-use Rattle.replay_run_machine.proofs.Entries.{frames_empty}
-use Rattle.replay_run_machine.proofs.ToldTurns.{turns_held}
+use Rattle.replay_run_machine_items.specs.MachineViews.{state_view}
+use Rattle.replay_run_machine_items.proofs.Entries.{frames_empty}
+use Rattle.replay_run_machine_items.proofs.ToldTurns.{turns_held}
 use Rattle.replay_run_machine.proofs.turns.do_statement.Goals as goal
 
 pub returns : goal.returns

@@ -5,8 +5,8 @@ use Rattle.ref_machine.specs.SourceSteps.{turn_by}
 use Rattle.replay_run_items.specs.ItemViews.{loop_turn}
 use Rattle.replay_run_items.specs.Standings.{on_statement, standing}
 use Rattle.replay_run_items.specs.declared.items.Way7.TheVariants as way
-use Rattle.replay_run_machine.specs.MachineViews.{state_view}
-use Rattle.replay_run_machine.proofs.ToldTurns.{turns_held, loop_turned}
+use Rattle.replay_run_machine_items.specs.MachineViews.{state_view}
+use Rattle.replay_run_machine_items.proofs.ToldTurns.{turns_held, loop_turned}
 use Rattle.replay_run_machine.proofs.turns.do_turn.Goals as goal
 
 pub returns : goal.returns

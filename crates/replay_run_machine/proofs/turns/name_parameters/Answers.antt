@@ -4,7 +4,7 @@ use Rattle.c_layout.specs.CheckedUnits.{unit_view}
 use Rattle.std.proofs.lemmas.List.{length-map}
 use Rattle.lib_models_effects.specs.NumberedTables.{set_at}
 use Rattle.lib_models_effects.specs.UnitStarts.{parameter_instance}
-use Rattle.replay_run_machine.specs.MachineViews.{names_view, parameters_named}
+use Rattle.replay_run_machine_items.specs.MachineViews.{names_view, parameters_named}
 use Rattle.replay_run_machine.proofs.ParameterNames.{none_named, named_more}
 use Rattle.replay_run_machine.proofs.turns.name_parameters.Goals as goal
 

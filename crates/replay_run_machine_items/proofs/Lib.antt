@@ -1,0 +1,5 @@
+pub mod Names
+pub mod MovedStates
+pub mod Entries
+pub mod ToldTurns
+pub mod Invoked

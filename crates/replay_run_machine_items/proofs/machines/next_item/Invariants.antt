@@ -1,0 +1,10 @@
+use Rattle.std.proofs.Common.{◌≡◌, vec_len}
+use Rattle.c_layout.specs.CheckedUnits.{UnitView}
+use Rattle.replay_run_items.specs.Standings.{standing}
+use Rattle.replay_run_machine_items.proofs.machines.next_item.Given as goal
+
+abbrev pub invariant-loop-item : goal.invariant-loop-item
+invariant-loop-item l = (u : UnitView) → (standing u l.control.items).items ≡ (standing u l.initial.control.items).items
+
+abbrev pub decreases-loop-item : goal.decreases-loop-item
+decreases-loop-item l = vec_len l.control

@@ -1,0 +1,3 @@
+pub mod MachineViews
+pub mod Moves
+pub mod Asked
