@@ -24,7 +24,7 @@ use Rattle.store_domain.specs.AccessWindows.{last_offset, window_of, window_betw
 use Rattle.store_domain.specs.LiveBases.{most_bases, is_literal_kind}
 use Rattle.store_domain.specs.NearValues.{near_pointer, near_value}
 use Rattle.store_domain.specs.ObjectLives.{at_base, clear_object, clear}
-use Rattle.store_domain.specs.RowLengths.{store_keeps}
+use Rattle.store_domain.specs.StoreLengths.{store_keeps}
 use Rattle.store_domain.specs.RowPositions.{leaf_position, value_at}
 use Rattle.store_domain.specs.ScalarTypes as table
 use Rattle.store_domain.specs.Spelling.{spell_object, spell}

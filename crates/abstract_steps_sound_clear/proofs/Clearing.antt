@@ -26,7 +26,7 @@ use Rattle.store_domain.specs.ClassNumbers.{is_pointer}
 use Rattle.store_domain.specs.FirstZeroWrites.{zero_first, set_zeros}
 use Rattle.store_domain.specs.NearValues.{near_value}
 use Rattle.store_domain.specs.ObjectLives.{zero_value, clear_leaf, clear_leaves, clear_object, at_base, clear}
-use Rattle.store_domain.specs.RowLengths.{clear_keeps}
+use Rattle.store_domain.specs.ObjectLengths.{clear_keeps}
 use Rattle.store_domain.specs.RowPositions.{leaf_position, zero_position, cell_at, value_in, value_at, zero_at}
 use Rattle.store_domain.specs.Walks.{walk}
 use Rattle.abstract_steps_checks.specs.ViolationSets.{no_violations}

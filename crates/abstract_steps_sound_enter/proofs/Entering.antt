@@ -28,7 +28,7 @@ use Rattle.store_domain.specs.ClassNumbers.{class_at}
 use Rattle.store_domain.specs.FirstZeroWrites.{no_zero}
 use Rattle.store_domain.specs.NearValues.{near_value}
 use Rattle.store_domain.specs.ObjectLives.{blank_object, at_base, forget}
-use Rattle.store_domain.specs.RowLengths.{forget_keeps}
+use Rattle.store_domain.specs.ObjectLengths.{forget_keeps}
 use Rattle.store_domain.specs.RowPositions.{leaf_position, class_position, zero_position, state_position, cell_at, value_at, zero_at, state_at}
 use Rattle.store_domain.specs.ScalarTypes.{kind_of}
 use Rattle.abstract_steps_checks.specs.Temporaries.{temp_position, temp_value}

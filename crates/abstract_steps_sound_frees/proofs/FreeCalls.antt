@@ -20,7 +20,7 @@ use Rattle.pointer_domain.specs.declared.pointer_sets.Pointers.{Pointers}
 use Rattle.value_domain.specs.declared.row_cells.Cell.{Cell}
 use Rattle.store_domain.specs.Freeing.{free, free_bases}
 use Rattle.store_domain.specs.LiveBases.{most_bases, has_base, live_of, single_bases, is_one_instance}
-use Rattle.store_domain.specs.RowLengths.{free_keeps}
+use Rattle.store_domain.specs.ObjectLengths.{free_keeps}
 use Rattle.abstract_steps_checks.specs.AllocationChecks.{heap_of, check_release}
 use Rattle.abstract_steps_checks.specs.ViolationSets.{no_violations, violations_union, violates}
 use Rattle.abstract_steps_checks.specs.declared.allocation_checks.Released.{Released}

@@ -26,7 +26,7 @@ use Rattle.store_domain.specs.FirstZeroWrites.{set_zeros}
 use Rattle.store_domain.specs.LiveBases.{most_bases}
 use Rattle.store_domain.specs.NearValues.{near_number, near_value}
 use Rattle.store_domain.specs.ObjectLives.{set_values, ended_cell, leave_object, at_base, leave}
-use Rattle.store_domain.specs.RowLengths.{leave_keeps}
+use Rattle.store_domain.specs.ObjectLengths.{leave_keeps}
 use Rattle.store_domain.specs.RowPositions.{leaf_position, class_position, zero_position, state_position, value_count, cell_at, value_in, zero_in, state_in, near_state, value_at, zero_at, state_at}
 use Rattle.store_domain.specs.ScalarTypes.{kind_of}
 use Rattle.abstract_steps_checks.specs.Temporaries.{temp_position, temp_value}

@@ -17,7 +17,7 @@ use Rattle.pointer_domain.specs.declared.pointer_sets.Pointers.{Pointers}
 use Rattle.value_domain.specs.declared.values.Value.{Value}
 use Rattle.value_domain.specs.declared.row_cells.Cell.{Cell}
 use Rattle.store_domain.specs.ClassNumbers.{same_class}
-use Rattle.store_domain.specs.RowLengths.{store_keeps}
+use Rattle.store_domain.specs.StoreLengths.{store_keeps}
 use Rattle.store_domain.specs.RowPositions.{value_at}
 use Rattle.store_domain.specs.ScalarTypes.{kind_of, class_bytes}
 use Rattle.store_domain.specs.Stores.{store}

@@ -19,7 +19,7 @@ use Rattle.value_domain.specs.declared.row_cells.Cell.{Cell}
 use Rattle.store_domain.specs.FirstZeroWrites.{no_zero}
 use Rattle.store_domain.specs.NearValues.{near_value}
 use Rattle.store_domain.specs.ObjectLives.{blank_object, at_base, forget}
-use Rattle.store_domain.specs.RowLengths.{forget_keeps}
+use Rattle.store_domain.specs.ObjectLengths.{forget_keeps}
 use Rattle.store_domain.specs.RowPositions.{leaf_position, zero_position, cell_at, value_at, zero_at}
 use Rattle.abstract_steps_checks.specs.ViolationSets.{no_violations}
 use Rattle.abstract_steps_sound.specs.Steps.{operate}

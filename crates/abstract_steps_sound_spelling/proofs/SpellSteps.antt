@@ -17,7 +17,7 @@ use Rattle.flow_program.specs.declared.machine_instructions.Operation.TheVariant
 use Rattle.flow_program.specs.declared.programs.Flow.{Flow}
 use Rattle.value_domain.specs.declared.row_cells.Cell.{Cell}
 use Rattle.store_domain.specs.ObjectLives.{at_base}
-use Rattle.store_domain.specs.RowLengths.{spell_keeps}
+use Rattle.store_domain.specs.StoreLengths.{spell_keeps}
 use Rattle.store_domain.specs.ScalarTypes.{kind_of}
 use Rattle.store_domain.specs.Spelling.{written_count, character, spell_object, spell}
 use Rattle.abstract_steps_checks.specs.ViolationSets.{no_violations}

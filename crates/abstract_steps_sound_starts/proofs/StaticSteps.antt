@@ -26,7 +26,7 @@ use Rattle.value_domain.specs.declared.row_cells.Cell.{Cell}
 use Rattle.value_domain.specs.declared.row_cells.Cell.TheVariants.{Value}
 use Rattle.store_domain.specs.NearValues.{near_pointer, near_value}
 use Rattle.store_domain.specs.ObjectLives.{at_base, clear_object, clear}
-use Rattle.store_domain.specs.RowLengths.{store_keeps}
+use Rattle.store_domain.specs.StoreLengths.{store_keeps}
 use Rattle.store_domain.specs.RowPositions.{value_at}
 use Rattle.store_domain.specs.Spelling.{written_count, character, spell_object, spell}
 use Rattle.store_domain.specs.Stores.{store}

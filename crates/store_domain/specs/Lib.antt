@@ -8,12 +8,14 @@ pub use Rattle.store_domain_cells.specs.AccessWindows
 pub use Rattle.store_domain_cells.specs.CellReads
 pub use Rattle.store_domain_cells.specs.ByteWrites
 pub use Rattle.store_domain_cells.specs.FirstZeroWrites
+pub use Rattle.store_domain_cells.specs.RowLengths
 pub use Rattle.store_domain_objects.specs.LiveBases
 pub use Rattle.store_domain_objects.specs.ObjectLives
 pub use Rattle.store_domain_objects.specs.Freeing
 pub use Rattle.store_domain_objects.specs.Allocations
+pub use Rattle.store_domain_objects.specs.ObjectLengths
 pub mod LeafSelection
 pub mod Loads
 pub mod Stores
 pub mod Spelling
-pub mod RowLengths
+pub mod StoreLengths

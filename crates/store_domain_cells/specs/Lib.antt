@@ -8,3 +8,4 @@ pub mod AccessWindows
 pub mod CellReads
 pub mod ByteWrites
 pub mod FirstZeroWrites
+pub mod RowLengths

@@ -2,3 +2,4 @@ pub mod LiveBases
 pub mod ObjectLives
 pub mod Freeing
 pub mod Allocations
+pub mod ObjectLengths
