@@ -41,7 +41,7 @@ module _ {I : Type 0} (l : LatticeOf I) (n : IntegersOf I) where
   unfolding store_leaf_at
   store_leaf_keeps m base write leaf at row = cond_keeps (is_selected leaf write.access.class write.access.window)
       (write_value l n row (leaf_position base at) (cell_value n m write leaf.signed) (is_strong leaf write)) row row
-      (write_value_keeps row (leaf_position base at) (cell_value n m write leaf.signed) (is_strong leaf write)) refl
+      (write_value_keeps l n row (leaf_position base at) (cell_value n m write leaf.signed) (is_strong leaf write)) refl
 
   store_leaves_keeps : (m : Model) (base : BaseInfo) (write : Write I) (row : List (Cell I)) → length (store_leaves l n m base write row) ≡ length row
   unfolding store_leaves
@@ -51,13 +51,13 @@ module _ {I : Type 0} (l : LatticeOf I) (n : IntegersOf I) where
   unfolding store_class_cell
   store_class_cell_keeps m base write row = cond_keeps (reaches_class base write.access)
       (join_value l n row (class_position base (class_number write.access.class)) (cell_value n m write true)) row row
-      (join_value_keeps row (class_position base (class_number write.access.class)) (cell_value n m write true)) refl
+      (join_value_keeps l n row (class_position base (class_number write.access.class)) (cell_value n m write true)) refl
 
   store_other_leaf_keeps : (m : Model) (base : BaseInfo) (write : Write I) (leaf : Leaf) (at : ℕ) (row : List (Cell I)) → length (store_other_leaf l n m base write leaf at row) ≡ length row
   unfolding store_other_leaf_at
   store_other_leaf_keeps m base write leaf at row = cond_keeps (is_other m leaf write.access.window)
       (join_value l n row (leaf_position base at) (byte_written l n m leaf.class leaf.signed write.value.labels)) row row
-      (join_value_keeps row (leaf_position base at) (byte_written l n m leaf.class leaf.signed write.value.labels)) refl
+      (join_value_keeps l n row (leaf_position base at) (byte_written l n m leaf.class leaf.signed write.value.labels)) refl
 
   store_other_leaves_keeps : (m : Model) (base : BaseInfo) (write : Write I) (row : List (Cell I)) → length (store_other_leaves l n m base write row) ≡ length row
   unfolding store_other_leaves
@@ -65,7 +65,7 @@ module _ {I : Type 0} (l : LatticeOf I) (n : IntegersOf I) where
 
   store_other_class_keeps : (m : Model) (base : BaseInfo) (labels : Labels) (at : ℕ) (row : List (Cell I)) → length (store_other_class l n m base labels at row) ≡ length row
   unfolding store_other_class
-  store_other_class_keeps m base labels at row = join_value_keeps row (class_position base (at + 1)) (byte_written l n m (class_at (at + 1)) true labels)
+  store_other_class_keeps m base labels at row = join_value_keeps l n row (class_position base (at + 1)) (byte_written l n m (class_at (at + 1)) true labels)
 
   store_other_classes_keeps : (m : Model) (base : BaseInfo) (labels : Labels) (row : List (Cell I)) → length (store_other_classes l n m base labels row) ≡ length row
   unfolding store_other_classes
@@ -84,11 +84,11 @@ module _ {I : Type 0} (l : LatticeOf I) (n : IntegersOf I) where
 
   store_character_keeps : (m : Model) (base : BaseInfo) (write : Write I) (row : List (Cell I)) → length (store_character l n m base write row) ≡ length row
   unfolding store_character
-  store_character_keeps m base write row = put_character_keeps base write.access.window (n.compare Eq (cell_value n m write write.access.signed).num (n.one (pos 0))) write.alone (store_other_bytes l n m base write row) ∙ store_other_bytes_keeps m base write row
+  store_character_keeps m base write row = put_character_keeps l n base write.access.window (n.compare Eq (cell_value n m write write.access.signed).num (n.one (pos 0))) write.alone (store_other_bytes l n m base write row) ∙ store_other_bytes_keeps m base write row
 
   store_wider_keeps : (base : BaseInfo) (w : Window) (row : List (Cell I)) → length (store_wider l n base w row) ≡ length row
   unfolding store_wider
-  store_wider_keeps base w row = cond_keeps base.shape.heap (forget_zeros l n base w row) row row (forget_zeros_keeps base w row) refl
+  store_wider_keeps base w row = cond_keeps base.shape.heap (forget_zeros l n base w row) row row (forget_zeros_keeps l n base w row) refl
 
   pub store_base_keeps : (m : Model) (base : BaseInfo) (write : Write I) (row : List (Cell I)) → length (store_base l n m base write row) ≡ length row
   unfolding store_base
@@ -125,7 +125,7 @@ module _ {I : Type 0} (l : LatticeOf I) (n : IntegersOf I) where
   spell_cell_keeps : (row : List (Cell I)) (at : ℕ) (leaf : Leaf) (offset count : ℕ) (text : List ℕ) → length (spell_cell l n row at leaf offset count text) ≡ length row
   unfolding spell_cell
   spell_cell_keeps row at leaf offset count text = cond_keeps (is_one_place leaf) (put_value row at (one_character l n leaf offset text)) (join_value l n row at (characters l n leaf offset count text)) row
-      (length-set row at (Value (one_character l n leaf offset text))) (join_value_keeps row at (characters l n leaf offset count text))
+      (length-set row at (Value (one_character l n leaf offset text))) (join_value_keeps l n row at (characters l n leaf offset count text))
 
   spell_leaf_keeps : (base : BaseInfo) (offset count : ℕ) (text : List ℕ) (leaf : Leaf) (at : ℕ) (row : List (Cell I)) → length (spell_leaf l n base offset count text leaf at row) ≡ length row
   unfolding spell_leaf_at

@@ -41,7 +41,7 @@ module _ {I : Type 0} (l : LatticeOf I) (n : IntegersOf I) where
 
   blank_object_keeps : (base : BaseInfo) (row : List (Cell I)) → length (blank_object l n base row) ≡ length row
   unfolding blank_object
-  blank_object_keeps base row = set_zeros_keeps base (no_zero n) (set_values base (blank_value l) row) ∙ set_values_keeps base (blank_value l) row
+  blank_object_keeps base row = set_zeros_keeps l n base (no_zero n) (set_values base (blank_value l) row) ∙ set_values_keeps base (blank_value l) row
 
   pub forget_keeps : (bases : List BaseInfo) (number : ℕ) (row : List (Cell I)) → length (forget l n bases number row) ≡ length row
   unfolding forget
@@ -53,7 +53,7 @@ module _ {I : Type 0} (l : LatticeOf I) (n : IntegersOf I) where
 
   clear_object_keeps : (base : BaseInfo) (row : List (Cell I)) → length (clear_object l n base row) ≡ length row
   unfolding clear_object
-  clear_object_keeps base row = set_zeros_keeps base (zero_first n) (clear_leaves l n base row) ∙ clear_leaves_keeps base row
+  clear_object_keeps base row = set_zeros_keeps l n base (zero_first n) (clear_leaves l n base row) ∙ clear_leaves_keeps base row
 
   pub clear_keeps : (bases : List BaseInfo) (number : ℕ) (row : List (Cell I)) → length (clear l n bases number row) ≡ length row
   unfolding clear
@@ -64,7 +64,7 @@ module _ {I : Type 0} (l : LatticeOf I) (n : IntegersOf I) where
   leave_object_keeps number base row =
       let ended = map (ended_cell l number) row in
       let gone = set_values base ((value_lattice l).least) ended in
-      set_zeros_keeps base ((zero_lattice l).least) gone ∙ (set_values_keeps base ((value_lattice l).least) ended ∙ length-map row (ended_cell l number))
+      set_zeros_keeps l n base ((zero_lattice l).least) gone ∙ (set_values_keeps base ((value_lattice l).least) ended ∙ length-map row (ended_cell l number))
 
   pub leave_keeps : (bases : List BaseInfo) (number : ℕ) (row : List (Cell I)) → length (leave l bases number row) ≡ length row
   unfolding leave
@@ -88,7 +88,7 @@ module _ {I : Type 0} (l : LatticeOf I) (n : IntegersOf I) where
 
   join_cell_keeps : (new old : BaseInfo) (at : ℕ) (row : List (Cell I)) → length (join_cell l n new old at row) ≡ length row
   unfolding join_cell
-  join_cell_keeps new old at row = join_value_keeps row (leaf_position old at) (value_at l n row (leaf_position new at))
+  join_cell_keeps new old at row = join_value_keeps l n row (leaf_position old at) (value_at l n row (leaf_position new at))
 
   join_values_keeps : (new old : BaseInfo) (row : List (Cell I)) → length (join_values l n new old row) ≡ length row
   unfolding join_values
@@ -96,7 +96,7 @@ module _ {I : Type 0} (l : LatticeOf I) (n : IntegersOf I) where
 
   join_part_keeps : (new old : BaseInfo) (at : ℕ) (row : List (Cell I)) → length (join_part l n new old at row) ≡ length row
   unfolding join_part
-  join_part_keeps new old at row = join_zero_keeps row (zero_position old at) (zero_at l n row (zero_position new at))
+  join_part_keeps new old at row = join_zero_keeps l n row (zero_position old at) (zero_at l n row (zero_position new at))
 
   join_zeros_keeps : (new old : BaseInfo) (row : List (Cell I)) → length (join_zeros l n new old row) ≡ length row
   unfolding join_zeros
@@ -134,14 +134,14 @@ module _ {I : Type 0} (l : LatticeOf I) (n : IntegersOf I) where
       let made = fresh_values l n m bases new fresh row in
       let zeroed = set_zeros new (fresh_zero l n fresh least) made in
       length-set zeroed (state_position new) (State (record { size = size; live = true; freed = false }))
-      ∙ (set_zeros_keeps new (fresh_zero l n fresh least) made ∙ fresh_values_keeps m bases new fresh row)
+      ∙ (set_zeros_keeps l n new (fresh_zero l n fresh least) made ∙ fresh_values_keeps m bases new fresh row)
 
   make_nothing_keeps : (new : BaseInfo) (row : List (Cell I)) → length (make_nothing l new row) ≡ length row
   unfolding make_nothing
   make_nothing_keeps new row =
       let none = set_values new ((value_lattice l).least) row in
       length-set (set_zeros new ((zero_lattice l).least) none) (state_position new) (State ((state_lattice l).least))
-      ∙ (set_zeros_keeps new ((zero_lattice l).least) none ∙ set_values_keeps new ((value_lattice l).least) row)
+      ∙ (set_zeros_keeps l n new ((zero_lattice l).least) none ∙ set_values_keeps new ((value_lattice l).least) row)
 
   make_of_keeps : (m : Model) (bases : List BaseInfo) (new : BaseInfo) (size : I) (fresh : Fresh I) (range : Range) (row : List (Cell I)) → length (make_of l n m bases new size fresh range row) ≡ length row
   make_of_keeps m bases new size fresh None row = make_nothing_keeps new row
