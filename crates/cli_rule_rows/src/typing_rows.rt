@@ -90,7 +90,7 @@ const REDECLARED: [(&str, &str); 8] = [
     ),
 ];
 
-const TYPE_FAULTS: [(&str, &str); 12] = [
+const TYPE_FAULTS: [(&str, &str); 13] = [
     (
         "int main(void){int free=1;free(0);return 0;}",
         "a.c:1:27: refused: TypeFault\n",
@@ -101,6 +101,10 @@ const TYPE_FAULTS: [(&str, &str); 12] = [
     ),
     (
         "int main(void){return sizeof(int[1073741824]);}",
+        "a.c:1:23: refused: TypeFault\n",
+    ),
+    (
+        "int main(void){return (static int)1;}",
         "a.c:1:23: refused: TypeFault\n",
     ),
     (
@@ -280,7 +284,7 @@ const RECURSION: [(&str, &str); 4] = [
     ),
 ];
 
-const ACCEPTED: [&str; 51] = [
+const ACCEPTED: [&str; 53] = [
     "int main(void){int a=1,b=2;return a+++b;}",
     "int x='\\377';int main(void){return 0;}",
     "int x='\\x0000041';int main(void){return 0;}",
@@ -299,6 +303,8 @@ const ACCEPTED: [&str; 51] = [
     "enum e{A,B,};int a[2]={1,2,};int main(void){return 0;}",
     "int main(void){int x[3];return sizeof x[0]+sizeof(x)+sizeof(int)+sizeof(int[3])+sizeof(int*)+sizeof(int(*)[3])-1;}",
     "int main(void){return sizeof (int)-1;}",
+    "int main(void){return (int)sizeof(register int)-4;}",
+    "int main(void){return (auto int)1;}",
     "int main(void){int a=1;if(a)if(a)return 1;else return 2;return 0;}",
     "int main(void){int a=1;do a--;while(a);return 0;}",
     "unsigned x;signed y;long z;int main(void){return 0;}",
