@@ -61,8 +61,8 @@ module _ (R : State → State → Type 0) (has : HasBodies R) where
     initial = has.initial;
   }
 
-  pub static_leads : (s : State) (at : Place) (index number : ℕ) (equals : Place) (t : Ty) (i : InitializerTree) → IsNumbered s index number → Leads R s (statics.static_initializer s at index number equals t i)
-  static_leads s at index number equals t i numbered = blocks.static_leads R has_blocks s at index number equals t i numbered
+  pub static_leads : (s : State) (index number : ℕ) (equals : Place) (t : Ty) (i : InitializerTree) → IsNumbered s index number → Leads R s (statics.static_initializer s index number equals t i)
+  static_leads s index number equals t i numbered = blocks.static_leads R has_blocks s index number equals t i numbered
 
   pub statement_comes : (p : Point) (t : syntax.StatementTree) → Comes R p.state (spec.statement locals.local_declaration p t)
   statement_comes p t = blocks.statement_comes R has_blocks p t

@@ -95,9 +95,9 @@ declared_object_to s base n layers has h had =
     then s Parts any (declared_type s n.at base.declared layers) (external.object_in n base.storage has) (declared_to s n.at base.declared layers h had)
     (λ d t g later parts. cond_to t any (objects.may_be_object t.known d.ctype base.storage has) (external.object_named n d t) (type_fault n.at) (λ may. named_to n d t g (object_fit t.known d.ctype base.storage has parts may)) tt)
 
-initializer_to : (at equals : Place) (i : InitializerTree) (index : ℕ) (s : State) (o : Option ObjectView) → Sized s → To s any (external.initializer_by at equals i index s (objects.object_of at o))
+initializer_to : (at equals : Place) (i : InitializerTree) (index : ℕ) (s : State) (o : Option ObjectView) → Sized s → To s any (external.initializer_by equals i index s (objects.object_of at o))
 initializer_to at equals i index s None h = tt
-initializer_to at equals i index s (Some o) h = static_to s at index (number_or o.number) equals o.declared.ctype i h
+initializer_to at equals i index s (Some o) h = static_to s index (number_or o.number) equals o.declared.ctype i h
 
 object_initializer_to : (at equals : Place) (i : InitializerTree) (index : ℕ) (s : State) → Sized s → To s any (external.object_initializer at equals i index s)
 object_initializer_to at equals i index s h =

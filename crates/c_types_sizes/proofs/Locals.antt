@@ -90,10 +90,10 @@ stored_to equals index number v t s (Ok stores) h fit =
     ((stored typed (static_typed w e.0 index number t (fit_grown s.known w.known t e.1.extends fit)) number stores, e.1), tt)
 stored_to equals index number v t s (Err f) h fit = tt
 
-pub static_to : (s : State) (at : Place) (index number : ℕ) (equals : Place) (t : Ty) (i : InitializerTree) → Sized s → To s any (statics.static_initializer s at index number equals t i)
-static_to s at index number equals t i h =
-    then s any any (initializer_of s equals t i) (statics.judged_static at index number equals) (led s (initializer_of s equals t i) h (initializer_leads Keeps steps_keep s equals t i))
-    (λ m u g later x. cond_to u any (statics.has_size u.known m.1) (statics.store_static equals index number m.0 m.1 u) (type_fault at)
+pub static_to : (s : State) (index number : ℕ) (equals : Place) (t : Ty) (i : InitializerTree) → Sized s → To s any (statics.static_initializer s index number equals t i)
+static_to s index number equals t i h =
+    then s any any (initializer_of s equals t i) (statics.judged_static index number equals) (led s (initializer_of s equals t i) h (initializer_leads Keeps steps_keep s equals t i))
+    (λ m u g later x. cond_to u any (statics.has_size u.known m.1) (statics.store_static equals index number m.0 m.1 u) (type_fault equals)
     (λ sized. stored_to equals index number m.0 m.1 u (constant_stores u.known equals m.0) g (complete_fit u.known m.1 sized)) tt)
 
 -- ---- objects of blocks
@@ -124,15 +124,15 @@ initialized_to n d equals i p (Ok true) s h fit =
     let t : State = with_static_object n d s in
     let g = static_more s h n d fit in
     then s any any (locals.initialized_static n d equals i s) (locals.parts_kept p)
-    (onward s t any (locals.initialized_static n d equals i s) (g, later_same s.known s.types) (static_to t n.at (length s.objects) (length s.statics) equals d.ctype i g))
+    (onward s t any (locals.initialized_static n d equals i s) (g, later_same s.known s.types) (static_to t (length s.objects) (length s.statics) equals d.ctype i g))
     (λ u v k later x. here v any p k tt)
 initialized_to n d equals i p (Ok false) s h fit =
     let t : State = with_automatic n d s in
     let g = automatic_more s h n d fit in
     let number : ℕ = length s.body.locals in
     onward s t any (locals.initialized_automatic n d equals i p s) (g, later_same s.known s.types)
-    (then t any any (initializer_of t equals d.ctype i) (locals.start_automatic n.at number (with_object p number)) (led t (initializer_of t equals d.ctype i) g (initializer_leads Keeps steps_keep t equals d.ctype i))
-    (λ m u k later x. cond_to u any (statics.has_size u.known m.1) (Ok (locals.started n.at number m.0 (with_object p number), with_local_type number m.1 u)) (type_fault n.at)
+    (then t any any (initializer_of t equals d.ctype i) (locals.start_automatic n.at equals number (with_object p number)) (led t (initializer_of t equals d.ctype i) g (initializer_leads Keeps steps_keep t equals d.ctype i))
+    (λ m u k later x. cond_to u any (statics.has_size u.known m.1) (Ok (locals.started n.at number m.0 (with_object p number), with_local_type number m.1 u)) (type_fault equals)
     (λ sized. ((local_typed u k number m.1 (complete_fit u.known m.1 sized), later_same u.known u.types), tt)) tt))
 initialized_to n d equals i p (Err f) s h fit = tt
 

@@ -31,9 +31,9 @@ with_initial index number t stores s = Ok (tt, with_stores number stores (with_s
 abbrev pub store_static : Place → ℕ → ℕ → InitializedView → Ty → State → Ruled (Unit {0} × State)
 store_static equals index number made t s = after (static_stores equals made s) (with_initial index number t)
 
-abbrev pub judged_static : Place → ℕ → ℕ → Place → InitializedView × Ty → State → Ruled (Unit {0} × State)
-judged_static at index number equals m s = cond (has_size s.known m.1) (store_static equals index number m.0 m.1 s) (type_fault at)
+abbrev pub judged_static : ℕ → ℕ → Place → InitializedView × Ty → State → Ruled (Unit {0} × State)
+judged_static index number equals m s = cond (has_size s.known m.1) (store_static equals index number m.0 m.1 s) (type_fault equals)
 
--- the initializer of an object, at whose name it is refused where its type is not complete then
-abbrev pub static_initializer : State → Place → ℕ → ℕ → Place → Ty → InitializerTree → Ruled (Unit {0} × State)
-static_initializer s at index number equals t i = after (initializer_of s equals t i) (judged_static at index number equals)
+-- the initializer of an object; an array whose length it gives is refused where it is too large
+abbrev pub static_initializer : State → ℕ → ℕ → Place → Ty → InitializerTree → Ruled (Unit {0} × State)
+static_initializer s index number equals t i = after (initializer_of s equals t i) (judged_static index number equals)
