@@ -24,7 +24,7 @@ pub fn has_size(cx: &Context, t: &CType) -> bool
 
 /// Gives an object of the run its stores.
 fn set_stores(cx: &mut Context, number: u32, stores: Vec<StaticStore>)
-    ensures { state cx.new ≡ spec.with_stores number (stores_view stores) (state cx.old) }
+    ensures { state cx.new ≡ spec.with_object_stores number (stores_view stores) (state cx.old) }
 {
     if let Some(object) = cx.statics.get_mut(number as usize) {
         object.stores = stores;
@@ -45,6 +45,7 @@ fn store_static(
     let stores = static_stores(cx, equals, made)?;
     set_static(cx, index, number, ctype)?;
     set_stores(cx, number, stores);
+    cx.note_initializer(number, equals)?;
     Ok(())
 }
 
