@@ -47,7 +47,7 @@ pub record HasBlocks (R : State → State → Type 0) : Type 0 where
   pub started : (n : NameView) (d : DeclaredView) (s t : State) (made : Ty) → R (with_automatic n d s) t → R s (with_local_type (length s.body.locals) made t)
   pub static : (n : NameView) (d : DeclaredView) (s : State) → R s (with_static_object n d s)
   pub initial : (s u : State) (equals : Place) (index number : ℕ) (t made : Ty) (i : InitializerTree) (v : InitializedView) (stores : List StaticStoreView) → IsNumbered s index number → initializer_of s equals t i ≡ Ok ((v, made), u) → R s u
-      → statics.has_size u.known made ≡ true → constant_stores u.known equals v ≡ Ok stores → R u (with_expressions u v) → R s (statics.with_stores number stores (with_static_type index number made (with_expressions u v)))
+      → statics.has_size u.known made ≡ true → constant_stores u.known equals v ≡ Ok stores → R u (with_expressions u v) → R s (statics.with_stores equals number stores (with_static_type index number made (with_expressions u v)))
 
 -- the point behind a statement that is not refused
 abbrev pub Comes : {V : Type 0} → (State → State → Type 0) → State → Ruled (V × Point) → Type 0
@@ -84,7 +84,7 @@ module _ (R : State → State → Type 0) (has : HasBlocks R) where
   pub static_leads : (s : State) (index number : ℕ) (equals : Place) (t : Ty) (i : InitializerTree) → IsNumbered s index number → Leads R s (statics.static_initializer s index number equals t i)
   static_leads s index number equals t i numbered = of_made (initializer_of s equals t i) refl (initializer_leads R has.specifies.steps s equals t i)
     where
-      of_stores : (v : InitializedView) (made : Ty) (u : State) → initializer_of s equals t i ≡ Ok ((v, made), u) → R s u → statics.has_size u.known made ≡ true → (r : Ruled (List StaticStoreView)) → constant_stores u.known equals v ≡ r → Leads R s (after (kept (with_expressions u v) r) (statics.with_initial index number made))
+      of_stores : (v : InitializedView) (made : Ty) (u : State) → initializer_of s equals t i ≡ Ok ((v, made), u) → R s u → statics.has_size u.known made ≡ true → (r : Ruled (List StaticStoreView)) → constant_stores u.known equals v ≡ r → Leads R s (after (kept (with_expressions u v) r) (statics.with_initial equals index number made))
       of_stores v made u is g sized (Ok stores) constant = has.initial s u equals index number t made i v stores numbered is g sized constant (expressions_kept u v)
       of_stores v made u is g sized (Err f) constant = tt
 

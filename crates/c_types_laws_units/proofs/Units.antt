@@ -379,7 +379,7 @@ begins : (m : Model) (es : List ExternalTree) → Keeps (first_state m) (begun m
 begins m es = keeps_twice (first_state m) (with_stream (first_state m)) (begun m es) (stream_keeps (first_state m)) (definitions_keep es (with_stream (first_state m)))
 
 parts_done : (m : Model) (es : List ExternalTree) (r : Ruled (List FunctionView × State)) → Leads Keeps (begun m es) r → IsDone m (after r checks.finished)
-parts_done m es (Ok p) g = of_bounds (ends.first_past (ends.object_sizes (ends.with_completed p.1)) (ends.with_bounded (ends.with_completed p.1)).statics)
+parts_done m es (Ok p) g = of_bounds (ends.first_past (ends.object_sizes (ends.with_completed p.1)) (ends.with_bounded (ends.with_completed p.1)).statics p.1.initializers)
   where
     of_bounds : (past : Option Place) → IsDone m (after (ends.judged_bounds past (ends.with_bounded (ends.with_completed p.1))) (checks.functions_kept p.0))
     of_bounds (Some at) = tt

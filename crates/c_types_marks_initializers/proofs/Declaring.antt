@@ -173,14 +173,14 @@ module _ (laws : HasLaws) (m : Model) where
   abbrev Stores : State → Ruled (Unit {0} × State) → Type 0
   Stores s r = Goes m s going.nothing (λ u x. Unit {0}) r
 
-  stored_goes : (equals : Place) (index number : ℕ) (v : InitializedView) (t : Ty) (s : State) (r : Ruled (List StaticStoreView)) → IsReady m s → IsTypeOf m t → StoresIf r → Stores s (after (kept (with_expressions s v) r) (statics.with_initial index number t))
+  stored_goes : (equals : Place) (index number : ℕ) (v : InitializedView) (t : Ty) (s : State) (r : Ruled (List StaticStoreView)) → IsReady m s → IsTypeOf m t → StoresIf r → Stores s (after (kept (with_expressions s v) r) (statics.with_initial equals index number t))
   stored_goes equals index number v t s (Ok stores) h typed proper =
       let s1 : State = with_expressions s v in
       let h1 = expressions_ready s v h in
       let s2 : State = with_static_type index number t s1 in (
-        stores_ready m s2 (static_type_ready m s1 h1 index number t typed) number stores proper,
+        stores_ready m s2 (static_type_ready m s1 h1 index number t typed) equals number stores proper,
         tt,
-        λ u part. (expressions_pass s v u (static_type_passes s1 index number t u (stores_pass s2 number stores u part)), tt),
+        λ u part. (expressions_pass s v u (static_type_passes s1 index number t u (stores_pass s2 equals number stores u part)), tt),
       )
   stored_goes equals index number v t s (Err f) h typed proper = tt
 

@@ -121,7 +121,7 @@ pub static_leads : (s : State) (index number : ℕ) (equals : Place) (t : Ty) (i
 static_leads s index number equals t i =
     then Stays stays_twice s (initializer_of s equals t i) (statics.judged_static index number equals) (initializer_leads Stays steps_stay s equals t i)
     (λ m u. cond_leads Stays u (statics.has_size u.known m.1) (statics.store_static equals index number m.0 m.1 u) (type_fault equals)
-    (then Stays stays_twice u (static_stores equals m.0 u) (statics.with_initial index number m.1) (kept_leads Stays u (with_expressions u m.0) (constant_stores u.known equals m.0) (expressions_stay u m.0)) (λ stores v. stays_same v)) tt)
+    (then Stays stays_twice u (static_stores equals m.0 u) (statics.with_initial equals index number m.1) (kept_leads Stays u (with_expressions u m.0) (constant_stores u.known equals m.0) (expressions_stay u m.0)) (λ stores v. stays_same v)) tt)
 
 static_more : (n : NameView) (d : DeclaredView) (s : State) → Stays s (with_static_object n d s)
 static_more n d s = declares s.scopes.ordinary s.scopes.meanings (count s) (count s) (number_in s.scopes.names n.text) (meaning.Static (length s.objects)) [] (omega arith) (none_new (count s) (count s)) (λ alive all. tt)

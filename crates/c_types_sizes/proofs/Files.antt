@@ -35,6 +35,7 @@ use Rattle.c_types_sizes.specs.FitTypes.{HasElements, IsFit}
 use Rattle.c_types_sizes.proofs.FitTypes.{elements_grown, object_fit, composite_fit}
 use Rattle.c_types_sizes.proofs.Keeping as keeping
 use Rattle.c_types_sizes.proofs.Keeping.{Sized, Keeps, keeps_same, To, any, here, onward, then, cond_to, led}
+use Rattle.c_types_sizes.proofs.Listed.{listed_more}
 use Rattle.c_types_sizes.proofs.Specifying.{HasParts, Parts, Said, specifiers_to, declared_to}
 use Rattle.c_types_sizes.proofs.Locals.{Fits, static_typed, static_to}
 use Rattle.c_types_sizes.proofs.Heads.{HasFit, head_to}
@@ -45,17 +46,17 @@ module _ (s : State) (h : Sized s) where
   run_more : (n : NameView) (t : Ty) → IsFit s.known t → Sized (with_static s n.text n.at t)
   run_more n t fit =
       let new : StaticView = record { name = n.text; at = n.at; ctype = t; stores = [] } in
-      keeping.with_static s.known s.types s.typedefs s.objects s.body.locals s.statics h (s.statics ++ new ∷ []) (each_more (λ (o : StaticView). IsFit s.known o.ctype) s.statics new h.static fit)
+      keeping.with_static s.known s.types s.typedefs s.objects s.body.locals s.statics s.initializers h (s.statics ++ new ∷ []) s.initializers (each_more (λ (o : StaticView). IsFit s.known o.ctype) s.statics new h.static fit) (listed_more s.initializers s.statics new refl h.listed)
 
   declared_more : (name : ℕ) (o : ObjectView) → IsFit s.known o.declared.ctype → Sized (objects.with_declaration name o s)
-  declared_more name o fit = keeping.with_declared s.known s.types s.typedefs s.objects s.body.locals s.statics h (s.objects ++ o ∷ []) (each_more (λ (x : ObjectView). IsFit s.known x.declared.ctype) s.objects o h.declared fit)
+  declared_more name o fit = keeping.with_declared s.known s.types s.typedefs s.objects s.body.locals s.statics s.initializers h (s.objects ++ o ∷ []) (each_more (λ (x : ObjectView). IsFit s.known x.declared.ctype) s.objects o h.declared fit)
 
   -- an object that is changed but for its type
   alike : (f : ObjectView → ObjectView) (index : ℕ) → ((o : ObjectView) → IsFit s.known o.declared.ctype → IsFit s.known (f o).declared.ctype) → Sized (record s { objects = changed f index s.objects })
-  alike f index same = keeping.with_declared s.known s.types s.typedefs s.objects s.body.locals s.statics h (changed f index s.objects) (each_changed (λ (x : ObjectView). IsFit s.known x.declared.ctype) f index s.objects same h.declared)
+  alike f index same = keeping.with_declared s.known s.types s.typedefs s.objects s.body.locals s.statics s.initializers h (changed f index s.objects) (each_changed (λ (x : ObjectView). IsFit s.known x.declared.ctype) f index s.objects same h.declared)
 
   typedef_more : (name : ℕ) (d : DeclaredView) → HasParts s.known d → Sized (external.with_typedef name d s)
-  typedef_more name d had = keeping.with_named s.known s.types s.typedefs s.objects s.body.locals s.statics h (s.typedefs ++ d ∷ []) (each_more (λ (x : DeclaredView). HasElements s.known x.ctype) s.typedefs d h.named had)
+  typedef_more name d had = keeping.with_named s.known s.types s.typedefs s.objects s.body.locals s.statics s.initializers h (s.typedefs ++ d ∷ []) (each_more (λ (x : DeclaredView). HasElements s.known x.ctype) s.typedefs d h.named had)
 
 first_to : (name : ℕ) (n : NameView) (d : DeclaredView) (s : State) (index : ℕ) (b : Bool) → Sized s → Fits d s
     → To s any (Ok (index, objects.with_declaration name (objects.first_object (cond b (Some (length s.statics)) None) d) (cond b (with_static s n.text n.at d.ctype) s)))
