@@ -90,7 +90,19 @@ const REDECLARED: [(&str, &str); 8] = [
     ),
 ];
 
-const TYPE_FAULTS: [(&str, &str); 13] = [
+const TYPE_FAULTS: [(&str, &str); 16] = [
+    (
+        "struct b{char x[1073741824];};static struct b a[]={{{1}},{{2}}};int main(void){return 0;}",
+        "a.c:1:50: refused: TypeFault\n",
+    ),
+    (
+        "struct b{char x[1073741824];};int main(void){static struct b a[]={{{1}},{{2}}};return 0;}",
+        "a.c:1:65: refused: TypeFault\n",
+    ),
+    (
+        "struct b{char x[1073741824];};int main(void){struct b a[]={{{1}},{{2}}};return 0;}",
+        "a.c:1:58: refused: TypeFault\n",
+    ),
     (
         "int main(void){int free=1;free(0);return 0;}",
         "a.c:1:27: refused: TypeFault\n",
@@ -180,7 +192,7 @@ const POINTERS_AND_INTEGERS: [(&str, &str); 8] = [
     ),
 ];
 
-const CONSTANTS_NEEDED: [(&str, &str); 11] = [
+const CONSTANTS_NEEDED: [(&str, &str); 12] = [
     (
         "int a[0];int main(void){return 0;}",
         "a.c:1:5: refused: ConstantNeeded\n",
@@ -215,15 +227,19 @@ const CONSTANTS_NEEDED: [(&str, &str); 11] = [
     ),
     (
         "extern int a[];int *p=&a[5];int a[2];int main(void){return 0;}",
-        "a.c:1:21: refused: ConstantNeeded\n",
+        "a.c:1:22: refused: ConstantNeeded\n",
     ),
     (
         "int a[];int *p=a;int *q=a+2;int main(void){return 0;}",
-        "a.c:1:23: refused: ConstantNeeded\n",
+        "a.c:1:24: refused: ConstantNeeded\n",
     ),
     (
         "extern int a[];int f(void){static int *p[2]={0,&a[3]};return 0;}int a[2];",
-        "a.c:1:40: refused: ConstantNeeded\n",
+        "a.c:1:44: refused: ConstantNeeded\n",
+    ),
+    (
+        "extern int a[];int *q;int *p=&a[5];int *q=&a[6];int a[2];int main(void){return 0;}",
+        "a.c:1:29: refused: ConstantNeeded\n",
     ),
 ];
 
