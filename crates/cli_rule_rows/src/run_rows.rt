@@ -100,7 +100,7 @@ const LEAVING: [&str; 6] = [
 ];
 
 /// Fails unless the run of the unit over the draws is told so.
-fn run_tells(
+pub(crate) fn run_tells(
     rt: &impl Abort,
     alloc: Global,
     source: &str,
