@@ -19,7 +19,7 @@ use Rattle.ref_machine.specs.SourceRuns.{Run}
 use Rattle.template_runs_ends.specs.UnitRuns.{IsProgramOf, Agree}
 use Rattle.template_runs_looked.specs.LookedRuns.{PassesLooks, LookedUnitsAreNeverStuck, LookedRunsAreProgramRuns}
 use Rattle.abstract_steps_single_analyses.specs.Analyses.{IsAnalysis}
-use Rattle.abstract_steps_single_analyses.specs.SingleRuns.{IsNeverStuck, IsViolatedAlone}
+use Rattle.abstract_steps_single_analyses.specs.SingleRuns.{IsNeverStuckAlone, IsViolatedAlone}
 use Rattle.abstract_steps_single_switches.specs.UnitSwitches.{UnitSwitchesAreApart}
 use Rattle.abstract_steps_single_analyses.proofs.SingleAnalyses.{finds_checked_run}
 use Rattle.template_runs_ends.specs.EndedRuns.{HasStopped, UnitsWithoutLoopsEnd}
@@ -65,7 +65,7 @@ module _ (laws : LookedRunsAreProgramRuns) (never : LookedUnitsAreNeverStuck) (u
   has_stopped : ProgramHasStopped (flow_steps f count begin)
   has_stopped = stopped_by (flow_steps f count begin) (sym agree.why ∙ ended)
 
-  never_stuck : IsNeverStuck program u
+  never_stuck : IsNeverStuckAlone program u
   never_stuck n w found e = defined (one_cause f begin count n end.why Stuck has_stopped.world w has_stopped.found found has_stopped.is e)
 
   to_source : (n : ℕ) (v : Violation) → Contains (flow.found_in (flow_steps f n begin)) v → Contains (source.found_in (Run u [] turns)) v
