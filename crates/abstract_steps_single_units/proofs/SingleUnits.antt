@@ -23,7 +23,7 @@ use Rattle.abstract_steps_single_analyses.specs.SingleRuns.{IsNeverStuck, IsSing
 use Rattle.abstract_steps_single_switches.specs.UnitSwitches.{UnitSwitchesAreApart}
 use Rattle.abstract_steps_single_analyses.proofs.SingleAnalyses.{finds_checked_run}
 use Rattle.template_runs_ends.specs.EndedRuns.{HasStopped, UnitsWithoutLoopsEnd}
-use Rattle.abstract_steps_single_units.specs.SingleUnits.{FindsJustUnitRuns}
+use Rattle.abstract_steps_single_units.specs.SingleUnits.{RunViolates, FindsJustUnitRuns}
 use Rattle.abstract_steps_single_units.proofs.EndedRuns.{one_cause, all_found}
 
 same_cause : (a b : Why) → Some a ≡ Some b → a ≡ b

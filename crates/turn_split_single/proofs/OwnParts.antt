@@ -1,5 +1,5 @@
 -- Each instruction and each edge of a program with turns unrolled is a copy of one of the program.
-use Rattle.std.specs.Prelude.{◌≡◌, ℕ, ◌*◌, ◌<◌, ◌≤◌, Option, Some, None, List, [], map, option_map, length, slice_get, refl}
+use Rattle.std.specs.Prelude.{◌≡◌, ℕ, zero, suc, ◌*◌, ◌<◌, ◌≤◌, true, Option, Some, None, List, [], ◌∷◌, map, option_map, length, slice_get, refl}
 use Rattle.std.proofs.Common.{arith, sym, subst, ap, ◌∙◌, inl, inr}
 use Rattle.std.proofs.lemmas.Bool.{cases_lt}
 use Rattle.std.proofs.lemmas.List.{length-map}
@@ -89,11 +89,11 @@ module _ (turns : ℕ) (f g : Flow) (h : flow_view g ≡ split turns (flow_view 
     | inl less ↦ (let p = placed many (copies turns) b less in
         record { block = p.place; at = at; here = own_instruction p.copy p.place at i p.in_copies p.in_copy (subst (λ z. slice_get (instructions_of g z) at ≡ Some i) p.is e) })
     | inr more ↦ (let c = block_count turns f g h in let n : slice_get g.blocks.items b ≡ None = past g.blocks.items b (omega arith) in
-        absurd (none_there (ap (λ z. slice_get (instructions_in z) at) (sym n) ∙ e)))
+        absurd (none_there i (ap (λ z. slice_get (instructions_in z) at) (sym n) ∙ e)))
   ]
     where
-      none_there : {X : Type 0} {x : X} → slice_get ([] {X}) at ≡ Some x → ⊥
-      none_there q = cc
+      none_there : (x : Instruction) → ◌≡◌ {A = Option Instruction} (slice_get [] at) (Some x) → ⊥
+      none_there x q = cc
 
   -- ---- edges
 

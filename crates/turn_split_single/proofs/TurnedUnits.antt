@@ -17,7 +17,7 @@ use Rattle.abstract_steps_sound_units.proofs.CheckedUnits.{analysed_structs, sam
 use Rattle.abstract_steps_sound_units.proofs.TurnedSound.{starts_same}
 use Rattle.abstract_steps_single_switches.specs.UnitSwitches.{UnitSwitchesAreApart}
 use Rattle.abstract_steps_single_analyses.proofs.SingleAnalyses.{finds_run}
-use Rattle.abstract_steps_single_units.specs.Analyses.{IsAnalysis}
+use Rattle.abstract_steps_single_analyses.specs.Analyses.{IsAnalysis}
 use Rattle.abstract_steps_single_units.specs.CheckedStarts.{IsUnitOf}
 use Rattle.abstract_steps_single_units.specs.SingleRuns.{SwitchesAreApart, IsNeverStuck, IsSingleProgram, IsViolatedAlone}
 use Rattle.abstract_steps_single_units.proofs.SingleUnits.{by_unit_run}

@@ -1,5 +1,5 @@
 -- Accesses that are of the kind of what lies there are so in another program with the same parts.
-use Rattle.std.specs.Prelude.{◌≡◌, ℕ, Option, Some, slice_get}
+use Rattle.std.specs.Prelude.{◌≡◌, ℕ, ◌+◌, ◌≤◌, Option, Some, slice_get}
 use Rattle.std.proofs.Common.{sym, subst, ap, ◌∙◌}
 use Rattle.c_layout.specs.Leaves.{leaves_of}
 use Rattle.c_layout.specs.StructViews.{StructView, structs_view}
@@ -81,7 +81,7 @@ module _ (f g : Flow) (h : SameParts f g) where
   pub step_too : (s t : Standing) (o : Operation) → s.temps ≡ t.temps → s.bases ≡ t.bases → IsTypedStep f o s → IsTypedStep g o t
   step_too s t (op.Load to from kind) temps bases a = typed_too s t from kind temps bases a
   step_too s t (op.Store to from kind kept) temps bases a = typed_too s t to kind temps bases a
-  step_too s t (op.Copy to from index) temps bases a = (type_too s t to index temps bases a.0, type_too s t from index temps bases a.1.0, places_too s t to from index temps a.1.1)
+  step_too s t (op.Copy to from index) temps bases a = (type_too s t to index temps bases a.0, type_too s t from index temps bases a.1, places_too s t to from index temps a.2)
   step_too s t (op.Constant to value kind) temps bases a = a
   step_too s t (op.Address to base offset) temps bases a = a
   step_too s t (op.Narrow to from offset size) temps bases a = a
