@@ -130,16 +130,16 @@ abbrev pub typedef_word : State → Name → Ruled (Option DeclaredView)
 typedef_word s n = as_typedef (typedef_named s n)
 
 -- `auto` and `register` say nothing; other storage classes are refused at the place of the `sizeof` or the cast
-abbrev pub storage_word : State → Place → Storage → Ruled (Option DeclaredView × State)
-storage_word s at storage.Auto = Ok (None, s)
-storage_word s at storage.Register = Ok (None, s)
-storage_word s at storage.Typedef = type_fault at
-storage_word s at storage.Extern = type_fault at
-storage_word s at storage.Static = type_fault at
+abbrev pub storage_word : Place → Storage → Ruled (Option DeclaredView)
+storage_word at storage.Auto = Ok None
+storage_word at storage.Register = Ok None
+storage_word at storage.Typedef = type_fault at
+storage_word at storage.Extern = type_fault at
+storage_word at storage.Static = type_fault at
 
 -- what one word says
 abbrev pub word_type : State → Place → TypeNameWord → Ruled (Option DeclaredView × State)
-word_type s at (word.Storage p class) = storage_word s at class
+word_type s at (word.Storage p class) = kept s (storage_word at class)
 word_type s at (word.Qualifier p) = Ok (None, s)
 word_type s at (word.Type p w) = Ok (None, s)
 word_type s at (word.Struct p n) = struct_word s n

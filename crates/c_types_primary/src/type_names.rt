@@ -134,8 +134,8 @@ fn typedef_word(cx: &Context, name: &Name) -> Result<Tagged, Stop>
 
 /// What a storage class says: `auto` and `register` say nothing, and others are refused at the place
 /// of the `sizeof` or the cast (6.7.1, 6.7.7).
-fn storage_word(cx: &Context, place: Place, class: Storage) -> Result<Tagged, Stop>
-    ensures { Leads tagged_view (spec.storage_word (state cx.now) place class) result (state cx.now) }
+fn storage_word(place: Place, class: Storage) -> Result<Tagged, Stop>
+    ensures { Gives tagged_view (spec.storage_word place class) result }
 {
     match class {
         Storage::Auto | Storage::Register => Ok(Tagged::Nothing),
@@ -148,7 +148,7 @@ fn word_type(cx: &mut Context, place: Place, word: &TypeNameWord) -> Result<Tagg
     ensures { Leads tagged_view (spec.word_type (state cx.old) place word.now) result (state cx.new) }
 {
     match word {
-        TypeNameWord::Storage(_, class) => storage_word(cx, place, *class),
+        TypeNameWord::Storage(_, class) => storage_word(place, *class),
         TypeNameWord::Qualifier(_) => Ok(Tagged::Nothing),
         TypeNameWord::Type(_, _) => Ok(Tagged::Nothing),
         TypeNameWord::Struct(_, tag) => struct_word(cx, tag),
