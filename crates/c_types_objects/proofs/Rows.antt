@@ -1,5 +1,5 @@
 -- Worked rows: `int a[2];` behind `extern int a[];` and pointers into it.
-use Rattle.std.specs.Prelude.{◌≡◌, refl, ℕ, List, [], ◌∷◌, Some, None}
+use Rattle.std.specs.Prelude.{◌≡◌, refl, ℕ, [], ◌∷◌, Some, None}
 use Rattle.cc_base.specs.declared.diagnostics.Place.{Place}
 use Rattle.c_layout.specs.Types.{Pointer, Void}
 use Rattle.c_layout.specs.CheckedUnits.{StaticView, SetValue}

@@ -259,7 +259,11 @@ pub fn finish_objects(cx: &mut Context) -> Result<(), Stop>
     complete_objects(cx);
     let sizes = object_sizes(cx)?;
     bound_objects(cx, sizes.as_slice());
-    match first_past(cx.statics.as_slice(), sizes.as_slice(), cx.initializers.as_slice()) {
+    match first_past(
+        cx.statics.as_slice(),
+        sizes.as_slice(),
+        cx.initializers.as_slice(),
+    ) {
         Some(place) => Err(constant_needed(place)),
         None => Ok(()),
     }

@@ -322,7 +322,8 @@ impl Context {
     pub fn note_initializer(&mut self, object: u32, equals: Place) -> Result<(), Memory>
         ensures { IfOk result (λ _. state self.new ≡ spec.with_initializer (state self.old) object equals) }
     {
-        self.initializers.push(StaticInitializer { object, equals })?;
+        self.initializers
+            .push(StaticInitializer { object, equals })?;
         Ok(())
     }
 }

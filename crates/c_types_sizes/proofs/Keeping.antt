@@ -80,7 +80,7 @@ AreSmall table = (n : ℕ) (v : StructView) → slice_get table.structs n ≡ So
 
 sized_with : (k later : Known) (table new : TypesView) (typedefs : List DeclaredView) (objects : List ObjectView) (locals : List LocalView) (statics : List StaticView) (initializers : List StaticInitializer) → Extends k later → later.structs ≡ new.structs → AreMet new → AreSmall new
     → IsSized k table typedefs objects locals statics initializers → IsSized later new typedefs objects locals statics initializers
-sized_with k later table new typedefs objects locals statics g settled met small h = record {
+sized_with k later table new typedefs objects locals statics initializers g settled met small h = record {
   settled = settled;
   bodies = met;
   small = small;

@@ -11,7 +11,7 @@ use Rattle.c_types_marks_layouts.proofs.Bodies.{changed_is}
 use Rattle.c_types_marks_layouts.proofs.Kept.{appended_is, front_stays}
 
 abbrev pub IsListed : List StaticInitializer → ℕ → Type 0
-IsListed xs number = (j : ℕ) × (x : StaticInitializer) × ((slice_get xs j ≡ Some x) × (x.object ≡ number))
+IsListed xs number = (j : ℕ) × (x : StaticInitializer) × (slice_get xs j ≡ Some x) × (x.object ≡ number)
 
 abbrev pub AreListed : List StaticInitializer → List StaticView → Type 0
 AreListed xs objects = (i : ℕ) (o : StaticView) → slice_get objects i ≡ Some o → (o.stores ≡ []) ⊎ IsListed xs i
@@ -39,6 +39,6 @@ listed_stored xs objects equals number stores h i o at =
       | inl here ↦ inr (length xs, new, newest_is xs new, sym here.0)
       | inr other ↦ elim (h i c.0 c.1) [
         | inl bare ↦ inl (ap (λ (v : StaticView). v.stores) other.1 ∙ bare)
-        | inr listed ↦ inr (listed.0, listed.1, front_stays xs (new ∷ []) listed.0 listed.1 listed.2.0, listed.2.1)
+        | inr listed ↦ inr (listed.0, listed.1, front_stays xs (new ∷ []) listed.0 listed.1 listed.2, listed.3)
       ]
     ]

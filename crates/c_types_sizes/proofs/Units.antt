@@ -79,7 +79,7 @@ listed_fits : (sizes : List ℕ) (os : List StaticView) (xs : List StaticInitial
 unfolding ends.stores_fit
 listed_fits sizes os xs none listed i o at = elim (listed i o at) [
   | inl bare ↦ subst (λ stores. ends.stores_fit sizes stores ≡ true) (sym bare) refl
-  | inr there ↦ subst (λ v. ends.object_fits sizes v ≡ true) (ap (slice_get os) there.2.1 ∙ at) (none_past sizes os xs none there.0 there.1 there.2.0)
+  | inr there ↦ subst (λ v. ends.object_fits sizes v ≡ true) (ap (slice_get os) there.3 ∙ at) (none_past sizes os xs none there.0 there.1 there.2)
 ]
 
 fits_both : (a b : Bool) → cond a b false ≡ true → (a ≡ true) × (b ≡ true)
