@@ -12,8 +12,8 @@ ghost use Rattle.c_parser_expressions_grammar.specs.TypeNameReaders.{all_readers
 use crate::expressions::{assignment, expression};
 use c_layout::{Constant, Expr, Name};
 use c_parser_expressions_grammar::{
-    Parsed, Reader, Scope, Suffix, Trouble, add_expression, call_node, inner, leaf_node, paren_node,
-    step_at, step_sign, suffix_node,
+    Parsed, Reader, Scope, Suffix, Trouble, add_expression, call_node, inner, leaf_node,
+    paren_node, step_at, step_sign, suffix_node,
 };
 use c_parser_tokens::{Punctuator, Symbol};
 
