@@ -3,3 +3,4 @@ pub mod Words
 pub mod Layers
 pub mod Arguments
 pub mod Begins
+mod LiteralRows

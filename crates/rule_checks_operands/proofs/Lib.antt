@@ -1,1 +1,2 @@
 mod TypedSteps
+mod RightOperandRows
