@@ -1,4 +1,4 @@
-mod SameBlocks
+pub mod SameBlocks
 mod SameSystems
 mod SamePairs
 pub mod OneAnalysis

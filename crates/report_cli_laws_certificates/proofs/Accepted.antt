@@ -24,14 +24,14 @@ use Rattle.report_cli_laws.specs.Accepted.{HasProgram}
 use Rattle.report_cli_laws.proofs.OneParse.{one_program_of}
 use Rattle.report_cli_laws_certificates.proofs.SameTexts.{rows_same, accepted_same}
 
-abbrev program_of : (unit : Unit7) (s : SettingView) (flow : Flow) → IsProgram unit s flow → HasProgram unit s
+abbrev pub program_of : (unit : Unit7) (s : SettingView) (flow : Flow) → IsProgram unit s flow → HasProgram unit s
 program_of unit s flow p = record { tree = p.tree; parsed = p.parsed; checked = p.checked; typed = p.typed; flow = flow; lowered = p.lowered }
 
 abbrev judged_program : (unit : Unit7) (s : SettingView) (j : Judgement) → IsJudged unit s j → HasProgram unit s
 judged_program unit s j a = record { tree = a.tree; parsed = a.parsed; checked = a.checked; typed = a.typed; flow = a.flow; lowered = a.lowered }
 
 module _ (unit : Unit7) (s : SettingView) (text : Bytes) (p : IsProved unit s text) where
-  same_view : (h : HasProgram unit s) → flow_view p.flow ≡ flow_view h.flow
+  pub same_view : (h : HasProgram unit s) → flow_view p.flow ≡ flow_view h.flow
   same_view h = one_program_of unit s (program_of unit s p.flow p.program) h
 
   pub never_refused : (why : CertFault) → IsVerifiedUnit unit s text (refuses why) → ⊥
@@ -42,7 +42,7 @@ module _ (unit : Unit7) (s : SettingView) (text : Bytes) (p : IsProved unit s te
       absurd (cc both)
 
   -- what is shown of the text by another program of the unit, as that of the first one
-  found_by_text : (shown : List Diag) → IsVerifiedUnit unit s text (shows shown) → IsAnalysis p.flow p.proof.list shown
+  pub found_by_text : (shown : List Diag) → IsVerifiedUnit unit s text (shows shown) → IsAnalysis p.flow p.proof.list shown
   found_by_text shown v =
       let view : flow_view p.flow ≡ flow_view v.flow = same_view (program_of unit s v.flow v.program) in
       let rows : IsOrderedSet (admitted_pairs v.flow (map_rows p.flow text)) shown = subst (λ (rs : List (Option (List (Cell Interval)))). IsOrderedSet (admitted_pairs v.flow rs) shown) (sym (rows_same p.flow v.flow view text)) v.answers.pairs in

@@ -24,22 +24,22 @@ use Rattle.report_cli_laws_certificates.proofs.Accepted as accepted
 
 -- ---- what the verdicts say, over the files that are told
 
-record Proves (held : Files) (c : CommandView) (text : Bytes) : Type 0 where
-  model : Model
-  has_model : HasModel (Some held) c.model model
-  proof : IsProof (FromFiles (Some held) c.dirs model c.unit) (cert_setting c model) text
+pub record Proves (held : Files) (c : CommandView) (text : Bytes) : Type 0 where
+  pub model : Model
+  pub has_model : HasModel (Some held) c.model model
+  pub proof : IsProof (FromFiles (Some held) c.dirs model c.unit) (cert_setting c model) text
 
-record Verifies (held : Files) (c : CommandView) (cert : Bytes) (names : List Bytes) (answer : CertAnswer) : Type 0 where
-  model : Model
-  has_model : HasModel (Some held) c.model model
-  checked : IsCheckedBy (FromFiles (Some held) c.dirs model c.unit) (Some held) cert (cert_setting c model) names answer
+pub record Verifies (held : Files) (c : CommandView) (cert : Bytes) (names : List Bytes) (answer : CertAnswer) : Type 0 where
+  pub model : Model
+  pub has_model : HasModel (Some held) c.model model
+  pub checked : IsCheckedBy (FromFiles (Some held) c.dirs model c.unit) (Some held) cert (cert_setting c model) names answer
 
 record Reports (held : Files) (c : CommandView) (names : List Bytes) (diags : List Diag) : Type 0 where
   model : Model
   has_model : HasModel (Some held) c.model model
   report : IsReport (FromFiles (Some held) c.dirs model c.unit) (check_setting c model) names diags
 
-proves_of : (seen : Seen) (held : Files) (c : CommandView) (text : Bytes) → seen.files ≡ Some held → IsVerdict seen (asked.Prove c) (proved text) → Proves held c text
+pub proves_of : (seen : Seen) (held : Files) (c : CommandView) (text : Bytes) → seen.files ≡ Some held → IsVerdict seen (asked.Prove c) (proved text) → Proves held c text
 proves_of seen held c text told (inl h) = absurd h
 proves_of seen held c text told (inr u) = record {
   model = u.chosen;
@@ -97,7 +97,7 @@ module _ (c : CommandView) (held files : Files) (alike : GiveOneUnit c held file
     proof : IsProof (FromFiles (Some held) c.dirs v.model c.unit) (cert_setting c v.model) text
     proof = subst (λ (m : Model). IsProof (FromFiles (Some held) c.dirs m c.unit) (cert_setting c m) text) (alike.models p.model v.model p.has_model v.has_model) p.proof
 
-    proved_here : IsProved unit (cert_setting c v.model) text
+    pub proved_here : IsProved unit (cert_setting c v.model) text
     proved_here =
         let same = one_unit c held files v.model proof.names names proof.expanded unit alike proof.is_expanded v.checked.is_expanded in
         subst (λ (u : Unit7). IsProved u (cert_setting c v.model) text) same.unit proof.proved

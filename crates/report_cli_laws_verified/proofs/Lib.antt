@@ -1,0 +1,3 @@
+mod SameAccesses
+mod ShownRuns
+mod VerifiedRuns

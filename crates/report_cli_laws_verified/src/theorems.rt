@@ -1,0 +1,22 @@
+//! Certificates of plain units: what the text that `prove` was called to tell shows.
+ghost use Rattle.report_cli_laws_verified.specs.ShownRuns.{ProvedTextsShowJustRuns, VerifiedHoldJustRuns};
+
+use abstract_steps_single_units::plain_units_are_told_exactly;
+use flow_lower_plain_programs::plain_units_have_plain_programs;
+use report_cli::typed_units_pass_looks;
+
+/// A text that is proved of a plain unit shows just the pairs that the unit's run under no numbers of the outside violates.
+pub fn proved_texts_show_just_runs()
+    ensures { ProvedTextsShowJustRuns }
+{
+    typed_units_pass_looks();
+    plain_units_are_told_exactly();
+    plain_units_have_plain_programs();
+}
+
+/// So does `verify`, where it answers 0 or 1 and a file holds such a text of the same unit.
+pub fn verified_hold_just_runs()
+    ensures { VerifiedHoldJustRuns }
+{
+    proved_texts_show_just_runs();
+}
