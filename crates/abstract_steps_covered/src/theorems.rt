@@ -6,8 +6,8 @@ ghost use Rattle.flow_program.specs.declared.programs.Flow.{Flow};
 
 use cc_base::IntDomain;
 
-/// Where each instruction is sound, where the map begins with the states in which runs begin and is carried along edges, and where
-/// operands are of their instructions' types.
+/// Where each instruction is sound, where the map begins with the states in which runs begin and is carried along
+/// edges, and where operands are of their instructions' types.
 pub fn runs_are_covered<I: IntDomain>()
     ensures { (flow : Flow) → IsCoveredByLaws I.lattice I.numbers I.stands flow }
 {}

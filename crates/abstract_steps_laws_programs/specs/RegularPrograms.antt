@@ -1,5 +1,5 @@
--- Well-formed programs whose texts are bytes, those that they begin with too, whose tests name objects with leaves and whose structs have members that stand
--- apart, and lists of numbers between whose ends their rows are cut.
+-- Well-formed programs whose texts are bytes, those that they begin with too, whose tests name objects with leaves
+-- and whose structs have members that stand apart, and lists of numbers between whose ends their rows are cut.
 use Rattle.std.specs.Prelude.{ℕ, ◌-◌, ◌^◌, ℤ, pos, negsuc, Bool, true, ◌&&◌, nat_lt, int_le, Option, Some, None, List, length, slice_get, slice_index_or}
 use Rattle.std.specs.Ordering.{int_eq}
 use Rattle.std.specs.List.{list_all}

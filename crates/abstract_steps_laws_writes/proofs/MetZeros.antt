@@ -109,7 +109,8 @@ module _ {I : Type 0} {l : LatticeOf I} {n : IntegersOf I} {stands : I → ℤ �
     -- ---- where something is
 
     module _ (on one two a c : Bool) (k : Sets a c) (f g : Option ZeroTarget) (p : IsNearTarget f) (q : IsNearTarget g) (below : TargetBelow f g) where
-      -- where more is known behind the larger write, the smaller one lies in the array too, and is made and alone if the larger one is
+      -- where more is known behind the larger write, the smaller one lies in the array too, and is made and alone
+      -- if the larger one is
       pub record Knows : Type 0 where
         pub within : a ≡ true → (t : ZeroTarget) → g ≡ Some t → more t ≡ true → (x : ZeroTarget) × (f ≡ Some x) × (lies x ≡ true)
         pub alone : two ≡ true → (t : ZeroTarget) → g ≡ Some t → t.whole ≡ true → more t ≡ true → (on ≡ true) × (a ≡ true) × (one ≡ true)

@@ -226,8 +226,8 @@ module _ {I : Type 0} {l : LatticeOf I} {n : IntegersOf I} {stands : I → ℤ �
       | inr c ↦ inr (record { starts = c; alone = λ z. made_alone flow.bases.items w.bases v.bases k.bases c.some number e now d z })
     ]
 
-    -- a write of a larger text to more bases leaves a larger row; the smaller one may be left out where nothing is known behind the larger
-    -- one
+    -- a write of a larger text to more bases leaves a larger row; the smaller one may be left out where nothing is
+    -- known behind the larger one
     pub text_rises : (on : Bool) → (on ≡ false → v.zero ≡ Any) → Step (RowsRise l n top) on (write_text l n flow w) (write_text l n flow v)
     unfolding write_text write_base_if
     text_rises on none = walk_step (λ base number. IsPlaced n all top base × IsRegular flow.model base) (RowsRise l n top) on (write_in l n flow.model w one) (write_in l n flow.model v two)

@@ -49,7 +49,8 @@ module _ {I : Type 0} (l : LatticeOf I) (n : IntegersOf I) where
     pub signed_top : l.leq d.signed (top_number n) ≡ true
     pub unsigned_top : l.leq d.unsigned (top_number n) ≡ true
 
-  -- a write of a longer text to more places; where it begins counts unless nothing is known of the first zeros behind the larger one
+  -- a write of a longer text to more places; where it begins counts unless nothing is known of the first zeros
+  -- behind the larger one
   pub record TextBelow (w v : TextWrite I) : Type 0 where
     pub bases : bases_within w.bases v.bases ≡ true
     pub start : WindowWithin w.start v.start

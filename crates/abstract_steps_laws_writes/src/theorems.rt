@@ -13,27 +13,28 @@ ghost use Rattle.abstract_steps_laws_writes.specs.MemoryCalls.{MemoryCallsRise};
 
 use cc_base::IntDomain;
 
-/// A longer text that is written to more places of a larger row leaves a larger row, an own one of consistent pointer parts. So does a
-/// text that is written to the larger row alone, where nothing is known of first zeros behind it.
+/// A longer text that is written to more places of a larger row leaves a larger row, an own one of consistent
+/// pointer parts. So does a text that is written to the larger row alone, where nothing is known of first zeros
+/// behind it.
 pub fn text_writes_are_monotone<I: IntDomain>()
     ensures both { MonotoneLaws I.lattice I.numbers → (all : Bases) (flow : Flow) → IsLaidOut all flow → TextsRise I.lattice I.numbers all flow }
     ensures alone { MonotoneLaws I.lattice I.numbers → (all : Bases) (flow : Flow) → IsLaidOut all flow → OneTextRises I.lattice I.numbers all flow }
 {}
 
-/// A call of `strcpy`, `strncpy` or `strcat` in a larger row leaves a larger row, an own one of consistent pointer parts, and may
-/// violate each rule that it may violate in a smaller one.
+/// A call of `strcpy`, `strncpy` or `strcat` in a larger row leaves a larger row, an own one of consistent pointer
+/// parts, and may violate each rule that it may violate in a smaller one.
 pub fn text_calls_are_monotone<I: IntDomain>()
     ensures { MonotoneLaws I.lattice I.numbers → (all : Bases) (flow : Flow) → IsLaidOut all flow → TextCallsRise I.lattice I.numbers all flow }
 {}
 
-/// A call of `fgets` in a larger row goes on where it does in a smaller one, may violate each rule that it may violate there, and
-/// leaves a larger row where there is a line.
+/// A call of `fgets` in a larger row goes on where it does in a smaller one, may violate each rule that it may
+/// violate there, and leaves a larger row where there is a line.
 pub fn line_calls_are_monotone<I: IntDomain>()
     ensures { MonotoneLaws I.lattice I.numbers → (all : Bases) (flow : Flow) → IsLaidOut all flow → LineRises I.lattice I.numbers all flow }
 {}
 
-/// A call of `memset` in a larger row leaves a larger row, an own one of consistent pointer parts, and may violate each rule that it
-/// may violate in a smaller one.
+/// A call of `memset` in a larger row leaves a larger row, an own one of consistent pointer parts, and may violate
+/// each rule that it may violate in a smaller one.
 pub fn fills_are_monotone<I: IntDomain>()
     ensures { MonotoneLaws I.lattice I.numbers → (all : Bases) (flow : Flow) → IsLaidOut all flow → CallRises I.lattice I.numbers all flow Memset }
 {}

@@ -1,4 +1,5 @@
-//! Where the rows of the analysis tell exactly what a state is, so do those behind an instruction, and what they admit is violated.
+//! Where the rows of the analysis tell exactly what a state is, so do those behind an instruction, and what they
+//! admit is violated.
 #![tactic(auto)]
 
 mod theorems;

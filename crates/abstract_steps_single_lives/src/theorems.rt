@@ -1,5 +1,5 @@
-//! Where a row tells exactly what a state is, the row behind an instruction that begins or ends the lifetime of an object tells the
-//! state behind it.
+//! Where a row tells exactly what a state is, the row behind an instruction that begins or ends the lifetime of an
+//! object tells the state behind it.
 ghost use Rattle.flow_program.specs.declared.programs.Flow.{Flow};
 ghost use Rattle.abstract_steps_single_store.specs.StoreLaws.{EntersAreTold, LeavesAreTold};
 

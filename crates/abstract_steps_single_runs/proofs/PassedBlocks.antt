@@ -1,4 +1,5 @@
--- The rows along a run as a map from blocks to rows: what holds of it where the run stands, and how one instruction carries it on.
+-- The rows along a run as a map from blocks to rows: what holds of it where the run stands, and how one instruction
+-- carries it on.
 use Rattle.std.proofs.Common.{◌≡◌, ℕ, zero, suc, ◌+◌, ◌<◌, ◌≤◌, true, Option, Some, None, List, [], ◌∷◌, ◌++◌, length, take, arith, subst, sym, refl, ap, ◌∙◌, inl, inr}
 use Rattle.std.specs.Prelude.{slice_get, ℤ}
 use Rattle.std.specs.List.{Contains}

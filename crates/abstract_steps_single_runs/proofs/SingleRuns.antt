@@ -1,5 +1,5 @@
--- The one run of a plain program passes its blocks once at most, to its end; so the rows along it are an inductive map that admits
--- what the run violates, and no more.
+-- The one run of a plain program passes its blocks once at most, to its end; so the rows along it are an inductive
+-- map that admits what the run violates, and no more.
 use Rattle.std.proofs.Common.{◌≡◌, ℕ, zero, suc, ◌+◌, ◌-◌, ◌<◌, ◌≤◌, Bool, true, false, ◌||◌, Option, Some, None, List, [], ◌∷◌, ◌++◌, length, take, arith, subst, sym, refl, ap, ◌∙◌, inl, inr, ◌⊎◌}
 use Rattle.std.specs.Prelude.{slice_get, ℤ, nat_lt}
 use Rattle.std.specs.List.{Contains, list_all}

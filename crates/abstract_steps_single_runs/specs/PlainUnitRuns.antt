@@ -5,9 +5,10 @@ use Rattle.flow_program.specs.declared.programs.Flow.{Flow}
 use Rattle.flow_lower_plain.specs.PlainUnits.{is_plain_unit}
 use Rattle.abstract_steps_single_runs.specs.SingleRuns.{HasTypedAccesses}
 
--- a unit whose entry has no parameters, in whose reached functions are no loops, no jumps back and no calls of the library but of
--- exit, abort, putchar and the functions of <ctype.h>, and whose arrays have at most 64 elements; and in whose run under no numbers of
--- the outside each access of memory is of the type of what lies there, and places of a copy are one or apart (6.5p7, 6.5.16.1)
+-- a unit whose entry has no parameters, in whose reached functions are no loops, no jumps back and no calls of the
+-- library but of exit, abort, putchar and the functions of <ctype.h>, and whose arrays have at most 64 elements;
+-- and in whose run under no numbers of the outside each access of memory is of the type of what lies there, and
+-- places of a copy are one or apart (6.5p7, 6.5.16.1)
 pub record IsPlainUnit (u : UnitView) (program : Flow) : Type 0 where
   pub look : is_plain_unit u ≡ true
   pub accesses : HasTypedAccesses program u

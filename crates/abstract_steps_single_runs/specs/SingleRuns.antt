@@ -1,5 +1,5 @@
--- Programs whose one run passes each block once at most, on rows that tell its states; and that an analysis of such a program finds no
--- more than this run violates.
+-- Programs whose one run passes each block once at most, on rows that tell its states; and that an analysis of such
+-- a program finds no more than this run violates.
 use Rattle.std.specs.Prelude.{◌≡◌, ℕ, ℤ, true, false, List, [], Option, Some, slice_get}
 use Rattle.std.specs.List.{Contains}
 use Rattle.cc_base.specs.InductiveMap.{IsInductive}

@@ -1,4 +1,5 @@
-//! Where the rows of the analysis tell exactly what the states of a run are, the inductive maps admit no more than the run violates.
+//! Where the rows of the analysis tell exactly what the states of a run are, the inductive maps admit no more than
+//! the run violates.
 #![tactic(auto)]
 
 mod theorems;

@@ -1,5 +1,5 @@
-//! Where a row tells exactly what a state is, the row behind an instruction on memory tells the state behind it, there is none where
-//! the run stops, and each rule that the step admits is violated.
+//! Where a row tells exactly what a state is, the row behind an instruction on memory tells the state behind it,
+//! there is none where the run stops, and each rule that the step admits is violated.
 ghost use Rattle.cc_base.specs.IntegerLaws.{SoundLaws};
 ghost use Rattle.flow_program.specs.declared.programs.Flow.{Flow};
 ghost use Rattle.abstract_steps_single.specs.ExactNumbers.{ExactLaws};

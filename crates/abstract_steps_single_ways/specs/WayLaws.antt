@@ -1,5 +1,5 @@
--- The laws of edges in rows that tell the state: along the edge that is taken the row tells the state behind, along each other one
--- there is none.
+-- The laws of edges in rows that tell the state: along the edge that is taken the row tells the state behind, along
+-- each other one there is none.
 use Rattle.std.specs.Prelude.{◌≡◌, ℕ, ℤ, true, Option, Some, None, List, slice_get}
 use Rattle.cc_base.specs.Lattices.{LatticeOf}
 use Rattle.cc_base.specs.IntegerDomains.{IntegersOf}

@@ -1,4 +1,5 @@
-//! Where a row tells exactly what a state is, so does the row along the edge that is taken, and along each other one there is none.
+//! Where a row tells exactly what a state is, so does the row along the edge that is taken, and along each other
+//! one there is none.
 #![tactic(auto)]
 
 mod theorems;

@@ -1,6 +1,6 @@
-//! Where a row stands for a state, the row behind an instruction that touches no memory stands for the state behind it, there is
-//! none only where no run goes on, and each rule that the instruction violates is admitted. Operands are supposed to be of the
-//! types of their instructions, which the machine does not ask.
+//! Where a row stands for a state, the row behind an instruction that touches no memory stands for the state behind
+//! it, there is none only where no run goes on, and each rule that the instruction violates is admitted. Operands
+//! are supposed to be of the types of their instructions, which the machine does not ask.
 ghost use Rattle.cc_base.specs.IntegerLaws.{SoundLaws};
 ghost use Rattle.flow_program.specs.declared.programs.Flow.{Flow};
 ghost use Rattle.abstract_steps_sound.specs.SoundSteps.{ValueStepsAreSound, PointerStepsAreSound};

@@ -1,5 +1,6 @@
--- Without sizes that are not negative the law is false: the machine takes -5 for 5 bytes, and the analysis has no size left for an
--- instance, so that the result is null alone. Without a site it is false too: the analysis says that no run goes on.
+-- Without sizes that are not negative the law is false: the machine takes -5 for 5 bytes, and the analysis has no
+-- size left for an instance, so that the result is null alone. Without a site it is false too: the analysis says
+-- that no run goes on.
 use Rattle.std.proofs.Common.{◌≡◌, ℕ, true, false, Option, Some, None, List, refl}
 use Rattle.std.specs.Prelude.{pos, negsuc}
 use Rattle.cc_base.specs.Lattices.{LatticeOf}

@@ -1,5 +1,5 @@
 //! What the definition of an analysis says of the runs of a program, over all laws on single instructions. What is supposed
-//! beside an analysis is named in the specification of the theorem.
+//! beside an analysis is named in the theorem's definition, in `specs/`.
 ghost use Rattle.std.specs.Prelude.{ℤ, List};
 ghost use Rattle.cc_base.specs.declared.diagnostics.Diag.{Diag};
 ghost use Rattle.flow_program.specs.declared.programs.Flow.{Flow};

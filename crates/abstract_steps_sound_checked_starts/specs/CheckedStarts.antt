@@ -14,7 +14,8 @@ use Rattle.flow_lower_objects.specs.PlainObjects.{has_plain_objects}
 use Rattle.abstract_steps_laws_programs.specs.RegularPrograms.{is_regular}
 use Rattle.abstract_steps_sound_lowered_starts.specs.UnitStarts.{StartsAs}
 
--- the unit that a tree is under a data model and a name of an entry, whose program it is, and whose objects are plain, as `lower` says
+-- the unit that a tree is under a data model and a name of an entry, whose program it is, and whose objects are
+-- plain, as `lower` says
 pub record IsUnitOf (u : UnitView) (flow : Flow) : Type 0 where
   pub model : Model
   pub name : List ℕ

@@ -1,5 +1,5 @@
-//! Where a row stands for a state, the row behind an instruction that enters an object stands for the state behind it: the object
-//! has a fresh instance, whose bytes are indeterminate.
+//! Where a row stands for a state, the row behind an instruction that enters an object stands for the state behind
+//! it: the object has a fresh instance, whose bytes are indeterminate.
 ghost use Rattle.flow_program.specs.declared.programs.Flow.{Flow};
 ghost use Rattle.abstract_steps_sound_enter.specs.EnterSteps.{EnterStepsAreSound};
 

@@ -1,5 +1,5 @@
-//! Where a row stands for a state, the row behind an instruction that leaves an object stands for the state behind it: pointers into
-//! the object have ended.
+//! Where a row stands for a state, the row behind an instruction that leaves an object stands for the state behind
+//! it: pointers into the object have ended.
 ghost use Rattle.flow_program.specs.declared.programs.Flow.{Flow};
 ghost use Rattle.abstract_steps_sound_leave.specs.LeaveSteps.{LeaveStepsAreSound};
 

@@ -12,7 +12,8 @@ pub fn larger_rows_stand_for_more<I: IntDomain>()
     ensures { (flow : Flow) → LargerRowsStandForMore I.lattice I.numbers I.stands flow }
 {}
 
-/// Where the row that comes along an edge stands for a state, so does the row that the map has for the block that the edge enters.
+/// Where the row that comes along an edge stands for a state, so does the row that the map has for the block that
+/// the edge enters.
 pub fn inductive_maps_are_carried<I: Bounded>()
     ensures { MonotoneLaws I.lattice I.numbers → (flow : Flow) (list : List ℤ) → InductiveMapsAreCarried I.lattice I.numbers I.stands flow list }
 {}

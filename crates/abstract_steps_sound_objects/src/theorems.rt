@@ -1,5 +1,5 @@
-//! Where a row stands for a state, the row behind an instruction on an object as a whole stands for the state behind it, there is
-//! none only where no run goes on, and each rule that the instruction violates is admitted.
+//! Where a row stands for a state, the row behind an instruction on an object as a whole stands for the state
+//! behind it, there is none only where no run goes on, and each rule that the instruction violates is admitted.
 ghost use Rattle.flow_program.specs.declared.programs.Flow.{Flow};
 ghost use Rattle.abstract_steps_sound_objects.specs.ObjectSteps.{ForgetStepsAreSound};
 

@@ -67,7 +67,8 @@ module _ {I : Type 0} (l : LatticeOf I) (n : IntegersOf I) (stands : I → ℤ �
   abbrev pub OpenTestsAreSound : Type 0
   OpenTestsAreSound = (number : ℕ) (e : Edge) → slice_get flow.edges.items number ≡ Some e → KindIsProved flow e.kind ⊎ KindIsSound l n stands flow e.kind
 
-  -- where the analysis is sound on what is open and the program does, each run is covered by a map that begins with it and carries it on
+  -- where the analysis is sound on what is open and the program does, each run is covered by a map that begins with
+  -- it and carries it on
   abbrev pub CoversButForOpenSteps : Type 0
   CoversButForOpenSteps = (limits : Limits) → AreHeld limits → is_well_formed limits flow ≡ true → SpellsOverCharacters flow → AllocatesAtSites flow → CopiesListed flow → AreSound l n stands flow (λ o. IsOpenStep o × IsDoneIn flow o) → OpenTestsAreSound
       → (u : UnitView) (rows : List (Option (List (Cell I)))) → Begins l n stands flow u rows → Carries l n stands flow rows → HasTypedRuns flow u → EachRunIsCovered l n stands flow (row_before l n flow rows) (Admits l n flow rows) u

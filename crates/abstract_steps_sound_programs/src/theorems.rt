@@ -1,6 +1,7 @@
-//! All laws on single instructions that are proved, in one statement: a map from blocks to rows that begins with the states in which
-//! runs begin, and is carried along edges, covers each run of a well-formed program, where the analysis is sound on the
-//! instructions on which that is open, and on the tests of edges that are not among those that are proved.
+//! All laws on single instructions that are proved, in one statement: a map from blocks to rows that begins with
+//! the states in which runs begin, and is carried along edges, covers each run of a well-formed program, where the
+//! analysis is sound on the instructions on which that is open, and on the tests of edges that are not among those
+//! that are proved.
 ghost use Rattle.cc_base.specs.IntegerLaws.{SoundLaws};
 ghost use Rattle.flow_program.specs.declared.programs.Flow.{Flow};
 ghost use Rattle.abstract_steps_sound_programs.specs.OpenSteps.{CoversButForOpenSteps};

@@ -1,5 +1,5 @@
--- What a reallocation makes of the cells of the newest base of its site: what the cells of the old pointer's bases give, over a row that
--- is the same outside of the base.
+-- What a reallocation makes of the cells of the newest base of its site: what the cells of the old pointer's bases
+-- give, over a row that is the same outside of the base.
 use Rattle.std.proofs.Common.{◌≡◌, ℕ, ◌+◌, ◌<◌, ◌≤◌, Bool, true, false, Some, List, length, arith, ap, ◌∙◌}
 use Rattle.std.specs.Prelude.{slice_get, ℤ}
 use Rattle.std.proofs.lemmas.Option.{slice_get_within}

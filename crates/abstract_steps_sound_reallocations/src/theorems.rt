@@ -1,6 +1,6 @@
-//! Where a row stands for a state of a well-formed program, the row behind a call that gives an instance another size stands for the
-//! state behind it, there is none only where no run goes on, and each rule that the call violates is admitted, if the size is not
-//! negative.
+//! Where a row stands for a state of a well-formed program, the row behind a call that gives an instance another
+//! size stands for the state behind it, there is none only where no run goes on, and each rule that the call
+//! violates is admitted, if the size is not negative.
 ghost use Rattle.cc_base.specs.IntegerLaws.{SoundLaws};
 ghost use Rattle.flow_program.specs.declared.programs.Flow.{Flow};
 ghost use Rattle.abstract_steps_sound_reallocations.specs.ReallocationCalls.{ReallocationCallsAreSound};

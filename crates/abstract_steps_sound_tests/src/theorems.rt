@@ -1,5 +1,5 @@
-//! Where a row stands for a state that agrees with a test, what the test makes of the row stands for what it makes of the state.
-//! There is no row only where no state agrees with the test.
+//! Where a row stands for a state that agrees with a test, what the test makes of the row stands for what it makes
+//! of the state. There is no row only where no state agrees with the test.
 ghost use Rattle.cc_base.specs.IntegerLaws.{SoundLaws};
 ghost use Rattle.flow_program.specs.declared.programs.Flow.{Flow};
 ghost use Rattle.abstract_steps_sound_tests.specs.ScalarObjects.{IntegerTestsAreSound, PointerTestsAreSound, NullTestsAreSound, CasesAreSound};

@@ -38,7 +38,8 @@ pub record IsWrittenText (new : Memory) (i offset size t : ℕ) : Type 0 where
   pub closed : (b : Byte) → byte_at new i (offset + t) ≡ Some b → seen_as b.content ≡ end
 
 module _ {I : Type 0} (l : LatticeOf I) (n : IntegersOf I) (stands : I → ℤ → Type 0) where
-  -- the rule for first zeros holds of what was written: a text of such a length, or anything; of texts that are appended nothing is said
+  -- the rule for first zeros holds of what was written: a text of such a length, or anything; of texts that are
+  -- appended nothing is said
   abbrev pub HoldsOf : Memory → ℕ → ℕ → ℕ → ZeroRule I → Type 0
   HoldsOf new i offset size (Text length) = (t : ℕ) × IsWrittenText new i offset size t × stands length (pos t)
   HoldsOf new i offset size (Append length unknown) = ⊥

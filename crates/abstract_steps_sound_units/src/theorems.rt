@@ -1,5 +1,5 @@
-//! What an analysis says of the runs of units. What is supposed beside an analysis is named in the specification of
-//! each theorem.
+//! What an analysis says of the runs of units. What is supposed beside an analysis is named in each
+//! theorem's definition, in `specs/`.
 ghost use Rattle.std.specs.Prelude.{ℤ, List};
 ghost use Rattle.cc_base.specs.declared.diagnostics.Diag.{Diag};
 ghost use Rattle.flow_program.specs.declared.programs.Flow.{Flow};

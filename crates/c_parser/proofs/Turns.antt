@@ -1,4 +1,5 @@
--- The loops that read the items of blocks and further declarators, turn by turn. `xs` and `h` are what the turns before found, `w` is what the whole loop reads, of `n` turns `t` are over.
+-- The loops that read the items of blocks and further declarators, turn by turn. `xs` and `h` are what the turns
+-- before found, `w` is what the whole loop reads, of `n` turns `t` are over.
 use Rattle.std.proofs.Common.{◌≡◌, ℕ, zero, suc, ◌+◌, ◌-◌, ◌<◌, ◌≤◌, Bool, true, false, List, [], ◌∷◌, ◌++◌, cond, max, map, Option, Some, None, refl, sym, ap, ◌∙◌, arith}
 use Rattle.std.proofs.lemmas.List.{append_assoc, append-nil}
 use Rattle.c_layout.specs.DeclarationTrees.{InitDeclaratorView, StatementTree}

@@ -1,4 +1,5 @@
--- The readers of declarators with their initializers at file scope and in blocks, and of declarations in blocks, as definitions.
+-- The readers of declarators with their initializers at file scope and in blocks, and of declarations in blocks, as
+-- definitions.
 use Rattle.std.specs.Prelude.{ℕ, zero, suc, cond, max, length, ◌&&◌, List, [], Option, Some, None}
 use Rattle.std.specs.List.{list_all}
 use Rattle.cc_base.specs.declared.diagnostics.Place.{Place}

@@ -1,4 +1,5 @@
--- The readers of declarators (6.7.6) and abstract declarators (6.7.7) as definitions. They answer the layers from the outermost to the innermost.
+-- The readers of declarators (6.7.6) and abstract declarators (6.7.7) as definitions. They answer the layers from
+-- the outermost to the innermost.
 use Rattle.std.specs.Prelude.{◌+◌, ◌==◌, ◌&&◌, ℕ, zero, suc, Bool, false, cond, max, length, nat_lt, nat_le, List, [], ◌∷◌, Option, Some, None, is_some}
 use Rattle.c_layout.specs.DeclarationTrees.{NameView, SuffixView, DeclaratorLayerView, DeclaratorView}
 use Rattle.c_parser_tokens.specs.declared.terminals.Terminal.{Terminal}

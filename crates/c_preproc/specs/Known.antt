@@ -45,8 +45,9 @@ use Rattle.c_preproc_directives.specs.declared.open_files.OpenFile.{OpenFile}
 use Rattle.c_preproc.specs.declared.preprocessor_state.State.{State}
 use Rattle.c_preproc.specs.declared.preprocessing.Wanted.{Wanted}
 
--- The spellings by number; the macros by the numbers of their names; the numbers of `0` and `1`; how many tokens replacements have made; how many
--- inclusions there were; the files with `#pragma once`, by index; and the tokens of the unit so far.
+-- The spellings by number; the macros by the numbers of their names; the numbers of `0` and `1`; how many tokens
+-- replacements have made; how many inclusions there were; the files with `#pragma once`, by index; and the tokens
+-- of the unit so far.
 pub record Known : Type 0 where
   pub texts : List (List ℕ)
   pub macros : List (ℕ × Defined)

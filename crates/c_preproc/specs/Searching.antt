@@ -20,7 +20,8 @@ abbrev pub beside : Option (List ℕ) → List ℕ → List (List ℕ)
 beside None name = []
 beside (Some includer) name = (directory_of includer ++ name) ∷ []
 
--- the names that are tried in turn: in the directory of the including file where the name stands in quotes, then in each of the directories
+-- the names that are tried in turn: in the directory of the including file where the name stands in quotes, then in
+-- each of the directories
 abbrev pub searched_names : Option (List ℕ) → List (List ℕ) → List ℕ → List (List ℕ)
 searched_names includer dirs name = beside includer name ++ map (in_directory name) dirs
 

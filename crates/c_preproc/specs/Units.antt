@@ -22,7 +22,8 @@ pub data Sought : Type 0 where
   too_long : (name : List ℕ) → Sought
   nothing : Sought
 
--- what is read: how the first of some names that is held is found, or else a built-in header; the directories that are searched; and the model
+-- what is read: how the first of some names that is held is found, or else a built-in header; the directories that
+-- are searched; and the model
 pub record World : Type 0 where
   pub find : List (List ℕ) → Option Found → Sought
   pub dirs : List (List ℕ)

@@ -45,7 +45,8 @@ is_nonzero n = not (is_zero n)
 abbrev pub decides : Number → Bool → Bool
 decides n by = cond by (is_nonzero n) (is_zero n)
 
--- `left && right` where false decides, `left || right` where true does: the right operand counts only where the left one does not decide
+-- `left && right` where false decides, `left || right` where true does: the right operand counts only where the
+-- left one does not decide
 abbrev pub logical : Value → Value → Bool → Value
 logical left right by =
     cond left.faulty (fault (truth false)) (cond (decides left.number by) (defined (truth by)) (with_faults (defined (truth (is_nonzero right.number))) right.faulty false))

@@ -26,8 +26,9 @@ infix_of Minus = Some binary.Subtract
 infix_of (Infix op) = Some op
 infix_of x = None
 
--- `Derives level tokens value`: the tokens are an expression of this level with this value. Level 11 has the unary expressions, 10 to 1
--- those whose last operator binds so tightly, and 0 the conditional ones. Operators with two operands are left associative.
+-- `Derives level tokens value`: the tokens are an expression of this level with this value. Level 11 has the unary
+-- expressions, 10 to 1 those whose last operator binds so tightly, and 0 the conditional ones. Operators with two
+-- operands are left associative.
 pub data Derives : ℕ → List Symbol → Value → Type 0 where
   constant : (n : Number) → Derives 11 (Constant n ∷ []) (defined n)
   parenthesized : {p : ℕ} {ts : List Symbol} {v : Value} → Derives p ts v → Derives 11 (Open ∷ (ts ++ Close ∷ [])) v

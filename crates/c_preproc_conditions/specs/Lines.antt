@@ -56,7 +56,8 @@ symbols_in texts char_signed (x ∷ xs) = before (symbol_in texts char_signed x)
 abbrev pub symbols_of : Spellings → Bool → List Lexeme → Result (List Symbol) Place
 symbols_of spellings char_signed line = symbols_in (texts_of spellings) char_signed line
 
--- a condition holds where its value is not 0; it has no value where it is no expression, or where what is evaluated of it is undefined
+-- a condition holds where its value is not 0; it has no value where it is no expression, or where what is evaluated
+-- of it is undefined
 abbrev pub HoldsBy : Result (List Symbol) Place → Result Bool ConditionFault → Type 0
 HoldsBy (Ok ts) (Ok b) = (v : Value) × IsExpression ts v × (v.faulty ≡ false) × (b ≡ not (is_zero v.number))
 HoldsBy (Ok ts) (Err Malformed) = (v : Value) → IsExpression ts v → v.faulty ≡ false → ⊥

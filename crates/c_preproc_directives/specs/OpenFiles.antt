@@ -50,7 +50,8 @@ abbrev pub cut_directive : List Lexeme → Cut
 cut_directive [] = cut [] []
 cut_directive (x ∷ xs) = cut_line xs
 
--- a file that is being read: its index in the list of file names, the sections that are open in it, and its tokens that are not read yet
+-- a file that is being read: its index in the list of file names, the sections that are open in it, and its tokens
+-- that are not read yet
 pub record Opened : Type 0 where
   pub file : ℕ
   pub sections : List Section

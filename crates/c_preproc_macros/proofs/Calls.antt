@@ -8,8 +8,8 @@ abbrev pub plus : ℕ → ℕ → ℕ
 plus d zero = d
 plus d (suc e) = suc (plus d e)
 
--- what is known of a list behind `(` of a call, with `e` parentheses open in the call's argument, where the call stands at a depth of
--- `d` parentheses in an argument whose end is at `q`
+-- what is known of a list behind `(` of a call, with `e` parentheses open in the call's argument, where the call
+-- stands at a depth of `d` parentheses in an argument whose end is at `q`
 pub record Local (d e : ℕ) (ts : List Lexeme) (q : Split) : Type 0 where
   pub call : Split
   pub behind : Split

@@ -134,7 +134,8 @@ each f (xs ∷ xss) c = bind (f xs c) (λ ys c1. bind (each f xss c1) (λ yss c2
 abbrev pub counted : ℕ → Place → ℕ → List Lexeme → Outcome (List Lexeme)
 counted limit place c made = cond (nat_le (c + length made) limit) (done made (c + length made)) (refused (TooMany (c + length made)) place)
 
--- what an action gives, with the list behind the token expanded by `go`, arguments by `argument` and a list that is made by `deeper`
+-- what an action gives, with the list behind the token expanded by `go`, arguments by `argument` and a list that is
+-- made by `deeper`
 abbrev pub follow : Setting → Option Place → Place → (ℕ → List Lexeme → List Lexeme → ℕ → Outcome (List Lexeme)) → (List Lexeme → ℕ → Outcome (List Lexeme)) → (List Lexeme → ℕ → Outcome (List Lexeme)) → List Lexeme → ℕ → Action → Outcome (List Lexeme)
 follow s at place deeper argument go xs c (keep x) = bind (go xs c) (λ ys c1. done (moved at x ∷ ys) c1)
 follow s at place deeper argument go xs c (stop why) = refused why place
@@ -165,8 +166,8 @@ repl s hidden at spills ts c = within s (suc (length s.table)) hidden at spills 
 abbrev pub expansion : Setting → List Lexeme → ℕ → Outcome (List Lexeme)
 expansion s ts c = repl s [] None false ts c
 
--- What a replaced list is: nothing at its end, and else what becomes of its first token. So the counts above bound the recursion and
--- say nothing more.
+-- What a replaced list is: nothing at its end, and else what becomes of its first token. So the counts above bound
+-- the recursion and say nothing more.
 abbrev pub EndsEmpty : Type 0
 EndsEmpty = (s : Setting) (hidden : List ℕ) (at : Option Place) (spills : Bool) (c : ℕ) → repl s hidden at spills [] c ≡ done [] c
 

@@ -12,8 +12,8 @@ use Rattle.c_preproc_macros.specs.Expanding.{Rule, Setting, Outcome, look, membe
 use Rattle.c_preproc_macros.specs.Expanding.Outcome.{done, refused}
 use Rattle.c_preproc_macros.specs.Pending.{next_open, next_close, pushed}
 
--- what is under way: the list that replaced a macro, or a call with the parentheses that are open in this argument, what was made
--- before the call, and the arguments that are finished
+-- what is under way: the list that replaced a macro, or a call with the parentheses that are open in this argument,
+-- what was made before the call, and the arguments that are finished
 pub data Frame : Type 0 where
   inside : (name : ℕ) → Frame
   calling : (name : ℕ) → (depth : ℕ) → (outer : List Lexeme) → (finished : List (List Lexeme)) → Frame

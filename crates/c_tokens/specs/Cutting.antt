@@ -148,7 +148,8 @@ too_many = TooManyTokens 131073 131072
 abbrev pub fault_of : Place → Refusal → Fault
 fault_of at why = record { place = at; refusal = why }
 
--- the cutting cannot go on at `rest`: no piece begins there, the token there is one too many, or a byte of the piece may not stand in it
+-- the cutting cannot go on at `rest`: no piece begins there, the token there is one too many, or a byte of the
+-- piece may not stand in it
 pub data Stuck (file : ℕ) (c : Context) (n : ℕ) (rest : List Cell) (f : Fault) : Type 0 where
   nothing : 0 < length rest → ((q : Shape) (u : List ℕ) → CanBegin c (bytes_of rest) q u → ⊥) → f ≡ fault_of (place_of file rest) (cause (bytes_of rest)) → Stuck file c n rest f
   many : (p : Shape) (t : List ℕ) → Begins c (bytes_of rest) p t → is_past p n ≡ true → f ≡ fault_of (place_of file rest) too_many → Stuck file c n rest f

@@ -1,4 +1,5 @@
--- The tokens of a file, or its first refusal, computed piece by piece. They are those of the cutting, as `every_file_has_an_answer` proves.
+-- The tokens of a file, or its first refusal, computed piece by piece. They are those of the cutting, as
+-- `every_file_has_an_answer` proves.
 use Rattle.std.specs.Prelude.{◌≡◌, ◌++◌, ℕ, zero, suc, cond, nat_lt, List, [], ◌∷◌, length, take, drop, Option, Some, None, Result, Ok, Err}
 use Rattle.cc_base.specs.declared.lexemes.Token.{Token}
 use Rattle.cc_base.specs.declared.refusals.Fault.{Fault}

@@ -59,6 +59,7 @@ head_by k base f parameters = head_of parameters (are_named f.parameters) (resul
 abbrev pub headed : DeclaredView → FunctionDeclaratorView → List Ty → State → Ruled (HeadView × State)
 headed base f parameters t = kept t (head_by t.known base f parameters)
 
--- the type of a function, at whose name it is refused; its parameters come first, and are the first objects of a body without others
+-- the type of a function, at whose name it is refused; its parameters come first, and are the first objects of a
+-- body without others
 abbrev pub function_head : State → DeclaredView → FunctionDeclaratorView → Ruled (HeadView × State)
 function_head s base f = after (parameters_of (without_locals s) f.parameters) (headed base f)

@@ -105,7 +105,8 @@ abbrev pub begun_by : Bool → ℕ → Place → State → OpenBody × State
 begun_by true owner at s = (record { owner = owner; at = at; is_repeated = true; number = length s.types.structs }, with_struct s)
 begun_by false owner at s = (record { owner = owner; at = at; is_repeated = false; number = owner }, s)
 
--- a body of a struct: whether one was met before, and the struct whose members are read: those of a second body belong to another one
+-- a body of a struct: whether one was met before, and the struct whose members are read: those of a second body
+-- belong to another one
 abbrev pub begun : ℕ → Place → State → OpenBody × State
 begun owner at s = begun_by (types.has_body s.types owner) owner at (with_body s owner)
 

@@ -1,5 +1,5 @@
--- The law of static initializers: the texts that they store are of bytes, and addresses of literals have offsets and bounds of at
--- most 2^30.
+-- The law of static initializers: the texts that they store are of bytes, and addresses of literals have offsets
+-- and bounds of at most 2^30.
 use Rattle.std.specs.Prelude.{◌≡◌, true, List, [], ◌∷◌, Ok, Err}
 use Rattle.cc_base.specs.declared.diagnostics.Place.{Place}
 use Rattle.c_layout.specs.Models.{is_model}

@@ -1,4 +1,5 @@
--- The values of integer constant expressions (6.5.3 to 6.5.14, 6.6): what an operator gives in a type, and where it has no result.
+-- The values of integer constant expressions (6.5.3 to 6.5.14, 6.6): what an operator gives in a type, and where it
+-- has no result.
 use Rattle.std.specs.Prelude.{ℕ, ◌+◌, ◌-◌, ◌*◌, ◌^◌, ◌%◌, ◌/◌, ◌==◌, ℤ, pos, negsuc, ◌+ℤ◌, ◌-ℤ◌, ◌*ℤ◌, Bool, not, ◌&&◌, cond, int_le, int_lt, nat_lt, int_div, int_rem, neg_ℤ, unsigned_abs, true, Option, Some, None, option_and_then, option_map, is_some}
 use Rattle.std.specs.Ordering.{int_eq}
 use Rattle.std.specs.Int.{w64, int_bit_and, int_bit_or, int_bit_xor, int_bit_not, bit_not, int_shr, int_rem_euclid}

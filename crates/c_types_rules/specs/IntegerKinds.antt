@@ -33,7 +33,8 @@ abbrev same_sign : Bool → Bool → Bool
 same_sign true b = b
 same_sign false b = not b
 
--- of a signed and an unsigned type: the unsigned one where its rank is not less, else the signed one where it has each number of the other, else the unsigned type of its rank
+-- of a signed and an unsigned type: the unsigned one where its rank is not less, else the signed one where it has
+-- each number of the other, else the unsigned type of its rank
 abbrev pub mixed : IntType → IntType → IntType
 mixed s u = cond (nat_le s.rank u.rank) u (cond (nat_lt u.bytes s.bytes) s (record { bytes = s.bytes; signed = false; rank = s.rank }))
 

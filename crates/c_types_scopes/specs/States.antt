@@ -25,10 +25,10 @@ pub record BodyView : Type 0 where
 abbrev pub body_view : Body → BodyView
 body_view b = record { number = b.number; locals = map local_view b.locals.items; enumerations = b.enumerations.items }
 
--- what typing knows: besides the data model and the structs, the names in scope, the members of structs, the values of
--- the enumerators of each enumerated type, what the typedef names, objects and functions are, what the unit defines,
--- its static objects and their initializers, its literals and constants so far, its calls, how many operands of `sizeof` are open, the body at
--- hand, and the struct that a stream points to
+-- what typing knows: besides the data model and the structs, the names in scope, the members of structs, the values
+-- of the enumerators of each enumerated type, what the typedef names, objects and functions are, what the unit
+-- defines, its static objects and their initializers, its literals and constants so far, its calls, how many
+-- operands of `sizeof` are open, the body at hand, and the struct that a stream points to
 pub record State : Type 0 where
   pub known : Known
   pub scopes : ScopesView

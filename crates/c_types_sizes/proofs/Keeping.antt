@@ -28,8 +28,8 @@ use Rattle.c_types_sizes.proofs.Listed.{AreListed}
 
 -- ---- what is kept
 
--- the types of typedef names, of objects that were declared, of local objects and of those of the run, by structs of which none is large;
--- and where the stores of the latter come from
+-- the types of typedef names, of objects that were declared, of local objects and of those of the run, by structs
+-- of which none is large; and where the stores of the latter come from
 pub record IsSized (k : Known) (table : TypesView) (typedefs : List DeclaredView) (objects : List ObjectView) (locals : List LocalView) (statics : List StaticView) (initializers : List StaticInitializer) : Type 0 where
   pub settled : k.structs ≡ table.structs
   pub bodies : (n : ℕ) (v : StructView) → slice_get table.structs n ≡ Some v → (v ≡ no_struct) ⊎ (types.has_body table n ≡ true)

@@ -1,4 +1,5 @@
--- Further laws of domains of integers: that results stand for what the operators give, and that larger operands give larger results.
+-- Further laws of domains of integers: that results stand for what the operators give, and that larger operands
+-- give larger results.
 use Rattle.std.specs.Prelude.{◌≡◌, ℤ, Bool, true, false, ◌&&◌, Some, ◌↔◌, ◌⊎◌}
 use Rattle.cc_base.specs.declared.int_types.IntType.{IntType}
 use Rattle.cc_base.specs.declared.integer_operators.IntOp.{IntOp}

@@ -54,6 +54,7 @@ pub record MachineLaws {C : Type 0} (o : LatticeOf C) (m : Machine C) : Type 0 w
   -- a rounded row that strictly grows into a rounded row has less room
   pub room_falls : (r s : List C) → m.attained r ≡ true → m.attained s ≡ true → IsRounded o m.list r → IsRounded o m.list s → row_leq o r s ≡ true → row_leq o s r ≡ false → m.room s < m.room r
 
--- each edge makes more of more, of the rows that a run of the solver comes to against any own row: a solver needs it for the least map alone
+-- each edge makes more of more, of the rows that a run of the solver comes to against any own row: a solver needs
+-- it for the least map alone
 abbrev pub IsMonotone : {C : Type 0} → LatticeOf C → Machine C → Type 0
 IsMonotone {C} o m = (e : ℕ) (r s : List C) → e < m.edges → m.attained r ≡ true → m.own s ≡ true → row_leq o r s ≡ true → reached_leq o (m.through e r) (m.through e s) ≡ true

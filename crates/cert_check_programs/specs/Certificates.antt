@@ -21,8 +21,9 @@ use Rattle.cert_check.specs.Verdicts.{IsVerdictOn}
 use Rattle.cert_check_programs.specs.declared.checked_maps.Verified.{Verified}
 use Rattle.cert_check_programs.specs.declared.checked_maps.Verified.TheVariants.{Found, Refused}
 
--- the text is that of the least inductive map of the program, with bounds rounded to the numbers of a list at heads; the program is
--- such as soundness asks, and by the rows of the map operands lie within the types that instructions name
+-- the text is that of the least inductive map of the program, with bounds rounded to the numbers of a list at
+-- heads; the program is such as soundness asks, and by the rows of the map operands lie within the types that
+-- instructions name
 pub record IsCertificate (flow : Flow) (list : List ℤ) (text : Bytes) : Type 0 where
   pub rows : List (Option (List (Cell Interval)))
   -- there is a row of the entry, and rows of the program are cut in order
@@ -50,8 +51,8 @@ pub record IsLookedAt (flow : Flow) : Type 0 where
   pub regular : is_regular flow look_numbers ≡ true
   pub checked : IsChecked flow look_numbers
 
--- the text is that of a closed map, which admits just these pairs, in order and each once; the program was looked at, and by some
--- closed map, maybe a smaller one, its operands lie within their types
+-- the text is that of a closed map, which admits just these pairs, in order and each once; the program was looked
+-- at, and by some closed map, maybe a smaller one, its operands lie within their types
 pub record IsShown (flow : Flow) (text : Bytes) (found : List Diag) : Type 0 where
   pub accepted : IsVerdictOn flow text Yes
   pub pairs : IsOrderedSet (admitted_pairs flow (map_rows flow text)) found

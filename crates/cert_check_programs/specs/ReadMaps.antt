@@ -14,7 +14,8 @@ use Rattle.cert_check_programs.specs.declared.checked_maps.Reading.{Reading}
 use Rattle.cert_check_programs.specs.declared.checked_maps.Reading.TheVariants as reading
 use Rattle.cert_check_programs.specs.declared.checked_maps.Told.{Told}
 
--- the text is that of a closed map with these pairs, by which operands lie within their types just where no smaller map is asked
+-- the text is that of a closed map with these pairs, by which operands lie within their types just where no smaller
+-- map is asked
 pub record IsToldOf (flow : Flow) (text : Bytes) (told : Told) : Type 0 where
   pub accepted : IsVerdictOn flow text Yes
   pub pairs : IsOrderedSet (admitted_pairs flow (map_rows flow text)) told.found.items

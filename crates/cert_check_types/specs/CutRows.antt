@@ -6,7 +6,7 @@ use Rattle.interval_domain.specs.declared.intervals.Interval.{Interval}
 use Rattle.cert_check_types.specs.CutCells.{cut_all}
 use Rattle.cert_check_types.specs.RowKinds.{row_kinds}
 
--- the row of a block in which each value is cut to the types of what holds it, and all else stays; `all` has the types of temporaries
--- at the starts of blocks
+-- the row of a block in which each value is cut to the types of what holds it, and all else stays; `all` has the
+-- types of temporaries at the starts of blocks
 abbrev pub cut_row : Flow → List ℕ → ℕ → List (Cell Interval) → List (Cell Interval)
 cut_row flow all block row = cut_all (row_kinds flow all block (length row)) row

@@ -1,5 +1,5 @@
--- The positions of a row that hold values, with the types of what they hold: of objects those of their leaves, then of the six class
--- cells of a heap base; of temporaries, at the end of the row, those at the start of the block.
+-- The positions of a row that hold values, with the types of what they hold: of objects those of their leaves, then
+-- of the six class cells of a heap base; of temporaries, at the end of the row, those at the start of the block.
 use Rattle.std.specs.Prelude.{ℕ, ◌+◌, ◌-◌, true, cond, List, [], ◌∷◌, ◌++◌, length, map}
 use Rattle.std.specs.List.{range_with_len}
 use Rattle.c_layout.specs.declared.data_model.Model.{Model}

@@ -1,5 +1,6 @@
--- Plain units: in the functions that the entry reaches by calls no loop and no jump back, and no library function but exit, abort,
--- putchar and those of <ctype.h>; the entry has no parameter, and no object or literal is or holds an array of more than 64 elements.
+-- Plain units: in the functions that the entry reaches by calls no loop and no jump back, and no library function
+-- but exit, abort, putchar and those of <ctype.h>; the entry has no parameter, and no object or literal is or holds
+-- an array of more than 64 elements.
 use Rattle.std.specs.Prelude.{ℕ, zero, suc, ◌==◌, Bool, false, ◌&&◌, length, slice_get, Option, Some, None}
 use Rattle.std.specs.List.{list_all}
 use Rattle.c_layout.specs.CheckedTrees.{statement_trees}

@@ -1,5 +1,5 @@
--- The program of a plain unit leads on while it is opened: each of its edges leads to a later block, or to a label that a copy is
--- still to mark.
+-- The program of a plain unit leads on while it is opened: each of its edges leads to a later block, or to a label
+-- that a copy is still to mark.
 use Rattle.std.proofs.Common.{◌≡◌, ◌≤◌, ◌<◌, ◌⊎◌, inl, inr, ℕ, zero, suc, ◌+◌, ◌-◌, ◌^◌, ◌==◌, Bool, true, false, cond, List, [], ◌∷◌, ◌++◌, length, replicate, get_or, Option, Some, None, slice_get, refl, arith, ap, sym, subst, ◌∙◌, length-append}
 use Rattle.std.specs.List.{slice_set}
 use Rattle.std.proofs.lemmas.Bool.{eqb-true, eq-eqb}

@@ -1,5 +1,5 @@
--- Programs of plain units: each scalar has a cell of its own, nothing is allocated or comes in, few library functions are called, and
--- no edge leads back.
+-- Programs of plain units: each scalar has a cell of its own, nothing is allocated or comes in, few library
+-- functions are called, and no edge leads back.
 use Rattle.std.specs.Prelude.{◌≡◌, ◌<◌, ℕ, true, false, [], Some, slice_get}
 use Rattle.cc_base.specs.declared.limit_table.Limits.{Limits}
 use Rattle.c_layout.specs.CheckedUnits.{UnitView}

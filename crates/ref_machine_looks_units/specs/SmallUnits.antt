@@ -1,4 +1,4 @@
--- Whether memory has room for the objects of a unit, and whether its texts are of bytes: what typing does not ask.
+-- Whether memory has room for the objects of a unit, and whether its texts are of bytes; only the latter typing does not ask.
 use Rattle.std.specs.Prelude.{Bool, ◌&&◌, List}
 use Rattle.std.specs.List.{list_all}
 use Rattle.cc_base.specs.declared.lexemes.Token.{Token}

@@ -1,4 +1,5 @@
-//! Operations on values of the marks that they take have a step, give values of the marks that they say, and keep memory proper.
+//! Operations on values of the marks that they take have a step, give values of the marks that they say, and keep
+//! memory proper.
 ghost use Rattle.ref_machine_marks.specs.MarkLaws.{OperationsKeepMarks, LinesKeepMarks};
 
 use ref_machine_operations::{lines_have_steps, operations_have_steps, operations_keep_kinds};

@@ -9,7 +9,8 @@ use Rattle.ref_machine.specs.SourceStates.{Frame, State, function_at}
 use Rattle.ref_machine_returns.specs.StandingJumps.{JumpsStand}
 use Rattle.ref_machine_returns.specs.EndedObjects.{ended, AreAmong, EndOwn}
 
--- items behind a statement: they end the parameters and the result, also behind the loop and behind its turn, where there is one
+-- items behind a statement: they end the parameters and the result, also behind the loop and behind its turn, where
+-- there is one
 pub record Encloses (f : FunctionView) (breaks continues : Bool) (items : List Item) : Type 0 where
   pub ends : EndOwn f items
   pub at_break : breaks ≡ true → EndOwn f (behind_loop items)
@@ -35,7 +36,8 @@ pub record Selects (f : FunctionView) (statement : StatementTree) (items : List 
 
 module _ (f : FunctionView) where
   abbrev mutual
-    -- what an item enters is ended by the items behind it, and where it may jump to they still end the parameters and the result
+    -- what an item enters is ended by the items behind it, and where it may jump to they still end the parameters
+    -- and the result
     pub Fits : Item → List Item → Type 0
     Fits (item.Enters objects) items = AreAmong objects (ended f items)
     Fits (item.Choose at test held failed) items = AllFit held items × AllFit failed items

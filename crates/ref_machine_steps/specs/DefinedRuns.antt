@@ -9,8 +9,8 @@ use Rattle.ref_machine_lives.specs.ScopedStatements.{ScopedUnit}
 use Rattle.ref_machine_marked.specs.MarkedStatements.{MarkedUnit}
 use Rattle.ref_machine_marked.specs.MarkedStates.{Runs}
 
--- a unit whose jumps have their loops and switches, whose terms have operands of the marks that they take, and whose objects are
--- named in their scopes
+-- a unit whose jumps have their loops and switches, whose terms have operands of the marks that they take, and
+-- whose objects are named in their scopes
 pub record IsMarkedAndScoped (u : UnitView) : Type 0 where
   pub jumps : UnitJumpsStand u
   pub marked : MarkedUnit u

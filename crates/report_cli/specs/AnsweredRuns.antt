@@ -14,9 +14,9 @@ use Rattle.report_cli.specs.DefinedRuns.{IsNeverStuck}
 use Rattle.report_cli.specs.FoundRuns.{HoldsRunsOf}
 use Rattle.report_cli.specs.PlainRuns.{HoldsJustRun}
 
--- the report of the unit, put whole and in one call, and that its diagnostics hold each rule that a run of the checked
--- unit violates, at its place; none of its runs is stuck; and where it is plain, each is that of a syntactic rule or one that its
--- run violates
+-- the report of the unit, put whole and in one call, and that its diagnostics hold each rule that a run of the
+-- checked unit violates, at its place; none of its runs is stuck; and where it is plain, each is that of a
+-- syntactic rule or one that its run violates
 pub record TellsRuns (seen : Seen) (c : CommandView) (sink : Took) (status : ℕ) : Type 0 where
   pub model : Model
   pub has_model : HasModel seen.files c.model model

@@ -16,9 +16,9 @@ use Rattle.report_cli.specs.FoundRuns.{HoldsRunsOf}
 use Rattle.report_cli.specs.PlainRuns.{HoldsJustRun}
 use Rattle.report_cli.specs.AnsweredRuns.{IsAccepting}
 
--- the diagnostics of the unit that the baseline does not hold, put whole and in one call; all of them hold each rule that a
--- run of the checked unit violates, at its place, and none of its runs is stuck; where the unit is plain, each of all of them is that
--- of a syntactic rule or one that its run violates
+-- the diagnostics of the unit that the baseline does not hold, put whole and in one call; all of them hold each
+-- rule that a run of the checked unit violates, at its place, and none of its runs is stuck; where the unit is
+-- plain, each of all of them is that of a syntactic rule or one that its run violates
 pub record TellsFreshRuns (seen : Seen) (c : CommandView) (base : Bytes) (sink : Took) (status : ℕ) : Type 0 where
   pub model : Model
   pub has_model : HasModel seen.files c.model model

@@ -15,8 +15,8 @@ use Rattle.report_cli_texts.specs.Reports.{Bytes}
 use Rattle.report_cli_units.specs.Judging.{SettingView, Judgement, IsJudged}
 use Rattle.report_cli_answers.specs.Verdicts.{FromFiles, IsReport}
 
--- each pair is one that the syntactic rules find in the unit, or one that its run under no numbers of the outside violates, where
--- the unit is plain
+-- each pair is one that the syntactic rules find in the unit, or one that its run under no numbers of the outside
+-- violates, where the unit is plain
 abbrev pub HoldsJustRun : Checked → Flow → List Diag → Type 0
 HoldsJustRun checked program pairs =
     IsPlainUnit (unit_view checked) program → (d : Diag) → Contains pairs d → Contains (unit_places checked) d ⊎ RunViolates (unit_view checked) (record { at = d.place; rule = d.rule })

@@ -14,7 +14,8 @@ use Rattle.report_cli_laws.specs.Outcomes.{Took, Answers}
 use Rattle.report_cli_laws.specs.Verdicts.{proved, cert_refused, reported, FromFiles, IsReport, IsVerdict, check_setting}
 use Rattle.report_cli_laws_certificates.specs.SameUnits.{GiveOneUnit}
 
--- the files of a call are told and hold, by the name of the certificate, a text that `prove` was called to tell of the same unit
+-- the files of a call are told and hold, by the name of the certificate, a text that `prove` was called to tell of
+-- the same unit
 pub record HoldsProved (seen : Seen) (c : CommandView) (cert : Bytes) : Type 0 where
   pub files : Files
   pub told : seen.files ≡ Some files
@@ -34,7 +35,8 @@ NeverRefused = (seen : Seen) (c : CommandView) (cert : Bytes) → HoldsProved se
 abbrev pub NeverAnsweredSo : Type 0
 NeverAnsweredSo = (seen : Seen) (c : CommandView) (cert : Bytes) → HoldsProved seen c cert → (sink : Took) (status : ℕ) → Answers seen (asked.Verify c cert) sink status → status ≡ 9 → ⊥
 
--- a report whose analysis found just these diagnostics: each of them is told, and what is told beside them is found in the text alone
+-- a report whose analysis found just these diagnostics: each of them is told, and what is told beside them is found
+-- in the text alone
 pub record HasRuns (files : Option Files) (c : CommandView) (names : List Bytes) (diags shown : List Diag) : Type 0 where
   pub model : Model
   pub report : IsReport (FromFiles files c.dirs model c.unit) (check_setting c model) names diags

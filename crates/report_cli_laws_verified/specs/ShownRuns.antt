@@ -1,5 +1,5 @@
--- What `verify` shows of a plain unit by a text that `prove` was called to tell: just what the unit's run violates. The text of a
--- map that is not the least one may show more.
+-- What `verify` shows of a plain unit by a text that `prove` was called to tell: just what the unit's run violates.
+-- The text of a map that is not the least one may show more.
 use Rattle.std.specs.Prelude.{◌↔◌, ℕ, List}
 use Rattle.std.specs.List.{Contains}
 use Rattle.cc_base.specs.declared.diagnostics.Diag.{Diag}

@@ -17,8 +17,8 @@ pub record IsNamedModel : Type 0 where
 abbrev pub given : Gives
 given = FromFiles (Some held) [] lp64 name
 
--- the held bytes are expanded to these tokens, under this model and with the name of their one file; no other unit is, not that of `1/1`, nor
--- one under another model, nor under other names
+-- the held bytes are expanded to these tokens, under this model and with the name of their one file; no other unit
+-- is, not that of `1/1`, nor one under another model, nor under other names
 pub record IsExpandedFromHeld : Type 0 where
   pub there : IsExpanded given lp64 (name ∷ []) expanded
   pub no_other : (names : List Bytes) (u : Unit7) → IsExpanded given lp64 names u → (u ≡ expanded) × (names ≡ name ∷ [])

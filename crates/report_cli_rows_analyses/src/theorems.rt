@@ -11,8 +11,9 @@ pub fn inductive_maps_have_a_row_for_each_block()
     ensures { NoLongerMap }
 {}
 
-/// There is a program, the only one of the unit that divides by 0, whose analysis finds this and nothing else, with just
-/// these numbers as thresholds, and a larger inductive map, which is not the least one. It is a single one, as those of plain units are.
+/// There is a program, the only one of the unit that divides by 0, whose analysis finds this and nothing else, with
+/// just these numbers as thresholds, and a larger inductive map, which is not the least one. It is a single one, as
+/// those of plain units are.
 pub fn one_division_is_found()
     ensures { Flow → (flow : Flow) × (larger : Map) × IsWorkedProgram flow larger }
 {

@@ -6,8 +6,8 @@ ghost use Rattle.c_layout.specs.declared.shapes.BaseInfo.{BaseInfo};
 ghost use Rattle.flow_program.specs.BaseShapes.{is_shaped};
 ghost use Rattle.store_domain_laws.specs.Placements.{IsRegular};
 
-/// Under a data model, bases whose leaves stand apart, those of folded arrays too, and whose first zeros lie over characters alone, are such that
-/// larger windows reach more.
+/// Under a data model, bases whose leaves stand apart, those of folded arrays too, and whose first zeros lie over
+/// characters alone, are such that larger windows reach more.
 pub fn shaped_bases_are_regular()
     ensures { (m : Model) → is_model m ≡ true → (base : BaseInfo) → is_shaped m base ≡ true → IsRegular m base }
 {}

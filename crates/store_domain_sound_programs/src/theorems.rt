@@ -1,5 +1,5 @@
-//! The theorems on the store ask for bases of which no byte is counted twice, whose values stand apart in a row, and whose first
-//! zeros lie over characters. Each well-formed program has such ones.
+//! The theorems on the store ask for bases of which no byte is counted twice, whose values stand apart in a row,
+//! and whose first zeros lie over characters. Each well-formed program has such ones.
 ghost use Rattle.cc_base.specs.Standard.{standard_limits};
 ghost use Rattle.store_domain_sound_programs.specs.Premises.{AreHeld, MeetsPremises};
 

@@ -25,7 +25,8 @@ use Rattle.store_domain_structs.specs.declared.padding_writes.Padded as code
 use Rattle.store_domain_structs_leaves.specs.CopyPlaces.{any_below}
 use Rattle.store_domain_structs.specs.LeafNumbers.{struct_leaf}
 
--- a struct whose bytes are copied: the unit's structs, its number, its size, how many leaves it has, and where the copy can begin
+-- a struct whose bytes are copied: the unit's structs, its number, its size, how many leaves it has, and where the
+-- copy can begin
 pub record Padded : Type 0 where
   pub structs : List StructView
   pub pointer : ℕ

@@ -224,6 +224,7 @@ pub data Follows (t : Activation) : ℕ → ℕ → List Item → List PieceView
   -- the function that waits goes on
   goes_back : (n : ℕ) (caller : Frame) (callers : List Frame) → t.callers ≡ caller ∷ callers → Follows t (suc n) (behind_own caller.used 0) [] []
 
--- each function that a reached one calls follows in its template, whoever waits: its arguments are pending, and it begins with its prologue
+-- each function that a reached one calls follows in its template, whoever waits: its arguments are pending, and it
+-- begins with its prologue
 abbrev pub AllFollow : Templates → Type 0
 AllFollow t = (h g : ℕ) (f : FunctionView) (caller : Frame) (callers : List Frame) → Reached t h → CallsThere (t.of h).pieces g → IsCalled t.unit g caller.used f → (n : ℕ) → Follows (activation t g (caller ∷ callers)) n f.parameters (prologue f f.parameters ++ body f) (t.of g).pieces

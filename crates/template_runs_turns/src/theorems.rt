@@ -8,9 +8,10 @@ pub fn turns_are_followed()
     ensures { TurnsAreFollowed }
 {}
 
-/// Where for any number of turns the body of the entry follows in the pieces of its template, and each function that is
-/// called in those of its own, each run of the unit is one of the templates: they come to the same memory with the same draws left, have violated the same rules at the same
-/// places in the same order, and go on or have stopped for the same reason.
+/// Where for any number of turns the body of the entry follows in the pieces of its template, and each function
+/// that is called in those of its own, each run of the unit is one of the templates: they come to the same memory
+/// with the same draws left, have violated the same rules at the same places in the same order, and go on or have
+/// stopped for the same reason.
 pub fn runs_are_followed()
     ensures { RunsAreFollowed }
 {}

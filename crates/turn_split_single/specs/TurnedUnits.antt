@@ -15,7 +15,7 @@ use Rattle.abstract_steps_single_units.specs.SingleUnits.{FindsJustUnitRuns}
 abbrev pub TurnedUnitsAreToldExactly : Type 0
 TurnedUnitsAreToldExactly = (turns : ℕ) (flow turned : Flow) (list : List ℤ) (found : List Diag) → flow_view turned ≡ split turns (flow_view flow) → IsAnalysis turned list found → FindsJustUnitRuns flow found
 
--- a program whose one run passes each block once at most stays one: no edge of a copy goes back, and the run in the copies accesses
--- what the run of the program does
+-- a program whose one run passes each block once at most stays one: no edge of a copy goes back, and the run in the
+-- copies accesses what the run of the program does
 abbrev pub TurnedProgramsAreSingle : Type 0
 TurnedProgramsAreSingle = (turns : ℕ) (limits : Limits) (flow turned : Flow) (u : UnitView) → is_well_formed limits flow ≡ true → flow_view turned ≡ split turns (flow_view flow) → IsSingleProgram flow u → IsSingleProgram turned u
