@@ -1,5 +1,5 @@
 -- Calls that give a result alone, in rising rows.
-use Rattle.std.specs.Prelude.{◌≡◌, ℕ, ◌^◌, ◌-◌, ℤ, pos, negsuc, ◌≤ℤ◌, int_le, int_lt, Bool, true, false, cond, ◌||◌, Option, Some, None, is_none, List, slice_get, refl}
+use Rattle.std.specs.Prelude.{◌≡◌, ℕ, ◌^◌, ◌-◌, ℤ, pos, negsuc, ◌≤ℤ◌, int_lt, Bool, true, false, cond, ◌||◌, Option, Some, None, is_none, List, slice_get, refl}
 use Rattle.std.proofs.Common.{arith}
 use Rattle.std.proofs.lemmas.Int.{ints}
 use Rattle.cc_base.specs.Lattices.{LatticeOf, OrderLaws}
@@ -47,9 +47,6 @@ use Rattle.abstract_steps_laws.specs.CallLaws.{CallRises}
 use Rattle.abstract_steps_laws.proofs.FilledSteps.{fill_set}
 
 -- ---- numbers
-
-number_less : (a b : ℤ) → int_le a b ≡ true → a ≤ℤ b
-number_less a b h = grind (arith, ints)
 
 lies_more : (a b c d : ℤ) → c ≤ℤ a → b ≤ℤ d → Sets (int_lt a (negsuc 0) || int_lt (pos 255) b) (int_lt c (negsuc 0) || int_lt (pos 255) d)
 lies_more a b c d h k = or_sets (int_lt a (negsuc 0)) (int_lt (pos 255) b) (int_lt c (negsuc 0)) (int_lt (pos 255) d) (λ e. grind (arith, ints)) (λ e. grind (arith, ints))

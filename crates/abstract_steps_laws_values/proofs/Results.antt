@@ -81,9 +81,6 @@ module _ {I : Type 0} {l : LatticeOf I} {n : IntegersOf I} {stands : I → ℤ �
   pub parts_rise : {p q : Pointers I} → PointersRise l n all p q → PointersBelow l p q
   parts_rise {p} {q} h = pointer_parts l p q h.below
 
-  pub parts_own : {p q : Pointers I} → PointersRise l n all p q → PointersBelow l q (top_value n all).pointer
-  parts_own {p} {q} h = pointer_parts l q (top_value n all).pointer h.own
-
   -- the smaller pointer part is an own one too
   pub smaller_own : (p q : Pointers I) → PointersRise l n all p q → pointers_leq l p (top_value n all).pointer ≡ true
   smaller_own p q h = (pointer_order o).transitive p q (top_value n all).pointer h.below h.own

@@ -152,13 +152,6 @@ module _ {I : Type 0} {l : LatticeOf I} {n : IntegersOf I} {stands : I → ℤ �
 
   -- ---- the touch
 
-  into_bases_empty : (p : Pointers I) (s : Bases) (x : I) → Sets (bases_empty s) (bases_empty (into_bases l n p s x).bases)
-  into_bases_empty p s x e = by_places (is_nowhere n s x) refl
-    where
-      by_places : (a : Bool) → is_nowhere n s x ≡ a → bases_empty (cond a (no_pointer l) (record p { bases = s; rel = x; null = false; ended = false })).bases ≡ true
-      by_places true f = refl
-      by_places false f = e
-
   module _ (bases : List BaseInfo) (named : (number : ℕ) → number < length bases → bases_within (only_base number) all ≡ true) (top r s : List (Cell I)) (each : EachFrom (λ base number. IsPlaced n all top base) 0 bases) (h : RowsRise l n top r s) (p q : Pointers I) (k : PointersRise l n all p q) where
     inside_rises : (offset size : ℕ) → PointersRise l n all (touched_inside l n p (live_of l n bases r p.bases) offset size) (touched_inside l n q (live_of l n bases s q.bases) offset size)
     inside_rises offset size = into_rises p q k (live_of l n bases r p.bases) (live_of l n bases s q.bases)

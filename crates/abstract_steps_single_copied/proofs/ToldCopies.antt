@@ -159,9 +159,6 @@ module _ {I : Type 0} {l : LatticeOf I} {n : IntegersOf I} {stands : I → ℤ �
       abbrev reply : Reply Scalar
       reply = effect.copy_struct flow.model leaves view.size (pointer d) (pointer m) s.world
 
-      abbrev touching_source : Type 0
-      touching_source = IsTouch q flow plain naming row s r y m view.size false
-
       source_stops : (rule : Rule) (v : Violations) → touched s.world m view.size false ≡ stopped_by s.world rule → TouchesNothing q flow.bases.items plain.no_heap row y view.size false v → AreViolated v (s.world.violated ++ (rule ∷ [])) → Told (giving s to reply)
       source_stops rule v e h bad =
           let is : reply ≡ as_pointer (stopped_by s.world rule) = ap (λ z. as_pointer (behind z (λ from w. behind (touched w d view.size true) (copy_at flow.model leaves view.size d from)))) e in

@@ -75,9 +75,6 @@ no_has set h b = elim (cases_Bool (bases_has set b)) [ inl e ↦ absurd (has_non
     and_no false y h = refl
 
 module _ (bases : List BaseInfo) (set : Bases) (empty : bases_empty set ≡ true) where
-  pub none_writable : writable_of bases set ≡ no_base
-  none_writable = walk_idle (add_writable set) 0 bases no_base (λ j d other e f. rw (no_has set empty d) refl)
-
   pub none_literal : any_literal bases set ≡ false
   unfolding any_literal
   none_literal = walk_idle (is_literal_or set) 0 bases false (λ j d other e f. rw (no_has set empty d) refl)

@@ -43,9 +43,6 @@ base_stays newest older b ne = by_test (b == newest) refl
     by_test false e = refl
 
 module _ (naming : Naming) (newest older : ℕ) where
-  pub name_moves : (i : ℕ) → naming i ≡ Some newest → renames naming newest older i ≡ Some older
-  name_moves i e = ap (new_name newest older) e ∙ ap Some (base_moves newest older)
-
   pub name_stays : (i b : ℕ) → naming i ≡ Some b → (b ≡ newest → ⊥) → renames naming newest older i ≡ Some b
   name_stays i b e ne = ap (new_name newest older) e ∙ ap Some (base_stays newest older b ne)
 

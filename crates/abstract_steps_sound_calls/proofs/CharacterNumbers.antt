@@ -22,9 +22,6 @@ use Rattle.value_domain_laws.proofs.Numbers.{RangeHas, met_has}
 le_true : (a b : ℤ) → int_le a b ≡ true → a ≤ℤ b
 le_true a b h = grind (arith, ints)
 
-le_false : (a b : ℤ) → int_le a b ≡ false → b ≤ℤ a
-le_false a b h = grind (arith, ints)
-
 eq_true : (a b : ℤ) → int_eq a b ≡ true → a ≡ b
 eq_true a b h = (Decides-int_eq a b).0 h
 
@@ -93,10 +90,6 @@ module _ {I : Type 0} {l : LatticeOf I} {n : IntegersOf I} {stands : I → ℤ �
   not_both : (a b : Bool) → (a && b) ≡ false → a ≡ true → b ≡ false
   not_both true b h e = h
   not_both false b h e = cc
-
-  not_not : (a : Bool) → not a ≡ true → a ≡ false
-  not_not true h = cc
-  not_not false h = refl
 
   -- where one letter alone would be turned, or one is met, or none
   none_turned : (is_letter : ℤ → Bool) (lo hi from to c : ℤ) → (int_eq lo hi && is_letter lo) ≡ false → (not (int_eq lo hi) && abstract.meets lo hi from to) ≡ false → lo ≤ℤ c → c ≤ℤ hi → (is_letter c ≡ true → (from ≤ℤ c) × (c ≤ℤ to)) → is_letter c ≡ true → ⊥

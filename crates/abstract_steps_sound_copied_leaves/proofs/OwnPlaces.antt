@@ -16,9 +16,6 @@ use Rattle.store_domain_sound.proofs.TagPlaces.{is_tagged}
 abbrev pub OwnPlace : BaseInfo → Class → ℕ → Type 0
 OwnPlace base class x = IsLeafPlace base.shape.cells class x ⊎ ((base.shape.heap ≡ true) × (count_by (at_offset class x) base.shape.cells ≡ 0))
 
-tag_same : (class : Class) (k : ℕ) (t : Tag) → Some t ≡ tag_of class k → (t.class ≡ class) × (t.at ≡ k)
-tag_same class k t e = (cc, cc)
-
 module _ (m : Model) (base : BaseInfo) (shape : IsShaped base) (class : Class) (x k : ℕ) where
   at_leaf : tag_at m base.shape.cells (x + k) ≡ tag_of class k → IsLeafPlace base.shape.cells class x
   at_leaf h =

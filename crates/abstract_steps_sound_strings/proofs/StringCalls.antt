@@ -153,9 +153,6 @@ module _ {I : Type 0} {l : LatticeOf I} {n : IntegersOf I} {stands : I → ℤ �
       stands_here : StandsPointer stands naming s.world.memory (pointer_of at) m
       stands_here = argument_stands at (pointer m) there
 
-      reply_here : Reply (Option Scalar)
-      reply_here = behind (machine.reached m s.world) further
-
       by_end : ReachEnd s.world m → Good plan (behind (machine.reached m s.world) further)
       by_end (into_live i offset lo hi is alive) =
           let a : machine.reached m s.world ≡ goes (reach_of i offset hi) s.world = ap (λ z. machine.reached z s.world) is ∙ ap (λ z. machine.reached_by s.world z i offset hi) alive in

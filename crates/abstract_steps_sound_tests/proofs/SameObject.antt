@@ -175,12 +175,6 @@ module _ {I : Type 0} {l : LatticeOf I} {n : IntegersOf I} {stands : I → ℤ �
 
     -- ---- the labels behind the test
 
-    first_change : Labels → Labels
-    first_change = side_change (is_unlabelled right_labels) rel k
-
-    second_change : Labels → Labels
-    second_change = side_change (is_unlabelled left_labels) (machine.turned rel) k
-
     short_for : (kind : declared.Scalar) → scalar_size flow.model kind ≡ class_bytes flow.model left.leaf.class → (m : Memory) → length (bytes_at m i) ≡ length (bytes_at memory i) → (it : _) → slice_get m i ≡ Some it → length it.bytes ≤ scalar_size flow.model kind
     short_for kind e m same it at =
         let total = size_is q flow p naming row r.long (state_of s) r.stands_for b i kl left named alive in
@@ -199,9 +193,6 @@ module _ {I : Type 0} {l : LatticeOf I} {n : IntegersOf I} {stands : I → ℤ �
     second_relabels =
         let it = instance_there between i (first_relabels.rewrite.alike.lives i ∙ alive) in
         bounded_relabels flow.model (machine.turned rel) k i kr left_labels between it.0 it.1 (short_for kr (sym same_size ∙ left_sized) between (first_relabels.rewrite.alike.lengths i) it.0 it.1) (is_unlabelled left_labels) refl
-
-    twice : Labels → Labels
-    twice s = side_change (is_unlabelled left_labels) (machine.turned rel) k (side_change (is_unlabelled right_labels) rel k s)
 
     relabels : IsRelabelling memory after i (λ s. side_change (is_unlabelled left_labels) (machine.turned rel) k (side_change (is_unlabelled right_labels) rel k s))
     relabels = relabellings_follow i (side_change (is_unlabelled right_labels) rel k) (side_change (is_unlabelled left_labels) (machine.turned rel) k) first_relabels second_relabels

@@ -70,9 +70,6 @@ with_declaration known b {budget} at xs h ts d more r inside name off more-is al
 
 -- ---- external declarations
 
-pub external_none : (known : List (List ℕ)) (b : ℕ) {budget : ℕ} (ts : List Terminal) → b + 1 ≡ budget → specifiers known b ts ≡ None → external known budget ts ≡ None
-external_none known b {budget} ts inside none = rw (inner_is inside, none) refl
-
 pub external_nameless : (known : List (List ℕ)) (b : ℕ) {budget : ℕ} (ts : List Terminal) (at : Place) (xs : List SpecTree) (h : ℕ) {a c : List Terminal} → b + 1 ≡ budget → at ≡ first_place ts → specifiers known b ts ≡ Some (item_of (spec_trees xs) h a) → IsSign p.Semicolon a c →
     external known budget ts ≡ raised budget (Declared at xs []) h c
 external_nameless known b {budget} ts at xs h {a} {c} inside place words semi = rw (place, inner_is inside, words, semi.symbol, semi.behind, words_listed xs) refl

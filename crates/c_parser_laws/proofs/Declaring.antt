@@ -11,7 +11,7 @@ use Rattle.c_parser_expressions.specs.Fronts.{first_symbol, is_identifier, IsSig
 use Rattle.c_parser_expressions.specs.Spans.{Chain}
 use Rattle.c_parser_expressions.specs.TypeNames.{Stars, is_pointer_qualifier}
 use Rattle.c_parser_declarations.specs.Declarators.{Length, IsSuffix, Core, Layers, Shape, IsDeclarator}
-use Rattle.c_parser_laws_expressions.proofs.Scanning.{NoStar, no_star, stars, stars_are, star_weight, is_star, is_left_bracket, is_left_parenthesis}
+use Rattle.c_parser_laws_expressions.proofs.Scanning.{NoStar, no_star, stars, stars_are, star_weight, is_star, is_left_parenthesis}
 use Rattle.c_parser_laws_expressions.proofs.Levels.{ends_at}
 use Rattle.c_parser_laws_expressions.proofs.Unique.{one_expression}
 use Rattle.c_parser_laws.proofs.Listing.{next, Fixes}
@@ -26,10 +26,6 @@ end_star _ end = refl
 end_qualifier : (x : Symbol) → is_end x ≡ true → is_pointer_qualifier x ≡ false
 end_qualifier (symbol.Keyword w) end = cc
 end_qualifier _ end = refl
-
-end_bracket : (x : Symbol) → is_end x ≡ true → is_left_bracket x ≡ false
-end_bracket (symbol.Punctuator p.LeftBracket) end = cc
-end_bracket _ end = refl
 
 end_parenthesis : (x : Symbol) → is_end x ≡ true → is_left_parenthesis x ≡ false
 end_parenthesis (symbol.Punctuator p.LeftParenthesis) end = cc
@@ -76,9 +72,6 @@ suffix_fix known x y ts r s d e =
     let same = length_fix known x.length y.length d.inside d.last e.last r s d.length d.closes from e.closes in
     (λ i. record { at = (d.place ∙ sym e.place) i; length = same.0 i }, next d.closes e.closes same.1)
 
-suffix_front : {known : List (List ℕ)} {x : SuffixView} {ts r : List Terminal} → IsSuffix known x ts r → first_symbol ts ≡ symbol.Punctuator p.LeftBracket
-suffix_front d = d.opens.symbol
-
 abbrev pub Suffixes : List (List ℕ) → List SuffixView → List Terminal → List Terminal → Type 0
 Suffixes known xs ts r = Chain (IsSuffix known) xs ts r
 
@@ -119,9 +112,6 @@ core_fix known (Some n) None ts a b alike d e = cc
 core_fix known (Some n) (Some m) ts a b alike d e = let same = names_fix n m d e in (ap Some same.0, same.1)
 
 -- ---- layers
-
-abbrev Shapes : Type 0
-Shapes = List DeclaratorLayerView
 
 no_parenthesis : {ts a : List Terminal} {b : Bool} → IsSign p.LeftParenthesis ts a → CoreFront ts b → ⊥
 no_parenthesis {ts} {a} {b} opens front = let h : true ≡ false = rw opens.symbol at front.parenthesis in cc

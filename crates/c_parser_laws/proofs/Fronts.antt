@@ -1,5 +1,5 @@
 -- What stands at the front of expressions, words and declarators, and what ends them.
-use Rattle.std.proofs.Common.{◌≡◌, ℕ, suc, Bool, true, false, List, Some, None, refl, sym, ◌∙◌, arith}
+use Rattle.std.proofs.Common.{◌≡◌, ℕ, suc, Bool, true, false, List, Some, None, sym, ◌∙◌, arith}
 use Rattle.c_layout.specs.SyntaxTrees.{Tree}
 use Rattle.c_layout.specs.DeclarationTrees.{NameView}
 use Rattle.c_parser_tokens.specs.declared.terminals.Terminal.{Terminal}
@@ -7,22 +7,17 @@ use Rattle.c_parser_tokens.specs.declared.terminals.Symbol.{Symbol}
 use Rattle.c_parser_tokens.specs.declared.terminals.Symbol.TheVariants as symbol
 use Rattle.c_parser_tokens.specs.declared.terminals.Punctuator.TheVariants as p
 use Rattle.c_parser_expressions.specs.Expressions.{Derives}
-use Rattle.c_parser_expressions.specs.Fronts.{first_symbol, is_identifier, IsName}
+use Rattle.c_parser_expressions.specs.Fronts.{first_symbol, IsName}
 use Rattle.c_parser_laws_expressions.specs.Endings.{EndsBefore}
 use Rattle.c_parser_laws_expressions.proofs.Reading.{Reads, Found, begin, read}
 use Rattle.c_parser_laws_expressions.proofs.Operands.{operand, size}
 use Rattle.c_parser_laws_expressions.proofs.Unique.{spined}
-use Rattle.c_parser_laws_expressions.proofs.Spans.{no_type}
-use Rattle.c_parser_laws_expressions.proofs.WordReading.{BeginsWord}
 
 -- ---- names
 
 -- two names at one place are the same
 pub names_fix : {known : List (List ℕ)} (n m : NameView) {ts r s : List Terminal} → IsName known n.at n.text ts r → IsName known m.at m.text ts s → (n ≡ m) × (r ≡ s)
 names_fix {known} n m {ts} {r} {s} one two = (λ i. record { at = (one.place ∙ sym two.place) i; text = (one.spelled ∙ sym two.spelled) i }, one.behind ∙ sym two.behind)
-
-pub identifier_at : {known : List (List ℕ)} (n : NameView) {ts r : List Terminal} → IsName known n.at n.text ts r → is_identifier (first_symbol ts) ≡ true
-identifier_at {known} n {ts} {r} is = rw is.symbol refl
 
 -- ---- what begins no expression
 
@@ -34,9 +29,6 @@ no_expression known l e ts r x at none d ends =
     let nothing : begin (read known (size e)) (size e) known l ts (first_symbol ts) ≡ None = rw at (none (read known (size e)) (size e) l) in
     let unread : read known (suc (size e)) l ts ≡ None = rw nothing in
     some_none (operand e (spined e) known l ts r d ends (suc (size e)) (omega arith)) unread
-
-pub no_typed_expression : (known : List (List ℕ)) (l : ℕ) (e : Tree) (ts r : List Terminal) → BeginsWord known ts → Derives e known l ts r → EndsBefore l r → ⊥
-no_typed_expression known l e ts r begins d ends = some_none (operand e (spined e) known l ts r d ends (suc (size e)) (omega arith)) (no_type known (suc (size e)) l ts begins)
 
 -- ---- what ends a declarator
 
@@ -50,8 +42,3 @@ is_end _ = false
 -- one of `,` `;` `=` and `)` stands there
 abbrev pub Ends : List Terminal → Type 0
 Ends r = is_end (first_symbol r) ≡ true
-
-abbrev is_bracket_or_parenthesis : Symbol → Bool
-is_bracket_or_parenthesis (symbol.Punctuator p.LeftBracket) = true
-is_bracket_or_parenthesis (symbol.Punctuator p.LeftParenthesis) = true
-is_bracket_or_parenthesis _ = false

@@ -110,9 +110,6 @@ words_brace (MoreWords w ws) known ts r (a, one, more) none = word_brace w known
 
 -- ---- tags and enumerators
 
-abbrev NoName : List Terminal → Type 0
-NoName ts = is_identifier (first_symbol ts) ≡ false
-
 tag_fix : (known : List (List ℕ)) (n m : Option NameView) (ts a b c d : List Terminal) → Tag known n ts a → IsSign p.LeftBrace a c → Tag known m ts b → IsSign p.LeftBrace b d → (n ≡ m) × (a ≡ b)
 tag_fix known None None ts a b c d one opens two opens-too = (refl, one ∙ sym two)
 tag_fix known None (Some m) ts a b c d one opens two opens-too = let at : symbol.Punctuator p.LeftBrace ≡ symbol.Identifier = sym (rw one at opens.symbol) ∙ two.symbol in absurd (cc at)

@@ -16,7 +16,7 @@ use Rattle.c_parser_declarations.specs.Declarators.{IsDeclarator, declarator_hei
 use Rattle.c_parser_declarations.specs.Lists.{Listed, highest}
 use Rattle.c_parser_declarations.specs.Specifiers.{DeriveWord, DeriveWords, IsSpec, counts_of, spec_height}
 use Rattle.c_parser_laws_expressions.proofs.Levels.{below}
-use Rattle.c_parser_expressions.specs.Readings.{is_comma, is_right_parenthesis}
+use Rattle.c_parser_expressions.specs.Readings.{is_right_parenthesis}
 use Rattle.c_parser_laws_finding.proofs.Shrinking.{length_behind}
 use Rattle.c_parser_laws_finding_declarations.specs.Found.{is_end, DeclaratorEnds}
 use Rattle.c_parser_declarations.specs.Items.{item_of}
@@ -118,10 +118,6 @@ void_word known (TypedefName name) ts rest is void = let h : false ≡ true = rw
 closing_end : (x : Symbol) → is_closing x ≡ true → is_end x ≡ true
 closing_end (symbol.Punctuator p.RightParenthesis) is = refl
 closing_end _ is = absurd (cc is)
-
-closing_comma : (x : Symbol) → is_closing x ≡ true → is_comma x ≡ false
-closing_comma (symbol.Punctuator p.RightParenthesis) is = refl
-closing_comma _ is = absurd (cc is)
 
 no_both : {x : Bool} → x ≡ true → x ≡ false → ⊥
 no_both {x} one other = let h : true ≡ false = sym one ∙ other in absurd (cc h)

@@ -269,13 +269,6 @@ left_includes w deepest top file next below c after e h = is (16 - length below)
 
 -- ---- a whole stack
 
-pub reads_first : (w : World) (top : Opened) (c : Course) → left_of w (top ∷ []) c ≡ file_read w 16 top c
-reads_first w top c = then_ok (file_read w 16 top c)
-  where
-    then_ok : (x : Result Course Refused) → then x (left_of w []) ≡ x
-    then_ok (Ok c) = refl
-    then_ok (Err r) = refl
-
 -- a step of the code
 pub left_step : (w : World) (deepest : Bool) (top next : Opened) (below : List Opened) (c after : Course) (s : StepOf) → deepest ≡ nat_lt 16 (length below + 1) → step w deepest top c ≡ Ok (step_as next after s)
     → left_of w (top ∷ below) c ≡ left_of w (stacked next s below) after

@@ -30,9 +30,6 @@ went_on f0 f1 f2 a0 a1 a2 b0 b1 b2 v w = record {
   taken_rises = let p = v.taken_rises in let q = w.taken_rises in omega arith;
 }
 
-pub went_nowhere : (f : Option Files) (a b : ℕ) → Went f f a a b b
-went_nowhere f a b = record { same = refl; faults_rise = omega arith; taken_rises = omega arith }
-
 -- a search that missed a name goes on with the others
 lack_more : (files : Option Files) (a b now : ℕ) (n : List ℕ) (ns : List (List ℕ)) → Lacks files n (Rose a b) → b ≤ now → LackAll files a now ns → LackAll files a now (n ∷ ns)
 lack_more None a b now n ns h k l = rose_later a b now k h
@@ -63,9 +60,6 @@ lacks_earlier (Some fs) a b c n h r = r
 pub record Along (f0 f1 : Option Files) (a0 a1 b0 b1 : ℕ) (names left : List (List ℕ)) : Type 0 where
   pub went : Went f0 f1 a0 a1 b0 b1
   pub goes : (now : ℕ) (name : List ℕ) (model : Model) (o : Option Found) → a1 ≤ now → Searches f0 a0 now left name model o → Searches f0 a0 now names name model o
-
-pub along_first : (f : Option Files) (a b : ℕ) (names : List (List ℕ)) → Along f f a a b b names names
-along_first f a b names = record { went = went_nowhere f a b; goes = λ now name model o h s. s }
 
 pub along_more : (f0 f1 f2 : Option Files) (a0 a1 a2 b0 b1 b2 : ℕ) (names left rest : List (List ℕ)) (n : List ℕ) → Along f0 f1 a0 a1 b0 b1 names left → left ≡ n ∷ rest → Went f1 f2 a1 a2 b1 b2 → Lacks f1 n (Rose a1 a2) → Along f0 f2 a0 a2 b0 b2 names rest
 along_more f0 f1 f2 a0 a1 a2 b0 b1 b2 names left rest n l e w h = record {

@@ -2,26 +2,25 @@
 use Rattle.std.proofs.Common.{◌≡◌, ℕ, Bool, true, false, cond, List, [], ◌∷◌, Option, Some, None, Result, Ok, Err, IfOk, is_some, map, option_map, string_bytes, refl, sym, ◌∙◌, ap, subst}
 use Rattle.cc_base.specs.Outside.{Files}
 use Rattle.cc_base.specs.declared.diagnostics.Place.{Place}
-use Rattle.cc_base.specs.declared.lexemes.Token.{Token}
 use Rattle.cc_base.specs.declared.refusals.Fault.{Fault}
 use Rattle.cc_base.specs.declared.refusals.Refusal.TheVariants as refusal
 use Rattle.cc_base.specs.declared.refusals.Stop.{Stop}
 use Rattle.cc_base.specs.declared.refusals.Stop.TheVariants as stop
 use Rattle.c_layout.specs.declared.data_model.Model.{Model}
 use Rattle.c_tokens.specs.Cutting.{fault_of}
-use Rattle.c_tokens.specs.FileTokens.{file_tokens, Gives as TokensGiven}
+use Rattle.c_tokens.specs.FileTokens.{file_tokens}
 use Rattle.c_preproc_macros.specs.declared.lexeme.Lexeme.{Lexeme}
 use Rattle.c_preproc_macros.specs.Numbering.{number_in, with_text}
 use Rattle.c_preproc_directives.specs.declared.directive_names.Directive.{Directive}
 use Rattle.c_preproc_directives.specs.declared.open_files.OpenFile.{OpenFile}
 use Rattle.c_preproc_directives.specs.Directives.{Header, is_conditional, is_include}
 use Rattle.c_preproc_directives.specs.Groups.{is_skipped}
-use Rattle.c_preproc_directives.specs.OpenFiles.{Opened, opened_of, opened_file, first_of, cut_directive}
+use Rattle.c_preproc_directives.specs.OpenFiles.{Opened, opened_of, first_of}
 use Rattle.c_preproc.specs.declared.found_file.FoundFile.{FoundFile}
 use Rattle.c_preproc.specs.Searching.{Found, found_of, searched_names, built_in}
-use Rattle.c_preproc.specs.Known.{Known, Reading, Line, Asked, Gives, start, is_once, include_asks, conditional, plain, line_of, directive_at, text_lines, first_open}
+use Rattle.c_preproc.specs.Known.{Known, Reading, Line, Asked, Gives, start, is_once, include_asks, conditional, plain, directive_at, text_lines, first_open}
 use Rattle.c_preproc.specs.Reading.{found_as}
-use Rattle.c_preproc.specs.Units.{World, world_of, Course, course, Refused, refused, then, under, Sought, sought, Opening, opening, opened_by, Entered, entered_as, entered, long_refused, included, includer_in, sought_from, include, Step, on_reading, on_known, step_into, directive, file_ended, step_at, step_by, step, file_read, read_if, preprocessed, unit, main_read, unit_from}
+use Rattle.c_preproc.specs.Units.{World, world_of, Course, course, Refused, refused, then, under, Sought, sought, Opening, opened_by, Entered, entered_as, entered, long_refused, included, includer_in, sought_from, include, Step, on_reading, on_known, step_into, directive, file_ended, step_at, step_by, step, file_read, read_if, preprocessed, unit, main_read, unit_from}
 use Rattle.c_preproc.specs.Units.Sought.{found, too_long, nothing}
 use Rattle.c_preproc.specs.Units.Step.{ended, goes_on, includes}
 use Rattle.c_preproc.specs.declared.preprocessing.Step.{Step as StepOf}
@@ -40,26 +39,8 @@ under_refused part part_view go view names stop.NotHeld h = h
 under_refused part part_view go view names stop.ReadFault h = absurd h
 under_refused part part_view go view names stop.Memory h = tt
 
-then_refused : {A B C D : Type 0} (part : Result B Refused) (part_view : A → B) (go : B → Result D Refused) (view : C → D) (names : List (List ℕ)) (s : Stop) → UnitGives part part_view names (Err s) → UnitGives (then part go) view names (Err s)
-then_refused part part_view go view names (stop.Refused f) h = ap (λ v. then v go) h
-then_refused part part_view go view names stop.NotHeld h = h
-then_refused part part_view go view names stop.ReadFault h = tt
-then_refused part part_view go view names stop.Memory h = tt
-
 pub refused_as : {A B : Type 0} (x : Result B Refused) (view : A → B) (names : List (List ℕ)) (s : Stop) (f : Fault) → s ≡ stop.Refused f → x ≡ Err (refused f names) → UnitGives x view names (Err s)
 refused_as x view names s f e h = subst (λ v. UnitGives x view names (Err v)) (sym e) h
-
--- ---- a file is opened
-
-pub opened_refused : (wanted : Result (List Token) Fault) (file : ℕ) (k : Known) (view : OpenFile → Opening) (s : Stop) → TokensGiven wanted (Err s) → Gives (opened_by file k wanted) view (Err s)
-opened_refused wanted file k view (stop.Refused f) h = ap (opened_by file k) h
-opened_refused wanted file k view stop.NotHeld h = h
-opened_refused wanted file k view stop.ReadFault h = h
-opened_refused wanted file k view stop.Memory h = tt
-
-pub opened_given : (wanted : Result (List Token) Fault) (file : ℕ) (k : Known) (tokens same : List Token) (texts : List (List ℕ)) (f : Opened) → wanted ≡ Ok tokens → same ≡ tokens → (texts, f) ≡ opened_file k.texts file same
-    → opened_by file k wanted ≡ Ok (opening (record k { texts = texts }) f)
-opened_given wanted file k tokens same texts f h i e = ap (opened_by file k) h ∙ ap (λ p. Ok (opening (record k { texts = p.0 }) p.1)) (ap (opened_file k.texts file) (sym i) ∙ sym e)
 
 -- ---- an included file is entered
 
@@ -69,9 +50,6 @@ enter_by f k names now n e h =
     ap (λ m. cond (is_once k.once m) (Ok (entered_as k (with_text names f.name) None)) (then (under (with_text names f.name) (opened_by m k (file_tokens m f.bytes))) (λ o. Ok (entered_as o.known (with_text names f.name) (Some o.file))))) (sym e)
     ∙ ap (λ v. cond (is_once k.once n) (Ok (entered_as k v None)) (then (under v (opened_by n k (file_tokens n f.bytes))) (λ o. Ok (entered_as o.known v (Some o.file))))) (sym h)
 
-pub enter_once : (f : Found) (k : Known) (names now : List (List ℕ)) (n : ℕ) → n ≡ number_in names f.name → now ≡ with_text names f.name → is_once k.once n ≡ true → entered f k names ≡ Ok (entered_as k now None)
-enter_once f k names now n e h i = enter_by f k names now n e h ∙ ap (λ b. cond b (Ok (entered_as k now None)) (then (under now (opened_by n k (file_tokens n f.bytes))) (λ o. Ok (entered_as o.known now (Some o.file))))) i
-
 enter_open : (f : Found) (k : Known) (names now : List (List ℕ)) (n : ℕ) → n ≡ number_in names f.name → now ≡ with_text names f.name → is_once k.once n ≡ false
     → entered f k names ≡ then (under now (opened_by n k (file_tokens n f.bytes))) (λ o. Ok (entered_as o.known now (Some o.file)))
 enter_open f k names now n e h i = enter_by f k names now n e h ∙ ap (λ b. cond b (Ok (entered_as k now None)) (then (under now (opened_by n k (file_tokens n f.bytes))) (λ o. Ok (entered_as o.known now (Some o.file))))) i
@@ -80,11 +58,6 @@ pub enter_refused : {A : Type 0} (f : Found) (k : Known) (names now : List (List
     → Gives (opened_by n k (file_tokens n bytes)) part_view (Err s) → UnitGives (entered f k names) view now (Err s)
 enter_refused f k names now n bytes part_view view s e h i t g = given_by _ _ view now (Err s) (enter_open f k names now n e h i)
     (under_refused (opened_by n k (file_tokens n f.bytes)) part_view _ view now s (subst (λ v. Gives (opened_by n k (file_tokens n v)) part_view (Err s)) t g))
-
-pub enter_opened : (f : Found) (k after : Known) (names now : List (List ℕ)) (n : ℕ) (bytes : List ℕ) (o : Opened) → n ≡ number_in names f.name → now ≡ with_text names f.name → is_once k.once n ≡ false → bytes ≡ f.bytes
-    → opened_by n k (file_tokens n bytes) ≡ Ok (opening after o) → entered f k names ≡ Ok (entered_as after now (Some o))
-enter_opened f k after names now n bytes o e h i t g = enter_open f k names now n e h i
-    ∙ ap (λ v. then (under now v) (λ o. Ok (entered_as o.known now (Some o.file)))) (subst (λ v. opened_by n k (file_tokens n v) ≡ Ok (opening after o)) t g)
 
 -- ---- `#include`
 
@@ -152,10 +125,6 @@ as_conditional w deepest place behind l top c e = chosen_true (is_conditional l.
 as_skipped : (w : World) (deepest : Bool) (place : Place) (behind : List Lexeme) (l : Line) (top : Opened) (c : Course) → is_conditional l.directive ≡ false → is_skipped top.sections ≡ true → directive w deepest place behind l top c ≡ Ok (goes_on top c)
 as_skipped w deepest place behind l top c e h = chosen_false (is_conditional l.directive) _ _ e ∙ chosen_true (is_skipped top.sections) _ _ h
 
-as_include : (w : World) (deepest : Bool) (place : Place) (behind : List Lexeme) (l : Line) (top : Opened) (c : Course) → is_conditional l.directive ≡ false → is_skipped top.sections ≡ false → is_include l.directive ≡ true
-    → directive w deepest place behind l top c ≡ then (include w top.file deepest place l.line c.known c.names) (λ e. Ok (step_into e.file top e.course))
-as_include w deepest place behind l top c e h i = chosen_false (is_conditional l.directive) _ _ e ∙ (chosen_false (is_skipped top.sections) _ _ h ∙ chosen_true (is_include l.directive) _ _ i)
-
 as_plain : (w : World) (deepest : Bool) (place : Place) (behind : List Lexeme) (l : Line) (top : Opened) (c : Course) → is_conditional l.directive ≡ false → is_skipped top.sections ≡ false → is_include l.directive ≡ false
     → directive w deepest place behind l top c ≡ then (under c.names (plain l.directive top.file place l.line behind c.known)) (λ k. Ok (on_known top c.names k))
 as_plain w deepest place behind l top c e h i = chosen_false (is_conditional l.directive) _ _ e ∙ (chosen_false (is_skipped top.sections) _ _ h ∙ chosen_false (is_include l.directive) _ _ i)
@@ -203,9 +172,6 @@ plain_step w deepest place behind d line l top c k (Err s) e h i j n g = plain_r
 
 -- ---- a step of a file
 
-none_some : {A : Type 0} (x : A) → None ≡ Some x → ⊥
-none_some x e = cc
-
 pub step_ended : (w : World) (deepest : Bool) (top : Opened) (c : Course) (o : Option Lexeme) → o ≡ first_of top.unread → is_some o ≡ false → first_open top.sections ≡ None → step w deepest top c ≡ Ok (ended c)
 step_ended w deepest top c o e h i = ap (λ v. step_by w deepest v top c) (sym e) ∙ go o h
   where
@@ -236,23 +202,6 @@ step_text_refused w deepest top c o part_view view s e h i g = given_by _ _ view
 pub step_text : (w : World) (deepest : Bool) (top after : Opened) (c : Course) (o : Option Lexeme) (k : Known) → o ≡ first_of top.unread → is_some o ≡ true → directive_at c.known.texts o ≡ None
     → text_lines (record { known = c.known; top = top }) ≡ Ok (record { known = k; top = after }) → step w deepest top c ≡ Ok (goes_on after (course k c.names))
 step_text w deepest top after c o k e h i g = as_text w deepest top c o e h i ∙ ap (λ v. then (under c.names v) (λ r. Ok (on_reading c.names r))) g
-
-as_directive : (w : World) (deepest : Bool) (top : Opened) (c : Course) (o : Option Lexeme) (place : Place) → o ≡ first_of top.unread → directive_at c.known.texts o ≡ Some place
-    → step w deepest top c ≡ directive w deepest place (cut_directive top.unread).front (line_of c.known.texts (cut_directive top.unread).front) (record top { unread = (cut_directive top.unread).rest }) c
-as_directive w deepest top c o place e i = ap (λ v. step_by w deepest v top c) (sym e) ∙ go o i
-  where
-    go : (o : Option Lexeme) → directive_at c.known.texts o ≡ Some place
-        → step_by w deepest o top c ≡ directive w deepest place (cut_directive top.unread).front (line_of c.known.texts (cut_directive top.unread).front) (record top { unread = (cut_directive top.unread).rest }) c
-    go None i = absurd (none_some place i)
-    go (Some x) i = ap (λ v. step_at w deepest v top c) i
-
-pub step_directive : {A : Type 0} (w : World) (deepest : Bool) (top between : Opened) (c : Course) (o : Option Lexeme) (place : Place) (behind : List Lexeme) (view : A → Step) (names : List (List ℕ)) (r : Result A Stop) → o ≡ first_of top.unread → directive_at c.known.texts o ≡ Some place
-    → behind ≡ (cut_directive top.unread).front → between ≡ record top { unread = (cut_directive top.unread).rest } → UnitGives (directive w deepest place behind (line_of c.known.texts behind) between c) view names r
-    → UnitGives (step w deepest top c) view names r
-step_directive w deepest top between c o place behind view names r e i f b g =
-    let line : UnitGives (directive w deepest place (cut_directive top.unread).front (line_of c.known.texts (cut_directive top.unread).front) between c) view names r =
-    subst (λ v. UnitGives (directive w deepest place v (line_of c.known.texts v) between c) view names r) f g in
-    given_by _ _ view names r (as_directive w deepest top c o place e i) (subst (λ v. UnitGives (directive w deepest place (cut_directive top.unread).front (line_of c.known.texts (cut_directive top.unread).front) v c) view names r) b line)
 
 pub text_step : (w : World) (deepest : Bool) (top after : Opened) (c : Course) (o : Option Lexeme) (k : Known) (r : Result StepOf Stop) → o ≡ first_of top.unread → is_some o ≡ true → directive_at c.known.texts o ≡ None
     → IfOk r (λ s. s ≡ GoesOn) → Gives (text_lines (record { known = c.known; top = top })) (λ _. record { known = k; top = after }) r

@@ -77,9 +77,6 @@ pub record Seeking (t : Option Files) (header : Option Found) (names rest : List
   pub goes : (s : Sought) → IsSought t rest header s → IsSought t names header s
   pub same : now ≡ first
 
-pub seeking_first : (t : Option Files) (header : Option Found) (names first : List (List ℕ)) → Seeking t header names names first first
-seeking_first t header names first = record { goes = λ s h. h; same = refl }
-
 next_is : (t : Option Files) (n : List ℕ) (ns : List (List ℕ)) (header : Option Found) (s : Sought) → IsRead t n None → IsSought t ns header s → IsSought t (n ∷ ns) header s
 next_is None n ns header s e h = tt
 next_is (Some files) n ns header s e h = ap (λ v. or_next v (sought files ns header)) e ∙ h

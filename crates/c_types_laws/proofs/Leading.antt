@@ -15,10 +15,6 @@ abbrev pub Yields : {V : Type 0} → (State → State → Type 0) → (V → Sta
 Yields R P s (Ok p) = R s p.1 × P p.0 p.1
 Yields R P s (Err f) = Unit {0}
 
-pub yields_leads : {V : Type 0} (R : State → State → Type 0) (P : V → State → Type 0) (s : State) (r : Ruled (V × State)) → Yields R P s r → Leads R s r
-yields_leads R P s (Ok p) h = h.0
-yields_leads R P s (Err f) h = tt
-
 pub kept_leads : {V : Type 0} (R : State → State → Type 0) (s t : State) (rule : Ruled V) → R s t → Leads R s (kept t rule)
 kept_leads R s t (Ok v) h = h
 kept_leads R s t (Err f) h = tt

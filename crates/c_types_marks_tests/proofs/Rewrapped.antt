@@ -12,7 +12,6 @@ use Rattle.c_types_scopes.specs.Known.{Known}
 use Rattle.c_types_operands.specs.Operands.{term_type, term_constant}
 use Rattle.c_types_operands.specs.Conversions.{noted}
 use Rattle.ref_machine_looks.specs.LookedTerms.{exact, is_null, is_marked_term, is_marked_place, has_tests}
-use Rattle.c_types_marks.specs.MadeTerms.{is_implicit}
 
 -- ---- another pair of parentheses
 
@@ -54,10 +53,6 @@ module _ (k : Known) (to : Ty) where
   pub noted_constant : (e : TermTree) → term_constant (noted k to e) ≡ term_constant e
   noted_constant (Typed at t p c (tree.Library g args noted)) = refl
   noted_constant (Typed at t p c f) = refl
-
-  pub noted_implicit : (e : TermTree) → is_implicit (noted k to e) ≡ is_implicit e
-  noted_implicit (Typed at t p c (tree.Library g args noted)) = refl
-  noted_implicit (Typed at t p c f) = refl
 
   pub noted_exact : (m : Model) (e : TermTree) → exact m (noted k to e) ≡ exact m e
   noted_exact m (Typed at t p c (tree.Library g args noted)) = refl

@@ -307,12 +307,6 @@ module _ (m : Model) (s : State) (h : IsReady m s) where
 -- ---- what is part of later states
 
 module _ (s : State) where
-  pub defined_passes : (d : DefinitionsView) → IsPassed s (record s { definitions = d })
-  defined_passes d u p = record { model = p.model; objects = p.objects; literals = p.literals; functions = p.functions }
-
-  pub streamed_passes : (n : ℕ) → IsPassed s (record s { stream = n })
-  streamed_passes n u p = record { model = p.model; objects = p.objects; literals = p.literals; functions = p.functions }
-
   pub body_passes : (b : BodyView) → IsPassed s (record s { body = b })
   body_passes b u p = record { model = p.model; objects = p.objects; literals = p.literals; functions = p.functions }
 

@@ -1,5 +1,5 @@
 -- A state before a function's name is declared is part of the units that come of the state behind its type.
-use Rattle.std.proofs.Common.{◌≡◌, ◌<◌, ◌≤◌, ℕ, zero, suc, Bool, true, false, List, [], ◌∷◌, ◌++◌, Option, Some, None, slice_get, length, refl, arith, ap, subst, sym, ◌∙◌, inl, inr}
+use Rattle.std.proofs.Common.{◌≡◌, ◌<◌, ◌≤◌, ℕ, zero, suc, Bool, true, false, List, [], ◌∷◌, ◌++◌, Option, Some, None, slice_get, length, refl, arith, ap, sym, ◌∙◌, inl, inr}
 use Rattle.std.specs.Prelude.{◌⊎◌, cond, is_some, nat_le, slice_set}
 use Rattle.std.proofs.lemmas.Bool.{cases_eq, leb-true, le-leb}
 use Rattle.std.proofs.lemmas.Option.{slice_get_within}
@@ -12,7 +12,7 @@ use Rattle.c_types_objects.specs.Changes.{changed, changed_at}
 use Rattle.c_types_file_scope.specs.FunctionDeclarations as functions
 use Rattle.c_types_laws_stores.proofs.Types.{type_is}
 use Rattle.c_types_marks_layouts.proofs.Kept.{front_stays, set_other}
-use Rattle.c_types_marks.specs.UnitParts.{IsHeadOf, IsThere, IsPartOf}
+use Rattle.c_types_marks.specs.UnitParts.{IsHeadOf, IsThere}
 use Rattle.c_types_marks_statements.proofs.Going.{IsPassed}
 use Rattle.c_types_marks_units.proofs.HeadSteps.{IsSameFile}
 
@@ -49,17 +49,6 @@ changed_here f k xs x at = here_at f k xs x (slice_get xs k) refl at
 
 literals_stay : (s t : State) (u : UnitView) → length s.literals ≤ length t.literals → nat_le (length t.literals) (length u.literals) ≡ true → nat_le (length s.literals) (length u.literals) ≡ true
 literals_stay s t u h g = (let a = leb-true (length t.literals) (length u.literals) g in le-leb (length s.literals) (length u.literals) (omega (arith, a, h)))
-
--- a state with other functions, which are those of the unit
-module _ (s t v : State) (file : IsSameFile s t) (u : UnitView) where
-  pub part_by : v.objects ≡ t.objects → v.literals ≡ t.literals → v.known.numbers ≡ t.known.numbers → IsPartOf v u
-      → ((i : ℕ) (f : SignatureView) (n : ℕ) → slice_get s.functions i ≡ Some f → f.number ≡ Some n → IsThere u f n) → IsPartOf s u
-  part_by objects literals model p there = record {
-    model = p.model ∙ (model ∙ file.model);
-    objects = λ i o n is. p.objects i o n (ap (λ xs. slice_get xs i) (objects ∙ file.objects) ∙ is);
-    literals = literals_stay s t u file.literals (subst (λ xs. nat_le (length xs) (length u.literals) ≡ true) literals p.literals);
-    functions = there;
-  }
 
 -- the type of a function that had none yet, behind all others
 pub given_passes : (s t : State) (new : SignatureView) (d : DeclaredView) (ts : List Ty) → IsSameFile (record s { functions = s.functions ++ new ∷ [] }) t → IsPassed s (functions.with_given (length s.functions) d ts t)

@@ -50,15 +50,6 @@ filled_wider p q slots n m le f = record {
 no_index : (i : ℕ) → slot_index (let none : Option Row = None in none) ≡ Some i → ⊥
 no_index i e = cc
 
-pub slot_none : {V : Type 0} (p : Pool V) → IsWhole p → SlotChanged p None p None
-slot_none p whole = record {
-  width = refl;
-  whole = whole;
-  others = λ s t out. (t, refl);
-  index = λ i e. absurd (no_index i e);
-  room = refl;
-}
-
 -- a row that was taken is written
 pub written_same_but : {V : Type 0} (p q : Pool V) (r : ℕ) (ws : List V) → q ≡ with_taken p r → IsWhole p → IsFree p r → length ws ≡ p.width → SameBut (with_taken p r) (with_row q r ws) r × (row_of (with_row q r ws) r ≡ ws)
 written_same_but p q r ws e whole free len =

@@ -14,7 +14,7 @@ use Rattle.value_domain.specs.declared.label_sets.Labels.{Labels}
 use Rattle.value_domain.specs.declared.alloc_states.AllocState.{AllocState}
 use Rattle.value_domain.specs.declared.row_cells.Cell.{Cell}
 use Rattle.value_domain.specs.declared.row_cells.Cell.TheVariants.{Nothing, Value, First, State, Mixed}
-use Rattle.cert_check_text.specs.LineWords.{Bytes, until, first_byte, same_all, same_bytes}
+use Rattle.cert_check_text.specs.LineWords.{Bytes, first_byte, same_all, same_bytes}
 use Rattle.cert_check_text.specs.DecimalWords.{small, range_of}
 use Rattle.cert_check_text.specs.BaseDigits.{bases_of, bases_text}
 use Rattle.cert_check_text.specs.CellReaders.{word, rest, is_set, labels_given, pointer_given, value_given, first_given, state_given, cell_given}
@@ -24,7 +24,7 @@ use Rattle.cert_check_text.specs.declared.map_lines.MapLine.TheVariants.{Unreach
 use Rattle.cert_check_text.specs.MapLines.{reached_text, placed_text, line_text, line_given, line_if_same, line_of}
 use Rattle.cert_check_text_laws.specs.NearRanges.{IsNearRange}
 use Rattle.cert_check_text_laws.specs.NearCells.{IsNearPointer, IsNearValue, IsNearCell, IsNearLine}
-use Rattle.cert_check_text_laws.proofs.Words.{IsFreeOf, until_is, until_end, behind_is}
+use Rattle.cert_check_text_laws.proofs.Words.{IsFreeOf, until_is, behind_is}
 use Rattle.cert_check_text_laws.proofs.Numbers.{apart_below, apart_above, small_back, decimal_free, range_back, range_free}
 use Rattle.cert_check_text_laws.proofs.BaseWords.{bases_back, bases_free}
 
@@ -41,9 +41,6 @@ words_tail t (w ∷ ws) = words_tail (with_word t w) ws ∙ append_assoc t (32 �
 
 word_first : (w v : Bytes) (ws : List Bytes) → IsFreeOf 32 w → word (w ++ tail (v ∷ ws)) ≡ w
 word_first w v ws h = until_is 32 w (v ++ tail ws) h
-
-word_last : (w : Bytes) → IsFreeOf 32 w → word (w ++ tail []) ≡ w
-word_last w h = ap (until 32) (append-nil w) ∙ until_end 32 w h
 
 rest_is : (w v : Bytes) (ws : List Bytes) → IsFreeOf 32 w → rest (w ++ tail (v ∷ ws)) ≡ v ++ tail ws
 rest_is w v ws h = behind_is 32 w (v ++ tail ws) h

@@ -36,10 +36,6 @@ pub until_is : (stop : ℕ) (w t : Bytes) → IsFreeOf stop w → until stop (w 
 unfolding until
 until_is stop w t h = ap (λ n. take n (w ++ (stop ∷ t))) (word_ends stop w t h) ∙ take_front w (stop ∷ t)
 
-pub until_end : (stop : ℕ) (w : Bytes) → IsFreeOf stop w → until stop w ≡ w
-unfolding until
-until_end stop w h = ap (λ n. take n w) (word_alone stop w h) ∙ take_whole w
-
 -- what stands behind the byte
 pub behind_is : (stop : ℕ) (w t : Bytes) → IsFreeOf stop w → behind stop (w ++ (stop ∷ t)) ≡ t
 unfolding behind

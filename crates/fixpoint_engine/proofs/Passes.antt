@@ -9,7 +9,7 @@ use Rattle.cc_base.specs.RowLaws.{by_test, reached_leq-refl, reached_leq-trans}
 use Rattle.cc_base.specs.Machine.{Machine, MachineLaws}
 use Rattle.cc_base.specs.InductiveMap.{row_at, step, IsInductive}
 use Rattle.fixpoint_engine.specs.SolverState.{State, mark_at, advance, head_grows, begins, entered, follows_now, turned, turn_grows}
-use Rattle.fixpoint_engine.specs.Progress.{IsSound, HasEntry, IsSettled, IsMarked, IsSwept, potential}
+use Rattle.fixpoint_engine.specs.Progress.{IsSound, HasEntry, IsSettled, IsSwept, potential}
 use Rattle.fixpoint_engine.proofs.ArrivalLaws.{IsAttained-own}
 use Rattle.fixpoint_engine.proofs.Advance.{or_left, or_right}
 use Rattle.fixpoint_engine.proofs.FollowingLaws.{advance-rises, advance-above, advance-sound, advance-potential, advance-mark, advance-unmarked}
@@ -159,16 +159,6 @@ module _ {C : Type 0} (o : LatticeOf C) (k : OrderLaws o) (r : RoundLaws o) (m :
       by_test (begins m e)
       (λ (t : begins m e ≡ true). rw t (length-set st.marks (m.source e) false))
       (λ (t : begins m e ≡ false). rw t refl)
-
-  -- a pass that has come to the end
-  pub swept-start : (st : State C) (s : ℕ) → IsMarked o m st → IsSwept o m st false s 0 false
-  swept-start st s h = record {
-    settled = λ d below unmarked p. h d below unmarked;
-    clean = λ no d below. absurd (omega arith);
-  }
-
-  pub swept-marked : (st : State C) (following : Bool) (s : ℕ) (grew : Bool) → IsSwept o m st following s m.edges grew → IsMarked o m st
-  swept-marked st following s grew sw = λ d below unmarked. sw.settled d below unmarked (λ f g. below)
 
   pub swept-inductive : (st : State C) (following : Bool) (s : ℕ) → IsSound o m st.rows → HasEntry o m st.rows → IsSwept o m st following s m.edges false → IsInductive o m st.rows
   swept-inductive st following s sound entry sw = record {

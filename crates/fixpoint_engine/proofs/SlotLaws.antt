@@ -1,5 +1,5 @@
 -- What changes when a row of a pool is written, or is new in a map.
-use Rattle.std.proofs.Common.{◌≡◌, ◌+◌, ℕ, not, List, length, Some, None, slice_get, count_by, sym, ap, subst, arith, ◌∙◌, inl, inr}
+use Rattle.std.proofs.Common.{◌≡◌, ◌+◌, ℕ, not, List, length, Some, None, slice_get, count_by, sym, ap, subst, arith, ◌∙◌, inr}
 use Rattle.row_pool.specs.Pool.{Pool, row_of, with_row, with_taken, IsTaken, IsFree, IsWhole, free_count, SameBut}
 use Rattle.row_pool.specs.PoolLaws.{SameBut-with_row, SameBut-whole, row_of-same, row_of-taken, IsWhole-taken, IsTaken-other, IsTaken-same, free_apart, count_taken, length-row_of}
 use Rattle.row_pool.specs.declared.row_name.Row.{Row}
@@ -30,19 +30,6 @@ slot-new p q row whole free h = record {
       let e : free_count q ≡ free_count (with_taken p row.index) = ap (count_by not) h.taken in
       let f : free_count (with_taken p row.index) + 1 ≡ free_count p = count_taken p.taken row.index free in
       omega arith;
-}
-
-pub slot-same : {V : Type 0} (p q : Pool V) (old new : Row) → IsWhole p → IsTaken p old.index → new.index ≡ old.index → SameBut p q old.index → SlotChanged p (Some old) q (Some new)
-slot-same p q old new whole taken e h = record {
-  width = h.width;
-  whole = SameBut-whole p q old.index h whole;
-  others = λ s t out.
-      let ne : s ≡ old.index → ⊥ = λ f. out (ap Some (sym f)) in
-      (IsTaken-same_but p q old.index s h t, h.others s ne t);
-  index = λ i f.
-      let same : old.index ≡ i = cc in
-      (subst (IsTaken q) same (IsTaken-same_but p q old.index old.index h taken), inl (ap Some same));
-  room = let k : free_count q ≡ free_count p = ap (count_by not) h.taken in omega arith;
 }
 
 -- a row that was free is taken, and another one copied into it

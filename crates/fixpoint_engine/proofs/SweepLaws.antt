@@ -8,13 +8,13 @@ use Rattle.cc_base.specs.RowLaws.{by_test}
 use Rattle.row_pool.specs.Pool.{Pool, IsTaken, IsWhole}
 use Rattle.row_pool.specs.declared.row_name.Row.{Row}
 use Rattle.fixpoint_engine.specs.SolverState.{State, begins, entered, follows_now, turned, turn_grows, advance, head_grows}
-use Rattle.fixpoint_engine.specs.Progress.{IsSound, HasEntry, IsMarked, IsSwept, potential}
+use Rattle.fixpoint_engine.specs.Progress.{IsSound, HasEntry, IsSwept, potential}
 use Rattle.fixpoint_engine.specs.RowMap.{slot_row, slot_mark, slot_index, unmarked, rows_in, state_in, IsHeldBeside, Changed, SlotChanged}
 use Rattle.fixpoint_engine.specs.Entering.{entered_map, follows_map}
 use Rattle.fixpoint_engine.proofs.ArrivalLaws.{IsAttained-own}
 use Rattle.fixpoint_engine.proofs.MapLaws.{map-changed, map-rows, row_at-rows_in, mark_at-marks, same_state}
 use Rattle.fixpoint_engine.proofs.SpareLaws.{Changed-trans, Changed-refl}
-use Rattle.fixpoint_engine.proofs.Passes.{entered-rows, swept-start, swept-marked, swept-inductive, turn-sound, turn-entry, turn-potential, turn-swept}
+use Rattle.fixpoint_engine.proofs.Passes.{entered-rows, swept-inductive, turn-sound, turn-entry, turn-potential, turn-swept}
 
 slot-unmarked : {C : Type 0} (p : Pool C) (slot : Option Row) → IsWhole p → ((i : ℕ) → slot_index slot ≡ Some i → IsTaken p i) → SlotChanged p slot p (unmarked slot)
 slot-unmarked p None whole taken = record {
@@ -92,16 +92,6 @@ pub length-marks : {C : Type 0} (p : Pool C) (slots : List (Option Row)) → len
 length-marks p slots = length-map slots slot_mark ∙ sym (length-map slots (slot_row p))
 
 module _ {C : Type 0} (o : LatticeOf C) (k : OrderLaws o) (r : RoundLaws o) (m : Machine C) (law : MachineLaws o m) where
-  pub sweep-start : (p : Pool C) (slots : List (Option Row)) (spare : ℕ) → IsHeldBeside p slots spare → IsSound o m (rows_in p slots) → HasEntry o m (rows_in p slots) → IsMarked o m (state_in p slots) → Sweeping o m p slots spare p slots false 0 false
-  sweep-start p slots spare h s entry marked = record {
-    changed = Changed-refl p slots spare h;
-    sound = s;
-    entry = entry;
-    swept = swept-start o k r m law (state_in p slots) (m.source (0 - 1)) marked;
-    idle = λ z. refl;
-    falls = omega arith;
-  }
-
   module _ (p0 : Pool C) (slots0 : List (Option Row)) (spare : ℕ) (p : Pool C) (slots : List (Option Row)) (following : Bool) (e : ℕ) (grew : Bool) (lt : e < m.edges) (sw : Sweeping o m p0 slots0 spare p slots following e grew) where
     source_in : m.source e < length slots
     source_in =
@@ -155,10 +145,6 @@ module _ {C : Type 0} (o : LatticeOf C) (k : OrderLaws o) (r : RoundLaws o) (m :
               (turn-potential o k r m law e (state_in p slots) following lt marks_size sw.sound)))
               sw.falls;
         }
-
-  -- a pass that has come to the end
-  pub sweep-marked : (p0 : Pool C) (slots0 : List (Option Row)) (spare : ℕ) (p : Pool C) (slots : List (Option Row)) (following grew : Bool) → Sweeping o m p0 slots0 spare p slots following m.edges grew → IsMarked o m (state_in p slots)
-  sweep-marked p0 slots0 spare p slots following grew sw = swept-marked o k r m law (state_in p slots) following (m.source (m.edges - 1)) grew sw.swept
 
   pub sweep-inductive : (p0 : Pool C) (slots0 : List (Option Row)) (spare : ℕ) (p : Pool C) (slots : List (Option Row)) (following grew : Bool) → Sweeping o m p0 slots0 spare p slots following m.edges grew → grew ≡ false → IsInductive o m (rows_in p slots)
   sweep-inductive p0 slots0 spare p slots following grew sw none =

@@ -1,18 +1,15 @@
 -- What a program is lowered from.
-use Rattle.std.proofs.Common.{◌≡◌, ℕ, suc, ◌+◌, List, [], ◌∷◌, ◌++◌, Option, Some, None, arith, ap, sym, ◌∙◌}
+use Rattle.std.proofs.Common.{◌≡◌, ℕ, suc, ◌+◌, List, [], ◌∷◌, ◌++◌, Option, None, arith, ap, sym, ◌∙◌}
 use Rattle.cc_base.specs.declared.limit_table.Count.TheVariants.{Pool}
 use Rattle.cc_base.specs.declared.limit_table.Limits.{Limits}
 use Rattle.cc_base.specs.declared.refusals.Refusal.{Refusal}
-use Rattle.cc_base.specs.declared.refusals.Stop.{Stop}
-use Rattle.cc_base.specs.declared.refusals.Stop.TheVariants as stop
 use Rattle.c_layout.specs.CheckedUnits.{FunctionView, UnitView}
 use Rattle.flow_lower_tasks.specs.Pieces.{TemplateView}
 use Rattle.flow_lower_counts.specs.declared.count_limits.UnitCounts.{UnitCounts}
-use Rattle.flow_lower_counts.specs.SizeRefusals.{IsTooLarge}
-use Rattle.flow_lower_counts.specs.FirstOver.{over, or_else, first_over, refusal_in, pool}
+use Rattle.flow_lower_counts.specs.FirstOver.{over, or_else, first_over, pool}
 use Rattle.flow_program_views.specs.ProgramViews.{FlowView}
 use Rattle.flow_lower.specs.Openings.{ProgramView, program, unfinished}
-use Rattle.flow_lower.specs.Lowerings.{inputs, input, lowered, refusal_of, IsCounted, IsLowering, Refuses}
+use Rattle.flow_lower.specs.Lowerings.{inputs, input, lowered, refusal_of, IsCounted, IsLowering}
 
 pub next_input : (f : FunctionView) (n : ℕ) → inputs f (n + 1) ≡ inputs f n ++ input f n ∷ []
 next_input f n = let e : n + 1 ≡ suc n = omega arith in ap (λ k. inputs f k) e
@@ -37,24 +34,3 @@ lowering u limits f entry templates counts p width counted fits is_program is_wi
   ends = ends;
   opens = is ∙ ap (λ q. lowered u entry q counts.temps) is_program;
 }
-
--- a stop that is a refusal is that of the first count that passes its limit
-refused : (u : UnitView) (limits : Limits) (entry : FunctionView) (templates : List (Option TemplateView)) (counts : UnitCounts) (s : Stop)
-    → IsCounted u entry templates counts → IsTooLarge limits entry.at s → (first_over limits counts ≡ None → unfinished u templates entry.at ≡ []) → refusal_of u limits templates entry.at counts ≡ Some (refusal_in s) → Refuses u limits s
-refused u limits entry templates counts (stop.Refused f) counted (at, large) ends passes = record { entry = entry; templates = templates; counts = counts; is_counted = counted; place = at; passes = passes; ends = ends }
-refused u limits entry templates counts stop.NotHeld counted large ends passes = large
-refused u limits entry templates counts stop.ReadFault counted large ends passes = large
-refused u limits entry templates counts stop.Memory counted large ends passes = tt
-
-not_both : (o : Option Refusal) (why : Refusal) → o ≡ Some why → o ≡ None → ⊥
-not_both o why some none = cc
-
-pub refused_first : (u : UnitView) (limits : Limits) (entry : FunctionView) (templates : List (Option TemplateView)) (counts : UnitCounts) (s : Stop)
-    → IsCounted u entry templates counts → IsTooLarge limits entry.at s → first_over limits counts ≡ Some (refusal_in s) → Refuses u limits s
-refused_first u limits entry templates counts s counted large passes =
-    refused u limits entry templates counts s counted large (λ none. absurd (not_both (first_over limits counts) (refusal_in s) passes none)) (ap (λ r. or_else r (over limits Pool (pool counts.blocks ((program u templates entry.at).bases.width + counts.temps)))) passes)
-
-pub refused_last : (u : UnitView) (limits : Limits) (entry : FunctionView) (templates : List (Option TemplateView)) (counts : UnitCounts) (p : ProgramView) (width : ℕ) (s : Stop)
-    → IsCounted u entry templates counts → first_over limits counts ≡ None → p ≡ program u templates entry.at → width ≡ p.bases.width + counts.temps → IsTooLarge limits entry.at s → unfinished u templates entry.at ≡ [] → over limits Pool (pool counts.blocks width) ≡ Some (refusal_in s) → Refuses u limits s
-refused_last u limits entry templates counts p width s counted fits is_program is_width large ends passes =
-    refused u limits entry templates counts s counted large (λ none. ends) (pool_last u limits entry templates counts p width (Some (refusal_in s)) fits is_program is_width passes)

@@ -1,5 +1,5 @@
 -- The numbers to which bounds are rounded: the ends of types, and what the program speaks of.
-use Rattle.std.specs.Prelude.{ℕ, ℤ, pos, negsuc, ◌+◌, ◌*◌, ◌^◌, ◌+ℤ◌, ◌-ℤ◌, Bool, true, false, List, [], ◌∷◌, ◌++◌, zero, suc}
+use Rattle.std.specs.Prelude.{ℕ, ℤ, pos, ◌+◌, ◌^◌, ◌+ℤ◌, ◌-ℤ◌, Bool, true, false, List, [], ◌∷◌, ◌++◌, zero}
 use Rattle.cc_base.specs.declared.int_types.IntType.{IntType}
 use Rattle.cc_base.specs.IntegerTypes.{least_of, greatest_of}
 use Rattle.c_layout.specs.declared.data_model.Model.{Model}
@@ -25,9 +25,3 @@ limits_of m = size_ends 1 ++ (size_ends m.short ++ (size_ends m.int ++ (size_end
 -- a number with its two neighbours
 abbrev pub neighbours : ℤ → List ℤ
 neighbours n = (n -ℤ pos 1) ∷ (n ∷ ((n +ℤ pos 1) ∷ []))
-
--- where a number stands by its absolute value, the negative one first
-abbrev pub nearness : ℤ → ℕ
-nearness (pos zero) = 0
-nearness (pos (suc n)) = 2 * (n + 1) + 1
-nearness (negsuc n) = 2 * (n + 1)

@@ -137,9 +137,6 @@ wrap_in k z h =
     let r = rem_range (z -ℤ least_of k) (modulus k) (pow_pos (8 * k.bytes)) in
     (omega (arith, ints), omega (arith, ints))
 
-range_ordered : (k : IntType) → is_size k.bytes ≡ true → least_of k ≤ℤ greatest_of k
-range_ordered k h = let r = wrap_in k (pos 0) h in omega (arith, ints)
-
 whole_in : (k : IntType) → InRange k (whole k)
 whole_in k = by_between (InRange k) (least_of k) (greatest_of k) (λ o. (≤ℤ_refl (least_of k), ≤ℤ_refl (greatest_of k))) (λ o. tt)
 

@@ -1,10 +1,9 @@
 -- Products whose bounds need more than 128 bits.
-use Rattle.std.specs.Prelude.{◌≡◌, ℕ, ◌+◌, ◌-◌, ◌*◌, ◌/◌, ◌%◌, ◌<◌, ◌^◌, suc, ℤ, pos, negsuc, neg_ℤ, unsigned_abs, ◌+ℤ◌, ◌-ℤ◌, ◌*ℤ◌, ◌≤ℤ◌, ◌<ℤ◌, false, cond}
+use Rattle.std.specs.Prelude.{◌≡◌, ℕ, ◌+◌, ◌-◌, ◌*◌, ◌/◌, ◌%◌, ◌<◌, ◌^◌, suc, ℤ, pos, negsuc, ◌+ℤ◌, ◌-ℤ◌, ◌≤ℤ◌, ◌<ℤ◌, false, cond}
 use Rattle.std.specs.Int.{int_min, int_max, int_div_euclid, int_rem_euclid, saturate_signed, w128}
 use Rattle.std.proofs.Common.{arith, ap, ap₂, ◌∙◌, sym, subst}
 use Rattle.std.proofs.lemmas.Int.{ints, clamps, by_lt_z}
 use Rattle.std.proofs.lemmas.Nat.{div-add-mod', div-mul-add, mod-mul-add}
-use lib.IntN.{pos-*ℤ-pos, pos-*ℤ-negsuc, negsuc-*ℤ-pos, negsuc-*ℤ-negsuc}
 use Rattle.cc_base.specs.IntegerTypes.{modulus, least_of, greatest_of, wrap_into, block_of}
 use Rattle.cc_base.specs.declared.int_types.IntType.{IntType}
 use Rattle.interval_domain.specs.declared.intervals.Interval.{Interval}
@@ -26,12 +25,6 @@ next_start q = record { turns = q +ℤ pos 1; rest = pos 0 }
 
 -- ---- one more
 
-next_in : (n m : ℕ) → 0 < m → (n % m) + 1 < m → (suc n / m ≡ n / m) × (suc n % m ≡ (n % m) + 1)
-next_in n m h k =
-    let e = div-add-mod' n m in
-    let p : (n / m) * m + ((n % m) + 1) ≡ suc n = omega arith in
-    (subst (λ x. x / m ≡ n / m) p (div-mul-add (n / m) m ((n % m) + 1) k), subst (λ x. x % m ≡ (n % m) + 1) p (mod-mul-add (n / m) m ((n % m) + 1) k))
-
 next_block : (n m : ℕ) → 0 < m → (n % m) + 1 ≡ m → (suc n / m ≡ n / m + 1) × (suc n % m ≡ 0)
 next_block n m h k =
     let e = div-add-mod' n m in
@@ -46,23 +39,6 @@ turned_next n m q h e f =
     let b : pos 0 ≡ pos (suc n % m) = ap pos (sym r.1) in
     let c : suc n ≡ n + 1 = omega arith in
     subst (λ x. next_start q ≡ turned m (pos x)) c (λ i. record { turns = a i; rest = b i })
-
--- ---- products by magnitudes
-
-pub product_on : (a b : ℤ) (n : ℕ) → n + 1 ≡ unsigned_abs a * unsigned_abs b → ((a <ℤ pos 0) → (b <ℤ pos 0)) → ((b <ℤ pos 0) → (a <ℤ pos 0)) → a *ℤ b ≡ pos (n + 1)
-product_on (pos a) (pos b) n e f g = pos-*ℤ-pos a b ∙ ap pos (sym e)
-product_on (pos a) (negsuc b) n e f g = let h = g (omega (arith, ints)) in absurd (omega (arith, ints))
-product_on (negsuc a) (pos b) n e f g = let h = f (omega (arith, ints)) in absurd (omega (arith, ints))
-product_on (negsuc a) (negsuc b) n e f g = negsuc-*ℤ-negsuc a b ∙ ap pos (sym e)
-
-neg_is : (n m : ℕ) → n + 1 ≡ m → neg_ℤ (pos m) ≡ negsuc n
-neg_is n m e = omega (arith, ints)
-
-pub product_back : (a b : ℤ) (n : ℕ) → n + 1 ≡ unsigned_abs a * unsigned_abs b → ((a <ℤ pos 0) → (pos 0 ≤ℤ b)) → ((pos 0 ≤ℤ a) → (b <ℤ pos 0)) → a *ℤ b ≡ negsuc n
-product_back (pos a) (pos b) n e f g = let h = g (omega (arith, ints)) in absurd (omega (arith, ints))
-product_back (pos a) (negsuc b) n e f g = pos-*ℤ-negsuc a b ∙ neg_is n _ e
-product_back (negsuc a) (pos b) n e f g = negsuc-*ℤ-pos a b ∙ neg_is n _ e
-product_back (negsuc a) (negsuc b) n e f g = let h = f (omega (arith, ints)) in absurd (omega (arith, ints))
 
 -- ---- the blocks of an unsigned type
 

@@ -114,10 +114,6 @@ tag_more class bytes cs j k end c h i before q =
     ∙ ap (λ n. take j bytes ++ y ∷ (tagged_from class n (drop (k + 1) cs) ++ drop end bytes)) (add-one k)
     ∙ sym (ap (λ z. take j bytes ++ (tagged_from class k z ++ drop end bytes)) next)
 
-pub tag_end : (class : Class) (bytes : List Byte) (cs : List Content) (j k : ℕ) → length cs ≤ k → take j bytes ++ (tagged_from class k (drop k cs) ++ drop j bytes) ≡ bytes
-tag_end class bytes cs j k all =
-    ap (λ z. take j bytes ++ (tagged_from class k z ++ drop j bytes)) (drop_all k cs all) ∙ take-append-drop j bytes
-
 -- ---- the same of the bytes of a program
 
 pub refill_more : (bytes : List Byte7) (cs : List Content7) (offset k : ℕ) (d : Byte7) (e : Content7) → offset + k < length bytes → k < length cs → take (offset + (k + 1)) (bytes_view (set bytes (offset + k) (record (get_or bytes (offset + k) d) { content = get_or cs k e }))) ++ filled (drop (offset + (k + 1)) (bytes_view (set bytes (offset + k) (record (get_or bytes (offset + k) d) { content = get_or cs k e })))) (drop (k + 1) (contents_view cs)) ≡ take (offset + k) (bytes_view bytes) ++ filled (drop (offset + k) (bytes_view bytes)) (drop k (contents_view cs))

@@ -7,11 +7,11 @@ use Rattle.c_layout.specs.declared.checked_tree.checked_units.StaticObject.{Stat
 use Rattle.c_layout.specs.declared.checked_tree.checked_units.StringLiteral.{StringLiteral}
 use Rattle.lib_models_effects.specs.ObjectEffects.{with_instance}
 use Rattle.lib_models_effects.specs.UnitStarts.{static_instance, literal_made, with_parameter, with_parameters}
-use Rattle.lib_models_effects.specs.Worlds.{World, behind, done}
+use Rattle.lib_models_effects.specs.Worlds.{World, done}
 use Rattle.lib_models_replay_starts.specs.Rewrites.{objects_made, literals_made}
 use Rattle.lib_models_replay_inputs.specs.Starts.{StopsStart}
 use Rattle.lib_models_replay_inputs.specs.declared.instance_sums.StartStop.{StartStop}
-use Rattle.lib_models_replay_inputs.proofs.StartSteps.{same_done, object_stops, literal_stops, parameter_stops}
+use Rattle.lib_models_replay_inputs.proofs.StartSteps.{object_stops, literal_stops, parameter_stops}
 
 next_seen : {A B : Type 0} (f : A → B) (xs : List A) (i : ℕ) (x : A) → i < length xs → x ≡ get_or xs i x → map f (drop i xs) ≡ f x ∷ map f (drop (i + 1) xs)
 next_seen f xs i x h is =
@@ -21,12 +21,6 @@ next_seen f xs i x h is =
 
 -- ---- objects
 
-pub object_next : (u : UnitView) (xs : List StaticObject) (i : ℕ) (x : StaticObject) (first w v : World) → i < length xs → x ≡ get_or xs i x → objects_made u (map static_view (drop i xs)) w ≡ objects_made u (map static_view xs) first → done (with_instance w (static_instance u (static_view x))) ≡ done v → objects_made u (map static_view (drop (i + 1) xs)) v ≡ objects_made u (map static_view xs) first
-object_next u xs i x first w v h is so_far made =
-    ap (objects_made u (map static_view (drop (i + 1) xs))) (sym (same_done (with_instance w (static_instance u (static_view x))) v made))
-    ∙ sym (ap (λ os. objects_made u os w) (next_seen static_view xs i x h is))
-    ∙ so_far
-
 pub object_last : (u : UnitView) (xs : List StaticObject) (i : ℕ) (x : StaticObject) (why : StartStop) (first w v : World) → i < length xs → x ≡ get_or xs i x → objects_made u (map static_view (drop i xs)) w ≡ objects_made u (map static_view xs) first → StopsStart (done (with_instance w (static_instance u (static_view x)))) why v → StopsStart (done (objects_made u (map static_view xs) first)) why v
 object_last u xs i x why first w v h is so_far stops =
     subst (λ z. StopsStart (done z) why v)
@@ -35,12 +29,6 @@ object_last u xs i x why first w v h is so_far stops =
 
 -- ---- literals
 
-pub literal_next : (xs : List StringLiteral) (i : ℕ) (x : StringLiteral) (first w v : World) → i < length xs → x ≡ get_or xs i x → literals_made (map literal_view (drop i xs)) w ≡ literals_made (map literal_view xs) first → done (with_instance w (literal_made (literal_view x))) ≡ done v → literals_made (map literal_view (drop (i + 1) xs)) v ≡ literals_made (map literal_view xs) first
-literal_next xs i x first w v h is so_far made =
-    ap (literals_made (map literal_view (drop (i + 1) xs))) (sym (same_done (with_instance w (literal_made (literal_view x))) v made))
-    ∙ sym (ap (λ ls. literals_made ls w) (next_seen literal_view xs i x h is))
-    ∙ so_far
-
 pub literal_last : (xs : List StringLiteral) (i : ℕ) (x : StringLiteral) (why : StartStop) (first w v : World) → i < length xs → x ≡ get_or xs i x → literals_made (map literal_view (drop i xs)) w ≡ literals_made (map literal_view xs) first → StopsStart (done (with_instance w (literal_made (literal_view x)))) why v → StopsStart (done (literals_made (map literal_view xs) first)) why v
 literal_last xs i x why first w v h is so_far stops =
     subst (λ z. StopsStart (done z) why v)
@@ -48,12 +36,6 @@ literal_last xs i x why first w v h is so_far stops =
     (literal_stops (literal_view x) (map literal_view (drop (i + 1) xs)) why w v stops)
 
 -- ---- parameters
-
-pub parameter_next : (u : UnitView) (xs : List LocalObject) (i : ℕ) (x : LocalObject) (first w v : World) → i < length xs → x ≡ get_or xs i x → with_parameters u (map local_view (drop i xs)) w ≡ with_parameters u (map local_view xs) first → with_parameter u (local_view x).ctype w ≡ done v → with_parameters u (map local_view (drop (i + 1) xs)) v ≡ with_parameters u (map local_view xs) first
-parameter_next u xs i x first w v h is so_far made =
-    ap (λ r. behind r (λ _ w. with_parameters u (map local_view (drop (i + 1) xs)) w)) (sym made)
-    ∙ sym (ap (λ ls. with_parameters u ls w) (next_seen local_view xs i x h is))
-    ∙ so_far
 
 pub parameter_last : (u : UnitView) (xs : List LocalObject) (i : ℕ) (x : LocalObject) (why : StartStop) (first w v : World) → i < length xs → x ≡ get_or xs i x → with_parameters u (map local_view (drop i xs)) w ≡ with_parameters u (map local_view xs) first → StopsStart (with_parameter u (local_view x).ctype w) why v → StopsStart (with_parameters u (map local_view xs) first) why v
 parameter_last u xs i x why first w v h is so_far stops =

@@ -9,12 +9,9 @@ use Rattle.lib_models_memory.specs.Instances.{Instance, Memory, total_size}
 use Rattle.lib_models_effects.specs.ObjectEffects.{with_instance}
 use Rattle.lib_models_effects.specs.UnitStarts.{static_instance, literal_made, input, with_parameter, with_parameters, entry_parameters}
 use Rattle.lib_models_effects.specs.Worlds.{World, Reply, goes, stops, behind, done, drawn_in, drawn_from, world_of}
-use Rattle.lib_models_replay.specs.WorldViews.{HaltsAs}
-use Rattle.lib_models_replay.specs.declared.worlds.Halt.{Halt}
-use Rattle.lib_models_replay.specs.declared.worlds.Halt.TheVariants as halt
 use Rattle.lib_models_replay_starts.specs.Rewrites.{objects_made, literals_made}
 use Rattle.lib_models_replay_inputs.specs.Starts.{StopsStart, StartsAs, started}
-use Rattle.lib_models_replay_inputs.specs.Sums.{most_bytes, PassesBy, stop_by}
+use Rattle.lib_models_replay_inputs.specs.Sums.{most_bytes, PassesBy}
 use Rattle.lib_models_replay_inputs.specs.declared.instance_sums.StartStop.{StartStop}
 use Rattle.lib_models_replay_inputs.specs.declared.instance_sums.StartStop.TheVariants as stop
 use Rattle.lib_models_replay_inputs.proofs.Passing.{Extends, none_more, append_both, extends_none, extends_one, extends_both, passes_at, passed_by}
@@ -83,21 +80,6 @@ stops_behind stop.Memory r next v p e = tt
 
 pub parameter_stops : (u : UnitView) (l : LocalView) (ls : List LocalView) (why : StartStop) (w v : World) → StopsStart (with_parameter u l.ctype w) why v → StopsStart (with_parameters u (l ∷ ls) w) why v
 parameter_stops u l ls why w v e = stops_behind why (with_parameter u l.ctype w) (with_parameters u ls) v (parameters_extend u ls) e
-
--- ---- halts
-
-pub memory_stops : (h : Halt) (why : StartStop) (reply : Reply (Unit {0})) (v : World) → h ≡ halt.Memory → why ≡ stop_by h → StopsStart reply why v
-memory_stops h why reply v e f = subst (λ k. StopsStart reply k v) (sym (f ∙ ap stop_by e)) tt
-
-draw_halts : (h : Halt) (r : Reply ℤ) (next : ℤ → World → Reply (Unit {0})) (v : World) → HaltsAs r h v → StopsStart (behind r next) (stop_by h) v
-draw_halts (halt.Stops why) r next v e = ap (λ z. behind z next) e
-draw_halts halt.Memory r next v e = tt
-
-pub draw_stops : (h : Halt) (why : StartStop) (r : Reply ℤ) (next : ℤ → World → Reply (Unit {0})) (v : World) → HaltsAs r h v → why ≡ stop_by h → StopsStart (behind r next) why v
-draw_stops h why r next v e f = subst (λ k. StopsStart (behind r next) k v) (sym f) (draw_halts h r next v e)
-
-pub drawn_starts : (r : Reply ℤ) (next : ℤ → World → Reply (Unit {0})) (n : ℤ) (w v : World) (result : Result (Unit {0}) StartStop) → r ≡ goes n w → StartsAs (next n w) result v → StartsAs (behind r next) result v
-drawn_starts r next n w v result e p = subst (λ z. StartsAs (behind z next) result v) (sym e) p
 
 -- ---- the whole start
 

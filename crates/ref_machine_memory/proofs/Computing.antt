@@ -1,7 +1,6 @@
 -- Operators, which keep memory, and the pointers that they give.
 use Rattle.std.proofs.Common.{◌≡◌, ◌≤◌, ℕ, ℤ, pos, negsuc, ◌+ℤ◌, unsigned_abs, int_le, Bool, true, false, not, ◌&&◌, ◌||◌, List, Option, Some, None, refl, arith}
 use Rattle.std.specs.Prelude.{◌≤ℤ◌}
-use Rattle.std.specs.Ordering.{int_eq}
 use Rattle.std.proofs.lemmas.Bool.{and_parts}
 use Rattle.std.proofs.lemmas.Int.{ints}
 use Rattle.cc_base.specs.declared.int_types.IntType.{IntType}
@@ -12,21 +11,19 @@ use Rattle.cc_base.specs.declared.integer_operators.Rel.TheVariants.{Lt, Le, Gt,
 use Rattle.cc_base.specs.declared.diagnostics.Rule.{Rule}
 use Rattle.cc_base.specs.declared.diagnostics.Rule.TheVariants as rule
 use Rattle.c_layout.specs.declared.data_model.Model.{Model}
-use Rattle.flow_program.specs.declared.machine_instructions.Scalar as declared
-use Rattle.flow_program.specs.declared.machine_instructions.Scalar.TheVariants as of
 use Rattle.lib_models_memory.specs.Labels.{Labels, is_unlabelled}
 use Rattle.lib_models_memory.specs.Bytes.{MachinePointer, null, into}
 use Rattle.lib_models_memory.specs.Instances.{Memory}
-use Rattle.lib_models_memory.specs.Scalars.{Scalar, integer, pointer}
-use Rattle.lib_models_effects.specs.Worlds.{World, Reply, goes, stops, unless, noted, stopped_by, Stuck}
+use Rattle.lib_models_memory.specs.Scalars.{Scalar}
+use Rattle.lib_models_effects.specs.Worlds.{World, Reply, goes, unless, noted, stopped_by}
 use Rattle.lib_models_effects.specs.Operands.{as_pointer}
-use Rattle.lib_models_effects.specs.IntegerEffects.{truth, computed, binary, unary, compare_numbers, negation, pointer_from, convert}
+use Rattle.lib_models_effects.specs.IntegerEffects.{truth, computed, binary, unary, negation}
 use Rattle.lib_models_effects.specs.LibraryChecks.{most_size}
 use Rattle.lib_models_effects.specs.PointerEffects.{narrowed_by, at_part, narrow_pointer, narrow, distance_of, is_ended, moved_into, moved, shift_pointer, shift, share_instance, compared, difference, equality, pointers_compared, compare}
 use Rattle.lib_models_effects.specs.Touches.{touched}
 use Rattle.ref_machine_marks.specs.Marks.{IsBounded}
 use Rattle.ref_machine_memory.specs.GoingWorlds.{WhenGoing, IsProperScalar, Keeps, Same, Read, Reads}
-use Rattle.ref_machine_memory.proofs.Replies.{when_behind, when_where, when_either, when_unless, when_number, when_pointer}
+use Rattle.ref_machine_memory.proofs.Replies.{when_behind, when_where, when_unless, when_number, when_pointer}
 use Rattle.ref_machine_memory.proofs.Accessing.{IsTouched, EndsWithin, touched_within, bounded_of}
 
 -- ---- numbers
@@ -41,19 +38,8 @@ binary_keeps sign kind left right w = when_number (Same w.memory) left w _ (λ a
 pub unary_keeps : (sign : UnOp) (kind : IntType) (operand : Scalar) (w : World) → Keeps w.memory (unary sign kind operand w)
 unary_keeps sign kind operand w = when_number (Same w.memory) operand w _ (λ a s _. computed_keeps _ _ _ w)
 
-pub compare_numbers_keeps : (rel : Rel) (left right : Scalar) (w : World) → Keeps w.memory (compare_numbers rel left right w)
-compare_numbers_keeps rel left right w = when_number (Same w.memory) left w _ (λ a s _. when_number (Same w.memory) right w _ (λ b t _. refl))
-
 pub negation_keeps : (v : Scalar) (w : World) → Keeps w.memory (negation v w)
 negation_keeps v w = refl
-
-pointer_from_keeps : (v : Scalar) (w : World) → Keeps w.memory (pointer_from v w)
-pointer_from_keeps (integer n labels) w = when_either (Same w.memory) (int_eq n (pos 0)) (goes (pointer null) w) (stops Stuck w) refl tt
-pointer_from_keeps (pointer p) w = refl
-
-pub convert_keeps : (kind : declared.Scalar) (v : Scalar) (w : World) → Keeps w.memory (convert kind v w)
-convert_keeps (of.Int kind) v w = when_number (Same w.memory) v w _ (λ n labels _. refl)
-convert_keeps of.Pointer v w = pointer_from_keeps v w
 
 -- ---- two pointers
 
@@ -113,8 +99,3 @@ module _ (m : Model) where
 
   pub shift_gives : (at by : Scalar) (size : ℕ) (back : Bool) (w : World) → IsProperScalar m at → Reads m w.memory (shift at by size back w)
   shift_gives at by size back w proper = when_pointer (Read m w.memory) at w _ (λ p is. when_number (Read m w.memory) by w _ (λ n labels _. as_scalar w.memory (shift_pointer size back p n labels w) (moved_gives (noted w (not (is_unlabelled labels)) rule.Taintsink) p (distance_of back n size) (bounded_of m at p is proper))))
-
-  pub convert_gives : (kind : declared.Scalar) (v : Scalar) (w : World) → IsProperScalar m v → Reads m w.memory (convert kind v w)
-  convert_gives (of.Int kind) v w proper = when_number (Read m w.memory) v w _ (λ n labels _. (tt, refl))
-  convert_gives of.Pointer (integer n labels) w proper = when_either (Read m w.memory) (int_eq n (pos 0)) (goes (pointer null) w) (stops Stuck w) (tt, refl) tt
-  convert_gives of.Pointer (pointer p) w proper = (proper, refl)

@@ -45,23 +45,12 @@ set_here [] i x y is = absurd cc
 set_here (z ∷ zs) zero x y is = refl
 set_here (z ∷ zs) (suc i) x y is = set_here zs i x y is
 
--- where the instance is there
-pub set_bytes_here : (memory : Memory) (i : ℕ) (bytes : List Byte) (instance : Instance) → slice_get memory i ≡ Some instance → bytes_at (set_bytes memory i bytes) i ≡ bytes
-set_bytes_here memory i bytes instance is = subst (λ o. bytes_at (with_bytes o bytes memory i) i ≡ bytes) (sym is) (ap bytes_of (set_here memory i instance (record instance { bytes = bytes }) is))
-
 set_elsewhere : {A : Type 0} (xs : List A) (i j : ℕ) (x : A) → (j ≡ i → ⊥) → slice_get (slice_set xs i x) j ≡ slice_get xs j
 set_elsewhere [] i j x other = refl
 set_elsewhere (y ∷ ys) zero zero x other = absurd (other refl)
 set_elsewhere (y ∷ ys) zero (suc j) x other = refl
 set_elsewhere (y ∷ ys) (suc i) zero x other = refl
 set_elsewhere (y ∷ ys) (suc i) (suc j) x other = set_elsewhere ys i j x (λ same. other (ap suc same))
-
-bytes_elsewhere : (o : Option Instance) (memory : Memory) (i j : ℕ) (bytes : List Byte) → (j ≡ i → ⊥) → bytes_at (with_bytes o bytes memory i) j ≡ bytes_at memory j
-bytes_elsewhere None memory i j bytes other = refl
-bytes_elsewhere (Some it) memory i j bytes other = ap bytes_of (set_elsewhere memory i j (record it { bytes = bytes }) other)
-
-pub set_bytes_elsewhere : (memory : Memory) (i j : ℕ) (bytes : List Byte) → (j ≡ i → ⊥) → bytes_at (set_bytes memory i bytes) j ≡ bytes_at memory j
-set_bytes_elsewhere memory i j bytes other = bytes_elsewhere (slice_get memory i) memory i j bytes other
 
 -- those of a fresh instance, and of others
 pub bytes_of_fresh : (memory : Memory) (instance : Instance) → bytes_at (memory ++ instance ∷ []) (length memory) ≡ instance.bytes

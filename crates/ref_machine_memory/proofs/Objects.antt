@@ -1,5 +1,5 @@
 -- Lifetimes of objects, what declarations do to their bytes, and labels that tests drop.
-use Rattle.std.proofs.Common.{◌≡◌, ◌≤◌, ◌<◌, ℕ, suc, ℤ, Bool, true, false, cond, List, [], ◌∷◌, ◌++◌, length, take, drop, Option, Some, None, refl, ap, ◌∙◌, arith, length-append, length-drop}
+use Rattle.std.proofs.Common.{◌≡◌, ◌≤◌, ◌<◌, ℕ, suc, Bool, true, false, cond, List, [], ◌∷◌, ◌++◌, length, take, drop, Option, Some, None, refl, ap, arith, length-append, length-drop}
 use Rattle.std.proofs.lemmas.List.{length-take}
 use Rattle.cc_base.specs.declared.int_types.IntType.{IntType}
 use Rattle.cc_base.specs.declared.integer_operators.Rel.{Rel}
@@ -11,13 +11,12 @@ use Rattle.lib_models_memory.specs.Labels.{Labels, no_labels, is_unlabelled, dro
 use Rattle.lib_models_memory.specs.Bytes.{Content, indeterminate, number, part, Byte}
 use Rattle.lib_models_memory.specs.Instances.{automatic, ended, Memory, bytes_at}
 use Rattle.lib_models_effects.specs.Worlds.{World}
-use Rattle.lib_models_effects.specs.ObjectEffects.{blank_bytes, fresh, next_instance, entered, left, all_of, forgotten, cleared, characters, spelled}
+use Rattle.lib_models_effects.specs.ObjectEffects.{blank_bytes, fresh, entered, left, all_of, forgotten, cleared, characters, spelled}
 use Rattle.lib_models_effects.specs.ScalarBytes.{refilled}
-use Rattle.lib_models_effects.specs.Tests.{TestedSide, object, constant, nothing, SideTest, scalar_size, side_scalar, side_labels, turned, relabelled, all_relabelled, object_relabelled, with_labels, bounded, both_bounded, after_test, test_holds, passing, pass_test, is_number, pass_case}
+use Rattle.lib_models_effects.specs.Tests.{TestedSide, object, constant, nothing, SideTest, scalar_size, side_labels, turned, relabelled, all_relabelled, object_relabelled, with_labels, bounded, both_bounded, after_test}
 use Rattle.ref_machine_marks.specs.ProperMemory.{IsProper, IsProperMemory, Evolves}
-use Rattle.ref_machine_memory.specs.GoingWorlds.{Develops}
-use Rattle.ref_machine_memory.proofs.ProperBytes.{each_taken, each_behind, each_both, AreProperBytes, AreProperContents, IsProperByte, all_long, blank_long, all_proper, blank_proper, refilled_long, refilled_proper}
-use Rattle.ref_machine_memory.proofs.Evolving.{bytes_of_fresh, proper_bytes, evolves_same, evolves_further, set_bytes_evolves, with_instance_evolves, set_life_evolves}
+use Rattle.ref_machine_memory.proofs.ProperBytes.{each_taken, each_behind, each_both, AreProperBytes, AreProperContents, IsProperByte, all_long, all_proper, blank_proper, refilled_long, refilled_proper}
+use Rattle.ref_machine_memory.proofs.Evolving.{proper_bytes, evolves_same, evolves_further, set_bytes_evolves, with_instance_evolves, set_life_evolves}
 
 -- the bytes of a text
 abbrev pub AreSmall : List ℕ → Type 0
@@ -33,10 +32,6 @@ module _ (m : Model) where
 
   pub entered_evolves : (leaves : List Leaf) (size : ℕ) (w : World) → Evolves m w.memory (entered m leaves size w).memory
   entered_evolves leaves size w = with_instance_evolves m w (fresh automatic (blank_bytes m leaves 0 size)) (λ _. blank_proper m leaves 0 size)
-
-  -- the instance that is made has so many bytes
-  pub entered_long : (leaves : List Leaf) (size : ℕ) (w : World) → length (bytes_at (entered m leaves size w).memory (next_instance w)) ≡ size
-  entered_long leaves size w = ap length (bytes_of_fresh w.memory (fresh automatic (blank_bytes m leaves 0 size))) ∙ blank_long m leaves 0 size
 
   pub left_evolves : (i : ℕ) (w : World) → Evolves m w.memory (left i w).memory
   left_evolves i w = set_life_evolves m w.memory i ended
@@ -106,15 +101,3 @@ module _ (m : Model) where
   pub after_test_evolves : (common : Option IntType) (t : SideTest) (memory : Memory) → Evolves m memory (after_test m common t memory)
   after_test_evolves None t memory = evolves_same m memory
   after_test_evolves (Some common) t memory = both_evolve t.rel common t.left t.right memory
-
-  -- ---- edges
-
-  passing_develops : (b : Bool) (before : Memory) (w : World) → Evolves m before w.memory → Develops m before (passing b w)
-  passing_develops true before w evolves = evolves
-  passing_develops false before w evolves = tt
-
-  pub pass_test_develops : (t : SideTest) (w : World) → Develops m w.memory (pass_test m t w)
-  pass_test_develops t w = passing_develops (test_holds m w.memory t) w.memory _ (after_test_evolves t.common t w.memory)
-
-  pub pass_case_develops : (i : ℕ) (kind : IntType) (value : ℤ) (w : World) → Develops m w.memory (pass_case m i kind value w)
-  pass_case_develops i kind value w = passing_develops (is_number value (side_scalar m w.memory (object i (of.Int kind)))) w.memory _ (relabelled_evolves (λ s. no_labels) i (of.Int kind) w.memory)

@@ -20,10 +20,6 @@ pub when_more : {A : Type 0} (P Q : A → World → Type 0) (r : Reply A) → ((
 when_more P Q (goes x w) more h = more x w h
 when_more P Q (stops why w) more h = tt
 
-pub when_both : {A : Type 0} (P Q : A → World → Type 0) (r : Reply A) → WhenGoing P r → WhenGoing Q r → WhenGoing (λ x w. P x w × Q x w) r
-when_both P Q (goes x w) one other = (one, other)
-when_both P Q (stops why w) one other = tt
-
 pub when_behind : {A B : Type 0} (P : A → World → Type 0) (Q : B → World → Type 0) (r : Reply A) (next : A → World → Reply B) → WhenGoing P r → ((x : A) (w : World) → P x w → WhenGoing Q (next x w)) → WhenGoing Q (behind r next)
 when_behind P Q (goes x w) next h on = on x w h
 when_behind P Q (stops why w) next h on = tt

@@ -67,9 +67,6 @@ reaches_none u draws steps r e = record { turns = 0; is = e; first = λ n h. abs
 pub reaches_first : (u : UnitView) (draws : List ℤ) (steps : ℕ) (m : Machine) (w : World) (found : List Diag) → source_begin u draws ≡ begun_by u (done w) → state_view u m ≡ first_state u w → found ≡ [] → Reaches u draws steps (run_view u m found 0)
 reaches_first u draws steps m w found begun first none = reaches_none u draws steps (run_view u m found 0) (begun ∙ ap (λ (s : State). running s [] 0) (sym first) ∙ ap (λ ds. run_view u m ds 0) (sym none))
 
-pub first_size : (u : UnitView) (m : Machine) (w : World) → state_view u m ≡ first_state u w → total_size w.memory ≤ most_bytes → total_size m.world.memory.memory ≤ most_bytes
-first_size u m w first h = subst (λ n. n ≤ most_bytes) (sym (ap (λ (s : State). total_size s.world.memory) first)) h
-
 -- ---- runs that stop before their first turn
 
 -- one that stops

@@ -6,13 +6,10 @@ use Rattle.c_layout.specs.declared.checked_tree.checked_terms.CheckedTerm.{Check
 use Rattle.c_layout.specs.declared.checked_tree.checked_terms.CheckedTerm as of_term
 use Rattle.c_layout.specs.declared.checked_tree.checked_terms.Lvalue.{Lvalue}
 use Rattle.c_layout.specs.declared.checked_tree.checked_terms.Lvalue as of_lvalue
-use Rattle.flow_lower_tasks.specs.TermKinds.{term_at, term_type, lvalue_at, lvalue_type}
+use Rattle.flow_lower_tasks.specs.TermKinds.{term_type, lvalue_at, lvalue_type}
 
 pub type_of_term : (e : CheckedTerm) → term_type (term_tree e) ≡ view e.ctype
 type_of_term e = search (rules, of_term.the_lemmas)
-
-pub place_of_term : (e : CheckedTerm) → term_at (term_tree e) ≡ e.place
-place_of_term e = search (rules, of_term.the_lemmas)
 
 pub type_of_lvalue : (l : Lvalue) → lvalue_type (lvalue_tree l) ≡ view l.ctype
 type_of_lvalue l = search (rules, of_lvalue.the_lemmas)

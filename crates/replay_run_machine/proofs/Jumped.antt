@@ -1,25 +1,21 @@
 -- Lists of items that a jump or a label leads to.
-use Rattle.std.proofs.Common.{◌≡◌, ℕ, true, false, List, Option, Some, None, is_some, Result, Ok, Err, MatchResult, refl, sym, ap, ◌∙◌}
+use Rattle.std.proofs.Common.{◌≡◌, ℕ, false, List, Option, Some, None, is_some, Result, Ok, Err, MatchResult, refl, sym, ap, ◌∙◌}
 use Rattle.c_layout.specs.CheckedUnits.{UnitView}
 use Rattle.lib_models_effects.specs.Worlds.{Reply, goes}
-use Rattle.lib_models_replay.specs.WorldViews.{world_view}
 use Rattle.lib_models_replay.specs.declared.worlds.Cause.TheVariants as cause
 use Rattle.lib_models_replay.specs.declared.worlds.Halt.{Halt}
 use Rattle.lib_models_replay.specs.declared.worlds.Halt.TheVariants as halt
 use Rattle.ref_machine.specs.BranchSteps.{landing}
 use Rattle.ref_machine.specs.Items.{Item}
-use Rattle.ref_machine.specs.LabelSearch as search
 use Rattle.ref_machine.specs.LabelSearch.{Sought}
 use Rattle.ref_machine.specs.ObjectSteps.{on}
 use Rattle.ref_machine.specs.Scopes.{open_scopes, leap_in}
 use Rattle.ref_machine.specs.SourceStates.{State, if_some, stuck_at}
-use Rattle.ref_machine.specs.SourceSteps.{jump_to}
 use Rattle.replay_run_items.specs.Jumps.{jump_from, entering_from}
 use Rattle.replay_run_statements.specs.LabelViews.{Finds}
 use Rattle.replay_run_machine_items.specs.MachineViews.{state_view}
-use Rattle.replay_run_machine_items.specs.Moves.{Moves, JumpsTo, LandsOn}
+use Rattle.replay_run_machine_items.specs.Moves.{JumpsTo, LandsOn}
 use Rattle.replay_run_machine_items.specs.declared.machines.Machine.{Machine}
-use Rattle.replay_run_machine_items.proofs.ToldTurns.{moves_stuck}
 
 -- ---- jumps
 
@@ -27,21 +23,11 @@ pub jumped_to : (to : Option (List Item)) (scopes : List (List ℕ)) (from items
 jumped_to None scopes from items now f s j = tt
 jumped_to (Some to) scopes from items now f s j = j ∙ ap (λ z. jump_from z items) s ∙ ap (jump_from (open_scopes from)) f
 
-pub jumps_on : (u : UnitView) (s : State) (to : Option (List Item)) (now : List Item) (m : Machine) → is_some to ≡ true → JumpsTo to s.control now → state_view u m ≡ record s { control = now } → if_some s to (λ items. on (jump_to s items)) ≡ goes (state_view u m) s.world
-jumps_on u s None now m there j same = absurd cc
-jumps_on u s (Some to) now m there j same = ap (λ is. goes (record s { control = is }) s.world) (sym j) ∙ ap (λ t. goes t s.world) (sym same)
-
 pub no_jump : (s : State) (to : Option (List Item)) (use_it : List Item → Reply State) → is_some to ≡ false → if_some s to use_it ≡ stuck_at s
 no_jump s None use_it none = refl
 no_jump s (Some to) use_it none = absurd cc
 
 -- ---- labels of switches
-
-pub landing_there : (l : Sought) (to : Option (List Item)) (items now : List Item) → is_some to ≡ true → Finds to now → landing l to items ≡ Some now
-landing_there l None items now there f = absurd cc
-landing_there (search.label n) (Some to) items now there f = ap Some (sym f)
-landing_there (search.case n) (Some to) items now there f = ap Some (sym f)
-landing_there search.other (Some to) items now there f = ap Some (sym f)
 
 pub landing_behind : (l : Sought) (to : Option (List Item)) (items : List Item) → is_some to ≡ false → landing l to items ≡ landing l None items
 landing_behind l None items none = refl
@@ -58,10 +44,6 @@ landed u s to scopes items now m e o j same =
     ap (λ z. if_some s z (λ is. on (record s { control = leap_in s.control is }))) e
     ∙ ap (λ is. goes (record s { control = is }) s.world) (sym (j ∙ ap (λ z. entering_from z items) o))
     ∙ ap (λ t. goes t s.world) (sym same)
-
-pub lands_nowhere : (u : UnitView) (s : State) (to : Option (List Item)) (use_it : List Item → Reply State) (h : Halt) (now : List Item) (m : Machine) → LandsOn to (Err h) now → world_view m.world ≡ s.world → Moves u (if_some s to use_it) (Err h) m
-lands_nowhere u s to use_it (halt.Stops why) now m p w = moves_stuck u s (if_some s to use_it) (halt.Stops why) m (ap halt.Stops p.0) (ap (λ z. if_some s z use_it) p.1) w
-lands_nowhere u s to use_it halt.Memory now m p w = tt
 
 pub lands_as : (to : Option (List Item)) (r : Result (Unit {0}) Halt) (now : List Item) → MatchResult r (λ _. to ≡ Some now) (λ h. (h ≡ halt.Stops cause.Stuck) × (to ≡ None)) → LandsOn to r now
 lands_as to (Ok x) now p = p

@@ -4,23 +4,16 @@ use Rattle.c_layout.specs.CheckedTrees.{StatementTree}
 use Rattle.c_layout.specs.CheckedUnits.{UnitView}
 use Rattle.c_layout.specs.declared.checked_tree.checked_statements.CaseLabel.{CaseLabel}
 use Rattle.flow_lower_conditions.specs.declared.branch_tests.NamedObject.{NamedObject}
-use Rattle.lib_models_memory.specs.Bytes.{MachinePointer}
 use Rattle.lib_models_memory.specs.Labels.{Labels}
-use Rattle.lib_models_memory.specs.Scalars.{Scalar, integer, pointer}
+use Rattle.lib_models_memory.specs.Scalars.{Scalar, integer}
 use Rattle.lib_models_effects.specs.Worlds.{World, goes, behind}
 use Rattle.lib_models_replay.specs.declared.worlds.Halt.{Halt}
 use Rattle.ref_machine.specs.BranchSteps.{on_case, land, select}
 use Rattle.ref_machine.specs.LabelSearch.{Sought, case_of}
-use Rattle.ref_machine.specs.SourceStates.{State, stuck_at}
+use Rattle.ref_machine.specs.SourceStates.{State}
 use Rattle.replay_run_machine_items.specs.Moves.{Moves}
 use Rattle.replay_run_machine_items.specs.declared.machines.Machine.{Machine}
 use Rattle.replay_run_machine_items.proofs.ToldTurns.{moves_same}
-
-pub selects_nothing : (u : UnitView) (o : Option NamedObject) (labels : List CaseLabel) (body : StatementTree) (s : State) (vs : List Scalar) → vs ≡ [] → select u o labels body s vs ≡ stuck_at s
-selects_nothing u o labels body s vs e = ap (select u o labels body s) e
-
-pub selects_pointer : (u : UnitView) (o : Option NamedObject) (labels : List CaseLabel) (body : StatementTree) (s : State) (vs rest : List Scalar) (p : MachinePointer) → vs ≡ pointer p ∷ rest → select u o labels body s vs ≡ stuck_at s
-selects_pointer u o labels body s vs rest p e = ap (select u o labels body s) e
 
 pub selects_by : (u : UnitView) (o : Option NamedObject) (labels : List CaseLabel) (body : StatementTree) (s : State) (vs rest : List Scalar) (n : ℤ) (seen : Labels) (l : Sought) → vs ≡ integer n seen ∷ rest → l ≡ case_of labels 0 n → select u o labels body s vs ≡ behind (on_case u o l n (record s { values = rest })) (λ t w. land u body l t)
 selects_by u o labels body s vs rest n seen l e same =

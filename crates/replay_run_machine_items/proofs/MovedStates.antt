@@ -1,24 +1,18 @@
 -- States of the machine with other parts.
-use Rattle.std.proofs.Common.{◌≡◌, ℕ, List, [], ◌∷◌, ◌++◌, map, reverse, Bool, true, false, Option, Err, refl, sym, ap, subst, ◌∙◌}
-use Rattle.cc_base.specs.declared.diagnostics.Place.{Place}
-use Rattle.c_layout.specs.CheckedUnits.{UnitView, FunctionView}
+use Rattle.std.proofs.Common.{◌≡◌, ℕ, List, [], map, reverse, Option, refl, ap, ◌∙◌}
+use Rattle.c_layout.specs.CheckedUnits.{UnitView}
 use Rattle.c_layout.specs.declared.checked_tree.checked_terms.ObjectRef.{ObjectRef}
 use Rattle.c_layout.specs.declared.checked_tree.checked_terms.ObjectRef.TheVariants.{Static, Local}
 use Rattle.lib_models_memory.specs.Scalars.{Scalar}
 use Rattle.lib_models_effects.specs.Worlds.{World}
 use Rattle.lib_models_replay.specs.WorldViews.{world_view}
-use Rattle.lib_models_replay.specs.declared.worlds.Halt.TheVariants as halt
-use Rattle.ref_machine.specs.CallSteps.{result_loaded}
-use Rattle.ref_machine.specs.Items as item
 use Rattle.ref_machine.specs.Items.{Item}
 use Rattle.ref_machine.specs.SourceStates.{Frame, State, type_of}
-use Rattle.ref_machine.specs.SourceSteps.{Turned}
-use Rattle.replay_run_items.specs.Standings.{Standing, added, with_item, standing}
+use Rattle.replay_run_items.specs.Standings.{standing}
 use Rattle.replay_run_operations.specs.Pending.{pending}
 use Rattle.replay_run_machine_items.specs.MachineViews.{names_view, frame_view, state_view}
-use Rattle.replay_run_machine_items.specs.Moves.{Moves, CountsAs, TurnsTo, object_type}
+use Rattle.replay_run_machine_items.specs.Moves.{object_type}
 use Rattle.replay_run_machine_items.specs.declared.machines.Machine.{Machine}
-use Rattle.replay_run_machine_items.specs.declared.item_turns.Turned7.{Turned7}
 
 abbrev made : ℕ → (ℕ → Option ℕ) → List Item → List Scalar → List Frame → World → State
 made function names control values frames world = record { function = function; names = names; control = control; values = values; frames = frames; world = world }
@@ -41,15 +35,3 @@ with_parts u m s function names control values frames world =
 pub type_is : (u : UnitView) (s : State) (o : ObjectRef) → type_of u s o ≡ object_type u s.function o
 type_is u s (Static n) = refl
 type_is u s (Local n) = refl
-
--- a turn for which memory ran out
-pub memory_turns : (u : UnitView) (turned : Turned) (t : Turned7) (m : Machine) → t.reply ≡ Err halt.Memory → TurnsTo u turned t m
-memory_turns u turned t m e = record {
-  reply = subst (λ r. Moves u turned.reply r m) (sym e) tt;
-  counted = subst (λ r. CountsAs turned.counted r t.counted) (sym e) tt;
-}
-
--- a result is loaded and its object is left
-pub loaded_left : (f : FunctionView) (at : Place) (used : Bool) (s : Standing) → added (result_loaded f at used) (with_item (item.LeaveOutcome at) s) ≡ added (result_loaded f at used ++ item.LeaveOutcome at ∷ []) s
-loaded_left f at true s = refl
-loaded_left f at false s = refl

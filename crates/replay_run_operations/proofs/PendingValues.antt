@@ -1,15 +1,12 @@
 -- The values that are pending, as lists whose newest value stands last.
-use Rattle.std.proofs.Common.{◌≡◌, ℕ, ◌-◌, List, [], ◌∷◌, ◌++◌, length, map, reverse, take, drop, sym, ap, ◌∙◌}
-use Rattle.std.proofs.lemmas.List.{map-append, reverse-append, length-map, drop-map}
+use Rattle.std.proofs.Common.{◌≡◌, ℕ, ◌-◌, List, [], length, map, reverse, take, drop, sym, ap, ◌∙◌}
+use Rattle.std.proofs.lemmas.List.{length-map, drop-map}
 use Rattle.std.specs.List.{take-map}
 use Rattle.lib_models_instances.specs.ByteViews.{scalar_view}
 use Rattle.lib_models_instances.specs.declared.byte_forms.Value7.{Value7}
 use Rattle.ref_machine.specs.Operations.{newest}
 use Rattle.replay_run_operations.specs.Pending.{pending}
 use Rattle.replay_run_operations.proofs.NewestValues.{newest_is, rest_is}
-
-pub pending_more : (vs : List Value7) (v : Value7) → pending (vs ++ v ∷ []) ≡ scalar_view v ∷ pending vs
-pending_more vs v = ap reverse (map-append scalar_view vs (v ∷ [])) ∙ reverse-append (map scalar_view vs) (scalar_view v ∷ [])
 
 pub newest_values : (n : ℕ) (vs : List Value7) → map scalar_view (drop (length vs - n) vs) ≡ newest n (pending vs)
 newest_values n vs =

@@ -48,13 +48,6 @@ no_ways u (held.ReadLine at true) s h = (refl, refl)
 no_ways u (held.ReadLine at false) s h = (refl, refl)
 no_ways u i s h = (refl, refl)
 
-pub no_target : (i : Item7) → (i ≡ held.AfterNothing → ⊥) → ((holds : Bool) → i ≡ held.AfterTruth holds → ⊥) → ((how : Use7) (e : Bor CheckedTerm) → i ≡ held.Term how e → ⊥) → ((how : Way7) (x : Bor CheckedStatement) → i ≡ held.Statement how x → ⊥) → is_target i ≡ false
-no_target held.AfterNothing a b c d = absurd (a refl)
-no_target (held.AfterTruth holds) a b c d = absurd (b holds refl)
-no_target (held.Term how e) a b c d = absurd (c how e refl)
-no_target (held.Statement how x) a b c d = absurd (d how x refl)
-no_target i a b c d = refl
-
 pub no_part : (i : Item7) → (i ≡ held.AfterNothing → ⊥) → ((holds : Bool) → i ≡ held.AfterTruth holds → ⊥) → (i ≡ held.Negated → ⊥) → ((how : Use7) (e : Bor CheckedTerm) → i ≡ held.Term how e → ⊥) → ((how : Way7) (x : Bor CheckedStatement) → i ≡ held.Statement how x → ⊥) → is_part i ≡ false
 no_part held.AfterNothing a b n c d = absurd (a refl)
 no_part (held.AfterTruth holds) a b n c d = absurd (b holds refl)

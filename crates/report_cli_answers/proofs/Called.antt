@@ -22,7 +22,7 @@ use Rattle.report_cli_units.specs.Stages.{stage_of}
 use Rattle.report_cli_units.specs.declared.stages.Stage.{Stage}
 use Rattle.report_cli_units.specs.declared.stages.Stage.TheVariants as stage
 use Rattle.report_cli_units.specs.Judging.{SettingView, RefusesAt, RefusesUnit}
-use Rattle.report_cli_answers.specs.Verdicts.{Tells, helped, versioned, words_refused, absent, refused, reported, summed, Gives, FromFiles, FromBytes, IsExpanded, IsLaterRefusal, IsStaged, IsRefusal, check_setting, load_setting, AnswersUnit, AnswersLoad, HasModel, RefusesModel, IsLater, IsVerdict}
+use Rattle.report_cli_answers.specs.Verdicts.{Tells, helped, versioned, words_refused, absent, refused, reported, summed, Gives, FromFiles, FromBytes, IsExpanded, IsLaterRefusal, IsStaged, IsRefusal, check_setting, load_setting, AnswersUnit, AnswersLoad, HasModel, IsLater, IsVerdict}
 use Rattle.report_cli_answers.specs.Answering.{IsEarly, AnswersStop, AnswersOwn, AnswersJudged, AnswersMade}
 
 -- a refusal of a later stage, by its stage
@@ -130,13 +130,6 @@ pub stop_made_under : (seen : Seen) (c : CommandView) (m : Model) (names given :
 stop_made_under seen c m names given unit s status text same_unit same_names h told a =
     let answer = subst (λ u. AnswersStop names u s status text) same_unit (subst (λ n. AnswersStop n unit s status text) same_names a) in
     stop_made seen c m names s status text h told answer
-
--- where there is no model
-pub model_refused_check : (seen : Seen) (c : CommandView) (status : ℕ) (text : Bytes) → Tells (RefusesModel seen c.model) status text → Tells (IsVerdict seen (Check c)) status text
-model_refused_check seen c status text t = record { verdict = t.verdict; called_for = inl t.called_for; by_status = t.by_status; by_text = t.by_text }
-
-pub model_refused_load : (seen : Seen) (c : CommandView) (status : ℕ) (text : Bytes) → Tells (RefusesModel seen c.model) status text → Tells (IsVerdict seen (Load c)) status text
-model_refused_load seen c status text t = record { verdict = t.verdict; called_for = inl t.called_for; by_status = t.by_status; by_text = t.by_text }
 
 -- where there is one
 pub unit_answered : (seen later : Seen) (c : CommandView) (m : Model) (status : ℕ) (text : Bytes) → HasModel seen.files c.model m → IsLater seen later → Tells (AnswersUnit later c m) status text → Tells (IsVerdict seen (Check c)) status text

@@ -1,5 +1,5 @@
 -- Which model is chosen, and what is told where there is none.
-use Rattle.std.proofs.Common.{◌≡◌, ◌⊎◌, true, None, Some, Result, Ok, Err, refl, sym, subst, inl, inr, IsUtf8}
+use Rattle.std.proofs.Common.{◌≡◌, ◌⊎◌, true, None, Result, Ok, Err, refl, sym, subst, inl, inr, IsUtf8}
 use Rattle.toml.specs.Parse.{parse_document}
 use Rattle.cc_base.specs.Outside.{Holds, HoldsTooLong, Lacks, Rose, RoseBeyond}
 use Rattle.c_layout.specs.Models.{is_model, model_named}
@@ -23,11 +23,6 @@ given_by name bytes found choice text binary h = record {
   given = record { text = λ u. elim (text u) [ inl e ↦ absurd (subst (λ f. IsChoiceBy name f choice) e h) | inr e ↦ e ]; binary = binary };
   by_found = h;
 }
-
--- a model with a name
-pub named_choice : (seen : Seen) (name : Bytes) (m : Model) (choice : ModelChoice) → model_named name ≡ Some m → IsChosen m choice → IsChoice seen name choice
-named_choice seen name m (Chosen k) e h = (subst (λ x. is_model x ≡ true) (sym h.0) h.1, inl (subst (λ x. model_named name ≡ Some x) (sym h.0) e))
-named_choice seen name m (Refused a) e h = absurd h
 
 refused_choice : (seen : Seen) (name : Bytes) (why : ModelFault) (choice : ModelChoice) → ReadsModel seen.files name (Err why) → IsRefusedWith name (reason_of why) choice → IsChoice seen name choice
 refused_choice seen name why (Chosen k) reads h = absurd h

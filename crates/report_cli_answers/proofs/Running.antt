@@ -1,5 +1,5 @@
 -- What a replay tells of a unit is called for.
-use Rattle.std.proofs.Common.{◌≡◌, ◌≤◌, ◌⊎◌, ℕ, ℤ, List, [], Option, Some, None, Err, refl, sym, inl, inr, subst}
+use Rattle.std.proofs.Common.{◌≡◌, ◌≤◌, ◌⊎◌, ℕ, ℤ, List, [], Option, Some, Err, refl, sym, inl, inr, subst}
 use Rattle.cc_base.specs.Outside.{Files, Holds}
 use Rattle.cc_base.specs.declared.refusals.Stop.{Stop}
 use Rattle.cc_base.specs.declared.refusals.Stop.TheVariants as stop
@@ -34,14 +34,6 @@ file_refuses seen file _ h = h
 
 pub no_further_draws : (seen : Seen) (file : Bytes) (status : ℕ) (text : Bytes) → Tells (RefusesFile seen file) status text → Tells (RefusesDraws seen (Some file)) status text
 no_further_draws seen file status text t = record { verdict = t.verdict; called_for = file_refuses seen file t.verdict t.called_for; by_status = t.by_status; by_text = t.by_text }
-
--- those of the file that is named, under the name that the words have
-pub named_draws : (seen : Seen) (file : Option Bytes) (name given : Bytes) (d : Draws) → Some name ≡ file → given ≡ name → AreDrawsIn seen (Some given) d → AreDrawsIn seen file d
-named_draws seen file name given d is same h = subst (λ f. AreDrawsIn seen f d) is (subst (λ n. AreDrawsIn seen (Some n) d) same h)
-
--- none, where no file is named
-pub unnamed_draws : (files : Option Files) (file : Option Bytes) (numbers : List ℤ) → None ≡ file → numbers ≡ [] → IsDraws files file numbers
-unnamed_draws files file numbers is none = subst (λ f. IsDraws files f numbers) is none
 
 -- as the work has them
 pub chosen_draws : (seen : Seen) (file : Option Bytes) (d e : Draws) → d ≡ e → AreDrawsIn seen file d → AreDrawsIn seen file e

@@ -235,9 +235,6 @@ SameBut-whole p q r h whole = λ s t.
     let end' : s * q.width + q.width ≤ length p.cells = subst (λ w. s * w + w ≤ length p.cells) (sym h.width) end in
     omega (arith, end', h.cells)
 
-pub SameBut-refl : {V : Type 0} (p : Pool V) (r : ℕ) → SameBut p p r
-SameBut-refl p r = record { width = refl; taken = refl; cells = omega arith; others = λ s ne t. refl }
-
 -- a part that is copied to its own place
 pub copied_onto_itself : {V : Type 0} (cells : List V) (from to width : ℕ) → from ≡ to → cells ≡ take to cells ++ (take width (drop from cells) ++ drop (to + width) cells)
 copied_onto_itself cells from to width e =

@@ -1,2 +1,1 @@
-mod TypedSteps
 mod RightOperandRows

@@ -1,16 +1,14 @@
 -- The keys of known results.
-use Rattle.std.proofs.Common.{◌≡◌, ◌==◌, ◌&&◌, ◌||◌, ℕ, Bool, true, false, cond, List, ◌∷◌, sym, ap, ◌∙◌, bytes_eq}
+use Rattle.std.proofs.Common.{◌≡◌, ◌==◌, ◌&&◌, ◌||◌, Bool, true, false, cond, List, ◌∷◌, sym, ap, ◌∙◌, bytes_eq}
 use Rattle.std.specs.BTreeSet.{BTreeSet, contains}
 use Rattle.std.specs.Ordering.{is_eq}
 use Rattle.std.specs.Cmp.{both_tied, unsigned_ties}
 use Rattle.std.specs.Cmp.Lexicographic.{texts_ties}
 use Rattle.cc_base.specs.DiagnosticOrder.{rule_rank}
-use Rattle.cc_base.specs.declared.diagnostics.Rule.{Rule}
 use Rattle.sarif_gate.proofs.Ranks.{ranks_tie}
 use Rattle.sarif_gate.specs.contracts.fresh_diagnostics.KeyOrd.TheImpl as order
 use Rattle.sarif_gate.specs.declared.fresh_diagnostics.Key.{Key}
 use Rattle.sarif_gate.specs.declared.known_results.Known.{Known}
-use Rattle.sarif_gate.specs.Uris.{Bytes}
 use Rattle.sarif_gate.specs.Comparing.{is_at, holds}
 use Rattle.sarif_gate.specs.Keys.{IsKey}
 
@@ -42,9 +40,3 @@ pub keys_grow : (old new : BTreeSet Key) (key other : Key) (known : Known) (rest
     → (contains (order.cmp-value).it new other || holds rest other.file.items other.line other.col other.rule) ≡ holds all other.file.items other.line other.col other.rule
 keys_grow old new key other known rest all h u w =
     one_more _ (contains (order.cmp-value).it old other) _ (holds rest other.file.items other.line other.col other.rule) (u ∙ ap (λ b. cond b true (contains (order.cmp-value).it old other)) (key_ties key other known h)) ∙ w
-
--- a key with these parts is found where the parts are
-pub parts_held : (known : List Known) (key : Key) (file : Bytes) (line col : ℕ) (rule : Rule) → IsKey key file line col rule → holds known key.file.items key.line key.col key.rule ≡ holds known file line col rule
-parts_held known key file line col rule h =
-    ap (λ f. holds known f key.line key.col key.rule) h.file_is ∙ ap (λ n. holds known file n key.col key.rule) h.line_is
-    ∙ ap (λ n. holds known file line n key.rule) h.col_is ∙ ap (λ r. holds known file line col r) h.rule_is

@@ -20,9 +20,6 @@ all_truths Both = refl
 all_truths Never = refl
 
 module _ {I : Type 0} {l : LatticeOf I} {n : IntegersOf I} {stands : I → ℤ → Type 0} (o : OrderLaws l) (b : BoundLaws l n stands) where
-  abbrev any_offset : I
-  any_offset = n.between (pos 0) the_end
-
   bounds_are : n.bounds (n.between (pos 0) the_end) ≡ Some (pos 0, the_end)
   bounds_are = b.between_bounds (pos 0) the_end (omega (arith, ints))
 

@@ -22,9 +22,6 @@ module _ (m : Model) where
   pub tags_as : (at : ℕ) (f g : ℕ → Option Tag) (xs : List Leaf) → ((x : ℕ) → f x ≡ g x) → AreTags at f xs → AreTags at g xs
   tags_as at f g xs e h = record { on = λ x. h.on x ∙ e x; before = h.before }
 
-  pub no_tags : (at : ℕ) → AreTags at (λ x. None) []
-  no_tags at = record { on = λ x. refl; before = λ x less. refl }
-
   pub tags_behind : (at o : ℕ) (f : ℕ → Option Tag) (xs : List Leaf) → AreTags (at + o) f xs → AreTags at (shifted o f) xs
   tags_behind at o f xs h = record {
     on = λ x. by_test x (nat_le o x) refl;

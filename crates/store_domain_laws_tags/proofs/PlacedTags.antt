@@ -23,9 +23,6 @@ module _ (m : Model) where
   pub placed_as : (at stride count : ℕ) (f g : ℕ → Option Tag) (xs : List Leaf) → ((x : ℕ) → f x ≡ g x) → ArePlaced at stride count f xs → ArePlaced at stride count g xs
   placed_as at stride count f g xs e h = record { on = λ q r k l. h.on q r k l ∙ e r; before = h.before; behind = h.behind }
 
-  pub none_placed : (at stride count : ℕ) → ArePlaced at stride count (λ x. None) []
-  none_placed at stride count = record { on = λ q r k l. refl; before = λ x k. refl; behind = λ x k. refl }
-
   pub placed_joined : (at stride count : ℕ) (f g : ℕ → Option Tag) (xs ys : List Leaf) → ArePlaced at stride count f xs → ArePlaced at stride count g ys → ArePlaced at stride count (λ x. or_tag (f x) (g x)) (xs ++ ys)
   placed_joined at stride count f g xs ys h k = record {
     on = λ q r a b. tag_append m xs ys (at + (q * stride + r)) ∙ (ap (λ o. or_tag o (tag_at m ys (at + (q * stride + r)))) (h.on q r a b) ∙ ap (or_tag (f r)) (k.on q r a b));

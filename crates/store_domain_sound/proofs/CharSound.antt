@@ -85,12 +85,6 @@ one_matched memory i offset class cs x b (suc k) c l f h w t e = let y = slice_g
 sees_one : (m : Model) (memory : Memory) (i offset : ℕ) (class : Class) (cs : List Content) (x : Content) (b : Byte) → length cs ≡ class_bytes m class → class_bytes m class ≡ 1 → slice_get cs 0 ≡ Some x → byte_at memory i offset ≡ Some b → b.content ≡ x → Fits class 0 b.tag → Sees m memory i offset class cs
 sees_one m memory i offset class cs x b l one f h w t = record { long = l; each = λ k c e. let r = one_matched memory i offset class cs x b k c (l ∙ one) f h w t e in let y = r.0 in (omega arith, r.1) }
 
-not_char : (d : Class) (k : ℕ) (m : Model) → k < class_bytes m d → (d ≡ Char → k ≡ 0 → ⊥) → same_class d Char ≡ false
-not_char d k m s h = elim (cases_Bool (same_class d Char)) [
-  | inr e ↦ e
-  | inl e ↦ (let f = same_class_is d Char e in let g = class_size_char m d f in absurd (h f (omega arith)))
-]
-
 wide_number : (d : Class) → same_class d Char ≡ false → (j : ℕ) × (j < 5) × (class_number d ≡ j + 1)
 wide_number Char h = cc
 wide_number Short h = (0, omega arith, refl)

@@ -113,9 +113,6 @@ load_same m kind p w u s h =
 
 -- ---- where the load stops at an indeterminate byte
 
-other_rule : (w : World) (r : Rule) → stopped_by {A = Scalar} w r ≡ stopped_by w rule.Uninitref → r ≡ rule.Uninitref
-other_rule w r h = let e : w.violated ++ (r ∷ []) ≡ w.violated ++ (rule.Uninitref ∷ []) = ap (violated_of) h in let f = append_cancel_left w.violated (r ∷ []) (rule.Uninitref ∷ []) e in cc
-
 no_rule : (w : World) → ◌≡◌ {A = Reply Scalar} (stops Left w) (stopped_by w rule.Uninitref) → ⊥
 no_rule w h =
     let e : w.violated ≡ w.violated ++ (rule.Uninitref ∷ []) = ap (violated_of) h in

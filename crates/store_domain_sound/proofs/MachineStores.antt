@@ -148,9 +148,6 @@ pub set_is : (memory : Memory) (i : ℕ) (it : Instance) (bytes : List Byte) →
 set_is memory i it bytes e = rw e
 
 module _ (old : Memory) (i offset : ℕ) (class : Class) (size : ℕ) (cs : List Content) (it : Instance) (at : slice_get old i ≡ Some it) (bytes : List Byte) (b : BytesStored it.bytes bytes offset class size cs) (long : length cs ≡ size) (fits : offset + size ≤ length it.bytes) (kept : is_allocated it.storage ≡ false → (k : ℕ) → k < size → (x : Byte) × (slice_get it.bytes (offset + k) ≡ Some x) × (x.tag ≡ tag_of class k)) where
-  new_memory : Memory
-  new_memory = set old i (record it { bytes = bytes })
-
   new_same : slice_get (set old i (record it { bytes = bytes })) i ≡ Some (record it { bytes = bytes })
   new_same = get_set_same old i (record it { bytes = bytes }) (slice_get_within old i it at)
 

@@ -34,9 +34,6 @@ module _ (leaf : Leaf) (s : Span) (x : ℕ) (apart : 0 < leaf.stride) (few : lea
   swapped : s.stride * i.turn ≡ i.turn * s.stride
   swapped = omega arith
 
-  last_turn : i.turn * s.stride ≤ (s.count - 1) * s.stride
-  last_turn = let a = i.few in mul-le i.turn s.stride (s.count - 1) s.stride (omega (arith, a)) (omega arith)
-
   one_met : leaf.count ≡ 1 → one_place_meets leaf s ≡ true
   one_met e =
       let a = first_turn p.turn leaf.count p.few e in

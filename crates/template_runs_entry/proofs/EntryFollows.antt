@@ -47,9 +47,6 @@ use Rattle.template_runs_entry.proofs.Bodies.{work_names, work_scopes, body_is}
 abbrev stop : SettingView → PieceView
 stop s = End (record { at = s.at; does = act.Stop }) []
 
-abbrev body_plan : SettingView → FunctionView → Plan
-body_plan s f = functions.body s f (no_plan f.labels)
-
 record Planned (s : SettingView) (f : FunctionView) (js : List Job) (p : Plan) : Type 0 where
   jobs : p.jobs ≡ (object_jobs act.Enter s.at f.scope 0 ++ (js ++ object_jobs act.Leave s.at f.scope (length (locals f.scope)))) ++ jobs.Ready (stop s) ∷ []
   names : p.names ≡ locals f.scope ++ locals f.scope

@@ -114,10 +114,6 @@ module _ (u : UnitView) where
   pub locals_on : (f : FunctionView) (b c : TableView) (locals : List (Option ℕ)) → More b c → GoodLocals u f b.bases locals → GoodLocals u f c.bases locals
   locals_on f b c locals m g = record { all = g.all; are = λ slot k is. subst (λ xs. LocalAt u f xs slot k) (sym m.bases) (local_on f b.bases m.more slot k (g.are slot k is)); once = g.once }
 
-  -- a base that no name stands for
-  abbrev pub with_added : BaseInfo → TableView → TableView
-  with_added i b = record { bases = b.bases ++ i ∷ []; width = b.width; objects = b.objects; literals = b.literals }
-
   -- the tables look at bases alone
   good_added : (i : BaseInfo) (b : TableView) (width : ℕ) → GoodTable u b → GoodTable u (record { bases = b.bases ++ i ∷ []; width = width; objects = b.objects; literals = b.literals })
   good_added i b width g = record {

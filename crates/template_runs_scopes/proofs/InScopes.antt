@@ -1,5 +1,5 @@
 -- Works and items that stand in scopes and loops.
-use Rattle.std.proofs.Common.{◌≡◌, ℕ, zero, suc, false, List, [], ◌∷◌, ◌++◌, refl, sym, subst, ◌∙◌, append_assoc}
+use Rattle.std.proofs.Common.{◌≡◌, ℕ, zero, suc, false, List, [], ◌∷◌, ◌++◌, sym, subst, ◌∙◌, append_assoc}
 use Rattle.flow_lower_tasks.specs.Pieces.{PieceView}
 use Rattle.flow_lower_tasks.specs.Plans.{Plan}
 use Rattle.flow_lower_tasks.specs.Settings.{SettingView}
@@ -78,10 +78,6 @@ module _ (s : SettingView) (t : Activation) where
         other.ends x.between (jobs_none s p js x.front x.between x.first none) (one.ends p none begun x.front x.between x.first) x.back r x.second;
   }
 
-  -- what is known of the items behind follows from something else
-  pub knowing : (n : ℕ) (first last : Position) (K L : List Item → Type 0) (js : List Job) (is : List Item) → ((items : List Item) → L items → K items) → Goes n first last K js is → Goes n first last L js is
-  knowing n first last K L js is weaker g = record { from = λ p none begun ps r m known items rest stands l f. g.from p none begun ps r m known items rest stands (weaker items l) f; ends = g.ends }
-
   -- a statement gives way to its parts
   pub gives_way : (n : ℕ) (first last : Position) (K : List Item → Type 0) (j : Job) (i : Item) (is : List Item) → is_piece j ≡ false → ((items : List Item) (ps : List PieceView) → Follows t n 0 (is ++ items) ps → Follows t n 0 (i ∷ items) ps)
       → ((p : Plan) → p.jobs ≡ [] → position p ≡ first → GoesFrom n last K (planless (parts s j p)) (parts s j p).jobs is)
@@ -91,10 +87,3 @@ module _ (s : SettingView) (t : Activation) where
     from = λ p none begun ps r m known items rest stands k f. gives items (ps ++ rest) (inner p none begun ps r (opened s p j ps r other m) known items rest stands k f);
     ends = λ p none begun ps r m. ends p none begun ps r (opened s p j ps r other m);
   }
-
-  -- where its parts are the same for each plan
-  pub consists_of : (n : ℕ) (first begun last : Position) (K : List Item → Type 0) (j : Job) (js : List Job) (i : Item) (is : List Item) → is_piece j ≡ false → ((items : List Item) (ps : List PieceView) → Follows t n 0 (is ++ items) ps → Follows t n 0 (i ∷ items) ps)
-      → ((p : Plan) → p.jobs ≡ [] → (parts s j p).jobs ≡ js) → ((p : Plan) → position p ≡ first → position (parts s j p) ≡ begun) → Goes n begun last K js is → Goes n first last K (j ∷ []) (i ∷ [])
-  consists_of n first begun last K j js i is other gives same counted g = gives_way n first last K j i is other gives
-      (λ p none e ps r m. g.from (planless (parts s j p)) refl (counted p e) ps r (subst (λ ks. Makes s (planless (parts s j p)) ks ps r) (same p none) m))
-      (λ p none e ps r m. g.ends (planless (parts s j p)) refl (counted p e) ps r (subst (λ ks. Makes s (planless (parts s j p)) ks ps r) (same p none) m))

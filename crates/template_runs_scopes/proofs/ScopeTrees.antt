@@ -101,9 +101,6 @@ record Begins (s : SettingView) (t : TreeView) : Type 0 where
 begins_before : (s : SettingView) (count : ℕ) (t u : TreeView) → More count t u → Begins s u → Begins s t
 begins_before s count t u x b = record { rest = x.more ++ b.rest; all = b.all ∙ ap (λ xs. xs ++ b.rest) x.is ∙ append_assoc t.scopes x.more b.rest }
 
-begins_same : (s : SettingView) (t u : TreeView) → u.scopes ≡ t.scopes → Begins s u → Begins s t
-begins_same s t u e b = record { rest = b.rest; all = b.all ∙ ap (λ xs. xs ++ b.rest) e }
-
 new_scope : (s : SettingView) (k : ℕ) (objects : List ℕ) (t : TreeView) → k < length t.scopes → Begins s (with_new_scope k objects t) → IsScope s (length t.scopes) k objects
 unfolding with_new_scope
 new_scope s k objects t less b =

@@ -1,5 +1,5 @@
 -- Works that are no statements begin no scopes and no switches.
-use Rattle.std.proofs.Common.{◌≡◌, true, false, List, [], ◌∷◌, refl, ◌∙◌}
+use Rattle.std.proofs.Common.{◌≡◌, true, false, List, [], refl, ◌∙◌}
 use Rattle.flow_lower_tasks.specs.Pieces.{PieceView}
 use Rattle.flow_lower_tasks.specs.Works as jobs
 use Rattle.flow_lower_tasks.specs.Works.{Job}
@@ -19,16 +19,6 @@ kept_parts s (jobs.Address l d) p is all = keeps_pointer s l d p (record { scope
 kept_parts s (jobs.Condition e x) p is all = keeps_condition s e x p (record { scopes = refl; terms = all })
 kept_parts s (jobs.Statement i around) p is all = absurd is
 kept_parts s (jobs.Ready q) p is all = record { scopes = refl; terms = all }
-
-none_planned : (js : List Job) → js ≡ [] → AreTerms js
-none_planned js e = elim_empty js e
-  where
-    elim_empty : (js : List Job) → js ≡ [] → AreTerms js
-    elim_empty [] e = tt
-    elim_empty (j ∷ js) e = absurd (no e)
-      where
-        no : j ∷ js ≡ [] → ⊥
-        no e = cc
 
 pub scopes_kept : (s : SettingView) (p : Plan) (js : List Job) (ps : List PieceView) (r : Plan) → Makes s p js ps r → AreTerms p.jobs → AreTerms js → (position r ≡ position p) × AreTerms r.jobs
 scopes_kept s p _ _ r (nothing _) none all = (refl, none)

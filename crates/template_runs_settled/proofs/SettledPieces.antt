@@ -25,12 +25,6 @@ module _ (table : List (Option FunctionCounts)) (e : NamesView) where
 true_is_not : false ≡ true → ⊥
 true_is_not e = cc
 
-zero_is_not_more : (k : ℕ) → k + 1 ≤ 0 → ⊥
-zero_is_not_more k le = omega (arith, le)
-
-none_left : (a b : ℕ) → a + b ≤ 0 → (a ≡ 0) × (b ≡ 0)
-none_left a b le = (omega (arith, le), omega (arith, le))
-
 -- a label that stands in pieces stands there once, and has a number
 abbrev pub Once : ℕ → List PieceView → Type 0
 Once labels ps = (l : ℕ) → all_marked l ps ≤ below l labels

@@ -99,9 +99,6 @@ module _ (s : SettingView) (t : Activation) (fits : IsOfUnit t s) (n : ℕ) wher
   decided_by e decision inner p none ps r m known held failed items rest on_yes on_no stands to_yes to_no f g =
       inner p none ps r (opened s p (jobs.Condition e decision) ps r refl m) known held failed items rest on_yes on_no stands to_yes to_no f g
 
-  with_jobs : (p : Plan) (js ks : List Job) (decision : Decision) (is : List Item → List Item → List Item) → js ≡ ks → DecidesFrom s t n p ks decision is → DecidesFrom s t n p js decision is
-  with_jobs p js ks decision is e d = subst (λ xs. DecidesFrom s t n p xs decision is) (sym e) d
-
   -- ---- `!`
 
   pub negated : (at : Place) (ctype : Ty) (parens : ℕ) (constant : Option ℤ) (a : TermTree) (decision : Decision) → Decided s t n a (to_targets decision (flipped decision.targets)) → Decided s t n (Typed at ctype parens constant (tree.Not a)) decision

@@ -32,10 +32,6 @@ module _ (s : SettingView) (r : Plan) (rest : List PieceView) where
       let x = parted s p (j ∷ []) js ps r m in
       subst (λ xs. G (xs ++ rest)) (sym x.all) (subst G (sym (append_assoc x.front x.back rest)) (later x.front x.between x.back x.first (jobs_none s p (j ∷ []) x.front x.between x.first none) x.second))
 
-  -- the last work
-  pub from_last : (p : Plan) (j : Job) (ps : List PieceView) (G : List PieceView → Type 0) → Makes s p (j ∷ []) ps r → ((ps : List PieceView) → Makes s p (j ∷ []) ps r → G (ps ++ rest)) → G (ps ++ rest)
-  from_last p j ps G m later = later ps m
-
 module _ (s : SettingView) (t : Activation) where
   -- what was given away in between is known
   pub known_between : (between : Plan) (js : List Job) (back : List PieceView) (r : Plan) → Makes s between js back r → IsKnown t r → IsKnown t between
