@@ -3,8 +3,8 @@ use Rattle.std.proofs.Common.{◌≡◌, Bool, List, [], ◌∷◌, map, ◌&&�
 use Rattle.std.specs.List.{list_any, list_all}
 use Rattle.c_layout.specs.DeclarationTrees.{spec_tree}
 use Rattle.c_layout.specs.declared.syntax_tree.declarations.SpecWord.{SpecWord}
-use Rattle.c_parser_declarations.specs.Declarations.{is_local_word}
-use Rattle.c_parser_declarations.specs.StorageClasses.{is_typedef_word, is_typedef}
+use Rattle.c_parser_declarations_grammar.specs.Declarations.{is_local_word}
+use Rattle.c_parser_declarations_grammar.specs.StorageClasses.{is_typedef_word, is_typedef}
 
 any_mapped : (ws : List SpecWord) → list_any (λ w. is_typedef_word (spec_tree w)) ws ≡ is_typedef (map spec_tree ws)
 any_mapped [] = refl

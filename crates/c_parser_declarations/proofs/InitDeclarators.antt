@@ -7,12 +7,12 @@ use Rattle.c_parser_tokens.specs.declared.terminals.Terminal.{Terminal}
 use Rattle.c_parser_tokens.specs.declared.terminals.Punctuator.TheVariants as p
 use Rattle.c_parser_expressions.specs.Fronts.{first_place, IsSign}
 use Rattle.c_parser_expressions.specs.TypeNames.{Stars}
-use Rattle.c_parser_declarations.specs.Declarations.{IsDeclared, IsInitialized, bare, init_height, local_init_height, IsLocalDeclarator, LocalDeclarators, is_local_word}
-use Rattle.c_parser_declarations.specs.Declarators.{declarator_height}
-use Rattle.c_parser_declarations.specs.Findings.{FoundSpec, FoundListed, FoundNamed, FoundNamedBehind, FoundFunctionBehind, FoundInitializer, FoundBareBehind, FoundBare, FoundAssigned, FoundLocalTail, FoundTail, FoundLocalDeclarator, FoundLocalDeclarators, FoundLocal}
-use Rattle.c_parser_declarations.specs.Initializers.{initializer_height}
-use Rattle.c_parser_declarations.specs.Lists.{Listed}
-use Rattle.c_parser_declarations.specs.Specifiers.{spec_height}
+use Rattle.c_parser_declarations_grammar.specs.Declarations.{IsDeclared, IsInitialized, bare, init_height, local_init_height, IsLocalDeclarator, LocalDeclarators, is_local_word}
+use Rattle.c_parser_declarations_grammar.specs.Declarators.{declarator_height}
+use Rattle.c_parser_declarations_grammar.specs.Findings.{FoundSpec, FoundListed, FoundNamed, FoundNamedBehind, FoundFunctionBehind, FoundInitializer, FoundBareBehind, FoundBare, FoundAssigned, FoundLocalTail, FoundTail, FoundLocalDeclarator, FoundLocalDeclarators, FoundLocal}
+use Rattle.c_parser_declarations_grammar.specs.Initializers.{initializer_height}
+use Rattle.c_parser_declarations_grammar.specs.Lists.{Listed}
+use Rattle.c_parser_declarations_grammar.specs.Specifiers.{spec_height}
 
 pub object : {known : List (List ℕ)} {budget : ℕ} {stars : List ℕ} (d : DeclaratorView) {h : ℕ} {ts rest : List Terminal} →
     FoundNamedBehind known budget stars d h ts rest → FoundBareBehind known budget stars (Object d) h ts rest

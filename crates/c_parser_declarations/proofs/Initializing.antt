@@ -9,8 +9,8 @@ use Rattle.c_parser_expressions.specs.Findings.{Found}
 use Rattle.c_parser_expressions.specs.Fronts.{first_place, IsSign}
 use Rattle.c_parser_expressions.specs.Spans.{Span}
 use Rattle.c_parser_expressions.proofs.Listing.{trailed_more, separated_last}
-use Rattle.c_parser_declarations.specs.Findings.{FoundInitializer, FoundSome, FoundBraced}
-use Rattle.c_parser_declarations.specs.Initializers.{DeriveInitializer, DeriveItems, initializer_height, items_height, has_item}
+use Rattle.c_parser_declarations_grammar.specs.Findings.{FoundInitializer, FoundSome, FoundBraced}
+use Rattle.c_parser_declarations_grammar.specs.Initializers.{DeriveInitializer, DeriveItems, initializer_height, items_height, has_item}
 
 pub one_value : {known : List (List ℕ)} {budget h : ℕ} {i : InitializerTree} {e : Tree} {ts rest : List Terminal} → Found known 1 budget e h ts rest → i ≡ Single e → FoundInitializer known budget i h ts rest
 one_value {known} {budget} {h} {i} {e} {ts} {rest} f i-is = rw i-is (record { derives = f.derives; height = f.height; within = f.within })

@@ -1,11 +1,11 @@
+pub use Rattle.c_parser_declarations_grammar.proofs.Layers
+pub use Rattle.c_parser_declarations_grammar.proofs.Listing
+pub use Rattle.c_parser_declarations_grammar.proofs.Reading
+pub use Rattle.c_parser_declarations_grammar.proofs.Turns
 pub mod Among
 pub mod InitDeclarators
 pub mod Initializing
-pub mod Layers
-pub mod Listing
-pub mod Reading
 pub mod Rows
 pub mod Signs
 pub mod Specifying
-pub mod Turns
 pub mod Words

@@ -11,10 +11,10 @@ use Rattle.c_parser_tokens.specs.declared.terminals.Punctuator.TheVariants as p
 use Rattle.c_parser_tokens.specs.declared.terminals.Symbol.TheVariants as symbol
 use Rattle.c_parser_tokens.specs.declared.terminals.Terminal.{Terminal}
 use Rattle.c_parser_expressions.specs.Fronts.{IsName, IsSign, IsWord}
-use Rattle.c_parser_declarations.specs.Declarations.{Parameters, IsLocal, parameters_height, list_height, is_void_first}
-use Rattle.c_parser_declarations.specs.Declarators.{IsDeclarator, declarator_height}
-use Rattle.c_parser_declarations.specs.Initializers.{DeriveInitializer}
-use Rattle.c_parser_declarations.specs.Specifiers.{DeriveWord, IsSpec, spec_height}
+use Rattle.c_parser_declarations_grammar.specs.Declarations.{Parameters, IsLocal, parameters_height, list_height, is_void_first}
+use Rattle.c_parser_declarations_grammar.specs.Declarators.{IsDeclarator, declarator_height}
+use Rattle.c_parser_declarations_grammar.specs.Initializers.{DeriveInitializer}
+use Rattle.c_parser_declarations_grammar.specs.Specifiers.{DeriveWord, IsSpec, spec_height}
 
 abbrev pub at : ℕ → Place
 at n = record { file = 0; line = 1; col = n }

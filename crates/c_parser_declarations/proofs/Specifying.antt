@@ -10,9 +10,9 @@ use Rattle.c_parser_tokens.specs.declared.terminals.Punctuator.TheVariants as p
 use Rattle.c_parser_expressions_grammar.specs.declared.specifier_words.SpecifierCounts.{SpecifierCounts}
 use Rattle.c_parser_expressions.specs.Fronts.{first_place, IsSign, IsWord}
 use Rattle.c_parser_expressions.specs.TypeNames.{is_one_type, no_words}
-use Rattle.c_parser_declarations.specs.Declarators.{declarator_height}
-use Rattle.c_parser_declarations.specs.Findings.{FoundWord, FoundWords, FoundSpec, FoundMember, FoundChain, FoundMembers, FoundListed, PlainWord}
-use Rattle.c_parser_declarations.specs.Specifiers.{Tag, IsNamed, DeriveWord, DeriveWords, DeriveMember, DeriveMembers, has_member, counted, counts_after, listed_height, word_height, words_height, member_height, members_height, spec_height}
+use Rattle.c_parser_declarations_grammar.specs.Declarators.{declarator_height}
+use Rattle.c_parser_declarations_grammar.specs.Findings.{FoundWord, FoundWords, FoundSpec, FoundMember, FoundChain, FoundMembers, FoundListed, PlainWord}
+use Rattle.c_parser_declarations_grammar.specs.Specifiers.{Tag, IsNamed, DeriveWord, DeriveWords, DeriveMember, DeriveMembers, has_member, counted, counts_after, listed_height, word_height, words_height, member_height, members_height, spec_height}
 
 pub plain_found : (w : SpecTree) (known : List (List ℕ)) (budget : ℕ) (ts rest : List Terminal) → PlainWord w ts rest → FoundWord known budget w 0 ts rest
 plain_found (StorageWord at class) known budget ts rest d = record { derives = d; height = refl; within = omega arith }

@@ -8,8 +8,8 @@ use Rattle.c_parser_tokens.specs.declared.terminals.Keyword.TheVariants as k
 use Rattle.c_parser_tokens.specs.declared.terminals.Punctuator.TheVariants as p
 use Rattle.c_parser_expressions.specs.Findings.{Found}
 use Rattle.c_parser_expressions.specs.Fronts.{first_place, IsSign, IsWord, IsName}
-use Rattle.c_parser_declarations.specs.Findings.{FoundEnumerator, FoundEnumerators, FoundWord}
-use Rattle.c_parser_declarations.specs.Specifiers.{Tag}
+use Rattle.c_parser_declarations_grammar.specs.Findings.{FoundEnumerator, FoundEnumerators, FoundWord}
+use Rattle.c_parser_declarations_grammar.specs.Specifiers.{Tag}
 
 pub name_only : {known : List (List ℕ)} (budget : ℕ) (n : NameView) {ts a rest : List Terminal} → IsName known n.at n.text ts a → rest ≡ a → FoundEnumerator known budget (record { name = n; value = None }) 0 ts rest
 name_only {known} budget n {ts} {a} {rest} name same = record { derives = record { behind = a; name = name; value = same }; height = refl; within = omega arith }

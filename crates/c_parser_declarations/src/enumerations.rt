@@ -3,10 +3,10 @@ ghost use Rattle.std.specs.Prelude.{◌≡◌, Some, map, IfOk};
 ghost use Rattle.std.specs.Option.{option_map};
 ghost use Rattle.c_layout.specs.SyntaxTrees.{tree_of};
 ghost use Rattle.c_layout.specs.DeclarationTrees.{EnumTag, EnumBody, name_view, enumerator_view, spec_tree};
-ghost use Rattle.c_parser_declarations.specs.Findings.{FoundEnumerator, FoundEnumerators, FoundWord};
-ghost use Rattle.c_parser_declarations.specs.Specifiers.{Tag};
-ghost use Rattle.c_parser_declarations.specs.Answers.{as_item};
-ghost use Rattle.c_parser_declarations.specs.SpecifierReaders.{optional_tag, enumerator, enumerators, enumeration};
+ghost use Rattle.c_parser_declarations_grammar.specs.Findings.{FoundEnumerator, FoundEnumerators, FoundWord};
+ghost use Rattle.c_parser_declarations_grammar.specs.Specifiers.{Tag};
+ghost use Rattle.c_parser_declarations_grammar.specs.Answers.{as_item};
+ghost use Rattle.c_parser_declarations_grammar.specs.SpecifierReaders.{optional_tag, enumerator, enumerators, enumeration};
 ghost use Rattle.c_parser_expressions.specs.ReadingResults.{Reads};
 ghost use Rattle.c_parser_expressions.specs.Fronts.{first_symbol};
 ghost use Rattle.c_parser_tokens.specs.declared.terminals.Keyword.TheVariants as k;
@@ -61,7 +61,7 @@ fn enumerator(
 }
 
 /// The enumerators behind `{`, with the `}`.
-#[tactic(auto, using(crate::proofs::Turns::braced_begun))]
+#[tactic(auto, using(c_parser_declarations_grammar::proofs::Turns::braced_begun))]
 fn enumerators(
     scope: Scope<'_>,
     reader: &mut Reader<'_>,

@@ -2,19 +2,19 @@
 ghost use Rattle.std.specs.Prelude.{◌≡◌, IfOk};
 ghost use Rattle.std.specs.Option.{option_map, option_copied};
 ghost use Rattle.c_layout.specs.DeclarationTrees.{Object, name_view, declarator_view, init_declarator_view};
-ghost use Rattle.c_parser_declarations.specs.Declarations.{name_of};
-ghost use Rattle.c_parser_declarations.specs.Findings.{FoundBareBehind, FoundBare, FoundTail};
-ghost use Rattle.c_parser_declarations.specs.Answers.{as_item};
-ghost use Rattle.c_parser_declarations.specs.DeclarationReaders as readers;
-ghost use Rattle.c_parser_declarations.specs.DeclaratorReaders.{named_declarator};
-ghost use Rattle.c_parser_declarations.specs.Items.{after_item};
-ghost use Rattle.c_parser_declarations.specs.ParameterReaders.{function_declarator};
+ghost use Rattle.c_parser_declarations_grammar.specs.Declarations.{name_of};
+ghost use Rattle.c_parser_declarations_grammar.specs.Findings.{FoundBareBehind, FoundBare, FoundTail};
+ghost use Rattle.c_parser_declarations_grammar.specs.Answers.{as_item};
+ghost use Rattle.c_parser_declarations_grammar.specs.DeclarationReaders as readers;
+ghost use Rattle.c_parser_declarations_grammar.specs.DeclaratorReaders.{named_declarator};
+ghost use Rattle.c_parser_declarations_grammar.specs.Items.{after_item};
+ghost use Rattle.c_parser_declarations_grammar.specs.ParameterReaders.{function_declarator};
 ghost use Rattle.c_parser_expressions.specs.ReadingResults.{Reads};
 
-use crate::declarators::named_declarator;
 use crate::initializers::assigned;
 use crate::parameters::function_declarator;
 use c_layout::{Declarator, InitDeclarator, Name};
+use c_parser_declarations_grammar::named_declarator;
 use c_parser_expressions::{Parsed, Reader, Scope, Trouble, inner, made, stars};
 use c_parser_tokens::Punctuator;
 

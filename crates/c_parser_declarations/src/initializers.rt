@@ -2,12 +2,12 @@
 ghost use Rattle.std.specs.Prelude.{◌≡◌, length, map, IfOk};
 ghost use Rattle.c_layout.specs.SyntaxTrees.{tree_of};
 ghost use Rattle.c_layout.specs.DeclarationTrees.{Single, Braces, declarator_view, init_declarator_view, initializer_tree, initializer_trees};
-ghost use Rattle.c_parser_declarations.specs.Findings.{FoundInitializer, FoundBraced, FoundAssigned};
-ghost use Rattle.c_parser_declarations.specs.Answers.{as_item};
-ghost use Rattle.c_parser_declarations.specs.DeclarationReaders as declarations;
-ghost use Rattle.c_parser_declarations.specs.InitializerReaders as readers;
-ghost use Rattle.c_parser_declarations.specs.InitializerReaders.{value_of};
-ghost use Rattle.c_parser_declarations.specs.Items.{braced};
+ghost use Rattle.c_parser_declarations_grammar.specs.Findings.{FoundInitializer, FoundBraced, FoundAssigned};
+ghost use Rattle.c_parser_declarations_grammar.specs.Answers.{as_item};
+ghost use Rattle.c_parser_declarations_grammar.specs.DeclarationReaders as declarations;
+ghost use Rattle.c_parser_declarations_grammar.specs.InitializerReaders as readers;
+ghost use Rattle.c_parser_declarations_grammar.specs.InitializerReaders.{value_of};
+ghost use Rattle.c_parser_declarations_grammar.specs.Items.{braced};
 ghost use Rattle.c_parser_expressions.specs.TypeNameReaders.{all_readers};
 ghost use Rattle.c_parser_expressions.specs.ReadingResults.{Reads};
 
@@ -50,7 +50,7 @@ fn value(
 
 /// The initializers behind `{`, with the `}`.
 #[cycle(initializers)]
-#[tactic(auto, using(crate::proofs::Turns::braced_begun))]
+#[tactic(auto, using(c_parser_declarations_grammar::proofs::Turns::braced_begun))]
 fn initializer_list(
     scope: Scope<'_>,
     reader: &mut Reader<'_>,

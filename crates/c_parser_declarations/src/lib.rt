@@ -1,9 +1,7 @@
-//! The grammar of declarations (6.7 and 6.9 of ISO/IEC 9899:2011): specifiers with the bodies of
-//! structures and enumerations, declarators, parameters, initializers, and declarations in blocks.
+//! Readers of declarations (6.7 and 6.9 of ISO/IEC 9899:2011): specifiers with the bodies of
+//! structures and enumerations, parameters, initializers, and declarations in blocks.
 #![tactic(auto)]
 
-mod declarator_layers;
-mod declarators;
 mod enumerations;
 mod file_declarators;
 mod initializers;

@@ -2,17 +2,17 @@
 ghost use Rattle.std.specs.Prelude.{◌≡◌, true, length, map, IfOk};
 ghost use Rattle.std.specs.List.{list_all};
 ghost use Rattle.c_layout.specs.DeclarationTrees.{spec_tree, spec_trees, declarator_view, init_declarator_view, local_view};
-ghost use Rattle.c_parser_declarations.specs.Declarations.{is_local_class, is_local_word, IsLocalDeclarator, local_init_height};
-ghost use Rattle.c_parser_declarations.specs.Findings.{FoundSpec, FoundListed, FoundLocalTail, FoundLocalDeclarator, FoundLocalDeclarators, FoundLocal};
-ghost use Rattle.c_parser_declarations.specs.Answers.{as_item};
-ghost use Rattle.c_parser_declarations.specs.DeclarationReaders as readers;
-ghost use Rattle.c_parser_declarations.specs.Items.{listed};
+ghost use Rattle.c_parser_declarations_grammar.specs.Declarations.{is_local_class, is_local_word, IsLocalDeclarator, local_init_height};
+ghost use Rattle.c_parser_declarations_grammar.specs.Findings.{FoundSpec, FoundListed, FoundLocalTail, FoundLocalDeclarator, FoundLocalDeclarators, FoundLocal};
+ghost use Rattle.c_parser_declarations_grammar.specs.Answers.{as_item};
+ghost use Rattle.c_parser_declarations_grammar.specs.DeclarationReaders as readers;
+ghost use Rattle.c_parser_declarations_grammar.specs.Items.{listed};
 ghost use Rattle.c_parser_expressions.specs.ReadingResults.{Reads};
 
-use crate::declarators::declarator;
 use crate::initializers::assigned;
 use crate::specifier_lists::specifiers;
 use c_layout::{Declarator, InitDeclarator, Local, SpecWord, Storage};
+use c_parser_declarations_grammar::declarator;
 use c_parser_expressions::{Parsed, Reader, Scope, Trouble, inner, made};
 use c_parser_tokens::Punctuator;
 
@@ -104,7 +104,7 @@ fn local_declarator(
 }
 
 /// One declarator or more, with a comma between any two.
-#[tactic(auto, using(crate::proofs::Turns::listed_begun))]
+#[tactic(auto, using(c_parser_declarations_grammar::proofs::Turns::listed_begun))]
 fn some_declarators(
     scope: Scope<'_>,
     reader: &mut Reader<'_>,

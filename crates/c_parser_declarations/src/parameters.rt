@@ -1,17 +1,17 @@
 //! Parameters and the declarators of functions (6.7.6.3).
 ghost use Rattle.std.specs.Prelude.{◌≡◌, length, map, IfOk};
 ghost use Rattle.c_layout.specs.DeclarationTrees.{ParameterList, parameter_view, parameters_view, function_declarator_view};
-ghost use Rattle.c_parser_declarations.specs.Declarations.{IsParameter, parameter_height, is_declarator_sign, begins_declarator, is_void_word, is_closing, is_void_first};
-ghost use Rattle.c_parser_declarations.specs.Findings.{FoundListed, FoundParameter, FoundParameterList, FoundParameters, FoundFunctionBehind};
+ghost use Rattle.c_parser_declarations_grammar.specs.Declarations.{IsParameter, parameter_height, is_declarator_sign, begins_declarator, is_void_word, is_closing, is_void_first};
+ghost use Rattle.c_parser_declarations_grammar.specs.Findings.{FoundListed, FoundParameter, FoundParameterList, FoundParameters, FoundFunctionBehind};
 ghost use Rattle.c_parser_expressions.specs.Fronts.{first_symbol, behind_first};
-ghost use Rattle.c_parser_declarations.specs.Answers.{as_item};
-ghost use Rattle.c_parser_declarations.specs.Items.{listed};
-ghost use Rattle.c_parser_declarations.specs.ParameterReaders as readers;
+ghost use Rattle.c_parser_declarations_grammar.specs.Answers.{as_item};
+ghost use Rattle.c_parser_declarations_grammar.specs.Items.{listed};
+ghost use Rattle.c_parser_declarations_grammar.specs.ParameterReaders as readers;
 ghost use Rattle.c_parser_expressions.specs.ReadingResults.{Reads};
 
-use crate::declarators::parameter_declarator;
 use crate::specifier_lists::{list_height, specifiers};
 use c_layout::{FunctionDeclarator, Parameter, Parameters};
+use c_parser_declarations_grammar::parameter_declarator;
 use c_parser_expressions::{Parsed, Reader, Scope, Trouble, inner, made};
 use c_parser_tokens::{Keyword, Punctuator, Symbol};
 
@@ -68,7 +68,7 @@ fn parameter(
 }
 
 /// One parameter or more, with a comma between any two.
-#[tactic(auto, using(crate::proofs::Turns::listed_begun))]
+#[tactic(auto, using(c_parser_declarations_grammar::proofs::Turns::listed_begun))]
 fn some_parameters(
     scope: Scope<'_>,
     reader: &mut Reader<'_>,

@@ -3,21 +3,21 @@ ghost use Rattle.std.specs.Prelude.{◌≡◌, ◌+◌, ◌==◌, ◌≤◌, tru
 ghost use Rattle.std.specs.Option.{option_map};
 ghost use Rattle.c_layout.specs.DeclarationTrees.{StructTag, StructBody, Members, TypedefName, name_view, declarator_view, spec_tree, spec_trees, member_tree, member_trees};
 ghost use Rattle.c_parser_expressions.specs.TypeNames.{is_one_type};
-ghost use Rattle.c_parser_declarations.specs.Findings.{FoundWord, FoundSpec, FoundMember, FoundMembers, PlainWord};
-ghost use Rattle.c_parser_declarations.specs.Specifiers.{counted};
-ghost use Rattle.c_parser_declarations.specs.Answers.{as_item};
-ghost use Rattle.c_parser_declarations.specs.Items.{item_of};
-ghost use Rattle.c_parser_declarations.specs.SpecifierReaders as readers;
+ghost use Rattle.c_parser_declarations_grammar.specs.Findings.{FoundWord, FoundSpec, FoundMember, FoundMembers, PlainWord};
+ghost use Rattle.c_parser_declarations_grammar.specs.Specifiers.{counted};
+ghost use Rattle.c_parser_declarations_grammar.specs.Answers.{as_item};
+ghost use Rattle.c_parser_declarations_grammar.specs.Items.{item_of};
+ghost use Rattle.c_parser_declarations_grammar.specs.SpecifierReaders as readers;
 ghost use Rattle.c_parser_expressions.specs.ReadingResults.{Reads};
 ghost use Rattle.c_parser_expressions.specs.Fronts.{first_symbol};
 ghost use Rattle.c_parser_tokens.specs.declared.terminals.Terminal.{Terminal};
-ghost use Rattle.c_parser_declarations.specs.DeclaratorReaders.{above};
-ghost use Rattle.c_parser_declarations.specs.Specifiers.{counts_of};
+ghost use Rattle.c_parser_declarations_grammar.specs.DeclaratorReaders.{above};
+ghost use Rattle.c_parser_declarations_grammar.specs.Specifiers.{counts_of};
 ghost use Rattle.c_parser_expressions.specs.TypeNames.{storage_class, type_word_of};
 
-use crate::declarators::declarator_list;
 use crate::enumerations::{enumeration, optional_tag};
 use c_layout::{Declarator, Member, Name, SpecWord};
+use c_parser_declarations_grammar::declarator_list;
 use c_parser_expressions::{
     Parsed, Reader, Scope, SpecifierCounts, Trouble, inner, is_qualifier, made, storage_class,
     type_word,
@@ -65,7 +65,7 @@ fn member(scope: Scope<'_>, reader: &mut Reader<'_>, budget: u32) -> Result<Pars
 
 /// The members behind `{`, with the `}`.
 #[cycle(specifiers)]
-#[tactic(auto, using(crate::proofs::Turns::chained_begun))]
+#[tactic(auto, using(c_parser_declarations_grammar::proofs::Turns::chained_begun))]
 fn members(
     scope: Scope<'_>,
     reader: &mut Reader<'_>,
@@ -194,7 +194,7 @@ fn specifier(
 ///
 /// `Syntax` where no specifiers of a height of at most `budget` stand next, or want of memory.
 #[cycle(specifiers)]
-#[tactic(auto, using(crate::proofs::Turns::words_begun))]
+#[tactic(auto, using(c_parser_declarations_grammar::proofs::Turns::words_begun))]
 pub fn specifiers(
     scope: Scope<'_>,
     reader: &mut Reader<'_>,

@@ -2,7 +2,7 @@
 ghost use Rattle.std.specs.Prelude.{◌≡◌, map};
 ghost use Rattle.std.specs.List.{list_any};
 ghost use Rattle.c_layout.specs.DeclarationTrees.{spec_tree};
-ghost use Rattle.c_parser_declarations.specs.StorageClasses.{is_typedef_class, is_typedef_word, is_typedef};
+ghost use Rattle.c_parser_declarations_grammar.specs.StorageClasses.{is_typedef_class, is_typedef_word, is_typedef};
 
 use c_layout::{SpecWord, Storage};
 

@@ -1,7 +1,7 @@
 use Rattle.std.specs.Option.{option_map}
 use Rattle.std.proofs.Common.{◌∙◌, sym}
 use Rattle.c_layout.specs.DeclarationTrees.{name_view}
-use Rattle.c_parser_declarations.proofs.Layers.{mapped_is_some}
+use Rattle.c_parser_declarations_grammar.proofs.Layers.{mapped_is_some}
 use Rattle.c_parser_declarations.proofs.Words.{enum_body, enum_tag}
 use Rattle.c_parser_declarations.proofs.enumerations.enumeration.Goals as goal
 

@@ -4,7 +4,7 @@ use Rattle.std.proofs.Common.{None, Some, ◌∙◌}
 use Rattle.std.proofs.lemmas.Result.{err_from_is_err_and}
 use Rattle.c_layout.specs.SyntaxTrees.{tree_of}
 use Rattle.c_parser_expressions.specs.Readings.{got}
-use Rattle.c_parser_declarations.proofs.Reading.{enumerator_is, raised_is}
+use Rattle.c_parser_declarations_grammar.proofs.Reading.{enumerator_is, raised_is}
 use Rattle.c_parser_declarations.proofs.enumerations.enumerator.Goals as goal
 
 pub returns-then-not-accept-clause-found : goal.returns-then-not-accept-clause-found

@@ -1,6 +1,6 @@
 use Rattle.c_layout.specs.DeclarationTrees.{enumerator_view}
-use Rattle.c_parser_declarations.proofs.Listing.{map_snoc, items_more, enumerators_listed, enumerators_trailed}
-use Rattle.c_parser_declarations.proofs.Turns.{braced_turn, braced_none, braced_unclosed, braced_last, braced_trailed, braced_over}
+use Rattle.c_parser_declarations_grammar.proofs.Listing.{map_snoc, items_more, enumerators_listed, enumerators_trailed}
+use Rattle.c_parser_declarations_grammar.proofs.Turns.{braced_turn, braced_none, braced_unclosed, braced_last, braced_trailed, braced_over}
 use Rattle.c_parser_declarations.proofs.Signs.{no_right_brace}
 use Rattle.c_parser_expressions.proofs.Signs.{no_comma}
 use Rattle.std.proofs.Common.{◌+◌, arith}

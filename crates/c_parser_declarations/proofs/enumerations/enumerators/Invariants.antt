@@ -1,10 +1,10 @@
 use Rattle.std.proofs.Common.{map, length}
 use Rattle.c_layout.specs.DeclarationTrees.{enumerator_view}
-use Rattle.c_parser_declarations.specs.Findings.{FoundItems}
-use Rattle.c_parser_declarations.specs.Specifiers.{IsEnumerator, enumerator_height}
-use Rattle.c_parser_declarations.specs.Items.{braced}
-use Rattle.c_parser_declarations.proofs.Turns.{BracedLeft}
-use Rattle.c_parser_declarations.specs.SpecifierReaders.{enumerator}
+use Rattle.c_parser_declarations_grammar.specs.Findings.{FoundItems}
+use Rattle.c_parser_declarations_grammar.specs.Specifiers.{IsEnumerator, enumerator_height}
+use Rattle.c_parser_declarations_grammar.specs.Items.{braced}
+use Rattle.c_parser_declarations_grammar.proofs.Turns.{BracedLeft}
+use Rattle.c_parser_declarations_grammar.specs.SpecifierReaders.{enumerator}
 use Rattle.c_parser_declarations.proofs.enumerations.enumerators.Given as goal
 
 abbrev pub invariant-loop-turn : goal.invariant-loop-turn

@@ -1,5 +1,5 @@
 use Rattle.std.proofs.lemmas.Result.{err_from_is_err_and}
-use Rattle.c_parser_declarations.proofs.Reading.{initialized_at, raised_is, raised_none}
+use Rattle.c_parser_declarations_grammar.proofs.Reading.{initialized_at, raised_is, raised_none}
 use Rattle.std.proofs.Common.{None, ◌∙◌}
 use Rattle.c_parser_declarations.proofs.file_declarators.initialized_object.Goals as goal
 

@@ -1,12 +1,12 @@
 use Rattle.c_layout.specs.DeclarationTrees.{initializer_tree}
 use Rattle.c_parser_declarations.proofs.Initializing.{one_more, last_one, last_comma}
-use Rattle.c_parser_declarations.proofs.Listing.{map_snoc}
-use Rattle.c_parser_declarations.proofs.Turns.{braced_turn, braced_none, braced_unclosed, braced_last, braced_trailed, braced_over}
+use Rattle.c_parser_declarations_grammar.proofs.Listing.{map_snoc}
+use Rattle.c_parser_declarations_grammar.proofs.Turns.{braced_turn, braced_none, braced_unclosed, braced_last, braced_trailed, braced_over}
 use Rattle.c_parser_declarations.proofs.Signs.{no_right_brace}
 use Rattle.c_parser_expressions.proofs.Signs.{no_comma}
 use Rattle.std.proofs.Common.{◌+◌, arith}
 use Rattle.std.proofs.lemmas.Result.{err_from_is_err_and}
-use Rattle.c_parser_declarations.proofs.Reading.{initializer_is}
+use Rattle.c_parser_declarations_grammar.proofs.Reading.{initializer_is}
 use Rattle.c_parser_declarations.proofs.initializers.+initializers.Goals as goal
 
 pub initializer_list-loop-turn-preserved : goal.initializer_list-loop-turn-preserved

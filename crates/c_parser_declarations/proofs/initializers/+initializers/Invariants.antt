@@ -1,9 +1,9 @@
 use Rattle.std.proofs.Common.{◌+◌, ◌*◌, map, length}
 use Rattle.c_layout.specs.DeclarationTrees.{initializer_tree}
-use Rattle.c_parser_declarations.specs.Findings.{FoundSome}
-use Rattle.c_parser_declarations.specs.InitializerReaders.{initializer}
-use Rattle.c_parser_declarations.specs.Items.{braced}
-use Rattle.c_parser_declarations.proofs.Turns.{BracedLeft}
+use Rattle.c_parser_declarations_grammar.specs.Findings.{FoundSome}
+use Rattle.c_parser_declarations_grammar.specs.InitializerReaders.{initializer}
+use Rattle.c_parser_declarations_grammar.specs.Items.{braced}
+use Rattle.c_parser_declarations_grammar.proofs.Turns.{BracedLeft}
 use Rattle.c_parser_declarations.proofs.initializers.+initializers.Given as goal
 
 abbrev pub decreases-initializer : goal.decreases-initializer

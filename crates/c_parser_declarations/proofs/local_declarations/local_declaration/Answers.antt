@@ -1,6 +1,6 @@
 use Rattle.std.proofs.lemmas.Result.{err_from_is_err_and}
 use Rattle.std.proofs.Common.{None, ◌∙◌}
-use Rattle.c_parser_declarations.proofs.Reading.{local_at, raised_is}
+use Rattle.c_parser_declarations_grammar.proofs.Reading.{local_at, raised_is}
 use Rattle.c_parser_declarations.proofs.local_declarations.local_declaration.Goals as goal
 
 pub returns-in_err-declared-clause-read : goal.returns-in_err-declared-clause-read

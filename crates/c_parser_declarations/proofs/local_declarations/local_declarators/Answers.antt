@@ -1,5 +1,5 @@
 use Rattle.std.proofs.lemmas.Result.{err_from_is_err_and}
-use Rattle.c_parser_declarations.proofs.Reading.{unended}
+use Rattle.c_parser_declarations_grammar.proofs.Reading.{unended}
 use Rattle.c_parser_declarations.proofs.Signs.{no_semicolon}
 use Rattle.c_parser_declarations.proofs.local_declarations.local_declarators.Goals as goal
 

@@ -1,5 +1,5 @@
 use Rattle.std.proofs.Common.{sym}
-use Rattle.c_parser_declarations.proofs.Reading.{local_judged}
+use Rattle.c_parser_declarations_grammar.proofs.Reading.{local_judged}
 use Rattle.c_parser_declarations.proofs.local_declarations.local_specifiers.Goals as goal
 
 pub returns-then-not-are_local-clause-read : goal.returns-then-not-are_local-clause-read

@@ -1,10 +1,10 @@
 use Rattle.std.proofs.Common.{map, length}
 use Rattle.c_layout.specs.DeclarationTrees.{init_declarator_view}
-use Rattle.c_parser_declarations.specs.Declarations.{IsLocalDeclarator, local_init_height}
-use Rattle.c_parser_declarations.specs.Findings.{FoundItems}
-use Rattle.c_parser_declarations.specs.Items.{listed}
-use Rattle.c_parser_declarations.proofs.Turns.{ListedLeft}
-use Rattle.c_parser_declarations.specs.DeclarationReaders.{local_declarator}
+use Rattle.c_parser_declarations_grammar.specs.Declarations.{IsLocalDeclarator, local_init_height}
+use Rattle.c_parser_declarations_grammar.specs.Findings.{FoundItems}
+use Rattle.c_parser_declarations_grammar.specs.Items.{listed}
+use Rattle.c_parser_declarations_grammar.proofs.Turns.{ListedLeft}
+use Rattle.c_parser_declarations_grammar.specs.DeclarationReaders.{local_declarator}
 use Rattle.c_parser_declarations.proofs.local_declarations.some_declarators.Given as goal
 
 abbrev pub invariant-loop-turn : goal.invariant-loop-turn

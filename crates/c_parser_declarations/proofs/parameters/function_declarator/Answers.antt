@@ -1,7 +1,7 @@
 use Rattle.std.proofs.lemmas.Result.{err_from_is_err_and}
 use Rattle.std.proofs.Common.{None, ◌∙◌}
 use Rattle.c_layout.specs.DeclarationTrees.{name_view}
-use Rattle.c_parser_declarations.proofs.Reading.{function_is, raised_is}
+use Rattle.c_parser_declarations_grammar.proofs.Reading.{function_is, raised_is}
 use Rattle.c_parser_declarations.proofs.parameters.function_declarator.Goals as goal
 
 pub returns-in_err-found-clause-read : goal.returns-in_err-found-clause-read

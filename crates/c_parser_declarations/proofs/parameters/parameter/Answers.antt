@@ -1,6 +1,6 @@
 use Rattle.std.proofs.lemmas.Result.{err_from_is_err_and}
 use Rattle.std.proofs.Common.{None, sym, ◌∙◌}
-use Rattle.c_parser_declarations.proofs.Reading.{parameter_alone, parameter_with, raised_is, raised_none}
+use Rattle.c_parser_declarations_grammar.proofs.Reading.{parameter_alone, parameter_with, raised_is, raised_none}
 use Rattle.c_parser_declarations.proofs.parameters.parameter.Goals as goal
 
 pub returns-then-not-begins_declarator-clause-read : goal.returns-then-not-begins_declarator-clause-read

@@ -1,8 +1,8 @@
 use Rattle.std.proofs.lemmas.Result.{err_from_is_err_and}
 use Rattle.std.proofs.Common.{None, sym, ◌∙◌}
 use Rattle.c_layout.specs.DeclarationTrees.{parameter_view}
-use Rattle.c_parser_declarations.proofs.Layers.{mapped_length}
-use Rattle.c_parser_declarations.proofs.Reading.{parameter_list_is, len_is}
+use Rattle.c_parser_declarations_grammar.proofs.Layers.{mapped_length}
+use Rattle.c_parser_declarations_grammar.proofs.Reading.{parameter_list_is, len_is}
 use Rattle.c_parser_declarations.proofs.parameters.parameter_list.Goals as goal
 
 pub returns-in_err-height-clause-read : goal.returns-in_err-height-clause-read

@@ -1,6 +1,6 @@
 use Rattle.c_layout.specs.DeclarationTrees.{parameter_view}
-use Rattle.c_parser_declarations.proofs.Listing.{map_snoc, items_more, items_last}
-use Rattle.c_parser_declarations.proofs.Turns.{listed_turn, listed_none, listed_last, listed_over}
+use Rattle.c_parser_declarations_grammar.proofs.Listing.{map_snoc, items_more, items_last}
+use Rattle.c_parser_declarations_grammar.proofs.Turns.{listed_turn, listed_none, listed_last, listed_over}
 use Rattle.c_parser_expressions.proofs.Signs.{no_comma}
 use Rattle.std.proofs.Common.{◌+◌, arith}
 use Rattle.std.proofs.lemmas.Result.{err_from_is_err_and}

@@ -1,10 +1,10 @@
 use Rattle.std.proofs.Common.{map, length}
 use Rattle.c_layout.specs.DeclarationTrees.{parameter_view}
-use Rattle.c_parser_declarations.specs.Declarations.{IsParameter, parameter_height}
-use Rattle.c_parser_declarations.specs.Findings.{FoundItems}
-use Rattle.c_parser_declarations.specs.Items.{listed}
-use Rattle.c_parser_declarations.proofs.Turns.{ListedLeft}
-use Rattle.c_parser_declarations.specs.ParameterReaders.{parameter}
+use Rattle.c_parser_declarations_grammar.specs.Declarations.{IsParameter, parameter_height}
+use Rattle.c_parser_declarations_grammar.specs.Findings.{FoundItems}
+use Rattle.c_parser_declarations_grammar.specs.Items.{listed}
+use Rattle.c_parser_declarations_grammar.proofs.Turns.{ListedLeft}
+use Rattle.c_parser_declarations_grammar.specs.ParameterReaders.{parameter}
 use Rattle.c_parser_declarations.proofs.parameters.some_parameters.Given as goal
 
 abbrev pub invariant-loop-turn : goal.invariant-loop-turn

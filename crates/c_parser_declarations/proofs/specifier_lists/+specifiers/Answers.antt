@@ -1,13 +1,13 @@
 use Rattle.std.specs.Option.{option_map}
 use Rattle.std.proofs.Common.{refl, [], map, ◌∙◌, sym, ap, ◌+◌, arith, None}
 use Rattle.c_layout.specs.DeclarationTrees.{name_view, spec_tree, member_tree}
-use Rattle.c_parser_declarations.proofs.Layers.{mapped_is_some, mapped_length}
-use Rattle.c_parser_declarations.proofs.Listing.{map_snoc}
+use Rattle.c_parser_declarations_grammar.proofs.Layers.{mapped_is_some, mapped_length}
+use Rattle.c_parser_declarations_grammar.proofs.Listing.{map_snoc}
 use Rattle.c_parser_declarations.proofs.Specifying.{one_word, whole, one_member, last_member, struct_body, struct_tag}
-use Rattle.c_parser_declarations.proofs.Turns.{chained_turn, chained_none, chained_last, chained_over, words_turn, words_stop, words_over, words_none}
+use Rattle.c_parser_declarations_grammar.proofs.Turns.{chained_turn, chained_none, chained_last, chained_over, words_turn, words_stop, words_over, words_none}
 use Rattle.c_parser_declarations.proofs.Signs.{no_right_brace}
 use Rattle.std.proofs.lemmas.Result.{err_from_is_err_and}
-use Rattle.c_parser_declarations.proofs.Reading.{member_is, structure_at, raised_is}
+use Rattle.c_parser_declarations_grammar.proofs.Reading.{member_is, structure_at, raised_is}
 use Rattle.c_parser_declarations.proofs.specifier_lists.+specifiers.Goals as goal
 
 pub specifiers-loop-turn-preserved : goal.specifiers-loop-turn-preserved

@@ -1,9 +1,9 @@
 use Rattle.std.proofs.Common.{◌+◌, ◌*◌, map, length}
 use Rattle.c_layout.specs.DeclarationTrees.{spec_tree, member_tree}
-use Rattle.c_parser_declarations.specs.Findings.{FoundWords, FoundChain}
-use Rattle.c_parser_declarations.specs.SpecifierReaders.{word, words, specifiers_inside, specifier_readers}
-use Rattle.c_parser_declarations.specs.Items.{chained}
-use Rattle.c_parser_declarations.proofs.Turns.{ChainedLeft, WordsLeft}
+use Rattle.c_parser_declarations_grammar.specs.Findings.{FoundWords, FoundChain}
+use Rattle.c_parser_declarations_grammar.specs.SpecifierReaders.{word, words, specifiers_inside, specifier_readers}
+use Rattle.c_parser_declarations_grammar.specs.Items.{chained}
+use Rattle.c_parser_declarations_grammar.proofs.Turns.{ChainedLeft, WordsLeft}
 use Rattle.c_parser_declarations.proofs.specifier_lists.+specifiers.Given as goal
 
 abbrev pub decreases-specifiers : goal.decreases-specifiers

@@ -2,8 +2,8 @@ use Rattle.std.proofs.Common.{None, Some, map, ◌∙◌, ap, sym}
 use Rattle.std.proofs.lemmas.Result.{err_from_is_err_and}
 use Rattle.c_layout.specs.DeclarationTrees.{spec_tree}
 use Rattle.c_parser_expressions.specs.TypeNames.{is_one_type}
-use Rattle.c_parser_declarations.proofs.Layers.{mapped_length}
-use Rattle.c_parser_declarations.proofs.Reading.{judged_is, len_is}
+use Rattle.c_parser_declarations_grammar.proofs.Layers.{mapped_length}
+use Rattle.c_parser_declarations_grammar.proofs.Reading.{judged_is, len_is}
 use Rattle.c_parser_declarations.proofs.specifier_lists.listed.Goals as goal
 
 pub returns-in_err-height-clause-read : goal.returns-in_err-height-clause-read

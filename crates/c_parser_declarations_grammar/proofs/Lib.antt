@@ -1,0 +1,4 @@
+pub mod Layers
+pub mod Listing
+pub mod Reading
+pub mod Turns

@@ -1,0 +1,14 @@
+pub mod Answers
+pub mod DeclarationReaders
+pub mod Declarations
+pub mod DeclaratorReaders
+pub mod Declarators
+pub mod Findings
+pub mod InitializerReaders
+pub mod Initializers
+pub mod Items
+pub mod Lists
+pub mod ParameterReaders
+pub mod SpecifierReaders
+pub mod Specifiers
+pub mod StorageClasses
