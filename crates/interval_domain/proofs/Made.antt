@@ -6,7 +6,8 @@ use Rattle.cc_base.specs.IntegerTypes.{greatest_of}
 use Rattle.interval_domain.specs.declared.intervals.Interval.{Interval}
 use Rattle.interval_domain.specs.declared.intervals.Interval.TheVariants.{Bottom, Of}
 use Rattle.interval_domain.specs.Spans.{between_or_empty, by_between, interval_bounds}
-use Rattle.interval_domain.specs.Arithmetic.{IsApart, HasApartEnds, AreCounts, AreMultiplicands, ApartFromZero}
+use Rattle.interval_domain_numbers.specs.SingleNumbers.{ApartFromZero}
+use Rattle.interval_domain.specs.Arithmetic.{IsApart, HasApartEnds, AreCounts, AreMultiplicands}
 
 -- the bounds of a span that was made are the two numbers
 abbrev pub HasEnds : ℤ → ℤ → Interval → Type 0

@@ -1,6 +1,7 @@
 -- The operators on intervals, and conversion to a type.
-use Rattle.std.specs.Prelude.{ℕ, ◌-◌, ◌*◌, ◌^◌, max, ℤ, pos, negsuc, ◌+ℤ◌, ◌-ℤ◌, ◌*ℤ◌, neg_ℤ, Bool, cond, ◌&&◌, ◌<ℤ◌, ◌≤ℤ◌, ◌⊎◌, int_le, int_lt, int_div, int_rem, bit_and, bit_or, bit_xor, unsigned_abs}
-use Rattle.std.specs.Int.{int_min, int_max, int_rem_euclid, int_shr, leading_zeros, w128}
+pub use Rattle.interval_domain_numbers.specs.SingleNumbers.{ApartFromZero, ones_above, scaled, halved}
+use Rattle.std.specs.Prelude.{ℕ, ◌*◌, max, ℤ, pos, negsuc, ◌+ℤ◌, ◌-ℤ◌, ◌*ℤ◌, neg_ℤ, Bool, cond, ◌&&◌, ◌<ℤ◌, ◌≤ℤ◌, ◌⊎◌, int_le, int_lt, int_div, int_rem, bit_and, bit_or, bit_xor, unsigned_abs}
+use Rattle.std.specs.Int.{int_min, int_max, int_rem_euclid}
 use Rattle.std.specs.Ordering.{int_eq}
 use Rattle.cc_base.specs.declared.int_types.IntType.{IntType}
 use Rattle.cc_base.specs.declared.integer_operators.IntOp.{IntOp}
@@ -57,9 +58,6 @@ abbrev pub products : IntType → Span → Span → Interval
 products k s t = into k (least_of_four (s.lo *ℤ t.lo) (s.lo *ℤ t.hi) (s.hi *ℤ t.lo) (s.hi *ℤ t.hi)) (greatest_of_four (s.lo *ℤ t.lo) (s.lo *ℤ t.hi) (s.hi *ℤ t.lo) (s.hi *ℤ t.hi))
 
 -- ---- /
-
-abbrev pub ApartFromZero : ℤ → Type 0
-ApartFromZero n = (n <ℤ pos 0) ⊎ (pos 0 <ℤ n)
 
 -- all numbers are below zero or all are above
 abbrev pub IsApart : Interval → Type 0
@@ -133,10 +131,6 @@ with_bits k n = between_or_empty (wrap_into k (pos n)) (wrap_into k (pos n))
 abbrev pub are_single : Span → Span → Bool
 are_single s t = is_single s && is_single t
 
--- 2^j - 1 for the least j with n below 2^j
-abbrev pub ones_above : ℕ → ℤ
-ones_above n = pos (2 ^ (128 - leading_zeros w128 n) - 1)
-
 -- an operand that is not below zero bounds the result
 abbrev pub and_bound : IntType → Span → Span → Interval
 and_bound k s t = cond (int_le (pos 0) s.lo) (cond (int_le (pos 0) t.lo) (clamped k (pos 0) (int_min s.hi t.hi)) (clamped k (pos 0) s.hi)) (cond (int_le (pos 0) t.lo) (clamped k (pos 0) t.hi) (whole k))
@@ -170,10 +164,6 @@ abbrev pub AreMultiplicands : IntType → Interval → Type 0
 AreMultiplicands k Bottom = Unit {0}
 AreMultiplicands k (Of s) = (pos 0 ≤ℤ s.lo) × (s.hi ≤ℤ greatest_of k)
 
--- z times 2 to the power n
-abbrev pub scaled : ℤ → ℤ → ℤ
-scaled z n = z *ℤ pos (2 ^ unsigned_abs n)
-
 abbrev pub scaled_by : IntType → Interval → Interval → Interval
 scaled_by k Bottom y = Bottom
 scaled_by k (Of s) Bottom = Bottom
@@ -182,10 +172,6 @@ scaled_by k (Of s) (Of t) = into k (scaled s.lo t.lo) (scaled s.hi t.hi)
 -- of the numbers from 0 to the greatest of the type
 abbrev pub shifted_left : IntType → Span → Span → Interval
 shifted_left k s t = scaled_by k (between_or_empty (int_max s.lo (pos 0)) (int_min s.hi (greatest_of k))) (counts k t)
-
--- z divided by 2 to the power n, rounded down
-abbrev pub halved : ℤ → ℤ → ℤ
-halved z n = int_shr z (unsigned_abs n)
 
 abbrev pub halved_by : Span → Interval → Interval
 halved_by s Bottom = Bottom

@@ -1,5 +1,5 @@
 -- Four numbers lie in one block exactly where the least and the greatest of them do, and then wrapping keeps their order.
-use Rattle.std.specs.Prelude.{◌≡◌, ℕ, ◌*◌, ◌/◌, ◌<◌, ◌≤◌, ℤ, pos, negsuc, ◌-ℤ◌, ◌≤ℤ◌, Bool, true, false, cond, ◌&&◌, int_lt, refl}
+use Rattle.std.specs.Prelude.{◌≡◌, ℕ, ◌*◌, ◌/◌, ◌<◌, ◌≤◌, ℤ, pos, negsuc, ◌-ℤ◌, ◌≤ℤ◌, Bool, true, false, cond, int_lt, refl}
 use Rattle.std.specs.Int.{int_min, int_max, int_div_euclid, int_rem_euclid}
 use Rattle.std.specs.Ordering.{int_eq}
 use Rattle.std.proofs.Common.{arith, ap, ap₂, ◌∙◌, sym}
@@ -10,6 +10,7 @@ use Rattle.std.proofs.lemmas.Nat.{div-add-mod', le-div, pow_pos}
 use Rattle.cc_base.specs.IntegerTypes.{modulus, least_of, wrap_into, block_of}
 use Rattle.cc_base.specs.declared.int_types.IntType.{IntType}
 use Rattle.interval_domain.specs.declared.intervals.Interval.{Interval}
+use Rattle.interval_domain_numbers.specs.TurnedNumbers.{one_block}
 use Rattle.interval_domain.specs.Spans.{between_or_empty}
 use Rattle.interval_domain.specs.Arithmetic.{least_of_four, greatest_of_four, whole, wrapped}
 
@@ -81,10 +82,6 @@ pub four_lie : (a b c d : ℤ) → Bounding (least_of_four a b c d) (greatest_of
 four_lie a b c d = (record { lower = omega (arith, ints, clamps); upper = omega (arith, ints, clamps) }, (record { lower = omega (arith, ints, clamps); upper = omega (arith, ints, clamps) }, (record { lower = omega (arith, ints, clamps); upper = omega (arith, ints, clamps) }, record { lower = omega (arith, ints, clamps); upper = omega (arith, ints, clamps) })))
 
 -- ---- wrapping the hull of four numbers
-
--- all four have one block
-abbrev pub one_block : ℤ → ℤ → ℤ → ℤ → Bool
-one_block a b c d = int_eq a b && (int_eq a c && int_eq a d)
 
 eq_from : (a b : ℤ) → int_eq a b ≡ true → a ≡ b
 eq_from a b h = (Decides-int_eq a b).0 h

@@ -23,7 +23,7 @@ use Rattle.interval_domain.specs.declared.intervals.Interval.TheVariants.{Bottom
 use Rattle.interval_domain.specs.Spans.{between_or_empty, between_some, by_between, interval_bounds, Stands}
 use Rattle.interval_domain.specs.IntervalOrder.{interval_leq, leq_stands, leq_reflexive}
 use Rattle.interval_domain.specs.IntervalRound.{interval_round, round_down, round_up, down_from, up_from, contains_from}
-use Rattle.interval_domain.specs.Nearest.{Has}
+use Rattle.interval_domain_numbers.specs.Nearest.{Has}
 use Rattle.interval_domain.specs.IntervalLattice.{interval_lattice}
 use Rattle.interval_domain.specs.Arithmetic.{interval_arith, interval_unary, interval_convert, arith_spans, clamped, whole, wrapped, into, met, with_bits, bits_in, are_single, is_single, greatest_size, least_size, and_bound, or_bound, is_of_type, if_of_type, remainder, remainders_by, without_zero, towards_zero, scaled_by}
 use Rattle.interval_domain.specs.Relations.{interval_compare, interval_refine, refined, without_end}

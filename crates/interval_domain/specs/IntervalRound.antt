@@ -11,11 +11,7 @@ use Rattle.interval_domain.specs.declared.intervals.Interval.{Interval}
 use Rattle.interval_domain.specs.declared.intervals.Interval.TheVariants.{Bottom, Of}
 use Rattle.interval_domain.specs.Spans.{same_spans, between_or_empty, between_own}
 use Rattle.interval_domain.specs.IntervalOrder.{interval_leq, interval_join}
-use Rattle.interval_domain.specs.Nearest.{nearest, or_own, Has, IsOrder, rounded_not_past, rounded_monotone, rounded_idempotent, rounded_has, rounded_from}
-
--- the order turned round
-abbrev pub int_ge : ℤ → ℤ → Bool
-int_ge a b = int_le b a
+use Rattle.interval_domain_numbers.specs.Nearest.{int_ge, nearest, or_own, Has, IsOrder, rounded_not_past, rounded_monotone, rounded_idempotent, rounded_has, rounded_from}
 
 pub le_order : IsOrder int_le
 le_order = record {

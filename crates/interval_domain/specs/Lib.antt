@@ -1,6 +1,8 @@
+pub use Rattle.interval_domain_numbers.specs.Nearest
+pub use Rattle.interval_domain_numbers.specs.SingleNumbers
+pub use Rattle.interval_domain_numbers.specs.TurnedNumbers
 pub mod Spans
 pub mod IntervalOrder
-pub mod Nearest
 pub mod IntervalRound
 pub mod IntervalLattice
 pub mod Arithmetic

@@ -1,44 +1,20 @@
 -- Products whose bounds need more than 128 bits.
-use Rattle.std.specs.Prelude.{◌≡◌, ℕ, ◌+◌, ◌-◌, ◌*◌, ◌/◌, ◌%◌, ◌<◌, ◌^◌, suc, ℤ, pos, negsuc, ◌+ℤ◌, ◌-ℤ◌, ◌≤ℤ◌, ◌<ℤ◌, false, cond}
+use Rattle.std.specs.Prelude.{◌≡◌, ◌-◌, ◌*◌, ◌^◌, ℤ, pos, negsuc, ◌+ℤ◌, ◌-ℤ◌, ◌≤ℤ◌, ◌<ℤ◌, false, cond}
 use Rattle.std.specs.Int.{int_min, int_max, int_div_euclid, int_rem_euclid, saturate_signed, w128}
-use Rattle.std.proofs.Common.{arith, ap, ap₂, ◌∙◌, sym, subst}
+use Rattle.std.proofs.Common.{arith, ap, ap₂, ◌∙◌, sym}
 use Rattle.std.proofs.lemmas.Int.{ints, clamps, by_lt_z}
-use Rattle.std.proofs.lemmas.Nat.{div-add-mod', div-mul-add, mod-mul-add}
 use Rattle.cc_base.specs.IntegerTypes.{modulus, least_of, greatest_of, wrap_into, block_of}
 use Rattle.cc_base.specs.declared.int_types.IntType.{IntType}
 use Rattle.interval_domain.specs.declared.intervals.Interval.{Interval}
-use Rattle.interval_domain.specs.declared.turned_numbers.Turned.{Turned}
+use Rattle.interval_domain_numbers.specs.declared.turned_numbers.Turned.{Turned}
 use Rattle.interval_domain.specs.Spans.{between_or_empty, between_none}
-use Rattle.interval_domain.specs.Blocks.{one_block, hull_wraps}
+use Rattle.interval_domain_numbers.specs.TurnedNumbers.{turned, one_block}
+use Rattle.interval_domain.specs.Blocks.{hull_wraps}
 use Rattle.interval_domain.specs.Arithmetic.{least_of_four, greatest_of_four, whole, wrapped, clamped}
-
--- the block of m numbers that holds z, and its place in the block
-abbrev pub turned : ℕ → ℤ → Turned
-turned m z = record { turns = int_div_euclid z (pos m); rest = int_rem_euclid z (pos m) }
 
 -- the block of a type that holds z, and the number of the type
 abbrev pub in_block : IntType → ℤ → Turned
 in_block k z = record { turns = block_of k z; rest = wrap_into k z }
-
-abbrev pub next_start : ℤ → Turned
-next_start q = record { turns = q +ℤ pos 1; rest = pos 0 }
-
--- ---- one more
-
-next_block : (n m : ℕ) → 0 < m → (n % m) + 1 ≡ m → (suc n / m ≡ n / m + 1) × (suc n % m ≡ 0)
-next_block n m h k =
-    let e = div-add-mod' n m in
-    let q : (n / m + 1) * m ≡ (n / m) * m + m = omega arith in
-    let p : (n / m + 1) * m + 0 ≡ suc n = omega arith in
-    (subst (λ x. x / m ≡ n / m + 1) p (div-mul-add (n / m + 1) m 0 h), subst (λ x. x % m ≡ 0) p (mod-mul-add (n / m + 1) m 0 h))
-
-pub turned_next : (n m : ℕ) (q : ℤ) → 0 < m → q ≡ pos (n / m) → (n % m) + 1 ≡ m → next_start q ≡ turned m (pos (n + 1))
-turned_next n m q h e f =
-    let r = next_block n m h f in
-    let a : (q +ℤ pos 1) ≡ pos (suc n / m) = omega (arith, ints) in
-    let b : pos 0 ≡ pos (suc n % m) = ap pos (sym r.1) in
-    let c : suc n ≡ n + 1 = omega arith in
-    subst (λ x. next_start q ≡ turned m (pos x)) c (λ i. record { turns = a i; rest = b i })
 
 -- ---- the blocks of an unsigned type
 

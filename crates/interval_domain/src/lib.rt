@@ -9,7 +9,6 @@ mod span_division;
 mod span_products;
 mod span_relations;
 mod spans;
-mod turned_numbers;
 
 pub use intervals::Interval;
 pub use spans::Span;

@@ -4,7 +4,7 @@ ghost use Rattle.std.specs.Int.{w128};
 ghost use Rattle.cc_base.specs.IntegerTypes.{is_size, least_of, greatest_of};
 ghost use Rattle.cc_base.specs.IntegerDomains.{IsNear};
 ghost use Rattle.interval_domain.specs.Spans.{between_or_empty};
-ghost use Rattle.interval_domain.specs.Arithmetic.{clamped, whole, wrapped, into, corners, least_of_four, greatest_of_four, met, sums, differences, quotients, quotients_by, without_zero, least_size, greatest_size, remainder, towards_zero, remainders, remainders_by, bits_in, with_bits, ones_above, and_bound, or_bound, conjunctions, disjunctions, exclusives, counts, scaled, scaled_by, shifted_left, halved, halved_by, shifted_right, is_single, are_single};
+ghost use Rattle.interval_domain.specs.Arithmetic.{clamped, whole, wrapped, into, corners, least_of_four, greatest_of_four, met, sums, differences, quotients, quotients_by, without_zero, least_size, greatest_size, remainder, towards_zero, remainders, remainders_by, bits_in, with_bits, and_bound, or_bound, conjunctions, disjunctions, exclusives, counts, scaled_by, shifted_left, halved_by, shifted_right, is_single, are_single};
 
 use crate::intervals::{Interval, between_or_empty};
 use crate::spans::Span;

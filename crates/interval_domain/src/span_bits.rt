@@ -1,15 +1,16 @@
 //! Bitwise operators on spans.
-ghost use Rattle.std.specs.Prelude.{◌≡◌, ◌≤ℤ◌, ◌<ℤ◌, ◌-ℤ◌, ◌<◌, ◌≤◌, ◌*◌, ◌^◌, ℕ, ℤ, true, Some, FitsSigned, pos, unsigned_abs, bit_and, bit_or, bit_xor, ◌&&◌, int_le};
+ghost use Rattle.std.specs.Prelude.{◌≡◌, ◌≤ℤ◌, ◌<ℤ◌, ◌-ℤ◌, ◌<◌, ◌*◌, ◌^◌, ℕ, ℤ, true, Some, FitsSigned, pos, unsigned_abs, bit_and, bit_or, bit_xor, ◌&&◌, int_le};
 ghost use Rattle.std.specs.Int.{w128};
 ghost use Rattle.cc_base.specs.IntegerTypes.{is_size, modulus, least_of, wrap_into};
 ghost use Rattle.cc_base.specs.IntegerDomains.{IsNear};
-ghost use Rattle.interval_domain.specs.Arithmetic.{bits_in, with_bits, ones_above, is_of_type, and_bound, or_bound, conjunctions, disjunctions, exclusives, is_single, are_single};
+ghost use Rattle.interval_domain_numbers.specs.SingleNumbers.{ones_above};
+ghost use Rattle.interval_domain.specs.Arithmetic.{bits_in, with_bits, is_of_type, and_bound, or_bound, conjunctions, disjunctions, exclusives, is_single, are_single};
 
 use crate::intervals::{Interval, between_or_empty};
 use crate::span_arithmetic::{are_single, clamped, whole};
-use crate::span_division::power_of_two;
 use crate::spans::Span;
 use cc_base::IntType;
+use interval_domain_numbers::ones_above;
 
 /// The bits of a number in the type.
 fn bits_in(kind: IntType, n: i128) -> u128
@@ -28,14 +29,6 @@ fn with_bits(kind: IntType, bits: u128) -> Interval
 {
     let n = kind.wrap(bits as i128);
     between_or_empty(n, n)
-}
-
-/// 2^j - 1 for the least j with `n` below 2^j.
-fn ones_above(n: u128) -> i128
-    requires { n ≤ 2 ^ 64 }
-    ensures { result ≡ ones_above n }
-{
-    power_of_two(128 - n.leading_zeros()) - 1
 }
 
 /// Where an operand is not below zero, it bounds `&`.

@@ -1,25 +1,18 @@
 //! Division, remainder and shifts of spans.
-ghost use Rattle.std.specs.Prelude.{◌≡◌, ◌≤ℤ◌, ◌<ℤ◌, ◌+ℤ◌, ◌-ℤ◌, ◌*ℤ◌, neg_ℤ, ◌<◌, ◌*◌, ◌-◌, ◌^◌, ◌⊎◌, ℕ, ℤ, true, ◌&&◌, cond, Some, FitsSigned, int_div, int_rem, int_lt, pos, negsuc, unsigned_abs};
+ghost use Rattle.std.specs.Prelude.{◌≡◌, ◌≤ℤ◌, ◌<ℤ◌, ◌+ℤ◌, ◌-ℤ◌, ◌*ℤ◌, neg_ℤ, ◌<◌, ◌-◌, ◌^◌, ◌⊎◌, ℕ, ℤ, true, ◌&&◌, cond, Some, FitsSigned, int_div, int_rem, int_lt, pos, negsuc};
 ghost use Rattle.std.specs.Ordering.{int_eq};
 ghost use Rattle.std.specs.Int.{w128, int_shr, int_min, int_max};
 ghost use Rattle.cc_base.specs.IntegerTypes.{is_size, least_of, greatest_of};
 ghost use Rattle.cc_base.specs.IntegerDomains.{IsNear};
 ghost use Rattle.interval_domain.specs.Spans.{interval_bounds, between_or_empty};
-ghost use Rattle.interval_domain.specs.Arithmetic.{corners, quotients, quotients_by, without_zero, least_size, greatest_size, remainder, towards_zero, remainders, remainders_by, is_single, counts, scaled, scaled_by, shifted_left, halved, halved_by, shifted_right, ApartFromZero, IsApart, HasApartEnds, AreCounts, AreMultiplicands, clamped};
+ghost use Rattle.interval_domain_numbers.specs.SingleNumbers.{scaled, halved, ApartFromZero};
+ghost use Rattle.interval_domain.specs.Arithmetic.{corners, quotients, quotients_by, without_zero, least_size, greatest_size, remainder, towards_zero, remainders, remainders_by, is_single, counts, scaled_by, shifted_left, halved_by, shifted_right, IsApart, HasApartEnds, AreCounts, AreMultiplicands, clamped};
 
 use crate::intervals::{Interval, between_or_empty};
 use crate::span_arithmetic::{are_single, clamped, hull_of_four, into, met, one_less};
 use crate::spans::Span;
 use cc_base::{IntType, Lattice};
-
-/// A quotient, truncated towards zero.
-fn quotient(a: i128, b: i128) -> i128
-    requires small { FitsSigned w128 (neg_ℤ a) }
-    requires divisor { ApartFromZero b }
-    ensures { result ≡ int_div a b }
-{
-    a / b
-}
+use interval_domain_numbers::{above_zero, below_zero, halved, quotient, rest, scaled};
 
 /// The quotients by the numbers of a span without zero.
 fn quotients_by_span(s: Span, t: Span) -> Interval
@@ -71,24 +64,6 @@ pub fn quotients(kind: IntType, s: Span, t: Span) -> Interval
     met(kind, below.join(above))
 }
 
-/// The number, or 1 in place of 0.
-fn above_zero(n: i128) -> i128
-    ensures value { result ≡ cond (int_eq n (pos 0)) (pos 1) n }
-    ensures apart { ApartFromZero result }
-    ensures not_below { n ≤ℤ result }
-{
-    if n == 0 { 1 } else { n }
-}
-
-/// The number, or -1 in place of 0.
-fn below_zero(n: i128) -> i128
-    ensures value { result ≡ cond (int_eq n (pos 0)) (negsuc 0) n }
-    ensures apart { ApartFromZero result }
-    ensures not_above { result ≤ℤ n }
-{
-    if n == 0 { -1 } else { n }
-}
-
 /// A span without a zero at its ends.
 fn without_zero(t: Span) -> Interval
     requires { IsNear (Some (t.lo, t.hi)) }
@@ -121,15 +96,6 @@ fn greatest_size(t: Span) -> i128
     ensures positive { pos 0 ≤ℤ result }
 {
     (-t.lo).max(t.hi)
-}
-
-/// A remainder, with the sign of the dividend.
-fn rest(a: i128, b: i128) -> i128
-    requires small { FitsSigned w128 (neg_ℤ a) }
-    requires divisor { ApartFromZero b }
-    ensures { result ≡ int_rem a b }
-{
-    a % b
 }
 
 /// The number `n` alone, where the type has it.
@@ -260,36 +226,6 @@ fn counts(kind: IntType, t: Span) -> Interval
     ensures range { AreCounts result }
 {
     between_or_empty(t.lo.max(0), t.hi.min(kind.width() as i128 - 1))
-}
-
-/// 2 to the power `n`.
-pub fn power_of_two(n: u32) -> i128
-    requires { n < 127 }
-    ensures { result ≡ pos (2 ^ n) }
-{
-    1 << n
-}
-
-/// `z` times 2 to the power `n`.
-fn scaled(z: i128, n: i128) -> i128
-    requires lo { pos 0 ≤ℤ n }
-    requires hi { n ≤ℤ pos 63 }
-    requires nonnegative { pos 0 ≤ℤ z }
-    requires small { z <ℤ pos (2 ^ 64) }
-    ensures value { result ≡ scaled z n }
-    ensures nonnegative { pos 0 ≤ℤ result }
-    ensures bound { result ≤ℤ pos (unsigned_abs z * 2 ^ 63) }
-{
-    z * power_of_two(n as u32)
-}
-
-/// `z` divided by 2 to the power `n`, rounded down.
-fn halved(z: i128, n: i128) -> i128
-    requires lo { pos 0 ≤ℤ n }
-    requires hi { n ≤ℤ pos 63 }
-    ensures { result ≡ halved z n }
-{
-    z >> n as u32
 }
 
 fn halved_span(s: Span, t: Span) -> Interval

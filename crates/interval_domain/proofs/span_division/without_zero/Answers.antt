@@ -2,7 +2,7 @@ use Rattle.std.proofs.Common.{arith, sym, subst, rules, FitsSigned}
 use Rattle.std.specs.Int.{w128}
 use Rattle.std.proofs.lemmas.Int.{ints, to_z-of_z}
 use Rattle.interval_domain.proofs.Made.{are_apart, is_near}
-use Rattle.interval_domain.specs.Arithmetic.{ApartFromZero}
+use Rattle.interval_domain_numbers.specs.SingleNumbers.{ApartFromZero}
 use Rattle.interval_domain.proofs.span_division.without_zero.Goals as goal
 
 pub returns-clause-ends : goal.returns-clause-ends

@@ -2,7 +2,8 @@ use Rattle.std.proofs.Common.{ap₂, ◌∙◌, rules, FitsSigned, ◌*ℤ◌}
 use Rattle.std.specs.Int.{w128}
 use Rattle.std.proofs.lemmas.Int.{to_z-of_z}
 use Rattle.cc_base.specs.IntegerTypes.{modulus}
-use Rattle.interval_domain.specs.Products.{turned, turned_hull_wraps}
+use Rattle.interval_domain_numbers.specs.TurnedNumbers.{turned}
+use Rattle.interval_domain.specs.Products.{turned_hull_wraps}
 use Rattle.interval_domain.proofs.span_products.unsigned_products.Goals as goal
 
 pub returns : goal.returns

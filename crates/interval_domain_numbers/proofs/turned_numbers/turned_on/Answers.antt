@@ -3,8 +3,8 @@ use Rattle.std.specs.Int.{w128}
 use Rattle.std.proofs.lemmas.Int.{ints, to_z-of_z}
 use Rattle.std.proofs.lemmas.Nat.{pow_pos}
 use Rattle.cc_base.specs.IntegerTypes.{modulus}
-use Rattle.interval_domain.specs.Products.{turned_next}
-use Rattle.interval_domain.proofs.span_products.turned_on.Goals as goal
+use Rattle.interval_domain_numbers.specs.TurnedNumbers.{turned_next}
+use Rattle.interval_domain_numbers.proofs.turned_numbers.turned_on.Goals as goal
 
 pub returns-then-rest-modulus : goal.returns-then-rest-modulus
 returns-then-rest-modulus c =

@@ -1,9 +1,9 @@
 use Rattle.std.proofs.Common.{◌≡◌, arith, ap₂, sym, subst, ◌∙◌, rules, FitsSigned, to_z, of_z, ◌≤ℤ◌, ◌*ℤ◌, ◌*◌, ◌^◌, pos, unsigned_abs}
 use Rattle.std.specs.Int.{w128}
 use Rattle.std.proofs.lemmas.Int.{ints, to_z-of_z}
-use Rattle.interval_domain.proofs.Ranges.{Scaling, scaling}
-use Rattle.interval_domain.specs.Arithmetic.{scaled}
-use Rattle.interval_domain.proofs.span_division.scaled.Goals as goal
+use Rattle.interval_domain_numbers.proofs.Powers.{Scaling, scaling}
+use Rattle.interval_domain_numbers.specs.SingleNumbers.{scaled}
+use Rattle.interval_domain_numbers.proofs.scaled_numbers.scaled.Goals as goal
 
 pub overflow_mul-result : goal.overflow_mul-result
 overflow_mul-result c =

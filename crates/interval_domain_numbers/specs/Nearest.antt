@@ -1,8 +1,12 @@
 -- The number of a list that is nearest to a number from one side.
-use Rattle.std.specs.Prelude.{◌≡◌, ℤ, Bool, true, false, cond, Option, Some, None, List, [], ◌∷◌, refl, ◌⊎◌}
+use Rattle.std.specs.Prelude.{◌≡◌, ℤ, Bool, true, false, cond, int_le, Option, Some, None, List, [], ◌∷◌, refl, ◌⊎◌}
 use Rattle.std.specs.List.{fold}
 use Rattle.std.proofs.Common.{ap, sym, inl, inr, subst}
 use Rattle.std.proofs.lemmas.Bool.{cond_both, false_from_ne_true}
+
+-- the order turned round
+abbrev pub int_ge : ℤ → ℤ → Bool
+int_ge a b = int_le b a
 
 -- the later of two numbers in an order
 abbrev pub later : (ℤ → ℤ → Bool) → Option ℤ → ℤ → ℤ

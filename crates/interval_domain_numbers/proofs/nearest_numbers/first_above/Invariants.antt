@@ -1,9 +1,8 @@
 use Rattle.std.proofs.Common.{◌≡◌, None, take, FitsSigned, IfSome}
 use Rattle.std.specs.Int.{w128}
 use Rattle.std.specs.List.{fold}
-use Rattle.interval_domain.specs.Nearest.{nearer}
-use Rattle.interval_domain.specs.IntervalRound.{int_ge}
-use Rattle.interval_domain.proofs.intervals.first_above.Given as goal
+use Rattle.interval_domain_numbers.specs.Nearest.{nearer, int_ge}
+use Rattle.interval_domain_numbers.proofs.nearest_numbers.first_above.Given as goal
 
 abbrev pub invariant-loop-n : goal.invariant-loop-n
 invariant-loop-n l = record {

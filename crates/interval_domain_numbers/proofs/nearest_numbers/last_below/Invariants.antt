@@ -1,8 +1,8 @@
 use Rattle.std.proofs.Common.{◌≡◌, None, int_le, take, FitsSigned, IfSome}
 use Rattle.std.specs.Int.{w128}
 use Rattle.std.specs.List.{fold}
-use Rattle.interval_domain.specs.Nearest.{nearer}
-use Rattle.interval_domain.proofs.intervals.last_below.Given as goal
+use Rattle.interval_domain_numbers.specs.Nearest.{nearer}
+use Rattle.interval_domain_numbers.proofs.nearest_numbers.last_below.Given as goal
 
 abbrev pub invariant-loop-n : goal.invariant-loop-n
 invariant-loop-n l = record {
