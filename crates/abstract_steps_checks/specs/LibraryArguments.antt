@@ -10,7 +10,7 @@ use Rattle.pointer_domain.specs.declared.pointer_sets.Pointers.{Pointers}
 use Rattle.pointer_domain.specs.BaseSets.{no_base}
 use Rattle.pointer_domain.specs.PointerTables.{offsets, rooms}
 use Rattle.value_domain.specs.declared.row_cells.Cell.{Cell}
-use Rattle.store_domain_cells.specs.declared.access_windows.Window.{Window}
+use Rattle.store_domain.specs.Window.{Window}
 use Rattle.store_domain.specs.AccessWindows.{window_within}
 use Rattle.store_domain.specs.NearValues.{near_pointer}
 use Rattle.store_domain.specs.LiveBases.{live_of, any_freed, writable_of}

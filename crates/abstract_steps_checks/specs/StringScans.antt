@@ -9,9 +9,9 @@ use Rattle.pointer_domain.specs.declared.base_sets.Bases.{Bases}
 use Rattle.pointer_domain.specs.declared.pointer_sets.Pointers.{Pointers}
 use Rattle.pointer_domain.specs.BaseSets.{no_base, bases_union}
 use Rattle.pointer_domain.specs.PointerTables.{offsets, rooms}
-use Rattle.string_domain.specs.ZeroTables.{scanned}
+use Rattle.value_domain.specs.ZeroTables.{scanned}
 use Rattle.value_domain.specs.declared.row_cells.Cell.{Cell}
-use Rattle.store_domain_cells.specs.declared.access_windows.Window.{Window}
+use Rattle.store_domain.specs.Window.{Window}
 use Rattle.store_domain.specs.AccessWindows.{window_within}
 use Rattle.store_domain.specs.NearValues.{near_number}
 use Rattle.store_domain.specs.RowPositions.{zero_at, zero_position}

@@ -27,7 +27,7 @@ use Rattle.lib_models_effects.specs.UnitStarts.{start_world}
 use Rattle.store_domain_sound.specs.ValueMeaning.{Naming}
 use Rattle.store_domain_sound.specs.RowMeaning.{StandsFor}
 use Rattle.store_domain_sound.specs.Coverage.{state_of, EachRunIsCovered}
-use Rattle.store_domain_sound_programs.proofs.ShapedBases.{all_at}
+use Rattle.abstract_steps_sound.proofs.ShapedBases.{all_at}
 use Rattle.abstract_steps_sound.specs.OperandTypes.{HasOperands}
 use Rattle.abstract_steps_sound.specs.SoundSteps.{AreShort, IsReached, StandsBehind}
 use Rattle.abstract_steps_covered.specs.SoundEnds.{StepsGoOnSoundly, EndsGoOnSoundly}

@@ -3,3 +3,9 @@ pub mod GoingOn
 pub mod AdmittedPairs
 pub mod MapPairs
 pub mod Covering
+pub use Rattle.abstract_steps_sound.proofs.MoveSteps
+pub use Rattle.abstract_steps_sound.proofs.NearScalars
+pub use Rattle.abstract_steps_sound.proofs.Admitted
+pub use Rattle.abstract_steps_sound.proofs.PutTemps
+pub use Rattle.abstract_steps_sound.proofs.Truths
+pub use Rattle.abstract_steps_sound.proofs.TypeRanges

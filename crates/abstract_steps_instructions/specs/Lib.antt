@@ -3,3 +3,7 @@ pub mod CallSteps
 pub mod OperationGroups
 pub mod Steps
 pub mod StepViolations
+pub use Rattle.abstract_steps_values.specs.IntegerSteps
+pub use Rattle.abstract_steps_values.specs.PointerSteps
+pub use Rattle.abstract_steps_values.specs.ResultTemps
+pub use Rattle.abstract_steps_values.specs.Scalars

@@ -28,7 +28,7 @@ use Rattle.value_domain_laws.proofs.Leaving.{AreOrdered}
 use Rattle.value_domain_laws.proofs.ValueOperations.{truth_monotone}
 use Rattle.store_domain_laws.specs.TopRows.{top_row}
 use Rattle.abstract_steps_checks.specs.Temporaries.{temp_value}
-use Rattle.abstract_steps.specs.Edges.{deciding_temp, line_call, truth_can_be, includes, has_label, is_other_than, can_be, put_kept, refine_if, kept_behind, behind_test, branch_edge, put_null, switched, refine_named_case, refine_object, case_edge, no_line_edge, line_edge, follow, follow_if, edge}
+use Rattle.abstract_steps_system.specs.Edges.{deciding_temp, line_call, truth_can_be, includes, has_label, is_other_than, can_be, put_kept, refine_if, kept_behind, behind_test, branch_edge, put_null, switched, refine_named_case, refine_object, case_edge, no_line_edge, line_edge, follow, follow_if, edge}
 use Rattle.abstract_steps_laws_values.specs.RisingRows.{LeftRise}
 use Rattle.abstract_steps_laws_values.specs.LaidOut.{IsLaidOut}
 use Rattle.abstract_steps_laws_values.specs.StepLaws.{FlowRows, Rises}

@@ -34,11 +34,11 @@ use Rattle.abstract_steps_values.specs.ResultTemps.{put_number, put_truth, put_p
 use Rattle.abstract_steps_values.specs.Scalars.{class_of}
 use Rattle.abstract_steps_values.specs.IntegerSteps.{constant_step, binary_step, unary_step, compare_step, not_step, put_converted, convert_value, convert_step}
 use Rattle.abstract_steps_values.specs.PointerSteps.{is_short, address_in, address_step, narrow_touched, narrow_step, put_moved, shift_by, shift_step, difference_step, relation_step}
-use Rattle.abstract_steps_instructions.specs.MemorySteps.{put_read, put_loaded, load_step, move_temp, moved_behind, store_to, store_step, kept_target, copy_between, copy_step}
-use Rattle.abstract_steps_instructions.specs.CallSteps.{line_goes_on}
-use Rattle.abstract_steps_instructions.specs.Steps.{operate}
-use Rattle.abstract_steps.specs.Refinements.{object_position, mirrored, is_same_object, side_value, refined, met, has_number, labelled_number, with_number, named_by, put_at, put_side, refine_one, refine_two, refine_sides, refine_values, refine_integers, refine_pointer_at, refine_pointer, refine_named, refine_in, refine, put_case, refine_value, refine_case_at, refine_case}
-use Rattle.abstract_steps.specs.Edges.{deciding_temp, switched, is_other_than, line_call, put_kept, refine_if, kept_behind, behind_test, branch_edge, put_null, refine_named_case, refine_object, case_edge, no_line_edge, line_edge, follow, follow_if, edge}
+use Rattle.abstract_steps_system.specs.MemorySteps.{put_read, put_loaded, load_step, move_temp, moved_behind, store_to, store_step, kept_target, copy_between, copy_step}
+use Rattle.abstract_steps_system.specs.CallSteps.{line_goes_on}
+use Rattle.abstract_steps_system.specs.Steps.{operate}
+use Rattle.abstract_steps_system.specs.Refinements.{object_position, mirrored, is_same_object, side_value, refined, met, has_number, labelled_number, with_number, named_by, put_at, put_side, refine_one, refine_two, refine_sides, refine_values, refine_integers, refine_pointer_at, refine_pointer, refine_named, refine_in, refine, put_case, refine_value, refine_case_at, refine_case}
+use Rattle.abstract_steps_system.specs.Edges.{deciding_temp, switched, is_other_than, line_call, put_kept, refine_if, kept_behind, behind_test, branch_edge, put_null, refine_named_case, refine_object, case_edge, no_line_edge, line_edge, follow, follow_if, edge}
 use Rattle.abstract_steps_system.specs.BlockPasses.{rows_behind, block_end, instructions_in, instructions_of}
 use Rattle.abstract_steps_laws.specs.FilledRows.{AreFilled, IsLeftFilled, Fills, LeavesFilled}
 use Rattle.abstract_steps_laws.specs.ProgramLaws.{IsRising, IsRisingEdge, AreRising}

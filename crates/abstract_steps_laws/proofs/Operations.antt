@@ -27,9 +27,9 @@ use Rattle.store_domain_laws.proofs.OwnValues.{each_get}
 use Rattle.store_domain_laws.proofs.Together.{forgets, clears, leaves, spells, spells_consistent}
 use Rattle.store_domain_laws.proofs.ConsistentLives.{forget_even, clear_even, leave_even}
 use Rattle.abstract_steps_checks.specs.ViolationSets.{no_violations}
-use Rattle.abstract_steps_instructions.specs.CallSteps.{line_goes_on}
-use Rattle.abstract_steps_instructions.specs.Steps.{operate, operate_if, step_in, step}
-use Rattle.abstract_steps_instructions.specs.StepViolations.{relation_violations, operation_violations, violations_of, violations_in, violations_at}
+use Rattle.abstract_steps_system.specs.CallSteps.{line_goes_on}
+use Rattle.abstract_steps_system.specs.Steps.{operate, operate_if, step_in, step}
+use Rattle.abstract_steps_system.specs.StepViolations.{relation_violations, operation_violations, violations_of, violations_in, violations_at}
 use Rattle.abstract_steps_laws_values.specs.LaidOut.{IsLaidOut}
 use Rattle.abstract_steps_laws_values.specs.StepLaws.{Rises, Violates, IntegerStepsRise, PointerStepsRise}
 use Rattle.abstract_steps_laws_values.proofs.RisingCells.{small_own, left_if}

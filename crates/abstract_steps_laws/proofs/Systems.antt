@@ -14,7 +14,7 @@ use Rattle.flow_program.specs.WellFormed.{names_of, fits_operation}
 use Rattle.value_domain.specs.declared.row_cells.Cell.{Cell}
 use Rattle.value_domain.specs.Cells.{cell_lattice}
 use Rattle.store_domain_laws.specs.TopRows.{top_row}
-use Rattle.abstract_steps_instructions.specs.Steps.{operate}
+use Rattle.abstract_steps_system.specs.Steps.{operate}
 use Rattle.abstract_steps_rows.specs.CellKinds.{all_kinds}
 use Rattle.abstract_steps_rows.specs.EndLaws.{EndLaws}
 use Rattle.abstract_steps_rows.specs.OwnRows.{program_bases, reach_of, is_own_row}

@@ -10,8 +10,8 @@ use Rattle.pointer_domain.specs.declared.base_sets.Bases.{Bases}
 use Rattle.pointer_domain.specs.declared.pointer_sets.Pointers.{Pointers}
 use Rattle.value_domain.specs.declared.row_cells.Cell.{Cell}
 use Rattle.store_domain_laws.specs.TopRows.{top_row}
-use Rattle.abstract_steps_instructions.specs.CallSteps.{call_violations, call_step, line_violations, line_goes_on, write_line}
-use Rattle.abstract_steps_instructions.specs.MemorySteps.{copy_touched}
+use Rattle.abstract_steps_system.specs.CallSteps.{call_violations, call_step, line_violations, line_goes_on, write_line}
+use Rattle.abstract_steps_system.specs.MemorySteps.{copy_touched}
 use Rattle.abstract_steps_laws_values.specs.RisingRows.{LeftRise, PointersRise}
 use Rattle.abstract_steps_laws_values.specs.StepLaws.{FlowRows, Rises, Violates}
 use Rattle.abstract_steps_laws.specs.FilledRows.{LeavesFilled}

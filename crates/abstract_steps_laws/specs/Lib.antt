@@ -3,6 +3,8 @@ pub mod FilledRows
 pub mod CallLaws
 pub mod ProgramLaws
 pub mod SystemLaws
-pub use Rattle.abstract_steps_instructions.specs.CallSteps
+pub use Rattle.abstract_steps_system.specs.CallSteps
 pub use Rattle.abstract_steps_system.specs.BlockPasses
 pub use Rattle.abstract_steps_system.specs.FlowMachines
+pub use Rattle.abstract_steps_system.specs.MemorySteps
+pub use Rattle.abstract_steps_system.specs.Steps

@@ -5,7 +5,7 @@ use Rattle.cc_base.specs.IntegerDomains.{IntegersOf}
 use Rattle.flow_program.specs.declared.programs.Flow.{Flow}
 use Rattle.flow_program.specs.declared.machine_instructions.Scalar.{Scalar}
 use Rattle.pointer_domain.specs.declared.base_sets.Bases.{Bases}
-use Rattle.abstract_steps_instructions.specs.MemorySteps.{load_violations, load_step, store_violations, store_step, copy_violations}
+use Rattle.abstract_steps_system.specs.MemorySteps.{load_violations, load_step, store_violations, store_step, copy_violations}
 use Rattle.abstract_steps_laws_values.specs.StepLaws.{Rises, Violates}
 
 module _ {I : Type 0} (l : LatticeOf I) (n : IntegersOf I) (all : Bases) (flow : Flow) where

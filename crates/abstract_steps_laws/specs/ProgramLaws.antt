@@ -17,9 +17,9 @@ use Rattle.flow_program.specs.declared.machine_instructions.Operation.TheVariant
 use Rattle.flow_program.specs.WellFormed.{names_of, fits_operation, fits_edge}
 use Rattle.pointer_domain.specs.declared.base_sets.Bases.{Bases}
 use Rattle.store_domain_laws.specs.StoreLaws.{AreBytes}
-use Rattle.abstract_steps_instructions.specs.Steps.{step}
-use Rattle.abstract_steps_instructions.specs.StepViolations.{violations_at}
-use Rattle.abstract_steps.specs.Edges.{edge}
+use Rattle.abstract_steps_system.specs.Steps.{step}
+use Rattle.abstract_steps_system.specs.StepViolations.{violations_at}
+use Rattle.abstract_steps_system.specs.Edges.{edge}
 use Rattle.abstract_steps_laws_values.specs.StepLaws.{Rises, Violates}
 use Rattle.abstract_steps_laws.specs.CallLaws.{CallRises, LineRises, CopyRises}
 

@@ -9,3 +9,4 @@ pub use Rattle.abstract_steps_laws.specs.SystemLaws
 pub use Rattle.abstract_steps_laws.specs.BlockPasses
 pub use Rattle.abstract_steps_laws.specs.FlowMachines
 pub use Rattle.abstract_steps_laws.specs.CallSteps
+pub use Rattle.abstract_steps_laws.specs.MemorySteps

@@ -30,9 +30,9 @@ use Rattle.abstract_steps_values.specs.ResultTemps.{put_number, put_truth, put_p
 use Rattle.abstract_steps_values.specs.Scalars.{class_of}
 use Rattle.abstract_steps_values.specs.IntegerSteps.{constant_step, binary_step, unary_step, compare_step, not_step, put_converted, convert_value, convert_step}
 use Rattle.abstract_steps_values.specs.PointerSteps.{is_short, address_of, address_in, address_step, touch_part, narrow_touched, narrow_step, signed_amount, put_moved, shift_by, shift_step, difference_of, difference_step, relation_step}
-use Rattle.abstract_steps_instructions.specs.MemorySteps.{struct_size, touch_scalar, put_read, put_loaded, load_step, move_temp, moved_behind, store_to, store_step, touch_struct, copy_touched, kept_target, copy_between, copy_step}
-use Rattle.abstract_steps_instructions.specs.CallSteps.{call_of, line_call, call_step, line_goes_on, write_line}
-use Rattle.abstract_steps_instructions.specs.Steps.{operate}
+use Rattle.abstract_steps.specs.MemorySteps.{struct_size, touch_scalar, put_read, put_loaded, load_step, move_temp, moved_behind, store_to, store_step, touch_struct, copy_touched, kept_target, copy_between, copy_step}
+use Rattle.abstract_steps.specs.CallSteps.{call_of, line_call, call_step, line_goes_on, write_line}
+use Rattle.abstract_steps.specs.Steps.{operate}
 use Rattle.abstract_steps_laws_own_stores.specs.Floors.{least_number, IsPointerFrom, IsValueFrom, IsReadFrom, AreFrom, IsLeftFrom, KeepsFrom, LeavesFrom}
 use Rattle.abstract_steps_laws_own_stores.proofs.Ranges.{FloorLaws, type_least, met_from, least_from, between_from, range_from, arith_from, unary_from, convert_from, low_from}
 use Rattle.abstract_steps_laws_own_stores.proofs.Values.{class_size, no_pointer_from, number_from, pointer_from, at_from, zero_from}

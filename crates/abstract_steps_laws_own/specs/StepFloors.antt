@@ -7,7 +7,7 @@ use Rattle.flow_program.specs.WellFormed.{names_of, fits_operation}
 use Rattle.flow_program.specs.declared.machine_instructions.Operation.{Operation}
 use Rattle.flow_program.specs.declared.programs.Flow.{Flow}
 use Rattle.value_domain.specs.declared.row_cells.Cell.{Cell}
-use Rattle.abstract_steps_instructions.specs.Steps.{operate}
+use Rattle.abstract_steps.specs.Steps.{operate}
 use Rattle.abstract_steps.specs.Edges.{edge}
 use Rattle.abstract_steps.specs.StartRows.{start_row}
 use Rattle.abstract_steps_laws_own_stores.specs.Floors.{IsLeftFrom, LeavesFrom}

@@ -7,7 +7,7 @@ use Rattle.flow_program.specs.declared.basic_blocks.BasicBlock.{BasicBlock}
 use Rattle.flow_program.specs.declared.machine_instructions.Instruction.{Instruction}
 use Rattle.flow_program.specs.WellFormed.{names_of, fits_operation}
 use Rattle.value_domain.specs.declared.row_cells.Cell.{Cell}
-use Rattle.abstract_steps_instructions.specs.Steps.{operate}
+use Rattle.abstract_steps_laws.specs.Steps.{operate}
 use Rattle.abstract_steps_laws.specs.BlockPasses.{instructions_in, instructions_of, rows_behind, block_end, edge_behind, edge_end}
 use Rattle.abstract_steps_laws_own_stores.specs.Floors.{IsLeftFrom, LeavesFrom}
 use Rattle.abstract_steps_laws_own_stores.proofs.Ranges.{FloorLaws}

@@ -5,3 +5,5 @@ pub mod Thresholds
 pub mod WellFormed
 pub mod IntervalSystems
 pub mod ShortLists
+pub use Rattle.abstract_steps_laws_own.proofs.Starts
+pub use Rattle.abstract_steps_laws.proofs.Systems

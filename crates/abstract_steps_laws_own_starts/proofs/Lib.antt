@@ -8,3 +8,5 @@ pub mod RegularStarts
 pub mod BuiltPrograms
 pub mod WideTexts
 pub mod MissingStarts
+pub use Rattle.abstract_steps_laws_programs.proofs.RegularPrograms
+pub use Rattle.abstract_steps_laws_own_rows.proofs.OwnEdges

@@ -28,7 +28,7 @@ use Rattle.abstract_steps_rows.specs.FittedRows.{row_fit}
 use Rattle.abstract_steps_rows.specs.OwnRows.{program_bases, reach_of, is_own_row}
 use Rattle.abstract_steps_rows.specs.OwnLaws.{fit_own}
 use Rattle.abstract_steps_rows.specs.declared.own_cells.Reach.{Reach}
-use Rattle.abstract_steps_system.specs.FlowMachines.{has_start, known_start, start_of}
+use Rattle.abstract_steps_laws.specs.FlowMachines.{has_start, known_start, start_of}
 use Rattle.abstract_steps_laws_values.specs.LaidOut.{IsLaidOut}
 use Rattle.abstract_steps_laws_values.proofs.TempPlaces.{row_length}
 use Rattle.abstract_steps_laws.specs.SystemLaws.{IsNearList}
@@ -38,7 +38,7 @@ use Rattle.abstract_steps_laws_programs.proofs.ProgramRows.{fit_kept}
 use Rattle.abstract_steps_laws_programs.proofs.WellFormed.{well_made, laid_out}
 use Rattle.abstract_steps_laws_own_stores.specs.Floors.{AreFrom, IsLeftFrom}
 use Rattle.abstract_steps_laws_own_stores.proofs.Ranges.{FloorLaws}
-use Rattle.abstract_steps_laws_own.proofs.Starts.{start_from}
+use Rattle.abstract_steps_laws_own_rows.proofs.Starts.{start_from}
 use Rattle.abstract_steps_laws_own_rows.specs.OwnLists.{ReachesTypes}
 use Rattle.abstract_steps_laws_own_rows.proofs.OwnFloors.{least_low, all_cut}
 use Rattle.abstract_steps_laws_programs.specs.RegularPrograms.{has_initial_bytes}

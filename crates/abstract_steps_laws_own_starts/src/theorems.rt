@@ -11,7 +11,7 @@ ghost use Rattle.flow_program.specs.WellFormed.{is_well_formed};
 ghost use Rattle.flow_program.specs.declared.programs.Flow.{Flow};
 ghost use Rattle.value_domain.specs.Cells.{cell_lattice};
 ghost use Rattle.value_domain.specs.declared.row_cells.Cell.{Cell};
-ghost use Rattle.abstract_steps_system.specs.FlowMachines.{has_start, flow_machine};
+ghost use Rattle.abstract_steps_laws.specs.FlowMachines.{has_start, flow_machine};
 ghost use Rattle.abstract_steps_laws.specs.SystemLaws.{IsNearList};
 ghost use Rattle.abstract_steps_laws_own_rows.specs.OwnLists.{ReachesTypes};
 ghost use Rattle.abstract_steps_laws_programs.specs.RegularPrograms.{has_initial_bytes, is_regular};

@@ -13,9 +13,9 @@ use Rattle.flow_program.specs.declared.machine_instructions.Operation.TheVariant
 use Rattle.flow_program.specs.WellFormed.{is_laid_out}
 use Rattle.pointer_domain.specs.declared.base_sets.Bases.{Bases}
 use Rattle.abstract_steps_checks.specs.ViolationSets.{no_violations}
-use Rattle.abstract_steps_library.specs.Planning.{plan_call}
-use Rattle.abstract_steps_laws_values.specs.LaidOut.{IsLaidOut}
-use Rattle.abstract_steps_laws_values.proofs.ViolationOrder.{same_below}
+use Rattle.abstract_steps_laws_structs.specs.Planning.{plan_call}
+use Rattle.abstract_steps_laws_structs.specs.LaidOut.{IsLaidOut}
+use Rattle.abstract_steps_laws_structs.proofs.ViolationOrder.{same_below}
 use Rattle.abstract_steps_laws_structs.specs.CallLaws.{CallRises, CopyRises}
 use Rattle.abstract_steps_laws_structs.specs.ProgramLaws.{IsRising, IsRisingEdge, AreRising}
 use Rattle.abstract_steps_laws_structs.specs.Sites.{HasSites}

@@ -30,9 +30,9 @@ use Rattle.abstract_steps_rows.specs.OwnRows.{program_bases, reach_of, is_own_ce
 use Rattle.abstract_steps_rows.specs.OwnLaws.{own_cells}
 use Rattle.abstract_steps_rows.specs.FittedRows.{cell_made, cell_fit, cells_fit, row_fit, all_cells}
 use Rattle.abstract_steps_laws_structs.specs.BlockPasses.{block_end, edge_behind, edge_end}
-use Rattle.abstract_steps_laws_values.specs.RisingRows.{LeftRise}
-use Rattle.abstract_steps_laws_values.specs.LaidOut.{IsLaidOut}
-use Rattle.abstract_steps_laws_values.proofs.TempPlaces.{row_length}
+use Rattle.abstract_steps_laws_structs.specs.RisingRows.{LeftRise}
+use Rattle.abstract_steps_laws_structs.specs.LaidOut.{IsLaidOut}
+use Rattle.abstract_steps_laws_structs.proofs.TempPlaces.{row_length}
 use Rattle.abstract_steps_laws_structs.specs.FilledRows.{IsFilled, AreFilled, IsLeftFilled}
 use Rattle.abstract_steps_laws_structs.specs.ProgramLaws.{IsNamed, AreRising}
 use Rattle.abstract_steps_laws_structs.specs.SystemLaws.{IsNearList}

@@ -17,7 +17,7 @@ use Rattle.flow_program.specs.declared.programs.Flow.{Flow}
 use Rattle.pointer_domain.specs.BaseSets.{no_base, bases_with, bases_has}
 use Rattle.pointer_domain.specs.BaseFacts.{within_has, with_has_same}
 use Rattle.store_domain.specs.RowPositions.{value_count}
-use Rattle.abstract_steps_library.specs.Effects.{older_of}
+use Rattle.abstract_steps_laws_structs.specs.Effects.{older_of}
 use Rattle.abstract_steps_rows.specs.OwnRows.{program_bases}
 use Rattle.abstract_steps_laws_structs.specs.Sites.{HasSites}
 use Rattle.abstract_steps_laws_programs.proofs.WellFormed.{well_made, all_at, one_below}

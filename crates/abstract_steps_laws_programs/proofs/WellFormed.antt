@@ -23,7 +23,7 @@ use Rattle.store_domain_laws.specs.Placements.{EachFrom, IsRegular}
 use Rattle.store_domain_laws_shapes.proofs.ShapedBases.{shaped_regular}
 use Rattle.abstract_steps_rows.specs.OwnRows.{bases_below, program_bases}
 use Rattle.abstract_steps_rows.specs.ProgramBases.{below_within}
-use Rattle.abstract_steps_laws_values.specs.LaidOut.{IsLaidOut}
+use Rattle.abstract_steps_laws_structs.specs.LaidOut.{IsLaidOut}
 use Rattle.abstract_steps_laws_structs.specs.ProgramLaws.{IsNamed}
 use Rattle.abstract_steps_laws_programs.specs.Texts.{HasScalars}
 

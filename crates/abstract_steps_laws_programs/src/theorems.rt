@@ -18,7 +18,7 @@ ghost use Rattle.abstract_steps_rows.specs.OwnRows.{program_bases, reach_of, is_
 ghost use Rattle.abstract_steps_rows.specs.FittedRows.{row_fit};
 ghost use Rattle.abstract_steps_laws_structs.specs.BlockPasses.{edge_end};
 ghost use Rattle.abstract_steps_laws_structs.specs.FlowMachines.{flow_machine};
-ghost use Rattle.abstract_steps_laws_values.specs.LaidOut.{IsLaidOut};
+ghost use Rattle.abstract_steps_laws_structs.specs.LaidOut.{IsLaidOut};
 ghost use Rattle.abstract_steps_laws_structs.specs.ProgramLaws.{IsNamed, AreRising};
 ghost use Rattle.abstract_steps_laws_structs.specs.SystemLaws.{IsNearList};
 ghost use Rattle.abstract_steps_laws_programs.specs.Texts.{HasScalars};

@@ -47,7 +47,7 @@ use Rattle.store_domain_structs.specs.StructCopies.{Route, route_for, is_declare
 use Rattle.store_domain_laws_structs.specs.LargerSpans.{SpanWithin, ReachesMore}
 use Rattle.store_domain_laws_structs.specs.SpreadStructs.{IsSpread}
 use Rattle.store_domain_laws_structs.proofs.ShapedSpans.{shaped_reaches}
-use Rattle.abstract_steps_instructions.specs.MemorySteps.{copy_touched}
+use Rattle.abstract_steps_laws_writes.specs.MemorySteps.{copy_touched}
 use Rattle.abstract_steps_laws_writes.specs.CallLaws.{CopyRises}
 use Rattle.abstract_steps_laws_values.specs.LaidOut.{IsLaidOut}
 use Rattle.abstract_steps_laws_values.specs.RisingRows.{PointersRise, ValuesRise, RowsRise, LeftRise}

@@ -6,3 +6,7 @@ pub use Rattle.abstract_steps_laws_writes.specs.FlowMachines
 pub use Rattle.abstract_steps_laws_writes.specs.ProgramLaws
 pub use Rattle.abstract_steps_laws_writes.specs.Sites
 pub use Rattle.abstract_steps_laws_writes.specs.SystemLaws
+pub use Rattle.abstract_steps_laws_writes.specs.Effects
+pub use Rattle.abstract_steps_laws_writes.specs.Planning
+pub use Rattle.abstract_steps_laws_values.specs.LaidOut
+pub use Rattle.abstract_steps_laws_values.specs.RisingRows

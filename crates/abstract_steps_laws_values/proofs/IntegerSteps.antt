@@ -25,7 +25,7 @@ use Rattle.value_domain.specs.declared.values.Value.{Value}
 use Rattle.value_domain.specs.declared.row_cells.Cell.{Cell}
 use Rattle.value_domain.specs.LabelSets.{no_labels, labels_order}
 use Rattle.value_domain.specs.ValueTables.{number_value, value_arith, value_unary, value_convert, value_truth}
-use Rattle.store_domain.specs.NearValues.{near_value}
+use Rattle.abstract_steps_checks.specs.NearValues.{near_value}
 use Rattle.value_domain_laws.proofs.Flags.{sets_flag, holds_sets, fails_sets}
 use Rattle.value_domain_laws.proofs.Parts.{value_parts}
 use Rattle.value_domain_laws.proofs.Ranges.{RangeBelow}

@@ -10,8 +10,8 @@ use Rattle.pointer_domain.specs.declared.base_sets.Bases.{Bases}
 use Rattle.pointer_domain.specs.BaseSets.{no_base, bases_within, bases_empty, bases_has}
 use Rattle.pointer_domain.specs.BaseLattice.{bases_order}
 use Rattle.value_domain.specs.declared.row_cells.Cell.{Cell}
-use Rattle.store_domain.specs.RowPositions.{state_at, state_position}
-use Rattle.store_domain.specs.LiveBases.{only_base, has_base, with_base_if, is_literal_kind, is_live_in, add_live, live_of, is_writable_in, add_writable, writable_of, may_be_freed, is_freed_or, any_freed}
+use Rattle.abstract_steps_checks.specs.RowPositions.{state_at, state_position}
+use Rattle.abstract_steps_checks.specs.LiveBases.{only_base, has_base, with_base_if, is_literal_kind, is_live_in, add_live, live_of, is_writable_in, add_writable, writable_of, may_be_freed, is_freed_or, any_freed}
 use Rattle.store_domain_laws.specs.Placements.{EachFrom, IsPlaced}
 use Rattle.store_domain_laws.specs.RowsBelow.{RowsBelow}
 use Rattle.store_domain_laws.proofs.PairedSteps.{walk_pair, numbers_below, any_each}

@@ -29,8 +29,8 @@ use Rattle.pointer_domain.specs.PointerTables.{longest, the_end, offsets, length
 use Rattle.value_domain.specs.declared.label_sets.Labels.{Labels}
 use Rattle.value_domain.specs.declared.row_cells.Cell.{Cell}
 use Rattle.value_domain.specs.LabelSets.{no_labels, labels_order, is_unlabelled, labels_leq}
-use Rattle.store_domain.specs.ScalarTypes.{kind_of}
-use Rattle.store_domain.specs.LiveBases.{only_base, single_bases}
+use Rattle.abstract_steps_checks.specs.ScalarTypes.{kind_of}
+use Rattle.abstract_steps_checks.specs.LiveBases.{only_base, single_bases}
 use Rattle.value_domain_laws.specs.Consistency.{is_consistent}
 use Rattle.value_domain_laws.specs.Consistency as consistency
 use Rattle.value_domain_laws.proofs.Flags.{Sets, flag_sets, or_sets, and_sets, not_sets}

@@ -20,7 +20,7 @@ use Rattle.value_domain.specs.declared.row_cells.Cell.{Cell}
 use Rattle.value_domain.specs.LabelSets.{no_labels, labels_leq, labels_order}
 use Rattle.value_domain.specs.Values.{value_lattice, value_order}
 use Rattle.value_domain.specs.ValueTables.{number_value, pointer_value, truth_number, truth_value}
-use Rattle.store_domain.specs.ByteWrites.{null_pointer}
+use Rattle.abstract_steps_checks.specs.ByteWrites.{null_pointer}
 use Rattle.value_domain_laws.proofs.Flags.{flag_sets, or_sets}
 use Rattle.value_domain_laws.proofs.Parts.{PointersBelow, pointer_parts, pointers_below, value_parts, value_below}
 use Rattle.value_domain_laws.proofs.ValueOperations.{of_truth_monotone}

@@ -17,8 +17,8 @@ use Rattle.value_domain.specs.Values.{value_lattice, value_order}
 use Rattle.value_domain.specs.Cells.{cell_lattice, cell_order}
 use Rattle.cc_base.specs.Rows.{row_leq}
 use Rattle.cc_base.specs.RowLaws.{row_leq-trans}
-use Rattle.store_domain.specs.NearValues.{near_value}
-use Rattle.store_domain.specs.RowPositions.{cell_at, value_in, value_at, put_value}
+use Rattle.abstract_steps_checks.specs.NearValues.{near_value}
+use Rattle.abstract_steps_checks.specs.RowPositions.{cell_at, value_in, value_at, put_value}
 use Rattle.store_domain_laws.specs.TopCells.{top_value}
 use Rattle.store_domain_laws.proofs.NearCells.{near_value_is, value_at_top, value_at_monotone}
 use Rattle.store_domain_laws.proofs.OwnValues.{value_put}

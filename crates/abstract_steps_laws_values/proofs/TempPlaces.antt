@@ -9,7 +9,7 @@ use Rattle.flow_program.specs.WellFormed.{base_cells, base_values, all_values}
 use Rattle.pointer_domain.specs.declared.base_sets.Bases.{Bases}
 use Rattle.value_domain.specs.declared.row_cells.Cell.{Cell}
 use Rattle.value_domain.specs.declared.row_cells.Cell.TheVariants.{Nothing, Value, First, State}
-use Rattle.store_domain.specs.RowPositions.{cell_at}
+use Rattle.abstract_steps_checks.specs.RowPositions.{cell_at}
 use Rattle.store_domain_laws.specs.TopCells.{top_value, top_zero, top_state}
 use Rattle.store_domain_laws.specs.TopRows.{top_base, top_bases, top_row}
 use Rattle.abstract_steps_checks.specs.Temporaries.{temp_position}

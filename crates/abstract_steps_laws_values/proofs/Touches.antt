@@ -17,8 +17,8 @@ use Rattle.pointer_domain.specs.PointerLattice.{no_pointer, pointers_leq, pointe
 use Rattle.pointer_domain.specs.PointerTables.{length_above}
 use Rattle.value_domain.specs.declared.row_cells.Cell.{Cell}
 use Rattle.value_domain.specs.declared.row_cells.Cell.TheVariants.{Value}
-use Rattle.store_domain.specs.NearValues.{near_pointer}
-use Rattle.store_domain.specs.LiveBases.{live_of, any_freed, only_base}
+use Rattle.abstract_steps_checks.specs.NearValues.{near_pointer}
+use Rattle.abstract_steps_checks.specs.LiveBases.{live_of, any_freed, only_base}
 use Rattle.value_domain_laws.specs.Consistency.{is_consistent}
 use Rattle.value_domain_laws.specs.Consistency as consistency
 use Rattle.value_domain_laws.proofs.Flags.{Sets, flag_sets, or_sets, and_sets, not_sets}

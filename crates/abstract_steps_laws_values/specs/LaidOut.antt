@@ -5,7 +5,7 @@ use Rattle.flow_program.specs.declared.programs.Flow.{Flow}
 use Rattle.pointer_domain.specs.declared.base_sets.Bases.{Bases}
 use Rattle.pointer_domain.specs.BaseSets.{bases_within}
 use Rattle.value_domain_laws.specs.Consistency.{AreWords}
-use Rattle.store_domain.specs.LiveBases.{only_base}
+use Rattle.abstract_steps_checks.specs.LiveBases.{only_base}
 use Rattle.store_domain_laws.specs.StoreLaws.{IsLayout}
 
 -- bases of regular shapes that follow each other, all of them in a set of words, and the temporaries behind them

@@ -9,3 +9,6 @@ pub use Rattle.abstract_steps_laws_library.specs.FlowMachines
 pub use Rattle.abstract_steps_laws_library.specs.ProgramLaws
 pub use Rattle.abstract_steps_laws_library.specs.Sites
 pub use Rattle.abstract_steps_laws_library.specs.SystemLaws
+pub use Rattle.abstract_steps_laws_library.specs.MemorySteps
+pub use Rattle.abstract_steps_library.specs.Effects
+pub use Rattle.abstract_steps_library.specs.Planning

@@ -11,7 +11,7 @@ use Rattle.pointer_domain.specs.PointerTables.{offsets}
 use Rattle.value_domain.specs.declared.values.Value.{Value}
 use Rattle.value_domain.specs.declared.row_cells.Cell.{Cell}
 use Rattle.value_domain.specs.ValueTables.{pointer_value}
-use Rattle.store_domain_cells.specs.declared.access_windows.Window.{Window}
+use Rattle.store_domain.specs.Window.{Window}
 use Rattle.store_domain.specs.AccessWindows.{window_within}
 use Rattle.store_domain.specs.LiveBases.{writable_of}
 use Rattle.abstract_steps_checks.specs.declared.library_arguments.Argument.{Argument}

@@ -15,7 +15,7 @@ use Rattle.value_domain.specs.declared.values.Value.{Value}
 use Rattle.value_domain.specs.declared.row_cells.Cell.{Cell}
 use Rattle.value_domain.specs.LabelSets.{input_labels}
 use Rattle.value_domain.specs.ValueTables.{pointer_value}
-use Rattle.store_domain_cells.specs.declared.access_windows.Window.{Window}
+use Rattle.store_domain.specs.Window.{Window}
 use Rattle.store_domain.specs.AccessWindows.{window_within, added_ranges, window_met}
 use Rattle.store_domain.specs.LiveBases.{writable_of}
 use Rattle.store_domain.specs.NearValues.{near_number}

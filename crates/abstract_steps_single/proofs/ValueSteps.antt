@@ -47,8 +47,8 @@ use Rattle.abstract_steps_checks.specs.IntegerChecks.{unary_violations, binary_v
 use Rattle.abstract_steps_checks.specs.Temporaries.{temp_value, amount_value, put_temp}
 use Rattle.abstract_steps_checks.specs.ViolationSets.{no_violations}
 use Rattle.abstract_steps_checks.specs.declared.violation_sets.Violations.{Violations}
-use Rattle.abstract_steps_values.specs.IntegerSteps.{constant_step, binary_step, unary_step, compare_step, not_step, put_converted, converted_pointer, convert_value, convert_step}
-use Rattle.abstract_steps_values.specs.ResultTemps.{negated, put_number, put_truth, put_pointer}
+use Rattle.abstract_steps_sound.specs.IntegerSteps.{constant_step, binary_step, unary_step, compare_step, not_step, put_converted, converted_pointer, convert_value, convert_step}
+use Rattle.abstract_steps_sound.specs.ResultTemps.{negated, put_number, put_truth, put_pointer}
 use Rattle.abstract_steps_sound.specs.OperationGroups.{is_on_values}
 use Rattle.abstract_steps_sound.specs.Steps.{operate}
 use Rattle.abstract_steps_sound.specs.StepViolations.{operation_violations}

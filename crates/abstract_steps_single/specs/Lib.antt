@@ -4,3 +4,5 @@ pub mod SingleValues
 pub mod SingleRows
 pub mod SingleSteps
 pub mod SingleLaws
+pub use Rattle.abstract_steps_sound.specs.StepViolations
+pub use Rattle.abstract_steps_sound.specs.Steps

@@ -24,8 +24,8 @@ use Rattle.store_domain_meaning.specs.Coverage.{state_of, EachRunIsCovered}
 use Rattle.store_domain_meaning.specs.RowMeaning.{MachineState, StandsFor}
 use Rattle.store_domain_meaning.specs.ValueMeaning.{Naming}
 use Rattle.abstract_steps_covered.specs.Covering.{row_before, Admits}
-use Rattle.abstract_steps_sound_operands.proofs.TypedOperands.{within_has}
-use Rattle.abstract_steps_sound_operands.proofs.TypedMaps.{typed_before}
+use Rattle.abstract_steps_sound_analyses.proofs.TypedOperands.{within_has}
+use Rattle.abstract_steps_sound_analyses.proofs.TypedMaps.{typed_before}
 use Rattle.abstract_steps_single.specs.SingleLaws.{FitsAmount, HasRight}
 use Rattle.abstract_steps_single_runs.specs.SingleRuns.{HasRightOperands}
 

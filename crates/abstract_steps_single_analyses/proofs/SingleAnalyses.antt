@@ -39,7 +39,7 @@ use Rattle.abstract_steps_laws_programs.specs.RegularPrograms.{has_scalars, has_
 use Rattle.abstract_steps_laws_programs.proofs.WellFormed.{laid_out, all_named}
 use Rattle.abstract_steps_laws_programs.proofs.RegularPrograms.{Regular, regular_of}
 use Rattle.abstract_steps_laws_programs.proofs.RegularSystems.{regular_rising}
-use Rattle.abstract_steps_laws_own_rows.proofs.OwnEdges.{fit_nothing, leaves_own}
+use Rattle.abstract_steps_sound_entries.proofs.OwnEdges.{fit_nothing, leaves_own}
 use Rattle.abstract_steps_sound_copied_structs.specs.StructTables.{HasStructs}
 use Rattle.abstract_steps_sound_ordered_structs.proofs.OrderedStructs.{has_structs}
 use Rattle.abstract_steps_sound.specs.SoundSteps.{StandsBehind}
@@ -50,8 +50,8 @@ use Rattle.abstract_steps_sound_analyses.proofs.SoundAnalyses.{standard_held, st
 use Rattle.abstract_steps_sound_analyses.proofs.FoundRuns.{suffices, finds_each_pair}
 use Rattle.abstract_steps_sound_analyses.proofs.ScalarTests.{kinds_proved}
 use Rattle.abstract_steps_sound_entries.specs.CarriedMaps.{EntryStands}
-use Rattle.flow_analysis.specs.Analyses.{IsAnalysis}
-use Rattle.flow_analysis.specs.CheckedPrograms.{IsChecked}
+use Rattle.abstract_steps_sound_analyses.specs.Analyses.{IsAnalysis}
+use Rattle.abstract_steps_sound_analyses.specs.CheckedPrograms.{IsChecked}
 use Rattle.abstract_steps_sound_entries.specs.UnitStarts.{StartsAs}
 use Rattle.abstract_steps_sound_entries.proofs.Beginnings.{runs_begin}
 use Rattle.abstract_steps_sound_entries.proofs.EntryRows.{entry_stands}
@@ -70,11 +70,11 @@ use Rattle.abstract_steps_single_store.proofs.ToldClears.{clear_step_told}
 use Rattle.abstract_steps_single_lives.proofs.ToldEnters.{enter_step_told}
 use Rattle.abstract_steps_single_lives.proofs.ToldLeaves.{leave_step_told}
 use Rattle.abstract_steps_single_starts.proofs.ToldSpells.{spell_step_told}
-use Rattle.abstract_steps_single_ways.specs.WayLaws.{TestIsTold, CaseIsTold, KindIsTold, TestsAreTold}
-use Rattle.abstract_steps_single_ways.proofs.WaysTold.{way_told}
-use Rattle.abstract_steps_single_ways.proofs.PointerTests.{pointer_test_told}
-use Rattle.abstract_steps_single_ways.proofs.NullTests.{null_test_told}
-use Rattle.abstract_steps_single_ways.proofs.CaseTests.{case_test_told}
+use Rattle.abstract_steps_single_tests.specs.WayLaws.{TestIsTold, CaseIsTold, KindIsTold, TestsAreTold}
+use Rattle.abstract_steps_single_tests.proofs.WaysTold.{way_told}
+use Rattle.abstract_steps_single_tests.proofs.PointerTests.{pointer_test_told}
+use Rattle.abstract_steps_single_tests.proofs.NullTests.{null_test_told}
+use Rattle.abstract_steps_single_tests.proofs.CaseTests.{case_test_told}
 use Rattle.abstract_steps_single_copied.proofs.ToldCopies.{copy_step_told}
 use Rattle.abstract_steps_single_tests.proofs.IntegerTests.{integer_test_told}
 use Rattle.abstract_steps_single_starts.proofs.ToldStarts.{start_is_told}

@@ -3,7 +3,7 @@
 ghost use Rattle.std.specs.Prelude.{ℤ, List};
 ghost use Rattle.cc_base.specs.declared.diagnostics.Diag.{Diag};
 ghost use Rattle.flow_program.specs.declared.programs.Flow.{Flow};
-ghost use Rattle.flow_analysis.specs.Analyses.{IsAnalysis};
+ghost use Rattle.abstract_steps_sound_analyses.specs.Analyses.{IsAnalysis};
 ghost use Rattle.abstract_steps_single_analyses.specs.SingleAnalyses.{FindsJustRuns, FindsJustRunsOfChecked};
 
 /// The pairs that an analysis finds are just those that the run of a unit under no numbers of the outside violates, where the

@@ -74,7 +74,7 @@ use Rattle.abstract_steps_single.proofs.Violated.{AreViolated, none_violated, sa
 use Rattle.abstract_steps_single_places.proofs.OneBase.{not_empty}
 use Rattle.abstract_steps_single_places.proofs.OneTouch.{TouchesNothing}
 use Rattle.abstract_steps_single_places.proofs.Touching.{union_violated}
-use Rattle.abstract_steps_single_store.specs.TypedAccesses.{HasObjects}
+use Rattle.abstract_steps_single_structs.specs.TypedAccesses.{HasObjects}
 use Rattle.abstract_steps_single_structs.specs.TypedCopies.{IsAtStruct, PointsToStruct, AreOneOrApart, IsTypedCopy}
 use Rattle.abstract_steps_single_structs.proofs.CopiedRows.{IsSide}
 use Rattle.abstract_steps_single_structs.proofs.CopiedStates.{Came, copied_state}

@@ -21,8 +21,8 @@ use Rattle.lib_models_memory.specs.Scalars.{integer}
 use Rattle.lib_models_memory.specs.Tags.{tag_of}
 use Rattle.store_domain_meaning.specs.Matching.{Matched}
 use Rattle.store_domain_meaning.specs.RowMeaning.{MachineState}
-use Rattle.abstract_steps_sound.proofs.NearScalars.{IsNearNumber}
-use Rattle.abstract_steps_sound_spelling.proofs.Texts.{byte_small, one_number}
+use Rattle.abstract_steps_sound_starts.proofs.NearScalars.{IsNearNumber}
+use Rattle.abstract_steps_sound_starts.proofs.Texts.{byte_small, one_number}
 use Rattle.abstract_steps_single.specs.SingleRows.{TellsLeaf}
 use Rattle.abstract_steps_single.proofs.NearTells.{near_one}
 

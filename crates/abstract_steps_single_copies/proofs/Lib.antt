@@ -3,3 +3,9 @@ pub mod CharacterLeaves
 pub mod SpelledLeaves
 pub mod ToldSpells
 pub mod ToldLiterals
+pub use Rattle.abstract_steps_single_store.proofs.Moves
+pub use Rattle.abstract_steps_single_store.proofs.StoredRows
+pub use Rattle.abstract_steps_single_store.proofs.ToldClears
+pub use Rattle.abstract_steps_single_store.proofs.ToldStores
+pub use Rattle.abstract_steps_sound_starts.proofs.StartedRows
+pub use Rattle.abstract_steps_sound_starts.proofs.StaticSteps

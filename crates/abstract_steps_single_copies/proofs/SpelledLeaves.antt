@@ -33,13 +33,13 @@ use Rattle.store_domain_sound.proofs.Slices.{get_there}
 use Rattle.store_domain_sound.proofs.StoreRows.{Fits}
 use Rattle.store_domain_sound_programs.specs.Premises.{HasPremises}
 use Rattle.store_domain_sound_regions.proofs.ContentRegions.{IsWritten, contents_written}
-use Rattle.abstract_steps_single_places.proofs.Structs.{owned_at}
-use Rattle.abstract_steps_sound_spelling.specs.SpellSteps.{SpellsBytes}
-use Rattle.abstract_steps_sound_spelling.proofs.Texts.{contents, contents_long, content_is}
-use Rattle.abstract_steps_sound_spelling.proofs.SpelledZeros.{ends_inside}
+use Rattle.abstract_steps_single_store.proofs.Structs.{owned_at}
+use Rattle.abstract_steps_sound_starts.specs.SpellSteps.{SpellsBytes}
+use Rattle.abstract_steps_sound_starts.proofs.Texts.{contents, contents_long, content_is}
+use Rattle.abstract_steps_sound_starts.proofs.SpelledZeros.{ends_inside}
 use Rattle.abstract_steps_single.specs.SingleRows.{IsPlainProgram, TellsLeaf}
-use Rattle.abstract_steps_single_places.proofs.HeldReads.{inside}
-use Rattle.abstract_steps_single_places.proofs.OneLeaf.{owned}
+use Rattle.abstract_steps_single_store.proofs.HeldReads.{inside}
+use Rattle.abstract_steps_single_store.proofs.OneLeaf.{owned}
 use Rattle.abstract_steps_single_store.specs.TypedAccesses.{HasObjects}
 use Rattle.abstract_steps_single_store.proofs.Moves.{held_moves, holds_moves}
 use Rattle.abstract_steps_single_copies.proofs.CharacterLeaves.{tag_of_character, character_leaf}

@@ -34,11 +34,11 @@ use Rattle.store_domain_sound.proofs.Selected.{place_selected}
 use Rattle.store_domain_sound.proofs.Slices.{get_there, get_map}
 use Rattle.store_domain_sound.proofs.StoreRows.{Fits}
 use Rattle.store_domain_sound_programs.specs.Premises.{HasPremises}
-use Rattle.abstract_steps_single_places.proofs.Structs.{owned_at}
-use Rattle.abstract_steps_sound_spelling.proofs.Texts.{content_is}
+use Rattle.abstract_steps_single_store.proofs.Structs.{owned_at}
+use Rattle.abstract_steps_sound_starts.proofs.Texts.{content_is}
 use Rattle.abstract_steps_sound_starts.specs.Literals.{IsLiteralObject}
 use Rattle.abstract_steps_single.specs.SingleRows.{IsPlainProgram, TellsLeaf}
-use Rattle.abstract_steps_single_places.proofs.OneLeaf.{owned, place_is}
+use Rattle.abstract_steps_single_store.proofs.OneLeaf.{owned, place_is}
 use Rattle.abstract_steps_single_store.specs.TypedAccesses.{HasObjects}
 use Rattle.abstract_steps_single_copies.proofs.CharacterLeaves.{tag_of_character, character_leaf}
 use Rattle.abstract_steps_single_copies.proofs.SpelledRows.{spelled_value}

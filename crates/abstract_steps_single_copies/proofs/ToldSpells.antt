@@ -17,8 +17,8 @@ use Rattle.store_domain.specs.ObjectLives.{at_base}
 use Rattle.store_domain.specs.RowPositions.{leaf_position, value_at}
 use Rattle.store_domain.specs.Spelling.{spell_object, spell}
 use Rattle.abstract_steps_checks.specs.ViolationSets.{no_violations}
-use Rattle.abstract_steps_instructions.specs.Steps.{operate}
-use Rattle.abstract_steps_instructions.specs.StepViolations.{operation_violations}
+use Rattle.abstract_steps_single.specs.Steps.{operate}
+use Rattle.abstract_steps_single.specs.StepViolations.{operation_violations}
 use Rattle.lib_models_memory.specs.Instances.{Memory, Instance, bytes_at}
 use Rattle.lib_models_effects.specs.ObjectEffects.{spelled}
 use Rattle.lib_models_effects.specs.ScalarBytes.{refilled}
@@ -36,15 +36,15 @@ use Rattle.store_domain_sound.proofs.LoadSound.{instance_there}
 use Rattle.store_domain_sound.proofs.StoreRows.{Fits}
 use Rattle.store_domain_sound_programs.specs.Premises.{HasPremises}
 use Rattle.store_domain_sound_regions.proofs.ContentRegions.{IsWritten}
-use Rattle.abstract_steps_sound.specs.SoundSteps.{IsReached}
-use Rattle.abstract_steps_sound_objects.proofs.WholeObjects.{some_kind}
-use Rattle.abstract_steps_sound_spelling.specs.SpellSteps.{SpellsBytes}
-use Rattle.abstract_steps_sound_spelling.proofs.Texts.{contents}
+use Rattle.abstract_steps_sound_starts.specs.SoundSteps.{IsReached}
+use Rattle.abstract_steps_single_store.proofs.WholeObjects.{some_kind}
+use Rattle.abstract_steps_sound_starts.specs.SpellSteps.{SpellsBytes}
+use Rattle.abstract_steps_sound_starts.proofs.Texts.{contents}
 use Rattle.abstract_steps_single.specs.SingleRows.{IsPlainProgram, TellsLeaf, TellsState}
 use Rattle.abstract_steps_single.specs.SingleSteps.{IsDefined, TellsBehind, StepIsTold}
 use Rattle.abstract_steps_single.proofs.Told.{if_some_told}
 use Rattle.abstract_steps_single.proofs.Violated.{none_violated}
-use Rattle.abstract_steps_single_places.proofs.OneLeaf.{place_is}
+use Rattle.abstract_steps_single_store.proofs.OneLeaf.{place_is}
 use Rattle.abstract_steps_single_store.specs.TypedAccesses.{HasObjects}
 use Rattle.abstract_steps_single_store.proofs.Moves.{change_tells}
 use Rattle.abstract_steps_single_copies.specs.CopyLaws.{IsSpelled}

@@ -8,14 +8,14 @@ use Rattle.flow_program.specs.WellFormed.{is_well_formed}
 use Rattle.flow_program.specs.declared.machine_instructions.Operation.{Operation}
 use Rattle.flow_program.specs.declared.programs.Flow.{Flow}
 use Rattle.value_domain.specs.declared.row_cells.Cell.{Cell}
-use Rattle.abstract_steps.specs.StartRows.{start_row}
+use Rattle.abstract_steps_sound_starts.specs.StartRows.{start_row}
 use Rattle.flow_program_views.specs.ProgramViews.{flow_view}
 use Rattle.flow_program_machine.specs.FlowStates.{Standing, running}
 use Rattle.flow_program_machine.specs.FlowStarts.{flow_begin}
 use Rattle.store_domain_meaning.specs.Coverage.{state_of}
 use Rattle.store_domain_sound_programs.specs.Premises.{HasPremises}
 use Rattle.abstract_steps_sound_copied_structs.specs.StructTables.{HasStructs}
-use Rattle.abstract_steps_sound_spelling.specs.SpellSteps.{SpellsCharacters}
+use Rattle.abstract_steps_sound_starts.specs.SpellSteps.{SpellsCharacters}
 use Rattle.abstract_steps_sound_starts.specs.StartedRows.{HasBeginnings}
 use Rattle.abstract_steps_single.specs.SingleRows.{IsPlainProgram, TellsState}
 use Rattle.abstract_steps_single_store.specs.StoreLaws.{AreToldAt}

@@ -11,7 +11,7 @@ use Rattle.pointer_domain.specs.BaseFacts.{word_of_same}
 use Rattle.store_domain.specs.LiveBases.{most_bases, only_base}
 use Rattle.store_domain_sound.proofs.Sets.{only_is}
 use Rattle.value_domain_laws.proofs.BaseChanges.{no_word_is}
-use Rattle.abstract_steps_single_places.proofs.OneBase.{has_own}
+use Rattle.abstract_steps_single_store.proofs.OneBase.{has_own}
 
 cleared : (k : ℕ) → k < 128 → bit_and (2 ^ k) (bit_not w128 (2 ^ k)) ≡ 0
 cleared k h =

@@ -58,7 +58,7 @@ use Rattle.abstract_steps_single.proofs.Violated.{none_violated}
 use Rattle.abstract_steps_single_store.specs.StoreLaws.{IsEntered}
 use Rattle.abstract_steps_single_store.specs.TypedAccesses.{HasObjects}
 use Rattle.abstract_steps_single_store.proofs.Moves.{holds_moves}
-use Rattle.abstract_steps_single_places.proofs.OneLeaf.{owned, place_is}
+use Rattle.abstract_steps_single_store.proofs.OneLeaf.{owned, place_is}
 
 put_own : {A : Type 0} (f : ℕ → Option A) (b : ℕ) (x : A) → put_at f b x b ≡ Some x
 put_own f b x = grind arith

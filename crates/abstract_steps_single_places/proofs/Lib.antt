@@ -9,3 +9,7 @@ pub mod HeldReads
 pub mod Written
 pub mod Touching
 pub use Rattle.abstract_steps_sound_copied_leaves.proofs.Structs
+pub use Rattle.abstract_steps_single.proofs.NearTells
+pub use Rattle.abstract_steps_single.proofs.Told
+pub use Rattle.abstract_steps_single.proofs.ValueSteps
+pub use Rattle.abstract_steps_single.proofs.Violated

@@ -13,8 +13,8 @@ use Rattle.flow_program.specs.declared.programs.Flow.{Flow}
 use Rattle.rule_checks.specs.AdmittedRules.{instructions_in, instructions_of}
 use Rattle.store_domain_sound.proofs.Slices.{get_drop}
 use Rattle.store_domain_sound_programs.proofs.ShapedBases.{all_at}
-use Rattle.abstract_steps_covered.proofs.Blocks.{block_facts, drop_more}
-use Rattle.abstract_steps_sound_edges.proofs.TakenEdges.{FitsLead, body_led, led_fit}
+use Rattle.abstract_steps_sound_maps.proofs.Blocks.{block_facts, drop_more}
+use Rattle.abstract_steps_sound_programs.proofs.TakenEdges.{FitsLead, body_led, led_fit}
 
 take_get : {X : Type 0} (n : ℕ) (xs : List X) (k : ℕ) (x : X) → k < n → slice_get xs k ≡ Some x → slice_get (take n xs) k ≡ Some x
 take_get zero xs k x h e = absurd (omega (arith, h))

@@ -34,8 +34,8 @@ use Rattle.store_domain_meaning.specs.Coverage.{state_of}
 use Rattle.store_domain_meaning.specs.RowMeaning.{StandsFor}
 use Rattle.store_domain_meaning.specs.ValueMeaning.{Naming}
 use Rattle.abstract_steps_sound.specs.SoundSteps.{AreShort, StandsBehind}
-use Rattle.abstract_steps_covered.specs.Covering.{rows_behind}
-use Rattle.abstract_steps_covered.proofs.AdmittedPairs.{none_behind}
+use Rattle.abstract_steps_sound_maps.specs.Covering.{rows_behind}
+use Rattle.abstract_steps_sound_maps.proofs.AdmittedPairs.{none_behind}
 use Rattle.abstract_steps_sound_maps.proofs.EdgeEnds.{edge_there}
 use Rattle.abstract_steps_single.specs.SingleRows.{TellsState}
 use Rattle.abstract_steps_single.specs.SingleSteps.{TellsBehind}

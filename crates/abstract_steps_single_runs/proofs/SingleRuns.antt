@@ -45,13 +45,13 @@ use Rattle.store_domain_sound_programs.specs.Premises.{HasPremises}
 use Rattle.store_domain_sound_programs.proofs.ShapedBases.{all_at}
 use Rattle.abstract_steps_sound.specs.OperandTypes.{HasOperands}
 use Rattle.abstract_steps_sound.specs.SoundSteps.{IsReached, StandsBehind}
-use Rattle.abstract_steps_covered.specs.SoundEnds.{IsDoneIn, StepsGoOnSoundly, EndsGoOnSoundly}
-use Rattle.abstract_steps_covered.specs.Covering.{HasTypedRuns, rows_behind, Admits}
-use Rattle.abstract_steps_covered.proofs.Blocks.{IsAt, is_at, block_facts, goes_or_ends, last_is, get_last}
-use Rattle.abstract_steps_covered.proofs.GoingOn.{go_on}
-use Rattle.abstract_steps_sound_copied_structs.specs.StructTables.{HasStructs}
+use Rattle.abstract_steps_sound_maps.specs.SoundEnds.{IsDoneIn, StepsGoOnSoundly, EndsGoOnSoundly}
+use Rattle.abstract_steps_sound_maps.specs.Covering.{HasTypedRuns, rows_behind, Admits}
+use Rattle.abstract_steps_sound_maps.proofs.Blocks.{IsAt, is_at, block_facts, goes_or_ends, last_is, get_last}
+use Rattle.abstract_steps_sound_maps.proofs.GoingOn.{go_on}
+use Rattle.abstract_steps_sound_programs.specs.StructTables.{HasStructs}
 use Rattle.abstract_steps_sound_programs.specs.OpenSteps.{SpellsOverCharacters}
-use Rattle.abstract_steps_sound_edges.specs.EdgeSteps.{TestsAreSound}
+use Rattle.abstract_steps_sound_programs.specs.EdgeSteps.{TestsAreSound}
 use Rattle.abstract_steps_single.specs.SingleSteps.{IsDefined}
 use Rattle.abstract_steps_single_copies.specs.TypedAccesses.{HasObjects}
 use Rattle.abstract_steps_single_ways.specs.WayLaws.{FitsWay, IsWay, TestsAreTold}
@@ -59,7 +59,7 @@ use Rattle.abstract_steps_single.specs.SingleLaws.{HasRight}
 use Rattle.abstract_steps_single_runs.specs.SingleRuns.{SwitchesAreApart, IsTypedStep, HasRightOperands, IsNeverStuckAlone, IsSingleProgram, IsViolatedAlone, SingleLaws, AdmitOnlyRun, MapsAdmitOnlyRun}
 use Rattle.abstract_steps_single_runs.proofs.ApartWays.{ways_apart}
 use Rattle.abstract_steps_single_runs.proofs.BlockEdges.{edge_leads}
-use Rattle.abstract_steps_covered.proofs.MapPairs.{admitted_in}
+use Rattle.abstract_steps_sound_maps.proofs.MapPairs.{admitted_in}
 use Rattle.abstract_steps_single_runs.proofs.Tables.{listed, listed_length, listed_at, left_from, left_in, left_less}
 use Rattle.abstract_steps_single_runs.proofs.PassedBlocks.{Table, IsBoth, both, IsClosed, IsPassed, begun_passed, on_passed, stopped_closed, next, next_passed}
 use Rattle.abstract_steps_single_runs.proofs.SingleSteps.{step_told, way_or_stop}

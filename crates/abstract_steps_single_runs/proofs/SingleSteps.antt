@@ -18,8 +18,8 @@ use Rattle.store_domain_meaning.specs.ValueMeaning.{Naming}
 use Rattle.store_domain_sound_programs.specs.Premises.{HasPremises}
 use Rattle.abstract_steps_sound.specs.OperandTypes.{HasOperands}
 use Rattle.abstract_steps_sound.specs.SoundSteps.{IsReached}
-use Rattle.abstract_steps_sound_copied_structs.specs.StructTables.{HasStructs}
-use Rattle.abstract_steps_covered.specs.SoundEnds.{IsDoneIn}
+use Rattle.abstract_steps_sound_programs.specs.StructTables.{HasStructs}
+use Rattle.abstract_steps_sound_maps.specs.SoundEnds.{IsDoneIn}
 use Rattle.abstract_steps_sound_programs.specs.OpenSteps.{SpellsOverCharacters}
 use Rattle.abstract_steps_single.specs.SingleLaws.{HasRight}
 use Rattle.abstract_steps_single.specs.SingleRows.{IsPlainProgram, TellsState}

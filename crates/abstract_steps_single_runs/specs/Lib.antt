@@ -1,3 +1,5 @@
 pub mod SingleRuns
 pub mod PlainUnitRuns
 pub use Rattle.abstract_steps_sound_programs.specs.OpenSteps
+pub use Rattle.abstract_steps_single_copies.specs.TypedAccesses
+pub use Rattle.abstract_steps_single_copies.specs.TypedCopies

@@ -32,11 +32,11 @@ use Rattle.abstract_steps_system.specs.FlowMachines.{edge_at, is_head_at, start_
 use Rattle.store_domain_meaning.specs.Coverage.{state_of}
 use Rattle.store_domain_sound_programs.specs.Premises.{HasPremises}
 use Rattle.abstract_steps_sound.specs.SoundSteps.{StandsBehind}
-use Rattle.abstract_steps_sound_copied_structs.specs.StructTables.{HasStructs}
-use Rattle.abstract_steps_sound_edges.specs.EdgeSteps.{TestsAreSound}
+use Rattle.abstract_steps_sound_programs.specs.StructTables.{HasStructs}
+use Rattle.abstract_steps_sound_programs.specs.EdgeSteps.{TestsAreSound}
 use Rattle.abstract_steps_sound_programs.specs.OpenSteps.{SpellsOverCharacters}
-use Rattle.abstract_steps_covered.specs.SoundEnds.{IsDoneIn, StepsGoOnSoundly, EndsGoOnSoundly}
-use Rattle.abstract_steps_covered.specs.Covering.{HasTypedRuns, Admits}
+use Rattle.abstract_steps_sound_maps.specs.SoundEnds.{IsDoneIn, StepsGoOnSoundly, EndsGoOnSoundly}
+use Rattle.abstract_steps_sound_maps.specs.Covering.{HasTypedRuns, Admits}
 use Rattle.abstract_steps_single.specs.SingleLaws.{HasRight, IsPlainCall, ValueStepsAreTold, PointerStepsAreTold, CallsAreTold}
 use Rattle.abstract_steps_single.specs.SingleRows.{IsPlainProgram, TellsState}
 use Rattle.abstract_steps_single_copies.specs.TypedAccesses.{HasObjects, IsTyped}

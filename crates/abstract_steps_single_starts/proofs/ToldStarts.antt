@@ -34,13 +34,13 @@ use Rattle.store_domain_sound.proofs.StoreLeaves.{live_ended}
 use Rattle.store_domain_sound.proofs.StoreRows.{leaf_is}
 use Rattle.store_domain_sound.proofs.StoreValues.{same_value}
 use Rattle.store_domain_sound_programs.specs.Premises.{HasPremises}
-use Rattle.abstract_steps_sound_starts.specs.StartedRows.{HasStart, IsBegun, HasParameter, IsBeginning}
-use Rattle.abstract_steps_sound_starts.proofs.StartedRows.{starts, one_kept, first_of, all_kept, base_apart, empty_long}
+use Rattle.abstract_steps_single_copies.specs.StartedRows.{HasStart, IsBegun, HasParameter, IsBeginning}
+use Rattle.abstract_steps_single_copies.proofs.StartedRows.{starts, one_kept, first_of, all_kept, base_apart, empty_long}
 use Rattle.abstract_steps_single.specs.ExactNumbers.{ExactLaws}
 use Rattle.abstract_steps_single.specs.SingleRows.{IsPlainProgram, TellsLeaf, TellsState}
 use Rattle.abstract_steps_single_places.proofs.OneLeaf.{place_is}
-use Rattle.abstract_steps_single_store.specs.TypedAccesses.{HasObjects}
-use Rattle.abstract_steps_single_store.proofs.ToldStores.{base_fits}
+use Rattle.abstract_steps_single_copies.specs.TypedAccesses.{HasObjects}
+use Rattle.abstract_steps_single_copies.proofs.ToldStores.{base_fits}
 use Rattle.abstract_steps_single_copies.specs.CopyLaws.{StartIsTold}
 use Rattle.abstract_steps_single_copies.proofs.ToldLiterals.{literal_leaf}
 use Rattle.abstract_steps_single_starts.proofs.NamedTargets.{NamesTargets, targets_named}

@@ -61,12 +61,12 @@ use Rattle.abstract_steps_sound.proofs.NearScalars.{IsNearScalar, near_offset, n
 use Rattle.abstract_steps_sound.proofs.TypeRanges.{type_near}
 use Rattle.abstract_steps_sound_copied_leaves.proofs.Structs.{owned_at}
 use Rattle.abstract_steps_sound_objects.proofs.BlankRows as blank
-use Rattle.abstract_steps_sound_spelling.proofs.Texts.{contents}
+use Rattle.abstract_steps_sound_start_cells.proofs.Texts.{contents}
 use Rattle.abstract_steps_sound_start_cells.specs.StaticObjects.{IsValueOf, IsStoreOf, AreStoresOf, IsStaticObject}
 use Rattle.abstract_steps_sound_start_cells.proofs.ClearedCells.{clear_only}
 use Rattle.abstract_steps_sound_start_cells.proofs.StaticChains.{kind_of_value, scalar_of, kind_is, class_is, bytes_are}
 use Rattle.abstract_steps_sound_start_cells.proofs.StaticMemory.{own_bytes, bytes_twice, bytes_own}
-use Rattle.abstract_steps_sound_starts.proofs.StaticSteps.{set_alike}
+use Rattle.abstract_steps_single_copies.proofs.StaticSteps.{set_alike}
 use Rattle.abstract_steps_single.specs.ExactNumbers.{ExactLaws}
 use Rattle.abstract_steps_single.specs.SingleRows.{IsPlainProgram, TellsLeaf}
 use Rattle.abstract_steps_single.specs.SingleValues.{TellsByLife, TellsScalar}
@@ -75,10 +75,10 @@ use Rattle.abstract_steps_single_places.proofs.OneLeaf.{same_size, owned, place_
 use Rattle.abstract_steps_single_places.proofs.OneStore.{SetsCell, store_sets}
 use Rattle.abstract_steps_single_places.proofs.OneTouch.{one_window}
 use Rattle.abstract_steps_single_places.proofs.Written.{IsWritten}
-use Rattle.abstract_steps_single_store.specs.TypedAccesses.{HasObjects}
-use Rattle.abstract_steps_single_store.proofs.StoredRows.{FitsLeaf, stored_leaves}
-use Rattle.abstract_steps_single_store.proofs.ToldClears.{leaf_zero, zero_leaf}
-use Rattle.abstract_steps_single_store.proofs.ToldStores.{fit_of, some_value, base_fits}
+use Rattle.abstract_steps_single_copies.specs.TypedAccesses.{HasObjects}
+use Rattle.abstract_steps_single_copies.proofs.StoredRows.{FitsLeaf, stored_leaves}
+use Rattle.abstract_steps_single_copies.proofs.ToldClears.{leaf_zero, zero_leaf}
+use Rattle.abstract_steps_single_copies.proofs.ToldStores.{fit_of, some_value, base_fits}
 use Rattle.abstract_steps_single_copies.proofs.SpelledLeaves.{spelled_leaves}
 use Rattle.abstract_steps_single_copies.proofs.SpelledRows.{spelled_within}
 use Rattle.abstract_steps_single_starts.proofs.NamedTargets.{NamesTargets}

@@ -4,3 +4,8 @@ pub mod StoredRows
 pub mod ToldStores
 pub mod ToldForgets
 pub mod ToldClears
+pub use Rattle.abstract_steps_single_places.proofs.HeldReads
+pub use Rattle.abstract_steps_single_places.proofs.OneLeaf
+pub use Rattle.abstract_steps_single_places.proofs.Structs
+pub use Rattle.abstract_steps_sound_objects.proofs.WholeObjects
+pub use Rattle.abstract_steps_single_places.proofs.OneBase

@@ -24,8 +24,8 @@ use Rattle.store_domain_meaning.specs.RowMeaning.{MachineState}
 use Rattle.store_domain_sound.proofs.StoreRows.{leaf_is}
 use Rattle.store_domain_sound.proofs.StoreValues.{same_value}
 use Rattle.store_domain_sound_programs.specs.Premises.{HasPremises}
-use Rattle.abstract_steps_single.specs.SingleRows.{HoldsScalar, TellsLeaf, TellsState}
-use Rattle.abstract_steps_single.specs.SingleValues.{TellsByLife, TellsScalar, TellsHeld}
+use Rattle.abstract_steps_single_places.specs.SingleRows.{HoldsScalar, TellsLeaf, TellsState}
+use Rattle.abstract_steps_single_places.specs.SingleValues.{TellsByLife, TellsScalar, TellsHeld}
 
 -- ---- scalars
 

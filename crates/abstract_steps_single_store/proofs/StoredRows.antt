@@ -35,13 +35,13 @@ use Rattle.store_domain_sound.proofs.Slices.{get_set_other}
 use Rattle.store_domain_sound.proofs.StoreRows.{Fits, leaf_is}
 use Rattle.store_domain_sound.proofs.StoreValues.{same_value}
 use Rattle.store_domain_sound_programs.specs.Premises.{HasPremises}
-use Rattle.abstract_steps_sound.proofs.NearScalars.{IsNearScalar}
-use Rattle.abstract_steps_sound.proofs.TypeRanges.{type_near}
+use Rattle.abstract_steps_sound_objects.proofs.NearScalars.{IsNearScalar}
+use Rattle.abstract_steps_sound_objects.proofs.TypeRanges.{type_near}
 use Rattle.abstract_steps_single_places.specs.StructLeaves.{IsStruct}
-use Rattle.abstract_steps_single.specs.ExactNumbers.{ExactLaws}
-use Rattle.abstract_steps_single.specs.SingleRows.{HoldsScalar, TellsLeaf, TellsState}
-use Rattle.abstract_steps_single.specs.SingleValues.{TellsScalar}
-use Rattle.abstract_steps_single.proofs.NearTells.{near_scalar_tells}
+use Rattle.abstract_steps_single_places.specs.ExactNumbers.{ExactLaws}
+use Rattle.abstract_steps_single_places.specs.SingleRows.{HoldsScalar, TellsLeaf, TellsState}
+use Rattle.abstract_steps_single_places.specs.SingleValues.{TellsScalar}
+use Rattle.abstract_steps_single_places.proofs.NearTells.{near_scalar_tells}
 use Rattle.abstract_steps_single_store.proofs.Moves.{scalar_moves, held_moves, holds_moves, change_tells}
 use Rattle.abstract_steps_single_places.proofs.OneLeaf.{same_size, owned, place_is}
 use Rattle.abstract_steps_single_places.proofs.Written.{IsWritten, left_number, number_written, pointer_written}

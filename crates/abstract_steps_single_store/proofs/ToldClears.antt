@@ -15,8 +15,8 @@ use Rattle.value_domain.specs.declared.row_cells.Cell.{Cell}
 use Rattle.store_domain.specs.ObjectLives.{zero_value, clear_leaf, clear_leaves, clear_object, at_base, clear}
 use Rattle.store_domain.specs.RowPositions.{leaf_position, value_at}
 use Rattle.abstract_steps_checks.specs.ViolationSets.{no_violations}
-use Rattle.abstract_steps_instructions.specs.Steps.{operate}
-use Rattle.abstract_steps_instructions.specs.StepViolations.{operation_violations}
+use Rattle.abstract_steps_sound_objects.specs.Steps.{operate}
+use Rattle.abstract_steps_sound_objects.specs.StepViolations.{operation_violations}
 use Rattle.lib_models_memory.specs.Instances.{Memory}
 use Rattle.lib_models_memory.specs.ScalarSizes.{class_bytes}
 use Rattle.lib_models_effects.specs.ObjectEffects.{cleared}
@@ -30,14 +30,14 @@ use Rattle.store_domain_meaning.specs.Matching.{Matched}
 use Rattle.store_domain_meaning.specs.RowMeaning.{MachineState}
 use Rattle.store_domain_meaning.specs.ValueMeaning.{Naming}
 use Rattle.store_domain_sound_programs.specs.Premises.{HasPremises}
-use Rattle.abstract_steps_sound.specs.SoundSteps.{IsReached}
+use Rattle.abstract_steps_sound_objects.specs.SoundSteps.{IsReached}
 use Rattle.abstract_steps_sound_objects.proofs.BlankRows as blank
 use Rattle.abstract_steps_sound_objects.proofs.WholeObjects.{automatic_declared, some_kind, named, new, is_set}
-use Rattle.abstract_steps_single.specs.SingleRows.{IsPlainProgram, TellsLeaf, TellsState}
-use Rattle.abstract_steps_single.specs.SingleSteps.{IsDefined, TellsBehind, StepIsTold}
-use Rattle.abstract_steps_single.proofs.NearTells.{near_none}
-use Rattle.abstract_steps_single.proofs.Told.{if_some_told}
-use Rattle.abstract_steps_single.proofs.Violated.{none_violated}
+use Rattle.abstract_steps_single_places.specs.SingleRows.{IsPlainProgram, TellsLeaf, TellsState}
+use Rattle.abstract_steps_single_places.specs.SingleSteps.{IsDefined, TellsBehind, StepIsTold}
+use Rattle.abstract_steps_single_places.proofs.NearTells.{near_none}
+use Rattle.abstract_steps_single_places.proofs.Told.{if_some_told}
+use Rattle.abstract_steps_single_places.proofs.Violated.{none_violated}
 use Rattle.abstract_steps_single_store.specs.StoreLaws.{IsCleared}
 use Rattle.abstract_steps_single_store.specs.TypedAccesses.{HasObjects}
 use Rattle.abstract_steps_single_store.proofs.Moves.{change_tells}
@@ -58,7 +58,7 @@ use Rattle.lib_models_memory.specs.Scalars.{integer, pointer}
 use Rattle.store_domain_sound.proofs.Only.{Only, Turned, only_leaves, only_more, only_put, only_walk, walk_turn, cell_put}
 use Rattle.store_domain_sound.proofs.StoreRows.{leaf_is, zero_is}
 use Rattle.abstract_steps_sound_objects.proofs.SetCells.{set_keeps}
-use Rattle.abstract_steps_single.proofs.NearTells.{near_one}
+use Rattle.abstract_steps_single_places.proofs.NearTells.{near_one}
 use Rattle.abstract_steps_single_store.proofs.ToldForgets.{leaf_bytes}
 
 -- ---- numbers of zero bytes

@@ -15,8 +15,8 @@ use Rattle.value_domain.specs.declared.row_cells.Cell.{Cell}
 use Rattle.store_domain.specs.ObjectLives.{blank_object, at_base, forget}
 use Rattle.store_domain.specs.RowPositions.{leaf_position, value_at}
 use Rattle.abstract_steps_checks.specs.ViolationSets.{no_violations}
-use Rattle.abstract_steps_instructions.specs.Steps.{operate}
-use Rattle.abstract_steps_instructions.specs.StepViolations.{operation_violations}
+use Rattle.abstract_steps_sound_objects.specs.Steps.{operate}
+use Rattle.abstract_steps_sound_objects.specs.StepViolations.{operation_violations}
 use Rattle.lib_models_memory.specs.Bytes.{Content, indeterminate}
 use Rattle.lib_models_memory.specs.Instances.{Memory, bytes_of, bytes_at, byte_at}
 use Rattle.lib_models_memory.specs.ScalarSizes.{class_bytes}
@@ -35,16 +35,16 @@ use Rattle.store_domain_meaning.specs.ValueMeaning.{Naming}
 use Rattle.store_domain_sound.proofs.LoadSound.{instance_there}
 use Rattle.store_domain_sound.proofs.Slices.{get_there}
 use Rattle.store_domain_sound_programs.specs.Premises.{HasPremises}
-use Rattle.abstract_steps_sound.specs.SoundSteps.{IsReached}
+use Rattle.abstract_steps_sound_objects.specs.SoundSteps.{IsReached}
 use Rattle.abstract_steps_single_places.proofs.Structs.{owned_at}
 use Rattle.abstract_steps_sound_objects.proofs.BlankRows as blank
 use Rattle.abstract_steps_sound_objects.proofs.WholeObjects.{automatic_declared, some_kind, named, alive, new, is_set, content_at}
-use Rattle.abstract_steps_single.specs.SingleRows.{IsPlainProgram, TellsLeaf, TellsState}
-use Rattle.abstract_steps_single.specs.SingleSteps.{IsDefined, TellsBehind, StepIsTold}
-use Rattle.abstract_steps_single.specs.SingleValues.{IsBlank}
-use Rattle.abstract_steps_single.proofs.NearTells.{near_none}
-use Rattle.abstract_steps_single.proofs.Told.{if_some_told}
-use Rattle.abstract_steps_single.proofs.Violated.{none_violated}
+use Rattle.abstract_steps_single_places.specs.SingleRows.{IsPlainProgram, TellsLeaf, TellsState}
+use Rattle.abstract_steps_single_places.specs.SingleSteps.{IsDefined, TellsBehind, StepIsTold}
+use Rattle.abstract_steps_single_places.specs.SingleValues.{IsBlank}
+use Rattle.abstract_steps_single_places.proofs.NearTells.{near_none}
+use Rattle.abstract_steps_single_places.proofs.Told.{if_some_told}
+use Rattle.abstract_steps_single_places.proofs.Violated.{none_violated}
 use Rattle.abstract_steps_single_store.specs.StoreLaws.{IsForgotten}
 use Rattle.abstract_steps_single_store.specs.TypedAccesses.{HasObjects}
 use Rattle.abstract_steps_single_places.proofs.HeldReads.{inside}

@@ -33,9 +33,9 @@ use Rattle.abstract_steps_checks.specs.declared.touches.Touched.{Touched}
 use Rattle.abstract_steps_checks.specs.declared.violation_sets.Violations.{Violations}
 use Rattle.abstract_steps_values.specs.ResultTemps.{put_pointer}
 use Rattle.abstract_steps_values.specs.Scalars.{class_of, minds_blank}
-use Rattle.abstract_steps_instructions.specs.MemorySteps.{blank_or_freed, put_read, put_loaded, load_step}
-use Rattle.abstract_steps_instructions.specs.Steps.{operate}
-use Rattle.abstract_steps_instructions.specs.StepViolations.{operation_violations}
+use Rattle.abstract_steps_sound_objects.specs.MemorySteps.{blank_or_freed, put_read, put_loaded, load_step}
+use Rattle.abstract_steps_sound_objects.specs.Steps.{operate}
+use Rattle.abstract_steps_sound_objects.specs.StepViolations.{operation_violations}
 use Rattle.lib_models_memory.specs.Bytes.{MachinePointer, null, into}
 use Rattle.lib_models_memory.specs.Instances.{Life, live, ended, freed, life_at}
 use Rattle.lib_models_memory.specs.ScalarSizes.{class_bytes, is_pointer, same_class}
@@ -57,17 +57,17 @@ use Rattle.store_domain_sound.proofs.LoadSound.{base_there}
 use Rattle.store_domain_sound.proofs.MemorySound.{loads_keep}
 use Rattle.store_domain_sound.proofs.StoreSound.{scalar_named}
 use Rattle.store_domain_sound_programs.specs.Premises.{HasPremises}
-use Rattle.abstract_steps_sound.specs.SoundSteps.{IsReached}
+use Rattle.abstract_steps_sound_objects.specs.SoundSteps.{IsReached}
 use Rattle.abstract_steps_sound_memory.proofs.LoadedNumbers.{loaded_near}
-use Rattle.abstract_steps_sound.proofs.NearScalars.{IsNearScalar}
+use Rattle.abstract_steps_sound_objects.proofs.NearScalars.{IsNearScalar}
 use Rattle.abstract_steps_sound_memory.proofs.MachineReplies.{load_went}
 use Rattle.abstract_steps_sound_memory.proofs.ScalarClasses.{class_pair}
-use Rattle.abstract_steps_single.specs.SingleRows.{HoldsScalar, TellsLeaf, TellsState, IsPlainProgram}
-use Rattle.abstract_steps_single.specs.SingleSteps.{IsDefined, IsTold, StepIsTold}
-use Rattle.abstract_steps_single.specs.SingleValues.{IsNowhere, IsIntoOne, IsBlank, TellsByLife, TellsPointer, TellsScalar, TellsHeld}
-use Rattle.abstract_steps_single.proofs.Told.{stop_told, if_some_told, result_told}
-use Rattle.abstract_steps_single.proofs.ValueSteps.{number_put, nothing_put, pointer_put, tells_number, tells_pointer}
-use Rattle.abstract_steps_single.proofs.Violated.{AreViolated, none_violated, one_there, behind_there, same_violated}
+use Rattle.abstract_steps_single_places.specs.SingleRows.{HoldsScalar, TellsLeaf, TellsState, IsPlainProgram}
+use Rattle.abstract_steps_single_places.specs.SingleSteps.{IsDefined, IsTold, StepIsTold}
+use Rattle.abstract_steps_single_places.specs.SingleValues.{IsNowhere, IsIntoOne, IsBlank, TellsByLife, TellsPointer, TellsScalar, TellsHeld}
+use Rattle.abstract_steps_single_places.proofs.Told.{stop_told, if_some_told, result_told}
+use Rattle.abstract_steps_single_places.proofs.ValueSteps.{number_put, nothing_put, pointer_put, tells_number, tells_pointer}
+use Rattle.abstract_steps_single_places.proofs.Violated.{AreViolated, none_violated, one_there, behind_there, same_violated}
 use Rattle.abstract_steps_single_store.specs.TypedAccesses.{HasObjects, IsAtLeaf, PointsToKind, IsTyped, IsTypedLoad}
 use Rattle.abstract_steps_single_places.proofs.HeldReads.{held_reply, load_held}
 use Rattle.abstract_steps_single_places.proofs.OneBase.{none_freed}

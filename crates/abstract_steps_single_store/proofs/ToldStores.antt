@@ -36,9 +36,9 @@ use Rattle.abstract_steps_checks.specs.Touches.{touch}
 use Rattle.abstract_steps_checks.specs.ViolationSets.{no_violations}
 use Rattle.abstract_steps_checks.specs.declared.touches.Touched.{Touched}
 use Rattle.abstract_steps_checks.specs.declared.violation_sets.Violations.{Violations}
-use Rattle.abstract_steps_instructions.specs.MemorySteps.{move_temp, moved_behind, store_to, store_step}
-use Rattle.abstract_steps_instructions.specs.Steps.{operate}
-use Rattle.abstract_steps_instructions.specs.StepViolations.{operation_violations}
+use Rattle.abstract_steps_sound_objects.specs.MemorySteps.{move_temp, moved_behind, store_to, store_step}
+use Rattle.abstract_steps_sound_objects.specs.Steps.{operate}
+use Rattle.abstract_steps_sound_objects.specs.StepViolations.{operation_violations}
 use Rattle.lib_models_memory.specs.Bytes.{MachinePointer, null, into, Content, Byte}
 use Rattle.lib_models_memory.specs.Tags.{tag_of}
 use Rattle.store_domain_meaning.specs.Matching.{Matched}
@@ -69,19 +69,19 @@ use Rattle.store_domain_sound.proofs.StoreRows.{Fits}
 use Rattle.store_domain_sound_chars.proofs.ByteStores.{byte_of, byte_goes}
 use Rattle.store_domain_sound.proofs.LoadSound.{base_there, instance_there}
 use Rattle.store_domain_sound_programs.specs.Premises.{HasPremises}
-use Rattle.abstract_steps_sound.specs.SoundSteps.{IsReached, StandsBehind}
-use Rattle.abstract_steps_sound.proofs.MoveSteps.{near_has}
-use Rattle.abstract_steps_sound.proofs.NearScalars.{IsNearScalar}
+use Rattle.abstract_steps_sound_objects.specs.SoundSteps.{IsReached, StandsBehind}
+use Rattle.abstract_steps_sound_objects.proofs.MoveSteps.{near_has}
+use Rattle.abstract_steps_sound_objects.proofs.NearScalars.{IsNearScalar}
 use Rattle.abstract_steps_values.specs.Scalars.{class_of}
 use Rattle.abstract_steps_single_places.proofs.Structs.{owned_at}
 use Rattle.abstract_steps_sound_memory.proofs.ScalarClasses.{class_pair}
 use Rattle.abstract_steps_sound_memory.proofs.StoreSteps.{store_sound}
-use Rattle.abstract_steps_single.specs.ExactNumbers.{ExactLaws}
-use Rattle.abstract_steps_single.specs.SingleRows.{TellsState, IsPlainProgram}
-use Rattle.abstract_steps_single.specs.SingleSteps.{IsDefined, TellsBehind, IsTold, StepIsTold}
-use Rattle.abstract_steps_single.specs.SingleValues.{IsNowhere, IsIntoOne, TellsByLife, TellsPointer, TellsScalar}
-use Rattle.abstract_steps_single.proofs.Told.{stop_told, if_some_told, result_told}
-use Rattle.abstract_steps_single.proofs.Violated.{AreViolated, none_violated, one_there, behind_there, same_violated}
+use Rattle.abstract_steps_single_places.specs.ExactNumbers.{ExactLaws}
+use Rattle.abstract_steps_single_places.specs.SingleRows.{TellsState, IsPlainProgram}
+use Rattle.abstract_steps_single_places.specs.SingleSteps.{IsDefined, TellsBehind, IsTold, StepIsTold}
+use Rattle.abstract_steps_single_places.specs.SingleValues.{IsNowhere, IsIntoOne, TellsByLife, TellsPointer, TellsScalar}
+use Rattle.abstract_steps_single_places.proofs.Told.{stop_told, if_some_told, result_told}
+use Rattle.abstract_steps_single_places.proofs.Violated.{AreViolated, none_violated, one_there, behind_there, same_violated}
 use Rattle.abstract_steps_single_store.specs.TypedAccesses.{HasObjects, IsAtLeaf, PointsToKind, IsTyped, IsTypedStore}
 use Rattle.abstract_steps_single_places.proofs.HeldReads.{seen}
 use Rattle.abstract_steps_single_places.proofs.OneBase.{not_empty}

@@ -14,10 +14,10 @@ use Rattle.flow_program_machine.specs.FlowSteps.{act_step}
 use Rattle.store_domain_meaning.specs.Coverage.{state_of}
 use Rattle.store_domain_meaning.specs.ValueMeaning.{Naming}
 use Rattle.store_domain_sound_programs.specs.Premises.{HasPremises}
-use Rattle.abstract_steps_sound.specs.OperandTypes.{HasOperands}
-use Rattle.abstract_steps_sound.specs.SoundSteps.{IsReached}
-use Rattle.abstract_steps_single.specs.SingleRows.{IsPlainProgram, TellsState}
-use Rattle.abstract_steps_single.specs.SingleSteps.{IsDefined, StepIsTold}
+use Rattle.abstract_steps_sound_objects.specs.OperandTypes.{HasOperands}
+use Rattle.abstract_steps_sound_objects.specs.SoundSteps.{IsReached}
+use Rattle.abstract_steps_single_places.specs.SingleRows.{IsPlainProgram, TellsState}
+use Rattle.abstract_steps_single_places.specs.SingleSteps.{IsDefined, StepIsTold}
 use Rattle.abstract_steps_single_store.specs.TypedAccesses.{HasObjects, IsTypedLoad, IsTypedStore}
 
 abbrev pub IsEntered : Operation → Standing → Type 0

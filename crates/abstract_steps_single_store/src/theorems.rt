@@ -2,7 +2,7 @@
 //! there is none where the run stops, and each rule that the step admits is violated.
 ghost use Rattle.cc_base.specs.IntegerLaws.{SoundLaws};
 ghost use Rattle.flow_program.specs.declared.programs.Flow.{Flow};
-ghost use Rattle.abstract_steps_single.specs.ExactNumbers.{ExactLaws};
+ghost use Rattle.abstract_steps_single_places.specs.ExactNumbers.{ExactLaws};
 ghost use Rattle.abstract_steps_single_store.specs.StoreLaws.{LoadsAreTold, StoresAreTold, ForgetsAreTold, ClearsAreTold};
 
 use cc_base::IntDomain;

@@ -39,7 +39,7 @@ use Rattle.abstract_steps_sound_copied_turns.proofs.Batches.{batch_gives, done, 
 use Rattle.abstract_steps_single.specs.SingleRows.{IsPlainProgram}
 use Rattle.abstract_steps_single_places.proofs.OneInstance.{one_instance}
 use Rattle.abstract_steps_single_places.proofs.OneLeaf.{owned}
-use Rattle.abstract_steps_single_store.specs.TypedAccesses.{HasObjects}
+use Rattle.abstract_steps_single_copies.specs.TypedAccesses.{HasObjects}
 use Rattle.abstract_steps_single_copies.specs.TypedCopies.{HasOwnLeaf, IsAtStruct}
 use Rattle.abstract_steps_single_structs.proofs.OneSpans.{IsOneWindow, leaf_window}
 use Rattle.abstract_steps_single_structs.proofs.OneCopies.{reads_cell, sets_cell}

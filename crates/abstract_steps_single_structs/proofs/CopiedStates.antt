@@ -36,8 +36,8 @@ use Rattle.abstract_steps_single.specs.ExactNumbers.{ExactLaws}
 use Rattle.abstract_steps_single.specs.SingleRows.{IsPlainProgram, TellsLeaf, TellsState}
 use Rattle.abstract_steps_single.specs.SingleValues.{TellsHeld}
 use Rattle.abstract_steps_single_places.proofs.OneLeaf.{owned, place_is}
-use Rattle.abstract_steps_single_store.specs.TypedAccesses.{HasObjects}
-use Rattle.abstract_steps_single_store.proofs.Moves.{held_moves, holds_moves, change_tells}
+use Rattle.abstract_steps_single_copies.specs.TypedAccesses.{HasObjects}
+use Rattle.abstract_steps_single_copies.proofs.Moves.{held_moves, holds_moves, change_tells}
 use Rattle.abstract_steps_single_copies.specs.TypedCopies.{HasOwnLeaf}
 use Rattle.abstract_steps_single_structs.proofs.CopiedRows as rows
 use Rattle.abstract_steps_single_structs.proofs.CopiedRows.{IsSide, leaves, base_fits, inside, own}

@@ -24,7 +24,7 @@ use Rattle.abstract_steps_sound_copied_turns.proofs.FinishWrites.{zeros_only, pa
 use Rattle.abstract_steps_single.specs.SingleRows.{IsPlainProgram}
 use Rattle.abstract_steps_single_places.proofs.OneTurn.{walk_idle, walk_once}
 use Rattle.abstract_steps_single_places.proofs.OneBase.{has_own, has_no_other}
-use Rattle.abstract_steps_single_store.specs.TypedAccesses.{HasObjects}
+use Rattle.abstract_steps_single_copies.specs.TypedAccesses.{HasObjects}
 use Rattle.abstract_steps_single_structs.proofs.PlainPadding.{padded, none_met}
 use Rattle.abstract_steps_single_structs.proofs.CopiedRows.{IsSide, leaves, base_fits, place_is, route, to_place, moved, all_copied}
 

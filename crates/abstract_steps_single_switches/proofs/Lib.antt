@@ -1,1 +1,2 @@
 pub mod UnitSwitches
+pub use Rattle.abstract_steps_single_runs.proofs.BlockEdges

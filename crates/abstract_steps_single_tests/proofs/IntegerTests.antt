@@ -36,7 +36,7 @@ use Rattle.store_domain_meaning.specs.ValueMeaning.{Naming}
 use Rattle.store_domain_sound_programs.specs.Premises.{HasPremises}
 use Rattle.abstract_steps_sound.specs.SoundSteps.{IsReached}
 use Rattle.abstract_steps_sound.proofs.NearScalars.{near_number_stands}
-use Rattle.abstract_steps_sound_edges.proofs.EdgeSteps.{is_near}
+use Rattle.abstract_steps_sound_tests.proofs.EdgeSteps.{is_near}
 use Rattle.abstract_steps_sound_tests.specs.ScalarObjects.{IsScalarObject, NamesScalar, IsIntegerTest}
 use Rattle.abstract_steps_sound_tests.proofs.Relabelling.{IsRelabelling, side_change, relabellings_follow}
 use Rattle.abstract_steps_sound_tests.proofs.ScalarCells.{size_is}

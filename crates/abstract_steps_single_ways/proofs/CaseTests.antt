@@ -17,7 +17,7 @@ use Rattle.value_domain.specs.LabelSets as set
 use Rattle.value_domain.specs.declared.values.Value as values
 use Rattle.value_domain.specs.declared.row_cells.Cell.{Cell}
 use Rattle.store_domain.specs.RowPositions.{leaf_position, value_at, put_value}
-use Rattle.abstract_steps.specs.Refinements.{position_of, value_of_object, side_value, labelled_number, with_number, put_case, refine_value, refine_case_at, refine_case}
+use Rattle.abstract_steps_sound_tests.specs.Refinements.{position_of, value_of_object, side_value, labelled_number, with_number, put_case, refine_value, refine_case_at, refine_case}
 use Rattle.abstract_steps_checks.specs.ViolationSets.{no_violations}
 use Rattle.lib_models_memory.specs.Labels.{Labels, no_labels}
 use Rattle.lib_models_memory.specs.ScalarSizes.{class_bytes}

@@ -24,7 +24,7 @@ use Rattle.value_domain.specs.declared.row_cells.Cell.{Cell}
 use Rattle.value_domain.specs.declared.row_cells.Cell.TheVariants.{Nothing, Value}
 use Rattle.store_domain.specs.NearValues.{is_near, near_part, part_near, near_number, near_pointer, near_value}
 use Rattle.store_domain.specs.RowPositions.{leaf_position, cell_at, value_in, value_at, put_value}
-use Rattle.abstract_steps.specs.Refinements.{position_of, named_by, not_null, tested_pointer, tested_value, refine_pointer_at, refine_pointer, refine_named, refine_in, refine}
+use Rattle.abstract_steps_sound_tests.specs.Refinements.{position_of, named_by, not_null, tested_pointer, tested_value, refine_pointer_at, refine_pointer, refine_named, refine_in, refine}
 use Rattle.abstract_steps_checks.specs.ViolationSets.{no_violations}
 use Rattle.lib_models_memory.specs.Bytes.{MachinePointer, null, into, Content, number, part, Byte}
 use Rattle.lib_models_memory.specs.Instances.{Memory, Life, live, ended, freed, life_at, bytes_at, byte_at}

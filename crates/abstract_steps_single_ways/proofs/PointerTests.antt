@@ -8,7 +8,7 @@ use Rattle.flow_program.specs.declared.flow_edges.Side.TheVariants as side
 use Rattle.flow_program.specs.declared.flow_edges.Test.{Test}
 use Rattle.flow_program.specs.declared.programs.Flow.{Flow}
 use Rattle.value_domain.specs.declared.row_cells.Cell.{Cell}
-use Rattle.abstract_steps.specs.Refinements.{refine_named, refine_in, refine}
+use Rattle.abstract_steps_sound_tests.specs.Refinements.{refine_named, refine_in, refine}
 use Rattle.abstract_steps_checks.specs.ViolationSets.{no_violations}
 use Rattle.lib_models_effects.specs.Tests as machine
 use Rattle.lib_models_effects.specs.Tests.{TestedSide, object, constant, nothing, test_holds, passing}

@@ -23,7 +23,7 @@ use Rattle.value_domain.specs.LabelSets as set
 use Rattle.value_domain.specs.ValueTables.{number_value}
 use Rattle.value_domain.specs.declared.values.Value.{Value}
 use Rattle.value_domain.specs.declared.row_cells.Cell.{Cell}
-use Rattle.abstract_steps.specs.Edges.{last_instruction, deciding_of, deciding_temp, truth_can_be, includes, has_label, is_other_than, can_be, put_kept, refine_if, kept_behind, behind_test, branch_edge, switched, refine_named_case, refine_object, case_edge, follow, follow_if, edge}
+use Rattle.abstract_steps_sound_tests.specs.Edges.{last_instruction, deciding_of, deciding_temp, truth_can_be, includes, has_label, is_other_than, can_be, put_kept, refine_if, kept_behind, behind_test, branch_edge, switched, refine_named_case, refine_object, case_edge, follow, follow_if, edge}
 use Rattle.abstract_steps_checks.specs.Temporaries.{temp_value, put_temp}
 use Rattle.abstract_steps_checks.specs.ViolationSets.{no_violations}
 use Rattle.lib_models_memory.specs.Labels.{Labels, no_labels}
@@ -42,7 +42,7 @@ use Rattle.store_domain_sound_programs.specs.Premises.{HasPremises}
 use Rattle.store_domain_sound_programs.proofs.ShapedBases.{all_at}
 use Rattle.abstract_steps_sound.specs.SoundSteps.{IsReached, StandsBehind, IsStoodFor}
 use Rattle.abstract_steps_sound.proofs.Admitted.{none_admitted, same_admitted}
-use Rattle.abstract_steps_covered.proofs.Blocks.{IsBlock, block_facts}
+use Rattle.abstract_steps_sound_tests.proofs.Blocks.{IsBlock, block_facts}
 use Rattle.abstract_steps_sound_tests.specs.EdgeSteps.{TestIsSound, KindIsSound, TestsAreSound}
 use Rattle.abstract_steps_sound_tests.proofs.EdgeSteps.{is_near}
 use Rattle.abstract_steps_sound_tests.proofs.TakenEdges.{FitsLead, body_led, HasLast, has_last, IsTakenEdge, taken_edge}

@@ -14,8 +14,8 @@ use Rattle.flow_program.specs.declared.machine_instructions.Operation.{Operation
 use Rattle.flow_program.specs.declared.machine_instructions.Operation.TheVariants as op
 use Rattle.flow_program.specs.declared.programs.Flow.{Flow}
 use Rattle.value_domain.specs.declared.row_cells.Cell.{Cell}
-use Rattle.abstract_steps.specs.Edges.{edge, last_instruction}
-use Rattle.abstract_steps.specs.Refinements.{refine, refine_case}
+use Rattle.abstract_steps_sound_tests.specs.Edges.{edge, last_instruction}
+use Rattle.abstract_steps_sound_tests.specs.Refinements.{refine, refine_case}
 use Rattle.abstract_steps_checks.specs.ViolationSets.{no_violations}
 use Rattle.lib_models_memory.specs.Scalars.{Scalar}
 use Rattle.lib_models_effects.specs.Worlds.{World, goes}

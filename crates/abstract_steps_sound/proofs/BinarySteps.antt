@@ -29,7 +29,7 @@ use Rattle.abstract_steps_checks.specs.IntegerChecks.{has_number, divides_least,
 use Rattle.abstract_steps_checks.specs.declared.violation_sets.Violations.{Violations}
 use Rattle.lib_models_memory.specs.Labels.{Labels, operated_labels}
 use Rattle.lib_models_effects.specs.IntegerEffects.{result_of, is_outside, fault_if, division_faults, shift_faults, overflow_faults, binary_faults}
-use Rattle.store_domain_sound.specs.SeenLabels.{as_set}
+use Rattle.store_domain_sound_programs.specs.SeenLabels.{as_set}
 use Rattle.abstract_steps_sound.proofs.Admitted.{AreAdmitted, none_admitted, one_admitted, both_admitted}
 use Rattle.abstract_steps_sound.proofs.TypeRanges.{same_int, bounds_number, bounds_some}
 

@@ -36,14 +36,14 @@ use Rattle.value_domain.specs.declared.values.Value.{Value}
 use Rattle.value_domain_laws.specs.Meaning.{IsInto}
 use Rattle.value_domain_laws.proofs.EqualityStands.{has_some, common_base, equality_meaning}
 use Rattle.value_domain_laws.proofs.PointerStands.{compared_holds, compared_fails, difference_stands}
-use Rattle.store_domain.specs.LiveBases.{is_single_kind, single_bases}
-use Rattle.store_domain.specs.ScalarTypes.{kind_of}
+use Rattle.abstract_steps_checks.specs.LiveBases.{is_single_kind, single_bases}
+use Rattle.abstract_steps_checks.specs.ScalarTypes.{kind_of}
 use Rattle.abstract_steps_checks.specs.PointerChecks.{are_alike, check_same_instance}
 use Rattle.abstract_steps_checks.specs.Temporaries.{temp_value, put_temp}
 use Rattle.abstract_steps_checks.specs.ViolationSets.{no_violations}
 use Rattle.abstract_steps_checks.specs.declared.violation_sets.Violations.{Violations}
-use Rattle.abstract_steps_values.specs.PointerSteps.{has_difference, difference_of, difference_between, difference_step, equality, ordered, relation, relation_step}
-use Rattle.abstract_steps_values.specs.ResultTemps.{negated, put_truth}
+use Rattle.abstract_steps_instructions.specs.PointerSteps.{has_difference, difference_of, difference_between, difference_step, equality, ordered, relation, relation_step}
+use Rattle.abstract_steps_instructions.specs.ResultTemps.{negated, put_truth}
 use Rattle.abstract_steps_instructions.specs.Steps.{operate}
 use Rattle.abstract_steps_instructions.specs.StepViolations.{relation_violations, operation_violations}
 use Rattle.lib_models_memory.specs.Labels.{no_labels}
@@ -56,11 +56,11 @@ use Rattle.lib_models_effects.specs.PointerEffects.{is_ended_life, is_ended, off
 use Rattle.lib_models_effects.specs.Worlds.{Reply, goes, unless}
 use Rattle.flow_program_machine.specs.FlowStates.{Standing}
 use Rattle.flow_program_machine.specs.FlowActs.{giving}
-use Rattle.store_domain_sound.specs.ValueMeaning.{Naming, StandsInto, StandsByLife, StandsPointer, StandsScalar}
-use Rattle.store_domain_sound.specs.SoundMemory.{IsWithin, IsPointerIn}
-use Rattle.store_domain_sound.proofs.OneBases.{one_base}
-use Rattle.store_domain_sound.proofs.Sets.{is_single}
-use Rattle.store_domain_sound.proofs.Slices.{get_there}
+use Rattle.store_domain_sound_programs.specs.ValueMeaning.{Naming, StandsInto, StandsByLife, StandsPointer, StandsScalar}
+use Rattle.store_domain_sound_programs.specs.SoundMemory.{IsWithin, IsPointerIn}
+use Rattle.store_domain_sound_programs.proofs.OneBases.{one_base}
+use Rattle.store_domain_sound_programs.proofs.Sets.{is_single}
+use Rattle.store_domain_sound_programs.proofs.Slices.{get_there}
 use Rattle.store_domain_sound_programs.specs.Premises.{HasPremises}
 use Rattle.abstract_steps_sound.specs.SoundSteps.{IsReached, IsStoodFor, StepIsSound}
 use Rattle.abstract_steps_sound.proofs.Admitted.{AreAdmitted, none_admitted, same_admitted}

@@ -9,7 +9,7 @@ use Rattle.cc_base.specs.declared.int_types.IntType.{IntType}
 use Rattle.cc_base.specs.declared.integer_operators.IntOp.TheVariants.{Rem}
 use Rattle.flow_program.specs.declared.programs.Flow.{Flow}
 use Rattle.pointer_domain.specs.declared.pointer_sets.Pointers.{Pointers}
-use Rattle.abstract_steps_values.specs.PointerSteps.{has_difference}
+use Rattle.abstract_steps_instructions.specs.PointerSteps.{has_difference}
 use Rattle.lib_models_memory.specs.Labels.{no_labels}
 use Rattle.lib_models_memory.specs.Bytes.{indeterminate, into}
 use Rattle.lib_models_memory.specs.Instances.{automatic, live}

@@ -14,3 +14,4 @@ pub mod MoveSteps
 pub mod ComparisonSteps
 pub mod PointerSteps
 pub mod Counterexamples
+pub use Rattle.store_domain_sound_programs.proofs.ShapedBases

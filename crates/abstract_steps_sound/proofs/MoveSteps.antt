@@ -25,14 +25,14 @@ use Rattle.value_domain.specs.declared.row_cells.Cell.{Cell}
 use Rattle.value_domain_laws.proofs.EqualityStands.{has_some}
 use Rattle.value_domain_laws.proofs.Numbers.{RangeHas, sum_has, times_has, difference_has, bounds_have, of_range_stands}
 use Rattle.value_domain_laws.proofs.PointerStands.{shift_stands}
-use Rattle.store_domain.specs.NearValues.{is_near, near_part, part_near, near_number}
-use Rattle.store_domain.specs.RowPositions.{value_at}
+use Rattle.abstract_steps_checks.specs.NearValues.{is_near, near_part, part_near, near_number}
+use Rattle.abstract_steps_checks.specs.RowPositions.{value_at}
 use Rattle.abstract_steps_checks.specs.PointerChecks.{shift_violations}
 use Rattle.abstract_steps_checks.specs.Temporaries.{temp_value, amount_value}
 use Rattle.abstract_steps_checks.specs.Touches.{leaves_bounds_at}
 use Rattle.abstract_steps_checks.specs.declared.violation_sets.Violations.{Violations}
-use Rattle.abstract_steps_values.specs.PointerSteps.{is_short, signed_amount, put_moved, shift_by, shift_step}
-use Rattle.abstract_steps_values.specs.ResultTemps.{put_pointer}
+use Rattle.abstract_steps_instructions.specs.PointerSteps.{is_short, signed_amount, put_moved, shift_by, shift_step}
+use Rattle.abstract_steps_instructions.specs.ResultTemps.{put_pointer}
 use Rattle.abstract_steps_instructions.specs.Steps.{operate}
 use Rattle.abstract_steps_instructions.specs.StepViolations.{operation_violations}
 use Rattle.lib_models_memory.specs.Labels.{Labels, is_unlabelled}
@@ -45,10 +45,10 @@ use Rattle.lib_models_effects.specs.Operands.{as_pointer}
 use Rattle.lib_models_effects.specs.Worlds.{World, Reply, noted, unless}
 use Rattle.flow_program_machine.specs.FlowStates.{Standing}
 use Rattle.flow_program_machine.specs.FlowActs.{giving, with_amount}
-use Rattle.store_domain_sound.specs.SeenLabels.{as_set}
-use Rattle.store_domain_sound.specs.ValueMeaning.{Naming, StandsInto, StandsByLife, StandsPointer, StandsScalar}
-use Rattle.store_domain_sound.specs.SoundMemory.{IsWithin, IsPointerIn}
-use Rattle.store_domain_sound.proofs.Sets.{none_has}
+use Rattle.store_domain_sound_programs.specs.SeenLabels.{as_set}
+use Rattle.store_domain_sound_programs.specs.ValueMeaning.{Naming, StandsInto, StandsByLife, StandsPointer, StandsScalar}
+use Rattle.store_domain_sound_programs.specs.SoundMemory.{IsWithin, IsPointerIn}
+use Rattle.store_domain_sound_programs.proofs.Sets.{none_has}
 use Rattle.store_domain_sound_programs.specs.Premises.{HasPremises}
 use Rattle.abstract_steps_sound.specs.SoundSteps.{IsReached, IsStoodFor, StepIsSound}
 use Rattle.abstract_steps_sound.proofs.Admitted.{AreAdmitted, none_admitted, one_admitted, both_admitted, same_admitted}

@@ -10,13 +10,13 @@ use Rattle.c_layout.specs.declared.shapes.BaseInfo.{BaseInfo}
 use Rattle.pointer_domain.specs.declared.pointer_sets.Pointers.{Pointers}
 use Rattle.value_domain.specs.declared.values.Value.{Value}
 use Rattle.value_domain_laws.proofs.Numbers.{met_has, bounds_have, of_range_stands}
-use Rattle.store_domain.specs.AccessWindows.{last_offset}
-use Rattle.store_domain.specs.NearValues.{is_near, near_number, near_pointer, near_value}
+use Rattle.abstract_steps_checks.specs.AccessWindows.{last_offset}
+use Rattle.abstract_steps_checks.specs.NearValues.{is_near, near_number, near_pointer, near_value}
 use Rattle.lib_models_memory.specs.Bytes.{MachinePointer, null, into}
 use Rattle.lib_models_memory.specs.Instances.{Memory, Life, live, ended, freed, bytes_at, life_at}
 use Rattle.lib_models_memory.specs.Scalars.{Scalar, integer, pointer}
-use Rattle.store_domain_sound.specs.ValueMeaning.{Naming, StandsInto, StandsByLife, StandsPointer, StandsScalar}
-use Rattle.store_domain_sound.specs.SoundMemory.{IsWithin, IsPointerIn, IsScalarIn, IsMemoryOf}
+use Rattle.store_domain_sound_programs.specs.ValueMeaning.{Naming, StandsInto, StandsByLife, StandsPointer, StandsScalar}
+use Rattle.store_domain_sound_programs.specs.SoundMemory.{IsWithin, IsPointerIn, IsScalarIn, IsMemoryOf}
 
 -- a number from -2^64 to 2^64
 pub record IsNearNumber (z : ℤ) : Type 0 where

@@ -21,13 +21,13 @@ use Rattle.pointer_domain.specs.PointerTables.{part_starts, part_at, narrowed}
 use Rattle.pointer_domain.specs.declared.pointer_sets.Pointers.{Pointers}
 use Rattle.value_domain.specs.declared.row_cells.Cell.{Cell}
 use Rattle.value_domain_laws.proofs.PointerStands.{narrow_stands}
-use Rattle.store_domain.specs.LiveBases.{most_bases, only_base, any_freed}
+use Rattle.abstract_steps_checks.specs.LiveBases.{most_bases, only_base, any_freed}
 use Rattle.abstract_steps_checks.specs.Temporaries.{temp_value}
 use Rattle.abstract_steps_checks.specs.Touches.{touch, touch_violations}
 use Rattle.abstract_steps_checks.specs.ViolationSets.{no_violations}
 use Rattle.abstract_steps_checks.specs.declared.violation_sets.Violations.{Violations}
-use Rattle.abstract_steps_values.specs.PointerSteps.{is_short, address_of, address_in, address_step, narrow_touched, narrow_step}
-use Rattle.abstract_steps_values.specs.ResultTemps.{put_pointer}
+use Rattle.abstract_steps_instructions.specs.PointerSteps.{is_short, address_of, address_in, address_step, narrow_touched, narrow_step}
+use Rattle.abstract_steps_instructions.specs.ResultTemps.{put_pointer}
 use Rattle.abstract_steps_instructions.specs.Steps.{operate}
 use Rattle.abstract_steps_instructions.specs.StepViolations.{operation_violations}
 use Rattle.lib_models_memory.specs.Bytes.{MachinePointer, null, into}
@@ -39,12 +39,12 @@ use Rattle.lib_models_effects.specs.Operands.{as_pointer}
 use Rattle.lib_models_effects.specs.Worlds.{behind, goes}
 use Rattle.flow_program_machine.specs.FlowStates.{Standing, size_in}
 use Rattle.flow_program_machine.specs.FlowActs.{giving}
-use Rattle.store_domain_sound.specs.ValueMeaning.{Naming, StandsInto, StandsByLife, StandsPointer, StandsScalar}
-use Rattle.store_domain_sound.specs.SoundMemory.{IsWithin, IsPointerIn, storage_for}
-use Rattle.store_domain_sound.specs.Coverage.{state_of}
-use Rattle.store_domain_sound.proofs.Freed.{into_freed}
-use Rattle.store_domain_sound.proofs.LoadSound.{instance_there}
-use Rattle.store_domain_sound.proofs.Sets.{none_has}
+use Rattle.store_domain_sound_programs.specs.ValueMeaning.{Naming, StandsInto, StandsByLife, StandsPointer, StandsScalar}
+use Rattle.store_domain_sound_programs.specs.SoundMemory.{IsWithin, IsPointerIn, storage_for}
+use Rattle.store_domain_sound_programs.specs.Coverage.{state_of}
+use Rattle.store_domain_sound_programs.proofs.Freed.{into_freed}
+use Rattle.store_domain_sound_programs.proofs.LoadSound.{instance_there}
+use Rattle.store_domain_sound_programs.proofs.Sets.{none_has}
 use Rattle.store_domain_sound_programs.specs.Premises.{HasPremises}
 use Rattle.abstract_steps_sound.specs.SoundSteps.{IsReached, IsStoodFor, StepIsSound}
 use Rattle.abstract_steps_sound.proofs.Admitted.{AreAdmitted, none_admitted, same_admitted}

@@ -15,20 +15,20 @@ use Rattle.pointer_domain.specs.declared.pointer_sets.Pointers.{Pointers}
 use Rattle.pointer_domain.specs.BaseSets.{bases_has}
 use Rattle.pointer_domain.specs.PointerTables.{length_above}
 use Rattle.value_domain.specs.declared.row_cells.Cell.{Cell}
-use Rattle.store_domain.specs.RowPositions.{state_at, state_position}
-use Rattle.store_domain.specs.LiveBases.{most_bases, may_be_live, is_live_in, live_of}
+use Rattle.abstract_steps_checks.specs.RowPositions.{state_at, state_position}
+use Rattle.abstract_steps_checks.specs.LiveBases.{most_bases, may_be_live, is_live_in, live_of}
 use Rattle.abstract_steps_checks.specs.Touches.{leaves_bounds_at, span_of, is_nowhere, places_within, touch_violations, touch}
 use Rattle.lib_models_memory.specs.Instances.{live, bytes_at, life_at}
-use Rattle.store_domain_sound.specs.ValueMeaning.{Naming, StandsInto, StandsState}
-use Rattle.store_domain_sound.specs.SoundMemory.{IsWithin}
-use Rattle.store_domain_sound.specs.RowMeaning.{MachineState, StandsFor}
-use Rattle.store_domain_sound.specs.Shapes.{AreShaped}
-use Rattle.store_domain_sound.proofs.Slices.{get_there}
-use Rattle.store_domain_sound.proofs.Windows.{RangeHas, met_has}
-use Rattle.store_domain_sound.proofs.LoadSound.{live_if}
-use Rattle.store_domain_sound.proofs.Sets.{in_live}
-use Rattle.store_domain_sound.proofs.StorePlaces.{not_empty}
-use Rattle.store_domain_sound.proofs.TouchSound.{range_stands, bounds_have, bounded, room_above, or_none}
+use Rattle.store_domain_sound_programs.specs.ValueMeaning.{Naming, StandsInto, StandsState}
+use Rattle.store_domain_sound_programs.specs.SoundMemory.{IsWithin}
+use Rattle.store_domain_sound_programs.specs.RowMeaning.{MachineState, StandsFor}
+use Rattle.store_domain_sound_programs.specs.Shapes.{AreShaped}
+use Rattle.store_domain_sound_programs.proofs.Slices.{get_there}
+use Rattle.store_domain_sound_programs.proofs.Windows.{RangeHas, met_has}
+use Rattle.store_domain_sound_programs.proofs.LoadSound.{live_if}
+use Rattle.store_domain_sound_programs.proofs.Sets.{in_live}
+use Rattle.store_domain_sound_programs.proofs.StorePlaces.{not_empty}
+use Rattle.store_domain_sound_programs.proofs.TouchSound.{range_stands, bounds_have, bounded, room_above, or_none}
 use Rattle.abstract_steps_sound.proofs.NearScalars.{near_offset, near_distance, near_number_stands}
 
 past_end : (a b c d : ℕ) → (nat_le a b && nat_le c d) ≡ false → a ≤ b → d < c

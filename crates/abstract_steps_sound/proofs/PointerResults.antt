@@ -11,15 +11,15 @@ use Rattle.value_domain.specs.ValueTables.{pointer_value}
 use Rattle.value_domain_laws.specs.Meaning.{IsInto}
 use Rattle.abstract_steps_checks.specs.declared.violation_sets.Violations.{Violations}
 use Rattle.abstract_steps_checks.specs.ViolationSets.{violates}
-use Rattle.abstract_steps_values.specs.ResultTemps.{put_pointer}
+use Rattle.abstract_steps_instructions.specs.ResultTemps.{put_pointer}
 use Rattle.lib_models_memory.specs.Bytes.{MachinePointer}
 use Rattle.lib_models_memory.specs.Instances.{Memory, Life, live, ended, freed}
 use Rattle.lib_models_memory.specs.Scalars.{pointer}
 use Rattle.lib_models_effects.specs.Worlds.{World, goes, violating, stopped_by}
 use Rattle.flow_program_machine.specs.FlowStates.{Standing}
 use Rattle.flow_program_machine.specs.FlowActs.{giving}
-use Rattle.store_domain_sound.specs.ValueMeaning.{Naming, StandsInto, StandsByLife, StandsPointer}
-use Rattle.store_domain_sound.specs.SoundMemory.{IsPointerIn}
+use Rattle.store_domain_sound_programs.specs.ValueMeaning.{Naming, StandsInto, StandsByLife, StandsPointer}
+use Rattle.store_domain_sound_programs.specs.SoundMemory.{IsPointerIn}
 use Rattle.store_domain_sound_programs.specs.Premises.{HasPremises}
 use Rattle.abstract_steps_sound.specs.SoundSteps.{IsReached, IsStoodFor}
 use Rattle.abstract_steps_sound.proofs.Admitted.{AreAdmitted, one_admitted, both_admitted}

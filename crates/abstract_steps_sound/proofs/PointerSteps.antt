@@ -12,7 +12,7 @@ use Rattle.flow_program.specs.declared.programs.Flow.{Flow}
 use Rattle.value_domain.specs.declared.row_cells.Cell.{Cell}
 use Rattle.abstract_steps_instructions.specs.OperationGroups.{is_on_pointers}
 use Rattle.flow_program_machine.specs.FlowStates.{Standing}
-use Rattle.store_domain_sound.specs.ValueMeaning.{Naming}
+use Rattle.store_domain_sound_programs.specs.ValueMeaning.{Naming}
 use Rattle.store_domain_sound_programs.specs.Premises.{HasPremises}
 use Rattle.abstract_steps_sound.specs.OperandTypes.{HasOperands}
 use Rattle.abstract_steps_sound.specs.SoundSteps.{IsReached, StepIsSound}

@@ -14,23 +14,23 @@ use Rattle.flow_program.specs.declared.programs.Flow.{Flow}
 use Rattle.value_domain.specs.declared.values.Value as values
 use Rattle.value_domain.specs.declared.row_cells.Cell.{Cell}
 use Rattle.value_domain.specs.declared.row_cells.Cell.TheVariants.{Nothing, Value}
-use Rattle.store_domain.specs.ClassNumbers.{class_at}
-use Rattle.store_domain.specs.NearValues.{near_value}
-use Rattle.store_domain.specs.RowPositions.{leaf_position, class_position, zero_position, state_position, cell_at, value_in, value_at}
+use Rattle.abstract_steps_checks.specs.ClassNumbers.{class_at}
+use Rattle.abstract_steps_checks.specs.NearValues.{near_value}
+use Rattle.abstract_steps_checks.specs.RowPositions.{leaf_position, class_position, zero_position, state_position, cell_at, value_in, value_at}
 use Rattle.abstract_steps_checks.specs.Temporaries.{temp_position, temp_value, put_temp}
 use Rattle.lib_models_memory.specs.Instances.{Memory, bytes_at, life_at}
 use Rattle.lib_models_memory.specs.Scalars.{Scalar, pointer}
 use Rattle.lib_models_memory.specs.Bytes.{MachinePointer}
 use Rattle.lib_models_effects.specs.NumberedTables.{set_at, put_at}
-use Rattle.store_domain_sound.specs.ValueMeaning.{Naming, StandsScalar, StandsZero, StandsState}
-use Rattle.store_domain_sound.specs.SoundMemory.{IsScalarIn, IsNamed}
-use Rattle.store_domain_sound.specs.RowMeaning.{MachineState, array_bytes, StandsLeaf, StandsClass, StandsFor}
-use Rattle.store_domain_sound.specs.Scalars.{IsScalarNamed}
-use Rattle.store_domain_sound.proofs.Only.{cell_put}
-use Rattle.store_domain_sound.proofs.Slices.{get_set_other}
-use Rattle.store_domain_sound.proofs.StoreRows.{leaf_is, class_is, zero_is}
-use Rattle.store_domain_sound.proofs.StoreSound.{scalar_named}
-use Rattle.store_domain_sound.proofs.StoreValues.{same_value, same_zero, same_state}
+use Rattle.store_domain_sound_programs.specs.ValueMeaning.{Naming, StandsScalar, StandsZero, StandsState}
+use Rattle.store_domain_sound_programs.specs.SoundMemory.{IsScalarIn, IsNamed}
+use Rattle.store_domain_sound_programs.specs.RowMeaning.{MachineState, array_bytes, StandsLeaf, StandsClass, StandsFor}
+use Rattle.store_domain_sound_programs.specs.Scalars.{IsScalarNamed}
+use Rattle.store_domain_sound_programs.proofs.Only.{cell_put}
+use Rattle.store_domain_sound_programs.proofs.Slices.{get_set_other}
+use Rattle.store_domain_sound_programs.proofs.StoreRows.{leaf_is, class_is, zero_is}
+use Rattle.store_domain_sound_programs.proofs.StoreSound.{scalar_named}
+use Rattle.store_domain_sound_programs.proofs.StoreValues.{same_value, same_zero, same_state}
 use Rattle.store_domain_sound_programs.specs.Premises.{HasPremises}
 use Rattle.abstract_steps_sound.proofs.NearScalars.{IsNearScalar, near_scalar_stands}
 

@@ -16,9 +16,9 @@ use Rattle.lib_models_effects.specs.Worlds.{World, Why, Reply, goes, stops}
 use Rattle.lib_models_effects.specs.Operands.{with_number, with_pointer}
 use Rattle.flow_program_machine.specs.FlowStates.{Standing, if_some}
 use Rattle.flow_program_machine.specs.FlowActs.{giving}
-use Rattle.store_domain_sound.specs.ValueMeaning.{Naming}
-use Rattle.store_domain_sound.specs.RowMeaning.{StandsFor}
-use Rattle.store_domain_sound.specs.Coverage.{state_of}
+use Rattle.store_domain_sound_programs.specs.ValueMeaning.{Naming}
+use Rattle.store_domain_sound_programs.specs.RowMeaning.{StandsFor}
+use Rattle.store_domain_sound_programs.specs.Coverage.{state_of}
 use Rattle.store_domain_sound_programs.specs.Premises.{HasPremises}
 use Rattle.abstract_steps_sound.specs.SoundSteps.{AreShort, IsReached, StandsBehind, IsStoodFor}
 use Rattle.abstract_steps_sound.proofs.Admitted.{AreAdmitted, none_admitted, same_admitted}

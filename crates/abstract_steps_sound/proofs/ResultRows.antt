@@ -19,11 +19,11 @@ use Rattle.value_domain_laws.proofs.EqualityStands.{has_some}
 use Rattle.value_domain_laws.proofs.Flags.{or_left, or_right}
 use Rattle.value_domain_laws.proofs.Numbers.{of_range_stands}
 use Rattle.abstract_steps_checks.specs.Temporaries.{put_temp}
-use Rattle.abstract_steps_values.specs.ResultTemps.{put_number, put_truth, put_pointer}
+use Rattle.abstract_steps_instructions.specs.ResultTemps.{put_number, put_truth, put_pointer}
 use Rattle.lib_models_memory.specs.Bytes.{MachinePointer, null, into}
 use Rattle.lib_models_memory.specs.Instances.{Memory, Life, live, ended, freed, life_at}
 use Rattle.lib_models_effects.specs.IntegerEffects.{truth}
-use Rattle.store_domain_sound.specs.ValueMeaning.{Naming, StandsByLife, StandsPointer, StandsScalar}
+use Rattle.store_domain_sound_programs.specs.ValueMeaning.{Naming, StandsByLife, StandsPointer, StandsScalar}
 use Rattle.abstract_steps_sound.proofs.NearScalars.{IsNearScalar}
 
 pub truth_near : (b : Bool) → IsNearScalar (truth b)

@@ -15,11 +15,11 @@ use Rattle.value_domain.specs.ValueTables.{value_truth}
 use Rattle.value_domain_laws.proofs.EqualityStands.{has_some}
 use Rattle.value_domain_laws.proofs.Flags.{or_left, or_right, holds_of}
 use Rattle.value_domain_laws.proofs.ValueStands.{value_meaning}
-use Rattle.abstract_steps_values.specs.ResultTemps.{negated}
+use Rattle.abstract_steps_instructions.specs.ResultTemps.{negated}
 use Rattle.lib_models_memory.specs.Bytes.{null, into}
 use Rattle.lib_models_memory.specs.Instances.{Memory, Life, live, ended, freed, life_at}
 use Rattle.lib_models_memory.specs.Scalars.{Scalar, integer, pointer, is_false}
-use Rattle.store_domain_sound.specs.ValueMeaning.{Naming, StandsByLife, StandsScalar}
+use Rattle.store_domain_sound_programs.specs.ValueMeaning.{Naming, StandsByLife, StandsScalar}
 
 pub negated_holds : (t : Tri) → can_hold (negated t) ≡ can_fail t
 negated_holds Yes = refl

@@ -36,13 +36,13 @@ use Rattle.value_domain.specs.ValueTables.{number_value, pointer_value, value_ar
 use Rattle.value_domain_laws.proofs.LabelStands.{label_meaning}
 use Rattle.value_domain_laws.proofs.ValueStands.{single}
 use Rattle.value_domain_laws.proofs.Leaving.{negated_more}
-use Rattle.store_domain.specs.ByteWrites.{null_pointer}
+use Rattle.abstract_steps_checks.specs.ByteWrites.{null_pointer}
 use Rattle.abstract_steps_checks.specs.IntegerChecks.{unary_violations, binary_violations}
 use Rattle.abstract_steps_checks.specs.Temporaries.{temp_value, amount_value, put_temp}
 use Rattle.abstract_steps_checks.specs.ViolationSets.{no_violations}
 use Rattle.abstract_steps_checks.specs.declared.violation_sets.Violations.{Violations}
-use Rattle.abstract_steps_values.specs.IntegerSteps.{constant_step, binary_step, unary_step, compare_step, not_step, put_converted, converted_pointer, convert_value, convert_step}
-use Rattle.abstract_steps_values.specs.ResultTemps.{negated, put_number, put_pointer}
+use Rattle.abstract_steps_instructions.specs.IntegerSteps.{constant_step, binary_step, unary_step, compare_step, not_step, put_converted, converted_pointer, convert_value, convert_step}
+use Rattle.abstract_steps_instructions.specs.ResultTemps.{negated, put_number, put_pointer}
 use Rattle.abstract_steps_instructions.specs.OperationGroups.{is_on_values}
 use Rattle.abstract_steps_instructions.specs.Steps.{operate}
 use Rattle.abstract_steps_instructions.specs.StepViolations.{operation_violations}
@@ -53,10 +53,10 @@ use Rattle.lib_models_effects.specs.Worlds.{Stuck, Reply, goes, stops, violating
 use Rattle.lib_models_effects.specs.IntegerEffects.{truth, plain_one, is_outside, binary_faults, why_none, computed, binary_numbers, unary_math, overflow_faults, unary_number, pointer_from, convert, fault_if}
 use Rattle.flow_program_machine.specs.FlowStates.{Standing}
 use Rattle.flow_program_machine.specs.FlowActs.{giving, with_amount}
-use Rattle.store_domain_sound.specs.SeenLabels.{as_set}
-use Rattle.store_domain_sound.specs.ValueMeaning.{Naming, StandsScalar, StandsPointer}
-use Rattle.store_domain_sound.specs.SoundMemory.{IsPointerIn, IsScalarIn}
-use Rattle.store_domain_sound.specs.Scalars.{IsOfKind}
+use Rattle.store_domain_sound_programs.specs.SeenLabels.{as_set}
+use Rattle.store_domain_sound_programs.specs.ValueMeaning.{Naming, StandsScalar, StandsPointer}
+use Rattle.store_domain_sound_programs.specs.SoundMemory.{IsPointerIn, IsScalarIn}
+use Rattle.store_domain_sound_programs.specs.Scalars.{IsOfKind}
 use Rattle.store_domain_sound_programs.specs.Premises.{HasPremises}
 use Rattle.abstract_steps_sound.specs.OperandTypes.{HasNumberOf, HasKind, HasOperands}
 use Rattle.abstract_steps_sound.specs.SoundSteps.{IsReached, IsStoodFor, StepIsSound}

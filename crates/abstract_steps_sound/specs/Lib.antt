@@ -6,3 +6,6 @@ pub use Rattle.abstract_steps_instructions.specs.Steps
 pub use Rattle.abstract_steps_instructions.specs.CallSteps
 pub use Rattle.abstract_steps_instructions.specs.OperationGroups
 pub use Rattle.abstract_steps_instructions.specs.MemorySteps
+pub use Rattle.abstract_steps_instructions.specs.Scalars
+pub use Rattle.abstract_steps_instructions.specs.IntegerSteps
+pub use Rattle.abstract_steps_instructions.specs.ResultTemps

@@ -10,7 +10,7 @@ use Rattle.flow_program.specs.declared.machine_instructions.Operation.{Operation
 use Rattle.flow_program.specs.declared.machine_instructions.Operation.TheVariants as op
 use Rattle.lib_models_memory.specs.Labels.{Labels}
 use Rattle.lib_models_memory.specs.Scalars.{Scalar, integer}
-use Rattle.store_domain_sound.specs.Scalars.{IsOfKind}
+use Rattle.store_domain_sound_programs.specs.Scalars.{IsOfKind}
 
 -- a number that the temporary has is one of the type
 abbrev pub HasNumberOf : IntType → Option Scalar → Type 0

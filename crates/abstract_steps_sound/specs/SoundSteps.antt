@@ -12,7 +12,7 @@ use Rattle.flow_program.specs.WellFormed.{names_of, fits_operation}
 use Rattle.flow_program.specs.declared.machine_instructions.Operation.{Operation}
 use Rattle.flow_program.specs.declared.programs.Flow.{Flow}
 use Rattle.value_domain.specs.declared.row_cells.Cell.{Cell}
-use Rattle.store_domain.specs.ScalarTypes.{kind_of}
+use Rattle.abstract_steps_checks.specs.ScalarTypes.{kind_of}
 use Rattle.abstract_steps_checks.specs.declared.violation_sets.Violations.{Violations}
 use Rattle.abstract_steps_checks.specs.ViolationSets.{violates}
 use Rattle.abstract_steps_instructions.specs.OperationGroups.{is_on_values, is_on_pointers}
@@ -24,9 +24,9 @@ use Rattle.flow_lower_tasks.specs.Acts.{act}
 use Rattle.flow_program_machine.specs.ProgramViews.{flow_view}
 use Rattle.flow_program_machine.specs.FlowStates.{Standing}
 use Rattle.flow_program_machine.specs.FlowSteps.{act_step}
-use Rattle.store_domain_sound.specs.ValueMeaning.{Naming}
-use Rattle.store_domain_sound.specs.RowMeaning.{StandsFor}
-use Rattle.store_domain_sound.specs.Coverage.{state_of}
+use Rattle.store_domain_sound_programs.specs.ValueMeaning.{Naming}
+use Rattle.store_domain_sound_programs.specs.RowMeaning.{StandsFor}
+use Rattle.store_domain_sound_programs.specs.Coverage.{state_of}
 use Rattle.store_domain_sound_programs.specs.Premises.{HasPremises}
 use Rattle.abstract_steps_sound.specs.OperandTypes.{HasOperands}
 

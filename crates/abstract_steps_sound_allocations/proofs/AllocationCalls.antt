@@ -35,7 +35,7 @@ use Rattle.abstract_steps_library.specs.Plans.{trail_of, planned}
 use Rattle.abstract_steps_library_plans.specs.declared.call_plans.Effect.{Effect}
 use Rattle.abstract_steps_library_plans.specs.declared.call_plans.Effect.TheVariants as effect
 use Rattle.abstract_steps_library_plans.specs.declared.call_plans.Plan.{Plan}
-use Rattle.abstract_steps_instructions.specs.CallSteps.{call_of}
+use Rattle.abstract_steps_sound_fills.specs.CallSteps.{call_of}
 use Rattle.lib_models_memory.specs.Labels.{Labels, is_unlabelled}
 use Rattle.lib_models_memory.specs.Bytes.{null, into}
 use Rattle.lib_models_memory.specs.Instances.{Memory, allocated, bytes_of, bytes_at}
@@ -55,10 +55,10 @@ use Rattle.store_domain_meaning.specs.Coverage.{state_of}
 use Rattle.store_domain.specs.AccessWindows.{last_offset}
 use Rattle.store_domain_sound.proofs.TouchedRest.{near_stands}
 use Rattle.store_domain_sound_programs.specs.Premises.{HasPremises}
-use Rattle.abstract_steps_sound.specs.SoundSteps.{AreShort, IsReached, StandsBehind, IsStoodFor}
-use Rattle.abstract_steps_sound.proofs.Admitted.{AreAdmitted, none_admitted, one_admitted, both_admitted}
-use Rattle.abstract_steps_sound.proofs.PutTemps.{IsResult, put_stands, put_long}
-use Rattle.abstract_steps_sound.proofs.Replies.{stop_good}
+use Rattle.abstract_steps_sound_fills.specs.SoundSteps.{AreShort, IsReached, StandsBehind, IsStoodFor}
+use Rattle.abstract_steps_sound_fills.proofs.Admitted.{AreAdmitted, none_admitted, one_admitted, both_admitted}
+use Rattle.abstract_steps_sound_fills.proofs.PutTemps.{IsResult, put_stands, put_long}
+use Rattle.abstract_steps_sound_fills.proofs.Replies.{stop_good}
 use Rattle.abstract_steps_sound_fills.proofs.Calls.{DrawnEnd, gave, ran_out, drawn_end, clean, GoodPlan, plan_stops}
 use Rattle.abstract_steps_sound_fills.proofs.Trails.{still_told}
 use Rattle.abstract_steps_sound_enter.proofs.GrownMemory.{grows}

@@ -15,19 +15,19 @@ use Rattle.flow_program.specs.declared.machine_instructions.Operation.TheVariant
 use Rattle.flow_program.specs.declared.programs.Flow.{Flow}
 use Rattle.value_domain.specs.declared.row_cells.Cell.{Cell}
 use Rattle.abstract_steps_library.specs.Planning.{plan_call}
-use Rattle.abstract_steps_instructions.specs.CallSteps.{call_of, call_step}
-use Rattle.abstract_steps_instructions.specs.StepViolations.{operation_violations}
-use Rattle.abstract_steps_instructions.specs.Steps.{operate}
+use Rattle.abstract_steps_sound_fills.specs.CallSteps.{call_of, call_step}
+use Rattle.abstract_steps_sound_fills.specs.StepViolations.{operation_violations}
+use Rattle.abstract_steps_sound_fills.specs.Steps.{operate}
 use Rattle.lib_models_memory.specs.Scalars.{Scalar, integer, pointer}
 use Rattle.lib_models_effects.specs.LibraryCalls.{library}
 use Rattle.lib_models_effects.specs.Worlds.{stops, Stuck}
 use Rattle.flow_program_machine.specs.FlowStates.{Standing, values_of}
 use Rattle.store_domain_meaning.specs.ValueMeaning.{Naming}
 use Rattle.store_domain_sound_programs.specs.Premises.{HasPremises}
-use Rattle.abstract_steps_sound.specs.SoundSteps.{IsReached, StepIsSound}
-use Rattle.abstract_steps_sound.proofs.Replies.{if_some_good}
+use Rattle.abstract_steps_sound_fills.specs.SoundSteps.{IsReached, StepIsSound}
+use Rattle.abstract_steps_sound_fills.proofs.Replies.{if_some_good}
 use Rattle.abstract_steps_sound_fills.proofs.Calls.{clean}
-use Rattle.abstract_steps_sound.specs.OperandTypes.{HasSize, HasSizes, HasOperands}
+use Rattle.abstract_steps_sound_fills.specs.OperandTypes.{HasSize, HasSizes, HasOperands}
 use Rattle.abstract_steps_sound_allocations.specs.AllocationCalls.{Allocates, IsAllocationCall}
 use Rattle.abstract_steps_sound_fills.proofs.WriteCalls.{Good, plain_stop, argument_there}
 use Rattle.abstract_steps_sound_allocations.proofs.AllocationCalls.{malloc_good, calloc_good}

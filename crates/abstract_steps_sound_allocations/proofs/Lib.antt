@@ -12,3 +12,6 @@ pub mod AllocationSteps
 pub mod Counterexamples
 pub use Rattle.abstract_steps_sound_fills.proofs.WriteCalls
 pub use Rattle.abstract_steps_sound_enter.proofs.GrownMemory
+pub use Rattle.abstract_steps_sound_fills.proofs.Calls
+pub use Rattle.abstract_steps_sound_fills.proofs.Trails
+pub use Rattle.abstract_steps_sound_enter.proofs.Entering

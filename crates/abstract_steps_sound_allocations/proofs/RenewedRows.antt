@@ -38,7 +38,7 @@ use Rattle.store_domain_meaning.specs.ValueMeaning.{Naming, StandsInto, StandsBy
 use Rattle.store_domain_meaning.specs.RowMeaning.{MachineState, array_of, array_bytes, IsLiveOf, StandsCell, StandsLeaf, StandsClass, StandsFor}
 use Rattle.store_domain_sound.proofs.TouchedRest.{near_stands}
 use Rattle.store_domain_sound_programs.specs.Premises.{HasPremises}
-use Rattle.abstract_steps_sound.proofs.PutTemps.{IsResult}
+use Rattle.abstract_steps_sound_fills.proofs.PutTemps.{IsResult}
 use Rattle.abstract_steps_sound_enter.proofs.GrownMemory.{grows, naming_too, names_too}
 use Rattle.abstract_steps_sound_allocations.proofs.FreshCells.{untyped_long, untyped_byte, blank_cell, zero_cell, blank_zero, zeros_zero}
 use Rattle.abstract_steps_sound_allocations.proofs.FreshRows.{fresh_only, fresh_leaf_is, fresh_class_is, fresh_zero_is, fresh_state_is}

@@ -10,7 +10,7 @@ use Rattle.flow_program.specs.declared.machine_instructions.Operation.{Operation
 use Rattle.flow_program.specs.declared.machine_instructions.Operation.TheVariants as op
 use Rattle.flow_program.specs.declared.programs.Flow.{Flow}
 use Rattle.store_domain_sound_programs.specs.Premises.{HasPremises}
-use Rattle.abstract_steps_sound.specs.SoundSteps.{AreSound}
+use Rattle.abstract_steps_sound_fills.specs.SoundSteps.{AreSound}
 
 abbrev pub Allocates : LibFn → Type 0
 Allocates f.Malloc = Unit {0}

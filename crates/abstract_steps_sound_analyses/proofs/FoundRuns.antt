@@ -13,8 +13,8 @@ use Rattle.interval_domain.specs.Spans.{Stands}
 use Rattle.interval_domain.specs.IntervalLattice.{interval_lattice}
 use Rattle.interval_domain.specs.IntervalNumbers.{interval_numbers}
 use Rattle.store_domain_sound_programs.proofs.WellFormedPremises.{meets_premises}
-use Rattle.abstract_steps_laws_programs.specs.RegularPrograms.{has_scalars, has_initial_bytes, has_apart_members, is_near_list, is_regular}
-use Rattle.abstract_steps_laws_programs.proofs.RegularPrograms.{regular_of}
+use Rattle.flow_analysis.specs.RegularPrograms.{has_scalars, has_initial_bytes, has_apart_members, is_near_list, is_regular}
+use Rattle.flow_analysis.proofs.RegularPrograms.{regular_of}
 use Rattle.flow_analysis.specs.Analyses.{IsAnalysis}
 use Rattle.flow_analysis.specs.CheckedPrograms.{IsChecked}
 use Rattle.abstract_steps_sound_analyses.proofs.Sites.{sites_there}

@@ -8,7 +8,7 @@ use Rattle.flow_program.specs.declared.machine_instructions.Operation.{Operation
 use Rattle.flow_program.specs.declared.programs.Flow.{Flow}
 use Rattle.rule_checks.specs.AdmittedRules.{instructions_in}
 use Rattle.store_domain_sound_programs.proofs.ShapedBases.{all_at}
-use Rattle.abstract_steps_covered.specs.SoundEnds.{IsDoneIn}
+use Rattle.abstract_steps_sound_maps.specs.SoundEnds.{IsDoneIn}
 
 pub done_in : (flow : Flow) (p : Operation → Bool) → list_all (λ b. list_all (λ i. p i.operation) b.instructions.items) flow.blocks.items ≡ true → (o : Operation) → IsDoneIn flow o → p o ≡ true
 done_in flow p h o d = subst (λ z. p z ≡ true) d.does (in_block (slice_get flow.blocks.items d.block) d.instruction (λ b e. all_at _ flow.blocks.items d.block b h e) d.is)

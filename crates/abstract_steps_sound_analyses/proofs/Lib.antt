@@ -6,3 +6,5 @@ mod CharacterLeaves
 pub mod SpelledTexts
 pub mod ScalarTests
 pub mod OpenSteps
+pub use Rattle.abstract_steps_sound_operands.proofs.TypedMaps
+pub use Rattle.abstract_steps_sound_operands.proofs.TypedOperands

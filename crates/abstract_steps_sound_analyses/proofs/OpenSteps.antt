@@ -11,7 +11,7 @@ use Rattle.flow_program.specs.declared.machine_instructions.Operation.TheVariant
 use Rattle.flow_program.specs.declared.programs.Flow.{Flow}
 use Rattle.flow_program_objects.specs.Sites.{is_fgets, reads_no_line, ends_with_lines}
 use Rattle.abstract_steps_sound.specs.SoundSteps.{AreSound}
-use Rattle.abstract_steps_covered.specs.SoundEnds.{IsDoneIn}
+use Rattle.abstract_steps_sound_maps.specs.SoundEnds.{IsDoneIn}
 use Rattle.abstract_steps_sound_programs.specs.OpenSteps.{IsOpenCall, IsOpenStep}
 use Rattle.abstract_steps_sound_analyses.proofs.Instructions.{done_in}
 

@@ -18,18 +18,18 @@ use Rattle.store_domain_meaning.specs.Coverage.{EachRunIsCovered}
 use Rattle.store_domain_sound_programs.specs.Premises.{AreHeld, HasPremises}
 use Rattle.store_domain_sound_programs.proofs.WellFormedPremises.{meets_premises}
 use Rattle.abstract_steps_rows.specs.IntervalEnds.{interval_ends}
-use Rattle.abstract_steps_laws_programs.specs.RegularPrograms.{is_regular}
-use Rattle.abstract_steps_laws_programs.proofs.WellFormed.{laid_out, all_named}
-use Rattle.abstract_steps_laws_programs.proofs.RegularPrograms.{Regular, regular_of}
-use Rattle.abstract_steps_laws_programs.proofs.RegularSystems.{regular_rising}
+use Rattle.flow_analysis.specs.RegularPrograms.{is_regular}
+use Rattle.flow_analysis.proofs.WellFormed.{laid_out, all_named}
+use Rattle.flow_analysis.proofs.RegularPrograms.{Regular, regular_of}
+use Rattle.flow_analysis.proofs.RegularSystems.{regular_rising}
 use Rattle.flow_analysis.specs.Analyses.{row_lattice, machine_of, IsAnalysis}
 use Rattle.abstract_steps_sound_maps.specs.CarriedMaps.{EntryStands}
 use Rattle.abstract_steps_sound_maps.proofs.CarriedMaps.{map_carried, map_begins}
-use Rattle.abstract_steps_covered.specs.Covering.{Begins, Carries, HasTypedRuns, row_before, Admits}
-use Rattle.abstract_steps_covered.specs.SoundEnds.{StepsGoOnSoundly, EndsGoOnSoundly}
-use Rattle.abstract_steps_covered.proofs.Covering.{runs_covered, runs_typed_by_rows}
+use Rattle.abstract_steps_sound_maps.specs.Covering.{Begins, Carries, HasTypedRuns, row_before, Admits}
+use Rattle.abstract_steps_sound_maps.specs.SoundEnds.{StepsGoOnSoundly, EndsGoOnSoundly}
+use Rattle.abstract_steps_sound_maps.proofs.Covering.{runs_covered, runs_typed_by_rows}
 use Rattle.abstract_steps_sound_operands.proofs.TypedMaps.{map_types}
-use Rattle.rule_checks_operands.specs.TypedRows.{is_typed_map}
+use Rattle.flow_analysis.specs.TypedRows.{is_typed_map}
 use Rattle.abstract_steps_sound_programs.proofs.AllSteps.{steps_go_on, ends_go_on, tests_sound}
 use Rattle.abstract_steps_sound_analyses.specs.SoundAnalyses.{Suffices, IsViolatedIn}
 

@@ -15,9 +15,9 @@ use Rattle.store_domain_laws.specs.StoreLaws.{AreBytes}
 use Rattle.store_domain_sound_programs.specs.Premises.{HasPremises}
 use Rattle.store_domain_sound_programs.proofs.ShapedBases.{all_at}
 use Rattle.store_domain_sound_programs.proofs.WellFormedPremises.{well_formed_good}
-use Rattle.abstract_steps_laws_programs.specs.RegularPrograms.{is_byte, has_bytes, follows_leaves, has_scalars}
-use Rattle.abstract_steps_sound_spelling.specs.SpellSteps.{AreCharacters}
-use Rattle.abstract_steps_sound_spelling.proofs.FollowedArrays.{followed_characters}
+use Rattle.flow_analysis.specs.RegularPrograms.{is_byte, has_bytes, follows_leaves, has_scalars}
+use Rattle.abstract_steps_sound_programs.specs.SpellSteps.{AreCharacters}
+use Rattle.abstract_steps_sound_programs.proofs.FollowedArrays.{followed_characters}
 use Rattle.abstract_steps_sound_programs.specs.OpenSteps.{SpellsOverCharacters}
 use Rattle.abstract_steps_sound_analyses.proofs.CharacterLeaves.{characters_over}
 use Rattle.abstract_steps_sound_analyses.proofs.Instructions.{done_in}

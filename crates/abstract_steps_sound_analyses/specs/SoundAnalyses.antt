@@ -15,7 +15,7 @@ use Rattle.flow_program_machine.specs.FlowStarts.{flow_begin}
 use Rattle.abstract_steps_sound_maps.specs.OwnLists.{ReachesTypes}
 use Rattle.abstract_steps_sound.specs.SoundSteps.{AreSound}
 use Rattle.abstract_steps_sound_maps.specs.CarriedMaps.{EntryStands}
-use Rattle.abstract_steps_covered.specs.SoundEnds.{IsDoneIn}
+use Rattle.abstract_steps_sound_maps.specs.SoundEnds.{IsDoneIn}
 use Rattle.abstract_steps_sound_programs.specs.OpenSteps.{IsOpenStep, SpellsOverCharacters, AllocatesAtSites, CopiesListed, OpenTestsAreSound}
 
 -- what the theorems on single instructions and edges suppose of a program and of a list

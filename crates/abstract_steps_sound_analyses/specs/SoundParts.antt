@@ -10,9 +10,9 @@ use Rattle.flow_program_objects.specs.Sites.{has_sites, ends_with_lines}
 use Rattle.flow_program_objects.specs.SpelledTexts.{spells_over_characters}
 use Rattle.flow_program_objects.specs.ScalarTests.{all_follow_scalars}
 use Rattle.store_domain_sound_programs.specs.Premises.{HasPremises}
-use Rattle.abstract_steps_laws_programs.specs.RegularPrograms.{has_scalars}
+use Rattle.flow_analysis.specs.RegularPrograms.{has_scalars}
 use Rattle.abstract_steps_sound.specs.SoundSteps.{AreSound}
-use Rattle.abstract_steps_covered.specs.SoundEnds.{IsDoneIn}
+use Rattle.abstract_steps_sound_maps.specs.SoundEnds.{IsDoneIn}
 use Rattle.abstract_steps_sound_programs.specs.OpenSteps.{IsOpenStep, SpellsOverCharacters, AllocatesAtSites, KindIsProved}
 
 abbrev pub CallsHaveSites : Flow → Type 0

@@ -44,7 +44,7 @@ use Rattle.abstract_steps_library.specs.declared.memory_calls.Target.{Target}
 use Rattle.abstract_steps_library_writes.specs.declared.source_bytes.Characters.{Characters}
 use Rattle.abstract_steps_library_writes.specs.declared.text_writes.TextWrite.{TextWrite}
 use Rattle.abstract_steps_library_writes.specs.declared.text_writes.ZeroRule.TheVariants as zero_rule
-use Rattle.abstract_steps_instructions.specs.CallSteps.{call_of}
+use Rattle.abstract_steps_sound.specs.CallSteps.{call_of}
 use Rattle.lib_models_memory.specs.Bytes.{MachinePointer, into, Content, number, Byte}
 use Rattle.lib_models_memory.specs.Instances.{Memory, live, bytes_at, byte_at, life_at}
 use Rattle.lib_models_memory.specs.Numbers.{Labelled, number_of}
@@ -80,16 +80,16 @@ use Rattle.store_domain_sound_regions.proofs.Regions.{alike_region}
 use Rattle.abstract_steps_sound.specs.SoundSteps.{IsReached}
 use Rattle.abstract_steps_sound.proofs.Admitted.{AreAdmitted}
 use Rattle.abstract_steps_sound.proofs.PutTemps.{IsResult}
-use Rattle.abstract_steps_sound_strings.proofs.Calls.{clean}
-use Rattle.abstract_steps_sound_strings.proofs.GivenPointers.{reach_of}
-use Rattle.abstract_steps_sound_strings.proofs.Scans.{IsScan}
-use Rattle.abstract_steps_sound_strings.proofs.StringCalls as strings
-use Rattle.abstract_steps_sound_strings.proofs.Trails.{still_told, told_here, goes_further}
-use Rattle.abstract_steps_sound_texts.proofs.Targets.{alone_is, within_stands, cut_has, room_told, literal_told, is_writable, after_has, touched_has}
-use Rattle.abstract_steps_sound_texts.proofs.WriteCalls.{behind_behind, Good, told_stop, plain_stop, written_good, given_at, reach_good, given_within, goes_given, given_into}
-use Rattle.abstract_steps_sound_texts.specs.TextWrites.{IsTextWrite, IsWrittenText}
-use Rattle.abstract_steps_sound_texts.proofs.SourceCharacters.{source_number, source_labels}
-use Rattle.abstract_steps_sound_texts.proofs.TextCalls.{IsNumberAt, scanned_at}
+use Rattle.abstract_steps_sound_bounded_texts.proofs.Calls.{clean}
+use Rattle.abstract_steps_sound_bounded_texts.proofs.GivenPointers.{reach_of}
+use Rattle.abstract_steps_sound_bounded_texts.proofs.Scans.{IsScan}
+use Rattle.abstract_steps_sound_bounded_texts.proofs.StringCalls as strings
+use Rattle.abstract_steps_sound_bounded_texts.proofs.Trails.{still_told, told_here, goes_further}
+use Rattle.abstract_steps_sound_bounded_texts.proofs.Targets.{alone_is, within_stands, cut_has, room_told, literal_told, is_writable, after_has, touched_has}
+use Rattle.abstract_steps_sound_bounded_texts.proofs.WriteCalls.{behind_behind, Good, told_stop, plain_stop, written_good, given_at, reach_good, given_within, goes_given, given_into}
+use Rattle.abstract_steps_sound_bounded_texts.specs.TextWrites.{IsTextWrite, IsWrittenText}
+use Rattle.abstract_steps_sound_bounded_texts.proofs.SourceCharacters.{source_number, source_labels}
+use Rattle.abstract_steps_sound_bounded_texts.proofs.TextCalls.{IsNumberAt, scanned_at}
 use Rattle.abstract_steps_sound_bounded_texts.proofs.KnownScans.{IsKnownText, text_known}
 use Rattle.abstract_steps_sound_appends.specs.ApartTexts.{HasByte, HasApartTexts}
 use Rattle.abstract_steps_sound_appends.specs.AppendWrites.{EndsAt}

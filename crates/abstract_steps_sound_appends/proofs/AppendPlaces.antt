@@ -19,7 +19,7 @@ use Rattle.store_domain_meaning.specs.SoundMemory.{IsMemoryOf, IsWithin}
 use Rattle.store_domain_meaning.specs.ValueMeaning.{Naming, StandsInto}
 use Rattle.store_domain_sound.proofs.Windows.{WindowHas, within_has}
 use Rattle.store_domain_sound.proofs.Windows as windows
-use Rattle.abstract_steps_sound_texts.proofs.Targets.{sat_above}
+use Rattle.abstract_steps_sound_bounded_texts.proofs.Targets.{sat_above}
 use Rattle.abstract_steps_sound_appends.proofs.AppendRules.{added_has}
 
 -- ---- windows

@@ -33,8 +33,8 @@ use Rattle.store_domain_sound.proofs.StoreValues.{same_value}
 use Rattle.store_domain_sound_regions.specs.RegionWrites.{IsRegion, WritesWithin, StandsBase}
 use Rattle.store_domain_sound_regions.proofs.BaseRows.{writes_stand, writes_long}
 use Rattle.store_domain_sound_regions.proofs.Layers.{value_turn, zero_turn, leaves_within, leaf_turn, zeros_within, part_turn, classes_within, class_turn, class_spared, layers_within, layers_stand}
-use Rattle.abstract_steps_sound_texts.specs.TextWrites.{IsTextWrite}
-use Rattle.abstract_steps_sound_texts.proofs.TextCells.{leaf_written, char_written, class_written}
+use Rattle.abstract_steps_sound_bounded_texts.specs.TextWrites.{IsTextWrite}
+use Rattle.abstract_steps_sound_bounded_texts.proofs.TextCells.{leaf_written, char_written, class_written}
 use Rattle.abstract_steps_sound_appends.proofs.AppendZeros.{IsRuled, zero_written}
 
 cond_hit : {A : Type 0} (b : Bool) (x y : A) → b ≡ true → cond b x y ≡ x

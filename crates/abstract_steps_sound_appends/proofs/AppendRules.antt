@@ -26,7 +26,7 @@ use Rattle.store_domain_sound.proofs.TouchedRest.{near_stands}
 use Rattle.store_domain_sound_chars.proofs.ByteArrays.{IsIn}
 use Rattle.store_domain_sound_regions.specs.RegionWrites.{IsRegion}
 use Rattle.store_domain_sound_regions.proofs.RegionArrays.{starts_in, before_in, array_short, array_before, array_there, IsText, wrote_text}
-use Rattle.abstract_steps_sound_texts.proofs.Targets.{sat_above, sat_below}
+use Rattle.abstract_steps_sound_bounded_texts.proofs.Targets.{sat_above, sat_below}
 
 -- ---- sums of ranges
 

@@ -14,9 +14,9 @@ use Rattle.flow_program.specs.declared.machine_instructions.Operation.TheVariant
 use Rattle.flow_program.specs.declared.programs.Flow.{Flow}
 use Rattle.value_domain.specs.declared.row_cells.Cell.{Cell}
 use Rattle.abstract_steps_library.specs.Planning.{plan_call}
-use Rattle.abstract_steps_instructions.specs.CallSteps.{call_of, call_step}
-use Rattle.abstract_steps_instructions.specs.StepViolations.{operation_violations}
-use Rattle.abstract_steps_instructions.specs.Steps.{operate}
+use Rattle.abstract_steps_sound.specs.CallSteps.{call_of, call_step}
+use Rattle.abstract_steps_sound.specs.StepViolations.{operation_violations}
+use Rattle.abstract_steps_sound.specs.Steps.{operate}
 use Rattle.lib_models_memory.specs.Scalars.{Scalar, integer, pointer}
 use Rattle.lib_models_effects.specs.LibraryCalls.{library}
 use Rattle.lib_models_effects.specs.Worlds.{stops, Stuck}
@@ -25,8 +25,8 @@ use Rattle.store_domain_meaning.specs.ValueMeaning.{Naming}
 use Rattle.store_domain_sound_programs.specs.Premises.{HasPremises}
 use Rattle.abstract_steps_sound.specs.SoundSteps.{IsReached, StepIsSound}
 use Rattle.abstract_steps_sound.proofs.Replies.{if_some_good}
-use Rattle.abstract_steps_sound_strings.proofs.Calls.{clean}
-use Rattle.abstract_steps_sound_texts.proofs.WriteCalls.{Good, plain_stop}
+use Rattle.abstract_steps_sound_bounded_texts.proofs.Calls.{clean}
+use Rattle.abstract_steps_sound_bounded_texts.proofs.WriteCalls.{Good, plain_stop}
 use Rattle.abstract_steps_sound_appends.specs.ApartTexts.{HasApartTexts}
 use Rattle.abstract_steps_sound_appends.specs.AppendCalls.{AppendsText, IsAppendCall}
 use Rattle.abstract_steps_sound_appends.proofs.AppendCalls.{append_call_good}

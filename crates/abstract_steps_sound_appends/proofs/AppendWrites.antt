@@ -19,7 +19,7 @@ use Rattle.store_domain_meaning.specs.RowMeaning.{MachineState, array_bytes, IsL
 use Rattle.store_domain_sound.specs.Shapes.{IsLaidOut}
 use Rattle.store_domain_sound_chars.proofs.ByteArrays.{IsIn}
 use Rattle.store_domain_sound_regions.specs.RegionWrites.{IsRegion}
-use Rattle.abstract_steps_sound_texts.specs.TextWrites.{IsTextWrite, IsWrittenText}
+use Rattle.abstract_steps_sound_bounded_texts.specs.TextWrites.{IsTextWrite, IsWrittenText}
 use Rattle.abstract_steps_sound_appends.specs.ApartTexts.{IsByteFrom}
 use Rattle.abstract_steps_sound_appends.specs.AppendWrites.{EndsAt}
 use Rattle.abstract_steps_sound_appends.proofs.AppendZeros.{IsRuled, says_nothing, says}

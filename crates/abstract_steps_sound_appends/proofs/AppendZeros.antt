@@ -24,8 +24,8 @@ use Rattle.store_domain_sound.proofs.Texts.{zero_near}
 use Rattle.store_domain_sound_chars.proofs.ByteArrays.{IsIn, in_or_not, target_is, target_there, whole_in}
 use Rattle.store_domain_sound_regions.specs.RegionWrites.{IsRegion}
 use Rattle.store_domain_sound_regions.proofs.RegionArrays.{array_short, array_apart, put_zero_stands, any_zero_stands}
-use Rattle.abstract_steps_sound_texts.specs.TextWrites.{IsTextWrite}
-use Rattle.abstract_steps_sound_texts.proofs.TextZeros.{short_or_inside}
+use Rattle.abstract_steps_sound_bounded_texts.specs.TextWrites.{IsTextWrite}
+use Rattle.abstract_steps_sound_bounded_texts.proofs.TextZeros.{short_or_inside}
 
 not_both : (a b : Bool) → (a ≡ true → b ≡ true → ⊥) → (a && b) ≡ false
 not_both true true n = absurd (n refl refl)

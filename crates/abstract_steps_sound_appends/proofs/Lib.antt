@@ -9,6 +9,8 @@ pub mod AppendSteps
 pub mod Counterexamples
 pub use Rattle.abstract_steps_sound_bounded_texts.proofs.BoundedCalls
 pub use Rattle.abstract_steps_sound_bounded_texts.proofs.BoundedSteps
-pub use Rattle.abstract_steps_sound_texts.proofs.TextSteps
-pub use Rattle.abstract_steps_sound_texts.proofs.Targets
-pub use Rattle.abstract_steps_sound_texts.proofs.WriteCalls
+pub use Rattle.abstract_steps_sound_bounded_texts.proofs.TextSteps
+pub use Rattle.abstract_steps_sound_bounded_texts.proofs.Targets
+pub use Rattle.abstract_steps_sound_bounded_texts.proofs.WriteCalls
+pub use Rattle.abstract_steps_sound_bounded_texts.proofs.GivenPointers
+pub use Rattle.abstract_steps_sound_bounded_texts.proofs.Trails

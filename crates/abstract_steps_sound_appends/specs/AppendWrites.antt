@@ -18,7 +18,7 @@ use Rattle.store_domain_meaning.specs.ValueMeaning.{Naming}
 use Rattle.store_domain_meaning.specs.RowMeaning.{MachineState, array_bytes, IsLiveOf, StandsFor}
 use Rattle.store_domain_sound.specs.Shapes.{IsLaidOut}
 use Rattle.store_domain_sound_regions.specs.RegionWrites.{IsRegion}
-use Rattle.abstract_steps_sound_texts.specs.TextWrites.{IsTextWrite, IsWrittenText}
+use Rattle.abstract_steps_sound_bounded_texts.specs.TextWrites.{IsTextWrite, IsWrittenText}
 use Rattle.abstract_steps_sound_appends.specs.ApartTexts.{HasByte}
 
 -- the text that was there ends at the offset, but where its end is unknown: in each array that has the byte it is the

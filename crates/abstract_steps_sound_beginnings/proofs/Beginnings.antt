@@ -31,7 +31,7 @@ use Rattle.flow_program_machine.specs.FlowStates.{Standing}
 use Rattle.flow_program_machine.specs.FlowStarts.{Names}
 use Rattle.flow_lower_shapes.specs.FirstZeros.{zeros_of}
 use Rattle.flow_lower_counts.specs.SharedObjects.{literal_type}
-use Rattle.abstract_steps.specs.StartRows.{static_class, with_size, base_in}
+use Rattle.abstract_steps_sound_starts.specs.StartRows.{static_class, with_size, base_in}
 use Rattle.lib_models_memory.specs.Labels.{no_labels}
 use Rattle.lib_models_memory.specs.Bytes.{number}
 use Rattle.lib_models_memory.specs.Instances.{live, Memory, bytes_of, bytes_at, life_at}

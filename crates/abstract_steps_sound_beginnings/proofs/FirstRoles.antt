@@ -16,7 +16,7 @@ use Rattle.flow_program_views.specs.ProgramViews.{initial, flow_view}
 use Rattle.flow_program_machine.specs.FlowStates.{Standing}
 use Rattle.flow_program_machine.specs.FlowStarts.{Names, name_objects, start_names}
 use Rattle.flow_lower_counts.specs.SharedObjects.{literal_type}
-use Rattle.flow_lower.specs.BaseTables.{found_in, known}
+use Rattle.abstract_steps_sound_first_memory.specs.BaseTables.{found_in, known}
 use Rattle.lib_models_memory.specs.Instances.{automatic, Memory, Instance}
 use Rattle.lib_models_effects.specs.NumberedTables.{empty_table}
 use Rattle.lib_models_effects.specs.ObjectEffects.{fresh}

@@ -54,11 +54,11 @@ use Rattle.store_domain_sound_programs.proofs.ShapedBases.{all_at}
 use Rattle.store_domain_sound_programs.proofs.Sizes.{same_bytes}
 use Rattle.abstract_steps_sound_first_memory.specs.RegularPrograms.{is_byte, spells_bytes, begins_with_bytes, has_initial_bytes}
 use Rattle.store_domain.specs.ScalarTypes.{kind_of}
-use Rattle.abstract_steps_sound.specs.SoundSteps.{AreShort}
-use Rattle.abstract_steps.specs.StartRows.{static_class}
+use Rattle.abstract_steps_sound_starts.specs.SoundSteps.{AreShort}
+use Rattle.abstract_steps_sound_starts.specs.StartRows.{static_class}
 use Rattle.flow_lower_shapes.specs.FirstZeros.{zero_part, zeros_within, zeros_of}
 use Rattle.flow_lower_counts.specs.SharedObjects.{literal_type}
-use Rattle.flow_lower.specs.BaseTables.{known}
+use Rattle.abstract_steps_sound_first_memory.specs.BaseTables.{known}
 use Rattle.abstract_steps_sound_beginnings.specs.TypedInitializers.{HasScalar, AreTypedStores}
 use Rattle.abstract_steps_sound_beginnings.specs.UnitStarts.{IsBaseOf, StartsAs}
 use Rattle.abstract_steps_sound_first_memory.proofs.Positions.{IsObjectAt, IsLiteralAt}

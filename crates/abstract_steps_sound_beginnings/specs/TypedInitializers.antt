@@ -10,7 +10,7 @@ use Rattle.c_layout.specs.declared.leaf_lists.Class.{Class}
 use Rattle.c_layout.specs.declared.leaf_lists.Class.TheVariants.{Char}
 use Rattle.c_layout.specs.declared.checked_tree.checked_units.StaticValue.{StaticValue}
 use Rattle.c_layout.specs.declared.checked_tree.checked_units.StaticValue.TheVariants.{Number, Null, Address}
-use Rattle.abstract_steps.specs.StartRows.{static_class}
+use Rattle.abstract_steps_sound_starts.specs.StartRows.{static_class}
 use Rattle.lib_models_memory.specs.ScalarSizes.{class_bytes}
 use Rattle.lib_models_memory.specs.Bytes.{Tag}
 use Rattle.lib_models_memory.specs.Tags.{tag_of, tag_at}

@@ -10,8 +10,8 @@ use Rattle.flow_program.specs.declared.programs.Flow.{Flow}
 use Rattle.flow_program.specs.declared.programs.ParameterInput.{ParameterInput}
 use Rattle.flow_lower_shapes.specs.FirstZeros.{object_shape}
 use Rattle.flow_lower_counts.specs.SharedObjects.{literal_type}
-use Rattle.flow_lower.specs.BaseTables.{TableView, known}
-use Rattle.flow_lower.specs.InitialBytes.{initial_objects}
+use Rattle.abstract_steps_sound_first_memory.specs.BaseTables.{TableView, known}
+use Rattle.abstract_steps_sound_first_memory.specs.InitialBytes.{initial_objects}
 use Rattle.lib_models_effects.specs.UnitStarts.{entry_parameters}
 use Rattle.flow_program_views.specs.ProgramViews.{flow_view}
 use Rattle.abstract_steps_sound_beginnings.specs.TypedInitializers.{HasTypedInitializers}

@@ -47,7 +47,7 @@ use Rattle.abstract_steps_library.specs.declared.memory_calls.Target.{Target}
 use Rattle.abstract_steps_library_writes.specs.declared.source_bytes.Characters.{Characters}
 use Rattle.abstract_steps_library_writes.specs.declared.text_writes.TextWrite.{TextWrite}
 use Rattle.abstract_steps_library_writes.specs.declared.text_writes.ZeroRule.TheVariants as zero_rule
-use Rattle.abstract_steps_instructions.specs.CallSteps.{call_of}
+use Rattle.abstract_steps_sound.specs.CallSteps.{call_of}
 use Rattle.lib_models_memory.specs.Labels.{Labels, no_labels, is_unlabelled}
 use Rattle.lib_models_memory.specs.Bytes.{MachinePointer, into, Content, indeterminate, number, part, Byte}
 use Rattle.lib_models_memory.specs.Instances.{Memory, live, bytes_at, byte_at, life_at}
@@ -84,9 +84,9 @@ use Rattle.store_domain_sound_regions.proofs.Regions.{alike_region}
 use Rattle.abstract_steps_sound.specs.SoundSteps.{IsReached}
 use Rattle.abstract_steps_sound.proofs.Admitted.{AreAdmitted, both_admitted}
 use Rattle.abstract_steps_sound.proofs.PutTemps.{IsResult}
-use Rattle.abstract_steps_sound_strings.proofs.Calls.{clean}
-use Rattle.abstract_steps_sound_strings.proofs.GivenPointers.{reach_of}
-use Rattle.abstract_steps_sound_strings.proofs.Trails.{still_told, told_here, goes_further}
+use Rattle.abstract_steps_sound_texts.proofs.Calls.{clean}
+use Rattle.abstract_steps_sound_texts.proofs.GivenPointers.{reach_of}
+use Rattle.abstract_steps_sound_texts.proofs.Trails.{still_told, told_here, goes_further}
 use Rattle.abstract_steps_sound_texts.proofs.Targets.{alone_is, within_stands, cut_has, room_told, literal_told, is_writable, after_has, start_has, touched_has, least_has, one_has}
 use Rattle.abstract_steps_sound_texts.proofs.WriteCalls.{behind_behind, sink_told, Good, world_with, told_stop, plain_stop, written_good, value_of, given_at, argument_stands, reach_good, given_within, goes_given, given_into}
 use Rattle.abstract_steps_sound_texts.specs.TextWrites.{IsTextWrite}

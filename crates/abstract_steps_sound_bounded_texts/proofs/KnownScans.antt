@@ -42,7 +42,7 @@ use Rattle.store_domain_sound_regions.proofs.RegionArrays.{array_get}
 use Rattle.value_domain_laws.specs.ZeroMeaning.{IsString}
 use Rattle.value_domain_laws.proofs.Numbers.{RangeHas, difference_has, bounds_have, of_range_stands}
 use Rattle.value_domain_laws.proofs.ZeroStands.{zero_meaning}
-use Rattle.abstract_steps_sound_strings.proofs.ScannedTexts.{IsFound, array_scanned}
+use Rattle.abstract_steps_sound_texts.proofs.ScannedTexts.{IsFound, array_scanned}
 use Rattle.abstract_steps_sound_texts.proofs.Targets.{start_has}
 
 clamped_has : (x : Range) (a b z : ℤ) → RangeHas x z → a ≤ℤ z → z ≤ℤ b → RangeHas (range_clamped x a b) z

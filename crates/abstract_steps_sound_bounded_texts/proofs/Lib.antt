@@ -3,3 +3,15 @@ pub mod FirstCharacters
 pub mod BlankBytes
 pub mod BoundedCalls
 pub mod BoundedSteps
+pub use Rattle.abstract_steps_sound_texts.proofs.SourceCharacters
+pub use Rattle.abstract_steps_sound_texts.proofs.Targets
+pub use Rattle.abstract_steps_sound_texts.proofs.TextCalls
+pub use Rattle.abstract_steps_sound_texts.proofs.TextCells
+pub use Rattle.abstract_steps_sound_texts.proofs.TextSteps
+pub use Rattle.abstract_steps_sound_texts.proofs.TextZeros
+pub use Rattle.abstract_steps_sound_texts.proofs.WriteCalls
+pub use Rattle.abstract_steps_sound_texts.proofs.Calls
+pub use Rattle.abstract_steps_sound_texts.proofs.GivenPointers
+pub use Rattle.abstract_steps_sound_texts.proofs.Scans
+pub use Rattle.abstract_steps_sound_texts.proofs.StringCalls
+pub use Rattle.abstract_steps_sound_texts.proofs.Trails

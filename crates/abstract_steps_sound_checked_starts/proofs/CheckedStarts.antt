@@ -15,7 +15,7 @@ use Rattle.flow_program_views.specs.ProgramViews.{FlowView}
 use Rattle.store_domain_laws_layouts.specs.LaidApart.{are_laid_apart}
 use Rattle.store_domain_sound_programs.proofs.WellFormedPremises.{well_formed_good}
 use Rattle.struct_nesting.specs.OrderedStructs.{are_ordered}
-use Rattle.abstract_steps_laws_programs.specs.RegularPrograms.{is_regular, has_scalars, has_initial_bytes, has_apart_members, is_near_list}
+use Rattle.abstract_steps_sound_lowered_starts.specs.RegularPrograms.{is_regular, has_scalars, has_initial_bytes, has_apart_members, is_near_list}
 use Rattle.abstract_steps_sound_lowered_starts.specs.UnitStarts.{StartsAs}
 use Rattle.abstract_steps_sound_lowered_starts.specs.LoweredStarts.{HasIntegerParameters}
 use Rattle.abstract_steps_sound_lowered_starts.proofs.LoweredStarts.{lowered_starts}

@@ -1,1 +1,2 @@
 pub mod CheckedStarts
+pub use Rattle.abstract_steps_sound_lowered_starts.proofs.LoweredStarts

@@ -11,7 +11,7 @@ use Rattle.flow_program.specs.declared.programs.Flow.{Flow}
 use Rattle.flow_program_views.specs.ProgramViews.{flow_view}
 use Rattle.flow_lower.specs.Lowerings.{IsLowering}
 use Rattle.flow_lower_objects.specs.PlainObjects.{has_plain_objects}
-use Rattle.abstract_steps_laws_programs.specs.RegularPrograms.{is_regular}
+use Rattle.abstract_steps_sound_lowered_starts.specs.RegularPrograms.{is_regular}
 use Rattle.abstract_steps_sound_lowered_starts.specs.UnitStarts.{StartsAs}
 
 -- the unit that a tree is under a data model and a name of an entry, whose program it is, and whose objects are

@@ -30,8 +30,8 @@ use Rattle.store_domain.specs.ObjectLengths.{clear_keeps}
 use Rattle.store_domain.specs.RowPositions.{leaf_position, zero_position, cell_at, value_in, value_at, zero_at}
 use Rattle.store_domain.specs.Walks.{walk}
 use Rattle.abstract_steps_checks.specs.ViolationSets.{no_violations}
-use Rattle.abstract_steps_sound.specs.Steps.{operate}
-use Rattle.abstract_steps_sound.specs.StepViolations.{operation_violations}
+use Rattle.abstract_steps_sound_objects.specs.Steps.{operate}
+use Rattle.abstract_steps_sound_objects.specs.StepViolations.{operation_violations}
 use Rattle.lib_models_memory.specs.Labels.{no_labels}
 use Rattle.lib_models_memory.specs.Bytes.{Content, indeterminate, number, part, Byte}
 use Rattle.lib_models_memory.specs.Instances.{Memory, bytes_of, bytes_at, byte_at}
@@ -50,11 +50,11 @@ use Rattle.store_domain_sound.proofs.Only.{cell_put}
 use Rattle.store_domain_sound.proofs.Slices.{get_take, get_drop, get_set_other}
 use Rattle.store_domain_sound.proofs.StoreRows.{leaf_is, zero_is}
 use Rattle.store_domain_sound_programs.specs.Premises.{HasPremises}
-use Rattle.abstract_steps_sound.specs.SoundSteps.{IsReached, StandsBehind, StepIsSound}
-use Rattle.abstract_steps_sound.proofs.Admitted.{none_admitted, same_admitted}
-use Rattle.abstract_steps_sound.proofs.NearScalars.{near_number_stands}
-use Rattle.abstract_steps_sound.proofs.PartSteps.{declared_storage}
-use Rattle.abstract_steps_sound.proofs.Replies.{if_some_good}
+use Rattle.abstract_steps_sound_objects.specs.SoundSteps.{IsReached, StandsBehind, StepIsSound}
+use Rattle.abstract_steps_sound_objects.proofs.Admitted.{none_admitted, same_admitted}
+use Rattle.abstract_steps_sound_objects.proofs.NearScalars.{near_number_stands}
+use Rattle.abstract_steps_sound_objects.proofs.PartSteps.{declared_storage}
+use Rattle.abstract_steps_sound_objects.proofs.Replies.{if_some_good}
 use Rattle.abstract_steps_sound_clear.specs.ClearSteps.{IsClear}
 use Rattle.abstract_steps_sound_clear.proofs.FullParts.{IsFull, parts_full}
 use Rattle.abstract_steps_sound_objects.proofs.Rewrites.{rewrite_sane}

@@ -21,7 +21,7 @@ use Rattle.store_domain.specs.RowPositions.{leaf_position, class_position, join_
 use Rattle.store_domain.specs.Walks.{walk, turns}
 use Rattle.store_domain_structs.specs.CopyPlaces.{is_reached, is_touched}
 use Rattle.store_domain_structs.specs.LeafCopies.{reaches_class, is_strong, with_flag, write_leaf_at, write_own_leaf, write_class_cell, write_leaves, write_own, write_other_at, write_other_leaf, write_class_byte, write_class_bytes, write_bytes, write_other_leaves, write_others, write_others_if, write_base, write_base_if, write_to, write_all}
-use Rattle.store_domain_structs_leaves.specs.declared.leaf_copies.LeafAccess.{LeafAccess}
+use Rattle.store_domain_structs.specs.LeafAccess.{LeafAccess}
 use Rattle.abstract_steps_sound_copied_cells.proofs.KeptValues.{each_keeps, one_makes, Has, join_makes, write_makes}
 use Rattle.abstract_steps_sound_copied_cells.proofs.LeafWritten.{BringsNear, IsHit, other_near, other_keeps, byte_keeps, others_keep, own_keeps, to_keeps}
 

@@ -21,7 +21,7 @@ use Rattle.lib_models_memory.specs.Instances.{Memory}
 use Rattle.store_domain_sound.specs.ValueMeaning.{Naming, StandsContent}
 use Rattle.store_domain_structs.specs.CopyPlaces.{is_reached, is_touched}
 use Rattle.store_domain_structs.specs.LeafCopies.{reaches_class, is_strong, with_flag, write_all}
-use Rattle.store_domain_structs_leaves.specs.declared.leaf_copies.LeafAccess.{LeafAccess}
+use Rattle.store_domain_structs.specs.LeafAccess.{LeafAccess}
 
 -- a leaf at a position of the row is written in its place
 pub record IsReplacedAt (bases : List BaseInfo) (set : Bases) (access : LeafAccess) (alone : Bool) (p b j : ℕ) (base : BaseInfo) (leaf : Leaf) : Type 0 where

@@ -10,7 +10,7 @@ use Rattle.store_domain.specs.AccessWindows.{window_between}
 use Rattle.store_domain.specs.ClassNumbers.{same_class}
 use Rattle.store_domain.specs.LeafSelection.{has_place_in}
 use Rattle.store_domain.specs.RowPositions.{capped}
-use Rattle.store_domain_laws.proofs.PlacesOfLeaves.{place_of_test}
+use Rattle.store_domain_laws_structs.proofs.PlacesOfLeaves.{place_of_test}
 use Rattle.store_domain_laws_structs.proofs.JoinedSpans.{joined_twice}
 use Rattle.store_domain_sound.specs.Shapes.{at_offset}
 use Rattle.store_domain_sound.proofs.Classes.{count_some, count_either}

@@ -16,8 +16,8 @@ use Rattle.store_domain_sound.specs.Gives.{Gives}
 use Rattle.store_domain_sound_regions.specs.RegionWrites.{StandsBase}
 use Rattle.store_domain_sound_regions.proofs.BaseRows.{stands_base, bases_stand}
 use Rattle.store_domain_structs.specs.StructCopies.{copy_all, finish, finish_reached, copy_route}
-use Rattle.abstract_steps_sound_copied_leaves.proofs.Cells.{leaf_cell, class_cell}
-use Rattle.abstract_steps_sound_copied_leaves.proofs.Copies.{Copied, route}
+use Rattle.abstract_steps_sound_copied_structs.proofs.Cells.{leaf_cell, class_cell}
+use Rattle.abstract_steps_sound_copied_structs.proofs.Copies.{Copied, route}
 use Rattle.abstract_steps_sound_copies.proofs.FinishedZeros.{finished_long, temps_same, states_after, zeros_after}
 use Rattle.abstract_steps_sound_copied_turns.proofs.Known.{all_known}
 use Rattle.abstract_steps_sound_copies.proofs.NewCells.{name_after}

@@ -31,9 +31,9 @@ use Rattle.abstract_steps_checks.specs.Touches.{touch}
 use Rattle.abstract_steps_checks.specs.ViolationSets.{violations_union, violates}
 use Rattle.abstract_steps_checks.specs.declared.touches.Touched.{Touched}
 use Rattle.abstract_steps_checks.specs.declared.violation_sets.Violations.{Violations}
-use Rattle.abstract_steps_instructions.specs.MemorySteps.{size_of_struct, struct_size, both_touched, kept_target, copy_touched, copy_between, copy_step}
-use Rattle.abstract_steps_instructions.specs.Steps.{operate}
-use Rattle.abstract_steps_instructions.specs.StepViolations.{operation_violations}
+use Rattle.abstract_steps_sound.specs.MemorySteps.{size_of_struct, struct_size, both_touched, kept_target, copy_touched, copy_between, copy_step}
+use Rattle.abstract_steps_sound.specs.Steps.{operate}
+use Rattle.abstract_steps_sound.specs.StepViolations.{operation_violations}
 use Rattle.lib_models_memory.specs.Bytes.{MachinePointer, into, Byte}
 use Rattle.lib_models_memory.specs.Instances.{Instance, Life, live, ended, freed, bytes_at, byte_at, life_at}
 use Rattle.lib_models_memory.specs.Scalars.{Scalar, integer, pointer}
@@ -69,7 +69,7 @@ use Rattle.abstract_steps_sound_memory.proofs.LoadSteps.{union_left, union_right
 use Rattle.abstract_steps_sound_memory.proofs.MachineReplies.{TouchEnd, went, stopped, touch_end}
 use Rattle.abstract_steps_sound_copied_memory.proofs.CopiedMemory.{copied_byte, copy_region}
 use Rattle.abstract_steps_sound_copied_memory.proofs.CopyGoes.{CopyGoes, copy_goes, copies_keep}
-use Rattle.abstract_steps_sound_copied_leaves.proofs.Copies.{Copied, Came, IsSide, route}
+use Rattle.abstract_steps_sound_copied_structs.proofs.Copies.{Copied, Came, IsSide, route}
 use Rattle.abstract_steps_sound_copied_structs.specs.StructTables.{IsListed, HasStructs}
 use Rattle.abstract_steps_sound_copied_structs.proofs.FewLeaves.{no_more_than_bytes}
 use Rattle.abstract_steps_sound_copies.specs.CopySteps.{IsCopy}

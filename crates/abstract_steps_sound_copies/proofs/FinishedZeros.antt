@@ -41,8 +41,8 @@ use Rattle.store_domain_structs.specs.StructCopies.{Route, is_declared_in, first
 use Rattle.abstract_steps_sound_copied_cells.proofs.KeptValues.{each_keeps}
 use Rattle.abstract_steps_sound_copied_memory.specs.CopiedZeros.{ComesFrom, ZeroStands, IsExactly}
 use Rattle.abstract_steps_sound_copied_memory.proofs.CopiedZeros.{copied_zeros_stand}
-use Rattle.abstract_steps_sound_copied_leaves.proofs.Cells.{leaf_cell, class_cell}
-use Rattle.abstract_steps_sound_copied_leaves.proofs.Copies.{Copied, route, fits_base, position_in, alone_is}
+use Rattle.abstract_steps_sound_copied_structs.proofs.Cells.{leaf_cell, class_cell}
+use Rattle.abstract_steps_sound_copied_structs.proofs.Copies.{Copied, route, fits_base, position_in, alone_is}
 use Rattle.abstract_steps_sound_copied_turns.proofs.AwayCells.{IsAway}
 use Rattle.abstract_steps_sound_copied_turns.proofs.FinishWrites.{zeros_only, cells_only, base_only}
 use Rattle.abstract_steps_sound_copied_turns.proofs.Known.{Behind}

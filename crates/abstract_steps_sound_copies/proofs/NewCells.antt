@@ -38,10 +38,10 @@ use Rattle.store_domain_sound_regions.proofs.Regions.{alike_region}
 use Rattle.store_domain_structs.specs.PaddingWrites.{unknown_value, write_padding}
 use Rattle.store_domain_structs.specs.StructCopies.{finish}
 use Rattle.abstract_steps_sound_copied_cells.specs.LeafWrites.{Fact, of_number, of_content, IsTold}
-use Rattle.abstract_steps_sound_copied_leaves.proofs.Cells.{CellName, leaf_cell, class_cell, IsThere, position, class_of, signed_of, Place, Owns, place_owns, StandsName, name_stands}
-use Rattle.abstract_steps_sound_copied_leaves.proofs.Copies.{Copied, Came, route, fits_base, position_in, spared}
-use Rattle.abstract_steps_sound_copied_leaves.proofs.ReadValues.{IsNoPart, AreBytes}
-use Rattle.abstract_steps_sound_copied_leaves.proofs.SourceReads.{wide_fits, allocated_is}
+use Rattle.abstract_steps_sound_copied_structs.proofs.Cells.{CellName, leaf_cell, class_cell, IsThere, position, class_of, signed_of, Place, Owns, place_owns, StandsName, name_stands}
+use Rattle.abstract_steps_sound_copied_structs.proofs.Copies.{Copied, Came, route, fits_base, position_in, spared}
+use Rattle.abstract_steps_sound_copied_structs.proofs.ReadValues.{IsNoPart, AreBytes}
+use Rattle.abstract_steps_sound_copied_structs.proofs.SourceReads.{wide_fits, allocated_is}
 use Rattle.abstract_steps_sound_copied_turns.proofs.Known.{Told, Spares, Makes, Known, kept, made, Behind}
 use Rattle.abstract_steps_sound_copied_turns.proofs.MadeCells.{others_spare, own_content, own_number, wide_spares, takes_content, takes_number}
 use Rattle.abstract_steps_sound_copied_turns.proofs.PaddedCells.{Good, NoZero, unknown_number, unknown_content, padded_leaf, padded_class, finish_keeps, finish_makes}

@@ -26,11 +26,11 @@ use Rattle.value_domain.specs.ValueTables.{number_value, value_truth}
 use Rattle.value_domain.specs.declared.values.Value.{Value}
 use Rattle.value_domain.specs.declared.row_cells.Cell.{Cell}
 use Rattle.value_domain_laws.proofs.Numbers.{RangeHas, bounds_have}
-use Rattle.abstract_steps.specs.Edges.{last_instruction, deciding_of, deciding_temp, truth_can_be, includes, has_label, is_other_than, can_be, put_kept, refine_if, kept_behind, behind_test, branch_edge, switched, refine_named_case, refine_object, case_edge, follow, follow_if, edge}
+use Rattle.abstract_steps_covered.specs.Edges.{last_instruction, deciding_of, deciding_temp, truth_can_be, includes, has_label, is_other_than, can_be, put_kept, refine_if, kept_behind, behind_test, branch_edge, switched, refine_named_case, refine_object, case_edge, follow, follow_if, edge}
 use Rattle.abstract_steps_checks.specs.Temporaries.{temp_value, put_temp}
 use Rattle.abstract_steps_checks.specs.ViolationSets.{no_violations}
-use Rattle.abstract_steps_sound.specs.Steps.{operate}
-use Rattle.abstract_steps_sound.specs.StepViolations.{operation_violations}
+use Rattle.abstract_steps_covered.specs.Steps.{operate}
+use Rattle.abstract_steps_covered.specs.StepViolations.{operation_violations}
 use Rattle.lib_models_memory.specs.Labels.{Labels, no_labels}
 use Rattle.lib_models_memory.specs.Scalars.{Scalar, integer, pointer, is_false}
 use Rattle.lib_models_effects.specs.Worlds.{World, Reply, goes, stops, behind, world_of}
@@ -44,12 +44,12 @@ use Rattle.store_domain_meaning.specs.ValueMeaning.{Naming, StandsScalar}
 use Rattle.store_domain_meaning.specs.Coverage.{state_of}
 use Rattle.store_domain_sound_programs.specs.Premises.{HasPremises}
 use Rattle.store_domain_sound_programs.proofs.ShapedBases.{all_at}
-use Rattle.abstract_steps_sound.specs.SoundSteps.{IsReached, StandsBehind, IsStoodFor}
-use Rattle.abstract_steps_sound.proofs.Admitted.{AreAdmitted, none_admitted, same_admitted}
-use Rattle.abstract_steps_sound.proofs.PutTemps.{IsResult, put_stands, put_long}
-use Rattle.abstract_steps_sound.proofs.Truths.{true_holds, false_fails}
-use Rattle.abstract_steps_sound.proofs.TypeRanges.{le_told, le_from}
-use Rattle.abstract_steps_sound.proofs.NearScalars.{IsNearNumber}
+use Rattle.abstract_steps_covered.specs.SoundSteps.{IsReached, StandsBehind, IsStoodFor}
+use Rattle.abstract_steps_covered.proofs.Admitted.{AreAdmitted, none_admitted, same_admitted}
+use Rattle.abstract_steps_covered.proofs.PutTemps.{IsResult, put_stands, put_long}
+use Rattle.abstract_steps_covered.proofs.Truths.{true_holds, false_fails}
+use Rattle.abstract_steps_covered.proofs.TypeRanges.{le_told, le_from}
+use Rattle.abstract_steps_covered.proofs.NearScalars.{IsNearNumber}
 use Rattle.abstract_steps_covered.specs.SoundEnds.{EdgeBehind, EndIsSound}
 use Rattle.abstract_steps_covered.proofs.Blocks.{IsBlock, block_facts}
 use Rattle.abstract_steps_sound_edges.specs.EdgeSteps.{IsPlainEnd, TestIsSound, CaseIsSound, KindIsSound, TestsAreSound}

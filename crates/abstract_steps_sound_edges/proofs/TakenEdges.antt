@@ -9,7 +9,7 @@ use Rattle.flow_program.specs.declared.flow_edges.EdgeKind.{EdgeKind}
 use Rattle.flow_program.specs.declared.flow_edges.EdgeKind.TheVariants as kind
 use Rattle.flow_program.specs.declared.machine_instructions.Instruction.{Instruction}
 use Rattle.flow_program.specs.declared.programs.Flow.{Flow}
-use Rattle.abstract_steps.specs.Edges.{last_of}
+use Rattle.abstract_steps_covered.specs.Edges.{last_of}
 use Rattle.flow_program_views.specs.ProgramViews.{EdgeView, edge, block, flow_view}
 use Rattle.flow_program_machine.specs.FlowEdges.{is_taken, edge_taken, edges_of}
 use Rattle.flow_program_machine.specs.FlowSteps.{block_or, block_of}

@@ -11,14 +11,14 @@ use Rattle.flow_program.specs.declared.machine_instructions.Operation.{Operation
 use Rattle.flow_program.specs.declared.machine_instructions.Operation.TheVariants as op
 use Rattle.flow_program.specs.declared.programs.Flow.{Flow}
 use Rattle.value_domain.specs.declared.row_cells.Cell.{Cell}
-use Rattle.abstract_steps.specs.Refinements.{refine, refine_case}
+use Rattle.abstract_steps_covered.specs.Refinements.{refine, refine_case}
 use Rattle.abstract_steps_checks.specs.ViolationSets.{no_violations}
 use Rattle.flow_program_views.specs.ProgramViews.{flow_view}
 use Rattle.flow_program_machine.specs.FlowStates.{Standing}
 use Rattle.flow_program_machine.specs.FlowEdges.{testing, matching}
 use Rattle.store_domain_meaning.specs.ValueMeaning.{Naming}
 use Rattle.store_domain_sound_programs.specs.Premises.{HasPremises}
-use Rattle.abstract_steps_sound.specs.SoundSteps.{IsReached, IsStoodFor}
+use Rattle.abstract_steps_covered.specs.SoundSteps.{IsReached, IsStoodFor}
 use Rattle.abstract_steps_covered.specs.SoundEnds.{EndsAreSound}
 
 -- a jump, a branch, a switch or the end of the run; not a call of `fgets`

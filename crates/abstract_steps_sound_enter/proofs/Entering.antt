@@ -33,8 +33,8 @@ use Rattle.store_domain.specs.RowPositions.{leaf_position, class_position, zero_
 use Rattle.store_domain.specs.ScalarTypes.{kind_of}
 use Rattle.abstract_steps_checks.specs.Temporaries.{temp_position, temp_value}
 use Rattle.abstract_steps_checks.specs.ViolationSets.{no_violations}
-use Rattle.abstract_steps_instructions.specs.Steps.{operate}
-use Rattle.abstract_steps_instructions.specs.StepViolations.{operation_violations}
+use Rattle.abstract_steps_sound_objects.specs.Steps.{operate}
+use Rattle.abstract_steps_sound_objects.specs.StepViolations.{operation_violations}
 use Rattle.lib_models_memory.specs.Bytes.{indeterminate, Byte}
 use Rattle.lib_models_memory.specs.Instances.{Memory, Instance, Life, automatic, allocated, live, ended, freed, bytes_at, byte_at, life_at}
 use Rattle.lib_models_memory.specs.Scalars.{Scalar}
@@ -53,11 +53,11 @@ use Rattle.store_domain_sound.proofs.Slices.{get_there}
 use Rattle.store_domain_sound.proofs.StoreRows.{leaf_is, class_is, zero_is}
 use Rattle.store_domain_sound.proofs.StoreValues.{same_value, same_zero, same_state}
 use Rattle.store_domain_sound_programs.specs.Premises.{HasPremises}
-use Rattle.abstract_steps_sound.specs.SoundSteps.{AreShort, IsReached, StandsBehind, IsStoodFor, StepIsSound}
-use Rattle.abstract_steps_sound.proofs.Admitted.{none_admitted, same_admitted}
-use Rattle.abstract_steps_sound.proofs.NearScalars.{near_number_stands}
-use Rattle.abstract_steps_sound.proofs.PartSteps.{declared_storage}
-use Rattle.abstract_steps_sound.proofs.Replies.{clean_stop_good}
+use Rattle.abstract_steps_sound_objects.specs.SoundSteps.{AreShort, IsReached, StandsBehind, IsStoodFor, StepIsSound}
+use Rattle.abstract_steps_sound_objects.proofs.Admitted.{none_admitted, same_admitted}
+use Rattle.abstract_steps_sound_objects.proofs.NearScalars.{near_number_stands}
+use Rattle.abstract_steps_sound_objects.proofs.PartSteps.{declared_storage}
+use Rattle.abstract_steps_sound_objects.proofs.Replies.{clean_stop_good}
 use Rattle.abstract_steps_sound_objects.proofs.BlankRows as blank
 use Rattle.abstract_steps_sound_objects.proofs.Forgetting.{AreBlank, blank_zero, part_blank}
 use Rattle.abstract_steps_sound_objects.proofs.WholeObjects.{automatic_storage, some_kind}

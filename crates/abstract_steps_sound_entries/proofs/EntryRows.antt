@@ -8,9 +8,9 @@ use Rattle.interval_domain.specs.IntervalLattice.{interval_lattice, interval_ord
 use Rattle.interval_domain.specs.IntervalNumbers.{interval_numbers, interval_bounding, interval_ranges}
 use Rattle.interval_domain_laws.specs.Operations.{interval_sound}
 use Rattle.value_domain.specs.declared.row_cells.Cell.TheVariants.{Nothing}
-use Rattle.abstract_steps_system.specs.FlowMachines.{start_of}
+use Rattle.abstract_steps_laws_own_starts.specs.FlowMachines.{start_of}
 use Rattle.abstract_steps_laws_own_starts.proofs.RegularStarts.{regular_fits}
-use Rattle.abstract_steps_laws_programs.proofs.RegularPrograms.{regular_of}
+use Rattle.abstract_steps_laws_own_starts.proofs.RegularPrograms.{regular_of}
 use Rattle.store_domain_sound_programs.specs.Premises.{AreHeld}
 use Rattle.store_domain_sound_programs.proofs.WellFormedPremises.{meets_premises}
 use Rattle.abstract_steps_sound_beginnings.proofs.StartedRows as started

@@ -5,9 +5,9 @@ use Rattle.flow_program.specs.declared.programs.Flow.{Flow}
 use Rattle.interval_domain.specs.Spans.{Stands}
 use Rattle.interval_domain.specs.IntervalLattice.{interval_lattice}
 use Rattle.interval_domain.specs.IntervalNumbers.{interval_numbers}
-use Rattle.abstract_steps_system.specs.FlowMachines.{has_start}
+use Rattle.abstract_steps_laws_own_starts.specs.FlowMachines.{has_start}
 use Rattle.abstract_steps_laws_own_starts.specs.OwnLists.{ReachesTypes}
-use Rattle.abstract_steps_laws_programs.specs.RegularPrograms.{is_regular}
+use Rattle.abstract_steps_laws_own_starts.specs.RegularPrograms.{is_regular}
 use Rattle.abstract_steps_sound_maps.specs.CarriedMaps.{EntryStands}
 use Rattle.abstract_steps_sound_beginnings.specs.UnitStarts.{StartsAs}
 

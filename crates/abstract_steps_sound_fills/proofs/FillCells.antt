@@ -38,7 +38,7 @@ use Rattle.store_domain_sound.specs.Shapes.{IsShaped}
 use Rattle.store_domain_sound.proofs.Classes.{class_above}
 use Rattle.store_domain_sound.proofs.Near.{IsNearValue, value_at_near, near_number_from, near_number_none}
 use Rattle.store_domain_sound.proofs.StoreValues.{written, join_is}
-use Rattle.store_domain_sound_chars.proofs.ByteValues.{written_near}
+use Rattle.store_domain_sound_regions.proofs.ByteValues.{written_near}
 use Rattle.store_domain_sound_regions.specs.RegionWrites.{IsRegion}
 use Rattle.store_domain_sound_regions.proofs.Regions.{cell_joined, cell_covered, bytes_number, bytes_content, cell_numbers}
 use Rattle.store_domain_sound_regions.proofs.ByteRegions.{leaf_missed, char_missed, write_is}

@@ -28,8 +28,8 @@ use Rattle.store_domain_meaning.specs.ValueMeaning.{Naming, StandsZero}
 use Rattle.store_domain_meaning.specs.RowMeaning.{IsLiveOf, array_bytes}
 use Rattle.store_domain_sound.proofs.Slices.{get_there, get_set_same, get_set_other}
 use Rattle.store_domain_sound.proofs.Texts.{zero_near}
-use Rattle.store_domain_sound_chars.proofs.ByteArrays.{IsIn, in_or_not, IsTarget, target_is, target_there, local_has, local_small, whole_in}
-use Rattle.store_domain_sound_chars.proofs.ByteZeros.{put_inside, put_outside}
+use Rattle.store_domain_sound_regions.proofs.ByteArrays.{IsIn, in_or_not, IsTarget, target_is, target_there, local_has, local_small, whole_in}
+use Rattle.store_domain_sound_regions.proofs.ByteZeros.{put_inside, put_outside}
 use Rattle.store_domain_sound_regions.specs.RegionWrites.{IsRegion}
 use Rattle.store_domain_sound_regions.proofs.RegionArrays.{starts_in, array_short, array_apart, array_before, array_there, same_first_zero, put_zero_stands, any_zero_stands}
 use Rattle.abstract_steps_sound_fills.proofs.FillCells.{IsFill}

@@ -30,9 +30,9 @@ use Rattle.abstract_steps_library.specs.Arguments.{argument_value, value_of_argu
 use Rattle.abstract_steps_library.specs.Effects.{apply}
 use Rattle.abstract_steps_library.specs.Planning.{plan_call}
 use Rattle.abstract_steps_library_plans.specs.declared.call_plans.Plan.{Plan}
-use Rattle.abstract_steps_instructions.specs.CallSteps.{call_of, call_step}
-use Rattle.abstract_steps_instructions.specs.StepViolations.{operation_violations}
-use Rattle.abstract_steps_instructions.specs.Steps.{operate}
+use Rattle.abstract_steps_sound.specs.CallSteps.{call_of, call_step}
+use Rattle.abstract_steps_sound.specs.StepViolations.{operation_violations}
+use Rattle.abstract_steps_sound.specs.Steps.{operate}
 use Rattle.lib_models_memory.specs.Bytes.{MachinePointer, null, into}
 use Rattle.lib_models_memory.specs.Instances.{Memory, Instance, Storage, static, automatic, allocated, literal, Life, live, ended, freed, life_of, life_at}
 use Rattle.lib_models_memory.specs.Scalars.{Scalar, integer, pointer}

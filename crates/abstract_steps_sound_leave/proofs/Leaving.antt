@@ -31,8 +31,8 @@ use Rattle.store_domain.specs.RowPositions.{leaf_position, class_position, zero_
 use Rattle.store_domain.specs.ScalarTypes.{kind_of}
 use Rattle.abstract_steps_checks.specs.Temporaries.{temp_position, temp_value}
 use Rattle.abstract_steps_checks.specs.ViolationSets.{no_violations}
-use Rattle.abstract_steps_instructions.specs.Steps.{operate}
-use Rattle.abstract_steps_instructions.specs.StepViolations.{operation_violations}
+use Rattle.abstract_steps_sound_objects.specs.Steps.{operate}
+use Rattle.abstract_steps_sound_objects.specs.StepViolations.{operation_violations}
 use Rattle.lib_models_memory.specs.Instances.{Memory, Life, live, ended, freed, bytes_at, life_at}
 use Rattle.lib_models_memory.specs.Scalars.{Scalar}
 use Rattle.lib_models_effects.specs.NumberedTables.{clear_at}
@@ -45,10 +45,10 @@ use Rattle.store_domain_meaning.specs.RowMeaning.{IsLiveOf, StandsCell, StandsLe
 use Rattle.store_domain_sound.proofs.LoadSound.{instance_there}
 use Rattle.store_domain_sound.proofs.StoreRows.{leaf_is, class_is, zero_is}
 use Rattle.store_domain_sound_programs.specs.Premises.{HasPremises}
-use Rattle.abstract_steps_sound.specs.SoundSteps.{AreShort, IsReached, StandsBehind, StepIsSound}
-use Rattle.abstract_steps_sound.proofs.Admitted.{none_admitted, same_admitted}
-use Rattle.abstract_steps_sound.proofs.PartSteps.{declared_storage}
-use Rattle.abstract_steps_sound.proofs.Replies.{if_some_good}
+use Rattle.abstract_steps_sound_objects.specs.SoundSteps.{AreShort, IsReached, StandsBehind, StepIsSound}
+use Rattle.abstract_steps_sound_objects.proofs.Admitted.{none_admitted, same_admitted}
+use Rattle.abstract_steps_sound_objects.proofs.PartSteps.{declared_storage}
+use Rattle.abstract_steps_sound_objects.proofs.Replies.{if_some_good}
 use Rattle.abstract_steps_sound_objects.proofs.SetCells.{set_keeps}
 use Rattle.abstract_steps_sound_objects.proofs.WholeObjects.{automatic_declared, automatic_storage, some_kind}
 use Rattle.abstract_steps_sound_leave.specs.LeaveSteps.{IsLeave}

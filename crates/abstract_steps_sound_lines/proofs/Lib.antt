@@ -6,3 +6,4 @@ pub use Rattle.abstract_steps_sound_appends.proofs.ApartTexts
 pub use Rattle.abstract_steps_sound_appends.proofs.AppendSteps
 pub use Rattle.abstract_steps_sound_appends.proofs.BoundedSteps
 pub use Rattle.abstract_steps_sound_appends.proofs.TextSteps
+pub use Rattle.abstract_steps_sound_calls.proofs.ResultCalls

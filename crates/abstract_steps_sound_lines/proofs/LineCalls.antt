@@ -43,7 +43,7 @@ use Rattle.abstract_steps_library_plans.specs.declared.call_plans.Trail.{Trail}
 use Rattle.abstract_steps_library.specs.declared.memory_calls.Target.{Target}
 use Rattle.abstract_steps_library_writes.specs.declared.source_bytes.Characters.{Characters}
 use Rattle.abstract_steps_library_writes.specs.declared.text_writes.TextWrite.{TextWrite}
-use Rattle.abstract_steps_instructions.specs.CallSteps.{line_call, goes_on}
+use Rattle.abstract_steps_sound.specs.CallSteps.{line_call, goes_on}
 use Rattle.lib_models_memory.specs.Labels.{Labels, no_labels, input_labels, is_unlabelled}
 use Rattle.lib_models_memory.specs.Bytes.{MachinePointer, null, into, Content, number, Byte}
 use Rattle.lib_models_memory.specs.Instances.{Memory, live, bytes_at, byte_at, life_at}
@@ -83,8 +83,8 @@ use Rattle.abstract_steps_sound.proofs.NearScalars.{IsNearNumber}
 use Rattle.abstract_steps_sound.proofs.PutTemps.{IsResult}
 use Rattle.abstract_steps_sound_calls.proofs.Calls.{DrawnEnd, gave, ran_out, drawn_end, clean}
 use Rattle.abstract_steps_sound_calls.proofs.CharacterNumbers.{number_between}
-use Rattle.abstract_steps_sound_strings.proofs.GivenPointers.{ReachEnd, into_live, into_nothing, into_ended, into_freed, reach_end, reach_of, null_told, ended_told, freed_told}
-use Rattle.abstract_steps_sound_strings.proofs.Trails.{still_told, told_here, goes_further}
+use Rattle.abstract_steps_sound_appends.proofs.GivenPointers.{ReachEnd, into_live, into_nothing, into_ended, into_freed, reach_end, reach_of, null_told, ended_told, freed_told}
+use Rattle.abstract_steps_sound_appends.proofs.Trails.{still_told, told_here, goes_further}
 use Rattle.abstract_steps_sound_appends.proofs.Targets.{sat_above, sat_below, alone_is, within_stands, cut_has, room_told, literal_told, is_writable, after_has, start_has, touched_has, one_has}
 use Rattle.abstract_steps_sound_appends.proofs.WriteCalls.{sink_told, world_with, value_of, given_at, argument_stands, given_within, goes_given, given_into}
 use Rattle.abstract_steps_sound_appends.specs.TextWrites.{IsTextWrite}

@@ -7,7 +7,7 @@ use Rattle.flow_program.specs.declared.machine_instructions.Operation.{Operation
 use Rattle.flow_program.specs.declared.machine_instructions.Operation.TheVariants as op
 use Rattle.flow_program.specs.declared.programs.Flow.{Flow}
 use Rattle.store_domain_sound_programs.specs.Premises.{HasPremises}
-use Rattle.abstract_steps_covered.specs.SoundEnds.{EndsAreSound}
+use Rattle.abstract_steps_sound_edges.specs.SoundEnds.{EndsAreSound}
 
 -- calls of `fgets`
 abbrev pub IsLineEnd : Operation → Type 0

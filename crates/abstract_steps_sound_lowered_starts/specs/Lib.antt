@@ -1,3 +1,4 @@
 pub mod LoweredStarts
 pub use Rattle.abstract_steps_sound_beginnings.specs.UnitStarts
 pub use Rattle.abstract_steps_sound_beginnings.specs.TypedInitializers
+pub use Rattle.abstract_steps_sound_beginnings.specs.RegularPrograms

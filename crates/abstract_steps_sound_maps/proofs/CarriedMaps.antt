@@ -15,12 +15,12 @@ use Rattle.value_domain.specs.Cells.{cell_lattice, cell_order}
 use Rattle.store_domain_laws.specs.TopRows.{top_row}
 use Rattle.abstract_steps_rows.specs.EndLaws.{EndLaws}
 use Rattle.abstract_steps_rows.specs.OwnRows.{program_bases, is_own_row}
-use Rattle.abstract_steps_system.specs.BlockPasses.{edge_end}
-use Rattle.abstract_steps_system.specs.FlowMachines.{edge_at, start_of, through, flow_machine}
+use Rattle.abstract_steps_laws_own_rows.specs.BlockPasses.{edge_end}
+use Rattle.abstract_steps_laws_own_rows.specs.FlowMachines.{edge_at, start_of, through, flow_machine}
 use Rattle.abstract_steps_laws_values.specs.LaidOut.{IsLaidOut}
-use Rattle.abstract_steps_laws.specs.ProgramLaws.{IsNamed, AreRising}
-use Rattle.abstract_steps_laws.specs.SystemLaws.{IsNearList}
-use Rattle.abstract_steps_laws.proofs.Systems.{own_rise}
+use Rattle.abstract_steps_laws_own_rows.specs.ProgramLaws.{IsNamed, AreRising}
+use Rattle.abstract_steps_laws_own_rows.specs.SystemLaws.{IsNearList}
+use Rattle.abstract_steps_laws_own_rows.proofs.Systems.{own_rise}
 use Rattle.abstract_steps_laws_own_rows.specs.OwnLists.{ReachesTypes}
 use Rattle.abstract_steps_laws_own_rows.proofs.OwnEdges.{fit_nothing}
 use Rattle.abstract_steps_covered.specs.Covering.{Begins, Carries}

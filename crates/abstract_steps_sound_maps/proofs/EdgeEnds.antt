@@ -14,12 +14,12 @@ use Rattle.value_domain.specs.Cells.{cell_lattice}
 use Rattle.store_domain_meaning.specs.Coverage.{state_of}
 use Rattle.store_domain_meaning.specs.RowMeaning.{StandsFor}
 use Rattle.flow_program_machine.specs.FlowStates.{Standing}
-use Rattle.abstract_steps.specs.Edges.{edge}
-use Rattle.abstract_steps_system.specs.BlockPasses.{block_end, edge_behind, edge_end}
-use Rattle.abstract_steps_system.specs.BlockPasses as passes
-use Rattle.abstract_steps_system.specs.FlowMachines.{edge_at}
-use Rattle.rule_checks.specs.AdmittedRules as rules
-use Rattle.abstract_steps_sound.specs.SoundSteps.{StandsBehind}
+use Rattle.abstract_steps_covered.specs.Edges.{edge}
+use Rattle.abstract_steps_laws_own_rows.specs.BlockPasses.{block_end, edge_behind, edge_end}
+use Rattle.abstract_steps_laws_own_rows.specs.BlockPasses as passes
+use Rattle.abstract_steps_laws_own_rows.specs.FlowMachines.{edge_at}
+use Rattle.abstract_steps_covered.specs.AdmittedRules as rules
+use Rattle.abstract_steps_covered.specs.SoundSteps.{StandsBehind}
 use Rattle.abstract_steps_covered.specs.Covering.{rows_behind, Carries}
 use Rattle.abstract_steps_sound_maps.specs.CarriedMaps.{AreUnmixed}
 use Rattle.abstract_steps_sound_maps.proofs.LargerRows.{row_larger}

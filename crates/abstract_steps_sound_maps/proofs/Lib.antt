@@ -4,3 +4,8 @@ pub mod UnmixedRows
 pub mod LargerRows
 pub mod EdgeEnds
 pub mod CarriedMaps
+pub use Rattle.abstract_steps_covered.proofs.Covering
+pub use Rattle.abstract_steps_covered.proofs.AdmittedPairs
+pub use Rattle.abstract_steps_covered.proofs.Blocks
+pub use Rattle.abstract_steps_covered.proofs.GoingOn
+pub use Rattle.abstract_steps_covered.proofs.MapPairs

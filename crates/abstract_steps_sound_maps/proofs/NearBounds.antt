@@ -10,8 +10,8 @@ use Rattle.cc_base.specs.IntegerDomains.{IntegersOf, BoundLaws, of_range}
 use Rattle.value_domain_laws.proofs.Numbers.{RangeHas, met_has, bounds_have, of_range_stands}
 use Rattle.value_domain_laws.proofs.Ranges.{RangeBelow, bounds_monotone}
 use Rattle.store_domain.specs.NearValues.{is_near, near_part, near_number}
-use Rattle.abstract_steps_sound.proofs.NearScalars.{IsNearNumber, near_number_stands}
-use Rattle.abstract_steps_sound.proofs.MoveSteps.{near_has}
+use Rattle.abstract_steps_covered.proofs.NearScalars.{IsNearNumber, near_number_stands}
+use Rattle.abstract_steps_covered.proofs.MoveSteps.{near_has}
 
 met_from : (x : Range) (a b z : ℤ) → RangeHas (range_met x a b) z → RangeHas x z
 met_from None a b z h = absurd h

@@ -15,12 +15,12 @@ use Rattle.value_domain.specs.Cells.{cell_lattice}
 use Rattle.store_domain_meaning.specs.ValueMeaning.{Naming}
 use Rattle.store_domain_meaning.specs.RowMeaning.{MachineState, StandsFor}
 use Rattle.abstract_steps_rows.specs.OwnRows.{program_bases}
-use Rattle.abstract_steps_system.specs.FlowMachines.{start_of, flow_machine}
+use Rattle.abstract_steps_laws_own_rows.specs.FlowMachines.{start_of, flow_machine}
 use Rattle.abstract_steps_laws_values.specs.LaidOut.{IsLaidOut}
-use Rattle.abstract_steps_laws.specs.ProgramLaws.{IsNamed, AreRising}
-use Rattle.abstract_steps_laws.specs.SystemLaws.{IsNearList}
+use Rattle.abstract_steps_laws_own_rows.specs.ProgramLaws.{IsNamed, AreRising}
+use Rattle.abstract_steps_laws_own_rows.specs.SystemLaws.{IsNearList}
 use Rattle.abstract_steps_laws_own_rows.specs.OwnLists.{ReachesTypes}
-use Rattle.abstract_steps_sound.specs.SoundSteps.{StandsBehind}
+use Rattle.abstract_steps_covered.specs.SoundSteps.{StandsBehind}
 use Rattle.abstract_steps_covered.specs.Covering.{Begins, Carries}
 
 module _ {I : Type 0} where

@@ -26,7 +26,7 @@ use Rattle.abstract_steps_checks.specs.Touches.{touch}
 use Rattle.abstract_steps_checks.specs.ViolationSets.{no_violations, violations_union, violates}
 use Rattle.abstract_steps_checks.specs.declared.touches.Touched.{Touched}
 use Rattle.abstract_steps_checks.specs.declared.violation_sets.Violations.{Violations}
-use Rattle.abstract_steps_values.specs.Scalars.{class_of, minds_blank}
+use Rattle.abstract_steps_sound.specs.Scalars.{class_of, minds_blank}
 use Rattle.abstract_steps_sound.specs.MemorySteps.{blank_or_freed, put_read, put_loaded, load_step}
 use Rattle.abstract_steps_sound.specs.Steps.{operate}
 use Rattle.abstract_steps_sound.specs.StepViolations.{operation_violations}

@@ -5,7 +5,7 @@ use Rattle.cc_base.specs.declared.int_types.IntType.{IntType}
 use Rattle.c_layout.specs.Leaves as layout
 use Rattle.flow_program.specs.declared.machine_instructions.Scalar.TheVariants as of
 use Rattle.flow_program.specs.declared.machine_instructions.Scalar as declared
-use Rattle.abstract_steps_values.specs.Scalars.{class_of_rank, class_of_kind, class_of}
+use Rattle.abstract_steps_sound.specs.Scalars.{class_of_rank, class_of_kind, class_of}
 use Rattle.lib_models_effects.specs.Accesses.{class_in}
 use Rattle.store_domain_sound.specs.Scalars.{signed_in}
 

@@ -32,7 +32,7 @@ use Rattle.abstract_steps_library_plans.specs.declared.call_plans.Effect.TheVari
 use Rattle.abstract_steps_library_plans.specs.declared.call_plans.Plan.{Plan}
 use Rattle.abstract_steps_library_plans.specs.declared.call_plans.Trail.{Trail}
 use Rattle.abstract_steps_library.specs.declared.memory_calls.Target.{Target}
-use Rattle.abstract_steps_instructions.specs.CallSteps.{call_of}
+use Rattle.abstract_steps_sound_fills.specs.CallSteps.{call_of}
 use Rattle.lib_models_memory.specs.Labels.{Labels, is_unlabelled}
 use Rattle.lib_models_memory.specs.Bytes.{MachinePointer, into, Byte}
 use Rattle.lib_models_memory.specs.Instances.{Memory, Instance, live, bytes_at, byte_at, life_at}
@@ -55,9 +55,9 @@ use Rattle.store_domain_sound_programs.specs.Premises.{HasPremises}
 use Rattle.store_domain_sound_regions.specs.RegionWrites.{IsRegion}
 use Rattle.store_domain_sound_regions.proofs.BaseRows.{none_stands}
 use Rattle.store_domain_sound_regions.proofs.Regions.{alike_region}
-use Rattle.abstract_steps_sound.specs.SoundSteps.{IsReached}
-use Rattle.abstract_steps_sound.proofs.Admitted.{AreAdmitted, both_admitted}
-use Rattle.abstract_steps_sound.proofs.PutTemps.{IsResult}
+use Rattle.abstract_steps_sound_fills.specs.SoundSteps.{IsReached}
+use Rattle.abstract_steps_sound_fills.proofs.Admitted.{AreAdmitted, both_admitted}
+use Rattle.abstract_steps_sound_fills.proofs.PutTemps.{IsResult}
 use Rattle.abstract_steps_sound_fills.proofs.Calls.{clean}
 use Rattle.abstract_steps_sound_fills.proofs.GivenPointers.{reach_of}
 use Rattle.abstract_steps_sound_fills.proofs.Trails.{still_told, told_here, goes_further}

@@ -4,3 +4,9 @@ pub mod SetCells
 pub mod BlankRows
 pub mod WholeObjects
 pub mod Forgetting
+pub use Rattle.abstract_steps_sound.proofs.Admitted
+pub use Rattle.abstract_steps_sound.proofs.NearScalars
+pub use Rattle.abstract_steps_sound.proofs.PartSteps
+pub use Rattle.abstract_steps_sound.proofs.Replies
+pub use Rattle.abstract_steps_sound.proofs.MoveSteps
+pub use Rattle.abstract_steps_sound.proofs.TypeRanges

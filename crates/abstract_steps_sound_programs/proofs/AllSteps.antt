@@ -19,14 +19,14 @@ use Rattle.abstract_steps_sound.specs.OperandTypes.{HasOperands}
 use Rattle.abstract_steps_sound.specs.SoundSteps.{StepIsSound, AreSound}
 use Rattle.abstract_steps_sound.proofs.ValueSteps.{value_step_sound}
 use Rattle.abstract_steps_sound.proofs.PointerSteps.{pointer_step_sound}
-use Rattle.abstract_steps_sound_memory.proofs.LoadSteps.{load_sound}
-use Rattle.abstract_steps_sound_memory.proofs.StoreSteps.{store_sound}
-use Rattle.abstract_steps_sound_objects.proofs.Forgetting.{forget_sound}
+use Rattle.abstract_steps_sound_copies.proofs.LoadSteps.{load_sound}
+use Rattle.abstract_steps_sound_copies.proofs.StoreSteps.{store_sound}
+use Rattle.abstract_steps_sound_leave.proofs.Forgetting.{forget_sound}
 use Rattle.abstract_steps_sound_spelling.proofs.Clearing.{clear_sound}
 use Rattle.abstract_steps_sound_spelling.proofs.SpellSteps.{spell_step_sound}
-use Rattle.abstract_steps_sound_enter.proofs.Entering.{enter_sound}
+use Rattle.abstract_steps_sound_reallocations.proofs.Entering.{enter_sound}
 use Rattle.abstract_steps_sound_leave.proofs.Leaving.{leave_sound}
-use Rattle.abstract_steps_sound_calls.proofs.ResultCalls.{result_call_sound}
+use Rattle.abstract_steps_sound_lines.proofs.ResultCalls.{result_call_sound}
 use Rattle.abstract_steps_sound_prints.proofs.StringCalls.{string_call_sound}
 use Rattle.abstract_steps_sound_prints.proofs.PrintCalls.{print_call_sound}
 use Rattle.abstract_steps_sound_reallocations.proofs.FreeCalls.{free_call_sound}
@@ -41,7 +41,7 @@ use Rattle.abstract_steps_sound_reallocations.proofs.AllocationSteps.{allocation
 use Rattle.abstract_steps_sound_reallocations.proofs.ReallocationCalls.{reallocation_call_sound}
 use Rattle.abstract_steps_sound_lines.specs.LineEnds.{IsLineEnd}
 use Rattle.abstract_steps_sound_lines.proofs.LineEnds.{line_end_sound}
-use Rattle.abstract_steps_covered.specs.SoundEnds.{IsDoneIn, GoesOn, EndsBlock, EndIsSound, StepsGoOnSoundly, EndsGoOnSoundly}
+use Rattle.abstract_steps_sound_tests.specs.SoundEnds.{IsDoneIn, GoesOn, EndsBlock, EndIsSound, StepsGoOnSoundly, EndsGoOnSoundly}
 use Rattle.abstract_steps_sound_tests.specs.EdgeSteps.{IsPlainEnd, TestIsSound, CaseIsSound, KindIsSound, TestsAreSound}
 use Rattle.abstract_steps_sound_tests.proofs.EdgeSteps.{end_sound}
 use Rattle.abstract_steps_sound_tests.proofs.IntegerTests.{test_sound}

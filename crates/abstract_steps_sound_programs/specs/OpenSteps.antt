@@ -22,8 +22,8 @@ use Rattle.abstract_steps_sound_reallocations.specs.AllocationCalls.{Allocates}
 use Rattle.abstract_steps_sound_reallocations.specs.ReallocationCalls.{Reallocates}
 use Rattle.abstract_steps_sound_spelling.specs.SpellSteps.{SpellsBytes}
 use Rattle.abstract_steps_sound_copies.specs.StructTables.{HasStructs}
-use Rattle.abstract_steps_covered.specs.SoundEnds.{IsDoneIn}
-use Rattle.abstract_steps_covered.specs.Covering.{Begins, Carries, HasTypedRuns, row_before, Admits}
+use Rattle.abstract_steps_sound_tests.specs.SoundEnds.{IsDoneIn}
+use Rattle.abstract_steps_sound_tests.specs.Covering.{Begins, Carries, HasTypedRuns, row_before, Admits}
 use Rattle.abstract_steps_sound_tests.specs.EdgeSteps.{KindIsSound}
 use Rattle.abstract_steps_sound_tests.specs.ScalarObjects.{IsIntegerTest, IsPointerTest, IsNullTest, IsCaseObject}
 

@@ -7,3 +7,4 @@ pub mod ReallocatedRows
 pub mod ReallocationCalls
 pub use Rattle.abstract_steps_sound_allocations.proofs.AllocationSteps
 pub use Rattle.abstract_steps_sound_frees.proofs.FreeCalls
+pub use Rattle.abstract_steps_sound_allocations.proofs.Entering

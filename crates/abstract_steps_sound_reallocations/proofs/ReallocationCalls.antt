@@ -30,7 +30,7 @@ use Rattle.abstract_steps_library.specs.Plans.{trail_of, planned, checked}
 use Rattle.abstract_steps_library_plans.specs.declared.call_plans.Effect.{Effect}
 use Rattle.abstract_steps_library_plans.specs.declared.call_plans.Effect.TheVariants as effect
 use Rattle.abstract_steps_library_plans.specs.declared.call_plans.Plan.{Plan}
-use Rattle.abstract_steps_instructions.specs.CallSteps.{call_of, call_step}
+use Rattle.abstract_steps_sound.specs.CallSteps.{call_of, call_step}
 use Rattle.lib_models_memory.specs.Labels.{Labels, is_unlabelled}
 use Rattle.lib_models_memory.specs.Bytes.{null, into, MachinePointer, Byte}
 use Rattle.lib_models_memory.specs.Instances.{Memory, allocated, bytes_of, bytes_at, Storage, static, automatic, literal, Life, live, ended, freed, life_of, life_at, byte_at}
@@ -48,8 +48,8 @@ use Rattle.store_domain_sound_programs.specs.Premises.{HasPremises}
 use Rattle.abstract_steps_sound.specs.SoundSteps.{AreShort, IsReached, StepIsSound}
 use Rattle.abstract_steps_sound.proofs.Admitted.{AreAdmitted, none_admitted, one_admitted, both_admitted}
 use Rattle.abstract_steps_sound.proofs.Replies.{if_some_good}
-use Rattle.abstract_steps_sound_strings.proofs.Calls.{DrawnEnd, gave, ran_out, drawn_end, clean, GoodPlan, plan_stops}
-use Rattle.abstract_steps_sound_strings.proofs.Trails.{still_told, told_here, goes_further}
+use Rattle.abstract_steps_sound_allocations.proofs.Calls.{DrawnEnd, gave, ran_out, drawn_end, clean, GoodPlan, plan_stops}
+use Rattle.abstract_steps_sound_allocations.proofs.Trails.{still_told, told_here, goes_further}
 use Rattle.abstract_steps_sound_allocations.proofs.GrownMemory.{grows}
 use Rattle.abstract_steps_sound_allocations.proofs.WriteCalls.{argument_stands, value_of, argument_in}
 use Rattle.abstract_steps_sound_allocations.proofs.Products.{IsAsked, asked_some, asked_has, asked_small, plain_asked}
@@ -67,8 +67,8 @@ use Rattle.store_domain.specs.Freeing.{free_bases, freed_state, is_heap_in, free
 use Rattle.store_domain.specs.LiveBases.{most_bases, has_base, live_of}
 use Rattle.abstract_steps_checks.specs.declared.allocation_checks.Released.{Released}
 use Rattle.abstract_steps_library.specs.Planning.{plan_call}
-use Rattle.abstract_steps_instructions.specs.StepViolations.{operation_violations}
-use Rattle.abstract_steps_instructions.specs.Steps.{operate}
+use Rattle.abstract_steps_sound.specs.StepViolations.{operation_violations}
+use Rattle.abstract_steps_sound.specs.Steps.{operate}
 use Rattle.lib_models_effects.specs.ObjectEffects.{set_life}
 use Rattle.lib_models_effects.specs.Touches.{is_allocated, storage_of, storage_at}
 use Rattle.store_domain_meaning.specs.SoundMemory.{IsWithin, IsPointerIn}

@@ -8,3 +8,5 @@ mod Counterexamples
 pub use Rattle.abstract_steps_sound_clear.proofs.Clearing
 pub use Rattle.abstract_steps_sound_clear.proofs.BlankRows
 pub use Rattle.abstract_steps_sound_clear.proofs.FullParts
+pub use Rattle.abstract_steps_sound_clear.proofs.NearScalars
+pub use Rattle.store_domain_sound_regions.proofs.Layers

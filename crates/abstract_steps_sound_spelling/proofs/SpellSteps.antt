@@ -21,8 +21,8 @@ use Rattle.store_domain.specs.StoreLengths.{spell_keeps}
 use Rattle.store_domain.specs.ScalarTypes.{kind_of}
 use Rattle.store_domain.specs.Spelling.{written_count, character, spell_object, spell}
 use Rattle.abstract_steps_checks.specs.ViolationSets.{no_violations}
-use Rattle.abstract_steps_sound.specs.Steps.{operate}
-use Rattle.abstract_steps_sound.specs.StepViolations.{operation_violations}
+use Rattle.abstract_steps_sound_clear.specs.Steps.{operate}
+use Rattle.abstract_steps_sound_clear.specs.StepViolations.{operation_violations}
 use Rattle.lib_models_memory.specs.Labels.{no_labels}
 use Rattle.lib_models_memory.specs.Bytes.{Byte}
 use Rattle.lib_models_memory.specs.Instances.{Memory, Instance, bytes_of, bytes_at, byte_at, live, ended, life_at}
@@ -42,10 +42,10 @@ use Rattle.store_domain_sound_programs.specs.Premises.{HasPremises}
 use Rattle.store_domain_sound_programs.proofs.ShapedBases.{all_at}
 use Rattle.store_domain_sound_regions.specs.RegionWrites.{IsRegion}
 use Rattle.store_domain_sound_regions.proofs.ContentRegions.{IsWritten, contents_written, contents_sane, region_content}
-use Rattle.abstract_steps_sound.specs.SoundSteps.{AreShort, IsReached, StandsBehind, StepIsSound}
-use Rattle.abstract_steps_sound.proofs.Admitted.{none_admitted, same_admitted}
-use Rattle.abstract_steps_sound.proofs.PartSteps.{declared_storage}
-use Rattle.abstract_steps_sound.proofs.Replies.{if_some_good}
+use Rattle.abstract_steps_sound_clear.specs.SoundSteps.{AreShort, IsReached, StandsBehind, StepIsSound}
+use Rattle.abstract_steps_sound_clear.proofs.Admitted.{none_admitted, same_admitted}
+use Rattle.abstract_steps_sound_clear.proofs.PartSteps.{declared_storage}
+use Rattle.abstract_steps_sound_clear.proofs.Replies.{if_some_good}
 use Rattle.abstract_steps_sound_clear.proofs.WholeObjects.{automatic_declared, automatic_storage, some_kind}
 use Rattle.abstract_steps_sound_clear.proofs.FullParts.{parts_full}
 use Rattle.abstract_steps_sound_spelling.specs.SpellSteps.{SpellsBytes, SpellsCharacters}

@@ -13,7 +13,7 @@ use Rattle.flow_program.specs.declared.programs.Flow.{Flow}
 use Rattle.store_domain_laws.specs.StoreLaws.{AreBytes}
 use Rattle.lib_models_memory.specs.Tags.{tag_of, tag_at}
 use Rattle.store_domain_sound_programs.specs.Premises.{HasPremises}
-use Rattle.abstract_steps_sound.specs.SoundSteps.{AreSound}
+use Rattle.abstract_steps_sound_clear.specs.SoundSteps.{AreSound}
 
 -- all bytes of some room are those of leaves of characters
 abbrev pub AreCharacters : Flow → BaseInfo → ℕ → ℕ → Type 0

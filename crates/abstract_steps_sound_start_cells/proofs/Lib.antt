@@ -14,3 +14,4 @@ pub use Rattle.abstract_steps_sound_spelling.proofs.Texts
 pub use Rattle.abstract_steps_sound_spelling.proofs.BlankRows
 pub use Rattle.abstract_steps_sound_spelling.proofs.Clearing
 pub use Rattle.abstract_steps_sound_spelling.proofs.FullParts
+pub use Rattle.abstract_steps_sound_spelling.proofs.NearScalars

@@ -34,8 +34,8 @@ use Rattle.abstract_steps.specs.StartRows.{static_class, store_static, start_sto
 use Rattle.store_domain_sound.proofs.Classes.{class_small}
 use Rattle.store_domain_sound.proofs.Only.{Only, only_more, only_same, only_put, only_cond, only_if, only_then, only_walk}
 use Rattle.store_domain_sound.proofs.StoreRows.{Fits, join_only, own_only, wider_only}
-use Rattle.store_domain_sound_regions.specs.RegionWrites.{WritesWithin}
-use Rattle.store_domain_sound_regions.proofs.Layers.{leaves_within, zeros_within, layers_within}
+use Rattle.abstract_steps_sound_spelling.specs.RegionWrites.{WritesWithin}
+use Rattle.abstract_steps_sound_spelling.proofs.Layers.{leaves_within, zeros_within, layers_within}
 use Rattle.abstract_steps_sound_start_cells.proofs.ReachedBases.{only_reached}
 
 module _ {I : Type 0} (l : LatticeOf I) (n : IntegersOf I) (flow : Flow) (info : BaseInfo) (fits : Fits info) (declared : info.shape.heap ≡ false) where

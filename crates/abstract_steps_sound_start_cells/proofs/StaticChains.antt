@@ -38,7 +38,7 @@ use Rattle.store_domain_sound.specs.Scalars.{signed_in}
 use Rattle.store_domain_sound.proofs.Frames.{IsAlike}
 use Rattle.store_domain_sound_programs.specs.Premises.{HasPremises}
 use Rattle.store_domain_sound_programs.proofs.Sizes.{same_bytes}
-use Rattle.abstract_steps_sound.proofs.NearScalars.{IsNearScalar, near_scalar_stands}
+use Rattle.abstract_steps_sound_spelling.proofs.NearScalars.{IsNearScalar, near_scalar_stands}
 use Rattle.abstract_steps_sound_memory.proofs.ScalarClasses.{class_pair}
 use Rattle.store_domain_sound.proofs.FreshValues.{type_near}
 use Rattle.abstract_steps_sound_start_cells.specs.StaticObjects.{IsValueOf}

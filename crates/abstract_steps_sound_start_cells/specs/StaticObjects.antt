@@ -30,8 +30,8 @@ use Rattle.lib_models_effects.specs.UnitStarts.{base_instance, all_stored}
 use Rattle.store_domain_meaning.specs.ValueMeaning.{Naming}
 use Rattle.store_domain_meaning.specs.SoundMemory.{IsMemoryOf, AreEntered}
 use Rattle.store_domain_sound_programs.specs.Premises.{HasPremises}
-use Rattle.store_domain_sound_regions.specs.RegionWrites.{StandsBase}
-use Rattle.abstract_steps_sound.specs.SoundSteps.{AreShort}
+use Rattle.abstract_steps_sound_spelling.specs.RegionWrites.{StandsBase}
+use Rattle.abstract_steps_sound_spelling.specs.SoundSteps.{AreShort}
 use Rattle.abstract_steps_sound_spelling.specs.SpellSteps.{SpellsBytes}
 
 module _ (u : UnitView) (flow : Flow) (naming : Naming) (memory : Memory) where

@@ -24,7 +24,7 @@ use Rattle.store_domain.specs.CellReads.{whole_range}
 use Rattle.store_domain.specs.NearValues.{near_value}
 use Rattle.store_domain.specs.RowPositions.{leaf_position, value_in, value_at, put_value}
 use Rattle.store_domain.specs.ScalarTypes.{kind_of}
-use Rattle.abstract_steps.specs.StartRows.{put_parameter}
+use Rattle.abstract_steps_sound_start_cells.specs.StartRows.{put_parameter}
 use Rattle.lib_models_memory.specs.ScalarSizes.{is_pointer, class_bytes}
 use Rattle.lib_models_memory.specs.Bytes.{Byte}
 use Rattle.lib_models_memory.specs.Instances.{Memory, bytes_at, byte_at}
@@ -44,7 +44,7 @@ use Rattle.store_domain_sound_chars.proofs.ByteValues.{number_within}
 use Rattle.store_domain_sound_programs.specs.Premises.{HasPremises}
 use Rattle.store_domain_sound_programs.proofs.Sizes.{same_bytes}
 use Rattle.store_domain_sound_regions.specs.RegionWrites.{StandsBase}
-use Rattle.abstract_steps_sound.proofs.NearScalars.{near_number_stands}
+use Rattle.abstract_steps_sound_start_cells.proofs.NearScalars.{near_number_stands}
 use Rattle.abstract_steps_sound_starts.specs.Parameters.{IsParameterObject, ParametersStand}
 
 same_least : (a b : IntType) → a.bytes ≡ b.bytes → a.signed ≡ b.signed → least_of a ≡ least_of b

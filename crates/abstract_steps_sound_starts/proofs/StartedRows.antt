@@ -29,7 +29,7 @@ use Rattle.store_domain.specs.ObjectLives.{at_base, clear_object, clear}
 use Rattle.store_domain.specs.RowPositions.{leaf_position, zero_position, state_position, cell_at, put_value, put_state}
 use Rattle.store_domain.specs.Spelling.{spell_object, spell}
 use Rattle.store_domain.specs.Walks.{walk, turns}
-use Rattle.abstract_steps.specs.StartRows.{no_value, empty_state, empty_base, empty_base_at, empty_bases, empty_row, store_at, start_stores, start_value, start_object, object_at, start_objects, put_parameter, start_parameter, parameter_at, start_parameters, started, start_row}
+use Rattle.abstract_steps_sound_start_cells.specs.StartRows.{no_value, empty_state, empty_base, empty_base_at, empty_bases, empty_row, store_at, start_stores, start_value, start_object, object_at, start_objects, put_parameter, start_parameter, parameter_at, start_parameters, started, start_row}
 use Rattle.lib_models_memory.specs.Instances.{Memory}
 use Rattle.lib_models_effects.specs.NumberedTables.{empty_table}
 use Rattle.lib_models_effects.specs.Touches.{is_allocated}

@@ -31,7 +31,7 @@ use Rattle.store_domain.specs.RowPositions.{value_at}
 use Rattle.store_domain.specs.Spelling.{written_count, character, spell_object, spell}
 use Rattle.store_domain.specs.Stores.{store}
 use Rattle.store_domain.specs.Walks.{walk}
-use Rattle.abstract_steps.specs.StartRows.{static_class, pointer_into, static_value, store_static, start_store, store_at, start_stores}
+use Rattle.abstract_steps_sound_start_cells.specs.StartRows.{static_class, pointer_into, static_value, store_static, start_store, store_at, start_stores}
 use Rattle.lib_models_memory.specs.Labels.{no_labels}
 use Rattle.lib_models_memory.specs.ScalarSizes.{same_class, class_bytes}
 use Rattle.lib_models_memory.specs.Bytes.{MachinePointer, into, number, Byte}
@@ -66,8 +66,8 @@ use Rattle.store_domain_sound_regions.proofs.BaseRows.{same_base, stands_base}
 use Rattle.store_domain_sound_regions.proofs.ContentRegions.{IsWritten, contents_written, contents_sane, region_content}
 use Rattle.store_domain_sound_programs.specs.Premises.{HasPremises}
 use Rattle.store_domain_sound_programs.proofs.ShapedBases.{all_at}
-use Rattle.abstract_steps_sound.specs.SoundSteps.{AreShort, IsReached}
-use Rattle.abstract_steps_sound.proofs.NearScalars.{near_pointer_stands}
+use Rattle.abstract_steps_sound_start_cells.specs.SoundSteps.{AreShort, IsReached}
+use Rattle.abstract_steps_sound_start_cells.proofs.NearScalars.{near_pointer_stands}
 use Rattle.abstract_steps_sound_start_cells.proofs.BlankRows as blank
 use Rattle.abstract_steps_sound_start_cells.proofs.Clearing.{cleared_stands}
 use Rattle.abstract_steps_sound_start_cells.proofs.FullParts.{parts_full}

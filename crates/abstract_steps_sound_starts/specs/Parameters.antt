@@ -10,7 +10,7 @@ use Rattle.c_layout.specs.declared.shapes.BaseKind.TheVariants.{Automatic}
 use Rattle.flow_program.specs.ModelKinds.{is_int_type}
 use Rattle.flow_program.specs.declared.programs.Flow.{Flow}
 use Rattle.value_domain.specs.declared.row_cells.Cell.{Cell}
-use Rattle.abstract_steps.specs.StartRows.{put_parameter}
+use Rattle.abstract_steps_sound_start_cells.specs.StartRows.{put_parameter}
 use Rattle.lib_models_memory.specs.Labels.{input_labels}
 use Rattle.lib_models_memory.specs.Bytes.{number, Byte}
 use Rattle.lib_models_memory.specs.Instances.{Memory, live, bytes_at, life_at}

@@ -12,7 +12,7 @@ use Rattle.flow_program.specs.declared.programs.InitialValue.{InitialValue}
 use Rattle.flow_program.specs.declared.programs.InitialValue.TheVariants as initial
 use Rattle.flow_program.specs.declared.programs.ParameterInput.{ParameterInput}
 use Rattle.value_domain.specs.declared.row_cells.Cell.{Cell}
-use Rattle.abstract_steps.specs.StartRows.{start_row}
+use Rattle.abstract_steps_sound_start_cells.specs.StartRows.{start_row}
 use Rattle.lib_models_memory.specs.Labels.{no_labels}
 use Rattle.lib_models_memory.specs.Bytes.{number}
 use Rattle.lib_models_memory.specs.Instances.{Memory, bytes_at}
@@ -26,7 +26,7 @@ use Rattle.store_domain_meaning.specs.RowMeaning.{StandsFor}
 use Rattle.store_domain_meaning.specs.SoundMemory.{IsMemoryOf, AreEntered}
 use Rattle.store_domain_meaning.specs.ValueMeaning.{Naming}
 use Rattle.store_domain_sound_programs.specs.Premises.{HasPremises}
-use Rattle.abstract_steps_sound.specs.SoundSteps.{AreShort, StandsBehind}
+use Rattle.abstract_steps_sound_start_cells.specs.SoundSteps.{AreShort, StandsBehind}
 use Rattle.abstract_steps_sound_starts.specs.Literals.{IsLiteralObject}
 use Rattle.abstract_steps_sound_starts.specs.Parameters.{IsParameterObject}
 use Rattle.abstract_steps_sound_start_cells.specs.StaticObjects.{AreStoresOf, IsStaticObject}

@@ -23,7 +23,7 @@ use Rattle.abstract_steps_checks.specs.LibraryArguments.{argument_violations, wi
 use Rattle.abstract_steps_checks.specs.Touches.{is_nowhere}
 use Rattle.abstract_steps_checks.specs.ViolationSets.{violates}
 use Rattle.abstract_steps_checks.specs.declared.library_arguments.Argument.{Argument}
-use Rattle.abstract_steps_library.specs.Outputs.{has_place, placed}
+use Rattle.abstract_steps_sound_calls.specs.Outputs.{has_place, placed}
 use Rattle.lib_models_memory.specs.Bytes.{MachinePointer, null, into}
 use Rattle.lib_models_memory.specs.Instances.{Life, live, ended, freed, bytes_at, life_at}
 use Rattle.lib_models_memory.specs.Scalars.{pointer}

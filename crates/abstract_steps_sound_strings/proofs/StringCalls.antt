@@ -28,17 +28,17 @@ use Rattle.store_domain.specs.ScalarTypes.{kind_of}
 use Rattle.abstract_steps_checks.specs.ViolationSets.{no_violations, violates}
 use Rattle.abstract_steps_checks.specs.declared.library_arguments.Argument.{Argument}
 use Rattle.abstract_steps_checks.specs.declared.string_scans.Scanned.{Scanned}
-use Rattle.abstract_steps_library.specs.Arguments.{argument_value, value_of_argument}
-use Rattle.abstract_steps_library.specs.Calls.{Call}
-use Rattle.abstract_steps_library.specs.Outputs.{argument_at, scan_at, scan_violations, given_trail, scanned_trail, length_of, plan_strlen, plan_puts, plan_strcmp}
-use Rattle.abstract_steps_library.specs.Planning.{plan_call}
-use Rattle.abstract_steps_library.specs.Plans.{planned, trail_of, checked}
+use Rattle.abstract_steps_sound_calls.specs.Arguments.{argument_value, value_of_argument}
+use Rattle.abstract_steps_sound_calls.specs.Calls.{Call}
+use Rattle.abstract_steps_sound_calls.specs.Outputs.{argument_at, scan_at, scan_violations, given_trail, scanned_trail, length_of, plan_strlen, plan_puts, plan_strcmp}
+use Rattle.abstract_steps_sound_calls.specs.Planning.{plan_call}
+use Rattle.abstract_steps_sound_calls.specs.Plans.{planned, trail_of, checked}
 use Rattle.abstract_steps_library_plans.specs.declared.call_plans.Effect.TheVariants as effect
 use Rattle.abstract_steps_library_plans.specs.declared.call_plans.Plan.{Plan}
 use Rattle.abstract_steps_library_plans.specs.declared.call_plans.Trail.{Trail}
-use Rattle.abstract_steps_instructions.specs.CallSteps.{call_of, call_step}
-use Rattle.abstract_steps_instructions.specs.StepViolations.{operation_violations}
-use Rattle.abstract_steps_instructions.specs.Steps.{operate}
+use Rattle.abstract_steps_sound_calls.specs.CallSteps.{call_of, call_step}
+use Rattle.abstract_steps_sound_calls.specs.StepViolations.{operation_violations}
+use Rattle.abstract_steps_sound_calls.specs.Steps.{operate}
 use Rattle.lib_models_memory.specs.Labels.{no_labels}
 use Rattle.lib_models_memory.specs.Bytes.{MachinePointer, into}
 use Rattle.lib_models_memory.specs.Instances.{live, bytes_at, life_at}

@@ -5,7 +5,7 @@ use Rattle.cc_base.specs.declared.diagnostics.Rule.{Rule}
 use Rattle.cc_base.specs.declared.diagnostics.Rule.TheVariants.{Accfree, Boolasgn, Chrsgnext, Dblfree, Diverr, Insufmem, Intoflow, Invptr, Libptr, Nonnullcs, Nullref, Ptrobj, Sizeofptr, Strmod, Swtchdflt, Taintsink, Uninitref, Xfree}
 use Rattle.abstract_steps_checks.specs.ViolationSets.{violations_union, violates}
 use Rattle.abstract_steps_checks.specs.declared.violation_sets.Violations.{Violations}
-use Rattle.abstract_steps_library.specs.Plans.{checked}
+use Rattle.abstract_steps_sound_calls.specs.Plans.{checked}
 use Rattle.abstract_steps_library_plans.specs.declared.call_plans.Trail.{Trail}
 use Rattle.abstract_steps_laws_values.proofs.ViolationOrder.{same_below, union_left}
 

@@ -23,7 +23,7 @@ use Rattle.value_domain_laws.proofs.Numbers.{met_has, bounds_have, of_range_stan
 use Rattle.store_domain.specs.ClassNumbers.{is_pointer}
 use Rattle.store_domain.specs.RowPositions.{leaf_position, value_at, put_value}
 use Rattle.store_domain.specs.ScalarTypes.{kind_of}
-use Rattle.abstract_steps.specs.Refinements.{position_of, value_of_object, side_value, labelled_number, with_number, put_case, refine_value, refine_case_at, refine_case}
+use Rattle.abstract_steps_sound_edges.specs.Refinements.{position_of, value_of_object, side_value, labelled_number, with_number, put_case, refine_value, refine_case_at, refine_case}
 use Rattle.abstract_steps_checks.specs.ViolationSets.{no_violations}
 use Rattle.lib_models_memory.specs.Labels.{Labels, no_labels}
 use Rattle.lib_models_memory.specs.ScalarSizes.{class_bytes}
@@ -42,12 +42,12 @@ use Rattle.store_domain_meaning.specs.RowMeaning.{StandsFor}
 use Rattle.store_domain_meaning.specs.Coverage.{state_of}
 use Rattle.store_domain_sound.proofs.LoadSound.{instance_there}
 use Rattle.store_domain_sound_programs.specs.Premises.{HasPremises}
-use Rattle.abstract_steps_sound.specs.SoundSteps.{IsReached, StandsBehind, IsStoodFor}
-use Rattle.abstract_steps_sound.proofs.Admitted.{none_admitted, same_admitted}
-use Rattle.abstract_steps_sound.proofs.MoveSteps.{near_has}
-use Rattle.abstract_steps_sound.proofs.NearScalars.{IsNearNumber}
-use Rattle.abstract_steps_sound.proofs.Replies.{clean_stop_good, if_some_good}
-use Rattle.abstract_steps_sound.proofs.TypeRanges.{bounds_some}
+use Rattle.abstract_steps_sound_objects.specs.SoundSteps.{IsReached, StandsBehind, IsStoodFor}
+use Rattle.abstract_steps_sound_objects.proofs.Admitted.{none_admitted, same_admitted}
+use Rattle.abstract_steps_sound_objects.proofs.MoveSteps.{near_has}
+use Rattle.abstract_steps_sound_objects.proofs.NearScalars.{IsNearNumber}
+use Rattle.abstract_steps_sound_objects.proofs.Replies.{clean_stop_good, if_some_good}
+use Rattle.abstract_steps_sound_objects.proofs.TypeRanges.{bounds_some}
 use Rattle.abstract_steps_sound_tests.specs.ScalarObjects.{IsScalarObject, IsCaseObject}
 use Rattle.abstract_steps_sound_tests.proofs.Relabelling.{IsRelabelling, set_relabels}
 use Rattle.abstract_steps_sound_tests.proofs.ScalarCells.{object_numbers, size_is, relabelled_stands}

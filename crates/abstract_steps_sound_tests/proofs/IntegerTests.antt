@@ -8,7 +8,7 @@ use Rattle.cc_base.specs.IntegerLaws.{SoundLaws}
 use Rattle.flow_program.specs.declared.flow_edges.Test.{Test}
 use Rattle.flow_program.specs.declared.programs.Flow.{Flow}
 use Rattle.value_domain.specs.declared.row_cells.Cell.{Cell}
-use Rattle.abstract_steps.specs.Refinements.{is_same_object, refine_in, refine}
+use Rattle.abstract_steps_sound_edges.specs.Refinements.{is_same_object, refine_in, refine}
 use Rattle.abstract_steps_checks.specs.ViolationSets.{no_violations}
 use Rattle.lib_models_effects.specs.Tests as machine
 use Rattle.flow_program_machine.specs.FlowStates.{Standing}
@@ -16,7 +16,7 @@ use Rattle.flow_program_machine.specs.FlowEdges.{with_side, in_world, testing}
 use Rattle.flow_program_views.specs.ProgramViews.{flow_view}
 use Rattle.store_domain_meaning.specs.ValueMeaning.{Naming}
 use Rattle.store_domain_sound_programs.specs.Premises.{HasPremises}
-use Rattle.abstract_steps_sound.specs.SoundSteps.{IsReached, IsStoodFor}
+use Rattle.abstract_steps_sound_objects.specs.SoundSteps.{IsReached, IsStoodFor}
 use Rattle.abstract_steps_sound_tests.specs.ScalarObjects.{IsIntegerTest}
 use Rattle.abstract_steps_sound_tests.proofs.TestSides.{side_good, sides_good}
 use Rattle.abstract_steps_sound_tests.proofs.SameObject.{same_object_good}

@@ -9,3 +9,5 @@ pub mod PointerTests
 pub mod NullTests
 pub use Rattle.abstract_steps_sound_edges.proofs.EdgeSteps
 pub use Rattle.abstract_steps_sound_edges.proofs.TakenEdges
+pub use Rattle.abstract_steps_sound_edges.proofs.Blocks
+pub use Rattle.abstract_steps_sound_edges.proofs.Covering

@@ -24,7 +24,7 @@ use Rattle.value_domain.specs.declared.row_cells.Cell.TheVariants.{Nothing, Valu
 use Rattle.store_domain.specs.ClassNumbers.{is_pointer}
 use Rattle.store_domain.specs.NearValues.{near_pointer, near_value}
 use Rattle.store_domain.specs.RowPositions.{leaf_position, zero_position, cell_at, value_in, value_at, zero_at, put_value}
-use Rattle.abstract_steps.specs.Refinements.{position_of, named_by, not_null, tested_value, refine_pointer_at, refine_pointer, refine_named, refine_in, refine}
+use Rattle.abstract_steps_sound_edges.specs.Refinements.{position_of, named_by, not_null, tested_value, refine_pointer_at, refine_pointer, refine_named, refine_in, refine}
 use Rattle.abstract_steps_checks.specs.ViolationSets.{no_violations}
 use Rattle.lib_models_memory.specs.ScalarSizes.{class_bytes}
 use Rattle.lib_models_memory.specs.Bytes.{MachinePointer, null, into, Content, indeterminate, number, part, Byte}
@@ -49,11 +49,11 @@ use Rattle.store_domain_sound.proofs.Slices.{get_there, get_map, get_take, get_s
 use Rattle.store_domain_sound.proofs.StoreRows.{leaf_is, zero_is}
 use Rattle.store_domain_sound.proofs.StoreValues.{same_zero}
 use Rattle.store_domain_sound_programs.specs.Premises.{HasPremises}
-use Rattle.abstract_steps_sound.specs.SoundSteps.{IsReached, StandsBehind, IsStoodFor}
-use Rattle.abstract_steps_sound.proofs.Admitted.{none_admitted, same_admitted}
-use Rattle.abstract_steps_sound.proofs.NearScalars.{near_pointer_stands}
-use Rattle.abstract_steps_sound.proofs.PartSteps.{declared_storage}
-use Rattle.abstract_steps_sound.proofs.Replies.{clean_stop_good, if_some_good}
+use Rattle.abstract_steps_sound_objects.specs.SoundSteps.{IsReached, StandsBehind, IsStoodFor}
+use Rattle.abstract_steps_sound_objects.proofs.Admitted.{none_admitted, same_admitted}
+use Rattle.abstract_steps_sound_objects.proofs.NearScalars.{near_pointer_stands}
+use Rattle.abstract_steps_sound_objects.proofs.PartSteps.{declared_storage}
+use Rattle.abstract_steps_sound_objects.proofs.Replies.{clean_stop_good, if_some_good}
 use Rattle.abstract_steps_sound_objects.proofs.ObjectRows.{own_instance, object_stands}
 use Rattle.abstract_steps_sound_tests.specs.ScalarObjects.{IsScalarObject, IsNullTest}
 use Rattle.abstract_steps_sound_tests.proofs.Relabelling.{stays_rewrite}

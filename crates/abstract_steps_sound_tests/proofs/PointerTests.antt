@@ -8,7 +8,7 @@ use Rattle.flow_program.specs.declared.flow_edges.Side.TheVariants as side
 use Rattle.flow_program.specs.declared.flow_edges.Test.{Test}
 use Rattle.flow_program.specs.declared.programs.Flow.{Flow}
 use Rattle.value_domain.specs.declared.row_cells.Cell.{Cell}
-use Rattle.abstract_steps.specs.Refinements.{refine_named, refine_in, refine}
+use Rattle.abstract_steps_sound_edges.specs.Refinements.{refine_named, refine_in, refine}
 use Rattle.abstract_steps_checks.specs.ViolationSets.{no_violations}
 use Rattle.lib_models_effects.specs.Tests as machine
 use Rattle.lib_models_effects.specs.Tests.{TestedSide, SideTest, object, constant, nothing, test_holds, passing}
@@ -17,9 +17,9 @@ use Rattle.flow_program_machine.specs.FlowStates.{Standing}
 use Rattle.flow_program_machine.specs.FlowEdges.{with_side, in_world, testing}
 use Rattle.flow_program_views.specs.ProgramViews.{flow_view}
 use Rattle.store_domain_meaning.specs.ValueMeaning.{Naming}
-use Rattle.abstract_steps_sound.specs.SoundSteps.{IsReached, StandsBehind, IsStoodFor}
-use Rattle.abstract_steps_sound.proofs.Admitted.{none_admitted, same_admitted}
-use Rattle.abstract_steps_sound.proofs.Replies.{clean_stop_good, if_some_good}
+use Rattle.abstract_steps_sound_objects.specs.SoundSteps.{IsReached, StandsBehind, IsStoodFor}
+use Rattle.abstract_steps_sound_objects.proofs.Admitted.{none_admitted, same_admitted}
+use Rattle.abstract_steps_sound_objects.proofs.Replies.{clean_stop_good, if_some_good}
 use Rattle.abstract_steps_sound_tests.specs.ScalarObjects.{IsPointerTest}
 
 module _ {I : Type 0} {l : LatticeOf I} {n : IntegersOf I} {stands : I → ℤ → Type 0} (flow : Flow) (naming : Naming) (row : List (Cell I)) (s : Standing) (r : IsReached l n stands flow naming row s) where

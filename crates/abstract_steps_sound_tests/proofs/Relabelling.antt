@@ -13,7 +13,7 @@ use Rattle.value_domain.specs.LabelSets as set
 use Rattle.value_domain.specs.declared.label_sets.Labels as sets
 use Rattle.value_domain_laws.proofs.Flags.{same_flag}
 use Rattle.value_domain_laws.proofs.LabelRules.{dropped_monotone}
-use Rattle.abstract_steps.specs.Refinements.{refined_labels}
+use Rattle.abstract_steps_sound_edges.specs.Refinements.{refined_labels}
 use Rattle.lib_models_memory.specs.Labels.{Labels, is_unlabelled, dropped_labels}
 use Rattle.lib_models_memory.specs.Bytes.{Content, indeterminate, number, part, Byte}
 use Rattle.lib_models_memory.specs.Instances.{Memory, Instance, bytes_at, bytes_of, byte_at}

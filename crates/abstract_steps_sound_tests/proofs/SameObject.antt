@@ -27,7 +27,7 @@ use Rattle.value_domain.specs.declared.row_cells.Cell.{Cell}
 use Rattle.value_domain_laws.proofs.Numbers.{met_has, bounds_have, of_range_stands}
 use Rattle.store_domain.specs.RowPositions.{leaf_position, value_at, put_value}
 use Rattle.store_domain.specs.ScalarTypes.{kind_of}
-use Rattle.abstract_steps.specs.Refinements.{position_of, mirrored, is_same_object, common_labels, value_of_object, side_value, refined, put_at, put_side, met_number, met, refine_one, refine_sides, refine_values, refine_integers, refine_in}
+use Rattle.abstract_steps_sound_edges.specs.Refinements.{position_of, mirrored, is_same_object, common_labels, value_of_object, side_value, refined, put_at, put_side, met_number, met, refine_one, refine_sides, refine_values, refine_integers, refine_in}
 use Rattle.abstract_steps_checks.specs.ViolationSets.{no_violations}
 use Rattle.lib_models_memory.specs.Labels.{Labels, is_unlabelled}
 use Rattle.lib_models_memory.specs.Instances.{Memory, live, bytes_at, bytes_of, life_at}
@@ -47,12 +47,12 @@ use Rattle.store_domain_meaning.specs.SeenLabels.{as_set}
 use Rattle.store_domain_sound.specs.Scalars.{signed_in}
 use Rattle.store_domain_sound.proofs.LoadSound.{instance_there}
 use Rattle.store_domain_sound_programs.specs.Premises.{HasPremises}
-use Rattle.abstract_steps_sound.specs.SoundSteps.{IsReached, StandsBehind, IsStoodFor}
-use Rattle.abstract_steps_sound.proofs.Admitted.{none_admitted, same_admitted}
-use Rattle.abstract_steps_sound.proofs.MoveSteps.{near_has}
-use Rattle.abstract_steps_sound.proofs.NearScalars.{IsNearNumber}
-use Rattle.abstract_steps_sound.proofs.Replies.{clean_stop_good}
-use Rattle.abstract_steps_sound.proofs.TypeRanges.{bounds_some}
+use Rattle.abstract_steps_sound_objects.specs.SoundSteps.{IsReached, StandsBehind, IsStoodFor}
+use Rattle.abstract_steps_sound_objects.proofs.Admitted.{none_admitted, same_admitted}
+use Rattle.abstract_steps_sound_objects.proofs.MoveSteps.{near_has}
+use Rattle.abstract_steps_sound_objects.proofs.NearScalars.{IsNearNumber}
+use Rattle.abstract_steps_sound_objects.proofs.Replies.{clean_stop_good}
+use Rattle.abstract_steps_sound_objects.proofs.TypeRanges.{bounds_some}
 use Rattle.abstract_steps_sound_tests.proofs.Relabelling.{IsRelabelling, side_change, change_below, change_drops, bounded_relabels, relabellings_follow}
 use Rattle.abstract_steps_sound_tests.proofs.ScalarCells.{object_numbers, size_is, relabelled_stands}
 use Rattle.abstract_steps_sound_tests.proofs.TestSides.{side_good}

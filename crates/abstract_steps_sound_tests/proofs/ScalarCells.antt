@@ -46,8 +46,8 @@ use Rattle.store_domain_sound.proofs.StoreRows.{leaf_is, zero_is}
 use Rattle.store_domain_sound.proofs.StoreValues.{same_zero}
 use Rattle.store_domain_sound.proofs.TagPlaces.{is_tagged}
 use Rattle.store_domain_sound_programs.specs.Premises.{HasPremises}
-use Rattle.abstract_steps_sound.proofs.NearScalars.{IsNearNumber, near_number_stands, near_pointer_stands}
-use Rattle.abstract_steps_sound.proofs.PartSteps.{declared_storage}
+use Rattle.abstract_steps_sound_objects.proofs.NearScalars.{IsNearNumber, near_number_stands, near_pointer_stands}
+use Rattle.abstract_steps_sound_objects.proofs.PartSteps.{declared_storage}
 use Rattle.abstract_steps_sound_tests.specs.ScalarObjects.{IsScalarObject}
 use Rattle.abstract_steps_sound_objects.proofs.Rewrites.{IsRewrite, rewrite_sane}
 use Rattle.abstract_steps_sound_objects.proofs.ObjectRows.{own_instance, object_stands}

@@ -20,7 +20,7 @@ use Rattle.value_domain.specs.declared.values.Value as values
 use Rattle.value_domain.specs.declared.row_cells.Cell.{Cell}
 use Rattle.store_domain.specs.RowPositions.{leaf_position, put_value}
 use Rattle.store_domain.specs.ScalarTypes.{kind_of}
-use Rattle.abstract_steps.specs.Refinements.{position_of, mirrored, is_same_object, value_of_object, side_value, refined, put_at, put_side, has_number, met, refine_one, refine_two, refine_sides, refine_values, refine_integers, refine_in}
+use Rattle.abstract_steps_sound_edges.specs.Refinements.{position_of, mirrored, is_same_object, value_of_object, side_value, refined, put_at, put_side, has_number, met, refine_one, refine_two, refine_sides, refine_values, refine_integers, refine_in}
 use Rattle.abstract_steps_checks.specs.ViolationSets.{no_violations}
 use Rattle.lib_models_memory.specs.Labels.{Labels, is_unlabelled}
 use Rattle.lib_models_memory.specs.Instances.{Memory, bytes_at}
@@ -35,11 +35,11 @@ use Rattle.store_domain_meaning.specs.ValueMeaning.{Naming}
 use Rattle.store_domain_meaning.specs.RowMeaning.{StandsFor}
 use Rattle.store_domain_meaning.specs.SeenLabels.{as_set}
 use Rattle.store_domain_sound_programs.specs.Premises.{HasPremises}
-use Rattle.abstract_steps_sound.specs.SoundSteps.{IsReached, StandsBehind, IsStoodFor}
-use Rattle.abstract_steps_sound.proofs.Admitted.{none_admitted, same_admitted}
-use Rattle.abstract_steps_sound.proofs.NearScalars.{near_number_stands}
-use Rattle.abstract_steps_sound.proofs.Replies.{clean_stop_good, if_some_good}
-use Rattle.abstract_steps_sound.proofs.TypeRanges.{bounds_some}
+use Rattle.abstract_steps_sound_objects.specs.SoundSteps.{IsReached, StandsBehind, IsStoodFor}
+use Rattle.abstract_steps_sound_objects.proofs.Admitted.{none_admitted, same_admitted}
+use Rattle.abstract_steps_sound_objects.proofs.NearScalars.{near_number_stands}
+use Rattle.abstract_steps_sound_objects.proofs.Replies.{clean_stop_good, if_some_good}
+use Rattle.abstract_steps_sound_objects.proofs.TypeRanges.{bounds_some}
 use Rattle.abstract_steps_sound_edges.proofs.EdgeSteps.{is_near}
 use Rattle.abstract_steps_sound_tests.specs.ScalarObjects.{IsScalarObject, NamesScalar}
 use Rattle.abstract_steps_sound_tests.proofs.TestSteps.{mirrored_holds, turned_is, both_integers, refined_stands, HasSide, object_has, object_changed, others_stay, values_stay, object_long, object_lengths}

@@ -27,7 +27,7 @@ use Rattle.value_domain.specs.declared.row_cells.Cell.{Cell}
 use Rattle.value_domain_laws.proofs.ValueStands.{value_meaning}
 use Rattle.store_domain.specs.NearValues.{near_value}
 use Rattle.store_domain.specs.RowPositions.{leaf_position, value_in, value_at, put_value}
-use Rattle.abstract_steps.specs.Refinements.{position_of, mirrored, value_of_object, side_value, fits, refined}
+use Rattle.abstract_steps_sound_edges.specs.Refinements.{position_of, mirrored, value_of_object, side_value, fits, refined}
 use Rattle.lib_models_memory.specs.Labels.{Labels, is_unlabelled}
 use Rattle.lib_models_memory.specs.Instances.{Memory, live, life_at, bytes_of, bytes_at, byte_at}
 use Rattle.lib_models_memory.specs.Scalars.{Scalar, integer, pointer}
@@ -57,9 +57,9 @@ use Rattle.store_domain_sound.proofs.Rereading.{halves}
 use Rattle.store_domain_sound.proofs.Slices.{get_take, get_set_other}
 use Rattle.store_domain_sound.proofs.StoreRows.{leaf_is}
 use Rattle.store_domain_sound.proofs.StoreZeros.{same_slices}
-use Rattle.abstract_steps_sound.proofs.MoveSteps.{near_has}
-use Rattle.abstract_steps_sound.proofs.NearScalars.{IsNearNumber}
-use Rattle.abstract_steps_sound.proofs.TypeRanges.{le_from}
+use Rattle.abstract_steps_sound_objects.proofs.MoveSteps.{near_has}
+use Rattle.abstract_steps_sound_objects.proofs.NearScalars.{IsNearNumber}
+use Rattle.abstract_steps_sound_objects.proofs.TypeRanges.{le_from}
 use Rattle.abstract_steps_sound_tests.proofs.Relabelling.{IsRelabelling, side_change, change_below, joined_below, bounded_relabels}
 use Rattle.abstract_steps_sound_tests.proofs.ScalarCells.{ObjectNumbers, object_numbers, byte_stands, size_is, relabelled_stands}
 use Rattle.abstract_steps_sound_tests.specs.ScalarObjects.{IsScalarObject}

@@ -9,3 +9,9 @@ pub mod TextSteps
 pub use Rattle.abstract_steps_sound_fills.proofs.Targets
 pub use Rattle.abstract_steps_sound_fills.proofs.WriteCalls
 pub use Rattle.abstract_steps_sound_fills.proofs.FillCalls
+pub use Rattle.abstract_steps_sound_fills.proofs.Calls
+pub use Rattle.abstract_steps_sound_fills.proofs.GivenPointers
+pub use Rattle.abstract_steps_sound_fills.proofs.ScannedTexts
+pub use Rattle.abstract_steps_sound_fills.proofs.Trails
+pub use Rattle.abstract_steps_sound_fills.proofs.Scans
+pub use Rattle.abstract_steps_sound_fills.proofs.StringCalls

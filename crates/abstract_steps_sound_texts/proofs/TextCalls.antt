@@ -30,7 +30,7 @@ use Rattle.abstract_steps_library_plans.specs.declared.call_plans.Effect.TheVari
 use Rattle.abstract_steps_library_plans.specs.declared.call_plans.Plan.{Plan}
 use Rattle.abstract_steps_library_plans.specs.declared.call_plans.Trail.{Trail}
 use Rattle.abstract_steps_library.specs.declared.memory_calls.Target.{Target}
-use Rattle.abstract_steps_instructions.specs.CallSteps.{call_of}
+use Rattle.abstract_steps_sound_fills.specs.CallSteps.{call_of}
 use Rattle.lib_models_memory.specs.Labels.{Labels}
 use Rattle.lib_models_memory.specs.Bytes.{MachinePointer, into, Content, number, Byte}
 use Rattle.lib_models_memory.specs.Instances.{Memory, live, bytes_at, byte_at, life_at}
@@ -57,9 +57,9 @@ use Rattle.store_domain_sound_programs.specs.Premises.{HasPremises}
 use Rattle.store_domain_sound_regions.specs.RegionWrites.{IsRegion}
 use Rattle.store_domain_sound_regions.proofs.ContentRegions.{IsWritten, contents_written, contents_sane, region_content}
 use Rattle.store_domain_sound_regions.proofs.Regions.{alike_region}
-use Rattle.abstract_steps_sound.specs.SoundSteps.{IsReached}
-use Rattle.abstract_steps_sound.proofs.Admitted.{AreAdmitted}
-use Rattle.abstract_steps_sound.proofs.PutTemps.{IsResult}
+use Rattle.abstract_steps_sound_fills.specs.SoundSteps.{IsReached}
+use Rattle.abstract_steps_sound_fills.proofs.Admitted.{AreAdmitted}
+use Rattle.abstract_steps_sound_fills.proofs.PutTemps.{IsResult}
 use Rattle.abstract_steps_sound_fills.proofs.Calls.{clean}
 use Rattle.abstract_steps_sound_fills.proofs.GivenPointers.{reach_of}
 use Rattle.abstract_steps_sound_fills.proofs.Trails.{still_told, told_here, goes_further}

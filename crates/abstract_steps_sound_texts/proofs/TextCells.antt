@@ -41,7 +41,7 @@ use Rattle.store_domain_sound_regions.specs.RegionWrites.{IsRegion}
 use Rattle.store_domain_sound_regions.proofs.Regions.{cell_rewritten, cell_numbers}
 use Rattle.store_domain_sound_regions.proofs.ByteRegions.{leaf_missed, char_missed}
 use Rattle.abstract_steps_sound_texts.specs.TextWrites.{IsTextWrite}
-use Rattle.abstract_steps_sound.proofs.NearScalars.{near_number_stands, near_scalar_stands}
+use Rattle.abstract_steps_sound_fills.proofs.NearScalars.{near_number_stands, near_scalar_stands}
 
 one_list : (ns : List Labelled) → length ns ≡ 1 → (y : Labelled) × (ns ≡ y ∷ [])
 one_list [] e = cc

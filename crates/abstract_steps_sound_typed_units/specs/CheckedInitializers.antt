@@ -5,7 +5,7 @@ use Rattle.c_layout.specs.declared.data_model.Model.{Model}
 use Rattle.c_layout.specs.CheckedUnits.{UnitView}
 use Rattle.c_layout.specs.DeclarationTrees.{ExternalTree}
 use Rattle.c_layout.specs.Models.{is_model}
-use Rattle.c_types.specs.UnitChecks.{check}
+use Rattle.c_types_laws_units.specs.UnitChecks.{check}
 use Rattle.flow_lower_objects.specs.PlainObjects.{has_plain_objects}
 use Rattle.store_domain_laws_layouts.specs.LaidApart.{are_laid_apart}
 use Rattle.struct_nesting.specs.OrderedStructs.{are_ordered}

@@ -10,7 +10,7 @@ use Rattle.flow_program.specs.declared.programs.Flow.{Flow}
 use Rattle.flow_program_views.specs.ProgramViews.{FlowView, flow_view}
 use Rattle.store_domain_laws_layouts.specs.LaidApart.{are_laid_apart}
 use Rattle.struct_nesting.specs.OrderedStructs.{are_ordered}
-use Rattle.flow_analysis.specs.Analyses.{IsAnalysis}
+use Rattle.abstract_steps_sound_analyses.specs.Analyses.{IsAnalysis}
 use Rattle.turn_split.specs.Turns.{split}
 use Rattle.abstract_steps_sound_checked_starts.proofs.CheckedStarts.{HaveSoundStructs, sound_structs, unit_starts}
 use Rattle.abstract_steps_sound_units.specs.CheckedUnits.{FindsPairsOfChecked}

@@ -1,6 +1,6 @@
 -- All premises hold of the worked program, and each analysis of it finds what its run violates.
 use Rattle.flow_program.specs.declared.programs.Flow.{Flow}
-use Rattle.abstract_steps_laws_own_starts.specs.CutStarts.{type_list}
+use Rattle.abstract_steps_sound_entries.specs.CutStarts.{type_list}
 use Rattle.abstract_steps_sound_units.specs.WorkedPrograms.{MeetsAllPremises, IsFoundIn}
 use Rattle.abstract_steps_sound_units.proofs.SoundUnits.{units_found}
 use Rattle.abstract_steps_sound_units.proofs.WorkedProgram.{program, unit, regular, started, checked, starts, violation, violated}

@@ -2,10 +2,10 @@
 use Rattle.std.specs.Prelude.{ℤ, List}
 use Rattle.cc_base.specs.declared.diagnostics.Diag.{Diag}
 use Rattle.flow_program.specs.declared.programs.Flow.{Flow}
-use Rattle.flow_analysis.specs.Analyses.{IsAnalysis}
+use Rattle.abstract_steps_sound_analyses.specs.Analyses.{IsAnalysis}
 use Rattle.abstract_steps_sound_analyses.proofs.FoundRuns.{finds_each_pair}
 use Rattle.abstract_steps_sound_entries.proofs.EntryRows.{entry_stands}
-use Rattle.abstract_steps_sound_lowered_starts.proofs.LoweredStarts.{lowered_starts}
+use Rattle.abstract_steps_sound_checked_starts.proofs.LoweredStarts.{lowered_starts}
 use Rattle.abstract_steps_sound_units.specs.SoundUnits.{FindsPairsOfUnits, FindsPairsOfLowered}
 
 module _ (flow : Flow) (list : List ℤ) (found : List Diag) (a : IsAnalysis flow list found) where

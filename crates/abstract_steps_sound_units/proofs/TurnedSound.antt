@@ -13,13 +13,13 @@ use Rattle.flow_program_views.specs.ProgramViews.{FlowView, flow_view}
 use Rattle.flow_program_machine.specs.FlowStates.{FlowRun, running, stopped, found_in}
 use Rattle.flow_program_machine.specs.FlowSteps.{flow_steps}
 use Rattle.flow_program_machine.specs.FlowStarts.{flow_begin}
-use Rattle.flow_analysis.specs.Analyses.{IsAnalysis}
+use Rattle.abstract_steps_sound_analyses.specs.Analyses.{IsAnalysis}
 use Rattle.turn_split.specs.Turns.{split}
 use Rattle.turn_split_runs.specs.SameRuns.{SameRun}
 use Rattle.turn_split_runs.proofs.LinkedPrograms.{linked}
 use Rattle.turn_split_runs.proofs.SameSteps.{runs_same}
 use Rattle.abstract_steps_sound_analyses.specs.SoundAnalyses.{IsViolatedIn}
-use Rattle.abstract_steps_sound_lowered_starts.specs.UnitStarts.{StartsAs, AreShared, AreInputs, IsBaseOf}
+use Rattle.abstract_steps_sound_checked_starts.specs.UnitStarts.{StartsAs, AreShared, AreInputs, IsBaseOf}
 use Rattle.abstract_steps_sound_units.specs.SoundUnits.{FindsPairsOf}
 use Rattle.abstract_steps_sound_units.proofs.SoundUnits.{units_found}
 

@@ -45,11 +45,11 @@ use Rattle.interval_domain.specs.IntervalNumbers.{interval_numbers}
 use Rattle.lib_models_effects.specs.Worlds.{Violation}
 use Rattle.abstract_steps.specs.StartRows.{start_value, start_object, start_objects, start_row}
 use Rattle.abstract_steps_system.specs.FlowMachines.{has_start}
-use Rattle.abstract_steps_laws_programs.specs.RegularPrograms.{is_regular}
-use Rattle.flow_analysis.specs.CheckedPrograms.{IsChecked}
-use Rattle.abstract_steps_laws_own_starts.specs.CutStarts.{type_list}
+use Rattle.abstract_steps_sound_checked_starts.specs.RegularPrograms.{is_regular}
+use Rattle.abstract_steps_sound_analyses.specs.CheckedPrograms.{IsChecked}
+use Rattle.abstract_steps_sound_entries.specs.CutStarts.{type_list}
 use Rattle.abstract_steps_sound_analyses.specs.SoundAnalyses.{IsViolatedIn}
-use Rattle.abstract_steps_sound_lowered_starts.specs.UnitStarts.{IsBaseOf, StartsAs}
+use Rattle.abstract_steps_sound_checked_starts.specs.UnitStarts.{IsBaseOf, StartsAs}
 
 none_some : {A : Type 0} (x : A) → None ≡ Some x → ⊥
 none_some x e = cc

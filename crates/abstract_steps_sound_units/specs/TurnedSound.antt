@@ -6,9 +6,9 @@ use Rattle.c_layout.specs.CheckedUnits.{UnitView}
 use Rattle.flow_program.specs.WellFormed.{is_well_formed}
 use Rattle.flow_program.specs.declared.programs.Flow.{Flow}
 use Rattle.flow_program_views.specs.ProgramViews.{flow_view}
-use Rattle.flow_analysis.specs.Analyses.{IsAnalysis}
+use Rattle.abstract_steps_sound_analyses.specs.Analyses.{IsAnalysis}
 use Rattle.turn_split.specs.Turns.{split}
-use Rattle.abstract_steps_sound_lowered_starts.specs.UnitStarts.{StartsAs}
+use Rattle.abstract_steps_sound_checked_starts.specs.UnitStarts.{StartsAs}
 use Rattle.abstract_steps_sound_units.specs.SoundUnits.{FindsPairsOf}
 
 -- of each unit with whose tables the program begins, in its runs without turns unrolled

@@ -10,12 +10,12 @@ use Rattle.interval_domain.specs.IntervalNumbers.{interval_numbers}
 use Rattle.value_domain.specs.declared.row_cells.Cell.{Cell}
 use Rattle.rule_checks_operands.specs.TypedRows.{is_typed_map}
 use Rattle.lib_models_effects.specs.Worlds.{Violation}
-use Rattle.flow_analysis.specs.Analyses.{IsAnalysis}
-use Rattle.flow_analysis.specs.CheckedPrograms.{IsChecked}
+use Rattle.abstract_steps_sound_analyses.specs.Analyses.{IsAnalysis}
+use Rattle.abstract_steps_sound_analyses.specs.CheckedPrograms.{IsChecked}
 use Rattle.abstract_steps_system.specs.FlowMachines.{has_start}
-use Rattle.abstract_steps_laws_programs.specs.RegularPrograms.{is_regular}
+use Rattle.abstract_steps_sound_checked_starts.specs.RegularPrograms.{is_regular}
 use Rattle.abstract_steps_sound_analyses.specs.SoundAnalyses.{IsViolatedIn}
-use Rattle.abstract_steps_sound_lowered_starts.specs.UnitStarts.{StartsAs}
+use Rattle.abstract_steps_sound_checked_starts.specs.UnitStarts.{StartsAs}
 
 -- what an analysis asks of its program, in each map of rows, and that the program begins with what is in the unit's tables
 pub record MeetsAllPremises (flow : Flow) (list : List ℤ) (u : UnitView) : Type 0 where

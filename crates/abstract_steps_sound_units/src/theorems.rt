@@ -3,11 +3,11 @@
 ghost use Rattle.std.specs.Prelude.{ℤ, List};
 ghost use Rattle.cc_base.specs.declared.diagnostics.Diag.{Diag};
 ghost use Rattle.flow_program.specs.declared.programs.Flow.{Flow};
-ghost use Rattle.flow_analysis.specs.Analyses.{IsAnalysis};
+ghost use Rattle.abstract_steps_sound_analyses.specs.Analyses.{IsAnalysis};
 ghost use Rattle.abstract_steps_sound_units.specs.SoundUnits.{FindsPairsOfUnits, FindsPairsOfLowered};
 ghost use Rattle.c_layout.specs.CheckedUnits.{UnitView};
 ghost use Rattle.lib_models_effects.specs.Worlds.{Violation};
-ghost use Rattle.abstract_steps_laws_own_starts.specs.CutStarts.{type_list};
+ghost use Rattle.abstract_steps_sound_entries.specs.CutStarts.{type_list};
 ghost use Rattle.abstract_steps_sound_units.specs.CheckedUnits.{FindsPairsOfChecked, FindsTurnedPairsOfChecked};
 ghost use Rattle.abstract_steps_sound_units.specs.WorkedPrograms.{MeetsAllPremises, IsFoundIn};
 ghost use Rattle.abstract_steps_sound_units.specs.TurnedSound.{FindsTurnedPairs};

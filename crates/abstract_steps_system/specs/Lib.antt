@@ -2,3 +2,9 @@ pub mod BlockPasses
 pub mod FlowMachines
 pub mod SystemChecks
 pub mod FlowLaws
+pub use Rattle.abstract_steps.specs.Edges
+pub use Rattle.abstract_steps.specs.Refinements
+pub use Rattle.abstract_steps_instructions.specs.CallSteps
+pub use Rattle.abstract_steps_instructions.specs.MemorySteps
+pub use Rattle.abstract_steps_instructions.specs.StepViolations
+pub use Rattle.abstract_steps_instructions.specs.Steps

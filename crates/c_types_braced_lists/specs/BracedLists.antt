@@ -9,7 +9,7 @@ use Rattle.c_layout.specs.DeclarationTrees.{InitializerTree, InitializerTrees}
 use Rattle.c_types_scopes.specs.Answers.{after}
 use Rattle.c_types_scopes.specs.Refusals.{Ruled}
 use Rattle.c_types_scopes.specs.States.{State}
-use Rattle.c_types_operands.specs.Operands.{OperandView, is_scalar}
+use Rattle.c_types_expressions.specs.Operands.{OperandView, is_scalar}
 use Rattle.c_types_expressions.specs.Expressions.{typed}
 use Rattle.c_types_initializers.specs.Subobjects.{SubobjectView, OpenView, entered, next, passed}
 use Rattle.c_types_initializers.specs.Literals.{bare_literal, character_room, only_literal}

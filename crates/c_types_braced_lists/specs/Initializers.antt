@@ -9,7 +9,7 @@ use Rattle.c_layout.specs.declared.type_terms.CType.{CType}
 use Rattle.c_types_scopes.specs.Answers.{after, kept}
 use Rattle.c_types_scopes.specs.Refusals.{Ruled}
 use Rattle.c_types_scopes.specs.States.{State}
-use Rattle.c_types_operands.specs.Operands.{OperandView}
+use Rattle.c_types_expressions.specs.Operands.{OperandView}
 use Rattle.c_types_expressions.specs.Expressions.{typed}
 use Rattle.c_types_initializers.specs.Subobjects.{subobject}
 use Rattle.c_types_initializers.specs.Literals.{bare_literal, character_room, only_literal}

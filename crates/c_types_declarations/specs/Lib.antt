@@ -7,3 +7,5 @@ pub mod SpecifierTrees
 pub mod Parameters
 pub mod FunctionHeads
 pub mod Initializers
+pub use Rattle.c_types_initializers.specs.Initialized
+pub use Rattle.c_types_initializers.specs.StaticStores

@@ -13,7 +13,7 @@ use Rattle.c_types_scopes.specs.Answers.{after, kept}
 use Rattle.c_types_scopes.specs.DeclaredTypes.{DeclaredView}
 use Rattle.c_types_scopes.specs.Refusals.{Ruled, type_fault}
 use Rattle.c_types_scopes.specs.States.{State}
-use Rattle.c_types_primary.specs.TypeNames as names
+use Rattle.c_types_expressions.specs.TypeNames as names
 use Rattle.c_types_declarations.specs.Enumerations.{enumeration}
 use Rattle.c_types_declarations.specs.Specifiers.{SpecifiedView, ReadingView, nothing_read, with_struct, with_enumeration, said}
 use Rattle.c_types_declarations.specs.StructBodies.{alone_tag, declared_members, begun_body, ended}

@@ -23,11 +23,11 @@ use Rattle.c_types_statements.specs.LabelNumbers.{labelled, with_labels, with_al
 use Rattle.c_types_statements.specs.LocalDeclarations.{local_declaration}
 use Rattle.c_types_statements.specs.Statements.{items}
 use Rattle.c_types_file_scope.specs.ExternalDeclarations.{external_declaration, is_typedef}
-use Rattle.c_types.specs.FunctionDefinitions as functions
-use Rattle.c_types.specs.Streams.{with_stream}
-use Rattle.c_types.specs.UnitChecks as checks
-use Rattle.c_types.specs.UnitDefinitions.{with_externals}
-use Rattle.c_types.specs.UnitEntries.{judged}
+use Rattle.c_types_laws.specs.FunctionDefinitions as functions
+use Rattle.c_types_laws.specs.Streams.{with_stream}
+use Rattle.c_types_laws.specs.UnitChecks as checks
+use Rattle.c_types_laws.specs.UnitDefinitions.{with_externals}
+use Rattle.c_types_laws.specs.UnitEntries.{judged}
 use Rattle.c_types_laws.proofs.Entries.{same_value}
 use Rattle.c_types_labels.specs.DistinctCases.{is_distinct_function, is_distinct_unit}
 use Rattle.c_types_labels.specs.DistinctChecks.{CheckedCasesAreDistinct}

@@ -3,7 +3,7 @@ use Rattle.std.specs.Prelude.{◌≡◌, ℕ, true, List, Ok}
 use Rattle.c_layout.specs.CheckedUnits.{UnitView}
 use Rattle.c_layout.specs.DeclarationTrees.{ExternalTree}
 use Rattle.c_layout.specs.declared.data_model.Model.{Model}
-use Rattle.c_types.specs.UnitChecks.{check}
+use Rattle.c_types_laws.specs.UnitChecks.{check}
 use Rattle.c_types_labels.specs.DistinctCases.{is_distinct_unit}
 
 abbrev pub CheckedCasesAreDistinct : Type 0

@@ -26,10 +26,10 @@ use Rattle.c_types_statement_rules.specs.Points.{Point}
 use Rattle.c_types_statement_rules.specs.SimpleStatements as simple
 use Rattle.c_types_statement_rules.specs.CompoundStatements as compound
 use Rattle.c_types_statement_rules.specs.StatementNodes as nodes
-use Rattle.c_types_statements.specs.LabelNumbers as labels
-use Rattle.c_types_statements.specs.LocalDeclarations as locals
-use Rattle.c_types_statements.specs.StaticInitializers as statics
-use Rattle.c_types_statements.specs.Statements as spec
+use Rattle.c_types_file_scope.specs.LabelNumbers as labels
+use Rattle.c_types_file_scope.specs.LocalDeclarations as locals
+use Rattle.c_types_file_scope.specs.StaticInitializers as statics
+use Rattle.c_types_file_scope.specs.Statements as spec
 use Rattle.c_types_laws.proofs.Leading.{Leads, kept_leads, cond_leads, onward, then}
 use Rattle.c_types_laws.proofs.Specifying.{HasSpecifiers, declared_leads, specifiers_lead}
 use Rattle.c_types_laws.proofs.Initializing.{initializer_leads}

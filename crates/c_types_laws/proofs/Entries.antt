@@ -32,8 +32,8 @@ use Rattle.c_types_objects.specs.UnitObjects.{finished_objects}
 use Rattle.c_types_statement_rules.specs.BodyFlow.{no_flow}
 use Rattle.c_types_statement_rules.specs.Points.{Point, point}
 use Rattle.c_types_statement_rules.specs.StatementNodes.{no_parts}
-use Rattle.c_types_statements.specs.LocalDeclarations.{local_declaration}
-use Rattle.c_types_statements.specs.Statements.{items}
+use Rattle.c_types_file_scope.specs.LocalDeclarations.{local_declaration}
+use Rattle.c_types_file_scope.specs.Statements.{items}
 use Rattle.c_types_file_scope.specs.ExternalDeclarations.{external_declaration, is_typedef}
 use Rattle.c_types_file_scope.specs.FunctionDeclarations as functions
 use Rattle.c_types_file_scope.specs.declared.function_declarations.FunctionSlot.{FunctionSlot}

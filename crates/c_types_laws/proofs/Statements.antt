@@ -18,9 +18,9 @@ use Rattle.c_types_statement_rules.specs.SimpleStatements as simple
 use Rattle.c_types_statement_rules.specs.CompoundStatements as compound
 use Rattle.c_types_statement_rules.specs.StatementNodes as nodes
 use Rattle.c_types_statement_rules.specs.StatementNodes.{no_parts, in_loop, in_switch}
-use Rattle.c_types_statements.specs.LabelNumbers as labels
-use Rattle.c_types_statements.specs.LocalDeclarations as locals
-use Rattle.c_types_statements.specs.Statements as spec
+use Rattle.c_types_file_scope.specs.LabelNumbers as labels
+use Rattle.c_types_file_scope.specs.LocalDeclarations as locals
+use Rattle.c_types_file_scope.specs.Statements as spec
 use Rattle.c_types_laws.proofs.Leading.{Leads, kept_leads, then}
 use Rattle.c_types_laws.proofs.Expressing.{HasSteps, typed_leads}
 

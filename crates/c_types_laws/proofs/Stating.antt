@@ -16,10 +16,10 @@ use Rattle.c_types_initializers.specs.StaticStores.{with_expressions, constant_s
 use Rattle.c_types_declarations.specs.Initializers.{initializer_of}
 use Rattle.c_types_objects.specs.LocalObjects.{PartsView, with_automatic, with_static_object, with_local_type, with_static_type}
 use Rattle.c_types_statement_rules.specs.Points.{Point}
-use Rattle.c_types_statements.specs.LabelNumbers as labels
-use Rattle.c_types_statements.specs.LocalDeclarations as locals
-use Rattle.c_types_statements.specs.StaticInitializers as statics
-use Rattle.c_types_statements.specs.Statements as spec
+use Rattle.c_types_file_scope.specs.LabelNumbers as labels
+use Rattle.c_types_file_scope.specs.LocalDeclarations as locals
+use Rattle.c_types_file_scope.specs.StaticInitializers as statics
+use Rattle.c_types_file_scope.specs.Statements as spec
 use Rattle.c_types_laws.proofs.Leading.{Leads}
 use Rattle.c_types_laws.proofs.Declaring.{HasDeclarations, specifies}
 use Rattle.c_types_laws.proofs.Blocks as blocks

@@ -19,7 +19,7 @@ use Rattle.c_types_declarations.specs.Initializers.{initializer_of}
 use Rattle.c_types_objects.specs.Changes.{changed, changed_at}
 use Rattle.c_types_objects.specs.FileObjects.{number_or}
 use Rattle.c_types_objects.specs.LocalObjects.{typed_object, typed_static, static_declaration, with_static_object, with_static_type}
-use Rattle.c_types_statements.specs.StaticInitializers.{stored_static, with_stores, has_size}
+use Rattle.c_types_file_scope.specs.StaticInitializers.{stored_static, with_stores, has_size}
 use Rattle.c_types_laws_stores.proofs.Leading.{Leads}
 use Rattle.c_types_laws_stores.proofs.Expressing.{HasSteps}
 use Rattle.c_types_laws_stores.proofs.Initializing.{initializer_leads}

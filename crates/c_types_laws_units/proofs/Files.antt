@@ -34,8 +34,8 @@ use Rattle.c_types_objects.specs.Changes.{changed}
 use Rattle.c_types_objects.specs.FileObjects as objects
 use Rattle.c_types_objects.specs.FileObjects.{number_or, composite}
 use Rattle.c_types_objects.specs.LocalObjects.{typed_object, typed_static, with_static_type}
-use Rattle.c_types_statements.specs.LocalDeclarations.{are_none, is_empty}
-use Rattle.c_types_statements.specs.StaticInitializers.{static_initializer}
+use Rattle.c_types_file_scope.specs.LocalDeclarations.{are_none, is_empty}
+use Rattle.c_types_file_scope.specs.StaticInitializers.{static_initializer}
 use Rattle.c_types_file_scope.specs.ExternalDeclarations as external
 use Rattle.c_types_file_scope.specs.FunctionDeclarations as functions
 use Rattle.c_types_file_scope.specs.declared.function_declarations.FunctionSlot.{FunctionSlot}

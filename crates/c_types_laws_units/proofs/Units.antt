@@ -41,19 +41,19 @@ use Rattle.c_types_statement_rules.specs.BodyFlow.{no_flow}
 use Rattle.c_types_statement_rules.specs.Points.{Point, point}
 use Rattle.c_types_statement_rules.specs.StatementNodes.{no_parts}
 use Rattle.c_types_objects.specs.LocalObjects.{with_static_type, PartsView}
-use Rattle.c_types_statements.specs.LocalDeclarations.{local_declaration, are_none, is_empty}
-use Rattle.c_types_statements.specs.StaticInitializers.{static_initializer}
-use Rattle.c_types_statements.specs.Statements.{items}
+use Rattle.c_types_file_scope.specs.LocalDeclarations.{local_declaration, are_none, is_empty}
+use Rattle.c_types_file_scope.specs.StaticInitializers.{static_initializer}
+use Rattle.c_types_file_scope.specs.Statements.{items}
 use Rattle.c_types_file_scope.specs.ExternalDeclarations as external
 use Rattle.c_types_file_scope.specs.FunctionDeclarations as functions
 use Rattle.c_types_file_scope.specs.declared.function_declarations.FunctionSlot.{FunctionSlot}
 use Rattle.c_types_file_scope.specs.declared.function_declarations.NameBefore.{NameBefore}
 use Rattle.c_types_file_scope.specs.declared.function_declarations.NameBefore.TheVariants as standing
-use Rattle.c_types.specs.Streams.{with_stream}
-use Rattle.c_types.specs.UnitDefinitions as definitions
-use Rattle.c_types.specs.UnitEntries.{judged}
-use Rattle.c_types.specs.FunctionDefinitions as bodies
-use Rattle.c_types.specs.UnitChecks as checks
+use Rattle.c_types_laws_stores.specs.Streams.{with_stream}
+use Rattle.c_types_laws_stores.specs.UnitDefinitions as definitions
+use Rattle.c_types_laws_stores.specs.UnitEntries.{judged}
+use Rattle.c_types_laws_stores.specs.FunctionDefinitions as bodies
+use Rattle.c_types_laws_stores.specs.UnitChecks as checks
 use Rattle.c_types_laws_stores.proofs.Leading.{Leads, kept_leads, cond_leads, onward, then}
 use Rattle.c_types_laws_stores.proofs.Declaring.{declared_leads, specifiers_lead}
 use Rattle.c_types_laws_stores.proofs.Initializing.{initializer_leads}

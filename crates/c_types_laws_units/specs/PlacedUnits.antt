@@ -10,7 +10,7 @@ use Rattle.c_types_rules.specs.ConstantFolding.{converted}
 use Rattle.c_types_scopes.specs.Known.{Known, size_of}
 use Rattle.c_types_initializers.specs.Subobjects.{SubobjectView}
 use Rattle.c_types_initializers.specs.Literals.{character_room}
-use Rattle.c_types.specs.UnitChecks.{check}
+use Rattle.c_types_laws_stores.specs.UnitChecks.{check}
 use Rattle.c_types_laws_stores.specs.PlacedStores.{IsPart}
 
 -- a number that is converted to the type, or a pointer

@@ -29,7 +29,7 @@ use Rattle.c_types.specs.FunctionDefinitions as definitions
 use Rattle.c_types_laws_stores.proofs.Leading.{Leads, cond_leads, then}
 use Rattle.ref_machine_looks.specs.LookedTypes.{same_mark}
 use Rattle.flow_lower_functions.specs.Functions.{local_type, type_or}
-use Rattle.c_types_marks.specs.UnitParts.{IsHeadOf}
+use Rattle.c_types_marks_rules.specs.UnitParts.{IsHeadOf}
 use Rattle.c_types_marks_rules.proofs.ModelKinds.{mark_same}
 use Rattle.c_types_marks_scopes.proofs.Longer.{Longer, longer_by, longer_twice, last_item}
 use Rattle.c_types_marks_heads.proofs.Numbering.{IsNumbering, IsComing}

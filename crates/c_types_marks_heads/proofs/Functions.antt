@@ -22,7 +22,7 @@ use Rattle.c_types_file_scope.specs.declared.function_declarations.NameBefore.Th
 use Rattle.c_types_laws_stores.proofs.Types.{type_is}
 use Rattle.c_types_marks_scopes.proofs.Kept.{appended_is, front_stays, set_other}
 use Rattle.c_types_marks_scopes.proofs.Bodies.{changed_is}
-use Rattle.c_types_marks.specs.UnitParts.{IsHeadOf}
+use Rattle.c_types_marks_rules.specs.UnitParts.{IsHeadOf}
 use Rattle.c_types_marks_scopes.proofs.Longer.{Longer, longer_by, last_item}
 use Rattle.c_types_marks_heads.proofs.Numbering.{IsNumbering}
 use Rattle.c_types_marks_scopes.proofs.Growing.{HasName, IsRenewed, name_longer}

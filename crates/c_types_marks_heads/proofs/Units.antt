@@ -20,7 +20,7 @@ use Rattle.c_types.specs.FunctionDefinitions.{function_definition}
 use Rattle.c_types.specs.UnitChecks as checks
 use Rattle.c_types_laws_stores.proofs.Leading.{Leads}
 use Rattle.c_types_laws_stores.proofs.Entries.{same_value}
-use Rattle.c_types_marks.specs.UnitParts.{IsPartOf, IsThere}
+use Rattle.c_types_marks_rules.specs.UnitParts.{IsPartOf, IsThere}
 use Rattle.c_types_marks_heads.specs.HeadLaws.{UnitsHaveHeads}
 use Rattle.c_types_marks_scopes.proofs.Longer.{longer_same}
 use Rattle.c_types_marks_heads.proofs.Numbering.{IsNumbering, externals_prepare, AllCome, Comes, behind, externals_come}

@@ -5,7 +5,7 @@ use Rattle.c_layout.specs.DeclarationTrees.{ExternalTree}
 use Rattle.c_layout.specs.declared.data_model.Model.{Model}
 use Rattle.c_types_scopes.specs.States.{State, first_state}
 use Rattle.c_types.specs.UnitChecks.{typed_unit, unit_of}
-use Rattle.c_types_marks.specs.UnitParts.{IsPartOf}
+use Rattle.c_types_marks_rules.specs.UnitParts.{IsPartOf}
 
 abbrev pub UnitsHaveHeads : Type 0
 UnitsHaveHeads = (m : Model) (es : List ExternalTree) (functions : List FunctionView) (s : State) (entry : ℕ) → typed_unit (first_state m) es ≡ Ok (functions, s) → IsPartOf s (unit_of m functions s entry)

@@ -15,10 +15,10 @@ use Rattle.c_types_operands.specs.Conversions as convert
 use Rattle.c_types_operands.specs.Conversions.{noted, implicit, integer_as}
 use Rattle.flow_lower_conditions.specs.Tests.{named, named_or_assigned, constant_of}
 use Rattle.flow_lower_tasks.specs.TermKinds.{integer_type, peeled, is_zero, is_null_constant}
-use Rattle.ref_machine_looks.specs.LookedTypes.{is_kind, is_address}
-use Rattle.ref_machine_looks.specs.LookedTerms.{exact, is_exact_zero, is_null, side, stored, converted_in, converted_to}
-use Rattle.ref_machine_looks.proofs.SameTypes.{type_is}
-use Rattle.ref_machine_ranges.proofs.TypeRanges.{wrapped_own}
+use Rattle.c_types_marks_numbers.specs.LookedTypes.{is_kind, is_address}
+use Rattle.c_types_marks_numbers.specs.LookedTerms.{exact, is_exact_zero, is_null, side, stored, converted_in, converted_to}
+use Rattle.c_types_marks_numbers.proofs.SameTypes.{type_is}
+use Rattle.c_types_marks_numbers.proofs.TypeRanges.{wrapped_own}
 use Rattle.c_types_marks.specs.ModelTypes.{IsKindOf, IsGround}
 use Rattle.c_types_marks.specs.MadeTerms.{IsExactly, is_implicit}
 use Rattle.c_types_marks_tests.proofs.ModelKinds.{same_type_self, kind_there, kind_size}

@@ -26,9 +26,9 @@ use Rattle.ref_machine.specs.Items as item
 use Rattle.ref_machine.specs.Items.{NamedSide, NamedTest}
 use Rattle.ref_machine.specs.TermTests.{test_between, right_side, test_with, turned_test, relation_test, operator_test}
 use Rattle.ref_machine_marks.specs.Marks.{Mark, Exactly, Loaded, Converted}
-use Rattle.ref_machine_looks.specs.LookedTypes.{is_kind, same_scalar}
-use Rattle.ref_machine_looks.specs.LookedTests.{same_reference, same_object, same_relation, is_side_of, converted_number, compares}
-use Rattle.ref_machine_looks.specs.LookedTerms.{side, quiet, operand, converted_in, converted_to}
+use Rattle.c_types_marks_numbers.specs.LookedTypes.{is_kind, same_scalar}
+use Rattle.c_types_marks_numbers.specs.LookedTests.{same_reference, same_object, same_relation, is_side_of, converted_number, compares}
+use Rattle.c_types_marks_numbers.specs.LookedTerms.{side, quiet, operand, converted_in, converted_to}
 use Rattle.c_types_marks.specs.ModelTypes.{IsKindOf, IsGround}
 use Rattle.c_types_marks.specs.MadeTerms.{IsMade}
 use Rattle.c_types_marks_tests.proofs.ModelKinds.{same_kind_self, kind_there}

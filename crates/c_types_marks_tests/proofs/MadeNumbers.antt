@@ -35,13 +35,13 @@ use Rattle.flow_lower_tasks.specs.TermKinds.{meaning, integer_type}
 use Rattle.flow_lower_tasks.specs.declared.term_kinds.OperatorMeaning.{OperatorMeaning}
 use Rattle.flow_lower_tasks.specs.declared.term_kinds.OperatorMeaning.TheVariants as meant
 use Rattle.ref_machine_marks.specs.MarkOperations.{number_of_truth}
-use Rattle.ref_machine_looks.specs.LookedTypes.{is_kind, is_wider}
-use Rattle.ref_machine_looks.specs.LookedTerms as look
-use Rattle.ref_machine_looks.specs.LookedTerms.{exact, result, results}
-use Rattle.ref_machine_looks.proofs.SameTypes.{wider}
-use Rattle.ref_machine_looks.proofs.Truths.{never, no_some, some_is, both_true}
-use Rattle.ref_machine_ranges.proofs.Results.{binary_in, unary_in}
-use Rattle.ref_machine_ranges.proofs.TypeRanges.{of_wider, wrapped_in, wrapped_own}
+use Rattle.c_types_marks_numbers.specs.LookedTypes.{is_kind, is_wider}
+use Rattle.c_types_marks_numbers.specs.LookedTerms as look
+use Rattle.c_types_marks_numbers.specs.LookedTerms.{exact, result, results}
+use Rattle.c_types_marks_numbers.proofs.SameTypes.{wider}
+use Rattle.c_types_marks_numbers.proofs.Truths.{never, no_some, some_is, both_true}
+use Rattle.c_types_marks_numbers.proofs.Results.{binary_in, unary_in}
+use Rattle.c_types_marks_numbers.proofs.TypeRanges.{of_wider, wrapped_in, wrapped_own}
 use Rattle.c_types_marks.specs.ModelTypes.{IsKindOf, IsTypeOf, IsGround}
 use Rattle.c_types_marks.specs.MadeTerms.{IsExactly, IsMade}
 use Rattle.c_types_marks_numbers.specs.FoldingLaws.{FoldsAsComputedIn}

@@ -30,11 +30,11 @@ use Rattle.ref_machine.specs.Items.{NamedSide, NamedTest}
 use Rattle.ref_machine.specs.TermTests.{operator_test, null_test, zero_test_of, zero_test}
 use Rattle.ref_machine_marks.specs.Marks.{Mark, Loaded}
 use Rattle.ref_machine_marks.specs.MarkOperations.{null_test_of}
-use Rattle.ref_machine_looks.specs.LookedTypes.{is_kind, is_wider, is_address}
-use Rattle.ref_machine_looks.specs.LookedTests.{same_side, same_relation, same_common, same_test, zero_test_in, decides_alone, decides}
-use Rattle.ref_machine_looks.specs.LookedTerms as look
-use Rattle.ref_machine_looks.specs.LookedTerms.{exact, quiet, operand, has_test, is_marked_term, has_tests}
-use Rattle.ref_machine_looks.proofs.Truths.{never, both_true}
+use Rattle.c_types_marks_numbers.specs.LookedTypes.{is_kind, is_wider, is_address}
+use Rattle.c_types_marks_numbers.specs.LookedTests.{same_side, same_relation, same_common, same_test, zero_test_in, decides_alone, decides}
+use Rattle.c_types_marks_numbers.specs.LookedTerms as look
+use Rattle.c_types_marks_numbers.specs.LookedTerms.{exact, quiet, operand, has_test, is_marked_term, has_tests}
+use Rattle.c_types_marks_numbers.proofs.Truths.{never, both_true}
 use Rattle.c_types_marks.specs.ModelTypes.{IsKindOf, IsTypeOf, IsGround}
 use Rattle.c_types_marks.specs.MadeTerms.{IsMade, is_implicit}
 use Rattle.c_types_marks_tests.proofs.ModelKinds.{same_kind_self, kind_there, zero_kind, zero_wider}

@@ -11,8 +11,8 @@ use Rattle.c_types_rules.specs.IntegerKinds.{kind_of, promoted, common, joined, 
 use Rattle.c_types_rules.specs.declared.integer_kinds.Rank.{Rank}
 use Rattle.c_types_rules.specs.declared.integer_kinds.Rank.TheVariants as rank
 use Rattle.flow_lower_tasks.specs.TermKinds.{common_with_int}
-use Rattle.ref_machine_looks.specs.LookedTypes.{is_kind, is_wider, has_truths, is_scalar_type}
-use Rattle.ref_machine_looks.proofs.Truths.{both_true, either_true}
+use Rattle.c_types_marks_numbers.specs.LookedTypes.{is_kind, is_wider, has_truths, is_scalar_type}
+use Rattle.c_types_marks_numbers.proofs.Truths.{both_true, either_true}
 use Rattle.c_types_marks.specs.ModelTypes.{IsKindOf, IsTypeOf}
 
 -- ---- the same types

@@ -11,11 +11,11 @@ use Rattle.flow_lower_conditions.specs.declared.branch_tests.NamedObject.{NamedO
 use Rattle.flow_lower_conditions.specs.Tests.{named, named_by, or_else, named_or_assigned}
 use Rattle.flow_lower_tasks.specs.TermKinds.{is_zero, scalar_of, term_type, term_form, peeled, assigned}
 use Rattle.ref_machine_marks.specs.Marks.{Mark, Exactly, Null, Loaded}
-use Rattle.ref_machine_looks.specs.LookedTypes.{is_scalar_type, is_address, same_mark}
-use Rattle.ref_machine_looks.specs.LookedTerms.{exact, is_exact_zero, is_null, has_object, loaded_from, side, stored, converted_in, converted_to, first_of, quiet, operand, is_marked_term}
-use Rattle.ref_machine_looks.proofs.DecidedTests.{number_is}
-use Rattle.ref_machine_looks.proofs.SameTypes.{scalar_is}
-use Rattle.ref_machine_looks.proofs.Truths.{never, no_some, some_is, both_true, either_true, three, five}
+use Rattle.c_types_marks_numbers.specs.LookedTypes.{is_scalar_type, is_address, same_mark}
+use Rattle.c_types_marks_numbers.specs.LookedTerms.{exact, is_exact_zero, is_null, has_object, loaded_from, side, stored, converted_in, converted_to, first_of, quiet, operand, is_marked_term}
+use Rattle.c_types_marks_numbers.proofs.DecidedTests.{number_is}
+use Rattle.c_types_marks_numbers.proofs.SameTypes.{scalar_is}
+use Rattle.c_types_marks_numbers.proofs.Truths.{never, no_some, some_is, both_true, either_true, three, five}
 use Rattle.c_types_marks.specs.MadeTerms.{is_implicit}
 
 -- ---- conversions

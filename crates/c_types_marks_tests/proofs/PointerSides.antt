@@ -19,12 +19,12 @@ use Rattle.ref_machine.specs.Items as item
 use Rattle.ref_machine.specs.Items.{NamedTest}
 use Rattle.ref_machine.specs.TermTests.{test_between, null_test}
 use Rattle.ref_machine_marks.specs.Marks.{Mark, Null, Loaded}
-use Rattle.ref_machine_looks.specs.LookedTypes.{is_scalar, is_pointer, is_address}
-use Rattle.ref_machine_looks.specs.LookedTests.{same_object, same_relation, same_test, converted_mark, converted_pointer, compares_with_null}
-use Rattle.ref_machine_looks.specs.LookedTerms as look
-use Rattle.ref_machine_looks.specs.LookedTerms.{exact, is_exact_zero, side, quiet, converted_to}
-use Rattle.ref_machine_looks.proofs.SameTypes.{pointer_is}
-use Rattle.ref_machine_looks.proofs.Truths.{never, no_some, both_true, either_true}
+use Rattle.c_types_marks_numbers.specs.LookedTypes.{is_scalar, is_pointer, is_address}
+use Rattle.c_types_marks_numbers.specs.LookedTests.{same_object, same_relation, same_test, converted_mark, converted_pointer, compares_with_null}
+use Rattle.c_types_marks_numbers.specs.LookedTerms as look
+use Rattle.c_types_marks_numbers.specs.LookedTerms.{exact, is_exact_zero, side, quiet, converted_to}
+use Rattle.c_types_marks_numbers.proofs.SameTypes.{pointer_is}
+use Rattle.c_types_marks_numbers.proofs.Truths.{never, no_some, both_true, either_true}
 use Rattle.c_types_marks.specs.MadeTerms.{IsExactly, IsMade}
 use Rattle.c_types_marks_tests.proofs.ConvertedOperands.{bare_peeled, in_type_by, in_type_named, in_type_assigned, in_type_zero, converted_exact, converted_null, converted_side, converted_stored}
 use Rattle.c_types_marks_tests.proofs.NamedOperands.{address_no_number, zero_is, number_side, null_side, quiet_side, quiet_null, operand_quiet, operand_stored, IsLoaded, IsAssigned, loads, names}

@@ -11,7 +11,7 @@ use Rattle.c_layout.specs.declared.syntax_tree.expressions.LogicalOp.TheVariants
 use Rattle.c_types_scopes.specs.Known.{Known}
 use Rattle.c_types_operands.specs.Operands.{term_type, term_constant}
 use Rattle.c_types_operands.specs.Conversions.{noted}
-use Rattle.ref_machine_looks.specs.LookedTerms.{exact, is_null, is_marked_term, is_marked_place, has_tests}
+use Rattle.c_types_marks_numbers.specs.LookedTerms.{exact, is_null, is_marked_term, is_marked_place, has_tests}
 
 -- ---- another pair of parentheses
 

@@ -14,9 +14,9 @@ use Rattle.flow_lower_conditions.specs.Tests.{named}
 use Rattle.flow_lower_tasks.specs.TermKinds.{scalar_of, term_type}
 use Rattle.flow_program.specs.declared.machine_instructions.Scalar.TheVariants as of
 use Rattle.ref_machine_marks.specs.Marks.{Converted}
-use Rattle.ref_machine_looks.specs.LookedTypes.{is_kind, is_wider, is_integer, converts}
-use Rattle.ref_machine_looks.specs.LookedTests.{same_object, converted_number}
-use Rattle.ref_machine_looks.specs.LookedTerms.{is_marked_term, side, converted_to}
+use Rattle.c_types_marks_numbers.specs.LookedTypes.{is_kind, is_wider, is_integer, converts}
+use Rattle.c_types_marks_numbers.specs.LookedTests.{same_object, converted_number}
+use Rattle.c_types_marks_numbers.specs.LookedTerms.{is_marked_term, side, converted_to}
 use Rattle.c_types_marks.specs.LookedStatements.{is_of_kind, is_within, matches, selects_by}
 use Rattle.c_types_marks.specs.ModelTypes.{IsKindOf, IsTypeOf, IsGround}
 use Rattle.c_types_marks.specs.MadeTerms.{IsMade}

@@ -30,9 +30,9 @@ use Rattle.c_types_laws.proofs.Initializing.{initializer_leads}
 use Rattle.c_types_laws.proofs.Leading.{Leads, cond_leads, onward, then}
 use Rattle.c_types_laws.proofs.Specifying.{declared_leads, specifiers_lead}
 use Rattle.ref_machine_looks.proofs.Truths.{never}
-use Rattle.c_types_scoped.specs.SeenObjects.{SeesAt, Stays, count}
-use Rattle.c_types_scoped.proofs.Numbers.{none_new}
-use Rattle.c_types_scoped.proofs.Seen.{closes, declares, specifiers_stay, stays_same, stays_sees, stays_twice, steps_stay}
+use Rattle.c_types_scoped_bodies.specs.SeenObjects.{SeesAt, Stays, count}
+use Rattle.c_types_scoped_bodies.proofs.Numbers.{none_new}
+use Rattle.c_types_scoped_bodies.proofs.Seen.{closes, declares, specifiers_stay, stays_same, stays_sees, stays_twice, steps_stay}
 use Rattle.c_types_scoped_bodies.proofs.Declared.{static_leads}
 use Rattle.c_types_scoped_units.proofs.Headed.{HeadsBy, Heads, function_heads, parameter_count, signed_stays, slot_stays}
 

@@ -50,10 +50,10 @@ use Rattle.ref_machine_lives.specs.Lives.{kept_objects}
 use Rattle.ref_machine_looks.proofs.Truths.{never}
 use Rattle.ref_machine_looks_units.specs.LookedScopes.{is_scoped_body, is_scoped_function, are_new, are_scoped_statements}
 use Rattle.ref_machine_returns.specs.EndedObjects.{AreAmong}
-use Rattle.c_types_scoped.specs.BlockDeclarations.{DeclareInBlocks}
-use Rattle.c_types_scoped.specs.SeenObjects.{SeesAt, FollowsBy, Stays, count}
-use Rattle.c_types_scoped.proofs.Numbers.{two, in_parts, in_front, in_back, is_only, in_numbers, numbers_are, none_new, one_new, in_itself}
-use Rattle.c_types_scoped.proofs.Seen.{closes, declares, follows_twice, follows_stays, sees_more, specifiers_stay, stays_follows, stays_same, stays_sees, stays_twice}
+use Rattle.c_types_scoped_bodies.specs.BlockDeclarations.{DeclareInBlocks}
+use Rattle.c_types_scoped_bodies.specs.SeenObjects.{SeesAt, FollowsBy, Stays, count}
+use Rattle.c_types_scoped_bodies.proofs.Numbers.{two, in_parts, in_front, in_back, is_only, in_numbers, numbers_are, none_new, one_new, in_itself}
+use Rattle.c_types_scoped_bodies.proofs.Seen.{closes, declares, follows_twice, follows_stays, sees_more, specifiers_stay, stays_follows, stays_same, stays_sees, stays_twice}
 use Rattle.c_types_scoped_bodies.specs.ScopedBodies.{Adds, Apart, Itemized}
 use Rattle.c_types_scoped_bodies.proofs.Beside.{new_beside, apart_inside}
 use Rattle.c_types_scoped_bodies.proofs.Stated.{Moves, items_scoped}

@@ -24,9 +24,9 @@ use Rattle.c_types_laws.proofs.Entries.{same_value}
 use Rattle.c_types_laws.proofs.Leading.{Leads}
 use Rattle.ref_machine_looks.proofs.Truths.{both_true}
 use Rattle.ref_machine_looks_units.specs.LookedScopes.{is_scoped, is_scoped_function}
-use Rattle.c_types_scoped.specs.BlockDeclarations.{UnitInBlocks, ExternalInBlocks}
-use Rattle.c_types_scoped.specs.SeenObjects.{SeesAt}
-use Rattle.c_types_scoped.proofs.Numbers.{two}
+use Rattle.c_types_scoped_bodies.specs.BlockDeclarations.{UnitInBlocks, ExternalInBlocks}
+use Rattle.c_types_scoped_bodies.specs.SeenObjects.{SeesAt}
+use Rattle.c_types_scoped_bodies.proofs.Numbers.{two}
 use Rattle.c_types_scoped_units.specs.ScopedChecks.{ChecksAreScoped}
 use Rattle.c_types_scoped_units.proofs.Files.{Sighted, external_leads}
 use Rattle.c_types_scoped_units.proofs.Headed.{Defines, function_defines}

@@ -5,7 +5,7 @@ use Rattle.c_layout.specs.DeclarationTrees.{ExternalTree}
 use Rattle.c_layout.specs.declared.data_model.Model.{Model}
 use Rattle.c_types.specs.UnitChecks.{check}
 use Rattle.ref_machine_looks_units.specs.LookedScopes.{is_scoped}
-use Rattle.c_types_scoped.specs.BlockDeclarations.{UnitInBlocks}
+use Rattle.c_types_scoped_bodies.specs.BlockDeclarations.{UnitInBlocks}
 
 abbrev pub ChecksAreScoped : Type 0
 ChecksAreScoped = (m : Model) (name : List ℕ) (es : List ExternalTree) (u : UnitView) → UnitInBlocks es → check m name es ≡ Ok u → is_scoped u ≡ true

@@ -9,8 +9,8 @@ use Rattle.interval_domain.specs.declared.intervals.Interval.{Interval}
 use Rattle.interval_domain.specs.IntervalLattice.{interval_lattice}
 use Rattle.interval_domain.specs.IntervalNumbers.{interval_numbers}
 use Rattle.abstract_steps_system.specs.FlowMachines.{has_start}
-use Rattle.abstract_steps_laws_programs.specs.RegularPrograms.{is_regular}
-use Rattle.abstract_steps_laws_programs.proofs.RegularSystems.{regular_monotone}
+use Rattle.flow_analysis.specs.RegularPrograms.{is_regular}
+use Rattle.flow_analysis.proofs.RegularSystems.{regular_monotone}
 use Rattle.rule_checks_operands.specs.TypedRows.{is_typed_map}
 use Rattle.flow_analysis.specs.Analyses.{row_lattice, machine_of}
 use Rattle.flow_analysis.specs.CheckedPrograms.{IsChecked}

@@ -27,7 +27,7 @@ use Rattle.abstract_steps_laws_programs.specs.RegularPrograms.{is_regular}
 use Rattle.abstract_steps_laws_programs.proofs.RegularPrograms.{Regular, regular_of}
 use Rattle.abstract_steps_laws_programs.proofs.RegularSystems.{regular_rising}
 use Rattle.abstract_steps_laws_programs.proofs.WellFormed.{laid_out, all_named}
-use Rattle.flow_analysis.specs.Analyses.{row_lattice, machine_of}
+use Rattle.flow_analysis_laws.specs.Analyses.{row_lattice, machine_of}
 use Rattle.cert_check_reading.specs.GreatestRows.{cert_numbers}
 use Rattle.cert_check.specs.Verdicts.{cert_machine}
 use Rattle.cert_check_proved.specs.AnalysedMaps.{InductiveMapsAreClosed}

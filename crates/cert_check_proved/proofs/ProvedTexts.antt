@@ -11,8 +11,8 @@ use Rattle.interval_domain.specs.IntervalLattice.{interval_lattice}
 use Rattle.interval_domain.specs.IntervalNumbers.{interval_numbers}
 use Rattle.abstract_steps_laws_programs.specs.RegularPrograms.{has_scalars, has_initial_bytes, has_apart_members, is_near_list, is_regular}
 use Rattle.rule_checks_operands.specs.TypedRows.{is_typed_map}
-use Rattle.flow_analysis.specs.Analyses.{admitted_pairs, IsAnalysis}
-use Rattle.flow_analysis.specs.CheckedPrograms.{IsChecked}
+use Rattle.flow_analysis_laws.specs.Analyses.{admitted_pairs, IsAnalysis}
+use Rattle.flow_analysis_laws.specs.CheckedPrograms.{IsChecked}
 use Rattle.flow_analysis_laws.specs.LeastAnalyses.{AdmitsExactly}
 use Rattle.flow_analysis_laws.proofs.LeastAnalyses.{exact_map, one_answer}
 use Rattle.cert_check_text.specs.LineWords.{Bytes}

@@ -5,7 +5,7 @@ use Rattle.cc_base.specs.InductiveMap.{IsInductive}
 use Rattle.flow_program.specs.declared.programs.Flow.{Flow}
 use Rattle.interval_domain.specs.declared.intervals.Interval.{Interval}
 use Rattle.value_domain.specs.declared.row_cells.Cell.{Cell}
-use Rattle.flow_analysis.specs.Analyses.{row_lattice, machine_of}
+use Rattle.flow_analysis_laws.specs.Analyses.{row_lattice, machine_of}
 use Rattle.cert_check.specs.Verdicts.{cert_cells, cert_machine}
 
 abbrev pub InductiveMapsAreClosed : Flow → List ℤ → Type 0

@@ -2,7 +2,7 @@
 use Rattle.std.specs.Prelude.{◌≡◌, ℤ, List, None}
 use Rattle.cc_base.specs.declared.diagnostics.Diag.{Diag}
 use Rattle.flow_program.specs.declared.programs.Flow.{Flow}
-use Rattle.flow_analysis.specs.Analyses.{IsAnalysis}
+use Rattle.flow_analysis_laws.specs.Analyses.{IsAnalysis}
 use Rattle.cert_check_text.specs.LineWords.{Bytes}
 use Rattle.cert_check.specs.declared.verdicts.Verdict.TheVariants.{Yes}
 use Rattle.cert_check.specs.Verdicts.{IsVerdictOn}

@@ -31,8 +31,8 @@ use Rattle.abstract_steps_system.specs.FlowMachines.{edge_at, known_start, start
 use Rattle.abstract_steps_laws_values.specs.LaidOut.{IsLaidOut}
 use Rattle.abstract_steps_sound.specs.SoundSteps.{StandsBehind}
 use Rattle.abstract_steps_covered.specs.Covering.{Begins, Carries}
-use Rattle.abstract_steps_sound_maps.specs.CarriedMaps.{IsUnmixed, AreUnmixed, EntryStands}
-use Rattle.abstract_steps_sound_maps.proofs.EdgeEnds.{IsLeftUnmixed, larger_behind, edge_there, EdgesCarry, carried_by}
+use Rattle.abstract_steps_sound_entries.specs.CarriedMaps.{IsUnmixed, AreUnmixed, EntryStands}
+use Rattle.abstract_steps_sound_entries.proofs.EdgeEnds.{IsLeftUnmixed, larger_behind, edge_there, EdgesCarry, carried_by}
 use Rattle.cert_check_sound.proofs.FittedRows.{fitted_stands}
 
 module _ {I : Type 0} (l : LatticeOf I) (n : IntegersOf I) (list : List ℤ) (r : Reach I) where

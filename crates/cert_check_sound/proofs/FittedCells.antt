@@ -29,8 +29,8 @@ use Rattle.lib_models_memory.specs.Bytes.{MachinePointer, null, into}
 use Rattle.lib_models_memory.specs.Instances.{Memory, Life, live, ended, freed, life_at}
 use Rattle.store_domain_meaning.specs.SoundMemory.{IsWithin, IsPointerIn}
 use Rattle.store_domain_meaning.specs.ValueMeaning.{Naming, StandsInto, StandsByLife, StandsPointer}
-use Rattle.abstract_steps_sound_maps.proofs.NearBounds.{near_in}
-use Rattle.abstract_steps_sound_maps.proofs.ToldRows.{CountTells, StateTells, ValueTells}
+use Rattle.abstract_steps_sound_entries.proofs.NearBounds.{near_in}
+use Rattle.abstract_steps_sound_entries.proofs.ToldRows.{CountTells, StateTells, ValueTells}
 use Rattle.cert_check_sound.proofs.FittedNumbers.{number_told, count_told}
 
 some_has : (r : Range) (z : ℤ) → RangeHas r z → is_some r ≡ true

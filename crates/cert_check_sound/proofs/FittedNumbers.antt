@@ -10,7 +10,7 @@ use Rattle.string_domain.specs.FirstZeros.{the_end}
 use Rattle.store_domain.specs.NearValues.{near_number}
 use Rattle.abstract_steps_rows.specs.declared.own_cells.Reach.{Reach}
 use Rattle.abstract_steps_rows.specs.FittedRows.{list_ends, count_ends, ranges_both, cut_to, number_fit, count_fit}
-use Rattle.abstract_steps_sound_maps.proofs.NearBounds.{near_in, met_stands}
+use Rattle.abstract_steps_sound_entries.proofs.NearBounds.{near_in, met_stands}
 
 module _ {I : Type 0} {l : LatticeOf I} {n : IntegersOf I} {stands : I → ℤ → Type 0} (q : BoundLaws l n stands) (list : List ℤ) (wide : list_ends list ≡ Some (negsuc (2 ^ 64 - 1), pos (2 ^ 64))) where
   counts_are : count_ends list ≡ Some (pos 0, the_end)

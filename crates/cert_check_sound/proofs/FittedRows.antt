@@ -26,7 +26,7 @@ use Rattle.abstract_steps_rows.specs.OwnRows.{program_bases, reach_of}
 use Rattle.abstract_steps_rows.specs.FittedRows.{list_ends, cell_fit, cells_fit, row_fit, all_cells}
 use Rattle.store_domain_meaning.specs.ValueMeaning.{Naming}
 use Rattle.store_domain_meaning.specs.RowMeaning.{MachineState, StandsFor}
-use Rattle.abstract_steps_sound_maps.proofs.ToldRows.{CountTells, StateTells, ValueTells, row_told}
+use Rattle.abstract_steps_sound_entries.proofs.ToldRows.{CountTells, StateTells, ValueTells, row_told}
 use Rattle.cert_check_sound.proofs.FittedCells.{zero_fitted, state_fitted, no_state, no_value, value_fitted, least_near}
 use Rattle.cert_check_sound.proofs.KindPlaces.{kind_of_cell, HasKinds, base_kinds, temp_kinds}
 

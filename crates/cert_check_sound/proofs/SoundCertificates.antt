@@ -16,16 +16,16 @@ use Rattle.store_domain_sound_programs.proofs.WellFormedPremises.{meets_premises
 use Rattle.abstract_steps_rows.specs.IntervalEnds.{interval_ends}
 use Rattle.abstract_steps_laws_programs.proofs.RegularPrograms.{Regular, regular_of}
 use Rattle.abstract_steps_laws_programs.proofs.WellFormed.{laid_out}
-use Rattle.abstract_steps_laws_own_starts.proofs.RegularStarts.{regular_fits}
+use Rattle.abstract_steps_sound_entries.proofs.RegularStarts.{regular_fits}
 use Rattle.abstract_steps_covered.specs.Covering.{Begins, Carries, HasTypedRuns}
 use Rattle.abstract_steps_covered.proofs.Covering.{runs_covered, runs_typed_by_rows}
-use Rattle.abstract_steps_sound_maps.specs.CarriedMaps.{EntryStands}
+use Rattle.abstract_steps_sound_entries.specs.CarriedMaps.{EntryStands}
 use Rattle.abstract_steps_sound_operands.proofs.TypedMaps.{map_types}
 use Rattle.abstract_steps_sound_analyses.specs.SoundAnalyses.{Suffices, FindsEachPair}
 use Rattle.abstract_steps_sound_analyses.proofs.SoundAnalyses.{standard_held, steps, ends}
 use Rattle.abstract_steps_sound_analyses.proofs.FoundRuns.{suffices}
 use Rattle.abstract_steps_sound_entries.proofs.EntryRows.{entry_stands}
-use Rattle.abstract_steps_sound_lowered_starts.proofs.LoweredStarts.{lowered_starts}
+use Rattle.abstract_steps_sound_checked_starts.proofs.LoweredStarts.{lowered_starts}
 use Rattle.abstract_steps_sound_checked_starts.proofs.CheckedStarts.{sound_structs, unit_starts}
 use Rattle.cert_check_text.specs.LineWords.{Bytes}
 use Rattle.cert_check_reading.specs.GreatestRows.{cert_numbers}

@@ -21,10 +21,10 @@ use Rattle.abstract_steps_instructions.specs.StepViolations.{operation_violation
 use Rattle.abstract_steps_values.specs.IntegerSteps.{constant_step, binary_step}
 use Rattle.abstract_steps_values.specs.ResultTemps.{put_number}
 use Rattle.abstract_steps_system.specs.FlowMachines.{start_of}
-use Rattle.abstract_steps_laws_own_starts.specs.CutStarts.{type_list}
+use Rattle.abstract_steps_sound_entries.specs.CutStarts.{type_list}
 use Rattle.rule_checks.specs.AdmittedRules.{pairs_of, instruction_pairs, block_pairs, map_pairs}
 use Rattle.rule_checks_laws.proofs.LeastMaps.{regular_admits_least}
-use Rattle.flow_analysis.specs.Analyses.{row_lattice, machine_of, admitted_pairs, IsAnalysis}
+use Rattle.abstract_steps_sound_analyses.specs.Analyses.{row_lattice, machine_of, admitted_pairs, IsAnalysis}
 use Rattle.cert_check_sound.specs.WorkedCertificates.{IsAcceptedBeyond}
 use Rattle.cert_check_sound.proofs.WorkedCertificate.{text, row, start, program, unit, rows, starts, started, inductive, typed, regular, diagnostic, found, rows_are, verified, beyond, violation, violated}
 

@@ -53,15 +53,15 @@ use Rattle.abstract_steps_values.specs.IntegerSteps.{constant_step, binary_step}
 use Rattle.abstract_steps_values.specs.ResultTemps.{put_number}
 use Rattle.abstract_steps_system.specs.FlowMachines.{has_start, start_of}
 use Rattle.abstract_steps_laws_programs.specs.RegularPrograms.{is_regular}
-use Rattle.abstract_steps_laws_own_starts.specs.CutStarts.{type_list}
-use Rattle.abstract_steps_laws_own_starts.proofs.BuiltPrograms.{made, one, none}
+use Rattle.abstract_steps_sound_entries.specs.CutStarts.{type_list}
+use Rattle.abstract_steps_sound_entries.proofs.BuiltPrograms.{made, one, none}
 use Rattle.rule_checks.specs.AdmittedRules.{pairs_of, instruction_pairs, block_pairs, map_pairs}
 use Rattle.rule_checks_operands.specs.TypedRows.{has_operands, are_typed, is_typed_block, is_typed_map}
 use Rattle.store_domain.specs.FirstZeroWrites.{set_zeros}
 use Rattle.store_domain.specs.RowPositions.{value_at}
-use Rattle.flow_analysis.specs.Analyses.{row_lattice, machine_of, admitted_pairs}
+use Rattle.abstract_steps_sound_analyses.specs.Analyses.{row_lattice, machine_of, admitted_pairs}
 use Rattle.abstract_steps_sound_analyses.specs.SoundAnalyses.{IsViolatedIn}
-use Rattle.abstract_steps_sound_lowered_starts.specs.UnitStarts.{StartsAs}
+use Rattle.abstract_steps_sound_checked_starts.specs.UnitStarts.{StartsAs}
 use Rattle.cert_check_text.specs.LineWords.{Bytes, until, behind, first_byte, same_bytes}
 use Rattle.cert_check_text.specs.DecimalWords.{cap, grown, small, capped, number_of, range_of}
 use Rattle.cert_check_text.specs.CellReaders.{labels_given, pointer_given, value_given, first_given, state_given, cell_given}

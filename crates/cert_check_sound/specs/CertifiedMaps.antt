@@ -14,7 +14,7 @@ use Rattle.abstract_steps_rows.specs.OwnRows.{program_bases}
 use Rattle.abstract_steps_system.specs.FlowMachines.{start_of, flow_machine}
 use Rattle.abstract_steps_laws_values.specs.LaidOut.{IsLaidOut}
 use Rattle.abstract_steps_covered.specs.Covering.{Begins, Carries}
-use Rattle.abstract_steps_sound_maps.specs.CarriedMaps.{EntryStands}
+use Rattle.abstract_steps_sound_entries.specs.CarriedMaps.{EntryStands}
 use Rattle.cert_check_sound.specs.FittedRows.{IsWide}
 
 module _ {I : Type 0} (l : LatticeOf I) (n : IntegersOf I) (stands : I → ℤ → Type 0) (flow : Flow) where

@@ -2,3 +2,4 @@ pub mod FittedRows
 pub mod CertifiedMaps
 pub mod SoundCertificates
 pub mod WorkedCertificates
+pub use Rattle.cert_check_programs.specs.Certificates

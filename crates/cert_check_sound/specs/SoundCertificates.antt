@@ -9,9 +9,9 @@ use Rattle.flow_program_views.specs.ProgramViews.{flow_view}
 use Rattle.flow_lower.specs.Lowerings.{IsLowering}
 use Rattle.lib_models_effects.specs.Worlds.{Violation}
 use Rattle.abstract_steps_sound_analyses.specs.SoundAnalyses.{IsViolatedIn}
-use Rattle.abstract_steps_sound_lowered_starts.specs.TypedInitializers.{HasTypedInitializers}
-use Rattle.abstract_steps_sound_lowered_starts.specs.UnitStarts.{StartsAs}
-use Rattle.abstract_steps_sound_lowered_starts.specs.LoweredStarts.{HasIntegerParameters}
+use Rattle.abstract_steps_sound_checked_starts.specs.TypedInitializers.{HasTypedInitializers}
+use Rattle.abstract_steps_sound_checked_starts.specs.UnitStarts.{StartsAs}
+use Rattle.abstract_steps_sound_checked_starts.specs.LoweredStarts.{HasIntegerParameters}
 use Rattle.abstract_steps_sound_checked_starts.specs.CheckedStarts.{IsUnitOf}
 
 -- each pair that a run of the unit by this program violates is found

@@ -7,14 +7,14 @@ use Rattle.c_layout.specs.CheckedUnits.{UnitView}
 use Rattle.flow_program.specs.declared.programs.Flow.{Flow}
 use Rattle.interval_domain.specs.declared.intervals.Interval.{Interval}
 use Rattle.value_domain.specs.declared.row_cells.Cell.{Cell}
-use Rattle.flow_analysis.specs.Analyses.{machine_of, IsAnalysis}
+use Rattle.abstract_steps_sound_analyses.specs.Analyses.{machine_of, IsAnalysis}
 use Rattle.lib_models_effects.specs.Worlds.{Violation}
 use Rattle.cert_check_text.specs.LineWords.{Bytes}
 use Rattle.cert_check_reading.specs.MapReading.{map_rows}
 use Rattle.cert_check_programs.specs.Certificates.{IsVerified}
 use Rattle.cert_check_programs.specs.declared.checked_maps.Verified.TheVariants.{Found}
 use Rattle.abstract_steps_sound_analyses.specs.SoundAnalyses.{IsViolatedIn}
-use Rattle.abstract_steps_sound_lowered_starts.specs.UnitStarts.{StartsAs}
+use Rattle.abstract_steps_sound_checked_starts.specs.UnitStarts.{StartsAs}
 
 -- what is found is what an analysis finds, the unit has a run with the violation, and the text is accepted with a row that
 -- is none of the analysis's system

@@ -6,7 +6,7 @@ ghost use Rattle.cc_base.specs.declared.diagnostics.Diag.{Diag};
 ghost use Rattle.c_layout.specs.CheckedUnits.{UnitView};
 ghost use Rattle.flow_program.specs.declared.programs.Flow.{Flow};
 ghost use Rattle.lib_models_effects.specs.Worlds.{Violation};
-ghost use Rattle.abstract_steps_laws_own_starts.specs.CutStarts.{type_list};
+ghost use Rattle.abstract_steps_sound_entries.specs.CutStarts.{type_list};
 ghost use Rattle.abstract_steps_sound_analyses.specs.SoundAnalyses.{FindsEachPair};
 ghost use Rattle.cert_check_text.specs.LineWords.{Bytes};
 ghost use Rattle.cert_check_programs.specs.Certificates.{look_numbers, IsShown};

@@ -9,7 +9,7 @@ ghost use Rattle.interval_domain.specs.IntervalLattice.{interval_lattice};
 ghost use Rattle.interval_domain.specs.IntervalNumbers.{interval_numbers};
 ghost use Rattle.abstract_steps_system.specs.SystemChecks.{is_system};
 ghost use Rattle.abstract_steps_system.specs.FlowMachines.{has_start};
-ghost use Rattle.abstract_steps_laws_programs.specs.RegularPrograms.{is_regular};
+ghost use Rattle.rule_checks_laws.specs.RegularPrograms.{is_regular};
 ghost use Rattle.flow_analysis.specs.Analyses.{admitted_pairs, IsAnalysis};
 ghost use Rattle.flow_analysis.specs.CheckedPrograms.{IsChecked};
 ghost use Rattle.flow_analysis.specs.StepBounds.{most_edges};

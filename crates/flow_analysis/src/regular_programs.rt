@@ -1,8 +1,8 @@
 //! Whether a program and a list of numbers are such that the analysis is by the least inductive map.
 ghost use Rattle.std.specs.Prelude.{◌≡◌, IfOk};
 ghost use Rattle.std.specs.List.{list_all};
-ghost use Rattle.abstract_steps_laws.specs.SystemLaws.{is_near_number};
-ghost use Rattle.abstract_steps_laws_programs.specs.RegularPrograms as spec;
+ghost use Rattle.rule_checks_laws.specs.SystemLaws.{is_near_number};
+ghost use Rattle.rule_checks_laws.specs.RegularPrograms as spec;
 
 use crate::laid_apart::are_laid_apart;
 use c_layout::{BaseInfo, StaticStore};

@@ -11,7 +11,7 @@ use Rattle.abstract_steps_rows.specs.declared.cell_kinds.CellKind.{CellKind}
 use Rattle.abstract_steps_rows.specs.declared.cell_kinds.CellKind.TheVariants as kind
 use Rattle.abstract_steps_rows.specs.CellKinds.{before, state_before, values_of, run_before, all_kinds}
 use Rattle.abstract_steps_system.specs.FlowMachines.{is_head_at}
-use Rattle.abstract_steps_laws_programs.proofs.WellFormed.{laid_out}
+use Rattle.flow_analysis.proofs.WellFormed.{laid_out}
 use Rattle.flow_analysis.specs.StepBounds.{growths, row_growths, most_edges}
 use Rattle.flow_analysis_laws.specs.CountedSteps.{all_zeros, all_states, visits}
 

@@ -10,8 +10,8 @@ use Rattle.interval_domain.specs.declared.intervals.Interval.{Interval}
 use Rattle.interval_domain.specs.IntervalLattice.{interval_order}
 use Rattle.value_domain.specs.declared.row_cells.Cell.{Cell}
 use Rattle.value_domain.specs.Cells.{cell_order}
-use Rattle.abstract_steps_laws_programs.specs.RegularPrograms.{is_regular}
-use Rattle.rule_checks_laws.proofs.LeastMaps.{regular_admits_least}
+use Rattle.flow_analysis.specs.RegularPrograms.{is_regular}
+use Rattle.flow_analysis.proofs.LeastMaps.{regular_admits_least}
 use Rattle.flow_analysis.specs.Analyses.{row_lattice, admitted_pairs, IsAnalysis}
 use Rattle.flow_analysis_laws.specs.LeastAnalyses.{IsLeastMap, IsLeastAnalysis, AdmitsExactly, AreAlike}
 use Rattle.flow_analysis_laws.proofs.OrderedSets.{one_list}

@@ -6,7 +6,7 @@ ghost use Rattle.flow_program.specs.WellFormed.{is_well_formed};
 ghost use Rattle.flow_program.specs.declared.programs.Flow.{Flow};
 ghost use Rattle.interval_domain.specs.declared.intervals.Interval.{Interval};
 ghost use Rattle.value_domain.specs.declared.row_cells.Cell.{Cell};
-ghost use Rattle.abstract_steps_laws_programs.specs.RegularPrograms.{is_regular};
+ghost use Rattle.flow_analysis.specs.RegularPrograms.{is_regular};
 ghost use Rattle.flow_analysis.specs.Analyses.{IsAnalysis};
 ghost use Rattle.flow_analysis.specs.StepBounds.{most_edges};
 ghost use Rattle.flow_analysis_laws.specs.CountedSteps.{visits};

@@ -12,7 +12,7 @@ use Rattle.flow_lower_tasks.specs.Acts.{Step}
 use Rattle.flow_lower_tasks.specs.Pieces.{TemplateView}
 use Rattle.flow_lower_functions.specs.Functions.{IsTemplate}
 use Rattle.flow_lower_counts.specs.declared.count_limits.UnitCounts.{UnitCounts}
-use Rattle.flow_lower_counts_parts.specs.declared.function_counts.FunctionCounts.{FunctionCounts}
+use Rattle.flow_lower_counts.specs.FunctionCounts.{FunctionCounts}
 use Rattle.flow_lower_counts.specs.Extents.{capped, with_call}
 use Rattle.flow_lower_counts.specs.FirstOver.{over, or_else, first_over, pool}
 use Rattle.flow_lower_counts.specs.SizeRefusals.{limit_of}

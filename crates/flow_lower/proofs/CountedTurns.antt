@@ -8,8 +8,8 @@ use Rattle.flow_program.specs.declared.flow_edges.Test.{Test}
 use Rattle.flow_lower_tasks.specs.Acts.{Act, Jump, Step}
 use Rattle.flow_lower_tasks.specs.Pieces.{Way, Always, When, Case, Other, NoLine, Line, ExitView, PieceView, Do, DoIfUsed, End, Mark, Call, TemplateView}
 use Rattle.flow_lower_tasks.specs.declared.template_pieces.OwnCall.{OwnCall}
-use Rattle.flow_lower_counts_parts.specs.declared.function_counts.BlockExtent.{BlockExtent}
-use Rattle.flow_lower_counts_parts.specs.declared.function_counts.FunctionCounts.{FunctionCounts}
+use Rattle.flow_lower_counts.specs.BlockExtent.{BlockExtent}
+use Rattle.flow_lower_counts.specs.FunctionCounts.{FunctionCounts}
 use Rattle.flow_lower_counts.specs.Extents.{capped, with_instruction, with_end, with_mark, with_call}
 use Rattle.flow_lower_counts.specs.PieceCounts.{counts_of, counted}
 use Rattle.flow_lower_counts.specs.Preparations.{Reaches, IsPrepared}

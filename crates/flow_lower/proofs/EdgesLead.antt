@@ -11,7 +11,7 @@ use Rattle.flow_program.specs.declared.flow_edges.Test.{Test}
 use Rattle.flow_lower_tasks.specs.Acts.{Act, Jump, Step}
 use Rattle.flow_lower_tasks.specs.Pieces.{Way, Always, When, Case, Other, NoLine, Line, ExitView, PieceView, Do, DoIfUsed, End, Mark, Call, TemplateView}
 use Rattle.flow_lower_tasks.specs.declared.template_pieces.OwnCall.{OwnCall}
-use Rattle.flow_lower_counts_parts.specs.declared.function_counts.FunctionCounts.{FunctionCounts}
+use Rattle.flow_lower_counts.specs.FunctionCounts.{FunctionCounts}
 use Rattle.flow_lower_counts.specs.Preparations.{begun, IsPrepared}
 use Rattle.flow_lower_functions.specs.Functions.{IsTemplate}
 use Rattle.flow_lower_laws.specs.PieceOrder.{is_end, last_ends, ends_block}

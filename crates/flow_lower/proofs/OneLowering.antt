@@ -7,7 +7,7 @@ use Rattle.cc_base.specs.declared.refusals.Refusal.{Refusal}
 use Rattle.c_layout.specs.CheckedUnits.{FunctionView, UnitView}
 use Rattle.flow_lower_tasks.specs.Pieces.{TemplateView}
 use Rattle.flow_lower_counts.specs.declared.count_limits.UnitCounts.{UnitCounts}
-use Rattle.flow_lower_counts_parts.specs.declared.function_counts.FunctionCounts.{FunctionCounts}
+use Rattle.flow_lower_counts.specs.FunctionCounts.{FunctionCounts}
 use Rattle.flow_lower_counts.specs.FirstOver.{unit_counts}
 use Rattle.flow_lower_counts.specs.SharedObjects.{shared_bases}
 use Rattle.flow_lower_counts.specs.Preparations.{IsPrepared}

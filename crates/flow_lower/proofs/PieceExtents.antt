@@ -1,8 +1,8 @@
 -- What pieces add, from any point on.
 use Rattle.std.proofs.Common.{◌≡◌, ℕ, ◌+◌, ◌≤◌, ◌^◌, Bool, true, false, cond, min, List, [], ◌∷◌, Option, refl, arith, ap, sym, ◌∙◌}
 use Rattle.flow_lower_tasks.specs.Pieces.{PieceView, Do, DoIfUsed, End, Mark, Call}
-use Rattle.flow_lower_counts_parts.specs.declared.function_counts.BlockExtent.{BlockExtent}
-use Rattle.flow_lower_counts_parts.specs.declared.function_counts.FunctionCounts.{FunctionCounts}
+use Rattle.flow_lower_counts.specs.BlockExtent.{BlockExtent}
+use Rattle.flow_lower_counts.specs.FunctionCounts.{FunctionCounts}
 use Rattle.flow_lower_counts.specs.Extents.{capped, with_instruction, with_end, with_mark, added_by, with_call}
 use Rattle.flow_lower_counts.specs.PieceCounts.{nothing, counted, with_piece, with_pieces, extent, if_used_by, if_used}
 use Rattle.flow_lower_laws.specs.PieceOrder.{GoesOn, AreFollowed, is_end, last_ends}

@@ -14,7 +14,7 @@ use Rattle.flow_lower_shapes.specs.HeapBases.{heap_shape}
 use Rattle.flow_lower_shapes.specs.FirstZeros.{object_shape}
 use Rattle.flow_lower_tasks.specs.Pieces.{NameView, Local, Outcome, Static, Literal, Allocation}
 use Rattle.flow_lower_functions.specs.Functions.{local_type}
-use Rattle.flow_lower_counts_parts.specs.declared.object_counts.BaseCount.{BaseCount}
+use Rattle.flow_lower_counts.specs.BaseCount.{BaseCount}
 use Rattle.flow_lower_counts.specs.Extents.{capped}
 use Rattle.flow_lower_counts.specs.BaseCounts.{is_new, no_bases, both, object_base, allocation_bases}
 use Rattle.flow_lower_bases.specs.BaseTables.{TableView, info, added, Named, local_or, known, literal_made, literal_or, object_made, object_or, with_shared, brought, with_all, base}

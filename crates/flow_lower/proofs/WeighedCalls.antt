@@ -8,8 +8,8 @@ use Rattle.c_layout.specs.CheckedUnits.{FunctionView, UnitView}
 use Rattle.flow_lower_tasks.specs.Pieces.{NameView, Local, Outcome, Static, Literal, Allocation, PieceView, Do, DoIfUsed, End, Mark, Call, TemplateView}
 use Rattle.flow_lower_tasks.specs.declared.template_pieces.OwnCall.{OwnCall}
 use Rattle.flow_lower_functions.specs.Functions.{local_type}
-use Rattle.flow_lower_counts_parts.specs.declared.function_counts.FunctionCounts.{FunctionCounts}
-use Rattle.flow_lower_counts_parts.specs.declared.object_counts.BaseCount.{BaseCount}
+use Rattle.flow_lower_counts.specs.FunctionCounts.{FunctionCounts}
+use Rattle.flow_lower_counts.specs.BaseCount.{BaseCount}
 use Rattle.flow_lower_counts.specs.Extents.{capped}
 use Rattle.flow_lower_counts.specs.PieceCounts.{counts_of, counted}
 use Rattle.flow_lower_counts.specs.BaseCounts.{Tally, is_new, both, no_bases, object_base, allocation_bases, with_more, with_noted, with_slot, with_name, with_slots, with_names, no_tally, own_bases, bases_of, inner_bases}

@@ -8,7 +8,7 @@ use Rattle.flow_program.specs.declared.flow_edges.Test.{Test}
 use Rattle.flow_lower_tasks.specs.Acts as acts
 use Rattle.flow_lower_tasks.specs.Acts.{Act, Step}
 use Rattle.flow_lower_tasks.specs.Pieces.{NameView, Way, Always, When, Case, Other, NoLine, Line, ExitView, PieceView, Do, DoIfUsed, End, Mark, Call, TemplateView}
-use Rattle.flow_lower_counts_parts.specs.declared.function_counts.FunctionCounts.{FunctionCounts}
+use Rattle.flow_lower_counts.specs.FunctionCounts.{FunctionCounts}
 use Rattle.flow_lower_counts.specs.PieceCounts.{counted}
 use Rattle.flow_lower_counts.specs.BaseCounts.{bases_of}
 use Rattle.flow_lower_laws.specs.NamedBases.{maybe, named_by, named_in_side, named_in_test, named_on_way, named_on_exits}

@@ -5,3 +5,5 @@ pub mod Openings
 pub mod Lowerings
 pub mod WellMade
 pub mod AsCounted
+pub use Rattle.flow_lower_counts.specs.SharedObjects
+pub use Rattle.flow_lower_functions.specs.Functions

@@ -17,7 +17,7 @@ use Rattle.flow_lower_counts.specs.declared.count_limits.UnitCounts.{UnitCounts}
 use Rattle.flow_lower_counts.specs.FirstOver.{over, or_else, first_over, unit_counts, pool}
 use Rattle.flow_lower_counts.specs.Preparations.{IsPrepared}
 use Rattle.flow_lower_counts.specs.SharedObjects.{shared_bases}
-use Rattle.flow_lower_counts_parts.specs.declared.function_counts.FunctionCounts.{FunctionCounts}
+use Rattle.flow_lower_counts.specs.FunctionCounts.{FunctionCounts}
 use Rattle.flow_program_views.specs.ProgramViews.{FlowView}
 use Rattle.flow_lower_bases.specs.InitialBytes.{initial_objects}
 use Rattle.flow_lower.specs.Openings.{ProgramView, program, unfinished}

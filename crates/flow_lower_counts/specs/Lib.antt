@@ -8,3 +8,8 @@ pub mod FunctionTotals
 pub mod SettledTemplates
 pub mod Preparations
 pub mod PreparingSteps
+pub use Rattle.flow_lower_counts_parts.specs.declared.function_counts.FunctionCounts
+pub use Rattle.flow_lower_functions.specs.Functions
+pub use Rattle.flow_lower_functions.specs.Turns
+pub use Rattle.flow_lower_counts_parts.specs.declared.function_counts.BlockExtent
+pub use Rattle.flow_lower_counts_parts.specs.declared.object_counts.BaseCount

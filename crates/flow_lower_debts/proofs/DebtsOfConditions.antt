@@ -4,9 +4,9 @@ use Rattle.cc_base.specs.declared.integer_operators.Rel.{Rel}
 use Rattle.cc_base.specs.declared.int_types.IntType.{IntType}
 use Rattle.c_layout.specs.CheckedTrees as tree
 use Rattle.c_layout.specs.CheckedTrees.{TermTree, FormTree, Typed}
-use Rattle.flow_lower_conditions.specs.Conditions.{condition, condition_of_form, leaf_of, test_if, tested_branch, read_by, ReadView}
-use Rattle.flow_lower_conditions.specs.Tests.{named, constant_of, side_of, right_side, object_test, test_with, turned_object_test, turned_test, relation_test_of, named_or_assigned, compared_with_null, null_test, zero_test_of, own_test_of, operator_test, test_of_form, test_of, Tested}
-use Rattle.flow_lower_conditions.specs.declared.branch_tests.NamedObject.{NamedObject}
+use Rattle.flow_lower_growth.specs.Conditions.{condition, condition_of_form, leaf_of, test_if, tested_branch, read_by, ReadView}
+use Rattle.flow_lower_growth.specs.Tests.{named, constant_of, side_of, right_side, object_test, test_with, turned_object_test, turned_test, relation_test_of, named_or_assigned, compared_with_null, null_test, zero_test_of, own_test_of, operator_test, test_of_form, test_of, Tested}
+use Rattle.flow_lower_growth.specs.NamedObject.{NamedObject}
 use Rattle.flow_program.specs.declared.flow_edges.Side.{Side}
 use Rattle.flow_program.specs.declared.machine_instructions.Scalar.{Scalar}
 use Rattle.flow_program.specs.declared.machine_instructions.Scalar.TheVariants as scalar

@@ -10,10 +10,10 @@ use Rattle.flow_lower_tasks.specs.Works as jobs
 use Rattle.flow_lower_tasks.specs.Works.{Job}
 use Rattle.flow_lower_tasks.specs.Plans.{Plan}
 use Rattle.flow_lower_tasks.specs.Settings.{SettingView}
-use Rattle.flow_lower_works.specs.Functions.{arguments, argument, parameters, result_entered, outcome, body, entry, called, function, setting_of, no_plan, IsTemplate}
-use Rattle.flow_lower_works.specs.Turns.{planless}
-use Rattle.flow_lower_works.specs.Derivations.{parts, Makes, nothing, piece, work}
-use Rattle.flow_lower_works.proofs.Derivations.{derived}
+use Rattle.flow_lower_growth.specs.Functions.{arguments, argument, parameters, result_entered, outcome, body, entry, called, function, setting_of, no_plan, IsTemplate}
+use Rattle.flow_lower_growth.specs.Turns.{planless}
+use Rattle.flow_lower_growth.specs.Derivations.{parts, Makes, nothing, piece, work}
+use Rattle.flow_lower_growth.proofs.Derivations.{derived}
 use Rattle.flow_lower_growth.proofs.GrowingWorks.{jobs_none}
 use Rattle.flow_lower_fit_names.specs.NamedTrees.{NamesLocals, NamesStatements, NamesFunction, AllNames}
 use Rattle.flow_lower_fit_names.proofs.NamingWorks.{AreFree, NamesJob, NameJobs, IsNaming, works, names_term, names_pointer}

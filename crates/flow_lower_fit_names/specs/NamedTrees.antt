@@ -7,7 +7,7 @@ use Rattle.c_layout.specs.CheckedUnits.{FunctionView}
 use Rattle.c_layout.specs.StructViews.{StructView}
 use Rattle.flow_lower_tasks.specs.Pieces.{NameView, Local, Outcome, Literal, Allocation, TemplateView}
 use Rattle.flow_lower_tasks.specs.Plans.{name_of_object}
-use Rattle.flow_lower_works.specs.Functions.{numbers_from, IsTemplate}
+use Rattle.flow_lower_growth.specs.Functions.{numbers_from, IsTemplate}
 
 abbrev mutual
   -- all that a term names is such

@@ -10,10 +10,10 @@ use Rattle.flow_lower_tasks.specs.Works as jobs
 use Rattle.flow_lower_tasks.specs.Works.{Job}
 use Rattle.flow_lower_tasks.specs.Plans.{Plan}
 use Rattle.flow_lower_tasks.specs.Settings.{SettingView}
-use Rattle.flow_lower_works.specs.Functions.{arguments, argument, parameters, result_entered, outcome, body, entry, called, function, setting_of, no_plan, IsTemplate}
-use Rattle.flow_lower_works.specs.Turns.{planless}
-use Rattle.flow_lower_works.specs.Derivations.{parts, Makes, nothing, piece, work}
-use Rattle.flow_lower_works.proofs.Derivations.{derived}
+use Rattle.flow_lower_growth.specs.Functions.{arguments, argument, parameters, result_entered, outcome, body, entry, called, function, setting_of, no_plan, IsTemplate}
+use Rattle.flow_lower_growth.specs.Turns.{planless}
+use Rattle.flow_lower_growth.specs.Derivations.{parts, Makes, nothing, piece, work}
+use Rattle.flow_lower_growth.proofs.Derivations.{derived}
 use Rattle.flow_lower_growth.proofs.Growth.{grows_on}
 use Rattle.flow_lower_growth.proofs.GrowingWorks.{grows_parts, planless_grows, grows, jobs_none}
 use Rattle.flow_lower_fit_switches.specs.SwitchedTrees.{SwitchesStatements, IsPieceOf, ArePiecesOf}

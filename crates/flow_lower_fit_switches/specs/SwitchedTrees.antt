@@ -10,7 +10,7 @@ use Rattle.flow_lower_tasks.specs.Pieces.{NameView, Way, Always, When, Case, Oth
 use Rattle.flow_lower_tasks.specs.Plans.{name_of_object}
 use Rattle.flow_lower_conditions.specs.Tests.{named}
 use Rattle.flow_lower_conditions.specs.declared.branch_tests.NamedObject.{NamedObject}
-use Rattle.flow_lower_works.specs.Functions.{IsTemplate}
+use Rattle.flow_lower_growth.specs.Functions.{IsTemplate}
 
 -- an object of an integer type is such
 abbrev pub IsSuchKind : (NameView → Type 0) → NamedObject → Scalar → Type 0

@@ -4,8 +4,8 @@ use Rattle.cc_base.specs.declared.diagnostics.Place.{Place}
 use Rattle.c_layout.specs.CheckedTrees as tree
 use Rattle.c_layout.specs.CheckedTrees.{TermTree, StatementTree, StatementTrees, StoreTree, StoreValue, StoreCopy, StoreText}
 use Rattle.c_layout.specs.declared.checked_tree.checked_statements.CaseLabel.{CaseLabel}
-use Rattle.flow_lower_conditions.specs.Tests.{named}
-use Rattle.flow_lower_conditions.specs.declared.branch_tests.NamedObject.{NamedObject}
+use Rattle.flow_lower_statements.specs.Tests.{named}
+use Rattle.flow_lower_statements.specs.NamedObject.{NamedObject}
 use Rattle.flow_program.specs.declared.machine_instructions.Scalar.{Scalar}
 use Rattle.flow_program.specs.declared.machine_instructions.Scalar.TheVariants as scalar
 use Rattle.flow_lower_statements.specs.ScopeJumps.{entered, left, all_entered, all_left, around, objects, way, leap, enters_between}

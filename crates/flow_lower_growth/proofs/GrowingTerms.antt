@@ -10,9 +10,9 @@ use Rattle.flow_lower_tasks.specs.TermKinds.{term_at}
 use Rattle.flow_lower_tasks.specs.Works as jobs
 use Rattle.flow_lower_tasks.specs.Plans.{Plan, with_work, with_name}
 use Rattle.flow_lower_tasks.specs.Settings.{SettingView}
-use Rattle.flow_lower_expressions.specs.Calls.{argued, is_allocation, reads_line, sited, allocated, line_value, target_size, library_at, plain_call, library_call}
-use Rattle.flow_lower_expressions.specs.LvaluePointers.{address}
-use Rattle.flow_lower_expressions.specs.Values.{of_form, term}
+use Rattle.flow_lower_statements.specs.Calls.{argued, is_allocation, reads_line, sited, allocated, line_value, target_size, library_at, plain_call, library_call}
+use Rattle.flow_lower_statements.specs.LvaluePointers.{address}
+use Rattle.flow_lower_statements.specs.Values.{of_form, term}
 use Rattle.flow_lower_growth.specs.Growth.{Grows}
 use Rattle.flow_lower_growth.proofs.Growth.{grows_work, works}
 

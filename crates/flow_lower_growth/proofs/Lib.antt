@@ -3,3 +3,4 @@ pub mod GrowingTerms
 pub mod GrowingConditions
 pub mod GrowingStatements
 pub mod GrowingWorks
+pub use Rattle.flow_lower_works.proofs.Derivations

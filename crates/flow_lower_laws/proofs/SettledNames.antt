@@ -2,7 +2,7 @@
 use Rattle.std.proofs.Common.{◌≡◌, Bool, true, false, cond, List, [], ◌∷◌, ◌++◌, Option, ℕ, refl, ap, sym, subst, ◌∙◌, append_assoc}
 use Rattle.std.proofs.lemmas.List.{append-nil}
 use Rattle.flow_lower_tasks.specs.Pieces.{ExitView, PieceView, Do, DoIfUsed, End, Mark, Call, TemplateView}
-use Rattle.flow_lower_counts_parts.specs.declared.function_counts.FunctionCounts.{FunctionCounts}
+use Rattle.flow_lower_counts.specs.FunctionCounts.{FunctionCounts}
 use Rattle.flow_lower_counts.specs.SettledTemplates.{NamesView, SettlingView, adds_nothing, renamed, renamed_exits, renamed_end, is_last, with_renamed, with_if, with_all, nothing_settled, renaming, settled}
 use Rattle.flow_lower_laws.specs.NamedBases.{named_by, named_on_way, named_on_exits, named_in, named_in_all, AllBelow, sites_named, AreNamed}
 use Rattle.flow_lower_laws.proofs.NamedLists.{all_append}

@@ -14,8 +14,8 @@ use Rattle.flow_lower_tasks.specs.Works.{Job}
 use Rattle.flow_lower_tasks.specs.Plans.{Plan, with_work, with_name, with_labels}
 use Rattle.flow_lower_tasks.specs.Settings.{SettingView}
 use Rattle.flow_lower_statements.specs.ScopeJumps.{all_left}
-use Rattle.flow_lower_functions.specs.Functions.{arguments, argument, parameters, result_entered, result_loaded, outcome, body, entry, called, function, setting_of, no_plan, IsTemplate}
-use Rattle.flow_lower_functions.specs.Turns.{turn, Going, scheduled, going_on, next_of, is_work, after, begun, template_of, Finishes}
+use Rattle.flow_lower_counts.specs.Functions.{arguments, argument, parameters, result_entered, result_loaded, outcome, body, entry, called, function, setting_of, no_plan, IsTemplate}
+use Rattle.flow_lower_counts.specs.Turns.{turn, Going, scheduled, going_on, next_of, is_work, after, begun, template_of, Finishes}
 use Rattle.flow_lower_laws.specs.NamedBases.{named_in, named_in_all, AllBelow, all_sites, sites_named, AreNamed}
 use Rattle.flow_lower_laws.proofs.PlainWorks.{shadow}
 use Rattle.flow_lower_laws.proofs.NamedLists.{all_append, below_append, below_left, below_right, below_more, sites_append, named_append, same_sites, named_in_jobs, known_fresh, known_work, Balanced, bal_known, bal_silent, bal_fresh}

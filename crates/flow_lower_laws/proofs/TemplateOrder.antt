@@ -14,8 +14,8 @@ use Rattle.flow_lower_tasks.specs.Works.{Job}
 use Rattle.flow_lower_tasks.specs.Plans.{Plan, with_work, with_name, with_labels}
 use Rattle.flow_lower_tasks.specs.Settings.{SettingView}
 use Rattle.flow_lower_statements.specs.ScopeJumps.{all_left}
-use Rattle.flow_lower_functions.specs.Functions.{arguments, argument, parameters, result_entered, result_loaded, outcome, body, entry, called, function, setting_of, no_plan, IsTemplate}
-use Rattle.flow_lower_functions.specs.Turns.{turn, Going, scheduled, going_on, next_of, is_work, has_work, after, begun, Finishes}
+use Rattle.flow_lower_counts.specs.Functions.{arguments, argument, parameters, result_entered, result_loaded, outcome, body, entry, called, function, setting_of, no_plan, IsTemplate}
+use Rattle.flow_lower_counts.specs.Turns.{turn, Going, scheduled, going_on, next_of, is_work, has_work, after, begun, Finishes}
 use Rattle.flow_lower_laws.specs.PieceOrder.{AreFollowed, ends_block}
 use Rattle.flow_lower_laws.proofs.PieceLists.{ArePlain, plain_before, in_place, last_more, last_in_place}
 use Rattle.flow_lower_laws.proofs.PlainWorks.{shadow, IsPlain, works, plain_term, plain_pointer}

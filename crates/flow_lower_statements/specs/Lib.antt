@@ -4,3 +4,9 @@ pub mod Loops
 pub mod Switches
 pub mod Jumps
 pub mod Statements
+pub use Rattle.flow_lower_conditions.specs.Conditions
+pub use Rattle.flow_lower_conditions.specs.Tests
+pub use Rattle.flow_lower_conditions.specs.declared.branch_tests.NamedObject
+pub use Rattle.flow_lower_expressions.specs.Calls
+pub use Rattle.flow_lower_expressions.specs.LvaluePointers
+pub use Rattle.flow_lower_expressions.specs.Values

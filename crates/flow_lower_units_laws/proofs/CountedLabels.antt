@@ -6,8 +6,8 @@ use Rattle.std.specs.Option.{option_and_then}
 use Rattle.c_layout.specs.CheckedTrees as tree
 use Rattle.c_layout.specs.CheckedTrees.{StatementTree, StatementTrees, statement_trees}
 use Rattle.c_layout.specs.CheckedUnits.{FunctionView}
-use Rattle.flow_lower_debts.specs.Marks.{one, below, labels_in, all_labels_in, cases_in, all_cases_in, defaults_in, all_defaults_in, IsSelected, AreSelected, AllSelected, IsLabelled}
-use Rattle.flow_lower_debts.proofs.MarkArithmetic.{compared, below_yes, below_no, one_yes, one_no}
+use Rattle.template_runs_scopes.specs.Marks.{one, below, labels_in, all_labels_in, cases_in, all_cases_in, defaults_in, all_defaults_in, IsSelected, AreSelected, AllSelected, IsLabelled}
+use Rattle.template_runs_scopes.proofs.MarkArithmetic.{compared, below_yes, below_no, one_yes, one_no}
 use Rattle.flow_lower_units.specs.declared.label_numbers.Numbers.{Numbers}
 use Rattle.flow_lower_units.specs.LabelNumbers.{behind_number, with_labels, with_cases, behind_label, behind_case, behind_default, in_switch, same_truth, behind_switch, numbered, all_numbered, none_met, ends_with, is_numbered}
 use Rattle.flow_lower_units_laws.specs.LabelsOnce.{once_if, IsSelectedOnce, AreSelectedOnce, AllSelectedOnce, IsLabelledOnce}

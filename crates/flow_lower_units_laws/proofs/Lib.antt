@@ -6,3 +6,4 @@ pub mod SwitchedIntegers
 pub mod RoomOfTerms
 pub mod UnitParts
 mod LookRows
+pub use Rattle.template_runs_scopes.proofs.MarkArithmetic

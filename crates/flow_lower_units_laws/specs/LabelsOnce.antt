@@ -3,7 +3,7 @@ use Rattle.std.specs.Prelude.{◌≡◌, ℕ, Bool, true, cond, length}
 use Rattle.c_layout.specs.CheckedTrees as tree
 use Rattle.c_layout.specs.CheckedTrees.{StatementTree, StatementTrees, statement_trees}
 use Rattle.c_layout.specs.CheckedUnits.{FunctionView}
-use Rattle.flow_lower_debts.specs.Marks.{below, all_labels_in, cases_in, all_cases_in, defaults_in, all_defaults_in, IsLabelled}
+use Rattle.template_runs_scopes.specs.Marks.{below, all_labels_in, cases_in, all_cases_in, defaults_in, all_defaults_in, IsLabelled}
 use Rattle.flow_lower_units.specs.LabelNumbers.{is_numbered}
 
 abbrev pub once_if : Bool → ℕ

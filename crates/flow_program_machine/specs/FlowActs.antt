@@ -18,8 +18,8 @@ use Rattle.lib_models_effects.specs.PointerEffects.{narrow, shift, difference, c
 use Rattle.lib_models_effects.specs.IntegerEffects.{plain_one, binary, unary, compare_numbers, negation, convert}
 use Rattle.lib_models_effects.specs.ObjectEffects.{next_instance, entered, left, forgotten, cleared, spelled}
 use Rattle.lib_models_effects.specs.LibraryCalls.{library}
-use Rattle.flow_lower_tasks.specs.Acts as act
-use Rattle.flow_lower_tasks.specs.Acts.{Act}
+use Rattle.flow_program_views.specs.Acts as act
+use Rattle.flow_program_views.specs.Acts.{Act}
 use Rattle.flow_program_views.specs.ProgramViews.{FlowView}
 use Rattle.flow_program_machine.specs.FlowStates.{Standing, stuck_at, with_temp, with_temps, with_instance, put, next, base_size}
 

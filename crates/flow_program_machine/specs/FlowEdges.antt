@@ -11,7 +11,7 @@ use Rattle.lib_models_effects.specs.Labels.{no_labels}
 use Rattle.lib_models_effects.specs.Scalars.{Scalar, integer, pointer, is_false}
 use Rattle.lib_models_effects.specs.Worlds.{Reply, goes, behind}
 use Rattle.lib_models_effects.specs.Tests.{TestedSide, object, constant, nothing, pass_test, pass_case}
-use Rattle.flow_lower_tasks.specs.Pieces.{Way, Always, When, Case, Other, NoLine, Line}
+use Rattle.flow_program_views.specs.Pieces.{Way, Always, When, Case, Other, NoLine, Line}
 use Rattle.flow_program_views.specs.ProgramViews.{BlockView, EdgeView, FlowView}
 use Rattle.flow_program_machine.specs.FlowStates.{Standing, stuck_at, if_some, with_instance, put}
 

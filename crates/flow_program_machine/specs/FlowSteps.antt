@@ -7,8 +7,8 @@ use Rattle.lib_models_effects.specs.Scalars.{Scalar, integer}
 use Rattle.lib_models_effects.specs.Worlds.{Ended, Stuck, Reply, goes, stops, behind, unviolated, Violation}
 use Rattle.lib_models_effects.specs.Operands.{with_number}
 use Rattle.lib_models_effects.specs.LibraryCalls.{fgets}
-use Rattle.flow_lower_tasks.specs.Acts as act
-use Rattle.flow_lower_tasks.specs.Acts.{Act, Step}
+use Rattle.flow_program_views.specs.Acts as act
+use Rattle.flow_program_views.specs.Acts.{Act, Step}
 use Rattle.flow_program_views.specs.ProgramViews.{BlockView, FlowView}
 use Rattle.flow_program_machine.specs.FlowStates.{Standing, with_temp, with_temps, put_if, FlowRun, running, stopped}
 use Rattle.flow_program_machine.specs.FlowActs.{perform}

@@ -1,1 +1,3 @@
 pub mod ProgramViews
+pub use Rattle.flow_lower_tasks.specs.Acts
+pub use Rattle.flow_lower_tasks.specs.Pieces

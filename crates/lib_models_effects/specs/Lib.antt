@@ -20,3 +20,7 @@ pub mod LibraryCalls
 pub use Rattle.lib_models_memory.specs.Bytes
 pub use Rattle.lib_models_memory.specs.Labels
 pub use Rattle.lib_models_memory.specs.Scalars
+pub use Rattle.lib_models_memory.specs.Instances
+pub use Rattle.lib_models_memory.specs.Numbers
+pub use Rattle.lib_models_memory.specs.ScalarSizes
+pub use Rattle.lib_models_memory.specs.Tags

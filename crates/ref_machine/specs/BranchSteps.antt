@@ -4,10 +4,10 @@ use Rattle.cc_base.specs.declared.integer_operators.Rel.{Rel}
 use Rattle.c_layout.specs.CheckedTrees.{StatementTree}
 use Rattle.c_layout.specs.CheckedUnits.{UnitView}
 use Rattle.c_layout.specs.declared.checked_tree.checked_statements.CaseLabel.{CaseLabel}
-use Rattle.flow_lower_conditions.specs.declared.branch_tests.NamedObject.{NamedObject}
+use Rattle.flow_lower_functions.specs.NamedObject.{NamedObject}
 use Rattle.flow_program.specs.declared.machine_instructions.Scalar as declared
 use Rattle.flow_program.specs.declared.machine_instructions.Scalar.TheVariants as of
-use Rattle.lib_models_memory.specs.Scalars.{Scalar, is_false}
+use Rattle.lib_models_effects.specs.Scalars.{Scalar, is_false}
 use Rattle.lib_models_effects.specs.Worlds.{Reply, behind}
 use Rattle.lib_models_effects.specs.Operands.{with_number}
 use Rattle.lib_models_effects.specs.LibraryCalls.{fgets}

@@ -5,7 +5,7 @@ use Rattle.c_layout.specs.CheckedUnits.{FunctionView, UnitView}
 use Rattle.c_layout.specs.declared.checked_tree.checked_terms.ObjectRef.TheVariants.{Local}
 use Rattle.flow_lower_tasks.specs.TermKinds.{is_void, scalar_of}
 use Rattle.flow_lower_functions.specs.Functions.{numbers_from, local_type}
-use Rattle.lib_models_memory.specs.Scalars.{Scalar}
+use Rattle.lib_models_effects.specs.Scalars.{Scalar}
 use Rattle.lib_models_effects.specs.NumberedTables.{empty_table}
 use Rattle.lib_models_effects.specs.Worlds.{Reply, behind}
 use Rattle.lib_models_effects.specs.Accesses.{store}

@@ -7,9 +7,9 @@ use Rattle.c_layout.specs.CheckedUnits.{UnitView}
 use Rattle.c_layout.specs.declared.syntax_tree.expressions.LogicalOp.{LogicalOp}
 use Rattle.c_layout.specs.declared.syntax_tree.expressions.LogicalOp.TheVariants.{And, Or}
 use Rattle.flow_lower_tasks.specs.TermKinds.{meaning, relation, scalar_of, integer_type, term_at, term_type, lvalue_at, lvalue_type}
-use Rattle.flow_lower_expressions.specs.Assignments.{keeps_old}
-use Rattle.flow_lower_expressions.specs.Calls.{gives}
-use Rattle.flow_lower_conditions.specs.Conditions.{ReadView, read_by}
+use Rattle.flow_lower_functions.specs.Assignments.{keeps_old}
+use Rattle.flow_lower_functions.specs.Calls.{gives}
+use Rattle.flow_lower_functions.specs.Conditions.{ReadView, read_by}
 use Rattle.ref_machine.specs.Operations as op
 use Rattle.ref_machine.specs.Operations.{LeftFirst, size_of}
 use Rattle.ref_machine.specs.Items.{Item, Items, Value, Unused, Address, Do, Truth, Choose, ReadLine, Hop, Invoke, items_of}

@@ -14,3 +14,4 @@ pub mod SourceSteps
 pub mod SourceRuns
 pub mod RunFacts
 pub use Rattle.flow_lower_functions.specs.Functions
+pub use Rattle.flow_lower_functions.specs.NamedObject

@@ -4,8 +4,8 @@ use Rattle.c_layout.specs.CheckedUnits.{FunctionView, LiteralView, UnitView}
 use Rattle.c_layout.specs.declared.checked_tree.checked_terms.ObjectRef.{ObjectRef}
 use Rattle.c_layout.specs.declared.checked_tree.checked_terms.ObjectRef.TheVariants.{Local}
 use Rattle.flow_lower_functions.specs.Functions.{local_type}
-use Rattle.lib_models_memory.specs.Bytes.{into}
-use Rattle.lib_models_memory.specs.Scalars.{Scalar, pointer}
+use Rattle.lib_models_effects.specs.Bytes.{into}
+use Rattle.lib_models_effects.specs.Scalars.{Scalar, pointer}
 use Rattle.lib_models_effects.specs.NumberedTables.{put_at, clear_at}
 use Rattle.lib_models_effects.specs.Worlds.{World, Reply, goes}
 use Rattle.lib_models_effects.specs.ObjectEffects.{next_instance, entered, left, forgotten, cleared, spelled}

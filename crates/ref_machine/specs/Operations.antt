@@ -12,8 +12,8 @@ use Rattle.c_layout.specs.CheckedUnits.{UnitView}
 use Rattle.c_layout.specs.declared.leaf_lists.Leaf.{Leaf}
 use Rattle.c_layout.specs.declared.library_functions.LibFn.{LibFn}
 use Rattle.flow_program.specs.declared.machine_instructions.Scalar as declared
-use Rattle.lib_models_memory.specs.Labels.{no_labels}
-use Rattle.lib_models_memory.specs.Scalars.{Scalar, integer}
+use Rattle.lib_models_effects.specs.Labels.{no_labels}
+use Rattle.lib_models_effects.specs.Scalars.{Scalar, integer}
 use Rattle.lib_models_effects.specs.Worlds.{World, Stuck, Reply, goes, stops, behind}
 use Rattle.lib_models_effects.specs.Accesses.{load, store}
 use Rattle.lib_models_effects.specs.StructCopies.{copy_struct}

@@ -4,7 +4,7 @@ use Rattle.std.specs.List.{Contains}
 use Rattle.cc_base.specs.declared.diagnostics.Place.{Place}
 use Rattle.cc_base.specs.declared.diagnostics.Rule.{Rule}
 use Rattle.c_layout.specs.CheckedUnits.{UnitView}
-use Rattle.lib_models_memory.specs.Instances.{total_size}
+use Rattle.lib_models_effects.specs.Instances.{total_size}
 use Rattle.lib_models_effects.specs.Worlds as why
 use Rattle.lib_models_effects.specs.Worlds.{Why}
 use Rattle.ref_machine.specs.SourceRuns.{SourceRun, running, stopped, world_of, found_in, steps_of, why_of, Run}

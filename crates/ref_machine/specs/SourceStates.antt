@@ -6,7 +6,7 @@ use Rattle.c_layout.specs.CheckedUnits.{FunctionView, StaticView, UnitView}
 use Rattle.c_layout.specs.declared.checked_tree.checked_terms.ObjectRef.{ObjectRef}
 use Rattle.c_layout.specs.declared.checked_tree.checked_terms.ObjectRef.TheVariants.{Static, Local}
 use Rattle.flow_lower_functions.specs.Functions.{local_type}
-use Rattle.lib_models_memory.specs.Scalars.{Scalar}
+use Rattle.lib_models_effects.specs.Scalars.{Scalar}
 use Rattle.lib_models_effects.specs.Worlds.{World, Reply, stops, Stuck}
 use Rattle.ref_machine.specs.Items.{Item}
 

@@ -6,7 +6,7 @@ use Rattle.c_layout.specs.CheckedTrees.{TermTree, StatementTree, StatementTrees,
 use Rattle.c_layout.specs.CheckedUnits.{UnitView, FunctionView}
 use Rattle.c_layout.specs.declared.checked_tree.checked_terms.ObjectRef.TheVariants.{Local}
 use Rattle.flow_lower_tasks.specs.TermKinds.{scalar_of, term_type, lvalue_type}
-use Rattle.flow_lower_conditions.specs.Tests.{named}
+use Rattle.flow_lower_functions.specs.Tests.{named}
 use Rattle.ref_machine.specs.Operations as op
 use Rattle.ref_machine.specs.Items.{Item, Forget, Clear, Spell, Value, Unused, Address, Do, Drop, Object, Outcome, OnObject, Statement, WhileTurn, DoTurn, ForTurn, TurnEnd, LoopEnd, Select, Enters, Leaves, Hop, GoTo, BreakOut, NextTurn, LeaveFunction, EndBody}
 use Rattle.ref_machine.specs.ConditionItems.{condition}

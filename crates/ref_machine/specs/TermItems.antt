@@ -13,7 +13,7 @@ use Rattle.flow_program.specs.declared.machine_instructions.Scalar as declared
 use Rattle.flow_lower_tasks.specs.TermKinds.{step_operator, is_backward, scalar_of, integer_type, lvalue_at, lvalue_type}
 use Rattle.flow_lower_tasks.specs.declared.term_kinds.OperatorMeaning.{OperatorMeaning}
 use Rattle.flow_lower_tasks.specs.declared.term_kinds.OperatorMeaning.TheVariants as meant
-use Rattle.flow_lower_expressions.specs.Assignments.{number_operator}
+use Rattle.flow_lower_functions.specs.Assignments.{number_operator}
 use Rattle.ref_machine.specs.Operations as op
 use Rattle.ref_machine.specs.Operations.{Order, LeftFirst, RightFirst, Operation, size_of}
 use Rattle.ref_machine.specs.Items.{Item, Value, Unused, Address, Do, Again, Drop, Object, Literal}

@@ -11,8 +11,8 @@ use Rattle.flow_program.specs.declared.machine_instructions.Scalar.TheVariants a
 use Rattle.flow_lower_tasks.specs.TermKinds.{meaning, relation, integer_type, common_with_int, term_type}
 use Rattle.flow_lower_tasks.specs.declared.term_kinds.OperatorMeaning.{OperatorMeaning}
 use Rattle.flow_lower_tasks.specs.declared.term_kinds.OperatorMeaning.TheVariants.{Number, Truth}
-use Rattle.flow_lower_conditions.specs.declared.branch_tests.NamedObject.{NamedObject}
-use Rattle.flow_lower_conditions.specs.Tests.{named, named_or_assigned, constant_of, compared_with_null}
+use Rattle.flow_lower_functions.specs.NamedObject.{NamedObject}
+use Rattle.flow_lower_functions.specs.Tests.{named, named_or_assigned, constant_of, compared_with_null}
 use Rattle.lib_models_effects.specs.Tests.{turned}
 use Rattle.ref_machine.specs.Items.{NamedSide, NamedTest}
 use Rattle.ref_machine.specs.Items as side

@@ -7,3 +7,5 @@ pub use Rattle.ref_machine_marked.specs.MarkedTerms
 pub use Rattle.ref_machine_marked.specs.KindedStatements
 pub use Rattle.ref_machine_marked.specs.KindedTerms
 pub use Rattle.ref_machine_marked.specs.StandingJumps
+pub use Rattle.ref_machine_marked.specs.MarkOperations
+pub use Rattle.ref_machine_marked.specs.Marks

@@ -3,7 +3,7 @@ use Rattle.std.proofs.Common.{◌≡◌, ◌≤◌, ◌⊎◌, inl, inr, ℕ, ze
 use Rattle.c_layout.specs.CheckedTrees as tree
 use Rattle.c_layout.specs.CheckedTrees.{TermTree, StatementTree, StatementTrees, statement_trees}
 use Rattle.c_layout.specs.CheckedUnits.{FunctionView, UnitView}
-use Rattle.flow_lower_debts.specs.Marks.{labels_in, all_labels_in, cases_in, all_cases_in}
+use Rattle.flow_lower_units_laws.specs.Marks.{labels_in, all_labels_in, cases_in, all_cases_in}
 use Rattle.flow_lower_units.specs.RegularTerms.{is_regular_term}
 use Rattle.flow_lower_units.specs.RegularStatements.{are_regular_clauses, is_plain, are_plain, is_regular_switch, is_regular_statement, are_regular_statements}
 use Rattle.ref_machine.specs.Items as item

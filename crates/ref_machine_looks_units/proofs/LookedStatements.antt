@@ -9,8 +9,8 @@ use Rattle.c_layout.specs.CheckedUnits.{FunctionView, UnitView}
 use Rattle.c_layout.specs.declared.checked_tree.checked_statements.CaseLabel.{CaseLabel}
 use Rattle.flow_lower_conditions.specs.Tests.{named}
 use Rattle.flow_lower_conditions.specs.declared.branch_tests.NamedObject.{NamedObject}
-use Rattle.flow_lower_debts.specs.Marks.{below, cases_in}
-use Rattle.flow_lower_debts.proofs.MarkArithmetic.{below_yes}
+use Rattle.flow_lower_units_laws.specs.Marks.{below, cases_in}
+use Rattle.flow_lower_units_laws.proofs.MarkArithmetic.{below_yes}
 use Rattle.flow_lower_tasks.specs.TermKinds.{is_void, term_type}
 use Rattle.flow_lower_units.specs.RegularTerms.{is_regular_term}
 use Rattle.flow_lower_units.specs.RegularStatements.{are_plain, are_regular_clauses, is_regular_switch, is_regular_statement, are_regular_statements}
@@ -21,8 +21,8 @@ use Rattle.lib_models_effects.specs.LibraryChecks.{most_size}
 use Rattle.ref_machine.specs.LabelSearch.{from_label}
 use Rattle.ref_machine_looks.specs.KindedTerms.{IsThere}
 use Rattle.ref_machine_looks.specs.KindedStatements.{HasCases}
-use Rattle.ref_machine_marks.specs.Marks.{Mark, Ranged, Exactly, Pointing, Naming, Null, Loaded, Converted, Tested}
-use Rattle.ref_machine_marks.specs.MarkOperations.{IsKind, IsWider}
+use Rattle.ref_machine_looks.specs.Marks.{Mark, Ranged, Exactly, Pointing, Naming, Null, Loaded, Converted, Tested}
+use Rattle.ref_machine_looks.specs.MarkOperations.{IsKind, IsWider}
 use Rattle.ref_machine_looks.specs.MarkedTerms.{SideTerm}
 use Rattle.ref_machine_looks.specs.MarkedStatements.{MarkedIf, MarkedStep, Matches, SelectsBy, AreBytes, MarkedStore, MarkedStores, MarkedReturn, MarkedStatement, MarkedStatements}
 use Rattle.ref_machine_looks.specs.LookedTypes.{is_kind, is_wider, is_scalar_type, is_integer}

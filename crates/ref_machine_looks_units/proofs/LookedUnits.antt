@@ -8,8 +8,8 @@ use Rattle.c_layout.specs.CheckedTrees.{statement_trees}
 use Rattle.c_layout.specs.CheckedUnits.{FunctionView, LocalView, StaticView, StaticStoreView, SetValue, SetText, LiteralView, UnitView}
 use Rattle.c_layout.specs.declared.checked_tree.checked_units.StaticValue.{StaticValue}
 use Rattle.c_layout.specs.declared.checked_tree.checked_units.StaticValue.TheVariants as static_value
-use Rattle.flow_lower_debts.specs.Marks.{below, all_labels_in}
-use Rattle.flow_lower_debts.proofs.MarkArithmetic.{compared, below_yes}
+use Rattle.flow_lower_units_laws.specs.Marks.{below, all_labels_in}
+use Rattle.flow_lower_units_laws.proofs.MarkArithmetic.{compared, below_yes}
 use Rattle.ref_machine.specs.Functions.{local_type, type_or}
 use Rattle.flow_lower_tasks.specs.TermKinds.{is_void}
 use Rattle.flow_lower_units.specs.LabelNumbers.{is_numbered}
@@ -23,7 +23,7 @@ use Rattle.lib_models_effects.specs.LibraryChecks.{most_size}
 use Rattle.lib_models_effects.specs.UnitStarts.{entry_parameters}
 use Rattle.ref_machine.specs.Operations.{size_of}
 use Rattle.ref_machine.specs.SourceStates.{function_at}
-use Rattle.ref_machine_marks.specs.MarkOperations.{IsKind}
+use Rattle.ref_machine_looks.specs.MarkOperations.{IsKind}
 use Rattle.ref_machine_looks.specs.MarkedTerms.{IsScalarType}
 use Rattle.ref_machine_looks.specs.MarkedStatements.{MarkedFunction, IsProperValue, IsProperStore, AreProperStores, MarkedStatic, MarkedLiteral, AreIntegers}
 use Rattle.ref_machine_looks.specs.LookedTypes.{is_scalar_type}

@@ -11,7 +11,7 @@ use Rattle.flow_program.specs.declared.machine_instructions.Scalar.{Scalar}
 use Rattle.flow_program.specs.declared.machine_instructions.Scalar.TheVariants as of
 use Rattle.cc_base.specs.declared.int_types.IntType.{IntType}
 use Rattle.lib_models_effects.specs.LibraryChecks.{most_size}
-use Rattle.ref_machine_marks.specs.Marks.{Mark, Loaded, Converted}
+use Rattle.ref_machine_looks.specs.Marks.{Mark, Loaded, Converted}
 use Rattle.ref_machine_looks.specs.LookedTypes.{is_kind, is_wider, is_scalar_type, is_integer}
 use Rattle.ref_machine_looks.specs.LookedTests.{same_object}
 use Rattle.ref_machine_looks.specs.LookedTerms.{is_marked_term, is_marked_place, is_marked_condition, side}

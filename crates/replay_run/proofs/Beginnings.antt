@@ -21,7 +21,7 @@ use Rattle.ref_machine.specs.RunFacts.{end_by, size}
 use Rattle.ref_machine.specs.SourceRuns.{SourceRun, running, stopped, world_of, first_state, begun_by, source_begin}
 use Rattle.ref_machine.specs.SourceStates.{State}
 use Rattle.replay_run_machine.specs.MachineViews.{state_view}
-use Rattle.replay_run_machine_items.specs.declared.machines.Machine.{Machine}
+use Rattle.replay_run_machine.specs.Machine.{Machine}
 use Rattle.replay_run.specs.Following.{run_view, EndsAs, Followed}
 use Rattle.replay_run.specs.OutcomeViews.{OutcomeView, end_view}
 use Rattle.replay_run.specs.Replays.{is_large, Reaches, IsOutcome, IsTooLarge, IsStop, pair_of}

@@ -11,7 +11,7 @@ use Rattle.lib_models_replay_inputs.specs.declared.instance_sums.StartStop.{Star
 use Rattle.lib_models_replay_inputs.specs.declared.instance_sums.StartStop.TheVariants as stop
 use Rattle.ref_machine.specs.RunFacts.{has_stopped, end_by, end_of, size}
 use Rattle.ref_machine.specs.SourceRuns.{SourceRun, world_of, steps_of, found_in, next, Run}
-use Rattle.replay_run_machine_items.specs.declared.machines.Machine.{Machine}
+use Rattle.replay_run_machine.specs.Machine.{Machine}
 use Rattle.replay_run.specs.Following.{violation_of, run_view, stopped_view, counted_if, StopsWith, GoesOn, StaysWithin, EndsAs, Followed, FollowsTo}
 use Rattle.replay_run.specs.OutcomeViews.{end_view}
 use Rattle.replay_run.specs.Replays.{is_large, is_over, Reaches, IsTooLarge, pair_of}

@@ -17,7 +17,7 @@ use Rattle.ref_machine.specs.SourceStates.{State}
 use Rattle.ref_machine.specs.SourceSteps.{turn}
 use Rattle.replay_run_machine.specs.Asked.{named_size, made_by, IsMadeBy}
 use Rattle.replay_run_machine.specs.MachineViews.{state_view}
-use Rattle.replay_run_machine_items.specs.declared.machines.Machine.{Machine}
+use Rattle.replay_run_machine.specs.Machine.{Machine}
 use Rattle.replay_run.specs.Following.{violation_of, run_view, GoesOn}
 use Rattle.replay_run.proofs.Allocations.{nothing_passes}
 use Rattle.replay_run.proofs.Growth.{turn_passes, made_anyway}

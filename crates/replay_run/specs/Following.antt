@@ -14,7 +14,7 @@ use Rattle.lib_models_replay_inputs.specs.declared.instance_sums.StartStop.TheVa
 use Rattle.ref_machine.specs.RunFacts.{end_by, end_of}
 use Rattle.ref_machine.specs.SourceRuns.{SourceRun, running, stopped, world_of, found_in, next}
 use Rattle.replay_run_machine.specs.MachineViews.{state_view}
-use Rattle.replay_run_machine_items.specs.declared.machines.Machine.{Machine}
+use Rattle.replay_run_machine.specs.Machine.{Machine}
 use Rattle.replay_run.specs.OutcomeViews.{end_view}
 use Rattle.replay_run.specs.Replays.{Replayed, is_large, IsStop}
 use Rattle.replay_run.specs.declared.outcomes.End.{End}

@@ -5,7 +5,7 @@ use Rattle.cc_base.specs.declared.diagnostics.Diag.{Diag}
 use Rattle.c_layout.specs.CheckedUnits.{unit_view}
 use Rattle.c_layout.specs.DeclarationTrees.{unit_tree}
 use Rattle.flow_program.specs.declared.programs.Flow.{Flow}
-use Rattle.cert_check_programs.specs.Certificates.{IsShown}
+use Rattle.cert_check_sound.specs.Certificates.{IsShown}
 use Rattle.cert_check_sound.specs.SoundCertificates.{HoldsPairsOfChecked}
 use Rattle.report_cli_texts.specs.Reports.{Bytes}
 use Rattle.template_runs_looked.specs.LookedRuns.{LookedRunsAreProgramRuns}

@@ -15,7 +15,7 @@ use Rattle.flow_program_machine.specs.FlowStates as states
 use Rattle.flow_program_machine.specs.FlowSteps.{flow_steps}
 use Rattle.flow_program_machine.specs.FlowStarts.{flow_begin}
 use Rattle.flow_lower_units.specs.RegularUnits.{is_regular_unit}
-use Rattle.flow_analysis.specs.Analyses.{IsAnalysis}
+use Rattle.abstract_steps_sound_units.specs.Analyses.{IsAnalysis}
 use Rattle.lib_models_effects.specs.Worlds.{Violation}
 use Rattle.flow_lower_plain_programs.specs.UnitRuns.{IsProgramOf}
 use Rattle.template_runs_looked.specs.LookedRuns.{PassesLooks, LookedRunsAreProgramRuns}

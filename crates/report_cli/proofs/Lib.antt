@@ -12,3 +12,5 @@ pub mod ToldReplays
 pub mod AcceptedVerbs
 pub mod CompleteAnswers
 pub mod Clauses
+pub use Rattle.turn_split_single.proofs.AlikeOperations
+pub use Rattle.turn_split_single.proofs.TypedCopies

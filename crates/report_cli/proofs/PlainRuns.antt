@@ -8,7 +8,7 @@ use Rattle.c_layout.specs.CheckedUnits.{UnitView, unit_view}
 use Rattle.c_layout.specs.DeclarationTrees.{unit_tree}
 use Rattle.flow_program.specs.declared.programs.Flow.{Flow}
 use Rattle.syntax_rules.specs.StatementPlaces.{unit_places}
-use Rattle.flow_analysis.specs.Analyses.{IsAnalysis}
+use Rattle.abstract_steps_sound_units.specs.Analyses.{IsAnalysis}
 use Rattle.abstract_steps_single_units.specs.CheckedStarts.{IsUnitOf}
 use Rattle.flow_lower_plain_programs.specs.SingleRuns.{HasTypedAccesses, IsSingleProgram}
 use Rattle.abstract_steps_single_units.specs.SingleUnits.{FindsJustUnitRuns}

@@ -7,3 +7,6 @@ pub mod Choices
 pub mod Gates
 pub mod CertAnswers
 pub mod RunAnswers
+pub use Rattle.report_cli_units.specs.Judging
+pub use Rattle.report_cli_units.specs.Stages
+pub use Rattle.report_cli_units.specs.Certifying

@@ -14,8 +14,8 @@ use Rattle.c_parser.specs.FirstRefusals.{StopsFirst}
 use Rattle.c_parser.specs.Refusals.{Refuses}
 use Rattle.c_parser_laws_finding_declarations.specs.Found.{HasRoom}
 use Rattle.c_parser_laws_finding_units.proofs.Units.{stops_first, stops_never}
-use Rattle.report_cli_units.specs.Stages.{stage_of}
-use Rattle.report_cli_units.specs.Judging.{SettingView, IsParsed, RefusesAt, RefusesUnit}
+use Rattle.report_cli_answers.specs.Stages.{stage_of}
+use Rattle.report_cli_answers.specs.Judging.{SettingView, IsParsed, RefusesAt, RefusesUnit}
 use Rattle.report_cli_laws.specs.Accepted.{IsShort}
 use Rattle.report_cli_laws.specs.GrammarRefusals.{is_of_grammar, IsFirstUnderived}
 use Rattle.report_cli_laws.proofs.Short.{terminals_short}

@@ -17,8 +17,8 @@ use Rattle.flow_lower.proofs.OneLowering.{no_refusal}
 use Rattle.flow_program.specs.declared.programs.Flow.{Flow}
 use Rattle.flow_program_views.specs.ProgramViews.{FlowView, flow_view}
 use Rattle.turn_split.specs.SplitCounts.{Splits}
-use Rattle.report_cli_units.specs.Stages.{stage_of}
-use Rattle.report_cli_units.specs.Judging.{SettingView, Judgement, IsParsed, IsLowered, IsJudged, IsTurnedPast, IsPast, RefusesAt, RefusesUnit}
+use Rattle.report_cli_answers.specs.Stages.{stage_of}
+use Rattle.report_cli_answers.specs.Judging.{SettingView, Judgement, IsParsed, IsLowered, IsJudged, IsTurnedPast, IsPast, RefusesAt, RefusesUnit}
 use Rattle.report_cli_laws.specs.Accepted.{IsShort, HasProgram, FitsTurned, IsAccepted, PassesTurned}
 use Rattle.report_cli_laws.proofs.OneParse.{one_parse, one_checked, one_flow}
 use Rattle.report_cli_laws.proofs.Grammar.{never_refused}

@@ -13,7 +13,7 @@ use Rattle.flow_lower.specs.Lowerings.{IsLowering}
 use Rattle.flow_lower.proofs.OneLowering.{one_program}
 use Rattle.flow_program.specs.declared.programs.Flow.{Flow}
 use Rattle.flow_program_views.specs.ProgramViews.{flow_view}
-use Rattle.report_cli_units.specs.Judging.{SettingView, IsParsed, IsTyped, IsLowered}
+use Rattle.report_cli_answers.specs.Judging.{SettingView, IsParsed, IsTyped, IsLowered}
 use Rattle.report_cli_laws.specs.Accepted.{HasProgram}
 
 pub one_parse : (unit : Unit7) (a b : Tree7) → IsParsed unit a → IsParsed unit b → unit_tree a ≡ unit_tree b

@@ -15,8 +15,8 @@ use Rattle.report_cli_words.specs.declared.commands.Format.{Format}
 use Rattle.report_cli_words.specs.Requests.{CommandView}
 use Rattle.report_cli_words.specs.Requests as asked
 use Rattle.report_cli_texts.specs.Reports.{Bytes}
-use Rattle.report_cli_units.specs.Stages.{stage_of}
-use Rattle.report_cli_units.specs.Judging.{SettingView, RefusesUnit}
+use Rattle.report_cli_answers.specs.Stages.{stage_of}
+use Rattle.report_cli_answers.specs.Judging.{SettingView, RefusesUnit}
 use Rattle.report_cli_answers.specs.Outcomes.{Took, PutOnce, Outcome, told, read_fault, write_fault, no_memory, status_at, Happened, Answers}
 use Rattle.report_cli_answers.specs.Verdicts as verdict
 use Rattle.report_cli_answers.specs.Verdicts.{Verdict, reported, report_status, report_in, status_of, text_of, Tells, Gives, FromFiles, IsExpanded, IsReport, IsLaterRefusal, IsStaged, IsRefusal, AnswersUnit, Under, IsVerdict, check_setting}

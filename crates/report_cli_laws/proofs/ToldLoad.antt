@@ -14,8 +14,8 @@ use Rattle.report_cli_words.specs.Requests.{CommandView}
 use Rattle.report_cli_words.specs.Requests as asked
 use Rattle.report_cli_texts.specs.LoadUnits.{load_of}
 use Rattle.report_cli_texts.specs.Reports.{Bytes}
-use Rattle.report_cli_units.specs.Stages.{stage_of}
-use Rattle.report_cli_units.specs.Judging.{SettingView, RefusesUnit}
+use Rattle.report_cli_answers.specs.Stages.{stage_of}
+use Rattle.report_cli_answers.specs.Judging.{SettingView, RefusesUnit}
 use Rattle.report_cli_answers.specs.Verdicts as verdict
 use Rattle.report_cli_answers.specs.Verdicts.{Verdict, summed, FromBytes, IsExpanded, IsSummary, IsLaterRefusal, IsStaged, IsRefusal, AnswersLoad, Under, IsVerdict, load_setting}
 use Rattle.report_cli_laws.specs.Told.{IsTaken}

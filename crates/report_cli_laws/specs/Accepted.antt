@@ -11,7 +11,7 @@ use Rattle.c_layout.specs.declared.checked_tree.checked_units.Checked.{Checked}
 use Rattle.flow_program.specs.declared.programs.Flow.{Flow}
 use Rattle.flow_program_views.specs.ProgramViews.{flow_view}
 use Rattle.turn_split.specs.SplitCounts.{Splits, first_over, split_counts}
-use Rattle.report_cli_units.specs.Judging.{SettingView, IsParsed, IsTyped, IsLowered, Judgement, IsJudged, RefusesUnit}
+use Rattle.report_cli_answers.specs.Judging.{SettingView, IsParsed, IsTyped, IsLowered, Judgement, IsJudged, RefusesUnit}
 
 -- as short as an expansion leaves a unit
 abbrev pub IsShort : Unit7 → Type 0

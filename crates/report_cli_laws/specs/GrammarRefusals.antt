@@ -9,7 +9,7 @@ use Rattle.c_layout.specs.declared.syntax_tree.declarations.Tree7.{Tree7}
 use Rattle.c_parser_tokens.specs.Classes.{classified}
 use Rattle.c_parser_tokens.specs.declared.terminals.Terminal.{Terminal}
 use Rattle.c_parser.specs.FirstRefusals.{IsFirstRefusal}
-use Rattle.report_cli_units.specs.Judging.{SettingView, IsParsed, RefusesUnit}
+use Rattle.report_cli_answers.specs.Judging.{SettingView, IsParsed, RefusesUnit}
 use Rattle.report_cli_laws.specs.Accepted.{IsShort}
 
 -- the refusals that the grammar has

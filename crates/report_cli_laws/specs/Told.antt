@@ -8,7 +8,7 @@ use Rattle.c_preproc.specs.Causes.{Seen}
 use Rattle.report_cli_words.specs.Requests.{CommandView}
 use Rattle.report_cli_words.specs.Requests as asked
 use Rattle.report_cli_texts.specs.Reports.{Bytes}
-use Rattle.report_cli_units.specs.Judging.{SettingView}
+use Rattle.report_cli_answers.specs.Judging.{SettingView}
 use Rattle.report_cli_answers.specs.Outcomes.{Took, PutOnce, Answers}
 use Rattle.report_cli_answers.specs.Verdicts.{Verdict, reported, report_status, report_in, Gives, FromFiles, IsExpanded, IsReport, IsVerdict, check_setting}
 use Rattle.report_cli_laws.specs.Accepted.{IsAccepted}

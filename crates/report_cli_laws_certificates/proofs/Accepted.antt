@@ -18,8 +18,8 @@ use Rattle.cert_check_laws.proofs.VerdictProofs.{one_verdict_alone}
 use Rattle.cert_check_proved.proofs.AcceptedTexts.{proved_accepted}
 use Rattle.cert_check_proved.proofs.ProvedTexts.{analysis_read}
 use Rattle.report_cli_texts.specs.Reports.{Bytes}
-use Rattle.report_cli_units.specs.Judging.{SettingView, Judgement, IsTurned, IsJudged}
-use Rattle.report_cli_units.specs.Certifying.{IsProgram, IsProved, shows, refuses, IsVerifiedUnit}
+use Rattle.report_cli_laws.specs.Judging.{SettingView, Judgement, IsTurned, IsJudged}
+use Rattle.report_cli_laws.specs.Certifying.{IsProgram, IsProved, shows, refuses, IsVerifiedUnit}
 use Rattle.report_cli_laws.specs.Accepted.{HasProgram}
 use Rattle.report_cli_laws.proofs.OneParse.{one_program_of}
 use Rattle.report_cli_laws_certificates.proofs.SameTexts.{rows_same, accepted_same}

@@ -3,3 +3,4 @@ pub mod SameUnits
 pub mod Accepted
 pub mod Told
 pub mod Answered
+pub use Rattle.flow_analysis_laws_views.proofs.SameBlocks

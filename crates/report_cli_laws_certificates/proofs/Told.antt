@@ -14,8 +14,8 @@ use Rattle.report_cli_words.specs.declared.commands.Format.{Format}
 use Rattle.report_cli_words.specs.Requests.{CommandView}
 use Rattle.report_cli_words.specs.Requests as asked
 use Rattle.report_cli_texts.specs.Reports.{Bytes}
-use Rattle.report_cli_units.specs.Judging.{SettingView, judging}
-use Rattle.report_cli_units.specs.Certifying.{IsProved, CertAnswer, shows, refuses, IsVerifiedUnit}
+use Rattle.report_cli_laws.specs.Judging.{SettingView, judging}
+use Rattle.report_cli_laws.specs.Certifying.{IsProved, CertAnswer, shows, refuses, IsVerifiedUnit}
 use Rattle.report_cli_laws.specs.Verdicts.{proved, cert_refused, reported, HasModel, FromFiles, IsReport, IsProof, IsCheckedBy, AnswersVerify, AnswersUnit, IsVerdict, check_setting, cert_setting}
 use Rattle.report_cli_laws_certificates.specs.SameUnits.{GiveOneUnit}
 use Rattle.report_cli_laws_certificates.specs.ProvedTexts.{HoldsProved, HasRuns}

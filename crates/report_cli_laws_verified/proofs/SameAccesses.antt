@@ -9,11 +9,11 @@ use Rattle.flow_lower_tasks.specs.Acts.{Step, step}
 use Rattle.flow_program_views.specs.ProgramViews.{FlowView, flow_view}
 use Rattle.flow_program_machine.specs.FlowSteps.{flow_steps}
 use Rattle.flow_program_machine.specs.FlowStarts.{flow_begin}
-use Rattle.flow_analysis_laws_views.proofs.SameBlocks.{same_parts, steps_same}
+use Rattle.report_cli_laws_certificates.proofs.SameBlocks.{same_parts, steps_same}
 use Rattle.rule_checks.specs.AdmittedRules.{instructions_of}
-use Rattle.abstract_steps_single_runs.specs.SingleRuns.{IsTypedStep, HasTypedAccesses}
-use Rattle.turn_split_single.proofs.AlikeOperations.{alike}
-use Rattle.turn_split_single.proofs.TypedCopies.{step_too}
+use Rattle.flow_lower_plain_programs.specs.SingleRuns.{IsTypedStep, HasTypedAccesses}
+use Rattle.report_cli.proofs.AlikeOperations.{alike}
+use Rattle.report_cli.proofs.TypedCopies.{step_too}
 
 record Viewed (is : Option Instruction) (i : Instruction) : Type 0 where
   own : Instruction
@@ -28,8 +28,8 @@ pub accesses_same : (f g : Flow) → flow_view f ≡ flow_view g → (u : UnitVi
 accesses_same f g h u typed count s found i e there =
     let run = ap (λ (v : FlowView). flow_steps v count (flow_begin u v [])) h ∙ e in
     let o = viewed (slice_get (instructions_of f s.block) s.at) i
-        (sym (slice_get-map step (instructions_of f s.block) s.at)
-        ∙ (ap (λ ss. slice_get ss s.at) (steps_same f g h s.block)
-        ∙ (slice_get-map step (instructions_of g s.block) s.at ∙ ap (option_map step) there))) in
+    (sym (slice_get-map step (instructions_of f s.block) s.at)
+    ∙ (ap (λ ss. slice_get ss s.at) (steps_same f g h s.block)
+    ∙ (slice_get-map step (instructions_of g s.block) s.at ∙ ap (option_map step) there))) in
     let own = typed count s found o.own run o.there in
     alike (λ p. IsTypedStep g p s) (λ to name a b newest size q. q) o.own.operation i.operation (ap (λ (z : Step). z.does) o.alike) (step_too f g (same_parts f g h) s s o.own.operation refl refl own)

@@ -13,7 +13,7 @@ use Rattle.flow_lower_plain_programs.specs.PlainPrograms.{PlainUnitsHavePlainPro
 use Rattle.abstract_steps_single_units.specs.CheckedStarts.{IsUnitOf}
 use Rattle.abstract_steps_single_units.specs.SingleRuns.{IsSingleProgram}
 use Rattle.abstract_steps_single_units.specs.SingleUnits.{FindsJustUnitRuns}
-use Rattle.report_cli_units.specs.Judging.{IsLowered}
+use Rattle.report_cli_laws_certificates.specs.Judging.{IsLowered}
 use Rattle.report_cli_laws_certificates.proofs.Accepted.{program_of, same_view, found_by_text}
 use Rattle.report_cli.specs.DefinedRuns.{TypedUnitsPassLooks}
 use Rattle.report_cli.proofs.FoundRuns as found

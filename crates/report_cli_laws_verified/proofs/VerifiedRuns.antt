@@ -6,8 +6,8 @@ use Rattle.cc_base.specs.declared.diagnostics.Diag.{Diag}
 use Rattle.c_layout.specs.declared.data_model.Model.{Model}
 use Rattle.report_cli_words.specs.Requests.{CommandView}
 use Rattle.report_cli_texts.specs.Reports.{Bytes}
-use Rattle.report_cli_units.specs.Certifying.{shows, IsProved}
-use Rattle.report_cli_answers.specs.Verdicts.{HasModel, FromFiles, IsCheckedBy, cert_setting}
+use Rattle.report_cli_laws_certificates.specs.Certifying.{shows, IsProved}
+use Rattle.report_cli_laws_certificates.specs.Verdicts.{HasModel, FromFiles, IsCheckedBy, cert_setting}
 use Rattle.report_cli_laws_certificates.specs.SameUnits.{GiveOneUnit}
 use Rattle.report_cli_laws_certificates.proofs.SameUnits.{one_file}
 use Rattle.report_cli_laws_certificates.proofs.Told.{Proves, Verifies, proves_of, proved_here}

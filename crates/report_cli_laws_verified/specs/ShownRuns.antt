@@ -8,13 +8,13 @@ use Rattle.c_layout.specs.declared.checked_tree.checked_units.Checked.{Checked}
 use Rattle.c_layout.specs.declared.unit_tokens.Unit7.{Unit7}
 use Rattle.c_preproc.specs.Causes.{Seen}
 use Rattle.flow_program.specs.declared.programs.Flow.{Flow}
-use Rattle.abstract_steps_single_runs.specs.PlainUnitRuns.{IsPlainUnit}
+use Rattle.flow_lower_plain_programs.specs.PlainUnitRuns.{IsPlainUnit}
 use Rattle.abstract_steps_single_units.specs.SingleUnits.{RunViolates}
 use Rattle.report_cli_words.specs.Requests.{CommandView}
 use Rattle.report_cli_texts.specs.Reports.{Bytes}
-use Rattle.report_cli_units.specs.Judging.{SettingView}
-use Rattle.report_cli_units.specs.Certifying.{IsProved, shows, IsVerifiedUnit}
-use Rattle.report_cli_answers.specs.Outcomes.{Took}
+use Rattle.report_cli_laws_certificates.specs.Judging.{SettingView}
+use Rattle.report_cli_laws_certificates.specs.Certifying.{IsProved, shows, IsVerifiedUnit}
+use Rattle.report_cli_laws_certificates.specs.Outcomes.{Took}
 use Rattle.report_cli_laws_certificates.specs.ProvedTexts.{HoldsProved}
 use Rattle.report_cli.specs.VerifiedRuns.{TellsVerifiedRuns}
 

@@ -19,7 +19,7 @@ use Rattle.value_domain_laws.proofs.Flags.{Sets}
 use Rattle.store_domain_laws.specs.TopRows.{top_row}
 use Rattle.abstract_steps_checks.specs.declared.violation_sets.Violations.{Violations}
 use Rattle.abstract_steps_checks.specs.ViolationSets.{violates}
-use Rattle.abstract_steps_instructions.specs.StepViolations.{operation_violations}
+use Rattle.rule_checks.specs.StepViolations.{operation_violations}
 use Rattle.abstract_steps_rows.specs.EndLaws.{EndLaws}
 use Rattle.abstract_steps_rows.specs.OwnRows.{program_bases}
 use Rattle.abstract_steps_laws.specs.FlowMachines.{flow_machine}

@@ -19,3 +19,6 @@ pub mod Loads
 pub mod Stores
 pub mod Spelling
 pub mod StoreLengths
+pub use Rattle.store_domain_cells.specs.declared.access_windows.Window
+pub use Rattle.store_domain_cells.specs.declared.cell_reads.Access
+pub use Rattle.store_domain_cells.specs.declared.first_zero_writes.ZeroTarget

@@ -20,9 +20,9 @@ use Rattle.value_domain.specs.declared.row_cells.Cell.{Cell}
 use Rattle.value_domain.specs.declared.row_cells.Cell.TheVariants.{Nothing, Value, First, State, Mixed}
 use Rattle.value_domain.specs.Values.{value_lattice, value_order}
 use Rattle.value_domain.specs.Cells.{cell_lattice, cell_order}
-use Rattle.store_domain_cells.specs.declared.access_windows.Window.{Window}
+use Rattle.store_domain.specs.Window.{Window}
 use Rattle.store_domain.specs.declared.stores.Write.{Write}
-use Rattle.store_domain_cells.specs.declared.first_zero_writes.ZeroTarget.{ZeroTarget}
+use Rattle.store_domain.specs.ZeroTarget.{ZeroTarget}
 use Rattle.store_domain.specs.ClassNumbers.{class_number, class_at, same_class, is_pointer}
 use Rattle.store_domain.specs.LiveBases.{has_base, is_one_instance}
 use Rattle.store_domain.specs.AccessWindows.{window_of}

@@ -18,8 +18,8 @@ use Rattle.value_domain.specs.declared.values.Value.{Value}
 use Rattle.value_domain.specs.declared.row_cells.Cell.{Cell}
 use Rattle.value_domain.specs.LabelSets.{all_labels, labels_order}
 use Rattle.value_domain.specs.Values.{value_lattice}
-use Rattle.store_domain_cells.specs.declared.access_windows.Window.{Window}
-use Rattle.store_domain_cells.specs.declared.cell_reads.Access.{Access}
+use Rattle.store_domain.specs.Window.{Window}
+use Rattle.store_domain.specs.Access.{Access}
 use Rattle.store_domain.specs.ScalarTypes.{kind_of, class_bytes}
 use Rattle.store_domain.specs.ClassNumbers.{class_number, class_at, same_class}
 use Rattle.store_domain.specs.RowPositions.{leaf_position, class_position, zero_position, value_at, zero_at}

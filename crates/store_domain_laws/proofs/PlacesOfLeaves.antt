@@ -4,7 +4,7 @@ use Rattle.std.proofs.Common.{arith, sym, subst, inl, inr}
 use Rattle.std.proofs.lemmas.Bool.{cases_Bool, and_parts, or_parts, leb-true, leb-false, ltb-true, ltb-false, eqb-false}
 use Rattle.std.proofs.lemmas.Nat.{div-add-mod', mul-le}
 use Rattle.c_layout.specs.declared.leaf_lists.Leaf.{Leaf}
-use Rattle.store_domain_cells.specs.declared.access_windows.Window.{Window}
+use Rattle.store_domain.specs.Window.{Window}
 use Rattle.store_domain.specs.LeafSelection.{places_before, turns_into, has_place_in}
 
 -- a place of the leaf in the window

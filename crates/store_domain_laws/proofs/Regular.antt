@@ -10,14 +10,14 @@ use Rattle.c_layout.specs.declared.leaf_lists.Class.{Class}
 use Rattle.c_layout.specs.declared.leaf_lists.Leaf.{Leaf}
 use Rattle.c_layout.specs.declared.shapes.BaseInfo.{BaseInfo}
 use Rattle.c_layout.specs.declared.shapes.ZeroPart.{ZeroPart}
-use Rattle.store_domain_cells.specs.declared.access_windows.Window.{Window}
+use Rattle.store_domain.specs.Window.{Window}
 use Rattle.store_domain.specs.Walks.{walk}
 use Rattle.store_domain.specs.RowPositions.{capped}
 use Rattle.store_domain.specs.ClassNumbers.{same_class}
 use Rattle.store_domain.specs.AccessWindows.{window_between}
 use Rattle.store_domain.specs.LeafSelection.{has_place_in, is_selected, selected_count, has_stray, bytes_below, covered_more, covered_bytes, window_end, meets_padding}
 use Rattle.store_domain.specs.FirstZeroWrites.{zero_target, if_whole, covered, first_covered}
-use Rattle.store_domain_cells.specs.declared.first_zero_writes.ZeroTarget.{ZeroTarget}
+use Rattle.store_domain.specs.ZeroTarget.{ZeroTarget}
 use Rattle.store_domain_laws.specs.Placements.{WindowWithin, IsRegular, CoversToo}
 use Rattle.store_domain_laws.proofs.ZeroTargets.{TargetBelow, target_monotone}
 

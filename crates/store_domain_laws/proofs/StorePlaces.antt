@@ -17,8 +17,8 @@ use Rattle.pointer_domain.specs.BaseSets.{bases_within, bases_empty}
 use Rattle.pointer_domain.specs.PointerTables.{is_any}
 use Rattle.value_domain.specs.declared.values.Value.{Value}
 use Rattle.value_domain.specs.Values.{value_lattice}
-use Rattle.store_domain_cells.specs.declared.access_windows.Window.{Window}
-use Rattle.store_domain_cells.specs.declared.cell_reads.Access.{Access}
+use Rattle.store_domain.specs.Window.{Window}
+use Rattle.store_domain.specs.Access.{Access}
 use Rattle.store_domain.specs.ClassNumbers.{is_pointer, same_class}
 use Rattle.store_domain.specs.LeafSelection.{selected_count, is_other}
 use Rattle.store_domain.specs.LiveBases.{has_base}

@@ -16,8 +16,8 @@ use Rattle.string_domain.specs.declared.first_zeros.FirstZero.{FirstZero}
 use Rattle.value_domain.specs.declared.row_cells.Cell.{Cell}
 use Rattle.value_domain.specs.declared.row_cells.Cell.TheVariants.{First}
 use Rattle.value_domain.specs.Cells.{cell_leq, cell_order}
-use Rattle.store_domain_cells.specs.declared.access_windows.Window.{Window}
-use Rattle.store_domain_cells.specs.declared.first_zero_writes.ZeroTarget.{ZeroTarget}
+use Rattle.store_domain.specs.Window.{Window}
+use Rattle.store_domain.specs.ZeroTarget.{ZeroTarget}
 use Rattle.store_domain.specs.AccessWindows.{last_offset, window_between, window_met}
 use Rattle.store_domain.specs.RowPositions.{cell_at, zero_position, zero_at, put_zero}
 use Rattle.store_domain.specs.FirstZeroWrites.{last_of, has_no_bytes, target_at, zero_target, any_zero, offsets_of, sure_or_joined, put_target, put_part, put_character, forget_target, forget_part, forget_zeros}

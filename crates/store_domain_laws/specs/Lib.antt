@@ -5,3 +5,7 @@ pub mod Placements
 pub mod ConsistentRows
 pub mod StoreLaws
 pub mod PlainShapes
+pub use Rattle.store_domain.specs.LeafSelection
+pub use Rattle.store_domain.specs.RowPositions
+pub use Rattle.store_domain.specs.ScalarTypes
+pub use Rattle.store_domain.specs.Walks

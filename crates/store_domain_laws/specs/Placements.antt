@@ -7,7 +7,7 @@ use Rattle.c_layout.specs.declared.shapes.BaseInfo.{BaseInfo}
 use Rattle.pointer_domain.specs.declared.base_sets.Bases.{Bases}
 use Rattle.value_domain.specs.declared.row_cells.Cell.{Cell}
 use Rattle.value_domain.specs.declared.row_cells.Cell.TheVariants.{Value, First, State}
-use Rattle.store_domain_cells.specs.declared.access_windows.Window.{Window}
+use Rattle.store_domain.specs.Window.{Window}
 use Rattle.store_domain.specs.RowPositions.{cell_at, leaf_position, class_position, zero_position, state_position}
 use Rattle.store_domain.specs.AccessWindows.{last_offset}
 use Rattle.store_domain.specs.LeafSelection.{has_stray, meets_padding}

@@ -10,8 +10,8 @@ use Rattle.c_layout.specs.StructViews.{FieldView, StructView}
 use Rattle.c_layout.specs.Types.{Ty}
 use Rattle.flow_program.specs.BaseShapes.{ends_by}
 use Rattle.store_domain.specs.RowPositions.{capped}
-use Rattle.store_domain_structs.specs.LeafCounts.{bytes_in}
-use Rattle.store_domain_structs.specs.LeafNumbers.{Element, count_of, member_with, element_with, behind, at_element, field_at, found_at}
+use Rattle.store_domain_laws_structs.specs.LeafCounts.{bytes_in}
+use Rattle.store_domain_laws_structs.specs.LeafNumbers.{Element, count_of, member_with, element_with, behind, at_element, field_at, found_at}
 use Rattle.store_domain_laws_layouts.specs.LaidApart.{has_class_bytes, is_member_in, are_members_in}
 
 -- leaves by number at an offset, up to a count: each is as wanted, its bytes lie among so many from the offset on, and no byte

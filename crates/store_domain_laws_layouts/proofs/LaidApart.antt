@@ -12,10 +12,10 @@ use Rattle.flow_program.specs.ModelKinds as flow
 use Rattle.store_domain.specs.LeafSelection.{bytes_below}
 use Rattle.store_domain.specs.RowPositions.{capped}
 use Rattle.store_domain.specs.Walks.{turns}
-use Rattle.store_domain_laws.proofs.Loads.{some_bytes}
-use Rattle.store_domain_laws_shapes.proofs.LeafBytes.{Covers, same_bytes, leaf_step}
-use Rattle.store_domain_structs.specs.LeafNumbers.{folded_member, struct_leaf}
-use Rattle.store_domain_structs.specs.PaddingWrites.{Padded, covered_by, covered_leaf, leaf_bytes}
+use Rattle.store_domain_laws_structs.proofs.Loads.{some_bytes}
+use Rattle.store_domain_laws_structs.proofs.LeafBytes.{Covers, same_bytes, leaf_step}
+use Rattle.store_domain_laws_structs.specs.LeafNumbers.{folded_member, struct_leaf}
+use Rattle.store_domain_laws_structs.specs.PaddingWrites.{Padded, covered_by, covered_leaf, leaf_bytes}
 use Rattle.store_domain_laws_structs.specs.SpreadStructs.{padded_in, IsSpread}
 use Rattle.store_domain_laws_layouts.specs.LaidApart.{are_laid_apart}
 use Rattle.store_domain_laws_layouts.proofs.Extents.{AreExtents}

@@ -12,9 +12,9 @@ use Rattle.c_layout.specs.StructViews.{FieldView, StructView, struct_at}
 use Rattle.c_layout.specs.Types.{Ty, Int, Pointer, Array, Struct, Void}
 use Rattle.flow_program.specs.BaseShapes.{is_extent}
 use Rattle.store_domain.specs.RowPositions.{capped}
-use Rattle.store_domain_structs.specs.LeafCounts.{bytes_in}
-use Rattle.store_domain_laws.proofs.Loads.{some_bytes}
-use Rattle.store_domain_laws_shapes.proofs.LeafBytes.{same_bytes}
+use Rattle.store_domain_laws_structs.specs.LeafCounts.{bytes_in}
+use Rattle.store_domain_laws_structs.proofs.Loads.{some_bytes}
+use Rattle.store_domain_laws_structs.proofs.LeafBytes.{same_bytes}
 use Rattle.store_domain_laws_layouts.specs.LaidApart.{has_class_bytes, is_member_in, are_members_in, is_laid_apart}
 use Rattle.store_domain_laws_layouts.specs.MadeLayouts.{Declared, all_added, layout_of, is_declarable, are_declarable}
 use Rattle.store_domain_laws_layouts.proofs.Extents.{some_same, none_some}

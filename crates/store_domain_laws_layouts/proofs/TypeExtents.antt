@@ -14,9 +14,9 @@ use Rattle.c_layout.specs.Types.{Ty, Int, Pointer, Array, Struct, Void}
 use Rattle.flow_program.specs.BaseShapes.{is_extent}
 use Rattle.flow_program.specs.ModelKinds.{class_bytes}
 use Rattle.store_domain.specs.RowPositions.{capped}
-use Rattle.store_domain_structs.specs.LeafCounts.{bytes_in, plain_count, long_count, folded_count}
-use Rattle.store_domain_structs.specs.LeafNumbers.{leaf_at, alone, count_of, element, element_with, behind, behind_arrays, behind_short, at_element, member_at, plain_unit, plain_leaf_by, plain_member, plain_leaf, long_leaf, folded_unit, folded_leaf_by, folded_member}
-use Rattle.store_domain_laws_shapes.proofs.LeafBytes.{Covers}
+use Rattle.store_domain_laws_structs.specs.LeafCounts.{bytes_in, plain_count, long_count, folded_count}
+use Rattle.store_domain_laws_structs.specs.LeafNumbers.{leaf_at, alone, count_of, element, element_with, behind, behind_arrays, behind_short, at_element, member_at, plain_unit, plain_leaf_by, plain_member, plain_leaf, long_leaf, folded_unit, folded_leaf_by, folded_member}
+use Rattle.store_domain_laws_structs.proofs.LeafBytes.{Covers}
 use Rattle.store_domain_laws_layouts.specs.LaidApart.{has_class_bytes, are_members_in, is_laid_apart, are_laid_apart}
 use Rattle.store_domain_laws_layouts.proofs.Extents.{AreExtents, some_same, extents_as, no_extents, in_element, behind_as, array_extents, members_extents}
 

@@ -6,8 +6,8 @@ use Rattle.c_layout.specs.Types.{Ty, Int, Pointer, Array, Struct}
 use Rattle.c_layout.specs.Models.{lp64}
 use Rattle.c_layout.specs.StructViews.{FieldView, StructView}
 use Rattle.store_domain.specs.AccessWindows.{window_between}
-use Rattle.store_domain_structs.specs.LeafNumbers.{member_at, struct_leaf}
-use Rattle.store_domain_structs.specs.PaddingWrites.{leaf_bytes}
+use Rattle.store_domain_laws_structs.specs.LeafNumbers.{member_at, struct_leaf}
+use Rattle.store_domain_laws_structs.specs.PaddingWrites.{leaf_bytes}
 use Rattle.store_domain_laws_structs.specs.SpreadStructs.{padded_in, IsSpread}
 use Rattle.store_domain_laws_layouts.specs.LaidApart.{are_laid_apart}
 use Rattle.store_domain_laws_layouts.proofs.LaidApart.{apart_spread}

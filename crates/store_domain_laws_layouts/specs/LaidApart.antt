@@ -7,7 +7,7 @@ use Rattle.c_layout.specs.StructViews.{FieldView, StructView}
 use Rattle.c_layout.specs.Types.{Ty, Int, Pointer, Array, Struct, Void}
 use Rattle.flow_program.specs.BaseShapes.{is_extent, ends_by}
 use Rattle.flow_program.specs.ModelKinds.{class_bytes}
-use Rattle.store_domain_structs.specs.LeafCounts.{bytes_in}
+use Rattle.store_domain_laws_structs.specs.LeafCounts.{bytes_in}
 
 -- an integer type, also behind arrays, has the bytes that the model gives its class
 abbrev pub has_class_bytes : Model → Ty → Bool

@@ -6,10 +6,10 @@ use Rattle.std.proofs.lemmas.Nat.{mod-mul-add, mul-add-lt}
 use Rattle.c_layout.specs.declared.data_model.Model.{Model}
 use Rattle.c_layout.specs.declared.leaf_lists.Leaf.{Leaf}
 use Rattle.flow_program.specs.BaseShapes.{is_extent, leaf_end, array_end, has_extents, is_stride, is_behind, is_beside, is_apart, follows, first_of, are_apart, nowhere, are_leaves}
-use Rattle.store_domain.specs.Walks.{walk}
+use Rattle.store_domain_laws.specs.Walks.{walk}
 use Rattle.c_layout.specs.Models.{is_model}
 use Rattle.flow_program.specs.ModelKinds.{class_bytes}
-use Rattle.store_domain.specs.LeafSelection.{bytes_below, covered_more}
+use Rattle.store_domain_laws.specs.LeafSelection.{bytes_below, covered_more}
 use Rattle.store_domain_laws.proofs.Loads.{some_bytes}
 use Rattle.store_domain_laws.proofs.Regular.{IsByByte}
 use Rattle.store_domain_laws_shapes.proofs.LeafBytes.{Covers, same_bytes, leaf_step}

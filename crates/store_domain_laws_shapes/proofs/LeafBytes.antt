@@ -10,9 +10,9 @@ use Rattle.c_layout.specs.declared.leaf_lists.Class.TheVariants.{Char, Short, In
 use Rattle.c_layout.specs.declared.leaf_lists.Leaf.{Leaf}
 use Rattle.c_layout.specs.Models.{short_fits, int_fits, long_fits, long_long_fits, pointer_fits, is_model}
 use Rattle.flow_program.specs.ModelKinds as flow
-use Rattle.store_domain.specs.ScalarTypes.{class_bytes}
-use Rattle.store_domain.specs.RowPositions.{capped}
-use Rattle.store_domain.specs.LeafSelection.{turn_bytes, bytes_behind, bytes_below}
+use Rattle.store_domain_laws.specs.ScalarTypes.{class_bytes}
+use Rattle.store_domain_laws.specs.RowPositions.{capped}
+use Rattle.store_domain_laws.specs.LeafSelection.{turn_bytes, bytes_behind, bytes_below}
 
 two_of : (a c d : ℕ) → (a == c || a == d) ≡ true → a ≡ cond (a == c) c d
 two_of a c d h = by_first (a == c) refl h

@@ -10,7 +10,7 @@ use Rattle.c_layout.specs.declared.shapes.ZeroPart.{ZeroPart}
 use Rattle.flow_program.specs.BaseShapes.{is_extent, ends_by, leaf_end, array_end, has_extents, is_stride, is_behind, is_beside, is_apart, follows, first_of, are_apart, nowhere, are_leaves, size_or_none, part_size, are_parts, goes_on, lie_over, are_whole, is_heap, is_single, is_heap_base, is_declared_base, is_shaped}
 use Rattle.c_layout.specs.Models.{is_model}
 use Rattle.flow_program.specs.ModelKinds as flow
-use Rattle.store_domain.specs.ScalarTypes.{class_bytes}
+use Rattle.store_domain_laws.specs.ScalarTypes.{class_bytes}
 use Rattle.store_domain_laws.specs.PlainShapes.{are_single, end_of, are_behind, is_plain}
 use Rattle.store_domain_laws.specs.Placements.{IsRegular}
 use Rattle.store_domain_laws.proofs.Loads.{some_bytes}

@@ -1,0 +1,1 @@
+pub use Rattle.store_domain_laws.specs.Placements

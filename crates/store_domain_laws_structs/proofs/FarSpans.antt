@@ -2,7 +2,7 @@
 use Rattle.std.specs.Prelude.{◌≡◌, ℕ, ◌-◌, ◌^◌, true, false, refl}
 use Rattle.c_layout.specs.declared.leaf_lists.Class.TheVariants.{Short}
 use Rattle.c_layout.specs.declared.leaf_lists.Leaf.{Leaf}
-use Rattle.store_domain_structs_leaves.specs.declared.copy_places.Span.{Span}
+use Rattle.store_domain_structs.specs.Span.{Span}
 use Rattle.store_domain_structs.specs.CopyPlaces.{several_meet, joined_meet, meets}
 
 -- two places, at 1 and 3

@@ -5,7 +5,7 @@ use Rattle.std.proofs.lemmas.Nat.{mul-le}
 use Rattle.std.proofs.lemmas.Bool.{or_parts, or_cases, ltb-true, ltb-false, eqb-true, eqb-false, le-ltb, cond-false, cond-true}
 use Rattle.store_domain.specs.RowPositions.{capped}
 use Rattle.store_domain.specs.AccessWindows.{window_between, last_offset}
-use Rattle.store_domain_structs_leaves.specs.declared.copy_places.Span.{Span}
+use Rattle.store_domain_structs.specs.Span.{Span}
 use Rattle.store_domain_structs.specs.CopyPlaces.{span_width, is_apart, all_in_one, span_joined, span_raised}
 use Rattle.store_domain_laws_structs.specs.LargerSpans.{SpanWithin}
 

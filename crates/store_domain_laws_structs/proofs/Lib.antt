@@ -7,3 +7,6 @@ pub mod ShapedSpans
 pub mod FarSpans
 pub mod WorkedStructs
 pub mod SpreadStructs
+pub use Rattle.store_domain_laws_shapes.proofs.LeafBytes
+pub use Rattle.store_domain_laws_shapes.proofs.Loads
+pub use Rattle.store_domain_laws_shapes.proofs.PlacesOfLeaves

@@ -11,8 +11,8 @@ use Rattle.store_domain.specs.ClassNumbers.{same_class}
 use Rattle.store_domain.specs.RowPositions.{capped}
 use Rattle.store_domain.specs.AccessWindows.{window_between}
 use Rattle.store_domain.specs.LeafSelection.{has_place_in}
-use Rattle.store_domain_laws.proofs.PlacesOfLeaves.{place_of_test}
-use Rattle.store_domain_structs_leaves.specs.declared.copy_places.Span.{Span}
+use Rattle.store_domain_laws_shapes.proofs.PlacesOfLeaves.{place_of_test}
+use Rattle.store_domain_structs.specs.Span.{Span}
 use Rattle.store_domain_structs.specs.CopyPlaces.{any_below, shifted, span_width, span_joined, span_window, span_raised, one_place_meets, alike_meets, window_meets, each_meets, several_meet, joined_meet, meets, leaf_raised, is_reached, is_touched}
 use Rattle.store_domain_laws_structs.specs.LargerSpans.{SpanWithin, IsMetToo}
 use Rattle.store_domain_laws_structs.proofs.Places.{test_of_place, window_more, any_more, any_found}

@@ -8,9 +8,9 @@ use Rattle.c_layout.specs.declared.leaf_lists.Leaf.{Leaf}
 use Rattle.c_layout.specs.declared.shapes.BaseInfo.{BaseInfo}
 use Rattle.c_layout.specs.Models.{is_model}
 use Rattle.flow_program.specs.BaseShapes.{is_extent, nowhere, are_leaves, are_parts, lie_over, are_whole, is_heap, is_single, is_heap_base, is_declared_base, is_shaped}
-use Rattle.store_domain_laws.specs.Placements.{EachFrom, IsRegular}
+use Rattle.store_domain_laws_shapes.specs.Placements.{EachFrom, IsRegular}
 use Rattle.store_domain_laws_shapes.proofs.ShapedBases.{shaped_regular}
-use Rattle.store_domain_structs_leaves.specs.declared.copy_places.Span.{Span}
+use Rattle.store_domain_structs.specs.Span.{Span}
 use Rattle.store_domain_structs.specs.CopyPlaces.{any_below, span_joined, span_window}
 use Rattle.store_domain_structs.specs.LeafCopies.{window_padded, any_padded, span_meets_padding}
 use Rattle.store_domain_laws_structs.specs.LargerSpans.{SpanWithin, IsMetToo, ReachesMore}

@@ -9,8 +9,8 @@ use Rattle.c_layout.specs.declared.leaf_lists.Leaf.{Leaf}
 use Rattle.c_layout.specs.Models.{is_model}
 use Rattle.flow_program.specs.BaseShapes.{is_extent, leaf_end, array_end, has_extents, is_stride, is_behind, is_beside, is_apart, follows, first_of, are_apart, is_single}
 use Rattle.flow_program.specs.ModelKinds as flow
-use Rattle.store_domain_laws.specs.Placements.{EachFrom}
-use Rattle.store_domain_laws.proofs.Loads.{some_bytes}
+use Rattle.store_domain_laws_shapes.specs.Placements.{EachFrom}
+use Rattle.store_domain_laws_shapes.proofs.Loads.{some_bytes}
 use Rattle.store_domain_laws_shapes.proofs.LeafBytes.{same_bytes}
 use Rattle.store_domain_laws_structs.proofs.MetLeaves.{IsShort}
 

@@ -10,7 +10,7 @@ use Rattle.flow_program.specs.BaseShapes.{is_extent, nowhere, are_leaves}
 use Rattle.store_domain.specs.LeafSelection.{covered_more, covered_bytes}
 use Rattle.store_domain.specs.RowPositions.{capped}
 use Rattle.store_domain.specs.Walks.{walk, turns}
-use Rattle.store_domain_laws.specs.Placements.{EachFrom}
+use Rattle.store_domain_laws_shapes.specs.Placements.{EachFrom}
 use Rattle.store_domain_laws_shapes.proofs.FoldedLeaves.{bytes_apart}
 use Rattle.store_domain_structs.specs.LeafNumbers.{struct_leaf}
 use Rattle.store_domain_structs.specs.PaddingWrites.{Padded, covered_by, covered_leaf, leaf_bytes}

@@ -10,8 +10,8 @@ use Rattle.store_domain.specs.ClassNumbers.{same_class}
 use Rattle.store_domain.specs.RowPositions.{capped}
 use Rattle.store_domain.specs.AccessWindows.{window_between}
 use Rattle.store_domain.specs.LeafSelection.{has_place_in}
-use Rattle.store_domain_laws.proofs.PlacesOfLeaves.{place_of_test}
-use Rattle.store_domain_structs_leaves.specs.declared.copy_places.Span.{Span}
+use Rattle.store_domain_laws_shapes.proofs.PlacesOfLeaves.{place_of_test}
+use Rattle.store_domain_structs.specs.Span.{Span}
 use Rattle.store_domain_structs.specs.CopyPlaces.{any_below, span_width, span_size, is_apart, all_in_one, span_joined, one_place_meets, alike_meets, each_meets, several_meet, joined_meet, meets, is_reached, reached_count, span_has_stray}
 use Rattle.store_domain_laws_structs.specs.LargerSpans.{SpanWithin}
 use Rattle.store_domain_laws_structs.proofs.Places.{test_of_place, any_at}

@@ -5,10 +5,10 @@ use Rattle.c_layout.specs.declared.leaf_lists.Class.{Class}
 use Rattle.c_layout.specs.declared.leaf_lists.Leaf.{Leaf}
 use Rattle.c_layout.specs.declared.shapes.BaseInfo.{BaseInfo}
 use Rattle.store_domain.specs.AccessWindows.{last_offset}
-use Rattle.store_domain_structs_leaves.specs.declared.copy_places.Span.{Span}
+use Rattle.store_domain_structs.specs.Span.{Span}
 use Rattle.store_domain_structs.specs.CopyPlaces.{is_reached, is_touched, span_has_stray}
 use Rattle.store_domain_structs.specs.LeafCopies.{span_meets_padding}
-use Rattle.store_domain_laws.specs.Placements.{EachFrom}
+use Rattle.store_domain_laws_shapes.specs.Placements.{EachFrom}
 
 -- as many windows as far apart, of which each has the offsets of the first span's; the places lie within 2^62 bytes
 pub record SpanWithin (s u : Span) : Type 0 where

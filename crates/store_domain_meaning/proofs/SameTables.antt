@@ -10,9 +10,9 @@ use Rattle.cc_base.specs.declared.integer_operators.Rel.TheVariants.{Lt, Le, Gt,
 use Rattle.c_layout.specs.declared.data_model.Model.{Model}
 use Rattle.c_layout.specs.declared.leaf_lists.Class.{Class}
 use Rattle.c_layout.specs.declared.leaf_lists.Class.TheVariants.{Char, Short, Int, Long, LongLong, Pointer}
-use Rattle.value_domain.specs.LabelSets as set
-use Rattle.store_domain.specs.ScalarTypes as table
-use Rattle.store_domain.specs.ClassNumbers as numbers
+use Rattle.abstract_steps_checks.specs.LabelSets as set
+use Rattle.abstract_steps_checks.specs.ScalarTypes as table
+use Rattle.abstract_steps_checks.specs.ClassNumbers as numbers
 use Rattle.lib_models_memory.specs.ScalarSizes.{class_bytes, class_number}
 use Rattle.lib_models_memory.specs.Labels.{Labels, no_labels, input_labels, labels_join, is_unlabelled, converted_labels, operated_labels, negated_labels, dropped_labels}
 use Rattle.store_domain_meaning.specs.SeenLabels.{as_set}

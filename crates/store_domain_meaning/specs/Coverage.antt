@@ -7,7 +7,7 @@ use Rattle.cc_base.specs.declared.diagnostics.Place.{Place}
 use Rattle.cc_base.specs.declared.diagnostics.Rule.{Rule}
 use Rattle.c_layout.specs.CheckedUnits.{UnitView}
 use Rattle.flow_program_machine.specs.Flow.{Flow}
-use Rattle.value_domain.specs.declared.row_cells.Cell.{Cell}
+use Rattle.abstract_steps_checks.specs.Cell.{Cell}
 use Rattle.flow_program_machine.specs.Worlds.{Violation}
 use Rattle.flow_program_machine.specs.ProgramViews.{flow_view}
 use Rattle.flow_program_machine.specs.FlowStates.{Standing, FlowRun, running, found_in}

@@ -7,10 +7,10 @@ use Rattle.c_layout.specs.declared.leaf_lists.Leaf.{Leaf}
 use Rattle.c_layout.specs.declared.shapes.BaseInfo.{BaseInfo}
 use Rattle.c_layout.specs.declared.shapes.ZeroPart.{ZeroPart}
 use Rattle.flow_program_machine.specs.Flow.{Flow}
-use Rattle.value_domain.specs.declared.values.Value.{Value}
-use Rattle.value_domain.specs.declared.row_cells.Cell.{Cell}
-use Rattle.store_domain.specs.ClassNumbers.{class_at}
-use Rattle.store_domain.specs.RowPositions.{leaf_position, class_position, zero_position, state_position, value_at, zero_at, state_at}
+use Rattle.abstract_steps_checks.specs.Value.{Value}
+use Rattle.abstract_steps_checks.specs.Cell.{Cell}
+use Rattle.abstract_steps_checks.specs.ClassNumbers.{class_at}
+use Rattle.abstract_steps_checks.specs.RowPositions.{leaf_position, class_position, zero_position, state_position, value_at, zero_at, state_at}
 use Rattle.abstract_steps_checks.specs.Temporaries.{temp_value}
 use Rattle.lib_models_memory.specs.Bytes.{Content, Byte}
 use Rattle.lib_models_memory.specs.Instances.{Memory, live, bytes_at, life_at}

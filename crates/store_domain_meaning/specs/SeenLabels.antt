@@ -1,5 +1,5 @@
 -- The labels of the machine as those of the analysis.
-use Rattle.value_domain.specs.declared.label_sets.Labels as set
+use Rattle.abstract_steps_checks.specs.Labels as set
 use Rattle.lib_models_memory.specs.Labels.{Labels}
 
 abbrev pub as_set : Labels → set.Labels

@@ -5,7 +5,7 @@ use Rattle.c_layout.specs.declared.leaf_lists.Class.TheVariants.{Pointer}
 use Rattle.c_layout.specs.declared.shapes.BaseInfo.{BaseInfo}
 use Rattle.c_layout.specs.declared.shapes.BaseKind.{BaseKind}
 use Rattle.c_layout.specs.declared.shapes.BaseKind.TheVariants.{Static, Automatic, Literal, Newest, Older}
-use Rattle.store_domain.specs.AccessWindows.{last_offset}
+use Rattle.abstract_steps_checks.specs.AccessWindows.{last_offset}
 use Rattle.lib_models_memory.specs.ScalarSizes.{class_bytes}
 use Rattle.lib_models_memory.specs.Bytes.{MachinePointer, null, into, Content, indeterminate, number, part, Tag, Byte}
 use Rattle.lib_models_memory.specs.Instances.{Storage, static, automatic, allocated, literal, live, ended, freed, Instance, Memory, byte_at, bytes_at, life_at}

@@ -4,9 +4,9 @@ use Rattle.c_layout.specs.declared.leaf_lists.Class.{Class}
 use Rattle.pointer_domain.specs.BaseSets.{bases_has}
 use Rattle.pointer_domain.specs.declared.pointer_sets.Pointers.{Pointers}
 use Rattle.string_domain.specs.declared.first_zeros.FirstZero.{FirstZero}
-use Rattle.value_domain.specs.LabelSets.{labels_leq}
-use Rattle.value_domain.specs.declared.values.Value.{Value}
-use Rattle.value_domain.specs.declared.alloc_states.AllocState.{AllocState}
+use Rattle.abstract_steps_checks.specs.LabelSets.{labels_leq}
+use Rattle.abstract_steps_checks.specs.Value.{Value}
+use Rattle.abstract_steps_checks.specs.AllocState.{AllocState}
 use Rattle.lib_models_memory.specs.ScalarSizes.{is_pointer}
 use Rattle.lib_models_memory.specs.Bytes.{MachinePointer, null, into, Content, indeterminate, number, part, Byte}
 use Rattle.lib_models_memory.specs.Instances.{Memory, Life, live, ended, freed, bytes_at, life_at}

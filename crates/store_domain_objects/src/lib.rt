@@ -10,7 +10,7 @@ mod object_lives;
 pub use allocation::{Fresh, renew};
 pub use freeing::{free, free_perhaps};
 pub use live_bases::{
-    MOST_BASES, any_freed, has_base, is_one_instance, is_single, live_of, may_be_freed, may_be_live,
-    only_base, single_bases, writable_of,
+    MOST_BASES, any_freed, has_base, is_one_instance, is_single, live_of, may_be_freed,
+    may_be_live, only_base, single_bases, writable_of,
 };
 pub use object_lives::{clear, enter, forget, leave, set_values, zero_value};

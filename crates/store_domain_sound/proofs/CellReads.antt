@@ -11,18 +11,18 @@ use Rattle.flow_program.specs.declared.machine_instructions.Scalar as declared
 use Rattle.flow_program.specs.declared.programs.Flow.{Flow}
 use Rattle.value_domain.specs.LabelSets.{labels_leq, labels_order}
 use Rattle.value_domain.specs.declared.label_sets.Labels as sets
-use Rattle.lib_models_memory.specs.Labels.{Labels}
+use Rattle.lib_models_effects.specs.Labels.{Labels}
 use Rattle.store_domain_meaning.specs.SeenLabels.{as_set}
 use Rattle.value_domain.specs.declared.values.Value.{Value}
-use Rattle.store_domain.specs.CellReads.{as_read, same_sign}
-use Rattle.lib_models_memory.specs.ScalarSizes.{class_bytes}
-use Rattle.store_domain.specs.ScalarTypes.{kind_of}
-use Rattle.store_domain.specs.ClassNumbers.{is_pointer}
-use Rattle.lib_models_memory.specs.Bytes.{MachinePointer, null, Content, indeterminate, number, part}
-use Rattle.lib_models_memory.specs.Instances.{Memory, bytes_at}
-use Rattle.lib_models_memory.specs.Numbers.{Labelled, number_of}
+use Rattle.store_domain_meaning.specs.CellReads.{as_read, same_sign}
+use Rattle.lib_models_effects.specs.ScalarSizes.{class_bytes}
+use Rattle.store_domain_meaning.specs.ScalarTypes.{kind_of}
+use Rattle.store_domain_meaning.specs.ClassNumbers.{is_pointer}
+use Rattle.lib_models_effects.specs.Bytes.{MachinePointer, null, Content, indeterminate, number, part}
+use Rattle.lib_models_effects.specs.Instances.{Memory, bytes_at}
+use Rattle.lib_models_effects.specs.Numbers.{Labelled, number_of}
 use Rattle.store_domain_meaning.specs.Matching.{Matched, number_in, Holds}
-use Rattle.lib_models_memory.specs.Scalars.{Scalar, integer, pointer}
+use Rattle.lib_models_effects.specs.Scalars.{Scalar, integer, pointer}
 use Rattle.store_domain_meaning.specs.ValueMeaning.{Naming, StandsScalar, StandsPointer, StandsContent}
 use Rattle.store_domain_meaning.specs.SoundMemory.{IsMemoryOf}
 use Rattle.store_domain_meaning.specs.RowMeaning.{IsLiveOf, StandsCell}

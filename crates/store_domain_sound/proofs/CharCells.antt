@@ -11,21 +11,21 @@ use Rattle.value_domain.specs.LabelSets.{all_labels}
 use Rattle.value_domain.specs.Values.{value_lattice}
 use Rattle.value_domain.specs.declared.values.Value.{Value}
 use Rattle.value_domain.specs.declared.row_cells.Cell.{Cell}
-use Rattle.store_domain_cells.specs.declared.cell_reads.Access.{Access}
-use Rattle.store_domain.specs.AccessWindows.{window_between}
-use Rattle.store_domain.specs.CellReads.{whole_range, byte_read}
-use Rattle.store_domain.specs.ClassNumbers.{same_class, class_at}
-use Rattle.lib_models_memory.specs.ScalarSizes.{class_bytes}
-use Rattle.store_domain.specs.RowPositions.{leaf_position, class_position, value_at}
-use Rattle.store_domain.specs.Loads.{load as abstract_load, load_bases, load_within, load_own, loaded, labels_of, read_other_leaf, load_other_leaves, read_class_cell, load_other_class_cells, load_padding, load_other_bytes, load_others, load_base, determinate_if, is_text}
-use Rattle.store_domain.specs.Loads as loads
+use Rattle.store_domain_meaning.specs.Access.{Access}
+use Rattle.store_domain_meaning.specs.AccessWindows.{window_between}
+use Rattle.store_domain_meaning.specs.CellReads.{whole_range, byte_read}
+use Rattle.store_domain_meaning.specs.ClassNumbers.{same_class, class_at}
+use Rattle.lib_models_effects.specs.ScalarSizes.{class_bytes}
+use Rattle.store_domain_meaning.specs.RowPositions.{leaf_position, class_position, value_at}
+use Rattle.store_domain_meaning.specs.Loads.{load as abstract_load, load_bases, load_within, load_own, loaded, labels_of, read_other_leaf, load_other_leaves, read_class_cell, load_other_class_cells, load_padding, load_other_bytes, load_others, load_base, determinate_if, is_text}
+use Rattle.store_domain_meaning.specs.Loads as loads
 use Rattle.store_domain_meaning.specs.Places.{OwnedByLeaf}
 use Rattle.store_domain_sound.specs.Gives.{Gives}
 use Rattle.store_domain_sound.proofs.Selected.{place_selected}
 -- ---- the instance at hand
 
-use Rattle.store_domain.specs.ScalarTypes.{kind_of}
-use Rattle.store_domain.specs.LeafSelection.{is_other, meets_padding}
+use Rattle.store_domain_meaning.specs.ScalarTypes.{kind_of}
+use Rattle.store_domain_meaning.specs.LeafSelection.{is_other, meets_padding}
 use Rattle.store_domain_sound.proofs.Walks.{walk_meets, turns_meet}
 use Rattle.store_domain_sound.proofs.Found.{given_left, given_by_right, if_keeps, if_gives}
 

@@ -21,20 +21,20 @@ use Rattle.value_domain.specs.LabelSets.{all_labels}
 use Rattle.value_domain.specs.Values.{value_lattice}
 use Rattle.value_domain.specs.declared.values.Value.{Value}
 use Rattle.value_domain.specs.declared.row_cells.Cell.{Cell}
-use Rattle.store_domain_cells.specs.declared.cell_reads.Access.{Access}
-use Rattle.store_domain.specs.CellReads.{as_read, whole_range, byte_read}
-use Rattle.store_domain.specs.ClassNumbers.{same_class, class_number, class_at}
-use Rattle.lib_models_memory.specs.ScalarSizes.{class_bytes}
-use Rattle.store_domain.specs.RowPositions.{leaf_position, class_position, value_at, state_at, state_position}
-use Rattle.store_domain.specs.LiveBases.{may_be_live}
-use Rattle.store_domain.specs.Loads.{load as abstract_load, load_bases, load_own, load_others, is_text}
-use Rattle.lib_models_memory.specs.Bytes.{MachinePointer, Content, Tag, Byte, indeterminate}
-use Rattle.lib_models_memory.specs.Instances.{Memory, live, bytes_at, byte_at, life_at, bytes_of}
+use Rattle.store_domain_meaning.specs.Access.{Access}
+use Rattle.store_domain_meaning.specs.CellReads.{as_read, whole_range, byte_read}
+use Rattle.store_domain_meaning.specs.ClassNumbers.{same_class, class_number, class_at}
+use Rattle.lib_models_effects.specs.ScalarSizes.{class_bytes}
+use Rattle.store_domain_meaning.specs.RowPositions.{leaf_position, class_position, value_at, state_at, state_position}
+use Rattle.store_domain_meaning.specs.LiveBases.{may_be_live}
+use Rattle.store_domain_meaning.specs.Loads.{load as abstract_load, load_bases, load_own, load_others, is_text}
+use Rattle.lib_models_effects.specs.Bytes.{MachinePointer, Content, Tag, Byte, indeterminate}
+use Rattle.lib_models_effects.specs.Instances.{Memory, live, bytes_at, byte_at, life_at, bytes_of}
 use Rattle.store_domain_meaning.specs.Matching.{Matched, Fits, number_in}
-use Rattle.lib_models_memory.specs.Tags.{fits_tag, fit_from, tag_at}
+use Rattle.lib_models_effects.specs.Tags.{fits_tag, fit_from, tag_at}
 use Rattle.store_domain_meaning.specs.Places.{IsPlaceOf, IsLeafPlace, OwnedByLeaf, OwnedByClass, IsClassPlace}
 use Rattle.store_domain_meaning.specs.SoundMemory.{IsContentIn, IsPointerIn, IsWithin}
-use Rattle.lib_models_memory.specs.Scalars.{Scalar, integer, pointer}
+use Rattle.lib_models_effects.specs.Scalars.{Scalar, integer, pointer}
 use Rattle.store_domain_meaning.specs.ValueMeaning.{Naming, StandsPointer, StandsScalar, StandsState, StandsContent}
 use Rattle.store_domain_meaning.specs.RowMeaning.{MachineState, StandsCell, StandsClass, StandsFor}
 use Rattle.lib_models_effects.specs.Worlds.{World, goes, stopped_by}
@@ -61,8 +61,8 @@ use Rattle.store_domain_sound.proofs.Reached.{own_gives, bases_give}
 
 use Rattle.c_layout.specs.Leaves.{class_of}
 use Rattle.pointer_domain.specs.declared.base_sets.Bases.{Bases}
-use Rattle.store_domain.specs.ScalarTypes.{kind_of}
-use Rattle.lib_models_memory.specs.Numbers.{number_of}
+use Rattle.store_domain_meaning.specs.ScalarTypes.{kind_of}
+use Rattle.lib_models_effects.specs.Numbers.{number_of}
 use Rattle.store_domain_sound.proofs.LoadSound.{IsRead, live_if, instance_there, base_there, at_leaf, on_heap, into_live, relabelled, relabel_scalar, table}
 use Rattle.store_domain_sound.proofs.CharCells.{others_give, class_cells_give, by_leaves, by_classes, by_padding, char_base}
 use Rattle.store_domain_sound.proofs.CharValues.{byte_stands, padding_stands}

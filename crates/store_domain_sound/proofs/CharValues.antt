@@ -9,12 +9,12 @@ use Rattle.c_layout.specs.declared.leaf_lists.Class.{Class}
 use Rattle.c_layout.specs.declared.leaf_lists.Class.TheVariants.{Char}
 use Rattle.value_domain.specs.LabelSets.{labels_leq, no_labels, labels_order, all_labels}
 use Rattle.value_domain.specs.declared.values.Value.{Value}
-use Rattle.store_domain.specs.CellReads.{whole_range, byte_read}
-use Rattle.store_domain.specs.ClassNumbers.{is_pointer}
-use Rattle.lib_models_memory.specs.Instances.{Memory}
+use Rattle.store_domain_meaning.specs.CellReads.{whole_range, byte_read}
+use Rattle.store_domain_meaning.specs.ClassNumbers.{is_pointer}
+use Rattle.lib_models_effects.specs.Instances.{Memory}
 use Rattle.store_domain_meaning.specs.SeenLabels.{as_set}
 use Rattle.store_domain_meaning.specs.Matching.{number_in}
-use Rattle.lib_models_memory.specs.Scalars.{integer}
+use Rattle.lib_models_effects.specs.Scalars.{integer}
 use Rattle.store_domain_meaning.specs.ValueMeaning.{Naming, StandsScalar, StandsContent}
 use Rattle.lib_models_effects.specs.Accesses.{joined_labels}
 -- ---- the instance at hand
@@ -22,8 +22,8 @@ use Rattle.lib_models_effects.specs.Accesses.{joined_labels}
 use Rattle.cc_base.specs.LatticeParts.{flag_leq}
 use Rattle.std.proofs.lemmas.Int.{ints}
 use Rattle.value_domain.specs.declared.label_sets.Labels.{Labels}
-use Rattle.store_domain.specs.ScalarTypes.{kind_of}
-use Rattle.lib_models_memory.specs.Numbers.{Labelled, number_of}
+use Rattle.store_domain_meaning.specs.ScalarTypes.{kind_of}
+use Rattle.lib_models_effects.specs.Numbers.{Labelled, number_of}
 use Rattle.store_domain_sound.proofs.StoreZeros.{between_stands, some_between}
 
 signed_near : (n : ℕ) → n < 256 → (negsuc 127 ≤ℤ cond (nat_lt (2 * n) 256) (pos n) (pos n -ℤ pos 256)) × (cond (nat_lt (2 * n) 256) (pos n) (pos n -ℤ pos 256) ≤ℤ pos 127)

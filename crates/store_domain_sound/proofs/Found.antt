@@ -3,8 +3,8 @@ use Rattle.std.proofs.Common.{◌≡◌, Bool, true, false, Option, Some, None, 
 use Rattle.cc_base.specs.Lattices.{LatticeOf, OrderLaws}
 use Rattle.value_domain.specs.Values.{value_lattice, value_order}
 use Rattle.value_domain.specs.declared.values.Value.{Value}
-use Rattle.store_domain.specs.CellReads.{joined, joined_with}
-use Rattle.store_domain.specs.Loads.{joined_if}
+use Rattle.store_domain_meaning.specs.CellReads.{joined, joined_with}
+use Rattle.store_domain_meaning.specs.Loads.{joined_if}
 use Rattle.store_domain_sound.specs.Gives.{Gives}
 
 module _ {I : Type 0} {l : LatticeOf I} (o : OrderLaws l) {P : Value I → Type 0} (up : (x y : Value I) → (value_lattice l).leq x y ≡ true → P x → P y) where

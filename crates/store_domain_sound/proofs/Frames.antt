@@ -9,14 +9,14 @@ use Rattle.c_layout.specs.declared.leaf_lists.Class.{Class}
 use Rattle.flow_program.specs.declared.programs.Flow.{Flow}
 use Rattle.pointer_domain.specs.declared.pointer_sets.Pointers.{Pointers}
 use Rattle.value_domain.specs.declared.values.Value.{Value}
-use Rattle.store_domain.specs.ClassNumbers.{is_pointer}
-use Rattle.lib_models_memory.specs.ScalarSizes.{class_bytes}
-use Rattle.lib_models_memory.specs.Bytes.{MachinePointer, null, into, Content, indeterminate, number, part, Tag, Byte}
-use Rattle.lib_models_memory.specs.Instances.{Memory, Life, live, ended, freed, bytes_at, byte_at, life_at}
-use Rattle.lib_models_memory.specs.Numbers.{Labelled, number_of}
+use Rattle.store_domain_meaning.specs.ClassNumbers.{is_pointer}
+use Rattle.lib_models_effects.specs.ScalarSizes.{class_bytes}
+use Rattle.lib_models_effects.specs.Bytes.{MachinePointer, null, into, Content, indeterminate, number, part, Tag, Byte}
+use Rattle.lib_models_effects.specs.Instances.{Memory, Life, live, ended, freed, bytes_at, byte_at, life_at}
+use Rattle.lib_models_effects.specs.Numbers.{Labelled, number_of}
 use Rattle.store_domain_meaning.specs.Matching.{Fits, Matched, number_in, Holds}
-use Rattle.lib_models_memory.specs.Tags.{tag_of}
-use Rattle.lib_models_memory.specs.Scalars.{Scalar, integer, pointer}
+use Rattle.lib_models_effects.specs.Tags.{tag_of}
+use Rattle.lib_models_effects.specs.Scalars.{Scalar, integer, pointer}
 use Rattle.store_domain_meaning.specs.ValueMeaning.{Naming, StandsInto, StandsByLife, StandsPointer, StandsScalar, StandsContent}
 use Rattle.store_domain_meaning.specs.SoundMemory.{IsWithin, IsPointerIn, IsScalarIn}
 use Rattle.store_domain_meaning.specs.RowMeaning.{IsLiveOf, StandsCell}

@@ -10,11 +10,11 @@ use Rattle.flow_program.specs.declared.programs.Flow.{Flow}
 use Rattle.pointer_domain.specs.declared.pointer_sets.Pointers.{Pointers}
 use Rattle.value_domain.specs.declared.values.Value.{Value}
 use Rattle.value_domain.specs.declared.row_cells.Cell.{Cell}
-use Rattle.store_domain.specs.RowPositions.{state_at, state_position}
-use Rattle.store_domain.specs.LiveBases.{may_be_freed, is_freed_or, any_freed}
-use Rattle.lib_models_memory.specs.Bytes.{null, into}
-use Rattle.lib_models_memory.specs.Instances.{Life, live, ended, freed, Instance, allocated, bytes_at, life_at, life_of}
-use Rattle.lib_models_memory.specs.Scalars.{Scalar, integer, pointer}
+use Rattle.store_domain_meaning.specs.RowPositions.{state_at, state_position}
+use Rattle.store_domain_meaning.specs.LiveBases.{may_be_freed, is_freed_or, any_freed}
+use Rattle.lib_models_effects.specs.Bytes.{null, into}
+use Rattle.lib_models_effects.specs.Instances.{Life, live, ended, freed, Instance, allocated, bytes_at, life_at, life_of}
+use Rattle.lib_models_effects.specs.Scalars.{Scalar, integer, pointer}
 use Rattle.lib_models_effects.specs.Touches.{is_allocated}
 use Rattle.lib_models_effects.specs.Accesses.{is_freed_life, points_into_freed}
 use Rattle.store_domain_meaning.specs.ValueMeaning.{Naming, StandsInto, StandsByLife, StandsScalar, StandsState}

@@ -8,9 +8,9 @@ use Rattle.std.proofs.Math.Nat.{mod-lt, add-mul-mod_self_right}
 use Rattle.std.proofs.lemmas.Bool.{cases_Bool}
 use Rattle.cc_base.specs.declared.int_types.IntType.{IntType}
 use Rattle.cc_base.specs.IntegerTypes.{least_of, modulus, wrap_into}
-use Rattle.lib_models_memory.specs.Labels.{Labels}
-use Rattle.lib_models_memory.specs.Bytes.{MachinePointer, Content, number, part}
-use Rattle.lib_models_memory.specs.Numbers.{Labelled, unsigned_of, number_of}
+use Rattle.lib_models_effects.specs.Labels.{Labels}
+use Rattle.lib_models_effects.specs.Bytes.{MachinePointer, Content, number, part}
+use Rattle.lib_models_effects.specs.Numbers.{Labelled, unsigned_of, number_of}
 use Rattle.store_domain_meaning.specs.Matching.{number_in}
 use Rattle.lib_models_effects.specs.ScalarBytes.{number_bytes, parts_from, bits_in}
 use Rattle.store_domain_sound.proofs.Rereading.{IsSame, wrapped_signed, wrapped_unsigned, halves}

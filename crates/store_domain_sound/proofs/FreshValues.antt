@@ -18,21 +18,21 @@ use Rattle.c_layout.specs.declared.leaf_lists.Class.TheVariants.{Pointer}
 use Rattle.flow_program.specs.declared.machine_instructions.Scalar.TheVariants as of
 use Rattle.flow_program.specs.declared.machine_instructions.Scalar as declared
 use Rattle.value_domain.specs.LabelSets.{labels_leq, no_labels, labels_order}
-use Rattle.lib_models_memory.specs.Labels.{Labels}
-use Rattle.lib_models_memory.specs.Labels as plain
+use Rattle.lib_models_effects.specs.Labels.{Labels}
+use Rattle.lib_models_effects.specs.Labels as plain
 use Rattle.store_domain_meaning.specs.SeenLabels.{as_set}
 use Rattle.value_domain.specs.declared.values.Value.{Value}
-use Rattle.store_domain.specs.CellReads.{as_stored}
-use Rattle.lib_models_memory.specs.ScalarSizes.{class_bytes}
-use Rattle.store_domain.specs.ScalarTypes.{kind_of}
-use Rattle.store_domain.specs.ClassNumbers.{is_pointer}
-use Rattle.store_domain.specs.NearValues.{near_number}
-use Rattle.store_domain.specs.Stores.{stored_value}
-use Rattle.lib_models_memory.specs.Bytes.{null, into, Content}
-use Rattle.lib_models_memory.specs.Instances.{Memory}
-use Rattle.lib_models_memory.specs.Numbers.{Labelled, number_of}
+use Rattle.store_domain_meaning.specs.CellReads.{as_stored}
+use Rattle.lib_models_effects.specs.ScalarSizes.{class_bytes}
+use Rattle.store_domain_meaning.specs.ScalarTypes.{kind_of}
+use Rattle.store_domain_meaning.specs.ClassNumbers.{is_pointer}
+use Rattle.store_domain_meaning.specs.NearValues.{near_number}
+use Rattle.store_domain_meaning.specs.Stores.{stored_value}
+use Rattle.lib_models_effects.specs.Bytes.{null, into, Content}
+use Rattle.lib_models_effects.specs.Instances.{Memory}
+use Rattle.lib_models_effects.specs.Numbers.{Labelled, number_of}
 use Rattle.store_domain_meaning.specs.Matching.{number_in, Holds}
-use Rattle.lib_models_memory.specs.Scalars.{Scalar, integer, pointer}
+use Rattle.lib_models_effects.specs.Scalars.{Scalar, integer, pointer}
 use Rattle.store_domain_meaning.specs.ValueMeaning.{Naming, StandsScalar, StandsContent}
 use Rattle.lib_models_effects.specs.Accesses.{class_in}
 use Rattle.lib_models_effects.specs.ScalarBytes.{number_bytes, bits_in, scalar_bytes}

@@ -13,9 +13,9 @@ use Rattle.pointer_domain.specs.declared.pointer_sets.Pointers.{Pointers}
 use Rattle.value_domain.specs.Values.{value_lattice}
 use Rattle.value_domain.specs.LabelSets.{labels_leq, labels_order}
 use Rattle.value_domain.specs.declared.values.Value.{Value}
-use Rattle.lib_models_memory.specs.Bytes.{MachinePointer, null, into, Content, indeterminate, number, part}
-use Rattle.lib_models_memory.specs.Instances.{Memory, Life, live, ended, freed, life_at}
-use Rattle.lib_models_memory.specs.Scalars.{Scalar, integer, pointer}
+use Rattle.lib_models_effects.specs.Bytes.{MachinePointer, null, into, Content, indeterminate, number, part}
+use Rattle.lib_models_effects.specs.Instances.{Memory, Life, live, ended, freed, life_at}
+use Rattle.lib_models_effects.specs.Scalars.{Scalar, integer, pointer}
 use Rattle.store_domain_meaning.specs.SeenLabels.{as_set}
 use Rattle.store_domain_meaning.specs.ValueMeaning.{Naming, StandsInto, StandsByLife, StandsPointer, StandsScalar, StandsContent}
 

@@ -20,20 +20,20 @@ use Rattle.value_domain.specs.LabelSets.{labels_leq, no_labels}
 use Rattle.value_domain.specs.Values.{value_lattice}
 use Rattle.value_domain.specs.declared.values.Value.{Value}
 use Rattle.value_domain.specs.declared.row_cells.Cell.{Cell}
-use Rattle.store_domain_cells.specs.declared.cell_reads.Access.{Access}
-use Rattle.store_domain.specs.CellReads.{as_read, same_sign}
-use Rattle.store_domain.specs.ClassNumbers.{same_class, class_number, is_pointer}
-use Rattle.lib_models_memory.specs.ScalarSizes.{class_bytes}
-use Rattle.store_domain.specs.RowPositions.{leaf_position, class_position, value_at, state_at, state_position}
-use Rattle.store_domain.specs.LiveBases.{may_be_live}
-use Rattle.store_domain.specs.Loads.{load as abstract_load, load_bases, load_within, load_own, loaded, labels_of}
-use Rattle.store_domain.specs.Loads as loads
-use Rattle.lib_models_memory.specs.Bytes.{MachinePointer, into, Content, Tag, Byte}
-use Rattle.lib_models_memory.specs.Instances.{Memory, live, Instance, bytes_at, byte_at, life_at, bytes_of, life_of}
-use Rattle.lib_models_memory.specs.Tags.{fits_tag, fit_from, tag_of, tag_at}
+use Rattle.store_domain_meaning.specs.Access.{Access}
+use Rattle.store_domain_meaning.specs.CellReads.{as_read, same_sign}
+use Rattle.store_domain_meaning.specs.ClassNumbers.{same_class, class_number, is_pointer}
+use Rattle.lib_models_effects.specs.ScalarSizes.{class_bytes}
+use Rattle.store_domain_meaning.specs.RowPositions.{leaf_position, class_position, value_at, state_at, state_position}
+use Rattle.store_domain_meaning.specs.LiveBases.{may_be_live}
+use Rattle.store_domain_meaning.specs.Loads.{load as abstract_load, load_bases, load_within, load_own, loaded, labels_of}
+use Rattle.store_domain_meaning.specs.Loads as loads
+use Rattle.lib_models_effects.specs.Bytes.{MachinePointer, into, Content, Tag, Byte}
+use Rattle.lib_models_effects.specs.Instances.{Memory, live, Instance, bytes_at, byte_at, life_at, bytes_of, life_of}
+use Rattle.lib_models_effects.specs.Tags.{fits_tag, fit_from, tag_of, tag_at}
 use Rattle.store_domain_meaning.specs.Places.{IsPlaceOf, IsLeafPlace, OwnedByLeaf, OwnedByClass, IsClassPlace}
 use Rattle.store_domain_meaning.specs.SoundMemory.{IsPointerIn, IsWithin, IsInstanceOf}
-use Rattle.lib_models_memory.specs.Scalars.{Scalar, integer, pointer}
+use Rattle.lib_models_effects.specs.Scalars.{Scalar, integer, pointer}
 use Rattle.store_domain_meaning.specs.ValueMeaning.{Naming, StandsInto, StandsByLife, StandsPointer, StandsScalar, StandsState}
 use Rattle.store_domain_meaning.specs.RowMeaning.{MachineState, IsLiveOf, StandsCell, StandsLeaf, StandsClass, StandsFor}
 use Rattle.lib_models_effects.specs.Worlds.{World, goes, stopped_by}

@@ -8,11 +8,11 @@ use Rattle.cc_base.specs.declared.diagnostics.Rule.TheVariants as rule
 use Rattle.c_layout.specs.declared.data_model.Model.{Model}
 use Rattle.c_layout.specs.declared.leaf_lists.Class.TheVariants.{Char}
 use Rattle.flow_program.specs.declared.machine_instructions.Scalar as declared
-use Rattle.store_domain.specs.ClassNumbers.{same_class}
-use Rattle.lib_models_memory.specs.ScalarSizes.{class_bytes}
-use Rattle.lib_models_memory.specs.Bytes.{MachinePointer, null, into, Content}
-use Rattle.lib_models_memory.specs.Instances.{Life, live, ended, freed, bytes_at, life_at}
-use Rattle.lib_models_memory.specs.Scalars.{Scalar, pointer}
+use Rattle.store_domain_meaning.specs.ClassNumbers.{same_class}
+use Rattle.lib_models_effects.specs.ScalarSizes.{class_bytes}
+use Rattle.lib_models_effects.specs.Bytes.{MachinePointer, null, into, Content}
+use Rattle.lib_models_effects.specs.Instances.{Life, live, ended, freed, bytes_at, life_at}
+use Rattle.lib_models_effects.specs.Scalars.{Scalar, pointer}
 use Rattle.lib_models_effects.specs.Worlds.{World, Why, Reply, goes, stops, Left, Violated, behind, violating, noted, stopped_by}
 use Rattle.lib_models_effects.specs.ScalarBytes.{region, contents}
 use Rattle.lib_models_effects.specs.Touches.{Spot, touched, touched_by, touched_live, is_allocated, storage_at}

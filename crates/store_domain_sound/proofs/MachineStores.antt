@@ -8,13 +8,13 @@ use Rattle.c_layout.specs.declared.data_model.Model.{Model}
 use Rattle.c_layout.specs.declared.leaf_lists.Class.{Class}
 use Rattle.c_layout.specs.declared.leaf_lists.Class.TheVariants.{Char}
 use Rattle.flow_program.specs.declared.machine_instructions.Scalar as declared
-use Rattle.lib_models_memory.specs.Labels.{Labels}
-use Rattle.store_domain.specs.ClassNumbers.{same_class}
-use Rattle.lib_models_memory.specs.ScalarSizes.{class_bytes}
-use Rattle.lib_models_memory.specs.Bytes.{MachinePointer, null, into, Content, Tag, Byte}
-use Rattle.lib_models_memory.specs.Instances.{Memory, Instance, live, bytes_of, bytes_at, byte_at, life_of, life_at}
-use Rattle.lib_models_memory.specs.Tags.{tag_of, fits_tag, fit_from}
-use Rattle.lib_models_memory.specs.Scalars.{Scalar, integer, pointer}
+use Rattle.lib_models_effects.specs.Labels.{Labels}
+use Rattle.store_domain_meaning.specs.ClassNumbers.{same_class}
+use Rattle.lib_models_effects.specs.ScalarSizes.{class_bytes}
+use Rattle.lib_models_effects.specs.Bytes.{MachinePointer, null, into, Content, Tag, Byte}
+use Rattle.lib_models_effects.specs.Instances.{Memory, Instance, live, bytes_of, bytes_at, byte_at, life_of, life_at}
+use Rattle.lib_models_effects.specs.Tags.{tag_of, fits_tag, fit_from}
+use Rattle.lib_models_effects.specs.Scalars.{Scalar, integer, pointer}
 use Rattle.store_domain_meaning.specs.SoundMemory.{IsPointerIn, IsWithin}
 use Rattle.lib_models_effects.specs.Worlds.{World, Reply, goes, stops, Left, Stuck}
 use Rattle.lib_models_effects.specs.ScalarBytes.{number_bytes, parts_from, bits_in, scalar_bytes, filled, tagged_from, replaced, refilled, region}

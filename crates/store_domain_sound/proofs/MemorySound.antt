@@ -8,11 +8,11 @@ use Rattle.c_layout.specs.declared.leaf_lists.Class.TheVariants.{Char}
 use Rattle.c_layout.specs.declared.shapes.BaseInfo.{BaseInfo}
 use Rattle.flow_program.specs.declared.machine_instructions.Scalar.TheVariants as of
 use Rattle.flow_program.specs.declared.machine_instructions.Scalar as declared
-use Rattle.lib_models_memory.specs.Labels.{Labels}
-use Rattle.lib_models_memory.specs.ScalarSizes.{same_class, class_bytes}
-use Rattle.lib_models_memory.specs.Bytes.{MachinePointer, null, Content, indeterminate, number, part, Byte}
-use Rattle.lib_models_memory.specs.Instances.{live, ended, bytes_at, byte_at, bytes_of, life_at}
-use Rattle.lib_models_memory.specs.Scalars.{Scalar, integer, pointer}
+use Rattle.lib_models_effects.specs.Labels.{Labels}
+use Rattle.lib_models_effects.specs.ScalarSizes.{same_class, class_bytes}
+use Rattle.lib_models_effects.specs.Bytes.{MachinePointer, null, Content, indeterminate, number, part, Byte}
+use Rattle.lib_models_effects.specs.Instances.{live, ended, bytes_at, byte_at, bytes_of, life_at}
+use Rattle.lib_models_effects.specs.Scalars.{Scalar, integer, pointer}
 use Rattle.lib_models_effects.specs.Worlds.{World, Reply, goes, stops, Stuck}
 use Rattle.lib_models_effects.specs.Operands.{is_of_kind}
 use Rattle.lib_models_effects.specs.ScalarBytes.{scalar_bytes, bits_in, refilled, region}

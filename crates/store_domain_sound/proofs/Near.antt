@@ -10,8 +10,8 @@ use Rattle.cc_base.specs.NumberRanges.{Range}
 use Rattle.value_domain.specs.Values.{value_lattice}
 use Rattle.value_domain.specs.declared.values.Value.{Value}
 use Rattle.value_domain.specs.declared.row_cells.Cell.{Cell}
-use Rattle.store_domain.specs.NearValues.{is_near, near_part, part_near, near_number, near_value}
-use Rattle.store_domain.specs.RowPositions.{cell_at, value_in, value_at}
+use Rattle.store_domain_meaning.specs.NearValues.{is_near, near_part, part_near, near_number, near_value}
+use Rattle.store_domain_meaning.specs.RowPositions.{cell_at, value_in, value_at}
 
 -- near bounds are changed by nothing
 pub record IsNearValue {I : Type 0} (l : LatticeOf I) (n : IntegersOf I) (v : Value I) : Type 0 where

@@ -3,7 +3,7 @@ use Rattle.std.proofs.Common.{◌≡◌, ap}
 use Rattle.cc_base.specs.Lattices.{LatticeOf}
 use Rattle.cc_base.specs.IntegerDomains.{IntegersOf}
 use Rattle.value_domain.specs.declared.values.Value.{Value}
-use Rattle.store_domain.specs.NearValues.{near_value}
+use Rattle.store_domain_meaning.specs.NearValues.{near_value}
 use Rattle.store_domain_sound.proofs.Near.{IsNearValue}
 
 pub near_parts : {I : Type 0} {l : LatticeOf I} {n : IntegersOf I} {v : Value I} → near_value l n v ≡ v → IsNearValue l n v

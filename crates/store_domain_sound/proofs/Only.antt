@@ -5,8 +5,8 @@ use Rattle.std.specs.Option.{unwrap_or}
 use Rattle.std.proofs.lemmas.List.{length-set}
 use Rattle.value_domain.specs.declared.row_cells.Cell.{Cell}
 use Rattle.value_domain.specs.declared.row_cells.Cell.TheVariants.{Nothing}
-use Rattle.store_domain.specs.RowPositions.{cell_at}
-use Rattle.store_domain.specs.Walks.{walk}
+use Rattle.store_domain_meaning.specs.RowPositions.{cell_at}
+use Rattle.store_domain_meaning.specs.Walks.{walk}
 use Rattle.store_domain_sound.proofs.Slices.{get_set_same, get_set_other}
 
 module _ {I : Type 0} where

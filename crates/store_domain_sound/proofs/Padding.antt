@@ -7,12 +7,12 @@ use Rattle.std.proofs.Math.Nat.{mod-lt}
 use Rattle.c_layout.specs.declared.data_model.Model.{Model}
 use Rattle.c_layout.specs.declared.leaf_lists.Leaf.{Leaf}
 use Rattle.c_layout.specs.declared.shapes.BaseInfo.{BaseInfo}
-use Rattle.store_domain.specs.Walks.{walk}
-use Rattle.store_domain.specs.RowPositions.{capped}
-use Rattle.store_domain.specs.LeafSelection.{turn_bytes, bytes_behind, bytes_below, covered_more, covered_bytes, window_end}
-use Rattle.lib_models_memory.specs.ScalarSizes.{class_bytes}
-use Rattle.lib_models_memory.specs.Bytes.{Tag}
-use Rattle.lib_models_memory.specs.Tags.{distance_tag, leaf_tag, or_tag, tag_at}
+use Rattle.store_domain_meaning.specs.Walks.{walk}
+use Rattle.store_domain_meaning.specs.RowPositions.{capped}
+use Rattle.store_domain_meaning.specs.LeafSelection.{turn_bytes, bytes_behind, bytes_below, covered_more, covered_bytes, window_end}
+use Rattle.lib_models_effects.specs.ScalarSizes.{class_bytes}
+use Rattle.lib_models_effects.specs.Bytes.{Tag}
+use Rattle.lib_models_effects.specs.Tags.{distance_tag, leaf_tag, or_tag, tag_at}
 use Rattle.store_domain_sound.specs.Shapes.{AreShaped, CountsOnce, SeesPadding}
 
 -- ---- one leaf

@@ -11,13 +11,13 @@ use Rattle.pointer_domain.specs.declared.base_sets.Bases.{Bases}
 use Rattle.value_domain.specs.Values.{value_lattice}
 use Rattle.value_domain.specs.declared.values.Value.{Value}
 use Rattle.value_domain.specs.declared.row_cells.Cell.{Cell}
-use Rattle.store_domain_cells.specs.declared.cell_reads.Access.{Access}
-use Rattle.store_domain.specs.CellReads.{as_read}
-use Rattle.store_domain.specs.ClassNumbers.{same_class, class_number}
-use Rattle.store_domain.specs.RowPositions.{leaf_position, class_position, value_at}
-use Rattle.store_domain.specs.LeafSelection.{is_selected, has_stray}
-use Rattle.store_domain.specs.LiveBases.{is_live_in}
-use Rattle.store_domain.specs.Loads.{read_leaf, load_leaves, load_class_cell, load_own, load_base, load_bases, read_base, read_base_if}
+use Rattle.store_domain_meaning.specs.Access.{Access}
+use Rattle.store_domain_meaning.specs.CellReads.{as_read}
+use Rattle.store_domain_meaning.specs.ClassNumbers.{same_class, class_number}
+use Rattle.store_domain_meaning.specs.RowPositions.{leaf_position, class_position, value_at}
+use Rattle.store_domain_meaning.specs.LeafSelection.{is_selected, has_stray}
+use Rattle.store_domain_meaning.specs.LiveBases.{is_live_in}
+use Rattle.store_domain_meaning.specs.Loads.{read_leaf, load_leaves, load_class_cell, load_own, load_base, load_bases, read_base, read_base_if}
 use Rattle.store_domain_meaning.specs.Places.{IsLeafPlace}
 use Rattle.store_domain_sound.specs.Gives.{Gives}
 use Rattle.store_domain_sound.specs.Shapes.{IsShaped, at_offset}

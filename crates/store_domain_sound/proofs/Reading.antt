@@ -5,11 +5,11 @@ use Rattle.std.proofs.lemmas.Bool.{cases_Bool, and_parts, eqb-true, leb-true}
 use Rattle.std.proofs.lemmas.List.{length-take, length-drop}
 use Rattle.cc_base.specs.declared.diagnostics.Rule.TheVariants as rule
 use Rattle.c_layout.specs.declared.leaf_lists.Class.{Class}
-use Rattle.lib_models_memory.specs.Bytes.{MachinePointer, null, into, Content, indeterminate, number, part, Tag, Byte}
-use Rattle.lib_models_memory.specs.Instances.{Memory, Life, live, ended, freed, bytes_at, byte_at, life_at}
-use Rattle.lib_models_memory.specs.Numbers.{Labelled}
+use Rattle.lib_models_effects.specs.Bytes.{MachinePointer, null, into, Content, indeterminate, number, part, Tag, Byte}
+use Rattle.lib_models_effects.specs.Instances.{Memory, Life, live, ended, freed, bytes_at, byte_at, life_at}
+use Rattle.lib_models_effects.specs.Numbers.{Labelled}
 use Rattle.store_domain_meaning.specs.Matching.{Fits, Matched, number_in}
-use Rattle.lib_models_memory.specs.Tags.{fits_tag, fit_from}
+use Rattle.lib_models_effects.specs.Tags.{fits_tag, fit_from}
 use Rattle.lib_models_effects.specs.Worlds.{World, Reply, goes, stops, behind, stopped_by}
 use Rattle.lib_models_effects.specs.ScalarBytes.{region, contents}
 use Rattle.lib_models_effects.specs.Touches.{Spot, touched, touched_by, touched_live, is_literal, storage_at}

@@ -6,9 +6,9 @@ use Rattle.std.proofs.lemmas.List.{length-take, length-drop, length-append, leng
 use Rattle.std.proofs.lemmas.Option.{same_Some, slice_get_within}
 use Rattle.c_layout.specs.declared.data_model.Model.{Model}
 use Rattle.c_layout.specs.declared.shapes.BaseInfo.{BaseInfo}
-use Rattle.lib_models_memory.specs.Labels.{Labels}
-use Rattle.lib_models_memory.specs.Bytes.{Content, number, Byte}
-use Rattle.lib_models_memory.specs.Instances.{Memory, Instance, bytes_of, byte_at, life_of}
+use Rattle.lib_models_effects.specs.Labels.{Labels}
+use Rattle.lib_models_effects.specs.Bytes.{Content, number, Byte}
+use Rattle.lib_models_effects.specs.Instances.{Memory, Instance, bytes_of, byte_at, life_of}
 use Rattle.lib_models_effects.specs.ScalarBytes.{filled, refilled}
 use Rattle.lib_models_effects.specs.Touches.{storage_of, storage_at}
 use Rattle.store_domain_meaning.specs.ValueMeaning.{Naming}

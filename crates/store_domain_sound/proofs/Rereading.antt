@@ -8,7 +8,7 @@ use Rattle.std.proofs.Math.Nat.{mod-eq_of_lt, add-mod_right}
 use Rattle.std.proofs.lemmas.Bool.{cases_Bool, ltb-true, ltb-false}
 use Rattle.cc_base.specs.declared.int_types.IntType.{IntType}
 use Rattle.cc_base.specs.IntegerTypes.{wrap_into}
-use Rattle.lib_models_memory.specs.Numbers.{Labelled, unsigned_of, number_of}
+use Rattle.lib_models_effects.specs.Numbers.{Labelled, unsigned_of, number_of}
 
 pub AreBytes : List Labelled → Type 0
 AreBytes ns = (k : ℕ) (n : Labelled) → slice_get ns k ≡ Some n → n.number < 256

@@ -6,9 +6,9 @@ use Rattle.std.proofs.lemmas.Bool.{cases_Bool, and_parts, and_from, eqb-true, eq
 use Rattle.std.proofs.lemmas.Bool.Decides.{nat_tests}
 use Rattle.c_layout.specs.declared.leaf_lists.Class.{Class}
 use Rattle.c_layout.specs.declared.leaf_lists.Leaf.{Leaf}
-use Rattle.store_domain_cells.specs.declared.access_windows.Window.{Window}
-use Rattle.store_domain.specs.ClassNumbers.{same_class}
-use Rattle.store_domain.specs.LeafSelection.{places_before, turns_into, has_place_in, is_selected, has_stray}
+use Rattle.store_domain_meaning.specs.Window.{Window}
+use Rattle.store_domain_meaning.specs.ClassNumbers.{same_class}
+use Rattle.store_domain_meaning.specs.LeafSelection.{places_before, turns_into, has_place_in, is_selected, has_stray}
 use Rattle.store_domain_meaning.specs.Places.{IsPlaceOf, IsLeafPlace}
 use Rattle.store_domain_sound.specs.Shapes.{at_offset}
 use Rattle.store_domain_sound.proofs.Classes.{count_some, count_none, count_either, same_class_is, is_same_class}

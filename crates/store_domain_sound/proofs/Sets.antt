@@ -12,9 +12,9 @@ use Rattle.pointer_domain.specs.declared.base_sets.Bases.{Bases}
 use Rattle.pointer_domain.specs.BaseSets.{no_base, word_of, bases_has, bases_with, bases_union, bases_within}
 use Rattle.pointer_domain.specs.BaseFacts.{union_has, within_has, with_has_same, with_has_other}
 use Rattle.value_domain.specs.declared.row_cells.Cell.{Cell}
-use Rattle.store_domain.specs.Walks.{walk}
-use Rattle.store_domain.specs.LiveBases.{most_bases, is_single_kind, is_literal_kind, only_base, has_base, with_base_if, add_single, single_bases, is_writable_in, add_writable, is_live_in, add_live, live_of}
-use Rattle.store_domain.specs.Stores.{reached_of}
+use Rattle.store_domain_meaning.specs.Walks.{walk}
+use Rattle.store_domain_meaning.specs.LiveBases.{most_bases, is_single_kind, is_literal_kind, only_base, has_base, with_base_if, add_single, single_bases, is_writable_in, add_writable, is_live_in, add_live, live_of}
+use Rattle.store_domain_meaning.specs.Stores.{reached_of}
 use Rattle.store_domain_sound.proofs.Walks.{walk_meets}
 
 or_true : (a b : Bool) → a ≡ true → (a || b) ≡ true

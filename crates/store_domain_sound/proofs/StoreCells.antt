@@ -9,12 +9,12 @@ use Rattle.flow_program.specs.declared.programs.Flow.{Flow}
 use Rattle.value_domain.specs.Values.{value_lattice, value_order}
 use Rattle.value_domain.specs.declared.values.Value.{Value}
 use Rattle.value_domain.specs.declared.row_cells.Cell.{Cell}
-use Rattle.lib_models_memory.specs.ScalarSizes.{class_bytes}
-use Rattle.store_domain.specs.NearValues.{near_value}
-use Rattle.store_domain.specs.RowPositions.{value_at}
-use Rattle.lib_models_memory.specs.Instances.{Memory, bytes_at}
-use Rattle.lib_models_memory.specs.Numbers.{number_of}
-use Rattle.lib_models_memory.specs.Scalars.{Scalar}
+use Rattle.lib_models_effects.specs.ScalarSizes.{class_bytes}
+use Rattle.store_domain_meaning.specs.NearValues.{near_value}
+use Rattle.store_domain_meaning.specs.RowPositions.{value_at}
+use Rattle.lib_models_effects.specs.Instances.{Memory, bytes_at}
+use Rattle.lib_models_effects.specs.Numbers.{number_of}
+use Rattle.lib_models_effects.specs.Scalars.{Scalar}
 use Rattle.store_domain_meaning.specs.ValueMeaning.{Naming, StandsScalar}
 use Rattle.store_domain_meaning.specs.RowMeaning.{IsLiveOf, StandsCell}
 use Rattle.lib_models_effects.specs.Accesses.{class_in}

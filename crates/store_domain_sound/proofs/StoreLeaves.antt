@@ -13,19 +13,19 @@ use Rattle.flow_program.specs.declared.programs.Flow.{Flow}
 use Rattle.pointer_domain.specs.declared.base_sets.Bases.{Bases}
 use Rattle.value_domain.specs.declared.values.Value.{Value}
 use Rattle.value_domain.specs.declared.row_cells.Cell.{Cell}
-use Rattle.store_domain_cells.specs.declared.access_windows.Window.{Window}
-use Rattle.store_domain.specs.declared.stores.Write.{Write}
-use Rattle.store_domain.specs.AccessWindows.{window_is_one}
-use Rattle.store_domain.specs.ClassNumbers.{same_class, class_number, class_at}
-use Rattle.lib_models_memory.specs.ScalarSizes.{class_bytes}
-use Rattle.store_domain.specs.RowPositions.{leaf_position, class_position, value_at}
-use Rattle.store_domain.specs.LeafSelection.{is_selected, has_place_in, has_stray}
-use Rattle.store_domain.specs.LiveBases.{has_base, is_single_kind}
-use Rattle.store_domain.specs.Loads.{reaches_class}
-use Rattle.store_domain.specs.Stores.{stored_value, cell_value, is_strong, store_all}
-use Rattle.lib_models_memory.specs.Instances.{Memory, live, ended, life_at}
+use Rattle.store_domain_meaning.specs.Window.{Window}
+use Rattle.store_domain_meaning.specs.Write.{Write}
+use Rattle.store_domain_meaning.specs.AccessWindows.{window_is_one}
+use Rattle.store_domain_meaning.specs.ClassNumbers.{same_class, class_number, class_at}
+use Rattle.lib_models_effects.specs.ScalarSizes.{class_bytes}
+use Rattle.store_domain_meaning.specs.RowPositions.{leaf_position, class_position, value_at}
+use Rattle.store_domain_meaning.specs.LeafSelection.{is_selected, has_place_in, has_stray}
+use Rattle.store_domain_meaning.specs.LiveBases.{has_base, is_single_kind}
+use Rattle.store_domain_meaning.specs.Loads.{reaches_class}
+use Rattle.store_domain_meaning.specs.Stores.{stored_value, cell_value, is_strong, store_all}
+use Rattle.lib_models_effects.specs.Instances.{Memory, live, ended, life_at}
 use Rattle.store_domain_meaning.specs.Places.{IsPlaceOf, IsLeafPlace, OwnedByLeaf, OwnedByClass, IsClassPlace}
-use Rattle.lib_models_memory.specs.Scalars.{Scalar}
+use Rattle.lib_models_effects.specs.Scalars.{Scalar}
 use Rattle.store_domain_meaning.specs.ValueMeaning.{Naming, StandsScalar}
 use Rattle.store_domain_meaning.specs.RowMeaning.{IsLiveOf, StandsCell, StandsLeaf, StandsClass, MachineState, StandsFor}
 use Rattle.lib_models_effects.specs.Accesses.{class_in}

@@ -8,17 +8,17 @@ use Rattle.c_layout.specs.declared.leaf_lists.Class.TheVariants.{Pointer}
 use Rattle.c_layout.specs.declared.shapes.BaseInfo.{BaseInfo}
 use Rattle.flow_program.specs.declared.machine_instructions.Scalar.TheVariants as of
 use Rattle.flow_program.specs.declared.machine_instructions.Scalar as declared
-use Rattle.lib_models_memory.specs.ScalarSizes.{class_bytes}
-use Rattle.lib_models_memory.specs.Bytes.{MachinePointer, null, into, Content, indeterminate, number, part, Tag, Byte}
-use Rattle.lib_models_memory.specs.Instances.{Memory, Instance, bytes_of, bytes_at, byte_at, life_of, life_at}
-use Rattle.lib_models_memory.specs.Tags.{tag_of}
-use Rattle.lib_models_memory.specs.Scalars.{Scalar, integer, pointer}
+use Rattle.lib_models_effects.specs.ScalarSizes.{class_bytes}
+use Rattle.lib_models_effects.specs.Bytes.{MachinePointer, null, into, Content, indeterminate, number, part, Tag, Byte}
+use Rattle.lib_models_effects.specs.Instances.{Memory, Instance, bytes_of, bytes_at, byte_at, life_of, life_at}
+use Rattle.lib_models_effects.specs.Tags.{tag_of}
+use Rattle.lib_models_effects.specs.Scalars.{Scalar, integer, pointer}
 use Rattle.store_domain_meaning.specs.ValueMeaning.{Naming}
 use Rattle.store_domain_meaning.specs.SoundMemory.{IsInstanceOf, IsFreedRightly, IsMemoryOf, IsPointerIn, IsScalarIn, IsContentIn, IsContentNamed}
 use Rattle.lib_models_effects.specs.ScalarBytes.{scalar_bytes, bits_in}
 use Rattle.lib_models_effects.specs.Touches.{is_allocated, storage_of, storage_at}
 use Rattle.lib_models_effects.specs.Accesses.{class_in}
-use Rattle.lib_models_memory.specs.Labels.{no_labels}
+use Rattle.lib_models_effects.specs.Labels.{no_labels}
 use Rattle.store_domain_sound.specs.Shapes.{AreShaped}
 use Rattle.store_domain_sound.specs.Scalars.{IsOfKind, IsScalarNamed}
 use Rattle.store_domain_sound.proofs.Slices.{get_there}

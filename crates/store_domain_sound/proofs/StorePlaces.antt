@@ -16,14 +16,14 @@ use Rattle.pointer_domain.specs.declared.pointer_sets.Pointers.{Pointers}
 use Rattle.pointer_domain.specs.BaseSets.{word_of, bases_has, bases_empty}
 use Rattle.pointer_domain.specs.PointerTables.{is_any}
 use Rattle.value_domain.specs.declared.values.Value.{Value}
-use Rattle.store_domain_cells.specs.declared.cell_reads.Access.{Access}
-use Rattle.store_domain.specs.LeafSelection.{is_selected, selected_count}
-use Rattle.store_domain.specs.LiveBases.{has_base}
-use Rattle.store_domain.specs.Loads.{reaches_class}
-use Rattle.store_domain.specs.Stores.{has_own_place, has_place, has_place_or, any_place, is_nothing}
-use Rattle.lib_models_memory.specs.Bytes.{MachinePointer, null, into}
-use Rattle.lib_models_memory.specs.Instances.{Memory, Life, live, ended, freed, life_at}
-use Rattle.lib_models_memory.specs.Scalars.{Scalar, integer, pointer}
+use Rattle.store_domain_meaning.specs.Access.{Access}
+use Rattle.store_domain_meaning.specs.LeafSelection.{is_selected, selected_count}
+use Rattle.store_domain_meaning.specs.LiveBases.{has_base}
+use Rattle.store_domain_meaning.specs.Loads.{reaches_class}
+use Rattle.store_domain_meaning.specs.Stores.{has_own_place, has_place, has_place_or, any_place, is_nothing}
+use Rattle.lib_models_effects.specs.Bytes.{MachinePointer, null, into}
+use Rattle.lib_models_effects.specs.Instances.{Memory, Life, live, ended, freed, life_at}
+use Rattle.lib_models_effects.specs.Scalars.{Scalar, integer, pointer}
 use Rattle.store_domain_meaning.specs.ValueMeaning.{Naming, StandsInto, StandsByLife, StandsPointer, StandsScalar}
 use Rattle.lib_models_effects.specs.Accesses.{class_in}
 use Rattle.store_domain_sound.specs.Scalars.{IsOfKind}

@@ -16,16 +16,16 @@ use Rattle.value_domain.specs.Values.{value_lattice}
 use Rattle.value_domain.specs.declared.values.Value as values
 use Rattle.value_domain.specs.declared.row_cells.Cell.{Cell}
 use Rattle.value_domain.specs.declared.row_cells.Cell.TheVariants.{Value, First}
-use Rattle.store_domain_cells.specs.declared.access_windows.Window.{Window}
-use Rattle.store_domain_cells.specs.declared.cell_reads.Access.{Access}
-use Rattle.store_domain.specs.declared.stores.Write.{Write}
-use Rattle.store_domain.specs.ClassNumbers.{same_class, class_number}
-use Rattle.store_domain.specs.RowPositions.{leaf_position, class_position, zero_position, state_position, cell_at, value_at, join_value, write_value}
-use Rattle.store_domain.specs.LeafSelection.{is_selected}
-use Rattle.store_domain.specs.LiveBases.{has_base}
-use Rattle.store_domain.specs.FirstZeroWrites.{zero_target, forget_target, forget_part, forget_zeros, any_zero}
-use Rattle.store_domain.specs.Loads.{reaches_class}
-use Rattle.store_domain.specs.Stores.{cell_value, is_strong, store_leaf_at, store_leaf, store_leaves, store_class_cell, store_own, store_wider, store_base, store_if, store_to, store_all}
+use Rattle.store_domain_meaning.specs.Window.{Window}
+use Rattle.store_domain_meaning.specs.Access.{Access}
+use Rattle.store_domain_meaning.specs.Write.{Write}
+use Rattle.store_domain_meaning.specs.ClassNumbers.{same_class, class_number}
+use Rattle.store_domain_meaning.specs.RowPositions.{leaf_position, class_position, zero_position, state_position, cell_at, value_at, join_value, write_value}
+use Rattle.store_domain_meaning.specs.LeafSelection.{is_selected}
+use Rattle.store_domain_meaning.specs.LiveBases.{has_base}
+use Rattle.store_domain_meaning.specs.FirstZeroWrites.{zero_target, forget_target, forget_part, forget_zeros, any_zero}
+use Rattle.store_domain_meaning.specs.Loads.{reaches_class}
+use Rattle.store_domain_meaning.specs.Stores.{cell_value, is_strong, store_leaf_at, store_leaf, store_leaves, store_class_cell, store_own, store_wider, store_base, store_if, store_to, store_all}
 use Rattle.store_domain_sound.specs.Shapes.{AreLaid}
 use Rattle.store_domain_sound.proofs.Only.{Leaves, Only, only_leaves, only_more, only_same, only_put, only_cond, only_if, only_then, only_walk, Turned, walk_turn}
 

@@ -13,19 +13,19 @@ use Rattle.flow_program.specs.declared.programs.Flow.{Flow}
 use Rattle.pointer_domain.specs.declared.base_sets.Bases.{Bases}
 use Rattle.value_domain.specs.declared.values.Value.{Value}
 use Rattle.value_domain.specs.declared.row_cells.Cell.{Cell}
-use Rattle.store_domain_cells.specs.declared.access_windows.Window.{Window}
-use Rattle.store_domain_cells.specs.declared.cell_reads.Access.{Access}
-use Rattle.store_domain.specs.declared.stores.Write.{Write}
-use Rattle.store_domain.specs.AccessWindows.{last_offset}
-use Rattle.store_domain.specs.ClassNumbers.{same_class}
-use Rattle.lib_models_memory.specs.ScalarSizes.{class_bytes}
-use Rattle.store_domain.specs.RowPositions.{zero_position, state_position, zero_at, state_at}
-use Rattle.store_domain.specs.LeafSelection.{has_stray}
-use Rattle.store_domain.specs.LiveBases.{has_base, most_bases, is_live_in, may_be_live, is_literal_kind, is_one_instance, single_bases}
-use Rattle.store_domain.specs.Stores.{stored_value, store_all, reached_of, any_place, has_own_place, is_nothing, can_store, store_access, store as abstract_store}
-use Rattle.lib_models_memory.specs.Bytes.{Content, MachinePointer, null, into, Tag, Byte}
-use Rattle.lib_models_memory.specs.Instances.{Memory, bytes_at, live, ended, life_at, Life, freed, bytes_of, byte_at}
-use Rattle.lib_models_memory.specs.Scalars.{Scalar, integer, pointer}
+use Rattle.store_domain_meaning.specs.Window.{Window}
+use Rattle.store_domain_meaning.specs.Access.{Access}
+use Rattle.store_domain_meaning.specs.Write.{Write}
+use Rattle.store_domain_meaning.specs.AccessWindows.{last_offset}
+use Rattle.store_domain_meaning.specs.ClassNumbers.{same_class}
+use Rattle.lib_models_effects.specs.ScalarSizes.{class_bytes}
+use Rattle.store_domain_meaning.specs.RowPositions.{zero_position, state_position, zero_at, state_at}
+use Rattle.store_domain_meaning.specs.LeafSelection.{has_stray}
+use Rattle.store_domain_meaning.specs.LiveBases.{has_base, most_bases, is_live_in, may_be_live, is_literal_kind, is_one_instance, single_bases}
+use Rattle.store_domain_meaning.specs.Stores.{stored_value, store_all, reached_of, any_place, has_own_place, is_nothing, can_store, store_access, store as abstract_store}
+use Rattle.lib_models_effects.specs.Bytes.{Content, MachinePointer, null, into, Tag, Byte}
+use Rattle.lib_models_effects.specs.Instances.{Memory, bytes_at, live, ended, life_at, Life, freed, bytes_of, byte_at}
+use Rattle.lib_models_effects.specs.Scalars.{Scalar, integer, pointer}
 use Rattle.store_domain_meaning.specs.ValueMeaning.{Naming, StandsScalar, StandsInto, StandsByLife, StandsPointer, StandsState, StandsZero}
 use Rattle.store_domain_meaning.specs.RowMeaning.{IsLiveOf, MachineState, StandsFor, array_of, array_bytes}
 use Rattle.lib_models_effects.specs.Accesses.{class_in, store}
@@ -48,7 +48,7 @@ use Rattle.pointer_domain.specs.declared.pointer_sets.Pointers.{Pointers}
 use Rattle.pointer_domain.specs.BaseSets.{bases_has, bases_count, bases_within}
 use Rattle.store_domain_meaning.specs.Temporaries.{temp_position, temp_value}
 use Rattle.value_domain.specs.declared.alloc_states.AllocState.{AllocState}
-use Rattle.lib_models_memory.specs.Tags.{tag_of}
+use Rattle.lib_models_effects.specs.Tags.{tag_of}
 use Rattle.lib_models_effects.specs.Worlds.{World, goes}
 use Rattle.lib_models_effects.specs.Touches.{is_literal, is_allocated, storage_of, storage_at}
 use Rattle.store_domain_sound.specs.Gives.{Gives}

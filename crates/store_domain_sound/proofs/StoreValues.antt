@@ -12,14 +12,14 @@ use Rattle.value_domain.specs.Values.{value_lattice}
 use Rattle.value_domain.specs.declared.values.Value as values
 use Rattle.value_domain.specs.declared.row_cells.Cell.{Cell}
 use Rattle.value_domain.specs.declared.row_cells.Cell.TheVariants.{Value}
-use Rattle.store_domain.specs.declared.stores.Write.{Write}
-use Rattle.store_domain.specs.ClassNumbers.{same_class, class_number}
-use Rattle.store_domain.specs.NearValues.{near_value}
-use Rattle.store_domain.specs.RowPositions.{leaf_position, class_position, cell_at, value_in, value_at, zero_at, state_at, join_value, write_value}
-use Rattle.store_domain.specs.LeafSelection.{is_selected}
-use Rattle.store_domain.specs.LiveBases.{has_base}
-use Rattle.store_domain.specs.Loads.{reaches_class}
-use Rattle.store_domain.specs.Stores.{cell_value, is_strong, store_leaf_at, store_leaf, store_class_cell, store_all}
+use Rattle.store_domain_meaning.specs.Write.{Write}
+use Rattle.store_domain_meaning.specs.ClassNumbers.{same_class, class_number}
+use Rattle.store_domain_meaning.specs.NearValues.{near_value}
+use Rattle.store_domain_meaning.specs.RowPositions.{leaf_position, class_position, cell_at, value_in, value_at, zero_at, state_at, join_value, write_value}
+use Rattle.store_domain_meaning.specs.LeafSelection.{is_selected}
+use Rattle.store_domain_meaning.specs.LiveBases.{has_base}
+use Rattle.store_domain_meaning.specs.Loads.{reaches_class}
+use Rattle.store_domain_meaning.specs.Stores.{cell_value, is_strong, store_leaf_at, store_leaf, store_class_cell, store_all}
 use Rattle.store_domain_sound.specs.Shapes.{AreLaid}
 use Rattle.store_domain_sound.proofs.Only.{cell_put}
 use Rattle.store_domain_sound.proofs.StoreRows.{leaf_after, class_after}

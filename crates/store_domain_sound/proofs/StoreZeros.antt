@@ -11,13 +11,13 @@ use Rattle.string_domain.specs.declared.first_zeros.FirstZero.{FirstZero}
 use Rattle.string_domain.specs.FirstZeros.{the_end, zero_of}
 use Rattle.value_domain.specs.declared.row_cells.Cell.{Cell}
 use Rattle.value_domain.specs.declared.row_cells.Cell.TheVariants.{First}
-use Rattle.store_domain_cells.specs.declared.access_windows.Window.{Window}
-use Rattle.store_domain.specs.AccessWindows.{last_offset}
-use Rattle.store_domain.specs.NearValues.{near_number}
-use Rattle.store_domain.specs.RowPositions.{cell_at, zero_in, zero_at, put_zero}
-use Rattle.store_domain.specs.FirstZeroWrites.{zero_target, forget_target, any_zero}
-use Rattle.lib_models_memory.specs.Bytes.{Byte}
-use Rattle.lib_models_memory.specs.Instances.{Memory}
+use Rattle.store_domain_meaning.specs.Window.{Window}
+use Rattle.store_domain_meaning.specs.AccessWindows.{last_offset}
+use Rattle.store_domain_meaning.specs.NearValues.{near_number}
+use Rattle.store_domain_meaning.specs.RowPositions.{cell_at, zero_in, zero_at, put_zero}
+use Rattle.store_domain_meaning.specs.FirstZeroWrites.{zero_target, forget_target, any_zero}
+use Rattle.lib_models_effects.specs.Bytes.{Byte}
+use Rattle.lib_models_effects.specs.Instances.{Memory}
 use Rattle.store_domain_meaning.specs.FirstZeroBytes.{Seen, unknown, end, character, seen_as, one_more, zero_by, first_zero, zero_offset}
 use Rattle.store_domain_meaning.specs.ValueMeaning.{Naming, StandsZero}
 use Rattle.store_domain_sound.proofs.Slices.{get_drop}

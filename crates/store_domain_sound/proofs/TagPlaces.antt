@@ -5,10 +5,10 @@ use Rattle.std.proofs.lemmas.Bool.{cases_Bool, and_parts, ltb-true, leb-true}
 use Rattle.c_layout.specs.declared.data_model.Model.{Model}
 use Rattle.c_layout.specs.declared.leaf_lists.Class.{Class}
 use Rattle.c_layout.specs.declared.leaf_lists.Leaf.{Leaf}
-use Rattle.lib_models_memory.specs.ScalarSizes.{class_bytes}
-use Rattle.lib_models_memory.specs.Bytes.{Tag}
+use Rattle.lib_models_effects.specs.ScalarSizes.{class_bytes}
+use Rattle.lib_models_effects.specs.Bytes.{Tag}
 use Rattle.store_domain_meaning.specs.Places.{IsPlaceOf, OwnedByLeaf, IsLeafPlace}
-use Rattle.lib_models_memory.specs.Tags.{tag_of, stride_tag, distance_tag, leaf_tag, or_tag, tag_at}
+use Rattle.lib_models_effects.specs.Tags.{tag_of, stride_tag, distance_tag, leaf_tag, or_tag, tag_at}
 
 -- the byte so far behind a leaf's start is this one of its scalars
 pub record IsTurn (m : Model) (leaf : Leaf) (distance : ℕ) (t : Tag) : Type 0 where

@@ -16,17 +16,17 @@ use Rattle.flow_program.specs.declared.programs.Flow.{Flow}
 use Rattle.string_domain.specs.FirstZeros.{the_end}
 use Rattle.value_domain.specs.declared.row_cells.Cell.{Cell}
 use Rattle.value_domain.specs.declared.values.Value.{Value}
-use Rattle.store_domain_cells.specs.declared.access_windows.Window.{Window}
-use Rattle.store_domain.specs.Walks.{walk}
-use Rattle.store_domain.specs.ClassNumbers.{is_pointer}
-use Rattle.store_domain.specs.CellReads.{as_read, same_sign, byte_read, only_flag}
-use Rattle.store_domain.specs.NearValues.{is_near, near_part, part_near, near_number}
-use Rattle.store_domain.specs.RowPositions.{cell_at, zero_in, zero_at, zero_position}
-use Rattle.store_domain.specs.AccessWindows.{window_from, window_lies_within}
-use Rattle.store_domain.specs.FirstZeroWrites.{last_of, has_no_bytes, covered, first_covered, covering_part, lies_up_to}
-use Rattle.store_domain.specs.Loads.{is_text, is_text_in}
-use Rattle.lib_models_memory.specs.Bytes.{Content, indeterminate, number, part, Byte}
-use Rattle.lib_models_memory.specs.Instances.{byte_at, bytes_at}
+use Rattle.store_domain_meaning.specs.Window.{Window}
+use Rattle.store_domain_meaning.specs.Walks.{walk}
+use Rattle.store_domain_meaning.specs.ClassNumbers.{is_pointer}
+use Rattle.store_domain_meaning.specs.CellReads.{as_read, same_sign, byte_read, only_flag}
+use Rattle.store_domain_meaning.specs.NearValues.{is_near, near_part, part_near, near_number}
+use Rattle.store_domain_meaning.specs.RowPositions.{cell_at, zero_in, zero_at, zero_position}
+use Rattle.store_domain_meaning.specs.AccessWindows.{window_from, window_lies_within}
+use Rattle.store_domain_meaning.specs.FirstZeroWrites.{last_of, has_no_bytes, covered, first_covered, covering_part, lies_up_to}
+use Rattle.store_domain_meaning.specs.Loads.{is_text, is_text_in}
+use Rattle.lib_models_effects.specs.Bytes.{Content, indeterminate, number, part, Byte}
+use Rattle.lib_models_effects.specs.Instances.{byte_at, bytes_at}
 use Rattle.store_domain_meaning.specs.FirstZeroBytes.{one_more, first_zero, zero_offset}
 use Rattle.store_domain_meaning.specs.ValueMeaning.{Naming}
 use Rattle.store_domain_meaning.specs.RowMeaning.{MachineState, IsLiveOf, StandsFor, array_of, array_bytes}

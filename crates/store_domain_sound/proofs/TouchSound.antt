@@ -21,14 +21,14 @@ use Rattle.pointer_domain.specs.declared.pointer_sets.Pointers.{Pointers}
 use Rattle.pointer_domain.specs.BaseSets.{bases_has, bases_empty}
 use Rattle.pointer_domain.specs.PointerTables.{length_above}
 use Rattle.value_domain.specs.declared.row_cells.Cell.{Cell}
-use Rattle.store_domain.specs.RowPositions.{state_at, state_position}
-use Rattle.store_domain.specs.LiveBases.{has_base, most_bases, may_be_live, live_of, any_freed, is_literal_kind}
+use Rattle.store_domain_meaning.specs.RowPositions.{state_at, state_position}
+use Rattle.store_domain_meaning.specs.LiveBases.{has_base, most_bases, may_be_live, live_of, any_freed, is_literal_kind}
 use Rattle.store_domain_meaning.specs.Touches.{leaves_bounds_at, span_of, is_literal_or, any_literal, is_nowhere, places_within, touched_inside, touch_violations, touch}
 use Rattle.store_domain_meaning.specs.ViolationSets.{violates}
-use Rattle.lib_models_memory.specs.ScalarSizes.{class_bytes}
-use Rattle.lib_models_memory.specs.Bytes.{MachinePointer, null, into}
-use Rattle.lib_models_memory.specs.Instances.{Life, live, ended, freed, bytes_at, life_at}
-use Rattle.lib_models_memory.specs.Scalars.{Scalar, pointer}
+use Rattle.lib_models_effects.specs.ScalarSizes.{class_bytes}
+use Rattle.lib_models_effects.specs.Bytes.{MachinePointer, null, into}
+use Rattle.lib_models_effects.specs.Instances.{Life, live, ended, freed, bytes_at, life_at}
+use Rattle.lib_models_effects.specs.Scalars.{Scalar, pointer}
 use Rattle.lib_models_effects.specs.Worlds.{World, goes, stopped_by, world_of}
 use Rattle.lib_models_effects.specs.Touches.{Spot, touched, touched_by, touched_live, is_literal, storage_of, storage_at}
 use Rattle.lib_models_effects.specs.Accesses.{class_in, load}

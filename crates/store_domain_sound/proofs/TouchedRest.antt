@@ -16,18 +16,18 @@ use Rattle.pointer_domain.specs.declared.pointer_sets.Pointers.{Pointers}
 use Rattle.pointer_domain.specs.BaseSets.{bases_has}
 use Rattle.pointer_domain.specs.PointerTables.{length_above}
 use Rattle.value_domain.specs.declared.row_cells.Cell.{Cell}
-use Rattle.store_domain.specs.NearValues.{is_near, near_number}
-use Rattle.store_domain.specs.LiveBases.{most_bases, is_live_in, live_of, is_literal_kind, may_be_live}
+use Rattle.store_domain_meaning.specs.NearValues.{is_near, near_number}
+use Rattle.store_domain_meaning.specs.LiveBases.{most_bases, is_live_in, live_of, is_literal_kind, may_be_live}
 use Rattle.store_domain_meaning.specs.Touches.{is_nowhere, places_within, kept_of, touch}
-use Rattle.lib_models_memory.specs.Bytes.{MachinePointer}
-use Rattle.lib_models_memory.specs.Instances.{live, bytes_at, life_at}
-use Rattle.lib_models_memory.specs.Scalars.{Scalar}
+use Rattle.lib_models_effects.specs.Bytes.{MachinePointer}
+use Rattle.lib_models_effects.specs.Instances.{live, bytes_at, life_at}
+use Rattle.lib_models_effects.specs.Scalars.{Scalar}
 use Rattle.lib_models_effects.specs.Worlds.{World, goes}
 use Rattle.lib_models_effects.specs.Touches.{Spot, touched, is_literal, storage_of, storage_at}
 use Rattle.store_domain_meaning.specs.ValueMeaning.{Naming, StandsInto, StandsByLife, StandsPointer, StandsState}
 use Rattle.store_domain_meaning.specs.SoundMemory.{IsWithin, IsPointerIn, IsInstanceOf, storage_for}
 use Rattle.store_domain_meaning.specs.RowMeaning.{StandsFor}
-use Rattle.store_domain.specs.RowPositions.{state_at, state_position}
+use Rattle.store_domain_meaning.specs.RowPositions.{state_at, state_position}
 use Rattle.store_domain_sound.specs.Shapes.{AreShaped}
 use Rattle.store_domain_sound.specs.Statements.{state_in}
 use Rattle.store_domain_sound.proofs.Slices.{get_there}

@@ -2,7 +2,7 @@
 use Rattle.std.proofs.Common.{◌≡◌, ℕ, zero, suc, ◌+◌, ◌<◌, List, [], ◌∷◌, Some, arith, subst, sym, inl, inr}
 use Rattle.std.specs.Prelude.{slice_get}
 use Rattle.std.proofs.lemmas.Bool.{cases_eq}
-use Rattle.store_domain.specs.Walks.{walk, turns}
+use Rattle.store_domain_meaning.specs.Walks.{walk, turns}
 
 module _ {K S : Type 0} (Q : S → Type 0) (f : K → ℕ → S → S) where
   pub walk_keeps : ((k : K) (at : ℕ) (s : S) → Q s → Q (f k at s)) → (at : ℕ) (ks : List K) (s : S) → Q s → Q (walk f at ks s)

@@ -14,3 +14,7 @@ pub use Rattle.store_domain_meaning.specs.FirstZeroBytes
 pub use Rattle.store_domain_meaning.specs.Matching
 pub use Rattle.store_domain_meaning.specs.Temporaries
 pub use Rattle.lib_models_effects.specs.Touches
+pub use Rattle.store_domain_meaning.specs.LeafSelection
+pub use Rattle.store_domain_meaning.specs.LiveBases
+pub use Rattle.store_domain_meaning.specs.RowPositions
+pub use Rattle.store_domain_meaning.specs.Walks

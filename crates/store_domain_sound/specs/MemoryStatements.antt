@@ -3,8 +3,8 @@ use Rattle.std.specs.Prelude.{◌≡◌, List}
 use Rattle.c_layout.specs.declared.data_model.Model.{Model}
 use Rattle.c_layout.specs.declared.shapes.BaseInfo.{BaseInfo}
 use Rattle.flow_program.specs.declared.machine_instructions.Scalar as declared
-use Rattle.lib_models_memory.specs.Bytes.{MachinePointer}
-use Rattle.lib_models_memory.specs.Scalars.{Scalar, pointer}
+use Rattle.lib_models_effects.specs.Bytes.{MachinePointer}
+use Rattle.lib_models_effects.specs.Scalars.{Scalar, pointer}
 use Rattle.lib_models_effects.specs.Worlds.{World, goes}
 use Rattle.lib_models_effects.specs.Accesses.{load, store}
 use Rattle.store_domain_meaning.specs.ValueMeaning.{Naming}

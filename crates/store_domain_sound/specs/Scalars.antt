@@ -2,8 +2,8 @@
 use Rattle.std.specs.Prelude.{◌≡◌, Bool, true, false}
 use Rattle.flow_program.specs.declared.machine_instructions.Scalar.TheVariants as of
 use Rattle.flow_program.specs.declared.machine_instructions.Scalar as declared
-use Rattle.lib_models_memory.specs.Instances.{Memory}
-use Rattle.lib_models_memory.specs.Scalars.{Scalar, integer, pointer}
+use Rattle.lib_models_effects.specs.Instances.{Memory}
+use Rattle.lib_models_effects.specs.Scalars.{Scalar, integer, pointer}
 use Rattle.lib_models_effects.specs.Operands.{is_of_kind}
 use Rattle.store_domain_meaning.specs.ValueMeaning.{Naming}
 use Rattle.store_domain_meaning.specs.SoundMemory.{IsNamed}

@@ -5,14 +5,14 @@ use Rattle.flow_program.specs.declared.programs.Flow.{Flow}
 use Rattle.c_layout.specs.declared.data_model.Model.{Model}
 use Rattle.c_layout.specs.declared.shapes.ZeroPart.{ZeroPart}
 use Rattle.c_layout.specs.declared.leaf_lists.Class.TheVariants.{Char}
-use Rattle.lib_models_memory.specs.Tags.{tag_of, tag_at}
+use Rattle.lib_models_effects.specs.Tags.{tag_of, tag_at}
 use Rattle.c_layout.specs.declared.leaf_lists.Class.{Class}
 use Rattle.c_layout.specs.declared.leaf_lists.Leaf.{Leaf}
 use Rattle.c_layout.specs.declared.shapes.BaseInfo.{BaseInfo}
-use Rattle.store_domain.specs.ClassNumbers.{same_class}
-use Rattle.store_domain_cells.specs.declared.access_windows.Window.{Window}
-use Rattle.store_domain.specs.LeafSelection.{covered_bytes, meets_padding}
-use Rattle.store_domain.specs.LiveBases.{most_bases}
+use Rattle.store_domain_meaning.specs.ClassNumbers.{same_class}
+use Rattle.store_domain_meaning.specs.Window.{Window}
+use Rattle.store_domain_meaning.specs.LeafSelection.{covered_bytes, meets_padding}
+use Rattle.store_domain_meaning.specs.LiveBases.{most_bases}
 use Rattle.store_domain_meaning.specs.SoundMemory.{storage_for}
 use Rattle.lib_models_effects.specs.Touches.{is_allocated}
 

@@ -9,13 +9,13 @@ use Rattle.flow_program.specs.declared.programs.Flow.{Flow}
 use Rattle.pointer_domain.specs.declared.pointer_sets.Pointers.{Pointers}
 use Rattle.value_domain.specs.declared.values.Value.{Value}
 use Rattle.value_domain.specs.declared.row_cells.Cell.{Cell}
-use Rattle.store_domain.specs.NearValues.{near_value}
-use Rattle.store_domain.specs.LiveBases.{any_freed}
-use Rattle.store_domain.specs.Loads.{load as loaded}
-use Rattle.store_domain.specs.Stores.{store as stored}
-use Rattle.lib_models_memory.specs.ScalarSizes.{same_class}
-use Rattle.lib_models_memory.specs.Bytes.{MachinePointer}
-use Rattle.lib_models_memory.specs.Scalars.{Scalar, pointer}
+use Rattle.store_domain_meaning.specs.NearValues.{near_value}
+use Rattle.store_domain_meaning.specs.LiveBases.{any_freed}
+use Rattle.store_domain_meaning.specs.Loads.{load as loaded}
+use Rattle.store_domain_meaning.specs.Stores.{store as stored}
+use Rattle.lib_models_effects.specs.ScalarSizes.{same_class}
+use Rattle.lib_models_effects.specs.Bytes.{MachinePointer}
+use Rattle.lib_models_effects.specs.Scalars.{Scalar, pointer}
 use Rattle.lib_models_effects.specs.Worlds.{World, goes, stopped_by}
 use Rattle.lib_models_effects.specs.Accesses.{class_in, points_into_freed, load, store}
 use Rattle.store_domain_meaning.specs.ValueMeaning.{Naming, StandsPointer, StandsScalar}

@@ -10,9 +10,9 @@ use Rattle.pointer_domain.specs.declared.pointer_sets.Pointers.{Pointers}
 use Rattle.value_domain.specs.declared.row_cells.Cell.{Cell}
 use Rattle.store_domain_meaning.specs.Touches.{touch}
 use Rattle.store_domain_meaning.specs.ViolationSets.{violates}
-use Rattle.lib_models_memory.specs.ScalarSizes.{class_bytes}
-use Rattle.lib_models_memory.specs.Bytes.{MachinePointer}
-use Rattle.lib_models_memory.specs.Scalars.{Scalar, pointer}
+use Rattle.lib_models_effects.specs.ScalarSizes.{class_bytes}
+use Rattle.lib_models_effects.specs.Bytes.{MachinePointer}
+use Rattle.lib_models_effects.specs.Scalars.{Scalar, pointer}
 use Rattle.lib_models_effects.specs.Worlds.{World, goes, stopped_by}
 use Rattle.lib_models_effects.specs.Touches.{Spot, touched}
 use Rattle.lib_models_effects.specs.Accesses.{class_in, load}

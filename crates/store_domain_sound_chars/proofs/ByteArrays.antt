@@ -5,8 +5,8 @@ use Rattle.std.proofs.lemmas.Bool.{cases_Bool, cases_eq, cases_lt, and_parts, an
 use Rattle.std.proofs.lemmas.Option.{same_Some, slice_get_within}
 use Rattle.std.proofs.lemmas.List.{length-set}
 use Rattle.c_layout.specs.declared.shapes.ZeroPart.{ZeroPart}
-use Rattle.store_domain_cells.specs.declared.access_windows.Window.{Window}
-use Rattle.store_domain_cells.specs.declared.first_zero_writes.ZeroTarget.{ZeroTarget}
+use Rattle.store_domain.specs.Window.{Window}
+use Rattle.store_domain.specs.ZeroTarget.{ZeroTarget}
 use Rattle.store_domain.specs.AccessWindows.{window_from, window_lies_within, window_between}
 use Rattle.store_domain.specs.FirstZeroWrites.{last_of, has_no_bytes, zero_target}
 use Rattle.lib_models_memory.specs.Bytes.{Content, Byte}

@@ -10,8 +10,8 @@ use Rattle.string_domain.specs.FirstZeros.{the_end, zero_of, zero_lattice}
 use Rattle.string_domain.specs.ZeroTables as zeros
 use Rattle.string_domain.specs.declared.first_zeros.FirstZero.{FirstZero}
 use Rattle.store_domain.specs.NearValues.{near_number}
-use Rattle.store_domain_cells.specs.declared.access_windows.Window.{Window}
-use Rattle.store_domain_cells.specs.declared.first_zero_writes.ZeroTarget.{ZeroTarget}
+use Rattle.store_domain.specs.Window.{Window}
+use Rattle.store_domain.specs.ZeroTarget.{ZeroTarget}
 use Rattle.store_domain.specs.FirstZeroWrites.{offsets_of, sure_or_joined, put_at}
 use Rattle.lib_models_memory.specs.Bytes.{Content, number, Byte}
 use Rattle.lib_models_memory.specs.Labels.{Labels}

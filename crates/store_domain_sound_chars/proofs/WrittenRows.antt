@@ -19,7 +19,7 @@ use Rattle.pointer_domain.specs.declared.base_sets.Bases.{Bases}
 use Rattle.value_domain.specs.LabelSets.{labels_leq}
 use Rattle.value_domain.specs.declared.values.Value.{Value}
 use Rattle.value_domain.specs.declared.row_cells.Cell.{Cell}
-use Rattle.store_domain_cells.specs.declared.access_windows.Window.{Window}
+use Rattle.store_domain.specs.Window.{Window}
 use Rattle.store_domain.specs.declared.stores.Write.{Write}
 use Rattle.store_domain.specs.AccessWindows.{window_is_one, window_between}
 use Rattle.store_domain.specs.ByteWrites.{byte_written}

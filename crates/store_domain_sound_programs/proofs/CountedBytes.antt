@@ -12,9 +12,9 @@ use Rattle.flow_program.specs.ModelKinds as program
 use Rattle.flow_program.specs.BaseShapes.{is_stride, are_leaves}
 use Rattle.flow_program.specs.ApartLeaves.{HasByte}
 use Rattle.lib_models_memory.specs.ScalarSizes.{class_bytes}
-use Rattle.store_domain.specs.Walks.{walk}
-use Rattle.store_domain.specs.RowPositions.{capped}
-use Rattle.store_domain.specs.LeafSelection.{turn_bytes, bytes_behind, bytes_below, covered_more, covered_bytes}
+use Rattle.store_domain_sound.specs.Walks.{walk}
+use Rattle.store_domain_sound.specs.RowPositions.{capped}
+use Rattle.store_domain_sound.specs.LeafSelection.{turn_bytes, bytes_behind, bytes_below, covered_more, covered_bytes}
 use Rattle.store_domain_sound.proofs.Classes.{class_above}
 use Rattle.store_domain_sound_programs.proofs.Sizes.{same_bytes}
 use Rattle.store_domain_sound_programs.proofs.Leaves.{each_proper, one_owner}

@@ -6,3 +6,15 @@ pub mod PartTexts
 pub mod Laid
 pub mod ShapedBases
 pub mod WellFormedPremises
+pub use Rattle.store_domain_sound.proofs.Freed
+pub use Rattle.store_domain_sound.proofs.LoadSound
+pub use Rattle.store_domain_sound.proofs.OneBases
+pub use Rattle.store_domain_sound.proofs.Only
+pub use Rattle.store_domain_sound.proofs.Sets
+pub use Rattle.store_domain_sound.proofs.Slices
+pub use Rattle.store_domain_sound.proofs.StorePlaces
+pub use Rattle.store_domain_sound.proofs.StoreRows
+pub use Rattle.store_domain_sound.proofs.StoreSound
+pub use Rattle.store_domain_sound.proofs.StoreValues
+pub use Rattle.store_domain_sound.proofs.TouchSound
+pub use Rattle.store_domain_sound.proofs.Windows

@@ -5,7 +5,7 @@ use Rattle.c_layout.specs.Models.{is_model}
 use Rattle.c_layout.specs.declared.shapes.BaseInfo.{BaseInfo}
 use Rattle.flow_program.specs.declared.programs.Flow.{Flow}
 use Rattle.flow_program.specs.WellFormed.{is_well_formed}
-use Rattle.store_domain.specs.LiveBases.{most_bases}
+use Rattle.store_domain_sound.specs.LiveBases.{most_bases}
 use Rattle.store_domain_sound.specs.Shapes.{AreShaped, CountsOnce, SeesPadding, IsLaidOut}
 
 -- sets of bases have a place for each base, and each value of the rows of a pool has a number of 64 bits

@@ -5,3 +5,5 @@ pub mod RegionArrays
 pub mod ByteRegions
 pub mod ContentRegions
 pub use Rattle.store_domain_sound_chars.proofs.ByteValues
+pub use Rattle.store_domain_sound_chars.proofs.ByteArrays
+pub use Rattle.store_domain_sound_chars.proofs.ByteZeros

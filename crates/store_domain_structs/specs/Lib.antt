@@ -6,3 +6,5 @@ pub mod LeafNumbers
 pub mod PaddingWrites
 pub mod StructCopies
 pub mod CopyLengths
+pub use Rattle.store_domain_structs_leaves.specs.declared.copy_places.Span
+pub use Rattle.store_domain_structs_leaves.specs.declared.leaf_copies.LeafAccess

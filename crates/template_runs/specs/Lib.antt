@@ -3,3 +3,10 @@ pub mod TemplateActs
 pub mod TemplateExits
 pub mod TemplateSteps
 pub use Rattle.ref_machine.specs.Operations
+pub use Rattle.flow_program_machine.specs.FlowActs
+pub use Rattle.flow_program_machine.specs.FlowStates
+pub use Rattle.ref_machine.specs.Functions
+pub use Rattle.ref_machine.specs.Items
+pub use Rattle.ref_machine.specs.ObjectSteps
+pub use Rattle.ref_machine.specs.SourceRuns
+pub use Rattle.ref_machine.specs.SourceStates

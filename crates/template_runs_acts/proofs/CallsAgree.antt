@@ -11,9 +11,9 @@ use Rattle.lib_models_effects.specs.Worlds.{World, Why, Reply, goes, stops, behi
 use Rattle.lib_models_effects.specs.LibraryCalls.{library, with_result}
 use Rattle.flow_lower_expressions.specs.Calls.{gives, result_temp}
 use Rattle.flow_lower_tasks.specs.Acts as act
-use Rattle.flow_program_machine.specs.FlowStates as flow
-use Rattle.flow_program_machine.specs.FlowStates.{and_value, values_of}
-use Rattle.flow_program_machine.specs.FlowActs.{calling}
+use Rattle.template_runs.specs.FlowStates as flow
+use Rattle.template_runs.specs.FlowStates.{and_value, values_of}
+use Rattle.template_runs.specs.FlowActs.{calling}
 use Rattle.template_runs.specs.Operations as op
 use Rattle.template_runs.specs.Operations.{newest, target_size, pushing_result}
 use Rattle.template_runs.specs.TemplateStates.{Templates, Standing}

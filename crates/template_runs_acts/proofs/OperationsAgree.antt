@@ -19,9 +19,9 @@ use Rattle.lib_models_effects.specs.StructCopies.{copy_struct}
 use Rattle.lib_models_effects.specs.IntegerEffects.{plain_one, binary, unary, compare_numbers, negation, convert}
 use Rattle.flow_lower_tasks.specs.Acts as act
 use Rattle.flow_lower_tasks.specs.Acts.{Act}
-use Rattle.flow_program_machine.specs.FlowStates as flow
-use Rattle.flow_program_machine.specs.FlowActs as flow_acts
-use Rattle.flow_program_machine.specs.FlowActs.{giving, storing}
+use Rattle.template_runs.specs.FlowStates as flow
+use Rattle.template_runs.specs.FlowActs as flow_acts
+use Rattle.template_runs.specs.FlowActs.{giving, storing}
 use Rattle.template_runs.specs.Operations as op
 use Rattle.template_runs.specs.Operations.{Operation, pushing, LeftFirst, RightFirst}
 use Rattle.template_runs.specs.TemplateStates.{Templates, Standing}

@@ -23,7 +23,7 @@ use Rattle.flow_lower_statements.specs.PlainStatements.{in_scope}
 use Rattle.flow_lower_statements.specs.Switches as lowered
 use Rattle.flow_lower_statements.specs.Switches.{dispatch_at, in_switch}
 use Rattle.flow_lower_works.specs.Derivations.{parts, Makes, nothing, piece, work}
-use Rattle.template_runs_terms.proofs.Choices.{two_way_jobs}
+use Rattle.template_runs_statements.proofs.Choices.{two_way_jobs}
 use Rattle.template_runs_scopes.proofs.Objects.{object_jobs, locals}
 use Rattle.template_runs_statements.proofs.Sequences.{statement_jobs}
 use Rattle.template_runs_statements.proofs.Selections.{block_planned, if_jobs, if_planned, else_planned}

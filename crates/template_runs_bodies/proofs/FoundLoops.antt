@@ -26,7 +26,7 @@ use Rattle.template_runs_follow.specs.Activations.{Activation}
 use Rattle.template_runs_works.specs.TemplateParts.{IsOfUnit, Stands}
 use Rattle.template_runs_works.proofs.Runs.{stands_after}
 use Rattle.template_runs_works.proofs.Laying.{from_piece, from_none, from_work, known_between, few_labels}
-use Rattle.template_runs_terms.proofs.Choices.{jumping}
+use Rattle.template_runs_statements.proofs.Choices.{jumping}
 use Rattle.template_runs_scopes.specs.Contexts.{Reaches, Within}
 use Rattle.template_runs_scopes.specs.SuitedStatements.{Enclosure, not_enclosed, by_loop, SuitsBehind, SuitsIf, SuitsIn}
 use Rattle.template_runs_scopes.proofs.Contexts.{in_block}

@@ -25,7 +25,7 @@ use Rattle.template_runs_follow.specs.Follows.{own, Follows}
 use Rattle.template_runs_works.specs.TemplateParts.{IsOfUnit, Stands}
 use Rattle.template_runs_works.proofs.Runs.{stands_behind, stands_after}
 use Rattle.template_runs_works.proofs.Laying.{from_piece, from_none, from_work, led, known_between, few_labels}
-use Rattle.template_runs_terms.proofs.Choices.{jumping, hops, two_way_jobs}
+use Rattle.template_runs_statements.proofs.Choices.{jumping, hops, two_way_jobs}
 use Rattle.template_runs_scopes.specs.Contexts.{Within}
 use Rattle.template_runs_scopes.specs.SuitedStatements.{Enclosure, SuitsIn, AllSuitIn}
 use Rattle.template_runs_scopes.proofs.Contexts.{in_block}

@@ -36,7 +36,7 @@ use Rattle.template_runs_follow.proofs.Constructions.{gives_statement, gives_loo
 use Rattle.template_runs_works.specs.TemplateParts.{IsOfUnit, IsKnown, Stands}
 use Rattle.template_runs_works.proofs.Runs.{known_before, stands_after, stands_behind}
 use Rattle.template_runs_works.proofs.Laying.{from_piece, from_none, from_work, led, known_between}
-use Rattle.template_runs_terms.proofs.Terms.{terms}
+use Rattle.template_runs_statements.proofs.Terms.{terms}
 use Rattle.template_runs_scopes.specs.Chains.{Chain, AreApart}
 use Rattle.template_runs_scopes.specs.Contexts.{Reaches, Within}
 use Rattle.template_runs_scopes.specs.SuitedStatements.{Enclosure, by_switch, SuitsIn}
@@ -51,8 +51,8 @@ use Rattle.template_runs_labels.specs.LabelScopes.{stands_in, IsFound}
 use Rattle.template_runs_labels.proofs.LabelScopes.{in_scopes}
 use Rattle.template_runs_noted.specs.Choices.{IsChoice}
 use Rattle.template_runs_dispatches.specs.Gotos.{HasLabels}
-use Rattle.template_runs_switches.specs.SwitchTargets.{IsTarget, HasTargets}
-use Rattle.template_runs_switches.proofs.SwitchTargets.{switch_follows}
+use Rattle.template_runs_dispatches.specs.SwitchTargets.{IsTarget, HasTargets}
+use Rattle.template_runs_dispatches.proofs.SwitchTargets.{switch_follows}
 use Rattle.template_runs_statements.proofs.Sequences.{HasParts, AboutStatement}
 use Rattle.template_runs_statements.proofs.Selections.{count_terms, count_on, kept_one}
 use Rattle.template_runs_statements.proofs.ForLoops.{from_many, kept_many}

@@ -1,2 +1,3 @@
 pub mod LabelMarks
 pub use Rattle.template_runs_jumps.specs.Gotos
+pub use Rattle.template_runs_switches.specs.SwitchTargets

@@ -13,10 +13,10 @@ use Rattle.template_runs_settled.specs.SettledRuns.{templates}
 use Rattle.template_runs_turns.specs.Alike as alike
 use Rattle.template_runs_turns.specs.Alike.{Alike}
 use Rattle.template_runs_returns.proofs.Reached.{source_stands}
-use Rattle.template_runs_opened.specs.OpenedRuns.{settled_of, IsOpened}
-use Rattle.template_runs_opened.proofs.LoweredPrograms.{AreLaidOut, are_laid_out, settles_at}
-use Rattle.template_runs_fit.proofs.LowPrograms.{low_programs}
-use Rattle.template_runs_fit.proofs.EntryLocals.{checked_few}
+use Rattle.template_runs_fit_units.specs.OpenedRuns.{settled_of, IsOpened}
+use Rattle.template_runs_fit_units.proofs.LoweredPrograms.{AreLaidOut, are_laid_out, settles_at}
+use Rattle.template_runs_fit_units.proofs.LowPrograms.{low_programs}
+use Rattle.template_runs_fit_units.proofs.EntryLocals.{checked_few}
 use Rattle.template_runs_fit_units.proofs.FitPieces.{is_made}
 use Rattle.template_runs_units.specs.UnitRuns.{IsProgramOf}
 use Rattle.template_runs_units.proofs.UnitRuns.{Laws, of, plainly, all_follow, entry_follows}

@@ -1,1 +1,2 @@
 pub mod Entries
+pub use Rattle.template_runs_turns.specs.Alike

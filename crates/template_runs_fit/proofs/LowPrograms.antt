@@ -18,7 +18,7 @@ use Rattle.flow_lower_tasks.specs.Acts.{Step, act, step}
 use Rattle.flow_lower_tasks.specs.Pieces.{way}
 use Rattle.flow_program_views.specs.ProgramViews.{BlockView, block, EdgeView, edge, flow_view}
 use Rattle.template_runs_layouts.specs.LowTemporaries.{IsLow, AreLow, IsAmountLow, IsKeptLow, IsResultLow, IsActLow, IsPutLow, IsWayLow, HasLowTemps}
-use Rattle.template_runs_openings.proofs.ListPlaces.{some_same}
+use Rattle.template_runs_layouts.proofs.ListPlaces.{some_same}
 
 module _ (n : Names) (room : n.temps ≤ 2 ^ 32 - 1) where
   low : (t : ℕ) → has_temp n t ≡ true → IsLow t

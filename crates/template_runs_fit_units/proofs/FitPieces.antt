@@ -12,11 +12,11 @@ use Rattle.flow_lower_fit_names.specs.NamedTrees.{AllNames}
 use Rattle.flow_lower_fit_names.proofs.NamingTemplates.{names_of_template}
 use Rattle.flow_lower_fit_switches.specs.SwitchedTrees.{IsCaseOf, AreCasesOf, ArePiecesOf}
 use Rattle.flow_lower_fit_switches.proofs.SendingTemplates.{cases_of_template}
-use Rattle.template_runs_openings.specs.NameRanges.{IsNameThere}
-use Rattle.template_runs_openings.proofs.ListPlaces.{some_same}
-use Rattle.template_runs_settled.specs.SettledRuns.{LabelsStandOnce}
+use Rattle.template_runs_opened.specs.NameRanges.{IsNameThere}
+use Rattle.template_runs_opened.proofs.ListPlaces.{some_same}
+use Rattle.template_runs_opened.specs.SettledRuns.{LabelsStandOnce}
 use Rattle.template_runs_laid.specs.Layouts.{IsAtStart}
-use Rattle.template_runs_layouts.specs.FitTemplates.{PointsToStart, type_named, IsInteger, SwitchesOn, AllSwitchOn, ArePiecesFit, IsFit}
+use Rattle.template_runs_opened.specs.FitTemplates.{PointsToStart, type_named, IsInteger, SwitchesOn, AllSwitchOn, ArePiecesFit, IsFit}
 use Rattle.template_runs_opened.specs.OpenedRuns.{IsMade}
 use Rattle.template_runs_fit_units.specs.CheckedRuns.{IsIntegerNamed, IsPlainlyMade}
 

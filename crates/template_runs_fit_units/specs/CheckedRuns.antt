@@ -16,13 +16,13 @@ use Rattle.flow_lower_counts.specs.Preparations.{IsTemplateOf, Reaches}
 use Rattle.flow_lower_debts.specs.Marks.{IsLabelled}
 use Rattle.flow_lower_fit_names.specs.NamedTrees.{NamesFunction}
 use Rattle.flow_lower_fit_switches.specs.SwitchedTrees.{SwitchesStatements}
-use Rattle.flow_lower.specs.Lowerings.{IsLowering}
+use Rattle.template_runs_opened.specs.Lowerings.{IsLowering}
 use Rattle.template_runs.specs.TemplateStates.{Templates}
 use Rattle.template_runs.specs.TemplateSteps.{template_begin, steps_from}
-use Rattle.template_runs_settled.specs.SettledRuns.{templates, ReturnsWith, NamesNothing}
+use Rattle.template_runs_opened.specs.SettledRuns.{templates, ReturnsWith, NamesNothing}
 use Rattle.template_runs_laid.specs.LaidRuns.{AgreeUnlessStuck}
-use Rattle.template_runs_layouts.specs.FitTemplates.{type_named, IsInteger}
-use Rattle.template_runs_openings.specs.NameRanges.{IsNameThere}
+use Rattle.template_runs_opened.specs.FitTemplates.{type_named, IsInteger}
+use Rattle.template_runs_opened.specs.NameRanges.{IsNameThere}
 
 -- an object that is named has an integer type
 abbrev pub IsIntegerNamed : UnitView → FunctionView → NameView → Type 0

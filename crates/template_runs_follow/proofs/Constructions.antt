@@ -18,7 +18,7 @@ use Rattle.flow_lower_tasks.specs.Pieces.{Local, Literal, Outcome, PieceView, Ex
 use Rattle.flow_lower_tasks.specs.Plans.{name_of_object}
 use Rattle.flow_lower_tasks.specs.TermKinds.{scalar_of}
 use Rattle.ref_machine.specs.Functions.{local_type}
-use Rattle.flow_lower_conditions.specs.declared.branch_tests.NamedObject.{NamedObject}
+use Rattle.ref_machine.specs.NamedObject.{NamedObject}
 use Rattle.ref_machine.specs.Items as item
 use Rattle.ref_machine.specs.Items.{Item, Items, listed, NamedTest, Change}
 use Rattle.ref_machine.specs.Operations as op

@@ -17,7 +17,7 @@ use Rattle.flow_program.specs.declared.flow_edges.Side.TheVariants as side
 use Rattle.flow_program.specs.declared.flow_edges.Test.{Test}
 use Rattle.flow_program.specs.declared.machine_instructions.Scalar as declared
 use Rattle.flow_program.specs.declared.machine_instructions.Scalar.TheVariants as scalar
-use Rattle.flow_lower_conditions.specs.declared.branch_tests.NamedObject.{NamedObject}
+use Rattle.ref_machine.specs.NamedObject.{NamedObject}
 use Rattle.flow_lower_expressions.specs.Calls.{result_temp}
 use Rattle.flow_lower_tasks.specs.Acts as act
 use Rattle.flow_lower_tasks.specs.Acts.{Act, Step}

@@ -8,3 +8,6 @@ pub use Rattle.ref_machine.specs.Items
 pub use Rattle.ref_machine.specs.Operations
 pub use Rattle.ref_machine.specs.SourceStates
 pub use Rattle.ref_machine.specs.TermItems
+pub use Rattle.ref_machine.specs.LabelSearch
+pub use Rattle.ref_machine.specs.Scopes
+pub use Rattle.ref_machine.specs.StatementItems

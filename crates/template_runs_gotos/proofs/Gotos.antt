@@ -21,7 +21,7 @@ use Rattle.template_runs_follow.specs.Follows as follows
 use Rattle.template_runs_follow.specs.Follows.{Leads, Follows}
 use Rattle.template_runs_works.specs.TemplateParts.{IsOfUnit, IsKnown, Stands}
 use Rattle.template_runs_works.proofs.Runs.{opened}
-use Rattle.template_runs_scopes.specs.Chains.{Chain}
+use Rattle.template_runs_labels.specs.Chains.{Chain}
 use Rattle.template_runs_leaps.specs.Leaps.{Lies}
 use Rattle.template_runs_leaps.proofs.Leaps.{leaps}
 use Rattle.template_runs_labels.specs.LabelScopes.{all_stand_in, IsFound, missing, there}

@@ -17,9 +17,9 @@ use Rattle.ref_machine.specs.SourceStates.{function_at}
 use Rattle.template_runs_follow.specs.Activations.{Activation}
 use Rattle.template_runs_follow.specs.Follows.{Leads, Follows}
 use Rattle.template_runs_works.specs.TemplateParts.{IsOfUnit, IsKnown, Stands}
-use Rattle.template_runs_scopes.specs.Scopes.{IsScope, AllHaveScopes}
-use Rattle.template_runs_scopes.specs.Chains.{Chain, AreApart}
-use Rattle.template_runs_scopes.specs.SuitedStatements.{HasLabel}
+use Rattle.template_runs_labels.specs.Scopes.{IsScope, AllHaveScopes}
+use Rattle.template_runs_labels.specs.Chains.{Chain, AreApart}
+use Rattle.template_runs_labels.specs.SuitedStatements.{HasLabel}
 use Rattle.template_runs_labels.specs.FoundLabels.{IsThere}
 
 -- the function is the one that runs, its scopes are those of the setting, no object is in two of them, and it has each of its

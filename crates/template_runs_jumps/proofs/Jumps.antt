@@ -31,7 +31,7 @@ use Rattle.template_runs_follow.proofs.Constructions.{gives_statement, gives_no_
 use Rattle.template_runs_works.specs.TemplateParts.{IsOfUnit, IsKnown, Stands}
 use Rattle.template_runs_works.proofs.Runs.{Runs, then_ends, stands_behind, joined, split, opened}
 use Rattle.template_runs_works.proofs.Assignments.{one_more_job, nothing_done}
-use Rattle.template_runs_terms.proofs.Choices.{jumping, hops}
+use Rattle.template_runs_gotos.proofs.Choices.{jumping, hops}
 use Rattle.template_runs_works.proofs.Laying.{known_between}
 use Rattle.template_runs_scopes.specs.SuitedStatements.{Enclosure, HasLabel}
 use Rattle.template_runs_scopes.specs.Chains.{Chain}

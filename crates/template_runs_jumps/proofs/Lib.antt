@@ -1,3 +1,3 @@
 pub mod Jumps
 pub mod Returns
-pub use Rattle.template_runs_terms.proofs.Choices
+pub use Rattle.template_runs_gotos.proofs.Choices

@@ -35,8 +35,8 @@ use Rattle.template_runs_works.specs.TemplateParts as parts_of
 use Rattle.template_runs_works.specs.TemplateParts.{IsOfUnit, IsKnown, Stands, Ends}
 use Rattle.template_runs_works.proofs.Runs.{Runs, then, piece_first, dropped}
 use Rattle.template_runs_works.proofs.Assignments.{one_more_job, nothing_done, stores}
-use Rattle.template_runs_terms.proofs.Choices.{jumping, hops}
-use Rattle.template_runs_terms.proofs.Terms.{terms}
+use Rattle.template_runs_gotos.proofs.Choices.{jumping, hops}
+use Rattle.template_runs_gotos.proofs.Terms.{terms}
 use Rattle.template_runs_scopes.specs.SuitedStatements.{Enclosure, SuitsAsReturned}
 use Rattle.template_runs_scopes.specs.Contexts.{Within}
 use Rattle.template_runs_scopes.proofs.Positions.{Position}

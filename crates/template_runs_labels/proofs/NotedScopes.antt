@@ -6,7 +6,7 @@ use Rattle.c_layout.specs.CheckedTrees as tree
 use Rattle.c_layout.specs.CheckedTrees.{StatementTree, StatementTrees, statement_trees}
 use Rattle.c_layout.specs.CheckedUnits.{FunctionView}
 use Rattle.flow_lower_tasks.specs.Scopes.{TreeView, with_new_scope, with_choice, with_case, with_default, with_label, scoped, all_scoped, no_scopes, function_scopes}
-use Rattle.flow_lower_debts.specs.Marks.{one, labels_in, all_labels_in}
+use Rattle.template_runs_scopes.specs.Marks.{one, labels_in, all_labels_in}
 use Rattle.ref_machine.specs.LabelSearch.{label}
 use Rattle.template_runs_scopes.specs.Scopes.{scopes_in, all_scopes_in}
 use Rattle.template_runs_scopes.proofs.ScopeTrees.{scoped_more, all_more, length_new, length_more}

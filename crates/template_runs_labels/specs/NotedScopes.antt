@@ -3,7 +3,7 @@ use Rattle.std.specs.Prelude.{◌≡◌, ◌≤◌, ◌<◌, ℕ, Some, get_or}
 use Rattle.c_layout.specs.CheckedTrees.{statement_trees}
 use Rattle.c_layout.specs.CheckedUnits.{FunctionView}
 use Rattle.flow_lower_tasks.specs.Scopes.{function_scopes}
-use Rattle.flow_lower_debts.specs.Marks.{all_labels_in}
+use Rattle.template_runs_scopes.specs.Marks.{all_labels_in}
 use Rattle.ref_machine.specs.LabelSearch.{label}
 use Rattle.template_runs_labels.specs.LabelScopes.{all_stand_in}
 

@@ -10,7 +10,7 @@ use Rattle.c_layout.specs.declared.checked_tree.checked_terms.ObjectRef.TheVaria
 use Rattle.c_layout.specs.declared.data_model.Model.{Model}
 use Rattle.flow_program.specs.declared.flow_edges.Side.{Side}
 use Rattle.flow_program.specs.declared.flow_edges.Test.{Test}
-use Rattle.ref_machine.specs.Functions.{local_type}
+use Rattle.template_runs.specs.Functions.{local_type}
 use Rattle.flow_lower_tasks.specs.Acts as act
 use Rattle.flow_lower_tasks.specs.Acts.{Act}
 use Rattle.flow_lower_tasks.specs.Pieces.{NameView, Local, Outcome, Static, Literal, Allocation, Way, ExitView, PieceView}
@@ -30,8 +30,8 @@ use Rattle.flow_program_machine.specs.FlowEdges as edges
 use Rattle.flow_program_machine.specs.FlowEdges.{is_taken, edge_taken, first_signed}
 use Rattle.flow_program_machine.specs.FlowSteps as flow_runs
 use Rattle.flow_program_machine.specs.FlowSteps.{act_step}
-use Rattle.ref_machine.specs.SourceRuns.{violations}
-use Rattle.ref_machine.specs.SourceStates.{function_at, result_object, static_type, local_of}
+use Rattle.template_runs.specs.SourceRuns.{violations}
+use Rattle.template_runs.specs.SourceStates.{function_at, result_object, static_type, local_of}
 use Rattle.template_runs.specs.TemplateStates as template
 use Rattle.template_runs.specs.TemplateStates.{Frame, Standing, if_some, with_instance, scene, outcome_of, as_local, instance_named, instance_if}
 use Rattle.template_runs.specs.TemplateExits as exits

@@ -4,7 +4,7 @@ use Rattle.cc_base.specs.declared.diagnostics.Place.{Place}
 use Rattle.c_layout.specs.CheckedUnits.{FunctionView}
 use Rattle.c_layout.specs.declared.checked_tree.checked_terms.ObjectRef.TheVariants as object
 use Rattle.c_layout.specs.declared.shapes.BaseInfo.{BaseInfo}
-use Rattle.ref_machine.specs.Functions.{local_type}
+use Rattle.template_runs.specs.Functions.{local_type}
 use Rattle.flow_lower_tasks.specs.Acts as act
 use Rattle.flow_lower_tasks.specs.Acts.{Act}
 use Rattle.flow_lower_tasks.specs.Pieces.{NameView, Local, Outcome, Static, Literal, Allocation, PieceView}
@@ -20,12 +20,12 @@ use Rattle.flow_program_machine.specs.FlowStates.{size_in, base_size}
 use Rattle.flow_program_machine.specs.FlowActs as flow_acts
 use Rattle.flow_program_machine.specs.FlowSteps as flow_runs
 use Rattle.flow_program_machine.specs.FlowSteps.{act_step}
-use Rattle.ref_machine.specs.Items.{Change, Forget, Clear, Spell}
-use Rattle.ref_machine.specs.Operations.{size_of, leaves}
-use Rattle.ref_machine.specs.ObjectSteps as source
-use Rattle.ref_machine.specs.SourceRuns.{violations}
-use Rattle.ref_machine.specs.SourceStates as states
-use Rattle.ref_machine.specs.SourceStates.{State, function_at, result_object, static_type}
+use Rattle.template_runs.specs.Items.{Change, Forget, Clear, Spell}
+use Rattle.template_runs.specs.Operations.{size_of, leaves}
+use Rattle.template_runs.specs.ObjectSteps as source
+use Rattle.template_runs.specs.SourceRuns.{violations}
+use Rattle.template_runs.specs.SourceStates as states
+use Rattle.template_runs.specs.SourceStates.{State, function_at, result_object, static_type}
 use Rattle.template_runs.specs.TemplateStates as template
 use Rattle.template_runs.specs.TemplateStates.{Frame, Standing, if_some, scene, outcome_of}
 use Rattle.template_runs.specs.TemplateActs as template_acts

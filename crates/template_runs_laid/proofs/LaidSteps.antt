@@ -23,7 +23,7 @@ use Rattle.flow_program_machine.specs.FlowSteps as flow_runs
 use Rattle.flow_program_machine.specs.FlowSteps.{act_step, flow_step, flow_steps}
 use Rattle.flow_program_machine.specs.FlowStarts as starts
 use Rattle.flow_program_machine.specs.FlowStarts.{flow_begin}
-use Rattle.ref_machine.specs.SourceRuns as source
+use Rattle.template_runs.specs.SourceRuns as source
 use Rattle.template_runs.specs.TemplateStates as template
 use Rattle.template_runs.specs.TemplateStates.{Templates, Frame, TemplateRun}
 use Rattle.template_runs.specs.TemplateActs as template_acts

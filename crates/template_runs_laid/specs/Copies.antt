@@ -5,13 +5,13 @@ use Rattle.c_layout.specs.Types.{Ty}
 use Rattle.c_layout.specs.CheckedUnits.{FunctionView, StaticView, LiteralView, UnitView}
 use Rattle.c_layout.specs.declared.shapes.BaseInfo.{BaseInfo}
 use Rattle.c_layout.specs.declared.shapes.BaseKind.TheVariants as kind
-use Rattle.ref_machine.specs.Functions.{local_type}
+use Rattle.template_runs.specs.Functions.{local_type}
 use Rattle.flow_lower_tasks.specs.Pieces.{NameView, Local, Outcome, Static, Literal, Allocation, TemplateView}
 use Rattle.flow_lower_tasks.specs.TermKinds.{integer_type}
 use Rattle.flow_program_views.specs.ProgramViews.{FlowView}
 use Rattle.flow_program_machine.specs.FlowEdges.{first_signed}
-use Rattle.ref_machine.specs.Operations.{size_of, leaves}
-use Rattle.ref_machine.specs.SourceStates.{function_at, result_object, static_type, local_of}
+use Rattle.template_runs.specs.Operations.{size_of, leaves}
+use Rattle.template_runs.specs.SourceStates.{function_at, result_object, static_type, local_of}
 
 -- a unit, its templates, a program, and the bases that objects of static storage and literals have in it
 pub record Opened : Type 0 where

@@ -16,7 +16,7 @@ use Rattle.flow_program_views.specs.ProgramViews.{EdgeView}
 use Rattle.flow_program_machine.specs.FlowEdges.{edges_of}
 use Rattle.flow_program_machine.specs.FlowStarts.{start_names}
 use Rattle.flow_program_machine.specs.FlowSteps.{block_of}
-use Rattle.ref_machine.specs.SourceRuns.{name_parameters}
+use Rattle.template_runs.specs.SourceRuns.{name_parameters}
 use Rattle.template_runs_laid.specs.Shifts.{put_shifted, named_base, shifted}
 use Rattle.template_runs_laid.specs.Copies.{Opened, Copy, IsCopy, AllApart, IsThere, IsObject, IsLiteral, name_of, IsBase, IsOwnBase, IsSwitchedObject}
 

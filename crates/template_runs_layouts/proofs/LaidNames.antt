@@ -15,13 +15,13 @@ use Rattle.flow_program.specs.declared.flow_edges.CaseTest.{CaseTest}
 use Rattle.flow_program.specs.declared.flow_edges.Side.{Side}
 use Rattle.flow_program.specs.declared.flow_edges.Side.TheVariants as side
 use Rattle.flow_program.specs.declared.flow_edges.Test.{Test}
-use Rattle.ref_machine.specs.Functions.{local_type}
+use Rattle.template_runs_laid.specs.Functions.{local_type}
 use Rattle.flow_lower_tasks.specs.Acts as acts
 use Rattle.flow_lower_tasks.specs.Acts.{Act, Step}
 use Rattle.flow_lower_tasks.specs.Pieces.{NameView, Local, Outcome, Static, Literal, Allocation, Way, Always, When, Case, Other, NoLine, Line, ExitView, TemplateView}
 use Rattle.flow_program_views.specs.ProgramViews.{BlockView, EdgeView, FlowView}
 use Rattle.flow_program_machine.specs.FlowEdges.{first_signed}
-use Rattle.ref_machine.specs.SourceStates.{function_at, static_type, local_of}
+use Rattle.template_runs_laid.specs.SourceStates.{function_at, static_type, local_of}
 use Rattle.template_runs_openings.specs.MovedActs.{own_base, moved}
 use Rattle.template_runs_openings.specs.BaseTables.{known}
 use Rattle.template_runs_openings.specs.Lowerings.{lowered}

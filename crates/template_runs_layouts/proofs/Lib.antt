@@ -3,3 +3,4 @@ pub mod FinishedPrograms
 pub mod LaidNames
 pub mod LaidCopies
 pub mod LaidOpenings
+pub use Rattle.template_runs_openings.proofs.ListPlaces

@@ -3,11 +3,11 @@ use Rattle.std.specs.Prelude.{◌≡◌, ◌<◌, ℕ, ◌+◌, Bool, true, fals
 use Rattle.cc_base.specs.declared.int_types.IntType.{IntType}
 use Rattle.c_layout.specs.Types.{Ty, Int}
 use Rattle.c_layout.specs.CheckedUnits.{FunctionView, UnitView}
-use Rattle.ref_machine.specs.Functions.{local_type}
+use Rattle.template_runs_laid.specs.Functions.{local_type}
 use Rattle.flow_lower_tasks.specs.Acts as acts
 use Rattle.flow_lower_tasks.specs.Acts.{Act}
 use Rattle.flow_lower_tasks.specs.Pieces.{NameView, Local, Outcome, Static, Literal, Allocation, Way, Always, When, Case, Other, NoLine, Line, ExitView, PieceView, Do, DoIfUsed, End, Mark, Call, TemplateView}
-use Rattle.ref_machine.specs.SourceStates.{static_type}
+use Rattle.template_runs_laid.specs.SourceStates.{static_type}
 use Rattle.template_runs_laid.specs.Layouts.{IsAtStart}
 use Rattle.template_runs_openings.specs.NameRanges.{IsNameThere}
 

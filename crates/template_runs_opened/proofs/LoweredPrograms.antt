@@ -15,10 +15,10 @@ use Rattle.flow_lower_laws.proofs.SettledOrder.{settled_ends}
 use Rattle.flow_program_views.specs.ProgramViews.{FlowView}
 use Rattle.flow_program_machine.specs.FlowSteps.{flow_steps}
 use Rattle.flow_program_machine.specs.FlowStarts.{flow_begin}
-use Rattle.flow_lower.specs.Lowerings.{lowered, IsLowering}
-use Rattle.flow_lower.specs.Openings.{joined, template_at, finished, program, unfinished}
-use Rattle.flow_lower.specs.Openings as opening
-use Rattle.flow_lower.proofs.CountedCalls.{AllCalled, IsKnown, known}
+use Rattle.template_runs_openings.specs.Lowerings.{lowered, IsLowering}
+use Rattle.template_runs_openings.specs.Openings.{joined, template_at, finished, program, unfinished}
+use Rattle.template_runs_openings.specs.Openings as opening
+use Rattle.template_runs_openings.proofs.CountedCalls.{AllCalled, IsKnown, known}
 use Rattle.flow_program_machine.specs.FlowStates.{FlowRun}
 use Rattle.template_runs.specs.TemplateStates.{Frame, TemplateRun, running, stopped}
 use Rattle.template_runs.specs.TemplateSteps.{template_begin, steps_from}

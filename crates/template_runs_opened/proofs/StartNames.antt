@@ -10,9 +10,9 @@ use Rattle.lib_models_effects.specs.UnitStarts.{literal_instance, parameter_inst
 use Rattle.flow_program_views.specs.ProgramViews.{InitialView}
 use Rattle.flow_program_machine.specs.FlowStarts.{Names, name_object, name_objects, name_parameters}
 use Rattle.ref_machine.specs.SourceRuns as source
-use Rattle.flow_lower.specs.BaseTables.{TableView, known}
-use Rattle.flow_lower.specs.InitialBytes.{initial_object, initial_literal, objects_from, literals_from}
-use Rattle.flow_lower.specs.Lowerings.{input, inputs}
+use Rattle.template_runs_openings.specs.BaseTables.{TableView, known}
+use Rattle.template_runs_openings.specs.InitialBytes.{initial_object, initial_literal, objects_from, literals_from}
+use Rattle.template_runs_openings.specs.Lowerings.{input, inputs}
 use Rattle.template_runs_openings.proofs.ListPlaces.{some_same, one_longer}
 use Rattle.template_runs_laid.proofs.ShiftedValues as tables
 use Rattle.template_runs_laid.proofs.ShiftedValues.{Compared, compared}

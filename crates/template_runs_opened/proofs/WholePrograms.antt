@@ -16,13 +16,13 @@ use Rattle.flow_lower_tasks.specs.Pieces.{NameView, Local, PieceView, Do, DoIfUs
 use Rattle.flow_lower_tasks.specs.declared.template_pieces.OwnCall.{OwnCall}
 use Rattle.flow_program_machine.specs.FlowStarts.{name_objects, name_parameters, start_names}
 use Rattle.ref_machine.specs.SourceRuns as source
-use Rattle.flow_lower.specs.BaseTables.{TableView, found_in, known, local_or}
-use Rattle.flow_lower.specs.InitialBytes.{objects_from, literals_from}
-use Rattle.flow_lower.specs.Lowerings.{inputs, lowered}
-use Rattle.flow_lower.specs.Openings.{Made, CopyView, Placed, Opened, placed, opened, with_locals, with_rest, with_bases, with_labels, copied, template_at, entered, with_local, with_parameters, entry_call, nothing_made, run, finished}
-use Rattle.flow_lower.specs.Openings as opening
-use Rattle.flow_lower.proofs.CountedCalls.{AllCalled}
-use Rattle.flow_lower.proofs.OpeningTurns.{no_copy}
+use Rattle.template_runs_openings.specs.BaseTables.{TableView, found_in, known, local_or}
+use Rattle.template_runs_openings.specs.InitialBytes.{objects_from, literals_from}
+use Rattle.template_runs_openings.specs.Lowerings.{inputs, lowered}
+use Rattle.template_runs_openings.specs.Openings.{Made, CopyView, Placed, Opened, placed, opened, with_locals, with_rest, with_bases, with_labels, copied, template_at, entered, with_local, with_parameters, entry_call, nothing_made, run, finished}
+use Rattle.template_runs_openings.specs.Openings as opening
+use Rattle.template_runs_openings.proofs.CountedCalls.{AllCalled}
+use Rattle.template_runs_openings.proofs.OpeningTurns.{no_copy}
 use Rattle.template_runs_laid.proofs.ShiftedValues as tables
 use Rattle.template_runs_laid.specs.Copies as copies
 use Rattle.template_runs_laid.specs.Copies.{Copy, IsLocal, IsCopy, IsObject, IsLiteral}

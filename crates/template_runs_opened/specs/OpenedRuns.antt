@@ -7,8 +7,8 @@ use Rattle.flow_lower_counts.specs.Preparations.{IsTemplateOf, Reaches}
 use Rattle.flow_program_views.specs.ProgramViews.{FlowView}
 use Rattle.flow_program_machine.specs.FlowSteps.{flow_steps}
 use Rattle.flow_program_machine.specs.FlowStarts.{flow_begin}
-use Rattle.flow_lower.specs.Lowerings.{IsLowering}
-use Rattle.flow_lower.specs.Openings.{template_at}
+use Rattle.template_runs_openings.specs.Lowerings.{IsLowering}
+use Rattle.template_runs_openings.specs.Openings.{template_at}
 use Rattle.template_runs.specs.TemplateStates.{Templates}
 use Rattle.template_runs.specs.TemplateSteps.{template_begin, steps_from}
 use Rattle.template_runs_settled.specs.SettledRuns.{LabelsStandOnce, templates, ReturnsWith, NamesNothing}

@@ -5,3 +5,4 @@ pub mod NamedPlaces
 pub mod OpenedPieces
 pub mod OpenedCopies
 pub use Rattle.flow_lower.proofs.CountedCalls
+pub use Rattle.flow_lower.proofs.OpeningTurns

@@ -9,8 +9,8 @@ use Rattle.c_layout.specs.declared.checked_tree.checked_units.StaticBase.{Static
 use Rattle.c_layout.specs.declared.checked_tree.checked_units.StaticBase.TheVariants as shared
 use Rattle.c_layout.specs.declared.shapes.BaseInfo.{BaseInfo}
 use Rattle.c_layout.specs.declared.shapes.BaseKind.TheVariants as kind
-use Rattle.flow_lower_functions.specs.Functions.{local_type}
-use Rattle.flow_lower_counts.specs.SharedObjects.{literal_type}
+use Rattle.flow_lower.specs.Functions.{local_type}
+use Rattle.flow_lower.specs.SharedObjects.{literal_type}
 use Rattle.flow_lower_shapes.specs.HeapBases.{heap_shape}
 use Rattle.flow_lower_tasks.specs.Pieces.{NameView, Local, Outcome, Static, Literal, Allocation}
 use Rattle.flow_lower.specs.BaseTables.{TableView, added, object_added, Named, named, local_or, local, found_in, known, literal_made, literal_or, with_literal, object_made, object_or, with_object, with_shared, brought, with_all, with_pointed, number_of, object_named, literal_named, base}

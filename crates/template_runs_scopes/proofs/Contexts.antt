@@ -7,9 +7,9 @@ use Rattle.flow_lower_tasks.specs.declared.pending_works.Landing.{Landing}
 use Rattle.flow_lower_tasks.specs.declared.pending_works.Surroundings.{Surroundings}
 use Rattle.flow_lower_statements.specs.PlainStatements.{in_scope}
 use Rattle.flow_lower_statements.specs.Loops.{in_loop}
-use Rattle.ref_machine.specs.Items as item
-use Rattle.ref_machine.specs.Items.{Item}
-use Rattle.ref_machine.specs.Scopes.{is_in, all_of, open_scopes, without, inwards, behind_loop, behind_turn}
+use Rattle.template_runs_works.specs.Items as item
+use Rattle.template_runs_works.specs.Items.{Item}
+use Rattle.template_runs_works.specs.Scopes.{is_in, all_of, open_scopes, without, inwards, behind_loop, behind_turn}
 use Rattle.template_runs_works.specs.Activations.{Activation}
 use Rattle.template_runs_works.specs.Follows.{Leads, Follows}
 use Rattle.template_runs_scopes.specs.Scopes.{IsScope}

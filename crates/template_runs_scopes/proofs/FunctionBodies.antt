@@ -3,10 +3,10 @@ use Rattle.std.specs.Prelude.{◌≡◌, List, [], ◌∷◌, ◌++◌, refl}
 use Rattle.std.proofs.Common.{ap, ◌∙◌}
 use Rattle.c_layout.specs.CheckedTrees.{StatementTree, statement_trees}
 use Rattle.c_layout.specs.CheckedUnits.{UnitView}
-use Rattle.ref_machine.specs.Items as item
-use Rattle.ref_machine.specs.Items.{Item}
-use Rattle.ref_machine.specs.LabelSearch.{Sought, first, found, found_in, found_among}
-use Rattle.ref_machine.specs.StatementItems.{statements, list_statements}
+use Rattle.template_runs_works.specs.Items as item
+use Rattle.template_runs_works.specs.Items.{Item}
+use Rattle.template_runs_works.specs.LabelSearch.{Sought, first, found, found_in, found_among}
+use Rattle.template_runs_works.specs.StatementItems.{statements, list_statements}
 
 pub same_statements : (xs : List StatementTree) → statements (statement_trees xs) ≡ list_statements xs
 same_statements [] = refl

@@ -6,11 +6,11 @@ use Rattle.flow_lower_tasks.specs.Settings.{SettingView}
 use Rattle.flow_lower_tasks.specs.Works.{Job}
 use Rattle.flow_lower_tasks.specs.declared.pending_works.Landing.{Landing}
 use Rattle.flow_lower_tasks.specs.declared.pending_works.Surroundings.{Surroundings}
-use Rattle.flow_lower_works.specs.Turns.{planless}
-use Rattle.flow_lower_works.specs.Derivations.{is_piece, parts, Makes}
-use Rattle.flow_lower_works.proofs.Derivations.{parted}
+use Rattle.template_runs_works.specs.Turns.{planless}
+use Rattle.template_runs_works.specs.Derivations.{is_piece, parts, Makes}
+use Rattle.template_runs_works.proofs.Derivations.{parted}
 use Rattle.template_runs_works.proofs.GrowingWorks.{grows, jobs_none}
-use Rattle.ref_machine.specs.Items.{Item}
+use Rattle.template_runs_works.specs.Items.{Item}
 use Rattle.template_runs_works.specs.Activations.{Activation}
 use Rattle.template_runs_works.specs.Follows.{Follows}
 use Rattle.template_runs_works.proofs.FewerTurns.{less}

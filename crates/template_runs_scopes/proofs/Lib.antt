@@ -10,3 +10,4 @@ pub mod Contexts
 pub mod QuietItems
 pub mod ScopeTrees
 pub mod FunctionBodies
+pub use Rattle.template_runs_works.proofs.MarkArithmetic

@@ -10,8 +10,8 @@ use Rattle.flow_lower_tasks.specs.Settings.{SettingView}
 use Rattle.flow_lower_tasks.specs.Works as jobs
 use Rattle.flow_lower_tasks.specs.Works.{Job}
 use Rattle.flow_lower_statements.specs.ScopeJumps.{entered, left, all_entered, all_left}
-use Rattle.ref_machine.specs.Items as item
-use Rattle.ref_machine.specs.Items.{Item}
+use Rattle.template_runs_works.specs.Items as item
+use Rattle.template_runs_works.specs.Items.{Item}
 use Rattle.template_runs_works.specs.Activations.{Activation}
 use Rattle.template_runs_works.specs.Follows as follows
 use Rattle.template_runs_works.specs.Follows.{Names, Follows, at_place, own}

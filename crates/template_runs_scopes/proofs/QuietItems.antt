@@ -4,12 +4,12 @@ use Rattle.c_layout.specs.CheckedTrees as tree
 use Rattle.c_layout.specs.CheckedTrees.{TermTree, TermTrees, Typed, StatementTrees}
 use Rattle.c_layout.specs.declared.syntax_tree.expressions.LogicalOp.TheVariants.{And, Or}
 use Rattle.flow_lower_conditions.specs.Conditions.{ReadView, read_by}
-use Rattle.ref_machine.specs.Items as item
-use Rattle.ref_machine.specs.Items.{Item}
-use Rattle.ref_machine.specs.ConditionItems as source
-use Rattle.ref_machine.specs.Scopes.{open_scopes, behind_loop, behind_turn}
-use Rattle.ref_machine.specs.StatementItems.{statements}
-use Rattle.ref_machine.specs.TermItems.{arguments}
+use Rattle.template_runs_works.specs.Items as item
+use Rattle.template_runs_works.specs.Items.{Item}
+use Rattle.template_runs_works.specs.ConditionItems as source
+use Rattle.template_runs_works.specs.Scopes.{open_scopes, behind_loop, behind_turn}
+use Rattle.template_runs_works.specs.StatementItems.{statements}
+use Rattle.template_runs_works.specs.TermItems.{arguments}
 use Rattle.template_runs_works.specs.Activations.{Activation}
 
 -- nothing is opened or left by some items, and no end of a loop or turn is among them

@@ -5,8 +5,8 @@ use Rattle.flow_lower_tasks.specs.Works as jobs
 use Rattle.flow_lower_tasks.specs.Works.{Job}
 use Rattle.flow_lower_tasks.specs.Plans.{Plan}
 use Rattle.flow_lower_tasks.specs.Settings.{SettingView}
-use Rattle.flow_lower_works.specs.Turns.{planless}
-use Rattle.flow_lower_works.specs.Derivations.{parts, Makes, nothing, piece, work}
+use Rattle.template_runs_works.specs.Turns.{planless}
+use Rattle.template_runs_works.specs.Derivations.{parts, Makes, nothing, piece, work}
 use Rattle.template_runs_scopes.proofs.Positions.{position}
 use Rattle.template_runs_scopes.proofs.KeptScopes.{IsTerm, AreTerms, Keeps}
 use Rattle.template_runs_scopes.proofs.KeptByTerms.{keeps_term, keeps_pointer}

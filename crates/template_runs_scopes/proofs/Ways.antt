@@ -7,7 +7,7 @@ use Rattle.flow_lower_tasks.specs.Scopes.{ScopeView}
 use Rattle.flow_lower_tasks.specs.Settings.{SettingView}
 use Rattle.flow_lower_statements.specs.ScopeJumps as scopes
 use Rattle.flow_lower_statements.specs.ScopeJumps.{way, all_left}
-use Rattle.ref_machine.specs.Scopes.{is_in, without, all_of}
+use Rattle.template_runs_works.specs.Scopes.{is_in, without, all_of}
 use Rattle.template_runs_scopes.specs.Contexts.{Up, here, out, AreIn}
 use Rattle.template_runs_scopes.specs.SuitedStatements.{AreNew}
 use Rattle.template_runs_scopes.specs.Chains as chains

@@ -5,10 +5,10 @@ use Rattle.flow_lower_tasks.specs.Pieces.{PieceView}
 use Rattle.flow_lower_tasks.specs.Settings.{SettingView}
 use Rattle.flow_lower_tasks.specs.declared.pending_works.Landing.{Landing}
 use Rattle.flow_lower_tasks.specs.declared.pending_works.Surroundings.{Surroundings}
-use Rattle.ref_machine.specs.Items.{Item}
-use Rattle.ref_machine.specs.LabelSearch.{from_label}
-use Rattle.ref_machine.specs.Scopes.{is_in, all_of, open_scopes, without, inwards, behind_loop, behind_turn}
-use Rattle.ref_machine.specs.SourceStates.{function_at}
+use Rattle.template_runs_works.specs.Items.{Item}
+use Rattle.template_runs_works.specs.LabelSearch.{from_label}
+use Rattle.template_runs_works.specs.Scopes.{is_in, all_of, open_scopes, without, inwards, behind_loop, behind_turn}
+use Rattle.template_runs_works.specs.SourceStates.{function_at}
 use Rattle.template_runs_works.specs.Activations.{Activation}
 use Rattle.template_runs_works.specs.Follows.{Leads, Follows}
 use Rattle.template_runs_scopes.specs.Chains.{Chain}

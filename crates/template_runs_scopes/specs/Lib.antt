@@ -4,3 +4,5 @@ pub mod Chains
 pub mod Contexts
 pub use Rattle.template_runs_works.specs.Rooms
 pub use Rattle.template_runs_works.specs.Activations
+pub use Rattle.template_runs_works.specs.Marks
+pub use Rattle.template_runs_works.specs.SuitedTerms

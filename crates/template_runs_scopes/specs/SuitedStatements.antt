@@ -14,8 +14,8 @@ use Rattle.flow_lower_tasks.specs.TermKinds.{integer_type, struct_number, lvalue
 use Rattle.flow_lower_conditions.specs.Tests.{named}
 use Rattle.flow_lower_conditions.specs.declared.branch_tests.NamedObject.{NamedObject}
 use Rattle.template_runs_works.specs.Marks.{all_labels_in, cases_in, IsSelected}
-use Rattle.ref_machine.specs.SourceStates.{static_type, local_of}
-use Rattle.ref_machine.specs.Scopes.{is_in}
+use Rattle.template_runs_works.specs.SourceStates.{static_type, local_of}
+use Rattle.template_runs_works.specs.Scopes.{is_in}
 use Rattle.template_runs_works.specs.Rooms.{room, room_of_place}
 use Rattle.template_runs_works.specs.SuitedTerms.{Suits, SuitsAsPlace}
 

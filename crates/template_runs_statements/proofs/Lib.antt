@@ -4,3 +4,5 @@ pub mod Selections
 pub mod Loops
 pub mod ForLoops
 pub mod Labelled
+pub use Rattle.template_runs_terms.proofs.Choices
+pub use Rattle.template_runs_terms.proofs.Terms

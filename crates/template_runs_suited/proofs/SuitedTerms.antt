@@ -11,7 +11,7 @@ use Rattle.flow_lower_expressions.specs.Calls.{gives, reads_line}
 use Rattle.flow_lower_units.specs.RegularTerms as looks
 use Rattle.flow_lower_units.specs.RegularTerms.{has_room, is_struct, is_callable, is_library_call, is_regular_term, is_regular_place, are_regular_terms}
 use Rattle.ref_machine.specs.TermItems.{argument_count}
-use Rattle.template_runs_works.specs.SuitedTerms.{Gives, HasThree, IsOwnCall, IsGiven, Suits, SuitsAsPlace, SuitAll}
+use Rattle.template_runs_scopes.specs.SuitedTerms.{Gives, HasThree, IsOwnCall, IsGiven, Suits, SuitsAsPlace, SuitAll}
 use Rattle.flow_lower_units_laws.proofs.CountedLabels.{both_true}
 use Rattle.flow_lower_units_laws.proofs.MarkedObjects.{clash}
 use Rattle.flow_lower_units_laws.proofs.NamesThere.{behind}

@@ -43,7 +43,7 @@ use Rattle.ref_machine.specs.TermItems.{arguments, argument_count}
 use Rattle.ref_machine.specs.TermItems as operands
 use Rattle.ref_machine.specs.ConditionItems as source
 use Rattle.ref_machine.specs.ConditionItems.{term_items}
-use Rattle.template_runs_acts.specs.Acts as acts
+use Rattle.template_runs_works.specs.Acts as acts
 use Rattle.template_runs_works.specs.Activations.{Activation}
 use Rattle.template_runs_works.specs.Follows.{at_place, Follows, CallsThere, behind_own, pieces}
 use Rattle.template_runs_works.proofs.Constructions.{gives_value, gives_unused, gives_drop, gives_own_call}

@@ -33,8 +33,8 @@ use Rattle.ref_machine.specs.Operations.{Operation, size_of}
 use Rattle.ref_machine.specs.TermItems.{address_items, operating, order_of}
 use Rattle.ref_machine.specs.ConditionItems as source
 use Rattle.ref_machine.specs.ConditionItems.{term_items}
-use Rattle.template_runs_acts.specs.Acts as acts
-use Rattle.template_runs_acts.specs.Acts.{IsAct}
+use Rattle.template_runs_works.specs.Acts as acts
+use Rattle.template_runs_works.specs.Acts.{IsAct}
 use Rattle.template_runs_works.specs.Activations.{Activation}
 use Rattle.template_runs_works.specs.Follows.{Names, Follows, at_place}
 use Rattle.template_runs_works.proofs.Constructions.{gives_address, gives_object, gives_literal}

@@ -30,11 +30,11 @@ use Rattle.ref_machine_returns.specs.StandingJumps.{UnitJumpsStand}
 use Rattle.ref_machine_returns.specs.ReturnedFunctions.{CalledFunctionsLeaveAll}
 use Rattle.template_runs.specs.TemplateStates.{Templates, TemplateRun}
 use Rattle.template_runs.specs.TemplateSteps.{template_begin, steps_from}
-use Rattle.template_runs_settled.specs.SettledRuns.{templates, ReturnsWith, NamesNothing}
+use Rattle.template_runs_fit_units.specs.SettledRuns.{templates, ReturnsWith, NamesNothing}
 use Rattle.template_runs_laid.specs.LaidRuns as laid
 use Rattle.template_runs_follow.specs.Activations.{entry_of}
 use Rattle.template_runs_follow.specs.Follows.{Follows, AllFollow, Reached, entry, called, pieces}
-use Rattle.template_runs_turns.specs.Alike as followed
+use Rattle.template_runs_entry.specs.Alike as followed
 use Rattle.template_runs_suited.specs.RegularFunctions.{RegularFunctionsSuit}
 use Rattle.template_runs_entry.specs.Entries.{IsMade, IsEntry, AreMade, EntryIsNotCalled, FunctionsAreFollowed, EntriesAreFollowed}
 use Rattle.template_runs_returns.specs.Returns.{AtEnd, EndsWith, ReturnsAreFollowed}

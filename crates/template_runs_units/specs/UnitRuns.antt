@@ -13,7 +13,7 @@ use Rattle.flow_program_machine.specs.FlowStates.{FlowRun}
 use Rattle.flow_program_machine.specs.FlowSteps.{flow_steps}
 use Rattle.flow_program_machine.specs.FlowStarts.{flow_begin}
 use Rattle.flow_lower_units.specs.RegularUnits.{is_regular_unit}
-use Rattle.flow_lower.specs.Lowerings.{IsLowering}
+use Rattle.template_runs_fit_units.specs.Lowerings.{IsLowering}
 use Rattle.lib_models_effects.specs.Worlds.{Stuck}
 use Rattle.ref_machine.specs.SourceRuns as source
 use Rattle.ref_machine.specs.SourceRuns.{SourceRun, Run}

@@ -8,8 +8,8 @@ use Rattle.flow_lower_tasks.specs.Settings.{SettingView}
 use Rattle.flow_lower_tasks.specs.Works as jobs
 use Rattle.flow_lower_tasks.specs.Works.{Job, behind}
 use Rattle.flow_lower_tasks.specs.declared.pending_works.Decision.{Decision}
-use Rattle.flow_lower_conditions.specs.Conditions.{LineCallView, line_call}
-use Rattle.flow_lower_works.specs.Derivations.{parts, Makes}
+use Rattle.flow_lower_debts.specs.Conditions.{LineCallView, line_call}
+use Rattle.flow_lower_debts.specs.Derivations.{parts, Makes}
 use Rattle.template_runs_follow.specs.Items as item
 use Rattle.template_runs_follow.specs.Items.{Item}
 use Rattle.template_runs_follow.specs.TermItems.{address_items, arguments, argument_count}

@@ -5,9 +5,9 @@ use Rattle.flow_lower_tasks.specs.Plans.{Plan, with_labels}
 use Rattle.flow_lower_tasks.specs.Settings.{SettingView}
 use Rattle.flow_lower_tasks.specs.Works as jobs
 use Rattle.flow_lower_tasks.specs.Works.{Job}
-use Rattle.flow_lower_works.specs.Turns.{planless}
-use Rattle.flow_lower_works.specs.Derivations.{parts, Makes}
-use Rattle.flow_lower_works.proofs.Derivations.{parted}
+use Rattle.flow_lower_debts.specs.Turns.{planless}
+use Rattle.flow_lower_debts.specs.Derivations.{parts, Makes}
+use Rattle.flow_lower_debts.proofs.Derivations.{parted}
 use Rattle.flow_lower_debts.specs.Growth.{Grows}
 use Rattle.flow_lower_debts.proofs.Growth.{grows_on}
 use Rattle.flow_lower_debts.proofs.GrowingWorks.{grows, jobs_none, planless_grows}

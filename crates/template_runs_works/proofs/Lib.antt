@@ -10,3 +10,5 @@ pub mod LineCalls
 pub use Rattle.template_runs_follow.proofs.Constructions
 pub use Rattle.template_runs_follow.proofs.FewerTurns
 pub use Rattle.flow_lower_debts.proofs.GrowingWorks
+pub use Rattle.flow_lower_debts.proofs.Derivations
+pub use Rattle.flow_lower_debts.proofs.MarkArithmetic

@@ -11,7 +11,7 @@ use Rattle.flow_lower_tasks.specs.Settings.{SettingView}
 use Rattle.flow_lower_tasks.specs.Works as jobs
 use Rattle.flow_lower_tasks.specs.Works.{Job, behind}
 use Rattle.flow_lower_expressions.specs.Calls.{line_value}
-use Rattle.flow_lower_works.specs.Derivations.{Makes}
+use Rattle.flow_lower_debts.specs.Derivations.{Makes}
 use Rattle.template_runs_follow.specs.Items as item
 use Rattle.template_runs_follow.specs.Items.{Item, Items, listed}
 use Rattle.template_runs_follow.specs.Operations as op

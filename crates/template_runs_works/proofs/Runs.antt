@@ -10,9 +10,9 @@ use Rattle.flow_lower_tasks.specs.Plans.{Plan, with_work}
 use Rattle.flow_lower_tasks.specs.Settings.{SettingView}
 use Rattle.flow_lower_tasks.specs.Works as jobs
 use Rattle.flow_lower_tasks.specs.Works.{Job, behind}
-use Rattle.flow_lower_works.specs.Turns.{planless}
-use Rattle.flow_lower_works.specs.Derivations.{is_piece, parts, Makes, nothing, piece, work}
-use Rattle.flow_lower_works.proofs.Derivations.{parted}
+use Rattle.flow_lower_debts.specs.Turns.{planless}
+use Rattle.flow_lower_debts.specs.Derivations.{is_piece, parts, Makes, nothing, piece, work}
+use Rattle.flow_lower_debts.proofs.Derivations.{parted}
 use Rattle.flow_lower_debts.specs.Growth.{Grows}
 use Rattle.flow_lower_debts.proofs.GrowingWorks.{grows, jobs_none}
 use Rattle.template_runs_follow.specs.Items as item

@@ -4,3 +4,13 @@ pub mod TemplateParts
 pub use Rattle.flow_lower_debts.specs.Marks
 pub use Rattle.template_runs_follow.specs.Activations
 pub use Rattle.template_runs_follow.specs.Follows
+pub use Rattle.template_runs_follow.specs.Acts
+pub use Rattle.flow_lower_debts.specs.Derivations
+pub use Rattle.flow_lower_debts.specs.Turns
+pub use Rattle.template_runs_follow.specs.ConditionItems
+pub use Rattle.template_runs_follow.specs.Items
+pub use Rattle.template_runs_follow.specs.LabelSearch
+pub use Rattle.template_runs_follow.specs.Scopes
+pub use Rattle.template_runs_follow.specs.SourceStates
+pub use Rattle.template_runs_follow.specs.StatementItems
+pub use Rattle.template_runs_follow.specs.TermItems

@@ -4,7 +4,7 @@ use Rattle.c_layout.specs.CheckedUnits.{FunctionView}
 use Rattle.flow_lower_tasks.specs.Pieces.{NameView, PieceView}
 use Rattle.flow_lower_tasks.specs.Plans.{Plan}
 use Rattle.flow_lower_tasks.specs.Settings.{SettingView}
-use Rattle.flow_lower_works.specs.Functions.{numbers_from}
+use Rattle.flow_lower_debts.specs.Functions.{numbers_from}
 use Rattle.flow_lower_debts.specs.Marks.{all_marked}
 use Rattle.template_runs_follow.specs.CallSteps.{epilogue}
 use Rattle.template_runs_follow.specs.SourceStates.{Frame}

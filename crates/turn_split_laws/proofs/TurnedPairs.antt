@@ -11,7 +11,7 @@ use Rattle.flow_lower_tasks.specs.Acts.{Step, step}
 use Rattle.flow_program_views.specs.ProgramViews.{flow_view}
 use Rattle.value_domain.specs.declared.row_cells.Cell.{Cell}
 use Rattle.rule_checks.specs.AdmittedRules.{pairs_of, instructions_of, pairs_at, row_behind, pairs_from, instruction_pairs, block_pairs, entry_pairs, rows_pairs, map_pairs}
-use Rattle.rule_checks_laws.proofs.FewestPairs.{In, AreIn, in_left, in_right, in_either, in_from, contains_in}
+use Rattle.flow_analysis.proofs.FewestPairs.{In, AreIn, in_left, in_right, in_either, in_from, contains_in}
 use Rattle.turn_split.specs.Turns.{copies, number_in, split}
 use Rattle.turn_split_laws.specs.SameParts.{SameParts}
 use Rattle.turn_split_laws.specs.CopiedMaps.{copied_map}

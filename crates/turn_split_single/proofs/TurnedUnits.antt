@@ -12,12 +12,12 @@ use Rattle.lib_models_effects.specs.Worlds.{Violation}
 use Rattle.turn_split.specs.Turns.{split}
 use Rattle.template_runs_ends.specs.EndedRuns.{UnitsWithoutLoopsEnd}
 use Rattle.template_runs_looked.specs.LookedRuns.{LookedUnitsAreNeverStuck, LookedRunsAreProgramRuns}
-use Rattle.abstract_steps_sound_checked_starts.proofs.CheckedStarts.{unit_starts}
+use Rattle.abstract_steps_sound_units.proofs.CheckedStarts.{unit_starts}
 use Rattle.abstract_steps_sound_units.proofs.CheckedUnits.{analysed_structs, same_structs}
 use Rattle.abstract_steps_sound_units.proofs.TurnedSound.{starts_same}
 use Rattle.abstract_steps_single_switches.specs.UnitSwitches.{UnitSwitchesAreApart}
-use Rattle.abstract_steps_single_analyses.proofs.SingleAnalyses.{finds_run}
-use Rattle.abstract_steps_single_analyses.specs.Analyses.{IsAnalysis}
+use Rattle.abstract_steps_single_units.proofs.SingleAnalyses.{finds_run}
+use Rattle.abstract_steps_single_units.specs.Analyses.{IsAnalysis}
 use Rattle.abstract_steps_single_units.specs.CheckedStarts.{IsUnitOf}
 use Rattle.abstract_steps_single_units.specs.SingleRuns.{SwitchesAreApart, IsNeverStuckAlone, IsSingleProgram, IsViolatedAlone}
 use Rattle.abstract_steps_single_units.proofs.SingleUnits.{by_unit_run}

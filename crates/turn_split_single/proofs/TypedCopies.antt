@@ -16,9 +16,9 @@ use Rattle.lib_models_effects.specs.Accesses.{class_in}
 use Rattle.store_domain_meaning.specs.Places.{OwnedByLeaf}
 use Rattle.flow_program_machine.specs.FlowStates.{Standing}
 use Rattle.abstract_steps_single.specs.SingleRows.{IsPlainProgram}
-use Rattle.abstract_steps_single_store.specs.TypedAccesses.{PointsToKind, IsTyped}
-use Rattle.abstract_steps_single_copies.specs.TypedCopies.{HasOwnLeaf, HasStructLeaf, IsAtStruct, PointsToStruct, HasStructType, AreOneOrApart, HasPlaces}
-use Rattle.abstract_steps_single_runs.specs.SingleRuns.{IsTypedStep}
+use Rattle.abstract_steps_single_switches.specs.TypedAccesses.{PointsToKind, IsTyped}
+use Rattle.abstract_steps_single_switches.specs.TypedCopies.{HasOwnLeaf, HasStructLeaf, IsAtStruct, PointsToStruct, HasStructType, AreOneOrApart, HasPlaces}
+use Rattle.abstract_steps_single_switches.specs.SingleRuns.{IsTypedStep}
 use Rattle.turn_split_laws.specs.SameParts.{SameParts}
 
 module _ (f g : Flow) (h : SameParts f g) where

@@ -7,7 +7,7 @@ use Rattle.flow_program.specs.WellFormed.{is_well_formed}
 use Rattle.flow_program.specs.declared.programs.Flow.{Flow}
 use Rattle.flow_program_views.specs.ProgramViews.{flow_view}
 use Rattle.turn_split.specs.Turns.{split}
-use Rattle.abstract_steps_single_analyses.specs.Analyses.{IsAnalysis}
+use Rattle.abstract_steps_single_units.specs.Analyses.{IsAnalysis}
 use Rattle.abstract_steps_single_units.specs.SingleRuns.{IsSingleProgram}
 use Rattle.abstract_steps_single_units.specs.SingleUnits.{FindsJustUnitRuns}
 

@@ -1,5 +1,5 @@
 use Rattle.store_domain_sound_programs.proofs.WellFormedPremises.{meets_premises}
-use Rattle.abstract_steps_covered.proofs.Covering.{runs_covered}
+use Rattle.abstract_steps_sound_tests.proofs.Covering.{runs_covered}
 use Rattle.abstract_steps_sound_programs.proofs.AllSteps.{steps_go_on, ends_go_on, tests_sound}
 use Rattle.abstract_steps_sound_programs.proofs.theorems.runs_are_covered_but_for_open_steps.Goals as goal
 

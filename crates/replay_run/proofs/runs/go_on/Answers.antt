@@ -4,7 +4,7 @@ use Rattle.c_layout.specs.CheckedUnits.{unit_view}
 use Rattle.ref_machine.specs.Items.{Item}
 use Rattle.ref_machine.specs.SourceStates.{State}
 use Rattle.replay_run_machine.specs.MachineViews.{state_view}
-use Rattle.replay_run_machine_items.specs.declared.machines.Machine.{Machine}
+use Rattle.replay_run_machine.specs.Machine.{Machine}
 use Rattle.replay_run.proofs.TurnsTold.{turn_passed}
 use Rattle.replay_run.proofs.runs.go_on.Goals as goal
 

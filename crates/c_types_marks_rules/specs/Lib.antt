@@ -1,0 +1,1 @@
+pub use Rattle.c_types_marks_tests.specs.UnitParts
