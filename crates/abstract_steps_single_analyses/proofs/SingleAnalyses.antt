@@ -78,7 +78,7 @@ use Rattle.abstract_steps_single_tests.proofs.CaseTests.{case_test_told}
 use Rattle.abstract_steps_single_copied.proofs.ToldCopies.{copy_step_told}
 use Rattle.abstract_steps_single_tests.proofs.IntegerTests.{integer_test_told}
 use Rattle.abstract_steps_single_starts.proofs.ToldStarts.{start_is_told}
-use Rattle.abstract_steps_single_runs.specs.SingleRuns.{SingleLaws, SwitchesAreApart, IsNeverStuckAlone, IsSingleProgram, IsViolatedAlone}
+use Rattle.abstract_steps_single_runs.specs.SingleRuns.{SingleLaws, SwitchesAreApart, IsNeverStuckAlone, IsSingleRun, IsViolatedAlone}
 use Rattle.abstract_steps_single_analyses.specs.SingleAnalyses.{FindsJustRunOf, FindsJustRunsOfChecked}
 use Rattle.abstract_steps_single_runs.proofs.PassedBlocks.{both}
 use Rattle.abstract_steps_single_analyses.proofs.PlainObjects.{has_objects}
@@ -171,13 +171,13 @@ module _ (flow : Flow) (list : List ℤ) (found : List Diag) (a : IsAnalysis flo
         let own : entry_parameters u ≡ [] = none_taken (λ (x : LocalView). x.ctype) (entry_parameters u) (starts.inputs.types ∙ ap (map (λ (x : ParameterInput). Int x.kind)) none) in
         ap (λ z. begun_by u (flow_view flow) (with_parameters u z (world_before u []))) own
 
-    tells : (single : IsSingleProgram flow u) → TellsState interval_lattice interval_numbers flow (start_of interval_lattice interval_numbers flow list) (state_of begin)
+    tells : (single : IsSingleRun flow u) → TellsState interval_lattice interval_numbers flow (start_of interval_lattice interval_numbers flow list) (state_of begin)
     tells single =
         start_is_told interval_order interval_bounding interval_sound interval_ranges intervals_exact flow standard_limits regular.well_formed p (objects single.plain) single.plain single.parameters u starts.model
         (runs_begin flow standard_limits regular.well_formed regular.initial p u starts)
         (replicate flow.width Nothing) (start_of interval_lattice interval_numbers flow list) (length-replicate flow.width Nothing) (regular_fits flow list a.regular enough.reaches a.started) [] begin (begins single.parameters)
 
-    only_run : SwitchesAreApart flow → IsNeverStuckAlone flow u → IsSingleProgram flow u → (d : Diag) → Contains found d → IsViolatedAlone flow u d.place d.rule
+    only_run : SwitchesAreApart flow → IsNeverStuckAlone flow u → IsSingleRun flow u → (d : Diag) → Contains found d → IsViolatedAlone flow u d.place d.rule
     only_run apart unstuck single d there =
         let laid = laid_out standard_limits flow regular.well_formed (omega (arith)) in
         let named = all_named standard_limits flow regular.well_formed regular.scalars in

@@ -151,7 +151,7 @@ module _ {I : Type 0} (l : LatticeOf I) (n : IntegersOf I) (flow : Flow) where
 
       -- ---- the start
 
-      first_at : (start : List (Cell I)) (c : ℕ) → (c ≡ 0 → ⊥) → put_at (empty_table {A = List (Cell I)}) 0 start c ≡ None
+      pub first_at : (start : List (Cell I)) (c : ℕ) → (c ≡ 0 → ⊥) → put_at (empty_table {A = List (Cell I)}) 0 start c ≡ None
       first_at start c ne = put_else empty_table 0 start c ne
 
       pub begun_passed : (o : OrderLaws l) → is_own_row l n list flow.bases.items flow.width machine.start ≡ true → (s : Standing) → IsBoth (Some machine.start) s → IsPassed (put_at empty_table 0 machine.start) 0 0 s []
@@ -258,7 +258,7 @@ module _ {I : Type 0} (l : LatticeOf I) (n : IntegersOf I) (flow : Flow) where
             unfolding next
             next_here = put_here rows e.to h.row
 
-            next_else : (c : ℕ) → (c ≡ e.to → ⊥) → next c ≡ rows c
+            pub next_else : (c : ℕ) → (c ≡ e.to → ⊥) → next c ≡ rows c
             unfolding next
             next_else c ne = put_else rows e.to h.row c ne
 

@@ -56,12 +56,12 @@ use Rattle.abstract_steps_single.specs.SingleSteps.{IsDefined}
 use Rattle.abstract_steps_single_copies.specs.TypedAccesses.{HasObjects}
 use Rattle.abstract_steps_single_ways.specs.WayLaws.{FitsWay, IsWay, TestsAreTold}
 use Rattle.abstract_steps_single.specs.SingleLaws.{HasRight}
-use Rattle.abstract_steps_single_runs.specs.SingleRuns.{SwitchesAreApart, IsTypedStep, HasRightOperands, IsNeverStuckAlone, IsSingleProgram, IsViolatedAlone, SingleLaws, AdmitOnlyRun, MapsAdmitOnlyRun}
+use Rattle.abstract_steps_single_runs.specs.SingleRuns.{SwitchesAreApart, IsTypedStep, HasRightOperands, IsNeverStuckAlone, IsSingleProgram, IsSingleRun, IsViolatedAlone, SingleLaws, AdmitOnlyRun, MapsAdmitOnlyRun}
 use Rattle.abstract_steps_single_runs.proofs.ApartWays.{ways_apart}
 use Rattle.abstract_steps_single_runs.proofs.BlockEdges.{edge_leads}
 use Rattle.abstract_steps_sound_maps.proofs.MapPairs.{admitted_in}
 use Rattle.abstract_steps_single_runs.proofs.Tables.{listed, listed_length, listed_at, left_from, left_in, left_less}
-use Rattle.abstract_steps_single_runs.proofs.PassedBlocks.{Table, IsBoth, both, IsClosed, IsPassed, begun_passed, on_passed, stopped_closed, next, next_passed}
+use Rattle.abstract_steps_single_runs.proofs.PassedBlocks.{Table, IsBoth, both, IsClosed, IsPassed, first_at, begun_passed, on_passed, stopped_closed, next, next_else, next_passed}
 use Rattle.abstract_steps_single_runs.proofs.SingleSteps.{step_told, way_or_stop}
 use Rattle.abstract_steps_single_runs.proofs.Ways.{way_violates, stop_violates, to_way, way_stuck}
 
@@ -84,21 +84,21 @@ module _ {I : Type 0} {l : LatticeOf I} {n : IntegersOf I} {stands : I → ℤ �
     (leaves : (number : ℕ) (row : List (Cell I)) → is_own_row l n list flow.bases.items flow.width row ≡ true → through l n flow list number row ≡ edge_end l n flow (edge_at flow.edges.items number).from number row)
     (owns : (block number : ℕ) (row x : List (Cell I)) → is_own_row l n list flow.bases.items flow.width row ≡ true → edge_end l n flow block number row ≡ Some x → is_own_row l n list flow.bases.items flow.width x ≡ true)
     (start_own : is_own_row l n list flow.bases.items flow.width (start_of l n flow list) ≡ true)
-    (structs : HasStructs flow) (texts : SpellsOverCharacters flow) (objects : HasObjects flow) (switches : SwitchesAreApart flow) (u : UnitView) (typed : HasTypedRuns flow u) (rights : HasRightOperands flow u) (unstuck : IsNeverStuckAlone flow u) (single : IsSingleProgram flow u) where
+    (structs : HasStructs flow) (texts : SpellsOverCharacters flow) (objects : HasObjects flow) (switches : SwitchesAreApart flow) (u : UnitView) (typed : HasTypedRuns flow u) (rights : HasRightOperands flow u) (unstuck : IsNeverStuckAlone flow u) (single : IsSingleRun flow u) where
   abbrev f : FlowView
   f = flow_view flow
 
   abbrev run : ℕ → FlowRun
   run count = flow_steps f count (flow_begin u f [])
 
-  -- ---- edges go forward
+  -- ---- edges to blocks that are no heads go forward
 
   no_or : (a b : Bool) → (a || b) ≡ true → b ≡ false → a ≡ true
   no_or true b h e = refl
   no_or false b h e = absurd (true≢false (sym h ∙ e))
 
-  forward : (number : ℕ) (e : Edge) → slice_get flow.edges.items number ≡ Some e → e.from < e.to
-  forward number e is =
+  forward : (number : ℕ) (e : Edge) → slice_get flow.edges.items number ≡ Some e → is_head_at flow.blocks.items e.to ≡ false → e.from < e.to
+  forward number e is headless =
       let system = well_formed_system limits flow good in
       let a = and_parts (nat_lt 0 (length flow.blocks.items)) _ system in
       let b = and_parts (is_few (length flow.blocks.items)) _ a.1 in
@@ -107,9 +107,13 @@ module _ {I : Type 0} {l : LatticeOf I} {n : IntegersOf I} {stands : I → ℤ �
       let g = all_at (is_sound_edge flow.blocks.items) flow.edges.items number e d.0 is in
       let h = and_parts (nat_lt e.from (length flow.blocks.items)) _ g in
       let k = and_parts (nat_lt e.to (length flow.blocks.items)) (nat_lt e.from e.to || is_head_at flow.blocks.items e.to) h.1 in
-      ltb-true e.from e.to (no_or (nat_lt e.from e.to) (is_head_at flow.blocks.items e.to) k.1 (single.headless e.to))
+      ltb-true e.from e.to (no_or (nat_lt e.from e.to) (is_head_at flow.blocks.items e.to) k.1 headless)
 
   -- ---- what holds where the run stands, with so many instructions left, and where it has stopped
+
+  -- there are no rows of heads
+  abbrev HasNoHeads : Table I → Type 0
+  HasNoHeads rows = (c : ℕ) → is_head_at flow.blocks.items c ≡ true → rows c ≡ None
 
   record GoesOn (r : FlowRun) (left : ℕ) : Type 0 where
     rows : Table I
@@ -121,11 +125,13 @@ module _ {I : Type 0} {l : LatticeOf I} {n : IntegersOf I} {stands : I → ℤ �
     block : s.block ≡ b
     stands_at : s.at ≡ at
     passed : IsPassed l n flow stands list rows b at s found
+    heads : HasNoHeads rows
     few : left_from flow.blocks.items b ≤ left + at
 
   record HasStopped (r : FlowRun) : Type 0 where
     rows : Table I
     closed : IsClosed l n flow stands list rows (found_in r)
+    heads : HasNoHeads rows
 
   -- ---- one instruction
 
@@ -210,11 +216,13 @@ module _ {I : Type 0} {l : LatticeOf I} {n : IntegersOf I} {stands : I → ℤ �
                 block = x.block ∙ g.block;
                 stands_at = x.at ∙ ap suc g.stands_at;
                 passed = on_passed l n flow stands list g.rows g.b g.at g.s g.found g.passed it here_list (violations_at it.place w.violated) (λ r c. placed it.place w.violated r (violated r c)) (record t { world = w }) (goes_on t w e);
+                heads = g.heads;
                 few = omega (arith, few);
               })
           by_reply (stops why w) e goes_on ends violated = inr (record {
             rows = g.rows;
             closed = stopped_closed l n flow stands list g.rows g.b g.at g.s g.found g.passed it here_list (violations_at it.place w.violated) (λ r c. placed it.place w.violated r (violated r c)) leaves small (ends why w e);
+            heads = g.heads;
           })
 
       -- ---- instructions that end their block
@@ -246,6 +254,7 @@ module _ {I : Type 0} {l : LatticeOf I} {n : IntegersOf I} {stands : I → ℤ �
               rows = g.rows;
               closed = stopped_closed l n flow stands list g.rows g.b g.at g.s g.found g.passed it here_list (violations_at it.place w.violated)
                   (λ r c. placed it.place w.violated r (stop_violates l n flow row w.violated r (subst (λ x. violates (operation_violations l n flow row x) r ≡ true) e c))) leaves small none;
+              heads = g.heads;
             })
 
         way_out : IsWay it.operation → Outcome reply
@@ -266,7 +275,8 @@ module _ {I : Type 0} {l : LatticeOf I} {n : IntegersOf I} {stands : I → ℤ �
                 let taken : sound.taken ≡ e = same_Some sound.taken e (sym sound.is ∙ (ap (slice_get flow.edges.items) one ∙ told.is)) in
                 let h = both l n flow stands (edge l n flow row told.number) (record t { world = w }) (subst (λ z. StandsBehind l n stands flow (edge l n flow row z) (record t { world = w })) one sound.behind) told.behind in
                 let apart : (other : ℕ) (d : Edge) → slice_get flow.edges.items other ≡ Some d → d.from ≡ g.b → (other ≡ told.number → ⊥) → edge l n flow row other ≡ None = λ other d is_edge leaving ne. told.others other d is_edge (leaving ∙ sym g.block) (way_of other d is_edge (leaving ∙ sym g.block)) ne in
-                let ahead = forward told.number e told.is in
+                let head : is_head_at flow.blocks.items e.to ≡ false = ap (is_head_at flow.blocks.items) (sym told.enters) ∙ single.headless (suc count) (record t { world = w }) (g.found ++ violations_at it.place w.violated) (stepped ∙ ap (run_by g.found it.place) r) in
+                let ahead = forward told.number e told.is head in
                 let all = left_in flow.blocks.items g.b k.holder here_block in
                 let less = left_less flow.blocks.items (suc g.b) e.to (omega (arith, from, ahead)) in
                 let few = g.few in
@@ -281,6 +291,8 @@ module _ {I : Type 0} {l : LatticeOf I} {n : IntegersOf I} {stands : I → ℤ �
                   is = refl;
                   block = told.enters;
                   stands_at = sound.starts;
+                  heads = λ c is_head. next_else l n flow stands list g.rows g.b g.at g.s g.found g.passed it here_list (violations_at it.place w.violated) (λ r c. placed it.place w.violated r (way_violates l n flow row it.operation is w.violated r c)) leaves o end_here sound.stays told.number e told.is from ahead (record t { world = w }) h apart owns c
+                      (λ same. true≢false (sym is_head ∙ (ap (is_head_at flow.blocks.items) same ∙ head))) ∙ g.heads c is_head;
                   passed = next_passed l n flow stands list g.rows g.b g.at g.s g.found g.passed it here_list (violations_at it.place w.violated) (λ r c. placed it.place w.violated r (way_violates l n flow row it.operation is w.violated r c)) leaves o end_here sound.stays told.number e told.is from ahead (record t { world = w }) h apart owns;
                   few = omega (arith, all, less, few, end, long);
                 })
@@ -353,13 +365,14 @@ module _ {I : Type 0} {l : LatticeOf I} {n : IntegersOf I} {stands : I → ℤ �
           block = a.block;
           stands_at = a.at;
           passed = begun_passed l n flow stands list o start_own begin start;
+          heads = λ c is_head. first_at l n flow stands list (start_of l n flow list) c (λ same. true≢false (sym is_head ∙ (ap (is_head_at flow.blocks.items) (same ∙ sym a.block) ∙ single.headless 0 begin [] begins)));
           few = omega arith;
         }
 
     end : HasEnd
     end = to_end (left_from flow.blocks.items 0) 0 first
 
-    module _ (rows : Table I) (c : IsClosed l n flow stands list rows (found_in (run end.count))) where
+    module _ (rows : Table I) (c : IsClosed l n flow stands list rows (found_in (run end.count))) (heads : HasNoHeads rows) where
       map : List (Option (List (Cell I)))
       map = listed rows (length flow.blocks.items)
 
@@ -375,7 +388,7 @@ module _ {I : Type 0} {l : LatticeOf I} {n : IntegersOf I} {stands : I → ℤ �
         entry = subst (λ z. reached_leq (cell_lattice l) (Some (start_of l n flow list)) z ≡ true) (sym (map_at 0)) c.entry;
         edge = λ e lt. subst (λ z. reached_leq (cell_lattice l) (step (flow_machine l n flow list) e z) (row_at map (edge_at flow.edges.items e).to) ≡ true) (sym (map_at (edge_at flow.edges.items e).from))
             (subst (λ z. reached_leq (cell_lattice l) (step (flow_machine l n flow list) e (rows (edge_at flow.edges.items e).from)) z ≡ true) (sym (map_at (edge_at flow.edges.items e).to)) (c.edges e lt));
-        rounded = λ b head. absurd (true≢false (sym head ∙ single.headless b));
+        rounded = λ b head. subst (λ z. IsRoundedOrNone (cell_lattice l) (flow_machine l n flow list) z) (sym (map_at b ∙ heads b head)) (tt {0});
       }
 
       admitted_alone : (place : Place) (rule : Rule) → Admits l n flow map place rule → IsViolatedAlone flow u place rule
@@ -384,7 +397,11 @@ module _ {I : Type 0} {l : LatticeOf I} {n : IntegersOf I} {stands : I → ℤ �
           record { count = end.count; there = subst (λ z. Contains (found_in (run end.count)) (record { at = z; rule = rule })) a.place (c.all a.block a.at a.instruction a.row rule a.there (ap (λ z. rows_behind l n flow z (take a.at (instructions_of flow a.block))) (sym (map_at a.block)) ∙ a.before) a.breaks) }
 
     pub admits_only_run : AdmitOnlyRun l n flow list u
-    admits_only_run place rule h = admitted_alone end.ended.rows end.ended.closed place rule (h (map end.ended.rows end.ended.closed) (inductive end.ended.rows end.ended.closed))
+    admits_only_run place rule h = admitted_alone end.ended.rows end.ended.closed end.ended.heads place rule (h (map end.ended.rows end.ended.closed end.ended.heads) (inductive end.ended.rows end.ended.closed end.ended.heads))
+
+-- where there are no heads, the run enters none
+pub run_of : {flow : Flow} {u : UnitView} → IsSingleProgram flow u → IsSingleRun flow u
+run_of single = record { plain = single.plain; parameters = single.parameters; calls = single.calls; headless = λ count s found e. single.headless s.block; steps = single.steps }
 
 pub maps_admit : {I : Type 0} {l : LatticeOf I} {n : IntegersOf I} {stands : I → ℤ → Type 0} → OrderLaws l → (flow : Flow) (list : List ℤ) (limits : Limits) → MapsAdmitOnlyRun l n stands flow list limits
 maps_admit {l = l} {n = n} {stands = stands} o flow list limits s switches u typed rights unstuck single first begins behind tells =

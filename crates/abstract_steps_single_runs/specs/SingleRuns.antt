@@ -78,6 +78,18 @@ pub record IsSingleProgram (flow : Flow) (u : UnitView) : Type 0 where
   pub headless : (b : ℕ) → is_head_at flow.blocks.items b ≡ false
   pub steps : HasTypedAccesses flow u
 
+-- the run under no numbers of the outside enters no block from that block or a later one
+abbrev pub EntersNoHead : Flow → UnitView → Type 0
+EntersNoHead flow u = (count : ℕ) (s : Standing) (found : List Violation) → flow_steps (flow_view flow) count (flow_begin u (flow_view flow) []) ≡ running s found → is_head_at flow.blocks.items s.block ≡ false
+
+-- the same of a program that may have ways back, none of which the run takes
+pub record IsSingleRun (flow : Flow) (u : UnitView) : Type 0 where
+  pub plain : IsPlainProgram flow
+  pub parameters : flow.parameters.items ≡ []
+  pub calls : (o : Operation) → IsDoneIn flow o → IsPlainOperation o
+  pub headless : EntersNoHead flow u
+  pub steps : HasTypedAccesses flow u
+
 -- right operands are of the operators' types in this run
 abbrev pub HasRightOperands : Flow → UnitView → Type 0
 HasRightOperands flow u = (count : ℕ) (s : Standing) (found : List Violation) (i : Instruction) → flow_steps (flow_view flow) count (flow_begin u (flow_view flow) []) ≡ running s found → slice_get (instructions_of flow s.block) s.at ≡ Some i → HasRight i.operation s.temps
@@ -138,5 +150,5 @@ module _ {I : Type 0} (l : LatticeOf I) (n : IntegersOf I) (stands : I → ℤ �
 
   -- where the row of the entry stands for the state in which the run begins and tells it, and operands are of their types
   abbrev pub MapsAdmitOnlyRun : Type 0
-  MapsAdmitOnlyRun = HasLaws → SwitchesAreApart flow → (u : UnitView) → HasTypedRuns flow u → HasRightOperands flow u → IsNeverStuckAlone flow u → IsSingleProgram flow u → (first : Standing) → flow_begin u (flow_view flow) [] ≡ running first []
+  MapsAdmitOnlyRun = HasLaws → SwitchesAreApart flow → (u : UnitView) → HasTypedRuns flow u → HasRightOperands flow u → IsNeverStuckAlone flow u → IsSingleRun flow u → (first : Standing) → flow_begin u (flow_view flow) [] ≡ running first []
       → StandsBehind l n stands flow (Some (start_of l n flow list)) first → TellsState l n flow (start_of l n flow list) (state_of first) → AdmitOnlyRun l n flow list u

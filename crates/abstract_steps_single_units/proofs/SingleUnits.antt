@@ -20,6 +20,7 @@ use Rattle.template_runs_ends.specs.UnitRuns.{IsProgramOf, Agree}
 use Rattle.template_runs_looked.specs.LookedRuns.{PassesLooks, LookedUnitsAreNeverStuck, LookedRunsAreProgramRuns}
 use Rattle.abstract_steps_single_analyses.specs.Analyses.{IsAnalysis}
 use Rattle.abstract_steps_single_analyses.specs.SingleRuns.{IsNeverStuckAlone, IsSingleProgram, IsViolatedAlone}
+use Rattle.abstract_steps_single_runs.proofs.SingleRuns.{run_of}
 use Rattle.abstract_steps_single_switches.specs.UnitSwitches.{UnitSwitchesAreApart}
 use Rattle.abstract_steps_single_analyses.proofs.SingleAnalyses.{finds_checked_run}
 use Rattle.template_runs_ends.specs.EndedRuns.{HasStopped, UnitsWithoutLoopsEnd}
@@ -77,17 +78,23 @@ from_source laws u limits program o looks turns place rule h =
     let followed = laws u limits program o looks [] turns in
     record { count = followed.0; there = subst (λ z. Contains z (record { at = place; rule = rule })) (followed.1.found) h }
 
--- what is found just where the run of the program violates it is found just where that of the unit does
+-- what is found just where the run of the program violates it is found just where that of the unit does, which ends
+pub by_ended_run : LookedRunsAreProgramRuns → LookedUnitsAreNeverStuck → (u : UnitView) (limits : Limits) (program : Flow) → IsProgramOf u limits program → PassesLooks u → (turns : ℕ) → HasStopped (Run u [] turns) → (found : List Diag) (d : Diag)
+    → (IsNeverStuckAlone program u → Contains found d ↔ IsViolatedAlone program u d.place d.rule) → Contains found d ↔ RunViolates u (record { at = d.place; rule = d.rule })
+by_ended_run laws never u limits program o looks turns end found d told =
+    let both = told (never_stuck laws never u limits program o looks turns end) in
+    let v : Violation = record { at = d.place; rule = d.rule } in (
+      λ there. let h = both.0 there in record { turns = turns; there = to_source laws never u limits program o looks turns end h.count v h.there },
+      λ h. both.1 (from_source laws u limits program o looks h.turns d.place d.rule h.there),
+    )
+
+-- as it does where there are no loops
 pub by_unit_run : LookedRunsAreProgramRuns → LookedUnitsAreNeverStuck → UnitsWithoutLoopsEnd → (u : UnitView) (limits : Limits) (program : Flow) → IsProgramOf u limits program → PassesLooks u → IsSingleProgram program u → (found : List Diag) (d : Diag)
     → (IsNeverStuckAlone program u → Contains found d ↔ IsViolatedAlone program u d.place d.rule) → Contains found d ↔ RunViolates u (record { at = d.place; rule = d.rule })
 by_unit_run laws never ends u limits program o looks single found d told =
     let stop = ends u limits program o single.headless [] in
-    let both = told (never_stuck laws never u limits program o looks stop.0 stop.1) in
-    let v : Violation = record { at = d.place; rule = d.rule } in (
-      λ there. let h = both.0 there in record { turns = stop.0; there = to_source laws never u limits program o looks stop.0 stop.1 h.count v h.there },
-      λ h. both.1 (from_source laws u limits program o looks h.turns d.place d.rule h.there),
-    )
+    by_ended_run laws never u limits program o looks stop.0 stop.1 found d told
 
 pub finds_unit_run : LookedRunsAreProgramRuns → LookedUnitsAreNeverStuck → UnitSwitchesAreApart → UnitsWithoutLoopsEnd → (program : Flow) (list : List ℤ) (found : List Diag) → IsAnalysis program list found → FindsJustUnitRuns program found
 finds_unit_run laws never apart ends program list found a u limits is o looks single d =
-    by_unit_run laws never ends u limits program o looks single found d (λ unstuck. finds_checked_run program list found a u is (apart u limits program o) unstuck single d)
+    by_unit_run laws never ends u limits program o looks single found d (λ unstuck. finds_checked_run program list found a u is (apart u limits program o) unstuck (run_of single) d)

@@ -1,7 +1,7 @@
 -- Each instruction and each edge of a program with turns unrolled is a copy of one of the program.
-use Rattle.std.specs.Prelude.{◌≡◌, ℕ, zero, suc, ◌*◌, ◌<◌, ◌≤◌, true, Option, Some, None, List, [], ◌∷◌, map, option_map, length, slice_get, refl}
+use Rattle.std.specs.Prelude.{◌≡◌, ℕ, zero, suc, ◌*◌, ◌<◌, ◌≤◌, ◌==◌, Bool, true, false, cond, Option, Some, None, List, [], ◌∷◌, map, option_map, length, slice_get, refl}
 use Rattle.std.proofs.Common.{arith, sym, subst, ap, ◌∙◌, inl, inr}
-use Rattle.std.proofs.lemmas.Bool.{cases_lt}
+use Rattle.std.proofs.lemmas.Bool.{cases_lt, eqb-true}
 use Rattle.std.proofs.lemmas.List.{length-map}
 use Rattle.std.proofs.lemmas.Option.{slice_get-map, same_Some}
 use Rattle.cc_base.specs.declared.limit_table.Limits.{Limits}
@@ -12,13 +12,13 @@ use Rattle.flow_program.specs.declared.machine_instructions.Instruction.{Instruc
 use Rattle.flow_program.specs.declared.programs.Flow.{Flow}
 use Rattle.flow_lower_tasks.specs.Acts.{Step, step}
 use Rattle.flow_lower_tasks.specs.Pieces.{way}
-use Rattle.flow_program_views.specs.ProgramViews.{EdgeView, block, edge, flow_view}
+use Rattle.flow_program_views.specs.ProgramViews.{BlockView, EdgeView, FlowView, block, edge, flow_view}
 use Rattle.abstract_steps_system.specs.BlockPasses.{instructions_in}
-use Rattle.abstract_steps_system.specs.FlowMachines.{edge_at}
+use Rattle.abstract_steps_system.specs.FlowMachines.{head_in, is_head_at, edge_at}
 use Rattle.rule_checks.specs.AdmittedRules.{instructions_of}
-use Rattle.abstract_steps_single_switches.proofs.BlockEdges.{in_block}
-use Rattle.turn_split.specs.Turns.{copies, number_in, split}
-use Rattle.turn_split_runs.proofs.CopiedLists.{number_below, placed}
+use Rattle.abstract_steps_single_runs.proofs.BlockEdges.{in_block}
+use Rattle.turn_split.specs.Turns.{copies, last_copy, number_in, block_copy, split}
+use Rattle.turn_split_runs.proofs.CopiedLists.{number_below, placed, copy_at}
 use Rattle.turn_split_laws.proofs.TurnedPrograms.{size, edge_size, block_count, steps_same, edge_count, edge_of}
 
 -- ---- lists
@@ -73,9 +73,9 @@ module _ (turns : ℕ) (f g : Flow) (h : flow_view g ≡ split turns (flow_view 
   pub own_instruction : (k j at : ℕ) (i : Instruction) → k < copies turns → j < many → slice_get (instructions_of g (number_in many k j)) at ≡ Some i → OwnInstruction j at i
   own_instruction k j at i p q e =
       let o = of_step (slice_get (instructions_of f j) at) i
-      (sym (slice_get-map step (instructions_of f j) at)
-      ∙ (ap (λ ss. slice_get ss at) (steps_same turns f g h k j p q)
-      ∙ (slice_get-map step (instructions_of g (number_in many k j)) at ∙ ap (option_map step) e))) in
+          (sym (slice_get-map step (instructions_of f j) at)
+          ∙ (ap (λ ss. slice_get ss at) (steps_same turns f g h k j p q)
+          ∙ (slice_get-map step (instructions_of g (number_in many k j)) at ∙ ap (option_map step) e))) in
       record { own = o.own; there = o.there; alike = o.alike }
 
   -- in some block
@@ -94,6 +94,38 @@ module _ (turns : ℕ) (f g : Flow) (h : flow_view g ≡ split turns (flow_view 
     where
       none_there : (x : Instruction) → ◌≡◌ {A = Option Instruction} (slice_get [] at) (Some x) → ⊥
       none_there x q = cc
+
+  -- ---- heads
+
+  abbrev head_of : Option BlockView → Bool
+  head_of None = false
+  head_of (Some b) = b.is_head
+
+  head_is : (b : Option BasicBlock) → head_in b ≡ head_of (option_map block b)
+  head_is None = refl
+  head_is (Some b) = refl
+
+  no_head : (first : ℕ) (is : Bool) (b : Option BlockView) → is ≡ false → head_of (option_map (block_copy first is) b) ≡ false
+  no_head first is None e = refl
+  no_head first is (Some b) e = ap (λ z. cond z b.is_head false) e
+
+  not_last : (k last : ℕ) → k < last → (k == last) ≡ false
+  not_last k last p = by (k == last) refl
+    where
+      by : (c : Bool) → (k == last) ≡ c → c ≡ false
+      by true e = let same = eqb-true k last e in absurd (omega arith)
+      by false e = refl
+
+  -- copies before the last one have none
+  pub headless_before : (k j : ℕ) → k < last_copy turns → j < many → is_head_at g.blocks.items (number_in many k j) ≡ false
+  headless_before k j p q =
+      head_is (slice_get g.blocks.items (number_in many k j))
+      ∙ (ap head_of
+      (sym (slice_get-map block g.blocks.items (number_in many k j))
+      ∙ (ap (λ (v : FlowView). slice_get v.blocks (number_in many k j)) h
+      ∙ (copy_at (λ c. map (block_copy (c * edge_size turns f g h) (c == last_copy turns)) (map block f.blocks.items)) many (λ c. length-map (map block f.blocks.items) (block_copy (c * edge_size turns f g h) (c == last_copy turns))) (copies turns) k j (omega arith) q
+      ∙ slice_get-map (block_copy (k * edge_size turns f g h) (k == last_copy turns)) (map block f.blocks.items) j)))
+      ∙ no_head (k * edge_size turns f g h) (k == last_copy turns) (slice_get (map block f.blocks.items) j) (not_last k (last_copy turns) p))
 
   -- ---- edges
 

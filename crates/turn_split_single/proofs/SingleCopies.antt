@@ -1,4 +1,5 @@
--- A program whose one run passes each block once at most stays one where turns are unrolled.
+-- A program whose one run passes each block once at most stays one where turns are unrolled, and becomes one where that unrolls its
+-- loops.
 use Rattle.std.specs.Prelude.{◌≡◌, ℕ, ℤ, ◌*◌, Bool, true, false, Option, Some, None, List, [], length, slice_get, refl}
 use Rattle.std.specs.Global.{Vec}
 use Rattle.std.proofs.Common.{arith, sym, subst, ap, ◌∙◌, inl, inr}
@@ -18,7 +19,7 @@ use Rattle.flow_lower_tasks.specs.Acts.{Step}
 use Rattle.flow_lower_tasks.specs.Pieces.{way}
 use Rattle.flow_lower_tasks.specs.Pieces as ways
 use Rattle.lib_models_effects.specs.Worlds.{World, Stuck, Violation}
-use Rattle.flow_program_views.specs.ProgramViews.{FlowView, flow_view}
+use Rattle.flow_program_views.specs.ProgramViews.{FlowView, block, flow_view}
 use Rattle.flow_program_machine.specs.FlowStates.{Standing, FlowRun, running, stopped, found_in}
 use Rattle.flow_program_machine.specs.FlowSteps.{flow_steps}
 use Rattle.flow_program_machine.specs.FlowStarts.{flow_begin}
@@ -27,16 +28,17 @@ use Rattle.abstract_steps_system.specs.FlowMachines.{head_in, is_head_at}
 use Rattle.abstract_steps_covered.specs.SoundEnds.{IsDoneIn}
 use Rattle.rule_checks.specs.AdmittedRules.{instructions_of}
 use Rattle.abstract_steps_sound_units.proofs.TurnedSound.{found_same}
-use Rattle.abstract_steps_single_switches.specs.SingleRuns.{IsPlainOperation, IsTypedStep, SwitchesAreApart, HasTypedAccesses, IsSingleProgram, IsNeverStuckAlone}
-use Rattle.turn_split.specs.Turns.{copies, number_in, split}
+use Rattle.abstract_steps_single_runs.specs.SingleRuns.{IsPlainOperation, IsTypedStep, SwitchesAreApart, HasTypedAccesses, EntersNoHead, IsSingleProgram, IsSingleRun, IsNeverStuckAlone}
+use Rattle.turn_split.specs.Turns.{copies, last_copy, number_in, split}
 use Rattle.turn_split_runs.specs.SameRuns.{in_copy, IsCopied, SameRun}
 use Rattle.turn_split_runs.proofs.CopiedLists.{placed}
 use Rattle.turn_split_runs.proofs.LinkedPrograms.{linked}
 use Rattle.turn_split_runs.proofs.SameSteps.{runs_same}
 use Rattle.turn_split_laws.proofs.TurnedPrograms.{same_parts, block_count, head_there, edge_size}
+use Rattle.turn_split_single.specs.TurnedLoops.{TakesTurns, IsSingleUpTo}
 use Rattle.turn_split_single.proofs.AlikeOperations.{alike}
 use Rattle.turn_split_single.proofs.TypedCopies.{plain_too, step_too}
-use Rattle.turn_split_single.proofs.OwnParts.{past, one_copy, one_place, many, own_instruction, an_instruction, OwnEdge, own_edge}
+use Rattle.turn_split_single.proofs.OwnParts.{past, one_copy, one_place, many, own_instruction, an_instruction, headless_before, OwnEdge, own_edge}
 
 -- ---- kinds of edges by their views
 
@@ -196,5 +198,23 @@ module _ (turns : ℕ) (limits : Limits) (f g : Flow) (good : is_well_formed lim
       parameters = parameters_too single.parameters;
       calls = calls_too single.calls;
       headless = headless_too single.headless;
+      steps = accesses_too single.steps;
+    }
+
+    -- where the run stays out of the last copy it enters no head
+    enters_none : TakesTurns turns f u → EntersNoHead g u
+    enters_none takes count s found e =
+        let less = takes count s found (turned_is count ∙ e) in
+        let long : whole ≡ length f.blocks.items = length-map f.blocks.items block in
+        let same : last_copy turns * whole ≡ last_copy turns * length f.blocks.items = ap (λ z. last_copy turns * z) long in
+        let p = placed whole (last_copy turns) s.block (omega arith) in
+        ap (is_head_at g.blocks.items) p.is ∙ headless_before turns f g h p.copy p.place p.in_copies p.in_copy
+
+    pub single_run : IsSingleUpTo turns f u → IsSingleRun g u
+    single_run single = record {
+      plain = plain_too f g (same_parts turns f g h) single.plain;
+      parameters = parameters_too single.parameters;
+      calls = calls_too single.calls;
+      headless = enters_none single.takes;
       steps = accesses_too single.steps;
     }

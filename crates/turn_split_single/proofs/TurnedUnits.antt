@@ -15,14 +15,16 @@ use Rattle.template_runs_looked.specs.LookedRuns.{LookedUnitsAreNeverStuck, Look
 use Rattle.abstract_steps_sound_units.proofs.CheckedStarts.{unit_starts}
 use Rattle.abstract_steps_sound_units.proofs.CheckedUnits.{analysed_structs, same_structs}
 use Rattle.abstract_steps_sound_units.proofs.TurnedSound.{starts_same}
+use Rattle.abstract_steps_single_runs.proofs.SingleRuns.{run_of}
 use Rattle.abstract_steps_single_switches.specs.UnitSwitches.{UnitSwitchesAreApart}
 use Rattle.abstract_steps_single_units.proofs.SingleAnalyses.{finds_run}
 use Rattle.abstract_steps_single_units.specs.Analyses.{IsAnalysis}
 use Rattle.abstract_steps_single_units.specs.CheckedStarts.{IsUnitOf}
-use Rattle.abstract_steps_single_units.specs.SingleRuns.{SwitchesAreApart, IsNeverStuckAlone, IsSingleProgram, IsViolatedAlone}
-use Rattle.abstract_steps_single_units.proofs.SingleUnits.{by_unit_run}
+use Rattle.abstract_steps_single_units.specs.SingleRuns.{SwitchesAreApart, IsNeverStuckAlone, IsSingleRun, IsViolatedAlone}
+use Rattle.abstract_steps_single_units.proofs.SingleUnits.{by_ended_run, by_unit_run}
+use Rattle.turn_split_single.specs.TurnedLoops.{LoopedUnitsAreToldExactly}
 use Rattle.turn_split_single.specs.TurnedUnits.{TurnedUnitsAreToldExactly}
-use Rattle.turn_split_single.proofs.SingleCopies.{apart_too, same_found, never_stuck_too, single_too}
+use Rattle.turn_split_single.proofs.SingleCopies.{apart_too, same_found, never_stuck_too, single_too, single_run}
 
 module _ (turns : ℕ) (limits : Limits) (flow turned : Flow) (good : is_well_formed limits flow ≡ true) (h : flow_view turned ≡ split turns (flow_view flow)) (list : List ℤ) (found : List Diag) (a : IsAnalysis turned list found) (u : UnitView) (is : IsUnitOf u flow) where
   -- the run of the program violates what that of the unrolled one does
@@ -33,11 +35,15 @@ module _ (turns : ℕ) (limits : Limits) (flow turned : Flow) (good : is_well_fo
         λ x. told.1 (record { count = x.count; there = subst (λ vs. Contains vs v) (same_found turns limits flow turned good h u x.count) x.there }),
       )
 
-  pub turned_run : SwitchesAreApart flow → IsNeverStuckAlone flow u → IsSingleProgram flow u → (d : Diag) → Contains found d ↔ IsViolatedAlone flow u d.place d.rule
+  turned_run : SwitchesAreApart flow → IsNeverStuckAlone flow u → IsSingleRun turned u → (d : Diag) → Contains found d ↔ IsViolatedAlone flow u d.place d.rule
   turned_run apart unstuck single d =
       let starts = starts_same turns limits flow turned good h u (unit_starts u flow (same_structs turns flow turned h (analysed_structs turned list found a)) is) in
-      alone d (finds_run turned list found a u starts (apart_too turns limits flow turned good h apart) (never_stuck_too turns limits flow turned good h u unstuck) (single_too turns limits flow turned good h u single) d)
+      alone d (finds_run turned list found a u starts (apart_too turns limits flow turned good h apart) (never_stuck_too turns limits flow turned good h u unstuck) single d)
 
 pub turned_units_told : LookedRunsAreProgramRuns → LookedUnitsAreNeverStuck → UnitSwitchesAreApart → UnitsWithoutLoopsEnd → TurnedUnitsAreToldExactly
 turned_units_told laws never apart ends turns flow turned list found h a u limits is o looks single d =
-    by_unit_run laws never ends u limits flow o looks single found d (λ unstuck. turned_run turns limits flow turned o.good h list found a u is (apart u limits flow o) unstuck single d)
+    by_unit_run laws never ends u limits flow o looks single found d (λ unstuck. turned_run turns limits flow turned o.good h list found a u is (apart u limits flow o) unstuck (run_of (single_too turns limits flow turned o.good h u single)) d)
+
+pub looped_units_told : LookedRunsAreProgramRuns → LookedUnitsAreNeverStuck → UnitSwitchesAreApart → LoopedUnitsAreToldExactly
+looped_units_told laws never apart turns flow turned list found h a u limits is o looks single end stopped d =
+    by_ended_run laws never u limits flow o looks end stopped found d (λ unstuck. turned_run turns limits flow turned o.good h list found a u is (apart u limits flow o) unstuck (single_run turns limits flow turned o.good h u single) d)

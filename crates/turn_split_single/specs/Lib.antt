@@ -1,1 +1,2 @@
 pub mod TurnedUnits
+pub mod TurnedLoops

@@ -3,4 +3,6 @@
 
 mod theorems;
 
-pub use theorems::{turned_programs_are_single, turned_units_are_told_exactly};
+pub use theorems::{
+    looped_units_are_told_exactly, turned_programs_are_single, turned_units_are_told_exactly,
+};

@@ -1,5 +1,6 @@
 //! Of a plain unit an analysis of the program with turns unrolled finds just what the unit's run violates, as one of the
 //! program itself does. What is supposed of the unit's program is named in the specification.
+ghost use Rattle.turn_split_single.specs.TurnedLoops.{LoopedUnitsAreToldExactly};
 ghost use Rattle.turn_split_single.specs.TurnedUnits.{TurnedProgramsAreSingle, TurnedUnitsAreToldExactly};
 
 use abstract_steps_single_switches::unit_switches_are_apart;
@@ -19,4 +20,14 @@ pub fn turned_units_are_told_exactly()
     looked_units_are_never_stuck();
     unit_switches_are_apart();
     units_without_loops_end();
+}
+
+/// So it is of a unit that is plain but for its loops and jumps back, whose run ends and takes no more turns of them than are
+/// unrolled.
+pub fn looped_units_are_told_exactly()
+    ensures { LoopedUnitsAreToldExactly }
+{
+    looked_runs_are_program_runs();
+    looked_units_are_never_stuck();
+    unit_switches_are_apart();
 }
