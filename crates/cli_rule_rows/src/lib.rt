@@ -1,4 +1,4 @@
-//! The worked rows of rules, typing and `replay`, as tests of the program on units in memory.
+//! The worked rows of rules and typing, as tests of the program on units in memory.
 #![tactic(auto)]
 
 #[cfg(test)]
@@ -8,15 +8,7 @@ mod array_rows;
 #[cfg(test)]
 mod call;
 #[cfg(test)]
-mod plain_rows;
-#[cfg(test)]
-mod replay_call;
-#[cfg(test)]
-mod replay_rows;
-#[cfg(test)]
 mod rule_rows;
-#[cfg(test)]
-mod run_rows;
 #[cfg(test)]
 mod taint_rows;
 #[cfg(test)]

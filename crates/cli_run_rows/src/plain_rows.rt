@@ -1,6 +1,8 @@
 //! What the analysis and the run tell of plain units, which take nothing from outside.
-use crate::call::check;
+use crate::replay_call::{answer, with_files};
 use crate::run_rows::run_tells;
+use std::alloc::Global;
+use std::process::Abort;
 use std::test::Fail;
 
 /// A unit, and the texts of its analysis and of its run.
@@ -46,10 +48,16 @@ const UNTYPED: [Plain<'static>; 3] = [
     ),
 ];
 
+/// Fails unless `check a.c` on the unit has one line or more, and tells so.
+fn check_tells(rt: &impl Abort, alloc: Global, source: &str, text: &str) -> Result<(), Fail> {
+    let tree = with_files(alloc, Vec::new(alloc), &[("a.c", source)])?;
+    answer(rt, alloc, "check a.c", tree, 1, text)
+}
+
 #[test]
 fn copies_of_structs_are_told_as_they_run(rt: HostRuntime) -> Result<(), Fail> {
     for (source, analysed, run) in &COPYING {
-        check(&rt, rt.alloc(), source, 1, analysed)?;
+        check_tells(&rt, rt.alloc(), source, analysed)?;
         run_tells(&rt, rt.alloc(), source, "", 1, run)?;
     }
     Ok(())
@@ -58,7 +66,7 @@ fn copies_of_structs_are_told_as_they_run(rt: HostRuntime) -> Result<(), Fail> {
 #[test]
 fn accesses_of_another_type_have_lines_that_no_run_has(rt: HostRuntime) -> Result<(), Fail> {
     for (source, analysed, run) in &UNTYPED {
-        check(&rt, rt.alloc(), source, 1, analysed)?;
+        check_tells(&rt, rt.alloc(), source, analysed)?;
         run_tells(&rt, rt.alloc(), source, "", 0, run)?;
     }
     Ok(())
