@@ -7,7 +7,7 @@ use Rattle.c_layout.specs.declared.data_model.Model.{Model}
 use Rattle.c_layout.specs.declared.leaf_lists.Leaf.{Leaf}
 use Rattle.flow_program.specs.declared.machine_instructions.Scalar.{Scalar}
 use Rattle.flow_lower_tasks.specs.TermKinds.{scalar_of}
-use Rattle.flow_lower_plain.specs.SmallObjects.{is_small}
+use Rattle.flow_lower_plain.specs.ShortArrays.{has_short_arrays}
 use Rattle.lib_models_memory.specs.ScalarSizes.{class_bytes}
 use Rattle.lib_models_effects.specs.Accesses.{class_in}
 use Rattle.store_domain_laws_layouts.specs.LaidApart.{has_class_bytes}
@@ -39,10 +39,10 @@ pub record HasScalar (m : Model) (structs : List StructView) (t : Ty) (leaf : Le
 
 -- each byte of a scalar is one of a leaf
 abbrev pub ScalarsAreLeaves : Type 0
-ScalarsAreLeaves = (m : Model) (structs : List StructView) → AreLaidOut m structs → (t : Ty) → has_class_bytes m t ≡ true → is_small structs t ≡ true
+ScalarsAreLeaves = (m : Model) (structs : List StructView) → AreLaidOut m structs → (t : Ty) → has_class_bytes m t ≡ true → has_short_arrays structs t ≡ true
     → (x k : ℕ) (scalar : Ty) → scalar_byte structs m.pointer t x ≡ Some (record { ctype = scalar; at = k }) → (at : ℕ) × (at + k ≡ x) × HasLeaf (leaves_of structs m.pointer t) scalar at
 
 -- each leaf is a scalar
 abbrev pub LeavesAreScalars : Type 0
-LeavesAreScalars = (m : Model) (structs : List StructView) → AreLaidOut m structs → (t : Ty) → has_class_bytes m t ≡ true → is_small structs t ≡ true
+LeavesAreScalars = (m : Model) (structs : List StructView) → AreLaidOut m structs → (t : Ty) → has_class_bytes m t ≡ true → has_short_arrays structs t ≡ true
     → (number : ℕ) (leaf : Leaf) → slice_get (leaves_of structs m.pointer t) number ≡ Some leaf → HasScalar m structs t leaf

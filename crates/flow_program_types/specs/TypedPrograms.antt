@@ -16,7 +16,7 @@ use Rattle.flow_program.specs.declared.machine_instructions.Operation.TheVariant
 use Rattle.flow_program.specs.declared.machine_instructions.Scalar.{Scalar}
 use Rattle.flow_program.specs.declared.machine_instructions.Scalar.TheVariants as of
 use Rattle.flow_program.specs.declared.programs.Flow.{Flow}
-use Rattle.flow_lower_plain.specs.SmallObjects.{is_small}
+use Rattle.flow_lower_plain.specs.ShortArrays.{has_short_arrays}
 use Rattle.flow_lower_counts_parts.specs.SharedObjects.{literal_type}
 use Rattle.flow_lower_tasks.specs.Pieces.{Way, Always, When, Case, Other, NoLine, Line}
 use Rattle.flow_program_machine.specs.FlowStarts.{start_names}
@@ -119,7 +119,7 @@ pub record IsObjectOf (flow : Flow) (t : Ty) (base : BaseInfo) : Type 0 where
   pub leaves : base.shape.cells ≡ leaves_of (structs_of flow) flow.model.pointer t
   pub size : base.size ≡ size_in flow t
   pub kinds : has_class_bytes flow.model t ≡ true
-  pub small : is_small (structs_of flow) t ≡ true
+  pub small : has_short_arrays (structs_of flow) t ≡ true
 
 -- ---- the first objects of a unit
 
